@@ -1,0 +1,7 @@
+-- The bytes of spelled words.
+use Rattle.std.specs.Prelude.{List, map}
+use Rattle.vast.specs.Syntax.{Text}
+use Rattle.vast.specs.declared.spelling.Spelling.{Spelling}
+
+abbrev pub texts : List Spelling → List Text
+texts = map (λ spelling. spelling.text.now)

@@ -1,0 +1,48 @@
+-- Words: what may stand for a name or a number in a tree, and which words the profile has (docs/LANGUAGE.md,
+-- "Words"; IEEE 1364-2005, 3.7, 3.5.1). A word is the bytes of one token.
+use Rattle.std.specs.Prelude.{Bool, false, ◌&&◌, ◌||◌, not, ℕ, ◌==◌, nat_le, List, [], ◌∷◌, codes}
+use Rattle.std.specs.List.{list_any, list_all}
+use Rattle.std.specs.Str.{bytes_eq}
+
+abbrev pub is_letter : ℕ → Bool
+is_letter c = (nat_le 97 c && nat_le c 122) || (nat_le 65 c && nat_le c 90) || (c == 95)
+
+abbrev pub is_digit : ℕ → Bool
+is_digit c = nat_le 48 c && nat_le c 57
+
+-- a letter, `_`, a digit or `$`
+abbrev pub is_in_name : ℕ → Bool
+is_in_name c = is_letter c || is_digit c || (c == 36)
+
+-- the reserved words of this product (docs/LANGUAGE.md), in the order of their letters
+unfoldable pub reserved_words : List (List ℕ)
+reserved_words =
+    codes "always" ∷ codes "and" ∷ codes "assign" ∷ codes "automatic" ∷ codes "begin" ∷ codes "buf" ∷ codes "bufif0"
+    ∷ codes "bufif1" ∷ codes "case" ∷ codes "casex" ∷ codes "casez" ∷ codes "cell" ∷ codes "cmos" ∷ codes "config"
+    ∷ codes "deassign" ∷ codes "default" ∷ codes "defparam" ∷ codes "design" ∷ codes "disable" ∷ codes "edge"
+    ∷ codes "else" ∷ codes "end" ∷ codes "endcase" ∷ codes "endconfig" ∷ codes "endfunction" ∷ codes "endgenerate"
+    ∷ codes "endmodule" ∷ codes "endprimitive" ∷ codes "endspecify" ∷ codes "endtable" ∷ codes "endtask"
+    ∷ codes "event" ∷ codes "for" ∷ codes "force" ∷ codes "forever" ∷ codes "fork" ∷ codes "function"
+    ∷ codes "generate" ∷ codes "genvar" ∷ codes "if" ∷ codes "ifnone" ∷ codes "initial" ∷ codes "inout"
+    ∷ codes "input" ∷ codes "instance" ∷ codes "integer" ∷ codes "join" ∷ codes "liblist" ∷ codes "library"
+    ∷ codes "localparam" ∷ codes "macromodule" ∷ codes "module" ∷ codes "nand" ∷ codes "negedge" ∷ codes "nmos"
+    ∷ codes "nor" ∷ codes "not" ∷ codes "notif0" ∷ codes "notif1" ∷ codes "or" ∷ codes "output" ∷ codes "parameter"
+    ∷ codes "pmos" ∷ codes "posedge" ∷ codes "primitive" ∷ codes "pulldown" ∷ codes "pullup" ∷ codes "real"
+    ∷ codes "realtime" ∷ codes "reg" ∷ codes "release" ∷ codes "repeat" ∷ codes "signed" ∷ codes "specify"
+    ∷ codes "specparam" ∷ codes "supply0" ∷ codes "supply1" ∷ codes "table" ∷ codes "task" ∷ codes "time"
+    ∷ codes "tri" ∷ codes "tri0" ∷ codes "tri1" ∷ codes "triand" ∷ codes "trior" ∷ codes "trireg"
+    ∷ codes "unsigned" ∷ codes "use" ∷ codes "uwire" ∷ codes "wait" ∷ codes "wand" ∷ codes "while" ∷ codes "wire"
+    ∷ codes "wor" ∷ codes "xnor" ∷ codes "xor" ∷ []
+
+abbrev pub is_reserved : List ℕ → Bool
+is_reserved word = list_any (λ reserved. bytes_eq reserved word) reserved_words
+
+-- 3.7: a letter or `_`, then letters, digits, `_` and `$`, and no reserved word
+abbrev pub is_name : List ℕ → Bool
+is_name [] = false
+is_name (c ∷ cs) = is_letter c && list_all is_in_name cs && not (is_reserved (c ∷ cs))
+
+-- 3.5.1: among tokens the numbers are those that begin with a digit or an apostrophe
+abbrev pub is_number : List ℕ → Bool
+is_number [] = false
+is_number (c ∷ cs) = is_digit c || (c == 39)

@@ -1,0 +1,12 @@
+// Trees of a Verilog text: `Ast` is what the grammar makes of the tokens, `Design` what elaboration makes of it.
+// In goes nothing: the parser builds an `Ast`, and `velab` a `Design`. Out come its words, by `spell`, and
+// whether it stands as the grammar lets it, by `fits`. The law: a tree derives the words that it spells, where it fits.
+#![tactic(auto)]
+
+pub mod fitting;
+pub mod spelling;
+pub mod syntax;
+pub mod words;
+
+pub use fitting::fits;
+pub use spelling::spell;
