@@ -1,0 +1,5 @@
+pub mod Letters
+pub mod Numbers
+pub mod Vectors
+pub mod Planes
+pub mod PlanesBack

@@ -1,0 +1,149 @@
+ghost use Rattle.std.specs.Prelude.{◌≡◌, ℕ, ◌+◌, ◌-◌, ◌*◌, ◌^◌, ◌<◌, ◌≤◌, length, slice_get};
+ghost use Rattle.vbits.specs.Vectors as vectors;
+
+use super::bit4::Bit4;
+use super::planes;
+use std::marker::Model;
+
+mod bitwise;
+mod equality;
+mod parts;
+
+/// A value: 1 to 64 letters, numbered from the right by 0, and a sign mark.
+#[derive(Clone, Copy, Debug, PartialEq, Eq, Hash)]
+pub struct Vec4 {
+    value: u64,
+    unknown: u64,
+    len: u32,
+    signed: bool,
+}
+
+impl Model for Vec4 {
+    ghost use Rattle.std.specs.Prelude.{ℕ, ◌^◌, ◌<◌, ◌≤◌, length};
+    ghost use Rattle.vbits.specs.Vectors.{Vector};
+    ghost use Rattle.vbits.specs.Planes.{letters_of, values_of, unknowns_of, Planes};
+    ghost use Rattle.vbits.specs.PlanesBack.{length-letters_of, values_of-letters_of, unknowns_of-letters_of};
+
+    ghost Value = { Vector };
+
+    ghost view = { λ v. record { letters = letters_of v.len v.value v.unknown; signed = v.signed } };
+
+    ghost invariant = { λ v. Planes v.len v.value v.unknown };
+
+    ghost inverse = { λ v. record { value = values_of v.letters; unknown = unknowns_of v.letters; len = length v.letters; signed = v.signed } };
+
+    ghost inverse_ok = { λ a h. λ i. record { value = values_of-letters_of a.len a.value a.unknown h.value_within i; unknown = unknowns_of-letters_of a.len a.value a.unknown h.unknown_within i; len = length-letters_of a.len a.value a.unknown i; signed = a.signed } };
+}
+
+impl Vec4 {
+    /// A vector of `len` letters 0, unsigned.
+    pub fn zeros(len: u32) -> Vec4
+        requires some { 1 ≤ len }
+        requires few { len ≤ 64 }
+        ensures { result ≡ vectors.filled len Bit4.Zero }
+    {
+        Vec4 {
+            value: 0,
+            unknown: 0,
+            len,
+            signed: false,
+        }
+    }
+
+    /// A vector of `len` letters x, unsigned.
+    pub fn all_x(len: u32) -> Vec4
+        requires some { 1 ≤ len }
+        requires few { len ≤ 64 }
+        ensures { result ≡ vectors.filled len Bit4.X }
+    {
+        let ones = planes::ones(len);
+        Vec4 {
+            value: ones,
+            unknown: ones,
+            len,
+            signed: false,
+        }
+    }
+
+    /// A vector of `len` letters z, unsigned.
+    pub fn all_z(len: u32) -> Vec4
+        requires some { 1 ≤ len }
+        requires few { len ≤ 64 }
+        ensures { result ≡ vectors.filled len Bit4.Z }
+    {
+        Vec4 {
+            value: 0,
+            unknown: planes::ones(len),
+            len,
+            signed: false,
+        }
+    }
+
+    /// The lowest `len` binary digits of `n`, unsigned.
+    pub fn from_u64(len: u32, n: u64) -> Vec4
+        requires some { 1 ≤ len }
+        requires few { len ≤ 64 }
+        ensures { result ≡ vectors.of_number len n }
+    {
+        Vec4 {
+            value: n & planes::ones(len),
+            unknown: 0,
+            len,
+            signed: false,
+        }
+    }
+
+    /// One letter, unsigned.
+    pub fn of_bit(letter: Bit4) -> Vec4
+        ensures { result ≡ vectors.single letter }
+    {
+        let (value, unknown) = match letter {
+            Bit4::Zero => (0, 0),
+            Bit4::One => (1, 0),
+            Bit4::X => (1, 1),
+            Bit4::Z => (0, 1),
+        };
+        Vec4 {
+            value,
+            unknown,
+            len: 1,
+            signed: false,
+        }
+    }
+
+    /// How many letters it has.
+    pub fn len(self) -> u32
+        ensures letters { result ≡ length self.letters }
+        ensures some { 1 ≤ result }
+        ensures few { result ≤ 64 }
+    {
+        self.len
+    }
+
+    /// Its sign mark.
+    pub fn signed(self) -> bool
+        ensures { result ≡ self.signed }
+    {
+        self.signed
+    }
+
+    /// The letter at place `i`, 0 being the rightmost.
+    pub fn bit(self, i: u32) -> Bit4
+        requires { i < length self.letters }
+        ensures { slice_get self.letters i ≡ Some result }
+    {
+        planes::letter((self.value >> i) & 1, (self.unknown >> i) & 1)
+    }
+
+    /// The same letters with this sign mark (`$signed` and `$unsigned`, 5.5).
+    pub fn with_sign(self, signed: bool) -> Vec4
+        ensures { result ≡ vectors.with_sign self signed }
+    {
+        Vec4 {
+            value: self.value,
+            unknown: self.unknown,
+            len: self.len,
+            signed,
+        }
+    }
+}
