@@ -1,0 +1,52 @@
+-- The name of a grain before a log can be told from the log.
+use Rattle.std.proofs.Common.{◌≡◌, ℕ, ◌^◌, ◌<◌, true, List, [], ◌∷◌, ◌++◌, length, get_or, drop, arith, ap, refl, sym, subst, ◌∙◌, Option, None, Some, MatchOption, IfSome, IfNone}
+use Rattle.std.specs.Prelude.{codes}
+use Rattle.std.specs.Str.{all_ascii_digits}
+use Rattle.std.specs.Fmt.{decimal}
+use Rattle.std.proofs.lemmas.Fmt.{decimal_nonempty}
+use Rattle.std.proofs.lemmas.Str.Parse.{tells_all_ascii_digits}
+use Rattle.sched_core.specs.declared.log.LogHead.{LogHead}
+use Rattle.sched_core.specs.declared.log.LogHead.TheVariants.{Plain, Process, Statement}
+use Rattle.sched_core.specs.Logs.{IsLog}
+use Rattle.sched_core.specs.LogText.{more_text, log_text, named_log_text}
+use Rattle.sched_core.proofs.TextLemmas.{decimal_digits, member_whole}
+
+digit_first : (ds r : List ℕ) → all_ascii_digits ds ≡ true → 0 < length ds → get_or (ds ++ r) 0 0 < 58
+digit_first [] r h some = absurd (omega (arith, some))
+digit_first (c ∷ cs) r h some = omega (arith, (tells_all_ascii_digits.parts c cs h).0)
+
+-- the text of a log begins with '-' or a digit
+log_first : (log : List (ℕ × ℕ)) → IsLog log → get_or (log_text log) 0 0 < 58
+log_first [] h = omega arith
+log_first (m ∷ ms) h =
+    let small : m.0 < 2 ^ 32 = omega (arith, h.1) in
+    let P : List ℕ → Type 0 = λ t. get_or t 0 0 < 58 in
+    subst P (sym (member_whole m (more_text ms))) (digit_first (decimal m.0) _ (decimal_digits m.0 small) (decimal_nonempty m.0 (omega arith)))
+
+pub named_process : (text rest : List ℕ) (head : LogHead) (log : List (ℕ × ℕ)) → IsLog log → text ≡ codes "process/" ++ rest → text ≡ named_log_text head log → (Process ≡ head) × (rest ≡ log_text log)
+named_process text rest Plain log h e f =
+    let first : 112 ≡ get_or (log_text log) 0 0 = ap (λ t. get_or t 0 0) (sym e ∙ f) in
+    absurd (omega (arith, log_first log h))
+named_process text rest Process log h e f = (refl, ap (drop 8) (sym e ∙ f))
+named_process text rest Statement log h e f =
+    let first : get_or text 0 0 ≡ 112 = ap (λ t. get_or t 0 0) e in
+    let other : get_or text 0 0 ≡ 115 = ap (λ t. get_or t 0 0) f in
+    absurd (omega arith)
+
+pub named_statement : (text rest : List ℕ) (head : LogHead) (log : List (ℕ × ℕ)) → IsLog log → text ≡ codes "statement/" ++ rest → text ≡ named_log_text head log → (Statement ≡ head) × (rest ≡ log_text log)
+named_statement text rest Plain log h e f =
+    let first : 115 ≡ get_or (log_text log) 0 0 = ap (λ t. get_or t 0 0) (sym e ∙ f) in
+    absurd (omega (arith, log_first log h))
+named_statement text rest Process log h e f =
+    let first : get_or text 0 0 ≡ 115 = ap (λ t. get_or t 0 0) e in
+    let other : get_or text 0 0 ≡ 112 = ap (λ t. get_or t 0 0) f in
+    absurd (omega arith)
+named_statement text rest Statement log h e f = (refl, ap (drop 10) (sym e ∙ f))
+
+pub match_some : {X : Type 0} (P : Type 0) (Q : X → Type 0) (r : Option X) → MatchOption r P Q → IfSome r Q
+match_some P Q None h = tt
+match_some P Q (Some x) h = h
+
+pub match_none : {X : Type 0} (P : Type 0) (Q : X → Type 0) (r : Option X) → MatchOption r P Q → IfNone r P
+match_none P Q None h = h
+match_none P Q (Some x) h = tt

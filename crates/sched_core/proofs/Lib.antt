@@ -1,0 +1,4 @@
+pub mod LogLemmas
+pub mod TextLemmas
+pub mod ReadingLemmas
+pub mod HeadLemmas

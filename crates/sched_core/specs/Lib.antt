@@ -1,0 +1,4 @@
+pub mod Rules
+pub mod Logs
+pub mod LogText
+pub mod Reading

@@ -1,0 +1,12 @@
+// In come spaces, states with numbered choices, and logs, the choices of a run that aren't choice 0.
+// Out come the texts of logs, read and written exactly, and where the run under a log stands.
+// The law: equal states have equal futures, and a replay is the run under its log.
+#![tactic(auto)]
+
+mod log;
+mod log_text;
+#[cfg(test)]
+mod tests;
+
+pub use log::{Log, LogFault, LogHead, Member};
+pub use log_text::{read_log, read_named_log, write_log, write_named_log};

@@ -1,0 +1,117 @@
+ghost use Rattle.std.specs.Prelude.{◌≡◌, ◌↔◌, [], ◌∷◌, ◌++◌, IsTrue, IfOk, OnOk, OnErr};
+ghost use Rattle.sched_core.specs.Logs.{IsLog, next_from};
+
+use std::alloc::{AllocError, AllocFailed, Global};
+use std::marker::Model;
+
+/// The last step that a log may name.
+const LAST_STEP: u32 = 999_999;
+
+/// A member of a log: a step, from 0 to 999,999, and the index of the choice taken there,
+/// from 1 to 4,294,967,295.
+pub type Member = (u32, u32);
+
+/// The departures of a run from choice 0, steps strictly rising. A clause sees the list of
+/// members. Its length is the number of departures.
+#[derive(Drop)]
+pub struct Log {
+    members: Vec<(u32, u32)>,
+}
+
+impl Model for Log {
+    ghost use Rattle.std.specs.Prelude.{ℕ, List};
+    ghost use Rattle.sched_core.specs.Logs.{IsLog};
+
+    ghost Value = { List (ℕ × ℕ) };
+
+    ghost view = { λ l. l.members.items };
+
+    ghost invariant = { λ l. IsLog l.members.items };
+}
+
+/// The grain that the text of a log may name before a slash.
+#[derive(Clone, Copy, Debug, PartialEq, Eq)]
+pub enum LogHead {
+    Plain,
+    Process,
+    Statement,
+}
+
+/// Why a text was not read as a log: it is none (E401), or memory was refused (E901).
+#[derive(Clone, Copy, Debug, PartialEq, Eq)]
+pub enum LogFault {
+    IllFormed,
+    Memory,
+}
+
+impl From<AllocError> for LogFault {
+    ghost use Rattle.sched_core.specs.declared.log.LogFault.TheVariants.{Memory};
+
+    ghost from_gives = { λ _ e. e ≡ Memory };
+
+    fn from(_error: AllocError) -> LogFault {
+        LogFault::Memory
+    }
+}
+
+impl Log {
+    /// The empty log, of the run that always takes choice 0.
+    pub fn new(alloc: Global) -> Log
+        ensures { result ≡ [] }
+    {
+        Log {
+            members: Vec::new(alloc),
+        }
+    }
+
+    /// The members in order of their steps.
+    pub fn members(&self) -> &[Member]
+        ensures list { result.now ≡ self.now }
+        ensures lawful { IsLog self.now }
+    {
+        self.members.as_slice()
+    }
+
+    /// An equal log.
+    pub fn copy(&self) -> Result<Log, AllocError>
+        ensures { IfOk result (λ copy. copy ≡ self.now) }
+    {
+        Ok(Log {
+            members: self.members.clone()?,
+        })
+    }
+
+    /// Puts one member last. After want of memory the log is as it was.
+    pub fn push(&mut self, step: u32, index: u32) -> Result<(), AllocError>
+        requires { IsLog (self.old ++ (step, index) ∷ []) }
+        ensures ok { OnOk result (self.new ≡ self.old ++ (step, index) ∷ []) }
+        ensures err { OnErr result (self.new ≡ self.old) }
+    {
+        self.members.push((step, index))?;
+        Ok(())
+    }
+
+    /// The least step that a further member may name.
+    fn next_step(&self) -> u32
+        ensures value { result ≡ next_from 0 self.now }
+        ensures lawful { IsLog self.now }
+    {
+        match self.members.last() {
+            Some(last) => last.0 + 1,
+            None => 0,
+        }
+    }
+
+    /// Whether the log stays one with this member put last.
+    pub fn takes(&self, member: Member) -> bool
+        ensures { IsTrue result ↔ IsLog (self.now ++ member ∷ []) }
+    {
+        if member.0 < self.next_step() {
+            return false;
+        }
+        if member.0 > LAST_STEP {
+            return false;
+        }
+        member.1 >= 1
+    }
+}

@@ -1,0 +1,203 @@
+ghost use Rattle.std.specs.Prelude.{◌≡◌, ◌≢◌, ℕ, ◌+◌, ◌<◌, ◌≤◌, ◌^◌, List, [], ◌∷◌, ◌++◌, true, length, take, drop, IfOk, IfSome, IfNone, OnOk, IsErrOf, MatchResult};
+ghost use Rattle.std.specs.Str.{all_ascii_digits};
+ghost use Rattle.std.specs.Fmt.{decimal};
+ghost use Rattle.sched_core.specs.Logs.{IsLog};
+ghost use Rattle.sched_core.specs.LogText.{head_text, member_text, more_text, log_text, named_log_text, IsNoLogText, IsNoNamedLogText};
+ghost use Rattle.sched_core.specs.Reading.{HasNoMember, HasNoNumber, IsMemberFront, IsNumberFront, StartsNoNumber};
+ghost use Rattle.sched_core.specs.declared.log.LogHead.{LogHead};
+
+use crate::log::{Log, LogFault, LogHead, Member};
+use itoa::Buffer;
+use std::alloc::{AllocError, Global};
+
+/// How many digits stand at the front.
+fn digits_len(text: &[u8]) -> usize
+    ensures within { result ≤ length text.now }
+    ensures digits { all_ascii_digits (take result text.now) ≡ true }
+    ensures stops { StartsNoNumber (drop result text.now) }
+{
+    for (len, byte) in text.iter().enumerate() {
+        if !byte.is_ascii_digit() {
+            return len;
+        }
+    }
+    text.len()
+}
+
+/// The number of 32 bits that is written by these digits, without leading zeros.
+fn plain_value(digits: &[u8]) -> Option<u32>
+    requires { all_ascii_digits digits.now ≡ true }
+    ensures read { IfSome result (λ n. digits.now ≡ decimal n) }
+    ensures none { IfNone result ((n : ℕ) → n < 2 ^ 32 → digits.now ≢ decimal n) }
+{
+    if digits.len() > 1 && digits[0] == b'0' {
+        return None;
+    }
+    match std::str::from_utf8(digits) {
+        Ok(text) => text.parse::<u32>().ok(),
+        Err(_) => None,
+    }
+}
+
+/// The digits at the front, and what follows them.
+fn split_digits(text: &[u8]) -> (&[u8], &[u8])
+    ensures whole { result.0.now ++ result.1.now ≡ text.now }
+    ensures digits { all_ascii_digits result.0.now ≡ true }
+    ensures stops { StartsNoNumber result.1.now }
+{
+    text.split_at(digits_len(text))
+}
+
+/// The number at the front, and what follows it.
+fn front_number(text: &[u8]) -> Option<(u32, &[u8])>
+    ensures read { IfSome result (λ p. IsNumberFront text.now p.0 p.1.now) }
+    ensures none { IfNone result (HasNoNumber text.now) }
+{
+    let (digits, rest) = split_digits(text);
+    let value = plain_value(digits)?;
+    Some((value, rest))
+}
+
+/// What follows the byte at the front, if it is this one.
+fn after_byte(text: &[u8], byte: u8) -> Option<&[u8]>
+    ensures some { IfSome result (λ rest. text.now ≡ byte ∷ rest.now) }
+    ensures none { IfNone result ((rest : List ℕ) → text.now ≢ byte ∷ rest) }
+{
+    let (first, rest) = text.split_first()?;
+    if *first == byte { Some(rest) } else { None }
+}
+
+/// The member at the front, and what follows it.
+fn front_member(text: &[u8]) -> Option<(Member, &[u8])>
+    ensures read { IfSome result (λ p. IsMemberFront text.now p.0 p.1.now) }
+    ensures none { IfNone result (HasNoMember text.now) }
+{
+    let (step, after_step) = front_number(text)?;
+    let after_colon = after_byte(after_step, b':')?;
+    let (index, rest) = front_number(after_colon)?;
+    Some(((step, index), rest))
+}
+
+/// Reads the text of a log: `-`, or `step:index` joined by commas.
+///
+/// It accepts exactly the texts that `write_log` writes. Any other is `LogFault::IllFormed`, E401.
+pub fn read_log(alloc: Global, text: &[u8]) -> Result<Log, LogFault>
+    ensures read { IfOk result (λ log. IsLog log × (text.now ≡ log_text log)) }
+    ensures ill_formed { IsErrOf result LogFault.IllFormed → IsNoLogText text.now }
+    ensures accepts { (log : List (ℕ × ℕ)) → IsLog log → text.now ≡ log_text log → MatchResult result (λ read. read ≡ log) (λ fault. fault ≡ LogFault.Memory) }
+{
+    let mut log = Log::new(alloc);
+    if text == b"-".as_slice() {
+        return Ok(log);
+    }
+    let mut rest = text;
+    loop {
+        let Some((member, after_member)) = front_member(rest) else {
+            return Err(LogFault::IllFormed);
+        };
+        if !log.takes(member) {
+            return Err(LogFault::IllFormed);
+        }
+        log.push(member.0, member.1)?;
+        if after_member.is_empty() {
+            return Ok(log);
+        }
+        let Some(after_comma) = after_byte(after_member, b',') else {
+            return Err(LogFault::IllFormed);
+        };
+        rest = after_comma;
+    }
+}
+
+/// What follows these bytes at the front.
+fn after_prefix<'a>(text: &'a [u8], prefix: &[u8]) -> Option<&'a [u8]>
+    ensures some { IfSome result (λ rest. text.now ≡ prefix.now ++ rest.now) }
+    ensures none { IfNone result ((rest : List ℕ) → text.now ≢ prefix.now ++ rest) }
+{
+    text.strip_prefix(prefix)
+}
+
+/// The grain that the text names, and what follows it.
+fn split_head(text: &[u8]) -> (LogHead, &[u8])
+    ensures whole { text.now ≡ head_text result.0 ++ result.1.now }
+    ensures named { (head : LogHead) (log : List (ℕ × ℕ)) → IsLog log → text.now ≡ named_log_text head log → (result.0 ≡ head) × (result.1.now ≡ log_text log) }
+{
+    if let Some(rest) = after_prefix(text, b"process/") {
+        return (LogHead::Process, rest);
+    }
+    if let Some(rest) = after_prefix(text, b"statement/") {
+        return (LogHead::Statement, rest);
+    }
+    (LogHead::Plain, text)
+}
+
+/// Reads the text of a log that may name its grain: `LOG`, `process/LOG` or `statement/LOG`.
+///
+/// It accepts exactly the texts that `write_named_log` writes. Any other is
+/// `LogFault::IllFormed`, E401.
+pub fn read_named_log(alloc: Global, text: &[u8]) -> Result<(LogHead, Log), LogFault>
+    ensures read { IfOk result (λ named. IsLog named.1 × (text.now ≡ named_log_text named.0 named.1)) }
+    ensures ill_formed { IsErrOf result LogFault.IllFormed → IsNoNamedLogText text.now }
+    ensures accepts { (head : LogHead) (log : List (ℕ × ℕ)) → IsLog log → text.now ≡ named_log_text head log → MatchResult result (λ named. (named.0 ≡ head) × (named.1 ≡ log)) (λ fault. fault ≡ LogFault.Memory) }
+{
+    let (head, rest) = split_head(text);
+    let log = read_log(alloc, rest)?;
+    Ok((head, log))
+}
+
+/// Puts the text of the member last.
+fn append_member(text: &mut Vec<u8>, member: Member) -> Result<(), AllocError>
+    ensures { OnOk result (text.new.items ≡ text.old.items ++ member_text member) }
+{
+    let mut buffer = Buffer::new();
+    text.extend_from_slice(buffer.format(member.0).as_bytes())?;
+    text.push(b':')?;
+    text.extend_from_slice(buffer.format(member.1).as_bytes())?;
+    Ok(())
+}
+
+/// Puts the members last, each behind a comma.
+fn append_more(text: &mut Vec<u8>, more: &[Member]) -> Result<(), AllocError>
+    ensures { OnOk result (text.new.items ≡ text.old.items ++ more_text more.now) }
+{
+    for member in more {
+        text.push(b',')?;
+        append_member(text, *member)?;
+    }
+    Ok(())
+}
+
+/// Puts the text of the log last.
+fn append_log(text: &mut Vec<u8>, log: &Log) -> Result<(), AllocError>
+    ensures { OnOk result (text.new.items ≡ text.old.items ++ log_text log.now) }
+{
+    let Some((first, more)) = log.members().split_first() else {
+        text.push(b'-')?;
+        return Ok(());
+    };
+    append_member(text, *first)?;
+    append_more(text, more)
+}
+
+/// The text of the log: `-`, or `step:index` joined by commas.
+pub fn write_log(alloc: Global, log: &Log) -> Result<Vec<u8>, AllocError>
+    ensures { IfOk result (λ text. text.items ≡ log_text log.now) }
+{
+    let mut text = Vec::new(alloc);
+    append_log(&mut text, log)?;
+    Ok(text)
+}
+
+/// The text of the log behind the name of its grain, if it has one.
+pub fn write_named_log(alloc: Global, head: LogHead, log: &Log) -> Result<Vec<u8>, AllocError>
+    ensures { IfOk result (λ text. text.items ≡ named_log_text head log.now) }
+{
+    let mut text = Vec::new(alloc);
+    match head {
+        LogHead::Plain => {}
+        LogHead::Process => text.extend_from_slice(b"process/")?,
+        LogHead::Statement => text.extend_from_slice(b"statement/")?,
+    }
+    append_log(&mut text, log)?;
+    Ok(text)
+}

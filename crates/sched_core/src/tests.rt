@@ -1,0 +1,49 @@
+use crate::{Log, LogFault, LogHead, read_log, read_named_log, write_log, write_named_log};
+use std::test::Fail;
+
+#[test]
+fn log_is_copied_pushed_and_written(rt: HostRuntime) -> Result<(), Fail> {
+    let log = read_log(rt.alloc(), b"5:1,7:2")?;
+    let text = write_log(rt.alloc(), &log)?;
+    assert_eq!(rt; text.as_slice(), b"5:1,7:2".as_slice());
+    let mut copy = log.copy()?;
+    assert!(rt; copy.takes((9, 1)));
+    copy.push(9, 1)?;
+    assert_eq!(rt; copy.members().len(), 3);
+    let text = write_log(rt.alloc(), &copy)?;
+    assert_eq!(rt; text.as_slice(), b"5:1,7:2,9:1".as_slice());
+    Ok(())
+}
+
+#[test]
+fn empty_log_is_a_dash(rt: HostRuntime) -> Result<(), Fail> {
+    let text = write_log(rt.alloc(), &Log::new(rt.alloc()))?;
+    assert_eq!(rt; text.as_slice(), b"-".as_slice());
+    assert_eq!(rt; read_log(rt.alloc(), b"-")?.members().len(), 0);
+    Ok(())
+}
+
+#[test]
+fn ill_formed_logs_are_refused(rt: HostRuntime) {
+    assert!(rt; is_ill_formed(rt, b""));
+    assert!(rt; is_ill_formed(rt, b"5:0"));
+    assert!(rt; is_ill_formed(rt, b"05:1"));
+    assert!(rt; is_ill_formed(rt, b"1000000:1"));
+    assert!(rt; is_ill_formed(rt, b"5:4294967296"));
+    assert!(rt; is_ill_formed(rt, b"5:1,5:1"));
+    assert!(rt; is_ill_formed(rt, b"5:1,"));
+    assert!(rt; is_ill_formed(rt, b"module/-"));
+}
+
+fn is_ill_formed(rt: HostRuntime, text: &[u8]) -> bool {
+    matches!(read_named_log(rt.alloc(), text), Err(LogFault::IllFormed))
+}
+
+#[test]
+fn named_log_keeps_its_head(rt: HostRuntime) -> Result<(), Fail> {
+    let (head, log) = read_named_log(rt.alloc(), b"statement/7:1")?;
+    assert!(rt; head == LogHead::Statement);
+    let text = write_named_log(rt.alloc(), head, &log)?;
+    assert_eq!(rt; text.as_slice(), b"statement/7:1".as_slice());
+    Ok(())
+}
