@@ -1,0 +1,146 @@
+-- Counts of places: a partition point is a count, and so is the number of listed places below a place.
+use Rattle.std.proofs.Common.{◌≡◌, ℕ, zero, suc, ◌+◌, ◌-◌, ◌≤◌, Bool, true, false, cond, List, [], ◌∷◌, length, take, drop, get_or, nat_lt, refl, sym, ◌∙◌, ap, arith}
+use Rattle.std.specs.List.{count_by, AllWithin}
+use Rattle.std.specs.List.Sorted.{IsNonDecreasing}
+use Rattle.std.proofs.Common.{All, slice_index, drop-cons}
+use Rattle.std.proofs.lemmas.Bool.{cond_both, lt-ltb, le-ltb, ltb-true, ltb-false}
+use Rattle.std.proofs.lemmas.List.Elements.{All-nil, All-cons, All-head, All-tail}
+use Rattle.std.proofs.lemmas.List.Sums.{sum_by-cons, sum_by-take-drop, count_by-le-length}
+use Rattle.memchr.specs.Find.{places_from, places, is_byte}
+use Rattle.vsrc.specs.Source.{count_below, file_start}
+
+pub count_by-yes : {X : Type 0} (p : X → Bool) (x : X) (xs : List X) → p x ≡ true → count_by p (x ∷ xs) ≡ 1 + count_by p xs
+count_by-yes p x xs h = sum_by-cons (λ y. cond (p y) 1 0) x xs ∙ ap (λ b. cond b 1 0 + count_by p xs) h
+
+pub count_by-no : {X : Type 0} (p : X → Bool) (x : X) (xs : List X) → p x ≡ false → count_by p (x ∷ xs) ≡ count_by p xs
+count_by-no p x xs h = sum_by-cons (λ y. cond (p y) 1 0) x xs ∙ ap (λ b. cond b 1 0 + count_by p xs) h ∙ omega arith
+
+-- what passes up to a point, and nothing behind it, is counted by the point
+pub count_by-point : {X : Type 0} (p : X → Bool) (xs : List X) (i : ℕ) → i ≤ length xs → AllWithin (λ y. p y ≡ true) xs 0 i → AllWithin (λ y. p y ≡ false) xs i (length xs) → count_by p xs ≡ i
+count_by-point p [] i short passes fails = omega arith
+count_by-point p (x ∷ xs) zero short passes fails =
+    count_by-no p x xs (fails 0 x (omega arith) (omega arith))
+    ∙ count_by-point p xs zero (omega arith) (λ k d low high. absurd (omega arith)) (λ k d low high. fails (suc k) d (omega arith) (omega arith))
+count_by-point p (x ∷ xs) (suc i) short passes fails =
+    count_by-yes p x xs (passes 0 x (omega arith) (omega arith))
+    ∙ ap (λ n. 1 + n) (count_by-point p xs i (omega arith) (λ k d low high. passes (suc k) d (omega arith) (omega arith)) (λ k d low high. fails (suc k) d (omega arith) (omega arith)))
+    ∙ omega arith
+
+none_below : (at : ℕ) (xs : List ℕ) → All (λ x. at ≤ x) xs → count_by (λ x. nat_lt x at) xs ≡ 0
+none_below at [] h = refl
+none_below at (x ∷ xs) h =
+    count_by-no (λ y. nat_lt y at) x xs (le-ltb _ _ (All-head (λ y. at ≤ y) x xs h)) ∙ none_below at xs (All-tail (λ y. at ≤ y) x xs h)
+
+pub rises-cons : (x : ℕ) (xs : List ℕ) → All (λ y. x ≤ y) xs → IsNonDecreasing xs → IsNonDecreasing (x ∷ xs)
+rises-cons x xs low rise zero zero d le within = omega arith
+rises-cons x xs low rise zero (suc j) d le within = low j d (omega arith)
+rises-cons x xs low rise (suc i) zero d le within = absurd (omega arith)
+rises-cons x xs low rise (suc i) (suc j) d le within = rise i j d (omega arith) (omega arith)
+
+module _ (test : ℕ → Bool) (hay : List ℕ) where
+  places_not_below : (i n at : ℕ) → at ≤ i → All (λ k. at ≤ k) (places_from test hay i n)
+  unfolding places_from
+  places_not_below i zero at low = All-nil (λ k. at ≤ k)
+  places_not_below i (suc n) at low =
+      let P = λ (k : ℕ). at ≤ k in
+      let later = places_not_below (i + 1) n at (omega arith) in
+      cond_both (test (slice_index hay i)) (i ∷ places_from test hay (i + 1) n) (places_from test hay (i + 1) n) (All P)
+      (λ _. All-cons P i _ low later) (λ _. later)
+
+  -- a list of places from i on, those below i + k against the bytes there
+  count_from : (i n k : ℕ) → k ≤ n → i + n ≤ length hay → count_by (λ p. nat_lt p (i + k)) (places_from test hay i n) ≡ count_by test (take k (drop i hay))
+  unfolding places_from
+  count_from i n zero short within = none_below (i + 0) _ (places_not_below i n (i + 0) (omega arith)) ∙ refl
+  count_from i zero (suc k) short within = absurd (omega arith)
+  count_from i (suc n) (suc k) short within =
+      let at : i + suc k ≡ i + 1 + k = omega arith in
+      let x : ℕ = get_or hay i 0 in
+      let later : List ℕ = places_from test hay (i + 1) n in
+      let left : List ℕ = drop (i + 1) hay in
+      let rest : count_by (λ p. nat_lt p (i + suc k)) later ≡ count_by test (take k left) =
+      ap (λ m. count_by (λ p. nat_lt p m) later) at ∙ count_from (i + 1) n k (omega arith) (omega arith) in
+      let next : suc i ≡ i + 1 = omega arith in
+      let cut : drop i hay ≡ x ∷ left = drop-cons hay i 0 (omega arith) ∙ ap (λ m. x ∷ drop m hay) next in
+      let whole : count_by test (take (suc k) (drop i hay)) ≡ count_by test (x ∷ take k left) = ap (λ l. count_by test (take (suc k) l)) cut in
+      cond_both (test x) (i ∷ later) later (λ l. count_by (λ p. nat_lt p (i + suc k)) l ≡ count_by test (take (suc k) (drop i hay)))
+      (λ h. count_by-yes _ i later (lt-ltb i (i + suc k) (omega arith)) ∙ ap (λ m. 1 + m) rest ∙ sym (count_by-yes test x (take k left) h) ∙ sym whole)
+      (λ h. rest ∙ sym (count_by-no test x (take k left) h) ∙ sym whole)
+
+  -- the listed places below a place are as many as the bytes before it that pass
+  pub count_places : (at : ℕ) → at ≤ length hay → count_by (λ p. nat_lt p at) (places test hay) ≡ count_by test (take at hay)
+  count_places at within =
+      let same : at ≡ 0 + at = omega arith in
+      let all : length hay - 0 ≡ length hay = omega arith in
+      ap (λ m. count_by (λ p. nat_lt p m) (places test hay)) same
+      ∙ ap (λ n. count_by (λ p. nat_lt p (0 + at)) (places_from test hay 0 n)) all
+      ∙ count_from 0 (length hay) at within (omega arith)
+
+  places_rise : (i n : ℕ) → IsNonDecreasing (places_from test hay i n)
+  unfolding places_from
+  places_rise i zero = λ a b d low high. absurd (omega arith)
+  places_rise i (suc n) =
+      let later = places_rise (i + 1) n in
+      cond_both (test (slice_index hay i)) (i ∷ places_from test hay (i + 1) n) (places_from test hay (i + 1) n) IsNonDecreasing
+      (λ _. rises-cons i _ (places_not_below (i + 1) n i (omega arith)) later) (λ _. later)
+
+  pub places_sorted : IsNonDecreasing (places test hay)
+  places_sorted = places_rise 0 (length hay - 0)
+
+rises-tail : (x : ℕ) (xs : List ℕ) → IsNonDecreasing (x ∷ xs) → IsNonDecreasing xs
+rises-tail x xs rise i j d le within = rise (suc i) (suc j) d (omega arith) (omega arith)
+
+rises-head : (x : ℕ) (xs : List ℕ) → IsNonDecreasing (x ∷ xs) → All (λ y. x ≤ y) xs
+rises-head x xs rise j d within = rise zero (suc j) d (omega arith) (omega arith)
+
+take-take : (i j : ℕ) (xs : List ℕ) → i ≤ j → take i (take j xs) ≡ take i xs
+take-take zero j xs le = refl
+take-take (suc i) zero xs le = absurd (omega arith)
+take-take (suc i) (suc j) [] le = refl
+take-take (suc i) (suc j) (x ∷ xs) le = ap (λ l. x ∷ l) (take-take i j xs (omega arith))
+
+-- the line feeds before a place are those before an earlier one and those between
+pub feeds_between : (text feeds : List ℕ) (from at : ℕ) → feeds ≡ places (is_byte 10) text → from ≤ at → at ≤ length text
+    → count_below feeds from + count_by (is_byte 10) (drop from (take at text)) ≡ count_below feeds at
+feeds_between text feeds from at all before within =
+    let first : count_below feeds from ≡ count_by (is_byte 10) (take from text) =
+    ap (λ l. count_below l from) all ∙ count_places (is_byte 10) text from (omega arith) in
+    let both : count_below feeds at ≡ count_by (is_byte 10) (take at text) = ap (λ l. count_below l at) all ∙ count_places (is_byte 10) text at within in
+    let cut : count_by (is_byte 10) (take from (take at text)) + count_by (is_byte 10) (drop from (take at text)) ≡ count_by (is_byte 10) (take at text) =
+    sum_by-take-drop (λ x. cond (is_byte 10 x) 1 0) (take at text) from in
+    ap (λ n. n + count_by (is_byte 10) (drop from (take at text))) (first ∙ ap (count_by (is_byte 10)) (sym (take-take from at text before))) ∙ cut ∙ sym both
+
+-- a file begins no later than what stands in it
+pub file_start-le : (start : ℕ) (borders : List ℕ) (at : ℕ) → start ≤ at → file_start start borders at ≤ at
+file_start-le start [] at le = le
+file_start-le start (b ∷ bs) at le =
+    cond_both (nat_lt b at) (file_start (b + 1) bs at) start (λ s. s ≤ at)
+    (λ before. file_start-le (b + 1) bs at (omega (arith, ltb-true b at before))) (λ _. le)
+
+no_less : (a b : ℕ) → nat_lt a b ≡ false → b ≤ a
+no_less a b h = omega (arith, ltb-false a b h)
+
+later_borders : (b : ℕ) (bs : List ℕ) (at : ℕ) → IsNonDecreasing (b ∷ bs) → nat_lt b at ≡ false → count_below bs at ≡ 0
+later_borders b bs at rise after = none_below at bs (λ k d within. omega (arith, no_less b at after, rises-head b bs rise k d within))
+
+-- without a border before the place the file begins at the start
+pub file_start-none : (start : ℕ) (borders : List ℕ) (at : ℕ) → count_below borders at ≡ 0 → file_start start borders at ≡ start
+file_start-none start [] at e = refl
+file_start-none start (b ∷ bs) at e =
+    cond_both (nat_lt b at) (file_start (b + 1) bs at) start (λ s. s ≡ start)
+    (λ before. absurd (omega (arith, e, count_by-yes (λ x. nat_lt x at) b bs before))) (λ _. refl)
+
+-- and else behind the last one before it
+pub file_start-some : (start : ℕ) (borders : List ℕ) (at k : ℕ) → IsNonDecreasing borders → count_below borders at ≡ suc k → file_start start borders at ≡ get_or borders k 0 + 1
+file_start-some start [] at k rise e = absurd (omega (arith, e))
+file_start-some start (b ∷ bs) at zero rise e =
+    cond_both (nat_lt b at) (file_start (b + 1) bs at) start (λ s. s ≡ b + 1)
+    (λ before. let count : count_below bs at ≡ 0 = omega (arith, e, count_by-yes (λ x. nat_lt x at) b bs before) in file_start-none (b + 1) bs at count)
+    (λ after. absurd (omega (arith, e, count_by-no (λ x. nat_lt x at) b bs after, later_borders b bs at rise after)))
+file_start-some start (b ∷ bs) at (suc k) rise e =
+    cond_both (nat_lt b at) (file_start (b + 1) bs at) start (λ s. s ≡ get_or bs k 0 + 1)
+    (λ before. let count : count_below bs at ≡ suc k = omega (arith, e, count_by-yes (λ x. nat_lt x at) b bs before) in
+    file_start-some (b + 1) bs at k (rises-tail b bs rise) count)
+    (λ after. absurd (omega (arith, e, count_by-no (λ x. nat_lt x at) b bs after, later_borders b bs at rise after)))
+
+pub count_below-le : (places : List ℕ) (at : ℕ) → count_below places at ≤ length places
+count_below-le places at = count_by-le-length (λ x. nat_lt x at) places

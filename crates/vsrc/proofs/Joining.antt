@@ -1,0 +1,91 @@
+-- Adding a file to a text that is joined, and where its borders stand.
+use Rattle.std.proofs.Common.{◌≡◌, ℕ, zero, suc, ◌+◌, ◌<◌, ◌≤◌, List, [], ◌∷◌, ◌++◌, length, drop, map, get_or, refl, sym, ◌∙◌, ap, subst, arith, append_assoc}
+use Rattle.std.specs.List.{flat_map, All}
+use Rattle.std.specs.List.Sorted.{IsNonDecreasing}
+use Rattle.std.proofs.lemmas.List.{length-append}
+use Rattle.std.proofs.lemmas.List.Elements.{All-nil, All-cons}
+use Rattle.memchr.specs.Find.{is_byte, places}
+use Rattle.vsrc.specs.declared.fault.SrcFault.{SrcFault}
+use Rattle.vsrc.specs.declared.fault.SrcFault.TheVariants.{NotYet, Growth, Memory}
+use Rattle.vsrc.specs.Expansion.{IsGrowth}
+use Rattle.vsrc.specs.Source.{joined, borders_of, borders_from, IsIndexed}
+use Rattle.vsrc.proofs.Counting.{rises-cons, places_sorted}
+
+-- a file and the line feed before it
+abbrev pub after_feed : List ℕ → List ℕ
+after_feed file = (10 ∷ []) ++ file
+
+-- the file at i heads what is left from i on
+pub drop_map : {X : Type 0} (f : X → List ℕ) (xs : List X) (i : ℕ) (x : X) → i < length xs → x ≡ get_or xs i x → drop i (map f xs) ≡ f x ∷ drop (i + 1) (map f xs)
+drop_map f [] i x within is = absurd (omega arith)
+drop_map f (y ∷ ys) zero x within is = ap (λ z. f z ∷ map f ys) (sym is)
+drop_map f (y ∷ ys) (suc i) x within is =
+    let next : i + 1 + 1 ≡ suc (i + 1) = omega arith in
+    let sum : suc i + 1 ≡ suc (i + 1) = omega arith in
+    drop_map f ys i x (omega arith) is ∙ ap (λ k. f x ∷ drop k (f y ∷ map f ys)) (sym sum)
+
+pub text_grows : (whole text file : List ℕ) (files : List (List ℕ)) (i : ℕ) → drop i files ≡ file ∷ drop (i + 1) files
+    → text ++ flat_map after_feed (drop i files) ≡ whole → ((text ++ 10 ∷ []) ++ file) ++ flat_map after_feed (drop (i + 1) files) ≡ whole
+text_grows whole text file files i here h =
+    simp append_assoc (sym (ap (λ l. text ++ flat_map after_feed l) here) ∙ h)
+
+pub borders_grow : (whole borders text file : List ℕ) (files : List (List ℕ)) (i : ℕ) → drop i files ≡ file ∷ drop (i + 1) files
+    → borders ++ borders_from (length text) (drop i files) ≡ whole → (borders ++ length text ∷ []) ++ borders_from (length ((text ++ 10 ∷ []) ++ file)) (drop (i + 1) files) ≡ whole
+borders_grow whole borders text file files i here h =
+    let len : length ((text ++ 10 ∷ []) ++ file) ≡ length text + 1 + length file = simp length-append refl in
+    append_assoc borders (length text ∷ []) _
+    ∙ ap (λ n. borders ++ length text ∷ borders_from n (drop (i + 1) files)) len
+    ∙ sym (ap (λ l. borders ++ borders_from (length text) l) here) ∙ h
+
+-- the file and the line feed before it fit the whole
+pub text_fits : (whole text file : List ℕ) (files : List (List ℕ)) (i : ℕ) → drop i files ≡ file ∷ drop (i + 1) files
+    → text ++ flat_map after_feed (drop i files) ≡ whole → length text + 1 + length file ≤ length whole
+text_fits whole text file files i here h =
+    let all : length (text ++ (after_feed file ++ flat_map after_feed (drop (i + 1) files))) ≡ length whole =
+    ap length (sym (ap (λ l. text ++ flat_map after_feed l) here) ∙ h) in
+    omega (arith, simp length-append at all)
+
+pub grows_more : (a b : ℕ) (fault : SrcFault) → a ≤ b → IsGrowth a fault → IsGrowth b fault
+grows_more a b (NotYet place) le h = h
+grows_more a b (Growth place) le h = omega arith
+grows_more a b Memory le h = tt
+
+borders_low : (end : ℕ) (files : List (List ℕ)) (least : ℕ) → least ≤ end → All (λ b. least ≤ b) (borders_from end files)
+borders_low end [] least le = All-nil (λ b. least ≤ b)
+borders_low end (file ∷ files) least le = All-cons (λ b. least ≤ b) end _ le (borders_low (end + 1 + length file) files least (omega arith))
+
+borders_rise : (end : ℕ) (files : List (List ℕ)) → IsNonDecreasing (borders_from end files)
+borders_rise end [] = λ i j d le within. absurd (omega arith)
+borders_rise end (file ∷ files) = rises-cons end _ (borders_low (end + 1 + length file) files end (omega arith)) (borders_rise (end + 1 + length file) files)
+
+borders_high : (end : ℕ) (files : List (List ℕ)) → All (λ b. b < end + length (flat_map after_feed files)) (borders_from end files)
+borders_high end [] = All-nil (λ b. b < end + 0)
+borders_high end (file ∷ files) =
+    let P : ℕ → Type 0 = λ n. All (λ b. b < n) (borders_from (end + 1 + length file) files) in
+    let len : end + 1 + length file + length (flat_map after_feed files) ≡ end + length (flat_map after_feed (file ∷ files)) =
+    omega (arith, length-append file (flat_map after_feed files)) in
+    All-cons (λ b. b < end + length (flat_map after_feed (file ∷ files))) end _ (omega arith) (subst P len (borders_high (end + 1 + length file) files))
+
+pub borders_sorted : (files : List (List ℕ)) → IsNonDecreasing (borders_of files)
+borders_sorted [] = λ i j d le within. absurd (omega arith)
+borders_sorted (file ∷ files) = borders_rise (length file) files
+
+pub borders_within : (files : List (List ℕ)) → All (λ b. b < length (joined files)) (borders_of files)
+borders_within [] = All-nil (λ b. b < 0)
+borders_within (file ∷ files) =
+    let P : ℕ → Type 0 = λ n. All (λ b. b < n) (borders_from (length file) files) in
+    subst P (sym (length-append file (flat_map after_feed files))) (borders_high (length file) files)
+
+-- what files make is indexed by their borders and the places of the line feeds
+pub joined_indexed : (files : List (List ℕ)) (text borders feeds : List ℕ) → text ≡ joined files → borders ≡ borders_of files → feeds ≡ places (is_byte 10) text
+    → length text ≤ 33554432 → IsIndexed text borders feeds
+joined_indexed files text borders feeds made cut all short =
+    let Within : List ℕ → List ℕ → Type 0 = λ t bs. All (λ b. b < length t) bs in
+    let within : Within text borders = rw (made, cut) (borders_within files) in
+    record {
+      rising = subst IsNonDecreasing (sym cut) (borders_sorted files);
+      within = λ k low. within k 0 low;
+      feeds_rising = subst IsNonDecreasing (sym all) (places_sorted (is_byte 10) text);
+      all = all;
+      short = short;
+    }

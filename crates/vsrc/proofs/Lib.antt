@@ -1,0 +1,4 @@
+mod Counting
+mod Joining
+mod Stretches
+mod Ticks

@@ -1,0 +1,13 @@
+// Files to text. In: the bytes of the files, in order. Out: one text, with a line feed between two
+// files, and for each place in it a file and a line. The law: what `expand` gives is `source_of` the
+// files, and no text with a backtick outside comments and strings is given.
+#![tactic(auto)]
+
+mod expanded;
+mod fault;
+mod files;
+mod outside;
+
+pub use expanded::{Expanded, Place, Scale, Unit};
+pub use fault::SrcFault;
+pub use files::expand;
