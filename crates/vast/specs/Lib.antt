@@ -4,3 +4,5 @@ pub mod Trees
 pub mod Derives
 pub mod Depth
 pub mod Spellings
+pub mod Design
+pub mod DesignViews

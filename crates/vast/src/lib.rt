@@ -3,6 +3,7 @@
 // whether it stands as the grammar lets it, by `fits`. The law: a tree derives the words that it spells, where it fits.
 #![tactic(auto)]
 
+pub mod design;
 pub mod fitting;
 pub mod spelling;
 pub mod syntax;
