@@ -5,3 +5,6 @@ pub mod Tables
 pub mod Operands
 pub mod Equality
 pub mod Parts
+pub mod NumbersOf
+pub mod Reductions
+pub mod Shifts

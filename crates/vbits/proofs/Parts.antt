@@ -184,20 +184,25 @@ pub letters_of-above : (n m a b : ℕ) (l : Bit4) → a < 2 ^ n → b < 2 ^ n �
     letters_of (n + m) (run (value_bit l) m * 2 ^ n + a) (run (unknown_bit l) m * 2 ^ n + b) ≡ letters_of n a b ++ replicate m l
 letters_of-above n m a b l h g = letters_of-cat n m a b (run (value_bit l) m) (run (unknown_bit l) m) h g ∙ ap (λ xs. letters_of n a b ++ xs) (letters_of-run m l)
 
+-- letters that are filled up to a count
+pub padded : (n a b count : ℕ) (l : Bit4) → a < 2 ^ n → b < 2 ^ n → n ≤ count →
+    letters_of count (run (value_bit l) (count - n) * 2 ^ n + a) (run (unknown_bit l) (count - n) * 2 ^ n + b) ≡ take count (letters_of n a b ++ replicate count l)
+padded n a b count l h g longer =
+    let whole : n + (count - n) ≡ count = omega arith in
+    let above = rw whole at (letters_of-above n (count - n) a b l h g) in
+    let cut : take count (letters_of n a b ++ replicate count l) ≡ letters_of n a b ++ replicate (count - n) l =
+    rw (length-letters_of n a b, whole) at (take-append-add (letters_of n a b) (replicate count l) (count - n))
+    ∙ ap (λ xs. letters_of n a b ++ xs) (take-replicate (count - n) count l (omega arith)) in
+    above ∙ sym cut
+
 pub extend-view : (n a b count : ℕ) (s : Bool) (v : Vector) → Planes n a b → view_of n a b s ≡ v → n ≤ count →
     view_of count (run (sign_bit a n s) (count - n) * 2 ^ n + a) (run (sign_bit b n s) (count - n) * 2 ^ n + b) s ≡ resize v count
 unfolding resize
 extend-view n a b count s v p e h =
     let l : Bit4 = letter (sign_bit a n s) (sign_bit b n s) in
-    let len = length-letters_of n a b in
-    let whole : n + (count - n) ≡ count = omega arith in
-    let above : letters_of count (run (sign_bit a n s) (count - n) * 2 ^ n + a) (run (sign_bit b n s) (count - n) * 2 ^ n + b) ≡ letters_of n a b ++ replicate (count - n) l =
-    rw (value_bit-sign n a b s, unknown_bit-sign n a b s, whole) at (letters_of-above n (count - n) a b l p.value_within p.unknown_within) in
-    let cut : take count (letters_of n a b ++ replicate count l) ≡ letters_of n a b ++ replicate (count - n) l =
-    rw (len, whole) at (take-append-add (letters_of n a b) (replicate count l) (count - n))
-    ∙ ap (λ xs. letters_of n a b ++ xs) (take-replicate (count - n) count l (omega arith)) in
-    let same : replicate count l ≡ replicate count (sign_letter (view_of n a b s)) = ap (replicate count) (sym (sign_letter-view n a b s p.some)) in
-    (λ i. record { letters = (above ∙ sym cut ∙ ap (λ xs. take count (letters_of n a b ++ xs)) same) i; signed = s })
+    let longer = rw (value_bit-sign n a b s, unknown_bit-sign n a b s) at (padded n a b count l p.value_within p.unknown_within h) in
+    let same : l ≡ sign_letter (view_of n a b s) = sym (sign_letter-view n a b s p.some) in
+    (λ i. record { letters = (longer ∙ ap (λ x. take count (letters_of n a b ++ replicate count x)) same) i; signed = s })
     ∙ ap (λ z. resize z count) e
 
 -- ---- what the code computes

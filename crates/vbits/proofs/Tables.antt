@@ -1,9 +1,9 @@
 -- The words that stand for each table.
-use Rattle.std.proofs.Common.{refl}
+use Rattle.std.proofs.Common.{Bool, true, false, refl}
 use Rattle.std.specs.Prelude.{bit_and, bit_or, bit_xor}
 use Rattle.vbits.specs.declared.bit4.Bit4.{Bit4}
 use Rattle.vbits.specs.declared.bit4.Bit4.TheVariants.{Zero, One, X, Z}
-use Rattle.vbits.specs.Letters.{is_unknown, is_same, differ, not_letter, and_letter, or_letter, xor_letter, xnor_letter, join_letter}
+use Rattle.vbits.specs.Letters.{is_unknown, is_one, is_same, differ, not_letter, and_letter, or_letter, xor_letter, xnor_letter, join_letter}
 use Rattle.vbits.proofs.Wordwise.{Word, Wordwise, word_a, word_b, word_c, word_d, word_m, and_words, or_words, xor_words, Agrees, AgreesOne, Tells, TellsOne, Denies}
 
 -- the two words stand for the table
@@ -156,3 +156,33 @@ unknown_word-tells Zero = refl
 unknown_word-tells One = refl
 unknown_word-tells X = refl
 unknown_word-tells Z = refl
+
+abbrev pub one_word : Word
+one_word a b c d m = bit_xor (bit_or a b) b
+
+pub one_word-words : Wordwise one_word
+one_word-words = xor_words _ _ (or_words _ _ word_a word_b) word_b
+
+pub one_word-tells : (x : Bit4) → TellsOne is_one one_word x
+one_word-tells Zero = refl
+one_word-tells One = refl
+one_word-tells X = refl
+one_word-tells Z = refl
+
+abbrev pub is_zero : Bit4 → Bool
+is_zero Zero = true
+is_zero One = false
+is_zero X = false
+is_zero Z = false
+
+abbrev pub zero_word : Word
+zero_word a b c d m = bit_xor (bit_or a b) m
+
+pub zero_word-words : Wordwise zero_word
+zero_word-words = xor_words _ _ (or_words _ _ word_a word_b) word_m
+
+pub zero_word-tells : (x : Bit4) → TellsOne is_zero zero_word x
+zero_word-tells Zero = refl
+zero_word-tells One = refl
+zero_word-tells X = refl
+zero_word-tells Z = refl

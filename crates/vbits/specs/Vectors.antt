@@ -1,10 +1,13 @@
 -- Four-state vectors and their operators (IEEE 1364-2005, clauses 4 and 5). Letters stand lowest first.
-use Rattle.std.specs.Prelude.{Bool, false, cond, ◌&&◌, ◌||◌, ℕ, ◌+◌, ◌-◌, List, [], ◌∷◌, ◌++◌, map, zip, length, take, drop, replicate, get_or}
+use Rattle.std.specs.Prelude.{Bool, false, cond, ◌&&◌, ◌||◌, ℕ, ◌+◌, ◌-◌, ℤ, pos, ◌+ℤ◌, ◌-ℤ◌, ◌*ℤ◌, neg_ℤ, int_div, int_rem, int_lt, int_le, List, [], ◌∷◌, ◌++◌, map, fold, zip, length, take, drop, replicate, get_or, Option, Some, None, option_map}
 use Rattle.std.specs.List.{list_any, list_all}
 use Rattle.vbits.specs.declared.bit4.Bit4.{Bit4}
-use Rattle.vbits.specs.declared.bit4.Bit4.TheVariants.{Zero, One, X}
-use Rattle.vbits.specs.Letters.{is_unknown, is_same, differ, not_letter, and_letter, or_letter, xor_letter, xnor_letter, join_letter}
-use Rattle.vbits.specs.Numbers.{digits}
+use Rattle.vbits.specs.declared.bit4.Bit4.TheVariants.{Zero, One, X, Z}
+use Rattle.vbits.specs.declared.red.Red.{Red}
+use Rattle.vbits.specs.declared.red.Red.TheVariants.{And, Nand, Or, Nor, Xor, Xnor}
+use Rattle.std.specs.Ordering.{int_eq}
+use Rattle.vbits.specs.Letters.{is_unknown, is_one, is_same, differ, not_letter, and_letter, or_letter, xor_letter, xnor_letter, join_letter}
+use Rattle.vbits.specs.Numbers.{number, digits, integer, wrapped}
 
 -- 1 to 64 letters with a sign mark
 pub record Vector : Type 0 where
@@ -103,3 +106,133 @@ case_eq v w = single (cond (same_letters v.letters w.letters) One Zero)
 
 unfoldable pub case_ne : Vector → Vector → Vector
 case_ne v w = single (cond (same_letters v.letters w.letters) Zero One)
+
+-- ---- truth and reductions (5.1.9, 5.1.11)
+
+-- 1 if a letter is 1, else x if one is unknown, else 0
+unfoldable pub truth : Vector → Bit4
+truth v =
+    cond (list_any is_one v.letters) One
+    (cond (list_any is_unknown v.letters) X Zero)
+
+unfoldable pub reduced : Red → List Bit4 → Bit4
+reduced And letters = fold and_letter One letters
+reduced Nand letters = not_letter (fold and_letter One letters)
+reduced Or letters = fold or_letter Zero letters
+reduced Nor letters = not_letter (fold or_letter Zero letters)
+reduced Xor letters = fold xor_letter Zero letters
+reduced Xnor letters = not_letter (fold xor_letter Zero letters)
+
+unfoldable pub reduce : Vector → Red → Vector
+reduce v operator = single (reduced operator v.letters)
+
+-- ---- shifts (5.1.12): by an unsigned amount, all x where it is unknown
+
+abbrev pub shifted_left : List Bit4 → Option ℕ → List Bit4
+shifted_left letters None = replicate (length letters) X
+shifted_left letters (Some amount) = take (length letters) (replicate amount Zero ++ letters)
+
+-- copies of a letter come in from the left
+abbrev pub shifted_right : Bit4 → List Bit4 → Option ℕ → List Bit4
+shifted_right from_left letters None = replicate (length letters) X
+shifted_right from_left letters (Some amount) =
+    take (length letters) (drop amount letters ++ replicate (length letters) from_left)
+
+unfoldable pub shl : Vector → Vector → Vector
+shl v amount = record {
+  letters = shifted_left v.letters (number amount.letters);
+  signed = v.signed;
+}
+
+unfoldable pub shr : Vector → Vector → Vector
+shr v amount = record {
+  letters = shifted_right Zero v.letters (number amount.letters);
+  signed = v.signed;
+}
+
+-- `>>>` fills with the leftmost letter where the vector is signed
+unfoldable pub ashr : Vector → Vector → Vector
+ashr v amount = record {
+  letters = shifted_right (sign_letter v) v.letters (number amount.letters);
+  signed = v.signed;
+}
+
+-- ---- arithmetic (5.1.5) and order (5.1.7): on integers, read as signed where both operands are
+
+-- what an operation makes of two integers, or None where one is not known
+abbrev pub combined : (ℤ → ℤ → Option ℤ) → Option ℤ → Option ℤ → Option ℤ
+combined operation (Some x) (Some y) = operation x y
+combined operation _ _ = None
+
+-- the letters of a result: wrapped, or all x where there is none
+abbrev pub result_letters : ℕ → Option ℤ → List Bit4
+result_letters count None = replicate count X
+result_letters count (Some z) = wrapped count z
+
+unfoldable pub arithmetic : (ℤ → ℤ → Option ℤ) → Vector → Vector → Vector
+arithmetic operation v w =
+    let signed = v.signed && w.signed in
+    record {
+      letters = result_letters (length v.letters)
+          (combined operation (integer signed v.letters) (integer signed w.letters));
+      signed = signed;
+    }
+
+abbrev pub sum_of : ℤ → ℤ → Option ℤ
+sum_of x y = Some (x +ℤ y)
+
+abbrev pub difference_of : ℤ → ℤ → Option ℤ
+difference_of x y = Some (x -ℤ y)
+
+abbrev pub product_of : ℤ → ℤ → Option ℤ
+product_of x y = Some (x *ℤ y)
+
+-- towards 0; none where the divisor is 0
+abbrev pub quotient_of : ℤ → ℤ → Option ℤ
+quotient_of x y = cond (int_eq y (pos 0)) None (Some (int_div x y))
+
+-- with the sign of x; none where the divisor is 0
+abbrev pub remainder_of : ℤ → ℤ → Option ℤ
+remainder_of x y = cond (int_eq y (pos 0)) None (Some (int_rem x y))
+
+abbrev pub add : Vector → Vector → Vector
+add = arithmetic sum_of
+
+abbrev pub sub : Vector → Vector → Vector
+sub = arithmetic difference_of
+
+abbrev pub mul : Vector → Vector → Vector
+mul = arithmetic product_of
+
+abbrev pub div : Vector → Vector → Vector
+div = arithmetic quotient_of
+
+abbrev pub rem : Vector → Vector → Vector
+rem = arithmetic remainder_of
+
+unfoldable pub neg : Vector → Vector
+neg v = record {
+  letters = result_letters (length v.letters) (option_map neg_ℤ (integer v.signed v.letters));
+  signed = v.signed;
+}
+
+abbrev pub test_letter : (ℤ → ℤ → Bool) → Option ℤ → Option ℤ → Bit4
+test_letter test (Some x) (Some y) = cond (test x y) One Zero
+test_letter test _ _ = X
+
+unfoldable pub compared : (ℤ → ℤ → Bool) → Vector → Vector → Vector
+compared test v w =
+    let signed = v.signed && w.signed in
+    single (test_letter test (integer signed v.letters) (integer signed w.letters))
+
+abbrev pub lt : Vector → Vector → Vector
+lt = compared int_lt
+
+abbrev pub le : Vector → Vector → Vector
+le = compared int_le
+
+abbrev pub gt : Vector → Vector → Vector
+gt = compared (λ x y. int_lt y x)
+
+abbrev pub ge : Vector → Vector → Vector
+ge = compared (λ x y. int_le y x)

@@ -6,7 +6,9 @@
 
 mod bit4;
 mod planes;
+mod red;
 mod vec4;
 
 pub use bit4::Bit4;
+pub use red::Red;
 pub use vec4::Vec4;

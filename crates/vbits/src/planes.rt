@@ -13,6 +13,15 @@ pub fn ones(len: u32) -> u64
     u64::MAX >> (64 - len)
 }
 
+/// The word whose lowest `len` bits are this bit.
+pub fn filled(len: u32, bit: u64) -> u64
+    requires some { 1 ≤ len }
+    requires few { len ≤ 64 }
+    ensures { result ≡ planes.run bit len }
+{
+    if bit == 0 { 0 } else { ones(len) }
+}
+
 /// What stands above a plane of `len` bits as it is made longer.
 pub fn sign_bit(plane: u64, len: u32, signed: bool) -> u64
     requires some { 1 ≤ len }

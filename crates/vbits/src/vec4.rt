@@ -1,4 +1,5 @@
 ghost use Rattle.std.specs.Prelude.{◌≡◌, ℕ, ◌+◌, ◌-◌, ◌*◌, ◌^◌, ◌<◌, ◌≤◌, length, slice_get};
+ghost use Rattle.vbits.specs.Numbers as numbers;
 ghost use Rattle.vbits.specs.Vectors as vectors;
 
 use super::bit4::Bit4;
@@ -8,6 +9,8 @@ use std::marker::Model;
 mod bitwise;
 mod equality;
 mod parts;
+mod reduce;
+mod shift;
 
 /// A value: 1 to 64 letters, numbered from the right by 0, and a sign mark.
 #[derive(Clone, Copy, Debug, PartialEq, Eq, Hash)]
@@ -56,13 +59,7 @@ impl Vec4 {
         requires few { len ≤ 64 }
         ensures { result ≡ vectors.filled len Bit4.X }
     {
-        let ones = planes::ones(len);
-        Vec4 {
-            value: ones,
-            unknown: ones,
-            len,
-            signed: false,
-        }
+        Vec4::unknowns(len, false)
     }
 
     /// A vector of `len` letters z, unsigned.
@@ -111,6 +108,21 @@ impl Vec4 {
         }
     }
 
+    /// `len` letters x with this sign mark.
+    fn unknowns(len: u32, signed: bool) -> Vec4
+        requires some { 1 ≤ len }
+        requires few { len ≤ 64 }
+        ensures { result ≡ vectors.with_sign (vectors.filled len Bit4.X) signed }
+    {
+        let ones = planes::ones(len);
+        Vec4 {
+            value: ones,
+            unknown: ones,
+            len,
+            signed,
+        }
+    }
+
     /// How many letters it has.
     pub fn len(self) -> u32
         ensures letters { result ≡ length self.letters }
@@ -133,6 +145,17 @@ impl Vec4 {
         ensures { slice_get self.letters i ≡ Some result }
     {
         planes::letter((self.value >> i) & 1, (self.unknown >> i) & 1)
+    }
+
+    /// The number written with its letters, unsigned, or `None` where one is unknown.
+    pub fn to_u64(self) -> Option<u64>
+        ensures { result ≡ numbers.number self.letters }
+    {
+        if self.unknown == 0 {
+            Some(self.value)
+        } else {
+            None
+        }
     }
 
     /// The same letters with this sign mark (`$signed` and `$unsigned`, 5.5).

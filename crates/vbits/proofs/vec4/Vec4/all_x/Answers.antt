@@ -1,9 +1,6 @@
-use Rattle.std.proofs.Common.{false}
-use Rattle.vbits.specs.declared.bit4.Bit4.TheVariants.{X}
-use Rattle.vbits.proofs.LettersOf.{letters_of-run}
-use Rattle.vbits.specs.Vectors.{filled}
+use Rattle.vbits.specs.Vectors.{filled, with_sign}
 use Rattle.vbits.proofs.vec4.Vec4.all_x.Goals as goal
 
 pub returns : goal.returns
-unfolding filled
-returns c = rw c.ones-ones.ensures (λ i. record { letters = letters_of-run c.args.len X i; signed = false })
+unfolding filled with_sign
+returns c = c.unknowns.ensures

@@ -1,0 +1,10 @@
+/// The unary reductions (IEEE 1364-2005, 5.1.11): `&`, `~&`, `|`, `~|`, `^`, `~^`.
+#[derive(Clone, Copy, Debug, PartialEq, Eq, Hash)]
+pub enum Red {
+    And,
+    Nand,
+    Or,
+    Nor,
+    Xor,
+    Xnor,
+}
