@@ -1,0 +1,131 @@
+-- What bytes are, taken alone: a run of blanks, a comment, a token of some kind, or none of these.
+use Rattle.std.specs.Prelude.{ℕ, ◌+◌, ◌-◌, ◌*◌, Bool, true, false, ◌==◌, ◌&&◌, ◌||◌, not, nat_le, if◌then◌else◌, List, [], ◌∷◌, Option, None, Some, fold, codes}
+use Rattle.std.specs.List.{list_all, list_any, before_first, after_first}
+use Rattle.std.specs.Str.{bytes_eq}
+use Rattle.vlex.specs.declared.bytes.Set.{Set}
+use Rattle.vlex.specs.declared.bytes.Set.TheVariants.{Blanks, Words, Decimals, Binaries, Octals, Hexadecimals, Underscores, LineBytes}
+use Rattle.vlex.specs.declared.bytes.Lead.{Lead}
+use Rattle.vlex.specs.declared.bytes.Lead.TheVariants as lead
+use Rattle.vlex.specs.declared.form.Form.{Form}
+use Rattle.vlex.specs.declared.form.Form.TheVariants.{Blank, Comment, Token}
+use Rattle.vlex.specs.declared.kind.Kind.TheVariants.{Name, System, Plain, Based, Text, Symbol}
+use Rattle.vlex.specs.Bytes.{is_unknown, is_in, lead_of}
+
+abbrev pub only_if : Bool → Form → Option Form
+only_if test form = if test then Some form else None
+
+-- Comments (3.3): what stands behind /* ends with the first */
+
+abbrev pub ends_block : List ℕ → Bool
+ends_block [] = false
+ends_block (c ∷ []) = false
+ends_block (c ∷ d ∷ []) = c == 42 && d == 47
+ends_block (c ∷ d ∷ e ∷ cs) = not (c == 42 && d == 47) && ends_block (d ∷ e ∷ cs)
+
+-- Strings (3.6): what stands behind the opening quote ends with the closing one, on the same line.
+-- A backslash takes the next byte along.
+abbrev pub ends_string : List ℕ → Bool
+ends_string [] = false
+ends_string (c ∷ []) = c == 34
+ends_string (c ∷ d ∷ cs) =
+    if c == 34 then false
+    else if c == 10 then false
+    else if c == 92 && not (d == 10) then ends_string cs
+    else ends_string (d ∷ cs)
+
+-- behind a backslash stands n, t, a backslash or a quote (3.6.3)
+abbrev pub has_good_escapes : List ℕ → Bool
+has_good_escapes [] = true
+has_good_escapes (c ∷ []) = not (c == 92)
+has_good_escapes (c ∷ d ∷ cs) =
+    if c == 92 then (d == 110 || d == 116 || d == 92 || d == 34) && has_good_escapes cs
+    else has_good_escapes (d ∷ cs)
+
+-- Numbers (3.5.1)
+
+-- the decimal number that digits spell, _ passed over
+abbrev pub number_of : List ℕ → ℕ
+number_of digits = fold (λ n c. if c == 95 then n else 10 * n + (c - 48)) 0 digits
+
+-- a size is 1 to 64
+abbrev pub is_size : List ℕ → Bool
+is_size digits = list_all (is_in Decimals) digits && nat_le 1 (number_of digits) && nat_le (number_of digits) 64
+
+-- behind a first digit other than _ stand digits of the same base
+abbrev pub digits_from : Set → ℕ → Option Set
+digits_from set first = if is_in set first && not (first == 95) then Some set else None
+
+-- what may stand behind a base letter and a first digit; x, z and ? stand alone in base d
+abbrev pub digits_after : ℕ → ℕ → Option Set
+digits_after base first =
+    if base == 98 || base == 66 then digits_from Binaries first
+    else if base == 111 || base == 79 then digits_from Octals first
+    else if base == 104 || base == 72 then digits_from Hexadecimals first
+    else if base == 100 || base == 68 then (if is_unknown first then Some Underscores else digits_from Decimals first)
+    else None
+
+abbrev pub are_in : Option Set → List ℕ → Bool
+are_in None digits = false
+are_in (Some set) digits = list_all (is_in set) digits
+
+-- a base letter, a digit, and more of them
+abbrev pub is_base_and_digits : List ℕ → Bool
+is_base_and_digits [] = false
+is_base_and_digits (base ∷ []) = false
+is_base_and_digits (base ∷ first ∷ digits) = are_in (digits_after base first) digits
+
+-- what stands behind the apostrophe: s or not, then base and digits
+abbrev pub is_based : List ℕ → Bool
+is_based [] = false
+is_based (c ∷ cs) = if c == 115 || c == 83 then is_base_and_digits cs else is_base_and_digits (c ∷ cs)
+
+abbrev pub is_apostrophe : ℕ → Bool
+is_apostrophe c = c == 39
+
+-- what begins with a digit
+abbrev pub number_form : List ℕ → Option Form
+number_form bytes =
+    if list_all (is_in Decimals) bytes then Some (Token Plain)
+    else only_if (is_size (before_first is_apostrophe bytes) && is_based (after_first is_apostrophe bytes)) (Token Based)
+
+-- Symbols (3.4, 5.1)
+
+abbrev pub is_double : ℕ → ℕ → Bool
+is_double a b = list_any (λ symbol. bytes_eq symbol (a ∷ b ∷ []))
+    (codes "^~" ∷ codes "~^" ∷ codes "~&" ∷ codes "~|" ∷ codes "&&" ∷ codes "||" ∷ codes "==" ∷ codes "!="
+    ∷ codes "<=" ∷ codes ">=" ∷ codes "<<" ∷ codes ">>" ∷ codes "->" ∷ codes "**" ∷ codes "+:" ∷ codes "-:" ∷ [])
+
+abbrev pub is_triple : ℕ → ℕ → ℕ → Bool
+is_triple a b c = list_any (λ symbol. bytes_eq symbol (a ∷ b ∷ c ∷ [])) (codes "===" ∷ codes "!==" ∷ codes "<<<" ∷ codes ">>>" ∷ [])
+
+-- a mark alone, or with the bytes behind it
+abbrev pub is_symbol : ℕ → List ℕ → Bool
+is_symbol a [] = true
+is_symbol a (b ∷ []) = is_double a b
+is_symbol a (b ∷ c ∷ []) = is_triple a b c
+is_symbol a (b ∷ c ∷ d ∷ ds) = false
+
+-- what begins with a slash
+abbrev pub slash_form : List ℕ → Option Form
+slash_form [] = Some (Token Symbol)
+slash_form (c ∷ cs) =
+    if c == 47 then only_if (list_all (is_in LineBytes) cs) Comment
+    else if c == 42 then only_if (ends_block cs) Comment
+    else None
+
+-- the form of a first byte of this lead and of what stands behind it
+abbrev pub form_by : Lead → ℕ → List ℕ → Option Form
+form_by lead.Blank c cs = only_if (list_all (is_in Blanks) cs) Blank
+form_by lead.Letter c cs = only_if (list_all (is_in Words) cs) (Token Name)
+form_by lead.Dollar c [] = None
+form_by lead.Dollar c (d ∷ ds) = only_if (list_all (is_in Words) (d ∷ ds)) (Token System)
+form_by lead.Digit c cs = number_form (c ∷ cs)
+form_by lead.Apostrophe c cs = only_if (is_based cs) (Token Based)
+form_by lead.Quote c cs = only_if (ends_string cs && has_good_escapes cs) (Token Text)
+form_by lead.Slash c cs = slash_form cs
+form_by lead.Mark c cs = only_if (is_symbol c cs) (Token Symbol)
+form_by lead.Other c cs = None
+
+abbrev pub form_of : List ℕ → Option Form
+form_of [] = None
+form_of (c ∷ cs) = form_by (lead_of c) c cs

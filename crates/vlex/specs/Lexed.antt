@@ -1,0 +1,67 @@
+-- The relation between a text and its tokens (IEEE 1364-2005, clause 3).
+use Rattle.std.specs.Prelude.{◌≡◌, ℕ, ◌<◌, ◌≤◌, Bool, true, false, ◌==◌, ◌&&◌, ◌||◌, not, List, [], ◌∷◌, None, Some, length, take, drop, slice_index, ◌⊎◌}
+use Rattle.vsrc.specs.Source.{Source, place_of}
+use Rattle.vlex.specs.declared.bytes.Set.TheVariants.{Words}
+use Rattle.vlex.specs.declared.form.Form.{Form}
+use Rattle.vlex.specs.declared.form.Form.TheVariants.{Blank, Comment, Token}
+use Rattle.vlex.specs.declared.kind.Kind.{Kind}
+use Rattle.vlex.specs.declared.kind.Kind.TheVariants.{Name, System, Plain, Based, Text, Symbol}
+use Rattle.vlex.specs.declared.fault.LexFault.{LexFault}
+use Rattle.vlex.specs.declared.fault.LexFault.TheVariants.{NotEnded, BadToken, Memory}
+use Rattle.vlex.specs.Bytes.{is_in}
+use Rattle.vlex.specs.Forms.{form_of, ends_block, ends_string}
+
+-- a token: its kind and its bytes
+pub record Piece : Type 0 where
+  pub kind : Kind
+  pub text : List ℕ
+
+-- what may not stand at once behind: an apostrophe behind a plain number, a letter, digit, _ or $
+-- behind a based one, / or * behind a slash
+abbrev pub is_barred : Form → ℕ → ℕ → Bool
+is_barred (Token Plain) first c = c == 39
+is_barred (Token Based) first c = is_in Words c
+is_barred (Token Symbol) first c = first == 47 && (c == 47 || c == 42)
+is_barred (Token Name) first c = false
+is_barred (Token System) first c = false
+is_barred (Token Text) first c = false
+is_barred Blank first c = false
+is_barred Comment first c = false
+
+-- nothing barred stands at the head of what follows a piece that begins with `first`
+abbrev pub is_free : Form → ℕ → List ℕ → Bool
+is_free form first [] = true
+is_free form first (c ∷ cs) = not (is_barred form first c)
+
+-- The first `len` bytes of the text are of the form, no longer front of it has one, and what follows is free.
+pub record IsFront (text : List ℕ) (form : Form) (len : ℕ) : Type 0 where
+  pub within : len ≤ length text
+  pub shape : form_of (take len text) ≡ Some form
+  pub longest : (n : ℕ) → len < n → n ≤ length text → form_of (take n text) ≡ None
+  pub free : is_free form (slice_index text 0) (drop len text) ≡ true
+
+-- The text is the spellings of the tokens in order, with blanks and comments between them.
+pub data Lexed : List ℕ → List Piece → Type 0 where
+  done : Lexed [] []
+  blank : (text : List ℕ) (len : ℕ) (pieces : List Piece) → IsFront text Blank len → Lexed (drop len text) pieces → Lexed text pieces
+  comment : (text : List ℕ) (len : ℕ) (pieces : List Piece) → IsFront text Comment len → Lexed (drop len text) pieces → Lexed text pieces
+  token : (text : List ℕ) (kind : Kind) (len : ℕ) (pieces : List Piece) → IsFront text (Token kind) len → Lexed (drop len text) pieces
+      → Lexed text (record { kind = kind; text = take len text } ∷ pieces)
+
+-- no front of the text is a piece
+abbrev pub IsStuck : List ℕ → Type 0
+IsStuck text = (form : Form) (len : ℕ) → IsFront text form len → ⊥
+
+-- a comment or a string begins the text, and no front of what stands behind its beginning ends it
+abbrev pub IsOpen : List ℕ → Type 0
+IsOpen [] = ⊥
+IsOpen (c ∷ []) = c ≡ 34
+IsOpen (c ∷ d ∷ cs) =
+    ((c ≡ 47) × (d ≡ 42) × ((n : ℕ) → ends_block (take n cs) ≡ false))
+    ⊎ ((c ≡ 34) × ((n : ℕ) → ends_string (take n (d ∷ cs)) ≡ false))
+
+-- what each fault says of the text: from some place on no piece stands
+abbrev pub IsReason : Source → LexFault → Type 0
+IsReason source (NotEnded place) = (at : ℕ) × ((place ≡ place_of source at) × IsStuck (drop at source.text) × IsOpen (drop at source.text))
+IsReason source (BadToken place) = (at : ℕ) × ((place ≡ place_of source at) × IsStuck (drop at source.text) × ¬ IsOpen (drop at source.text))
+IsReason source Memory = Unit {0}

@@ -1,0 +1,4 @@
+pub mod Bytes
+pub mod Forms
+pub mod Lexed
+pub mod Tokenized

@@ -1,0 +1,26 @@
+-- A text with where its tokens stand in it.
+use Rattle.std.specs.Prelude.{ℕ, ◌+◌, ◌≤◌, List, length, take, drop, map, slice_get, unwrap_or, All}
+use Rattle.std.specs.Option.{option_map}
+use Rattle.vsrc.specs.Source.{Source}
+use Rattle.vlex.specs.declared.list.Span.{Span}
+use Rattle.vlex.specs.Lexed.{Piece}
+
+pub record Tokenized : Type 0 where
+  pub source : Source
+  pub spans : List Span
+
+-- the token at a span: its bytes are those of the text there
+abbrev pub piece_at : List ℕ → Span → Piece
+piece_at text span = record { kind = span.kind; text = take span.len (drop span.start text) }
+
+-- the tokens, in order
+abbrev pub pieces_of : Tokenized → List Piece
+pieces_of t = map (piece_at t.source.text) t.spans
+
+-- where a token begins; behind the last one, where the text ends
+abbrev pub start_of : Tokenized → ℕ → ℕ
+start_of t index = unwrap_or (option_map (λ span. span.start) (slice_get t.spans index)) (length t.source.text)
+
+-- each token ends within the text
+abbrev pub AreWithin : List ℕ → List Span → Type 0
+AreWithin text spans = All (λ span. span.start + span.len ≤ length text) spans

@@ -1,0 +1,14 @@
+// Text to tokens. In: the text of the files. Out: its tokens in order, each with its kind, its bytes
+// and its place. The law: `tokens` gives the one list that meets `Lexed`, the relation between a text
+// and its tokens, and refuses only a text that no list meets it with.
+#![tactic(auto)]
+
+mod bytes;
+mod fault;
+mod form;
+mod kind;
+mod list;
+
+pub use fault::LexFault;
+pub use kind::Kind;
+pub use list::Tokens;

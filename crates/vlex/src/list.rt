@@ -1,0 +1,74 @@
+ghost use Rattle.std.specs.Prelude.{◌≡◌, ◌<◌, ◌≤◌, length, slice_get, Some};
+ghost use Rattle.std.specs.Option.{option_map};
+
+use crate::kind::Kind;
+use std::marker::Model;
+use vsrc::{Expanded, Place};
+
+/// Where a token stands in the text, and its kind.
+#[derive(Clone, Copy, Debug, PartialEq, Eq)]
+pub struct Span {
+    pub start: u32,
+    pub len: u32,
+    pub kind: Kind,
+}
+
+/// The tokens of a text, in order. Each takes 12 bytes; their bytes stand in the text.
+#[derive(Drop)]
+pub struct Tokens<'a> {
+    source: &'a Expanded,
+    spans: Vec<Span>,
+}
+
+impl<'a> Model for Tokens<'a> {
+    ghost use Rattle.vlex.specs.Tokenized.{Tokenized, AreWithin};
+
+    ghost Value = { Tokenized };
+
+    ghost view = { λ t. record { source = t.source.now; spans = t.spans.items } };
+
+    ghost invariant = { λ t. AreWithin t.source.now.text t.spans.items };
+}
+
+impl<'a> Tokens<'a> {
+    ghost use Rattle.vlex.specs.Tokenized.{pieces_of, start_of};
+    ghost use Rattle.vsrc.specs.Source.{place_of};
+
+    /// How many tokens there are.
+    pub fn len(&self) -> usize
+        ensures { result ≡ length (pieces_of self.now) }
+    {
+        self.spans.len()
+    }
+
+    /// The kind of the token at `index`, from 0.
+    pub fn kind(&self, index: usize) -> Kind
+        requires { index < length (pieces_of self.now) }
+        ensures { option_map (λ piece. piece.kind) (slice_get (pieces_of self.now) index) ≡ Some result }
+    {
+        self.spans[index].kind
+    }
+
+    /// The bytes of the token at `index`, from 0.
+    pub fn text(&self, index: usize) -> &'a [u8]
+        requires { index < length (pieces_of self.now) }
+        ensures { option_map (λ piece. piece.text) (slice_get (pieces_of self.now) index) ≡ Some result.now }
+    {
+        let span = self.spans[index];
+        let rest = self.source.text().split_at(span.start as usize).1;
+        rest.split_at(span.len as usize).0
+    }
+
+    /// The file and line where the token at `index` begins; of the text's end where `index` is the length.
+    pub fn place(&self, index: usize) -> Place
+        requires { index ≤ length (pieces_of self.now) }
+        ensures { result ≡ place_of self.now.source (start_of self.now index) }
+    {
+        let at = if index < self.spans.len() {
+            self.spans[index].start as usize
+        } else {
+            self.source.text().len()
+        };
+        self.source.place(at)
+    }
+}
