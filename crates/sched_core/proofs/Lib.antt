@@ -2,3 +2,4 @@ pub mod LogLemmas
 pub mod TextLemmas
 pub mod ReadingLemmas
 pub mod HeadLemmas
+pub mod RunLemmas

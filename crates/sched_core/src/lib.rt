@@ -3,10 +3,16 @@
 // The law: equal states have equal futures, and a replay is the run under its log.
 #![tactic(auto)]
 
+mod grid;
 mod log;
 mod log_text;
+mod run;
+mod space;
 #[cfg(test)]
 mod tests;
 
+pub use grid::{Grid, Square};
 pub use log::{Log, LogFault, LogHead, Member};
 pub use log_text::{read_log, read_named_log, write_log, write_named_log};
+pub use run::{Reached, ReplayFault, replay};
+pub use space::Space;

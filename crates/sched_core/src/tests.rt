@@ -1,4 +1,7 @@
-use crate::{Log, LogFault, LogHead, read_log, read_named_log, write_log, write_named_log};
+use crate::{
+    Grid, Log, LogFault, LogHead, ReplayFault, Square, read_log, read_named_log, replay, write_log,
+    write_named_log,
+};
 use std::test::Fail;
 
 #[test]
@@ -45,5 +48,18 @@ fn named_log_keeps_its_head(rt: HostRuntime) -> Result<(), Fail> {
     assert!(rt; head == LogHead::Statement);
     let text = write_named_log(rt.alloc(), head, &log)?;
     assert_eq!(rt; text.as_slice(), b"statement/7:1".as_slice());
+    Ok(())
+}
+
+#[test]
+fn replay_on_the_board(rt: HostRuntime) -> Result<(), Fail> {
+    let grid = Grid::new(2, 2);
+    let reached = replay(&grid, &read_log(rt.alloc(), b"0:1")?, 100)?;
+    assert_eq!(rt; reached.steps, 4);
+    assert!(rt; reached.state == Square { x: 2, y: 2 });
+    let late = replay(&grid, &read_log(rt.alloc(), b"4:1")?, 100);
+    assert!(rt; matches!(&late, Err(ReplayFault::NoSuchChoice)));
+    let short = replay(&grid, &Log::new(rt.alloc()), 3);
+    assert!(rt; matches!(&short, Err(ReplayFault::TooManySteps)));
     Ok(())
 }

@@ -1,0 +1,26 @@
+-- The board is a lawful space.
+use Rattle.std.proofs.Common.{◌≡◌, ℕ, true, ap, subst, arith}
+use Rattle.std.proofs.lemmas.Bool.Decides.{nat_tests}
+use Rattle.sched_core.specs.Rules.{IsLawful}
+use Rattle.sched_core.specs.Grids.{grid_rules}
+use Rattle.sched_core.specs.declared.grid.Square.{Square}
+
+pub same_square : (right down : ℕ) (s t : Square) → (grid_rules right down).same s t ≡ true → s ≡ t
+same_square right down s t h =
+    let x : s.x ≡ t.x = grind (arith, nat_tests) in
+    let y : s.y ≡ t.y = grind (arith, nat_tests) in
+    λ i. record { x = x i; y = y i }
+
+pub square_same : (right down : ℕ) (s : Square) → (grid_rules right down).same s s ≡ true
+square_same right down s = grind (arith, nat_tests)
+
+pub grid_is_lawful : (right down : ℕ) → IsLawful (grid_rules right down)
+grid_is_lawful right down = record {
+  reflexive = square_same right down;
+  symmetric = λ s t h. subst (λ (u : Square). (grid_rules right down).same u s ≡ true) (same_square right down s t h) (square_same right down s);
+  transitive = λ s t u h k. subst (λ (v : Square). (grid_rules right down).same s v ≡ true) (same_square right down t u k) h;
+  width_same = λ s t h. ap (grid_rules right down).width (same_square right down s t h);
+  mark_same = λ s t h. ap (grid_rules right down).mark (same_square right down s t h);
+  after_same = λ s t i h w. subst (λ (v : Square). (grid_rules right down).same ((grid_rules right down).after s i) ((grid_rules right down).after v i) ≡ true) (same_square right down s t h) (square_same right down ((grid_rules right down).after s i));
+  end_is_mark = λ s h. grind (arith, nat_tests);
+}

@@ -1,0 +1,37 @@
+-- How a run under a log ends, and why there may be none.
+use Rattle.std.specs.Prelude.{◌≡◌, ℕ, ◌<◌, ◌≤◌, ◌⊎◌, List}
+use Rattle.sched_core.specs.Rules.{Rules, stands, choice_at, IsRun, NamesBelow}
+
+-- The run under the log ends after n steps, and they reach all that the log names.
+pub record EndsAfter {S : Type 0} (r : Rules S) (log : List (ℕ × ℕ)) (n : ℕ) : Type 0 where
+  pub run : IsRun r log n
+  pub end : r.width (stands r log n) ≡ 0
+  pub names : NamesBelow log n
+
+-- After n steps the run has ended before a named step.
+pub record EndsTooEarly {S : Type 0} (r : Rules S) (log : List (ℕ × ℕ)) (n : ℕ) : Type 0 where
+  pub run : IsRun r log n
+  pub end : r.width (stands r log n) ≡ 0
+  pub named : ¬ NamesBelow log n
+
+-- After n steps the run goes on, but not by the choice that the log names.
+pub record HasNoChoice {S : Type 0} (r : Rules S) (log : List (ℕ × ℕ)) (n : ℕ) : Type 0 where
+  pub run : IsRun r log n
+  pub goes_on : 0 < r.width (stands r log n)
+  pub missing : r.width (stands r log n) ≤ choice_at log n
+
+-- Within so many steps a named step isn't reached, or hasn't the choice.
+abbrev pub IsMissing : {S : Type 0} → Rules S → List (ℕ × ℕ) → ℕ → Type 0
+IsMissing r log steps = (n : ℕ) × (n ≤ steps) × (EndsTooEarly r log n ⊎ ((n < steps) × HasNoChoice r log n))
+
+-- The run takes so many steps and goes on.
+pub record TakesMore {S : Type 0} (r : Rules S) (log : List (ℕ × ℕ)) (steps : ℕ) : Type 0 where
+  pub run : IsRun r log steps
+  pub goes_on : 0 < r.width (stands r log steps)
+
+-- What is left of a log after step n, and the choice of that step.
+pub record IsNextChoice (members : List (ℕ × ℕ)) (n choice : ℕ) (rest : List (ℕ × ℕ)) : Type 0 where
+  pub taken : choice ≡ choice_at members n
+  pub later : (k : ℕ) → n < k → choice_at members k ≡ choice_at rest k
+  pub names : (k : ℕ) → n < k → NamesBelow rest k → NamesBelow members k
+  pub names_back : (k : ℕ) → NamesBelow members k → NamesBelow rest k

@@ -1,0 +1,69 @@
+ghost use Rattle.std.specs.Prelude.{◌≡◌};
+
+use crate::space::Space;
+use std::alloc::AllocError;
+
+/// A place on a board: `x` to the right, `y` down, from (0, 0).
+#[derive(Clone, Copy, Debug, PartialEq, Eq, Hash)]
+pub struct Square {
+    pub x: u32,
+    pub y: u32,
+}
+
+/// A toy space: moves on a board from (0, 0). Choice 0 is a step right where x is below `right`,
+/// then comes a step down where y is below `down`. Marks are the squares with x = y, and the last
+/// one. No call takes memory.
+#[derive(Clone, Copy, Debug)]
+pub struct Grid {
+    pub right: u32,
+    pub down: u32,
+}
+
+impl Grid {
+    /// The board of moves to at most (right, down).
+    pub fn new(right: u32, down: u32) -> Grid
+        ensures right { result.right ≡ right }
+        ensures down { result.down ≡ down }
+    {
+        Grid { right, down }
+    }
+}
+
+impl Space for Grid {
+    ghost use Rattle.sched_core.specs.Grids.{grid_rules};
+    ghost use Rattle.std.proofs.Common.{rules as std_rules};
+    ghost use Rattle.sched_core.specs.GridLaws.{grid_is_lawful};
+
+    type State = Square;
+
+    ghost rules = { λ g. grid_rules g.right g.down };
+
+    fn root(&self) -> Result<Square, AllocError> {
+        Ok(Square { x: 0, y: 0 })
+    }
+
+    fn copy(&self, s: &Square) -> Result<Square, AllocError> {
+        Ok(*s)
+    }
+
+    fn width(&self, s: &Square) -> u32 {
+        (s.x < self.right) as u32 + (s.y < self.down) as u32
+    }
+
+    fn step(&self, s: &mut Square, i: u32) -> Result<(), AllocError> {
+        if i == 0 && s.x < self.right {
+            s.x += 1;
+        } else {
+            s.y += 1;
+        }
+        Ok(())
+    }
+
+    fn is_mark(&self, s: &Square) -> bool {
+        s.x == s.y || self.width(s) == 0
+    }
+
+    ghost same_is_eq = { λ g s t. Prim.search std_rules };
+
+    ghost lawful = { λ g. grid_is_lawful g.right g.down };
+}
