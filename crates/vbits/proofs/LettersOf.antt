@@ -86,7 +86,7 @@ pub digits-letters_of : (n k : ℕ) → letters_of n k 0 ≡ digits n k
 digits-letters_of zero k = refl
 digits-letters_of (suc n) k = rw (digit-letter (k % 2)) (ap (λ xs. letter (k % 2) 0 ∷ xs) (digits-letters_of n (k / 2)))
 
-zero_low : (n : ℕ) → 0 % 2 ^ n ≡ 0
+pub zero_low : (n : ℕ) → 0 % 2 ^ n ≡ 0
 zero_low n = let p = pow_pos n in omega arith
 
 -- digits above the count say nothing

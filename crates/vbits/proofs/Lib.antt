@@ -8,3 +8,5 @@ pub mod Parts
 pub mod NumbersOf
 pub mod Reductions
 pub mod Shifts
+pub mod Integers
+pub mod Arithmetic

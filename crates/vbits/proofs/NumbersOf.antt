@@ -1,8 +1,8 @@
 -- The number that the letters of two planes stand for.
-use Rattle.std.proofs.Common.{◌≡◌, ℕ, zero, suc, ◌+◌, ◌*◌, ◌/◌, ◌%◌, ◌^◌, ◌<◌, refl, sym, ◌∙◌, ap, arith, inl, inr}
-use Rattle.std.specs.Prelude.{Option, Some, None, option_map}
+use Rattle.std.proofs.Common.{◌≡◌, ℕ, zero, suc, ◌/◌, ◌^◌, ◌<◌, refl, ap, arith, inl, inr}
+use Rattle.std.specs.Prelude.{Some, None}
 use Rattle.vbits.specs.Numbers.{number}
-use Rattle.vbits.specs.Planes.{letter, letters_of}
+use Rattle.vbits.specs.Planes.{letters_of}
 use Rattle.vbits.specs.PlanesBack.{bit_cases, half_within}
 
 pub number-known : (n v : ℕ) → v < 2 ^ n → number (letters_of n v 0) ≡ Some v

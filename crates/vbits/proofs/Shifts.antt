@@ -1,6 +1,6 @@
 -- Planes that are shifted.
-use Rattle.std.proofs.Common.{◌≡◌, ℕ, zero, suc, ◌+◌, ◌-◌, ◌*◌, ◌/◌, ◌%◌, ◌^◌, ◌<◌, ◌≤◌, Bool, length, take, drop, replicate, List, [], ◌∷◌, ◌++◌, refl, sym, ◌∙◌, ap, arith, subst}
-use Rattle.std.specs.Prelude.{bit_and, Some, Option}
+use Rattle.std.proofs.Common.{◌≡◌, ℕ, ◌+◌, ◌-◌, ◌*◌, ◌/◌, ◌%◌, ◌^◌, ◌<◌, ◌≤◌, take, drop, replicate, [], ◌++◌, sym, ◌∙◌, ap, arith, subst}
+use Rattle.std.specs.Prelude.{bit_and, Some}
 use Rattle.std.proofs.Math.Pow.{mod-mod-pow}
 use Rattle.std.proofs.lemmas.Nat.{and_mask, pow_pos, shr_below}
 use Rattle.std.proofs.lemmas.List.{take-append-le, take-replicate, drop_all, take_all, length-replicate}

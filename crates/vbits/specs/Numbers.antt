@@ -25,10 +25,13 @@ digits (suc count) n = digit (n % 2) ∷ digits count (n / 2)
 abbrev pub twos_complement : ℕ → ℕ → ℤ
 twos_complement count n = cond (nat_le (2 ^ (count - 1)) n) (pos n -ℤ pos (2 ^ count)) (pos n)
 
+-- what a number of this many digits is read as, signed or not
+abbrev pub read : Bool → ℕ → ℕ → ℤ
+read signed count n = cond signed (twos_complement count n) (pos n)
+
 -- the integer that the letters stand for, read as signed or not (3.5.1, 4.5), or None where one is unknown
 abbrev pub integer : Bool → List Bit4 → Option ℤ
-integer signed letters =
-    option_map (λ n. cond signed (twos_complement (length letters) n) (pos n)) (number letters)
+integer signed letters = option_map (read signed (length letters)) (number letters)
 
 -- the digits of an integer modulo 2 ^ count: sums and products wrap (5.1.5)
 abbrev pub wrapped : ℕ → ℤ → List Bit4

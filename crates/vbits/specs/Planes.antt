@@ -1,5 +1,5 @@
 -- How two words stand for a list of letters: a letter is a bit of each, lowest first.
-use Rattle.std.specs.Prelude.{Bool, cond, ℕ, zero, suc, ◌+◌, ◌-◌, ◌*◌, ◌/◌, ◌%◌, ◌^◌, ◌<◌, ◌≤◌, List, [], ◌∷◌}
+use Rattle.std.specs.Prelude.{Bool, true, false, not, cond, ℤ, pos, neg_ℤ, ℕ, zero, suc, ◌+◌, ◌-◌, ◌*◌, ◌/◌, ◌%◌, ◌^◌, ◌<◌, ◌≤◌, List, [], ◌∷◌}
 use Rattle.vbits.specs.declared.bit4.Bit4.{Bit4}
 use Rattle.vbits.specs.declared.bit4.Bit4.TheVariants.{Zero, One, X, Z}
 
@@ -56,3 +56,12 @@ sign_bit plane len signed = cond signed (plane / 2 ^ (len - 1) % 2) 0
 abbrev pub spliced : ℕ → ℕ → ℕ → ℕ → ℕ
 spliced plane high low part =
     plane / 2 ^ (high + 1) * 2 ^ (high + 1) + part * 2 ^ low + plane % 2 ^ low
+
+-- a magnitude and whether it is below 0
+abbrev pub signed_number : Bool → ℕ → ℤ
+signed_number false magnitude = pos magnitude
+signed_number true magnitude = neg_ℤ (pos magnitude)
+
+abbrev pub bool_xor : Bool → Bool → Bool
+bool_xor false b = b
+bool_xor true b = not b

@@ -1,11 +1,10 @@
 -- Four-state vectors and their operators (IEEE 1364-2005, clauses 4 and 5). Letters stand lowest first.
-use Rattle.std.specs.Prelude.{Bool, false, cond, ◌&&◌, ◌||◌, ℕ, ◌+◌, ◌-◌, ℤ, pos, ◌+ℤ◌, ◌-ℤ◌, ◌*ℤ◌, neg_ℤ, int_div, int_rem, int_lt, int_le, List, [], ◌∷◌, ◌++◌, map, fold, zip, length, take, drop, replicate, get_or, Option, Some, None, option_map}
+use Rattle.std.specs.Prelude.{Bool, false, cond, ◌&&◌, ◌||◌, ℕ, zero, ◌+◌, ◌-◌, ℤ, pos, ◌+ℤ◌, ◌-ℤ◌, ◌*ℤ◌, neg_ℤ, int_div, int_rem, int_lt, int_le, List, [], ◌∷◌, ◌++◌, map, fold, zip, length, take, drop, replicate, get_or, Option, Some, None, option_map}
 use Rattle.std.specs.List.{list_any, list_all}
 use Rattle.vbits.specs.declared.bit4.Bit4.{Bit4}
-use Rattle.vbits.specs.declared.bit4.Bit4.TheVariants.{Zero, One, X, Z}
+use Rattle.vbits.specs.declared.bit4.Bit4.TheVariants.{Zero, One, X}
 use Rattle.vbits.specs.declared.red.Red.{Red}
 use Rattle.vbits.specs.declared.red.Red.TheVariants.{And, Nand, Or, Nor, Xor, Xnor}
-use Rattle.std.specs.Ordering.{int_eq}
 use Rattle.vbits.specs.Letters.{is_unknown, is_one, is_same, differ, not_letter, and_letter, or_letter, xor_letter, xnor_letter, join_letter}
 use Rattle.vbits.specs.Numbers.{number, digits, integer, wrapped}
 
@@ -189,11 +188,13 @@ product_of x y = Some (x *ℤ y)
 
 -- towards 0; none where the divisor is 0
 abbrev pub quotient_of : ℤ → ℤ → Option ℤ
-quotient_of x y = cond (int_eq y (pos 0)) None (Some (int_div x y))
+quotient_of x (pos zero) = None
+quotient_of x y = Some (int_div x y)
 
 -- with the sign of x; none where the divisor is 0
 abbrev pub remainder_of : ℤ → ℤ → Option ℤ
-remainder_of x y = cond (int_eq y (pos 0)) None (Some (int_rem x y))
+remainder_of x (pos zero) = None
+remainder_of x y = Some (int_rem x y)
 
 abbrev pub add : Vector → Vector → Vector
 add = arithmetic sum_of
@@ -232,7 +233,7 @@ abbrev pub le : Vector → Vector → Vector
 le = compared int_le
 
 abbrev pub gt : Vector → Vector → Vector
-gt = compared (λ x y. int_lt y x)
+gt v w = lt w v
 
 abbrev pub ge : Vector → Vector → Vector
-ge = compared (λ x y. int_le y x)
+ge v w = le w v

@@ -1,5 +1,6 @@
 //! Words as planes: their lowest bits are the bits of the letters.
-ghost use Rattle.std.specs.Prelude.{◌≡◌, ℕ, ◌+◌, ◌-◌, ◌*◌, ◌^◌, ◌<◌, ◌≤◌};
+ghost use Rattle.std.specs.Prelude.{◌≡◌, ℕ, ◌+◌, ◌-◌, ◌*◌, ◌^◌, ◌<◌, ◌≤◌, unsigned_abs, int_lt};
+ghost use Rattle.vbits.specs.Numbers as numbers;
 ghost use Rattle.vbits.specs.Planes as planes;
 
 use super::bit4::Bit4;
@@ -55,6 +56,51 @@ pub fn spliced(plane: u64, high: u32, low: u32, part: u64) -> u64
 {
     let old = (plane >> low) & ones(high + 1 - low);
     plane - (old << low) + (part << low)
+}
+
+/// How far a number of `len` bits is from 0, read as signed or not.
+pub fn magnitude(plane: u64, len: u32, signed: bool) -> u64
+    requires some { 1 ≤ len }
+    requires few { len ≤ 64 }
+    requires within { plane < 2 ^ len }
+    ensures { result ≡ unsigned_abs (numbers.read signed len plane) }
+{
+    if sign_bit(plane, len, signed) == 0 {
+        plane
+    } else {
+        ones(len) - plane + 1
+    }
+}
+
+/// The lowest `len` bits of a magnitude or of its negative.
+pub fn with_sign(negative: bool, magnitude: u64, len: u32) -> u64
+    requires some { 1 ≤ len }
+    requires few { len ≤ 64 }
+    ensures digits { planes.letters_of len result 0 ≡ numbers.wrapped len (planes.signed_number negative magnitude) }
+    ensures within { result < 2 ^ len }
+{
+    if negative {
+        0u64.wrapping_sub(magnitude) & ones(len)
+    } else {
+        magnitude & ones(len)
+    }
+}
+
+/// Whether the first number of `len` bits is the lesser, both read as signed or not.
+pub fn is_less(left: u64, right: u64, len: u32, signed: bool) -> bool
+    requires some { 1 ≤ len }
+    requires few { len ≤ 64 }
+    requires left_within { left < 2 ^ len }
+    requires right_within { right < 2 ^ len }
+    ensures { result ≡ int_lt (numbers.read signed len left) (numbers.read signed len right) }
+{
+    let left_sign = sign_bit(left, len, signed);
+    let right_sign = sign_bit(right, len, signed);
+    if left_sign == right_sign {
+        left < right
+    } else {
+        right_sign < left_sign
+    }
 }
 
 /// The letter of a bit of each plane.

@@ -6,8 +6,10 @@ use super::bit4::Bit4;
 use super::planes;
 use std::marker::Model;
 
+mod arith;
 mod bitwise;
 mod equality;
+mod order;
 mod parts;
 mod reduce;
 mod shift;

@@ -1,5 +1,5 @@
-use Rattle.std.proofs.Common.{refl, ap}
-use Rattle.vbits.specs.Vectors.{reduce, reduced, single, truth}
+use Rattle.std.proofs.Common.{refl}
+use Rattle.vbits.specs.Vectors.{reduce, reduced, truth}
 use Rattle.vbits.proofs.Reductions.{or_zero}
 use Rattle.vbits.proofs.vec4.Vec4.reduce.Goals as goal
 use Rattle.vbits.proofs.vec4.Vec4.reduce.Goals.{in-And, in-Nand, in-Or, in-Nor, in-Xor, in-Xnor}

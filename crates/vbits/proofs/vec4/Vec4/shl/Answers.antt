@@ -1,8 +1,7 @@
-use Rattle.std.proofs.Common.{◌≡◌, ◌≤◌, refl, sym, ◌∙◌, ap, arith}
+use Rattle.std.proofs.Common.{◌≡◌, ◌≤◌, refl, sym, ◌∙◌, arith}
 use Rattle.std.specs.Prelude.{Some}
 use Rattle.vbits.specs.Numbers.{number}
-use Rattle.vbits.specs.Vectors.{shl, shifted_left, filled, with_sign}
-use Rattle.vbits.specs.Planes.{letters_of}
+use Rattle.vbits.specs.Vectors.{shl, filled, with_sign}
 use Rattle.vbits.specs.PlanesBack.{length-letters_of}
 use Rattle.vbits.proofs.Shifts.{shl-past, shl-within}
 use Rattle.vbits.proofs.vec4.Vec4.shl.Goals as goal

@@ -1,4 +1,4 @@
-use Rattle.std.proofs.Common.{sym, ap, refl}
+use Rattle.std.proofs.Common.{sym}
 use Rattle.vbits.proofs.NumbersOf.{number-known, number-unknown}
 use Rattle.vbits.proofs.vec4.Vec4.to_u64.Goals as goal
 

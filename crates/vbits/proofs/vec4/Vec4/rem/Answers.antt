@@ -1,0 +1,34 @@
+use Rattle.std.proofs.Common.{◌∙◌, sym}
+use Rattle.vbits.specs.Vectors.{remainder_of}
+use Rattle.vbits.proofs.Arithmetic.{arithmetic-unknown, rem-view, rem-by_zero, right_below}
+use Rattle.vbits.proofs.vec4.Vec4.rem.Goals as goal
+
+pub returns-then-self-other-ne0 : goal.returns-then-self-other-ne0
+returns-then-self-other-ne0 c =
+    c.unknowns.ensures
+    ∙ arithmetic-unknown remainder_of _ _ _ _ _ _ _ _ _ _
+    (record { left = c.self.invariant; right = c.other.invariant; left_is = c.self.view_is; right_is = c.other.view_is; same_length = c.requires })
+    c.if-self-other-ne0.true
+
+pub magnitude-divisor-requires-clause-within : goal.magnitude-divisor-requires-clause-within
+magnitude-divisor-requires-clause-within c =
+    right_below _ _ _ _ _ _ _ _ _ _
+    (record { left = c.self.invariant; right = c.other.invariant; left_is = c.self.view_is; right_is = c.other.view_is; same_length = c.requires })
+
+pub returns-then-divisor-eq0 : goal.returns-then-divisor-eq0
+returns-then-divisor-eq0 c =
+    c.unknowns-then-divisor-eq0.ensures
+    ∙ rem-by_zero _ _ _ _ _ _ _ _ _ _
+    (record { left = c.self.invariant; right = c.other.invariant; left_is = c.self.view_is; right_is = c.other.view_is; same_length = c.requires })
+    c.if-self-other-ne0.false
+    (sym c.magnitude-divisor.ensures ∙ c.if-divisor-eq0.true)
+
+pub returns : goal.returns
+returns c =
+    let digits = rw (c.sign_bit-left_sign.ensures, c.magnitude.ensures, c.magnitude-divisor.ensures) at c.with_sign.ensures.digits in
+    rem-view _ _ _ _ _ _ _ _ _ _
+    (record { left = c.self.invariant; right = c.other.invariant; left_is = c.self.view_is; right_is = c.other.view_is; same_length = c.requires })
+    c.if-self-other-ne0.false
+    (λ e. c.if-divisor-eq0.false (c.magnitude-divisor.ensures ∙ e))
+    c.with_sign.result
+    digits
