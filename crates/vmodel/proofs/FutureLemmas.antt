@@ -1,0 +1,98 @@
+-- The future in order of time: one more process to wake.
+use Rattle.std.proofs.Common.{◌≡◌, ℕ, zero, suc, ◌<◌, ◌≤◌, List, [], ◌∷◌, map, insert, get_or, Option, refl, sym, ap, subst, ◌∙◌, arith}
+use Rattle.std.specs.Prelude.{slice_get, slice_set}
+use Rattle.std.proofs.lemmas.List.{map-set}
+use Rattle.std.proofs.Math.ListN.{get_or-map}
+use Rattle.vmodel.specs.Queue.{Slot, waking, empty_slot, wake_at}
+use Rattle.vmodel.specs.QueueViews.{future_view, future_views, place_of_time, SomeIs, NoneIs}
+use Rattle.vmodel.specs.declared.queue.Future.{Future}
+use Rattle.vmodel.proofs.ProcessLemmas.{less, equal, more, compared, is_lt, not_lt, same, differs}
+
+map-insert : {X Y : Type 0} (f : X → Y) (xs : List X) (k : ℕ) (x : X) → map f (insert xs k x) ≡ insert (map f xs) k (f x)
+map-insert f [] zero x = refl
+map-insert f [] (suc k) x = refl
+map-insert f (y ∷ ys) zero x = refl
+map-insert f (y ∷ ys) (suc k) x = ap (λ rest. f y ∷ rest) (map-insert f ys k x)
+
+module _ (t : ℕ) (sleeper : Option ℕ) where
+  earlier : (e : ℕ × Slot) (es : List (ℕ × Slot)) → e.0 < t → wake_at t sleeper (e ∷ es) ≡ e ∷ wake_at t sleeper es
+  earlier e es lt = rw (not_lt t e.0 (omega arith), differs t e.0 (omega arith))
+
+  here : (e : ℕ × Slot) (es : List (ℕ × Slot)) → t ≡ e.0 → wake_at t sleeper (e ∷ es) ≡ (e.0, waking sleeper e.1) ∷ es
+  here e es is = rw (not_lt t e.0 (omega arith), same t e.0 is)
+
+  later : (e : ℕ × Slot) (es : List (ℕ × Slot)) → t < e.0 → wake_at t sleeper (e ∷ es) ≡ (t, waking sleeper empty_slot) ∷ e ∷ es
+  later e es lt = rw (is_lt t e.0 lt)
+
+  place_earlier : (e : ℕ × Slot) (es : List (ℕ × Slot)) → e.0 < t → place_of_time t (e ∷ es) ≡ suc (place_of_time t es)
+  place_earlier e es lt = rw (is_lt e.0 t lt)
+
+  place_first : (e : ℕ × Slot) (es : List (ℕ × Slot)) → t ≤ e.0 → place_of_time t (e ∷ es) ≡ 0
+  place_first e es le = rw (not_lt e.0 t le)
+
+  found_at : (es : List (ℕ × Slot)) (v : ℕ × Slot) → SomeIs (λ e. e.0 ≡ t) (slice_get es (place_of_time t es)) →
+      v ≡ get_or es (place_of_time t es) v → slice_set es (place_of_time t es) (v.0, waking sleeper v.1) ≡ wake_at t sleeper es
+  found_at [] v is read = absurd is
+  found_at (e ∷ es) v is read = elim (compared t e.0) [
+    | less before ↦
+        let first_is : e.0 ≡ t = subst (λ (k : ℕ). SomeIs (λ x. x.0 ≡ t) (slice_get (e ∷ es) k)) (place_first e es (omega arith)) is in
+        absurd (omega arith)
+    | equal now ↦
+        let place : place_of_time t (e ∷ es) ≡ 0 = place_first e es (omega arith) in
+        let v_is : v ≡ e = subst (λ (k : ℕ). v ≡ get_or (e ∷ es) k v) place read in
+        ap (λ (k : ℕ). slice_set (e ∷ es) k (v.0, waking sleeper v.1)) place
+        ∙ ap (λ (w : ℕ × Slot). (w.0, waking sleeper w.1) ∷ es) v_is
+        ∙ sym (here e es now)
+    | more after ↦
+        let place : place_of_time t (e ∷ es) ≡ suc (place_of_time t es) = place_earlier e es after in
+        let is_there = subst (λ (k : ℕ). SomeIs (λ x. x.0 ≡ t) (slice_get (e ∷ es) k)) place is in
+        let read_there = subst (λ (k : ℕ). v ≡ get_or (e ∷ es) k v) place read in
+        ap (λ (k : ℕ). slice_set (e ∷ es) k (v.0, waking sleeper v.1)) place
+        ∙ ap (λ (rest : List (ℕ × Slot)). e ∷ rest) (found_at es v is_there read_there)
+        ∙ sym (earlier e es after)
+  ]
+
+  absent_at : (es : List (ℕ × Slot)) → NoneIs (λ e. e.0 ≡ t) (slice_get es (place_of_time t es)) →
+      insert es (place_of_time t es) (t, waking sleeper empty_slot) ≡ wake_at t sleeper es
+  absent_at [] is = refl
+  absent_at (e ∷ es) is = elim (compared t e.0) [
+    | less before ↦
+        ap (λ (k : ℕ). insert (e ∷ es) k (t, waking sleeper empty_slot)) (place_first e es (omega arith)) ∙ sym (later e es before)
+    | equal now ↦
+        let first_is_not = subst (λ (k : ℕ). NoneIs (λ x. x.0 ≡ t) (slice_get (e ∷ es) k)) (place_first e es (omega arith)) is in
+        absurd (first_is_not (sym now))
+    | more after ↦
+        let place : place_of_time t (e ∷ es) ≡ suc (place_of_time t es) = place_earlier e es after in
+        let is_not = subst (λ (k : ℕ). NoneIs (λ x. x.0 ≡ t) (slice_get (e ∷ es) k)) place is in
+        ap (λ (k : ℕ). insert (e ∷ es) k (t, waking sleeper empty_slot)) place
+        ∙ ap (λ (rest : List (ℕ × Slot)). e ∷ rest) (absent_at es is_not)
+        ∙ sym (earlier e es after)
+  ]
+
+  -- the same over the program's entries: one is woken with the others of its time, or a time is put in
+  pub woken_with : (xs : List Future) (k : ℕ) (x y : Future) → k ≡ place_of_time t (future_views xs) →
+      SomeIs (λ e. e.0 ≡ t) (slice_get (future_views xs) k) → x ≡ get_or xs k x →
+      future_view y ≡ ((future_view x).0, waking sleeper (future_view x).1) →
+      future_views (slice_set xs k y) ≡ wake_at t sleeper (future_views xs)
+  woken_with xs k x y place is read becomes =
+      let views = future_views xs in
+      let there : SomeIs (λ e. e.0 ≡ t) (slice_get views (place_of_time t views)) =
+      subst (λ (j : ℕ). SomeIs (λ e. e.0 ≡ t) (slice_get views j)) place is in
+      let seen : future_view x ≡ get_or views (place_of_time t views) (future_view x) =
+      ap future_view read ∙ sym (get_or-map future_view xs k x) ∙ ap (λ (j : ℕ). get_or views j (future_view x)) place in
+      map-set future_view xs k y
+      ∙ ap (λ (w : ℕ × Slot). slice_set views k w) becomes
+      ∙ ap (λ (j : ℕ). slice_set views j ((future_view x).0, waking sleeper (future_view x).1)) place
+      ∙ found_at views (future_view x) there seen
+
+  pub put_in : (xs : List Future) (k : ℕ) (x : Future) → k ≡ place_of_time t (future_views xs) →
+      NoneIs (λ e. e.0 ≡ t) (slice_get (future_views xs) k) → future_view x ≡ (t, waking sleeper empty_slot) →
+      future_views (insert xs k x) ≡ wake_at t sleeper (future_views xs)
+  put_in xs k x place is becomes =
+      let views = future_views xs in
+      let there : NoneIs (λ e. e.0 ≡ t) (slice_get views (place_of_time t views)) =
+      subst (λ (j : ℕ). NoneIs (λ e. e.0 ≡ t) (slice_get views j)) place is in
+      map-insert future_view xs k x
+      ∙ ap (λ (w : ℕ × Slot). insert views k w) becomes
+      ∙ ap (λ (j : ℕ). insert views j (t, waking sleeper empty_slot)) place
+      ∙ absent_at views there

@@ -1,0 +1,215 @@
+-- Sets of processes as rising lists.
+use Rattle.std.proofs.Common.{◌≡◌, ◌≢◌, ℕ, zero, suc, ◌+◌, ◌<◌, ◌≤◌, Bool, true, false, ◌&&◌, ◌==◌, nat_le, nat_lt, List, [], ◌∷◌, length, insert, remove, get_or, refl, sym, ap, subst, ◌∙◌, arith}
+use Rattle.std.proofs.lemmas.Bool.Decides.{nat_tests}
+use Rattle.vmodel.specs.ProcessSets.{rises, place_of}
+use Rattle.vmodel.specs.Queue.{with_process, without_process}
+
+-- what a rising list says of its first number, and of the others
+pub rises_parts : (low p : ℕ) (ps : List ℕ) → rises low (p ∷ ps) ≡ true → (low ≤ p) × (p < 256) × (rises (suc p) ps ≡ true)
+rises_parts low p ps h = parts (nat_le low p) (nat_lt p 256) (rises (suc p) ps) refl refl h
+  where
+    parts : (a b c : Bool) → nat_le low p ≡ a → nat_lt p 256 ≡ b → (a && b && c) ≡ true → (low ≤ p) × (p < 256) × (c ≡ true)
+    parts true true c ea eb e = (grind (arith, nat_tests), grind (arith, nat_tests), e)
+    parts true false c ea eb e = cc
+    parts false b c ea eb e = cc
+
+pub rises_from : (low p : ℕ) (ps : List ℕ) → low ≤ p → p < 256 → rises (suc p) ps ≡ true → rises low (p ∷ ps) ≡ true
+rises_from low p ps above below h = whole (nat_le low p) (nat_lt p 256) (grind (arith, nat_tests)) (grind (arith, nat_tests)) h
+  where
+    whole : (a b : Bool) {c : Bool} → a ≡ true → b ≡ true → c ≡ true → (a && b && c) ≡ true
+    whole true true ea eb ec = ec
+    whole true false ea eb ec = cc
+    whole false b ea eb ec = cc
+
+-- a rising list has no more members than there are numbers from its start on
+pub length-rises : (low : ℕ) (ps : List ℕ) → rises low ps ≡ true → low ≤ 256 → length ps + low ≤ 256
+length-rises low [] h few = omega arith
+length-rises low (p ∷ ps) h few =
+    let parts = rises_parts low p ps h in
+    let rest : length ps + suc p ≤ 256 = length-rises (suc p) ps parts.2 (omega (arith, parts.1)) in
+    omega (arith, parts.0, parts.1, rest)
+
+pub get_or-rises : (low : ℕ) (ps : List ℕ) (i d : ℕ) → rises low ps ≡ true → i < length ps → get_or ps i d < 256
+get_or-rises low [] i d h lt = absurd (omega arith)
+get_or-rises low (p ∷ ps) zero d h lt = (rises_parts low p ps h).1
+get_or-rises low (p ∷ ps) (suc i) d h lt = get_or-rises (suc p) ps i d (rises_parts low p ps h).2 (omega arith)
+
+-- a list that rises from a number rises from any below it
+pub rises_lower : (low lower : ℕ) (ps : List ℕ) → rises low ps ≡ true → lower ≤ low → rises lower ps ≡ true
+rises_lower low lower [] h le = refl
+rises_lower low lower (p ∷ ps) h le =
+    let parts = rises_parts low p ps h in
+    rises_from lower p ps (omega (arith, parts.0)) parts.1 parts.2
+
+-- the tests at one member
+pub lt_true : (a b : ℕ) → nat_lt a b ≡ true → a < b
+lt_true a b e = grind (arith, nat_tests)
+
+lt_false : (a b : ℕ) → nat_lt a b ≡ false → b ≤ a
+lt_false a b e = grind (arith, nat_tests)
+
+pub is_lt : (a b : ℕ) → a < b → nat_lt a b ≡ true
+is_lt a b h = grind (arith, nat_tests)
+
+pub not_lt : (a b : ℕ) → b ≤ a → nat_lt a b ≡ false
+not_lt a b h = grind (arith, nat_tests)
+
+pub same : (a b : ℕ) → a ≡ b → (a == b) ≡ true
+same a b h = grind (arith, nat_tests)
+
+pub differs : (a b : ℕ) → a ≢ b → (a == b) ≡ false
+differs a b h = grind (arith, nat_tests)
+
+-- the three cases of `with_process`
+with_less : (p q : ℕ) (qs : List ℕ) → p < q → with_process p (q ∷ qs) ≡ p ∷ q ∷ qs
+with_less p q qs lt = rw (is_lt p q lt)
+
+with_same : (p q : ℕ) (qs : List ℕ) → p ≡ q → with_process p (q ∷ qs) ≡ q ∷ qs
+with_same p q qs e = rw (not_lt p q (omega arith), same p q e)
+
+with_more : (p q : ℕ) (qs : List ℕ) → q < p → with_process p (q ∷ qs) ≡ q ∷ with_process p qs
+with_more p q qs lt = rw (not_lt p q (omega arith), differs p q (omega arith))
+
+place_more : (p q : ℕ) (qs : List ℕ) → q < p → place_of p (q ∷ qs) ≡ suc (place_of p qs)
+place_more p q qs lt = rw (is_lt q p lt)
+
+place_here : (p q : ℕ) (qs : List ℕ) → p ≤ q → place_of p (q ∷ qs) ≡ 0
+place_here p q qs le = rw (not_lt q p le)
+
+without_other : (p q : ℕ) (qs : List ℕ) → p ≢ q → without_process p (q ∷ qs) ≡ q ∷ without_process p qs
+without_other p q qs ne = rw (differs p q ne)
+
+without_same : (p q : ℕ) (qs : List ℕ) → p ≡ q → without_process p (q ∷ qs) ≡ without_process p qs
+without_same p q qs e = rw (same p q e)
+
+-- what stands above a number isn't taken out with it
+without_above : (p low : ℕ) (qs : List ℕ) → rises low qs ≡ true → p < low → without_process p qs ≡ qs
+without_above p low [] h lt = refl
+without_above p low (q ∷ qs) h lt =
+    let parts = rises_parts low q qs h in
+    without_other p q qs (omega (arith, parts.0)) ∙ ap (λ rest. q ∷ rest) (without_above p (suc q) qs parts.2 (omega (arith, parts.0)))
+
+-- two numbers are in order, or the same, or the other way round
+pub data Compared (p q : ℕ) : Type 0 where
+  less : p < q → Compared p q
+  equal : p ≡ q → Compared p q
+  more : q < p → Compared p q
+
+pub compared : (p q : ℕ) → Compared p q
+compared p q = by_tests (nat_lt p q) (nat_lt q p) refl refl
+  where
+    by_tests : (a b : Bool) → nat_lt p q ≡ a → nat_lt q p ≡ b → Compared p q
+    by_tests true b ea eb = less (lt_true p q ea)
+    by_tests false true ea eb = more (lt_true q p eb)
+    by_tests false false ea eb = equal (omega (arith, lt_false p q ea, lt_false q p eb))
+
+pub rises-without : (p low : ℕ) (qs : List ℕ) → rises low qs ≡ true → rises low (without_process p qs) ≡ true
+rises-without p low [] h = refl
+rises-without p low (q ∷ qs) h =
+    let parts : (low ≤ q) × (q < 256) × (rises (suc q) qs ≡ true) = rises_parts low q qs h in
+    let kept : p ≢ q → rises low (without_process p (q ∷ qs)) ≡ true = λ ne. ap (rises low) (without_other p q qs ne) ∙ rises_from low q (without_process p qs) parts.0 parts.1 (rises-without p (suc q) qs parts.2) in
+    elim (compared p q) [
+      | less lt ↦ kept (omega arith)
+      | equal e ↦ ap (rises low) (without_same p q qs e) ∙ rises_lower (suc q) low (without_process p qs) (rises-without p (suc q) qs parts.2) (omega (arith, parts.0))
+      | more gt ↦ kept (omega arith)
+    ]
+
+pub rises-with : (p low : ℕ) (qs : List ℕ) → rises low qs ≡ true → low ≤ p → p < 256 → rises low (with_process p qs) ≡ true
+rises-with p low [] h le lt = rises_from low p [] le lt refl
+rises-with p low (q ∷ qs) h le lt =
+    let parts : (low ≤ q) × (q < 256) × (rises (suc q) qs ≡ true) = rises_parts low q qs h in
+    elim (compared p q) [
+      | less below ↦ ap (rises low) (with_less p q qs below) ∙ rises_from low p (q ∷ qs) le lt (rises_from (suc p) q qs (omega arith) parts.1 parts.2)
+      | equal e ↦ ap (rises low) (with_same p q qs e) ∙ h
+      | more above ↦ ap (rises low) (with_more p q qs above)
+          ∙ rises_from low q (with_process p qs) parts.0 parts.1 (rises-with p (suc q) qs parts.2 (omega arith) lt)
+    ]
+
+-- what stands at the place of a number, if that is the number, is the number; else the number goes there
+pub with_found : (p : ℕ) (qs : List ℕ) (d : ℕ) → place_of p qs < length qs → get_or qs (place_of p qs) d ≡ p → with_process p qs ≡ qs
+with_found p [] d lt e = absurd (omega arith)
+with_found p (q ∷ qs) d lt e =
+    elim (compared p q) [
+      | less below ↦ let here : get_or (q ∷ qs) 0 d ≡ p = ap (λ i. get_or (q ∷ qs) i d) (sym (place_here p q qs (omega arith))) ∙ e in
+          absurd (omega (arith, here))
+      | equal e ↦ with_same p q qs e
+      | more above ↦ let there : place_of p (q ∷ qs) ≡ suc (place_of p qs) = place_more p q qs above in
+          let found : get_or qs (place_of p qs) d ≡ p = ap (λ i. get_or (q ∷ qs) i d) (sym there) ∙ e in
+          with_more p q qs above ∙ ap (λ rest. q ∷ rest) (with_found p qs d (omega (arith, there)) found)
+    ]
+
+pub with_inserted : (p : ℕ) (qs : List ℕ) (d : ℕ) → (place_of p qs < length qs → get_or qs (place_of p qs) d ≢ p) →
+    insert qs (place_of p qs) p ≡ with_process p qs
+with_inserted p [] d ne = refl
+with_inserted p (q ∷ qs) d ne =
+    elim (compared p q) [
+      | less below ↦ ap (λ i. insert (q ∷ qs) i p) (place_here p q qs (omega arith)) ∙ sym (with_less p q qs below)
+      | equal e ↦ let here : place_of p (q ∷ qs) ≡ 0 = place_here p q qs (omega arith) in
+          absurd (ne (omega (arith, here)) (ap (λ i. get_or (q ∷ qs) i d) here ∙ sym e))
+      | more above ↦ let there : place_of p (q ∷ qs) ≡ suc (place_of p qs) = place_more p q qs above in
+          let other : place_of p qs < length qs → get_or qs (place_of p qs) d ≢ p =
+          λ lt e. ne (omega (arith, there)) (ap (λ i. get_or (q ∷ qs) i d) there ∙ e) in
+          ap (λ i. insert (q ∷ qs) i p) there ∙ ap (λ rest. q ∷ rest) (with_inserted p qs d other) ∙ sym (with_more p q qs above)
+    ]
+
+pub without_found : (p low : ℕ) (qs : List ℕ) (d : ℕ) → rises low qs ≡ true → place_of p qs < length qs → get_or qs (place_of p qs) d ≡ p →
+    remove qs (place_of p qs) ≡ without_process p qs
+without_found p low [] d h lt e = absurd (omega arith)
+without_found p low (q ∷ qs) d h lt e =
+    let parts : (low ≤ q) × (q < 256) × (rises (suc q) qs ≡ true) = rises_parts low q qs h in
+    elim (compared p q) [
+      | less below ↦ let here : get_or (q ∷ qs) 0 d ≡ p = ap (λ i. get_or (q ∷ qs) i d) (sym (place_here p q qs (omega arith))) ∙ e in
+          absurd (omega (arith, here))
+      | equal is ↦ ap (remove (q ∷ qs)) (place_here p q qs (omega arith))
+          ∙ sym (without_same p q qs is ∙ without_above p (suc q) qs parts.2 (omega arith))
+      | more above ↦ let there : place_of p (q ∷ qs) ≡ suc (place_of p qs) = place_more p q qs above in
+          let found : get_or qs (place_of p qs) d ≡ p = ap (λ i. get_or (q ∷ qs) i d) (sym there) ∙ e in
+          ap (remove (q ∷ qs)) there
+          ∙ ap (λ rest. q ∷ rest) (without_found p (suc q) qs d parts.2 (omega (arith, there)) found)
+          ∙ sym (without_other p q qs (omega arith))
+    ]
+
+pub without_absent : (p low : ℕ) (qs : List ℕ) (d : ℕ) → rises low qs ≡ true → (place_of p qs < length qs → get_or qs (place_of p qs) d ≢ p) →
+    without_process p qs ≡ qs
+without_absent p low [] d h ne = refl
+without_absent p low (q ∷ qs) d h ne =
+    let parts : (low ≤ q) × (q < 256) × (rises (suc q) qs ≡ true) = rises_parts low q qs h in
+    elim (compared p q) [
+      | less below ↦ without_above p q (q ∷ qs) (rises_from q q qs (omega arith) parts.1 parts.2) below
+      | equal e ↦ let here : place_of p (q ∷ qs) ≡ 0 = place_here p q qs (omega arith) in
+          absurd (ne (omega (arith, here)) (ap (λ i. get_or (q ∷ qs) i d) here ∙ sym e))
+      | more above ↦ let there : place_of p (q ∷ qs) ≡ suc (place_of p qs) = place_more p q qs above in
+          let other : place_of p qs < length qs → get_or qs (place_of p qs) d ≢ p =
+          λ lt e. ne (omega (arith, there)) (ap (λ i. get_or (q ∷ qs) i d) there ∙ e) in
+          without_other p q qs (omega arith) ∙ ap (λ rest. q ∷ rest) (without_absent p (suc q) qs d parts.2 other)
+    ]
+
+-- the same for lists that are known to be one
+module _ (p k : ℕ) (members xs ys : List ℕ) (xs_are : xs ≡ members) (ys_are : ys ≡ members) (place : k ≡ place_of p xs) where
+  place_is : k ≡ place_of p members
+  place_is = place ∙ ap (place_of p) xs_are
+
+  stands : (k < length ys) × (get_or ys k 0 ≡ p) → (place_of p members < length members) × (get_or members (place_of p members) 0 ≡ p)
+  stands h =
+      let at_members : (k < length members) × (get_or members k 0 ≡ p) =
+      subst (λ (zs : List ℕ). (k < length zs) × (get_or zs k 0 ≡ p)) ys_are h in
+      subst (λ (j : ℕ). (j < length members) × (get_or members j 0 ≡ p)) place_is at_members
+
+  differs_there : (k < length ys → get_or ys k 0 ≢ p) → place_of p members < length members → get_or members (place_of p members) 0 ≢ p
+  differs_there ne =
+      let at_members : k < length members → get_or members k 0 ≢ p =
+      subst (λ (zs : List ℕ). k < length zs → get_or zs k 0 ≢ p) ys_are ne in
+      subst (λ (j : ℕ). j < length members → get_or members j 0 ≢ p) place_is at_members
+
+  pub with_when_there : (k < length ys) × (get_or ys k 0 ≡ p) → with_process p members ≡ members
+  with_when_there h = let there = stands h in with_found p members 0 there.0 there.1
+
+  pub with_when_inserted : (k < length ys → get_or ys k 0 ≢ p) → insert members k p ≡ with_process p members
+  with_when_inserted ne = ap (λ j. insert members j p) place_is ∙ with_inserted p members 0 (differs_there ne)
+
+  pub without_when_removed : rises 0 members ≡ true → (k < length ys) × (get_or ys k 0 ≡ p) → remove members k ≡ without_process p members
+  without_when_removed h there =
+      let found = stands there in ap (remove members) place_is ∙ without_found p 0 members 0 h found.0 found.1
+
+  pub without_when_absent : rises 0 members ≡ true → (k < length ys → get_or ys k 0 ≢ p) → without_process p members ≡ members
+  without_when_absent h ne = without_absent p 0 members 0 h (differs_there ne)

@@ -1,0 +1,40 @@
+-- `Choices` (IEEE 1364-2005, 11.4.1, 11.4.2): what may be taken next, choice 0 by default.
+use Rattle.std.specs.Prelude.{ℕ, cond, is_some, List, [], ◌∷◌, ◌++◌, Option, Some, None, map}
+use Rattle.vmodel.specs.declared.queue.Update as posted_update
+use Rattle.vmodel.specs.declared.choice.Choice.{Choice}
+use Rattle.vmodel.specs.declared.choice.Choice.TheVariants.{Run, Update, Advance}
+use Rattle.vmodel.specs.Queue.{Slot, Queue, without_process}
+use Rattle.vmodel.specs.State.{State}
+use Rattle.vmodel.specs.declared.history.Grain.{Grain}
+use Rattle.vmodel.specs.declared.history.Grain.TheVariants.{Process, Statement}
+
+-- the process that made the last step first, then the others by number
+abbrev pub in_order : Option ℕ → List ℕ → List ℕ
+in_order None active = active
+in_order (Some p) active = p ∷ without_process p active
+
+abbrev pub first_update : List posted_update.Update → List Choice
+first_update [] = []
+first_update (u ∷ us) = Update ∷ []
+
+abbrev pub next_time : List (ℕ × Slot) → List Choice
+next_time [] = []
+next_time (e ∷ es) = Advance ∷ []
+
+-- at a slot end, where nothing is active, the advance if there is a future time within the limit
+abbrev pub or_advance : List Choice → List (ℕ × Slot) → List Choice
+or_advance [] future = next_time future
+or_advance (c ∷ cs) future = c ∷ cs
+
+abbrev pub active_choices : Queue → List Choice
+active_choices q = map Run (in_order q.last q.active) ++ first_update q.activated
+
+-- grain process: the process that made the last step goes on alone
+abbrev pub offered : Queue → Grain → Option ℕ → List Choice
+offered q Process (Some p) = Run p ∷ []
+offered q Process None = active_choices q
+offered q Statement last = active_choices q
+
+-- once `$finish` was taken there is no choice at all
+abbrev pub choices : State → List Choice
+choices s = cond (is_some s.cause) [] (or_advance (offered s.queue s.queue.grain s.queue.last) s.queue.future)

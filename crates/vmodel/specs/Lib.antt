@@ -1,0 +1,9 @@
+pub mod Value
+pub mod ProcessSets
+pub mod Queue
+pub mod State
+pub mod Choices
+pub mod History
+pub mod Step
+pub mod QueueViews
+pub mod Run

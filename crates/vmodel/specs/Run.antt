@@ -1,0 +1,91 @@
+-- Runs under logs, and their histories (docs/SCHEDULING.md).
+use Rattle.std.specs.Prelude.{◌≡◌, ℕ, zero, suc, ◌<◌, Bool, true, false, List, [], ◌∷◌, ◌++◌, Option, Some, None, map, length}
+use Rattle.vbits.specs.declared.bit4.Bit4.TheVariants.{X}
+use Rattle.vbits.specs.Vectors.{Vector, filled, with_sign}
+use Rattle.sched_core.specs.Rules.{choice_at, NamesBelow}
+use Rattle.vast.specs.Design.{VariableView, Actions, done, then, DesignView}
+use Rattle.vmodel.specs.declared.history.Cause.{Cause}
+use Rattle.vmodel.specs.declared.history.Cause.TheVariants.{Quiet, Limit}
+use Rattle.vmodel.specs.declared.history.End.{End}
+use Rattle.vmodel.specs.declared.history.Grain.{Grain}
+use Rattle.vmodel.specs.State.{State}
+use Rattle.vmodel.specs.Choices.{choices}
+use Rattle.vmodel.specs.History.{HistoryItem, HistoryView}
+use Rattle.vmodel.specs.Step.{next, slot_end_of}
+
+-- every variable starts at x (4.2.2)
+abbrev pub opening_value : VariableView → Vector
+opening_value variable = with_sign (filled variable.length X) variable.signed
+
+-- the numbers of the processes that have something to do, from n on
+abbrev pub busy_from : ℕ → List Actions → List ℕ
+busy_from n [] = []
+busy_from n (done ∷ rest) = busy_from (suc n) rest
+busy_from n (then action after ∷ rest) = n ∷ busy_from (suc n) rest
+
+-- at time 0 all processes are active that have something to do
+abbrev pub opening : DesignView → ℕ → Grain → State
+opening design until grain = record {
+  values = map opening_value design.variables;
+  remainders = design.processes;
+  queue = record {
+    grain = grain;
+    until = until;
+    time = 0;
+    last = None;
+    active = busy_from 0 design.processes;
+    inactive = [];
+    activated = [];
+    posted = [];
+    future = [];
+    beyond = false;
+  };
+  cause = None;
+}
+
+-- where no process has anything to do, the opening state is a slot end
+abbrev pub opening_items : State → List HistoryItem
+opening_items s = slot_end_of s.queue.active s.queue.activated s.queue.time s.values
+
+-- what is run: a design, a time limit and a grain
+pub record Setting : Type 0 where
+  pub design : DesignView
+  pub until : ℕ
+  pub grain : Grain
+
+abbrev pub opening_of : Setting → State
+opening_of setting = opening setting.design setting.until setting.grain
+
+-- the state that the run under the log stands in after n steps
+abbrev pub state_after : Setting → List (ℕ × ℕ) → ℕ → State
+state_after setting log zero = opening_of setting
+state_after setting log (suc n) = (next (state_after setting log n) (choice_at log n)).state
+
+-- what it has given to its history by then
+abbrev pub given_by : Setting → List (ℕ × ℕ) → ℕ → List HistoryItem
+given_by setting log zero = opening_items (opening_of setting)
+given_by setting log (suc n) = given_by setting log n ++ (next (state_after setting log n) (choice_at log n)).items
+
+-- why a run ends where it has no choice: `$finish`, else something past the limit, else nothing is left
+abbrev pub cause_of : Option Cause → Bool → Cause
+cause_of (Some cause) beyond = cause
+cause_of None true = Limit
+cause_of None false = Quiet
+
+abbrev pub end_of : State → End
+end_of s = record { time = s.queue.time; cause = cause_of s.cause s.queue.beyond }
+
+-- the run under the log takes n steps and ends: each choice is there, each step that the log names is taken, and
+-- after them there is no choice
+pub record IsRunOf (setting : Setting) (log : List (ℕ × ℕ)) (n : ℕ) : Type 0 where
+  pub lawful : (k : ℕ) → k < n → choice_at log k < length (choices (state_after setting log k))
+  pub named : NamesBelow log n
+  pub ended : choices (state_after setting log n) ≡ []
+
+-- the history of the run after n steps
+abbrev pub history_after : Setting → List (ℕ × ℕ) → ℕ → HistoryView
+history_after setting log n = record {
+  items = given_by setting log n;
+  end = end_of (state_after setting log n);
+  values = (state_after setting log n).values;
+}

@@ -1,0 +1,108 @@
+// A set of processes, by their numbers.
+
+ghost use Rattle.std.specs.Prelude.{◌≡◌, ◌<◌, ◌≤◌, [], ℕ, List, IsTrue, OnOk, OnErr, IfOk, length, slice_get, slice_index, Some, true, false, ◌≢◌};
+ghost use Rattle.vmodel.specs.ProcessSets.{rises, place_of};
+ghost use Rattle.vmodel.specs.Queue.{with_process, without_process};
+
+use std::alloc::{AllocError, Global};
+use std::marker::Model;
+
+/// How many processes a design may have (docs/LANGUAGE.md, "Limits").
+pub const PROCESSES: u32 = 256;
+
+/// A set of processes: their numbers, rising.
+#[derive(Drop)]
+pub struct ProcessSet {
+    members: Vec<u32>,
+}
+
+impl Model for ProcessSet {
+    ghost Value = { List ℕ };
+
+    ghost view = { λ set. set.members.items };
+
+    ghost invariant = { λ set. IsTrue (rises 0 set.members.items) };
+}
+
+impl ProcessSet {
+    /// The empty set.
+    pub fn new(alloc: Global) -> ProcessSet
+        ensures { result ≡ [] }
+    {
+        ProcessSet {
+            members: Vec::new(alloc),
+        }
+    }
+
+    /// How many processes are in the set.
+    pub fn len(&self) -> u32
+        ensures exact { result ≡ length self.now }
+        ensures few { result ≤ 256 }
+    {
+        self.members.len() as u32
+    }
+
+    /// The process of this place in the order of their numbers.
+    pub fn nth(&self, i: u32) -> u32
+        requires { i < length self.now }
+        ensures exact { slice_get self.now i ≡ Some result }
+        ensures few { result < 256 }
+    {
+        self.members[i as usize]
+    }
+
+    /// The set with one process more.
+    pub fn insert(&mut self, process: u32) -> Result<(), AllocError>
+        requires { process < 256 }
+        ensures ok { OnOk result (self.new ≡ with_process process self.old) }
+        ensures err { OnErr result (self.new ≡ self.old) }
+    {
+        let place = place_among(&self.members, process);
+        if stands_at(&self.members, place, process) {
+            return Ok(());
+        }
+        self.members.insert(place, process)?;
+        Ok(())
+    }
+
+    /// The set without this process.
+    pub fn remove(&mut self, process: u32)
+        ensures { self.new ≡ without_process process self.old }
+    {
+        let place = place_among(&self.members, process);
+        if stands_at(&self.members, place, process) {
+            self.members.remove(place);
+        }
+    }
+
+    /// A set of the same processes.
+    pub fn copy(&self, alloc: Global) -> Result<ProcessSet, AllocError>
+        ensures { IfOk result (λ set. set ≡ self.now) }
+    {
+        let members = Vec::from_slice(alloc, &self.members)?;
+        Ok(ProcessSet { members })
+    }
+}
+
+// How many of the members are below this process.
+fn place_among(members: &[u32], process: u32) -> usize
+    ensures exact { result ≡ place_of process members.now }
+    ensures within { result ≤ length members.now }
+{
+    let mut place = 0;
+    for member in members {
+        if *member >= process {
+            return place;
+        }
+        place += 1;
+    }
+    place
+}
+
+// Whether the process stands at this place.
+fn stands_at(members: &[u32], place: usize, process: u32) -> bool
+    ensures yes { result ≡ true → (place < length members.now) × (slice_index members.now place ≡ process) }
+    ensures no { result ≡ false → place < length members.now → slice_index members.now place ≢ process }
+{
+    place < members.len() && members[place] == process
+}
