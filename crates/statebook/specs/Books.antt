@@ -1,0 +1,53 @@
+-- The book that an explorer keeps: its entries, and what each of them has met.
+use Rattle.std.specs.Prelude.{◌≡◌, ◌≤◌, ℕ, Bool, true, List, [], ◌∷◌, ◌++◌, slice_get, slice_set, length, Contains, Option, Some, None}
+use Rattle.statebook.specs.declared.entry.Entry.{Entry}
+use Rattle.statebook.specs.declared.book.Met.{Met}
+use Rattle.statebook.specs.declared.book.Met.TheVariants.{New, Known}
+
+-- The entries in the order in which they were added, and for each the places of its successors
+-- once it is finished.
+pub record Book (S : Type 0) : Type 0 where
+  pub entries : List (Entry S)
+  pub finished : List (Option (List ℕ))
+
+abbrev pub no_entries : {S : Type 0} → Book S
+no_entries = record { entries = []; finished = [] }
+
+-- one entry more, last and not finished
+abbrev pub add : {S : Type 0} → Book S → Entry S → Book S
+add b e = record { entries = b.entries ++ e ∷ []; finished = b.finished ++ None ∷ [] }
+
+-- the entry at the place is finished, with these successors
+abbrev pub finish : {S : Type 0} → Book S → ℕ → List ℕ → Book S
+finish b place places = record { entries = b.entries; finished = slice_set b.finished place (Some places) }
+
+-- The entry dominates (s, b): its state is equal, and its budget at least b.
+pub record Dominates {S : Type 0} (same : S → S → Bool) (e : Entry S) (s : S) (b : ℕ) : Type 0 where
+  pub state : same e.state s ≡ true
+  pub budget : b ≤ e.budget
+
+-- The place is that of the root's entry: no departure and no step.
+pub record IsRootAt {S : Type 0} (b : Book S) (place : ℕ) : Type 0 where
+  pub entry : Entry S
+  pub at : slice_get b.entries place ≡ Some entry
+  pub log : entry.log ≡ []
+  pub steps : entry.steps ≡ 0
+
+-- The place is that of a finished entry, and all that its list names stand in the set.
+pub record IsClosedAt {S : Type 0} (b : Book S) (all : List ℕ) (place : ℕ) : Type 0 where
+  pub places : List ℕ
+  pub at : slice_get b.finished place ≡ Some (Some places)
+  pub inside : (c j : ℕ) → slice_get places c ≡ Some j → Contains all j
+
+-- closed: a set of places that holds the root's, and with each member all that its list names;
+-- each member is finished.
+pub record IsClosed {S : Type 0} (b : Book S) (root : ℕ) (all : List ℕ) : Type 0 where
+  pub root_entry : IsRootAt b root
+  pub root_inside : Contains all root
+  pub members : (place : ℕ) → Contains all place → IsClosedAt b all place
+
+-- What a book answers on meeting an entry: New with the last place only where no entry dominates
+-- it, and then it stands there; Known with the place of one that does, and the book stays.
+abbrev pub Meets : {S : Type 0} → (S → S → Bool) → Book S → Entry S → Met → Book S → Type 0
+Meets {S} same old e (New place) new = (place ≡ length old.entries) × (new ≡ add old e) × ((i : ℕ) (f : Entry S) → slice_get old.entries i ≡ Some f → ¬ Dominates same f e.state e.budget)
+Meets {S} same old e (Known place) new = (f : Entry S) × (slice_get old.entries place ≡ Some f) × Dominates same f e.state e.budget × (new ≡ old)

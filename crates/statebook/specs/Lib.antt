@@ -1,0 +1,4 @@
+pub mod Stations
+pub mod Books
+pub mod ExplorerCore
+pub mod Covered

@@ -1,0 +1,14 @@
+// In come the entries that an explorer meets: a state, its budget, its log, its steps.
+// Out come places in the book: new ones, or ones of an entry that dominates the one met.
+// The law: where a closing scan answers true, the entries cover every run of at most K departures.
+#![tactic(auto)]
+
+mod book;
+mod entry;
+mod law;
+mod limits;
+
+pub use book::Met;
+pub use entry::Entry;
+pub use law::closed_covers;
+pub use limits::Limits;

@@ -1,0 +1,43 @@
+ghost use Rattle.std.specs.Prelude.{◌≡◌, ◌≤◌, ◌↔◌, IsSome, IfSome};
+
+/// How far an explorer goes: at most `depart` departures, 0 to 4; at most `steps` steps of one
+/// run, and no further job from `entries` entries on, both 1 to 1,000,000.
+#[derive(Clone, Copy, Debug)]
+pub struct Limits {
+    pub depart: u32,
+    pub steps: u32,
+    pub entries: u32,
+    ghost depart_limit: { depart ≤ 4 },
+    ghost some_steps: { 1 ≤ steps },
+    ghost steps_limit: { steps ≤ 1000000 },
+    ghost some_entries: { 1 ≤ entries },
+    ghost entries_limit: { entries ≤ 1000000 },
+}
+
+const DEPART_MAX: u32 = 4;
+
+const STEPS_MAX: u32 = 1_000_000;
+
+const ENTRIES_MAX: u32 = 1_000_000;
+
+impl Limits {
+    /// The limits, if each number is within its own.
+    pub fn new(depart: u32, steps: u32, entries: u32) -> Option<Limits>
+        ensures within { IsSome result ↔ ((depart ≤ 4) × (1 ≤ steps) × (steps ≤ 1000000) × (1 ≤ entries) × (entries ≤ 1000000)) }
+        ensures depart { IfSome result (λ limits. limits.depart ≡ depart) }
+        ensures steps { IfSome result (λ limits. limits.steps ≡ steps) }
+        ensures entries { IfSome result (λ limits. limits.entries ≡ entries) }
+    {
+        if depart > DEPART_MAX || steps > STEPS_MAX || entries > ENTRIES_MAX {
+            return None;
+        }
+        if steps == 0 || entries == 0 {
+            return None;
+        }
+        Some(Limits {
+            depart,
+            steps,
+            entries,
+        })
+    }
+}
