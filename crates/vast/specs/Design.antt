@@ -22,11 +22,12 @@ pub record ScopeView : Type 0 where
 -- clause 9: a statement that takes a step, and what a process has to do; variables go by number
 mutual
   pub data Action : Type 0 where
-    assign : ℕ → Expression → Action             -- target = value
-    nonblocking : ℕ → Expression → Action        -- target <= value
-    delay : Expression → Actions → Action        -- # amount, and then the body
-    dump_vars : Action                           -- $dumpvars
-    finish : Action                              -- $finish
+    assign : ℕ → Expression → Action  -- target = value
+    nonblocking : ℕ → Expression → Action  -- target <= value
+    delay : Expression → Actions → Action  -- # amount, and then the body
+    dump_vars : Action  -- $dumpvars
+    finish : Action  -- $finish
+
   pub data Actions : Type 0 where
     done : Actions
     then : Action → Actions → Actions

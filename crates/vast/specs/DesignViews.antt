@@ -36,9 +36,12 @@ abbrev pub actions : List Statement → Actions
 actions [] = done
 actions (statement ∷ rest) = then (action statement) (actions rest)
 
+abbrev pub process_actions : Process → Actions
+process_actions process = actions process.body.items
+
 abbrev pub design_view : Design → DesignView
 design_view design = record {
   variables = map variable_view design.variables.items;
-  processes = map (λ (process : Process). actions process.body.items) design.processes.items;
+  processes = map process_actions design.processes.items;
   scopes = map scope_view design.scopes.items;
 }

@@ -1,15 +1,16 @@
 // What a text stands for once its names are resolved and its top module is known (IEEE 1364-2005, clause 12).
 
-ghost use Rattle.std.specs.Prelude.{◌≤◌};
+ghost use Rattle.std.specs.Prelude.{◌≤◌, vec_len};
 
 use vbits::Vec4;
 
-/// A whole design: variables, processes and scopes, each in the order of docs/LANGUAGE.md, "Order".
+/// A whole design: variables, processes (256 at most) and scopes, each in the order of docs/LANGUAGE.md, "Order".
 #[derive(Drop)]
 pub struct Design {
     pub variables: Vec<Variable>,
     pub processes: Vec<Process>,
     pub scopes: Vec<Scope>,
+    ghost few_processes: { vec_len processes ≤ 256 },
 }
 
 /// A variable (4.2). Variables are numbered from 0 in the order of the list.
@@ -62,9 +63,15 @@ pub struct Process {
 #[derive(Drop)]
 pub enum Statement {
     /// `target = value;` (9.2.1)
-    Assign { target: u32, value: Expression },
+    Assign {
+        target: u32,
+        value: Expression,
+    },
     /// `target <= value;` (9.2.2)
-    Nonblocking { target: u32, value: Expression },
+    Nonblocking {
+        target: u32,
+        value: Expression,
+    },
     /// `#amount` and then the body (9.7.1)
     Delay {
         amount: Expression,
