@@ -13,6 +13,7 @@ mod order;
 mod parts;
 mod reduce;
 mod shift;
+mod sums;
 
 /// A value: 1 to 64 letters, numbered from the right by 0, and a sign mark.
 #[derive(Clone, Copy, Debug, PartialEq, Eq, Hash)]
