@@ -1,12 +1,12 @@
 -- Every allowed list of events keeps the core sound, and a closed one covers every run.
-use Rattle.std.proofs.Common.{◌≡◌, ℕ, ◌+◌, ◌-◌, ◌<◌, ◌≤◌, zero, suc, true, false, List, [], ◌∷◌, ◌++◌, length, slice_get, slice_set, Contains, Some, None, arith, ap, refl, sym, ◌∙◌, subst, ◌⊎◌, inl, inr}
+use Rattle.std.proofs.Common.{◌≡◌, ℕ, ◌+◌, ◌-◌, ◌<◌, ◌≤◌, zero, suc, true, false, List, [], ◌∷◌, ◌++◌, length, slice_get, slice_set, Contains, Some, None, arith, ap, refl, sym, ◌∙◌, subst, ◌⊎◌, inl, inr, Option}
 use Rattle.std.proofs.lemmas.Bool.{cases_lt}
-use Rattle.std.proofs.lemmas.Option.{same_Some}
+use Rattle.std.proofs.lemmas.Option.{same_Some, slice_get-get_or}
 use Rattle.sched_core.specs.Rules.{Rules, IsLawful, stands, choice_at, IsRun}
 use Rattle.statebook.specs.declared.entry.Entry.{Entry}
 use Rattle.statebook.specs.Stations.{is_station, forced}
 use Rattle.statebook.specs.Covered.{IsCovered}
-use Rattle.statebook.specs.Books.{Book, no_entries, add, finish, IsClosedAt, IsClosed}
+use Rattle.statebook.specs.Books.{Book, no_entries, add, finish, AllClosed, IsClosedAt, IsClosed}
 use Rattle.statebook.specs.ExplorerCore.{IsEntry, choices_of, budget_after, IsMet, AllMet, Core, Event, happens, IsAllowed, AreAllowed, after_all, empty, IsListed, IsSound}
 use Rattle.statebook.specs.ExplorerCore.Event.{Add, Finish, Give, Take, Open, Shut, Stop}
 use Rattle.statebook.proofs.RunLemmas.{departs, used, used-le, used_grows, is_station_same, mark_is_station, GoesAlong, along}
@@ -98,7 +98,7 @@ sound_events {S} r k limit workers seats es h = sound_after r k limit (empty wor
 record Way {S : Type 0} (r : Rules S) (k limit : ℕ) (b : Book S) (all : List ℕ) (log : List (ℕ × ℕ)) (n : ℕ) : Type 0 where
   law : IsLawful r
   sound : IsSound r k limit b
-  members : (place : ℕ) → Contains all place → IsClosedAt b all place
+  members : AllClosed b.finished all
   short : length log ≤ k
   run : IsRun r log n
   mark : r.mark (stands r log n) ≡ true
@@ -139,11 +139,15 @@ no_mark_between {S} r k limit b all log n from m t way le goes passes between =
     let not_one : is_station r (forced r t q) ≡ false = passes q (omega arith) in
     cc
 
+closed_member : (finished : List (Option (List ℕ))) (all : List ℕ) → AllClosed finished all → (place : ℕ) → Contains all place → IsClosedAt finished all place
+closed_member finished all h place (c, lt, e) =
+    h c place (slice_get-get_or all c place lt ∙ ap Some e)
+
 -- from an entry of the set the run goes on to its end, or to the next station, which has one
 step_on : {S : Type 0} (r : Rules S) (k limit : ℕ) (b : Book S) (all : List ℕ) (log : List (ℕ × ℕ)) (n p : ℕ) → Way r k limit b all log n → IsOnWay r k b.entries all log p → p < n → (q : ℕ) × (p < q) × (q ≤ n) × IsOnWay r k b.entries all log q
 step_on {S} r k limit b all log n p way on lt =
     let c : ℕ = choice_at log p in
-    let closed : IsClosedAt b all on.place = way.members on.place on.inside in
+    let closed : IsClosedAt b.finished all on.place = closed_member b.finished all way.members on.place on.inside in
     let done : AllMet r b.entries on.place closed.places = way.sound.met on.place closed.places closed.at in
     let E : Entry S → Type 0 = λ e. length closed.places ≡ choices_of (r.width e.state) e.budget in
     let itself : done.entry ≡ on.entry = same_Some done.entry on.entry (sym done.at ∙ on.at) in

@@ -1,5 +1,5 @@
 -- The book that an explorer keeps: its entries, and what each of them has met.
-use Rattle.std.specs.Prelude.{◌≡◌, ◌≤◌, ℕ, Bool, true, List, [], ◌∷◌, ◌++◌, slice_get, slice_set, length, Contains, Option, Some, None}
+use Rattle.std.specs.Prelude.{◌≡◌, ◌<◌, ◌≤◌, ◌==◌, ◌&&◌, Vec, ℕ, Bool, true, List, [], ◌∷◌, ◌++◌, slice_get, slice_set, length, Contains, Option, Some, None}
 use Rattle.statebook.specs.declared.entry.Entry.{Entry}
 use Rattle.statebook.specs.declared.book.Met.{Met}
 use Rattle.statebook.specs.declared.book.Met.TheVariants.{New, Known}
@@ -27,27 +27,53 @@ pub record Dominates {S : Type 0} (same : S → S → Bool) (e : Entry S) (s : S
   pub budget : b ≤ e.budget
 
 -- The place is that of the root's entry: no departure and no step.
-pub record IsRootAt {S : Type 0} (b : Book S) (place : ℕ) : Type 0 where
+pub record IsRootAt {S : Type 0} (entries : List (Entry S)) (place : ℕ) : Type 0 where
   pub entry : Entry S
-  pub at : slice_get b.entries place ≡ Some entry
+  pub at : slice_get entries place ≡ Some entry
   pub log : entry.log ≡ []
   pub steps : entry.steps ≡ 0
 
--- The place is that of a finished entry, and all that its list names stand in the set.
-pub record IsClosedAt {S : Type 0} (b : Book S) (all : List ℕ) (place : ℕ) : Type 0 where
-  pub places : List ℕ
-  pub at : slice_get b.finished place ≡ Some (Some places)
-  pub inside : (c j : ℕ) → slice_get places c ≡ Some j → Contains all j
+-- each of the places is in the list
+abbrev pub AllIn : List ℕ → List ℕ → Type 0
+AllIn all places = (c j : ℕ) → slice_get places c ≡ Some j → Contains all j
 
--- closed: a set of places that holds the root's, and with each member all that its list names;
--- each member is finished.
+-- The place is that of a finished entry, and all that its list names are in the list.
+pub record IsClosedAt (finished : List (Option (List ℕ))) (all : List ℕ) (place : ℕ) : Type 0 where
+  pub places : List ℕ
+  pub at : slice_get finished place ≡ Some (Some places)
+  pub inside : AllIn all places
+
+abbrev pub AllClosed : List (Option (List ℕ)) → List ℕ → Type 0
+AllClosed finished all = (c j : ℕ) → slice_get all c ≡ Some j → IsClosedAt finished all j
+
+-- closed: a set of places, as a list, that holds the root's, and with each member all that its
+-- list names; each member is finished.
 pub record IsClosed {S : Type 0} (b : Book S) (root : ℕ) (all : List ℕ) : Type 0 where
-  pub root_entry : IsRootAt b root
+  pub root_entry : IsRootAt b.entries root
   pub root_inside : Contains all root
-  pub members : (place : ℕ) → Contains all place → IsClosedAt b all place
+  pub members : AllClosed b.finished all
 
 -- What a book answers on meeting an entry: New with the last place only where no entry dominates
 -- it, and then it stands there; Known with the place of one that does, and the book stays.
 abbrev pub Meets : {S : Type 0} → (S → S → Bool) → Book S → Entry S → Met → Book S → Type 0
 Meets {S} same old e (New place) new = (place ≡ length old.entries) × (new ≡ add old e) × ((i : ℕ) (f : Entry S) → slice_get old.entries i ≡ Some f → ¬ Dominates same f e.state e.budget)
 Meets {S} same old e (Known place) new = (f : Entry S) × (slice_get old.entries place ≡ Some f) × Dominates same f e.state e.budget × (new ≡ old)
+
+-- The two entries are equal in state and budget.
+abbrev pub alike : {S : Type 0} → (S → S → Bool) → Entry S → Entry S → Bool
+alike same e f = same e.state f.state && (e.budget == f.budget)
+
+-- No entry is dominated by an earlier one, so a book that is given the list answers New to each.
+pub record IsUndominated {S : Type 0} (same : S → S → Bool) (entries : List (Entry S)) : Type 0 where
+  pub later : (i j : ℕ) (e f : Entry S) → i < j → slice_get entries i ≡ Some e → slice_get entries j ≡ Some f → ¬ Dominates same e f.state f.budget
+
+-- What a one-owner book keeps: a list of successors or none for each entry, and no budget over the top.
+pub record IsKept {S : Type 0} (same : S → S → Bool) (b : Book S) (top : ℕ) : Type 0 where
+  pub paired : length b.finished ≡ length b.entries
+  pub undominated : IsUndominated same b.entries
+  pub budgets : (i : ℕ) (e : Entry S) → slice_get b.entries i ≡ Some e → e.budget ≤ top
+
+-- the list of an entry's successors, once it is finished
+abbrev pub places_of : {A : Type 0} → Option (Vec ℕ A) → Option (List ℕ)
+places_of None = None
+places_of (Some v) = Some v.items

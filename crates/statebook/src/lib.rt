@@ -7,8 +7,10 @@ mod book;
 mod entry;
 mod law;
 mod limits;
+#[cfg(test)]
+mod tests;
 
-pub use book::Met;
+pub use book::{BookFault, Done, Met, PlainBook};
 pub use entry::Entry;
 pub use law::closed_covers;
 pub use limits::Limits;
