@@ -14,6 +14,11 @@ use Rattle.vlex.specs.Bytes.{is_unknown, is_in, lead_of}
 abbrev pub only_if : Bool → Form → Option Form
 only_if test form = if test then Some form else None
 
+-- at least one letter, digit, _ or $
+abbrev pub is_word : List ℕ → Bool
+is_word [] = false
+is_word (c ∷ cs) = list_all (is_in Words) (c ∷ cs)
+
 -- Comments (3.3): what stands behind /* ends with the first */
 
 abbrev pub ends_block : List ℕ → Bool
@@ -117,8 +122,7 @@ slash_form (c ∷ cs) =
 abbrev pub form_by : Lead → ℕ → List ℕ → Option Form
 form_by lead.Blank c cs = only_if (list_all (is_in Blanks) cs) Blank
 form_by lead.Letter c cs = only_if (list_all (is_in Words) cs) (Token Name)
-form_by lead.Dollar c [] = None
-form_by lead.Dollar c (d ∷ ds) = only_if (list_all (is_in Words) (d ∷ ds)) (Token System)
+form_by lead.Dollar c cs = only_if (is_word cs) (Token System)
 form_by lead.Digit c cs = number_form (c ∷ cs)
 form_by lead.Apostrophe c cs = only_if (is_based cs) (Token Based)
 form_by lead.Quote c cs = only_if (ends_string cs && has_good_escapes cs) (Token Text)

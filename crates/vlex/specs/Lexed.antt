@@ -60,6 +60,16 @@ IsOpen (c ∷ d ∷ cs) =
     ((c ≡ 47) × (d ≡ 42) × ((n : ℕ) → ends_block (take n cs) ≡ false))
     ⊎ ((c ≡ 34) × ((n : ℕ) → ends_string (take n (d ∷ cs)) ≡ false))
 
+-- a list of tokens is the text's only one
+abbrev pub IsOnlyLexed : List ℕ → List Piece → Type 0
+IsOnlyLexed text pieces = (others : List Piece) → Lexed text others → others ≡ pieces
+
+-- save for want of memory a fault says that no list of tokens is the text's
+abbrev pub HasNoTokens : List ℕ → LexFault → Type 0
+HasNoTokens text (NotEnded place) = (pieces : List Piece) → Lexed text pieces → ⊥
+HasNoTokens text (BadToken place) = (pieces : List Piece) → Lexed text pieces → ⊥
+HasNoTokens text Memory = Unit {0}
+
 -- what each fault says of the text: from some place on no piece stands
 abbrev pub IsReason : Source → LexFault → Type 0
 IsReason source (NotEnded place) = (at : ℕ) × ((place ≡ place_of source at) × IsStuck (drop at source.text) × IsOpen (drop at source.text))

@@ -1,4 +1,5 @@
 pub mod Bytes
 pub mod Forms
+pub mod Fronts
 pub mod Lexed
 pub mod Tokenized

@@ -1,8 +1,10 @@
 -- A text with where its tokens stand in it.
-use Rattle.std.specs.Prelude.{ℕ, ◌+◌, ◌≤◌, List, length, take, drop, map, slice_get, unwrap_or, All}
+use Rattle.std.specs.Prelude.{ℕ, ◌+◌, ◌≤◌, List, [], ◌∷◌, length, take, drop, map, slice_get, unwrap_or, All}
 use Rattle.std.specs.Option.{option_map}
 use Rattle.vsrc.specs.Source.{Source}
 use Rattle.vlex.specs.declared.list.Span.{Span}
+use Rattle.vlex.specs.declared.form.Form.{Form}
+use Rattle.vlex.specs.declared.form.Form.TheVariants.{Blank, Comment, Token}
 use Rattle.vlex.specs.Lexed.{Piece}
 
 pub record Tokenized : Type 0 where
@@ -24,3 +26,9 @@ start_of t index = unwrap_or (option_map (λ span. span.start) (slice_get t.span
 -- each token ends within the text
 abbrev pub AreWithin : List ℕ → List Span → Type 0
 AreWithin text spans = All (λ span. span.start + span.len ≤ length text) spans
+
+-- the span of a piece, if it is a token
+abbrev pub spans_of : Form → ℕ → ℕ → List Span
+spans_of Blank at len = []
+spans_of Comment at len = []
+spans_of (Token kind) at len = record { start = at; len = len; kind = kind } ∷ []

@@ -1,3 +1,7 @@
+ghost use Rattle.std.specs.Prelude.{◌≡◌, ◌≤◌, true, length, slice_index};
+ghost use Rattle.std.specs.List.{prefix_len};
+ghost use Rattle.vlex.specs.Bytes.{is_digit, is_letter, is_unknown, is_mark, is_in, lead_of};
+
 /// The bytes that a piece goes on with.
 #[derive(Clone, Copy)]
 pub enum Set {
@@ -23,4 +27,107 @@ pub enum Lead {
     Slash,
     Mark,
     Other,
+}
+
+fn is_digit(byte: u8) -> bool
+    ensures { result ≡ is_digit byte }
+{
+    b'0' <= byte && byte <= b'9'
+}
+
+fn is_letter(byte: u8) -> bool
+    ensures { result ≡ is_letter byte }
+{
+    (b'A' <= byte && byte <= b'Z') || (b'a' <= byte && byte <= b'z')
+}
+
+/// Whether the byte is the digit x, z or ?.
+pub fn is_unknown(byte: u8) -> bool
+    ensures { result ≡ is_unknown byte }
+{
+    byte == b'x' || byte == b'X' || byte == b'z' || byte == b'Z' || byte == b'?'
+}
+
+fn is_mark(byte: u8) -> bool
+    ensures { result ≡ is_mark byte }
+{
+    b"+-*%&|^~!?:=<>@#()[]{},;.".contains(&byte)
+}
+
+/// Whether the byte is in the set.
+pub fn is_in(set: Set, byte: u8) -> bool
+    ensures { result ≡ is_in set byte }
+{
+    match set {
+        Set::Blanks => byte == b' '
+            || byte == b'\t'
+            || byte == b'\n'
+            || byte == b'\r'
+            || byte == 12,
+        Set::Words => is_letter(byte) || is_digit(byte) || byte == b'_' || byte == b'$',
+        Set::Decimals => is_digit(byte) || byte == b'_',
+        Set::Binaries => byte == b'0' || byte == b'1' || is_unknown(byte) || byte == b'_',
+        Set::Octals => (b'0' <= byte && byte <= b'7') || is_unknown(byte) || byte == b'_',
+        Set::Hexadecimals => is_hexadecimal(byte),
+        Set::Underscores => byte == b'_',
+        Set::LineBytes => byte != b'\n',
+    }
+}
+
+fn is_hexadecimal(byte: u8) -> bool
+    ensures { result ≡ is_in Set.Hexadecimals byte }
+{
+    is_digit(byte)
+        || (b'A' <= byte && byte <= b'F')
+        || (b'a' <= byte && byte <= b'f')
+        || is_unknown(byte)
+        || byte == b'_'
+}
+
+/// What the byte begins.
+pub fn lead_of(byte: u8) -> Lead
+    ensures value { result ≡ lead_of byte }
+    ensures digit { result ≡ Lead.Digit → is_digit byte ≡ true }
+    ensures quote { result ≡ Lead.Quote → byte ≡ 34 }
+    ensures slash { result ≡ Lead.Slash → byte ≡ 47 }
+{
+    if is_in(Set::Blanks, byte) {
+        Lead::Blank
+    } else if is_letter(byte) || byte == b'_' {
+        Lead::Letter
+    } else if byte == b'$' {
+        Lead::Dollar
+    } else if is_digit(byte) {
+        Lead::Digit
+    } else if byte == b'\'' {
+        Lead::Apostrophe
+    } else if byte == b'"' {
+        Lead::Quote
+    } else if byte == b'/' {
+        Lead::Slash
+    } else if is_mark(byte) {
+        Lead::Mark
+    } else {
+        Lead::Other
+    }
+}
+
+/// The byte at the index, and 0 behind the last one.
+pub fn byte_at(bytes: &[u8], index: usize) -> u8
+    ensures { result ≡ slice_index bytes.now index }
+{
+    if index < bytes.len() { bytes[index] } else { 0 }
+}
+
+/// How many bytes at the head are in the set.
+pub fn run_len(set: Set, bytes: &[u8]) -> usize
+    ensures value { result ≡ prefix_len (is_in set) bytes.now }
+    ensures within { result ≤ length bytes.now }
+{
+    for (at, byte) in bytes.iter().enumerate() {
+        if !is_in(set, *byte) {
+            return at;
+        }
+    }
+    bytes.len()
 }

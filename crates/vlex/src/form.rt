@@ -7,3 +7,14 @@ pub enum Form {
     Comment,
     Token(Kind),
 }
+
+/// What stands at the head of a text.
+#[derive(Clone, Copy)]
+pub enum Front {
+    /// A piece of so many bytes.
+    Piece(Form, usize),
+    /// A comment or a string that isn't ended.
+    NotEnded,
+    /// No piece, and nothing that is open.
+    Bad,
+}

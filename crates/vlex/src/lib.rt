@@ -6,9 +6,14 @@
 mod bytes;
 mod fault;
 mod form;
+mod front;
 mod kind;
+mod lexer;
 mod list;
+mod number;
+mod text;
 
 pub use fault::LexFault;
 pub use kind::Kind;
+pub use lexer::tokens;
 pub use list::Tokens;

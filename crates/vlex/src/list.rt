@@ -31,8 +31,15 @@ impl<'a> Model for Tokens<'a> {
 }
 
 impl<'a> Tokens<'a> {
-    ghost use Rattle.vlex.specs.Tokenized.{pieces_of, start_of};
+    ghost use Rattle.vlex.specs.Tokenized.{pieces_of, start_of, AreWithin};
     ghost use Rattle.vsrc.specs.Source.{place_of};
+
+    pub(crate) fn new(source: &'a Expanded, spans: Vec<Span>) -> Tokens<'a>
+        requires { AreWithin source.now.text spans.items }
+        ensures { result ≡ record { source = source.now; spans = spans.items } }
+    {
+        Tokens { source, spans }
+    }
 
     /// How many tokens there are.
     pub fn len(&self) -> usize

@@ -1,0 +1,8 @@
+mod Runs
+mod Pieces
+mod Numbers
+mod Sizes
+mod Words
+mod Cuts
+mod Strings
+mod Comments

@@ -1,0 +1,35 @@
+use Rattle.std.proofs.Common.{◌≡◌, ◌≢◌, ◌<◌, ◌+◌, ◌∷◌, ◌++◌, true, false, List, ℕ, length, take, drop, get_or, refl, ◌∙◌, ap, subst, arith}
+use Rattle.std.specs.List.{list_all, prefix_len}
+use Rattle.std.proofs.lemmas.List.{take-append-drop, length-drop, get_or-drop}
+use Rattle.std.proofs.lemmas.List.Sums.{prefix_len_stops}
+use Rattle.vlex.specs.declared.bytes.Set.TheVariants.{Decimals}
+use Rattle.vlex.specs.declared.form.Form.TheVariants.{Token}
+use Rattle.vlex.specs.declared.kind.Kind.TheVariants.{Plain}
+use Rattle.vlex.specs.Bytes.{is_in}
+use Rattle.vlex.specs.Lexed.{IsFront}
+use Rattle.vlex.proofs.Runs.{run_longest}
+use Rattle.vlex.proofs.Sizes.{plain_number, all_digits}
+use Rattle.vlex.proofs.number.number.Goals as goal
+
+pub sized-requires-clause-digits : goal.sized-requires-clause-digits
+sized-requires-clause-digits c =
+    ap (list_all (is_in Decimals)) (c.split_at.ensures.front ∙ ap (λ n. take n c.args.rest.now) c.run_len.ensures.value)
+    ∙ (run_longest (is_in Decimals) c.args.rest.now).passes
+
+pub returns-then-byte_at-ne39 : goal.returns-then-byte_at-ne39
+returns-then-byte_at-ne39 c =
+    let rest : List ℕ = c.args.rest.now in
+    let digits : List ℕ = c.split_at.result.0.now in
+    let tail : List ℕ = c.split_at.result.1.now in
+    let cut : digits ++ tail ≡ rest = ap (λ l. l ++ tail) c.split_at.ensures.front ∙ ap (λ l. take c.run_len.result rest ++ l) c.split_at.ensures.back ∙ take-append-drop c.run_len.result rest in
+    let all : list_all (is_in Decimals) digits ≡ true =
+    ap (list_all (is_in Decimals)) (c.split_at.ensures.front ∙ ap (λ n. take n rest) c.run_len.ensures.value) ∙ (run_longest (is_in Decimals) rest).passes in
+    let back : tail ≡ drop (prefix_len (is_in Decimals) rest) rest = c.split_at.ensures.back ∙ ap (λ n. drop n rest) c.run_len.ensures.value in
+    let stops : 0 < length tail → is_in Decimals (get_or tail 0 0) ≡ false = λ some.
+    let short : prefix_len (is_in Decimals) rest < length rest = omega (arith, ap length back, length-drop (prefix_len (is_in Decimals) rest) rest) in
+    let sum : prefix_len (is_in Decimals) rest + 0 ≡ prefix_len (is_in Decimals) rest = omega arith in
+    ap (λ l. is_in Decimals (get_or l 0 0)) back ∙ ap (is_in Decimals) (get_or-drop (prefix_len (is_in Decimals) rest) rest 0 0 ∙ ap (λ n. get_or rest n 0) sum)
+    ∙ prefix_len_stops (is_in Decimals) rest 0 short in
+    let other : get_or tail 0 0 ≢ 39 = λ is. c.if-byte_at-ne39.true (c.byte_at.ensures ∙ is) in
+    let P : List ℕ → Type 0 = λ l. IsFront (c.args.first ∷ l) (Token Plain) (1 + length digits) in
+    subst P cut (plain_number c.args.first digits tail (1 + length digits) c.requires.lead (all_digits c.args.first digits c.requires.digit all) refl stops other)

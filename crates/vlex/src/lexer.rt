@@ -1,0 +1,61 @@
+ghost use Rattle.std.specs.Prelude.{◌≡◌, ◌+◌, ◌++◌, ◌≤◌, IfOk, IfErr, OnOk};
+ghost use Rattle.vlex.specs.Lexed.{Lexed, IsOnlyLexed, IsReason, HasNoTokens};
+ghost use Rattle.vlex.specs.Tokenized.{pieces_of, spans_of};
+
+use crate::fault::LexFault;
+use crate::form::{Form, Front};
+use crate::front::front;
+use crate::list::{Span, Tokens};
+use std::alloc::{AllocError, Global};
+use vsrc::Expanded;
+
+/// The tokens of the text: the one list that meets `Lexed`. E101 where a comment or a string isn't
+/// ended and E102 where no token stands, each only where no list meets it; E901 where a growth was
+/// refused.
+pub fn tokens<'a>(alloc: Global, source: &'a Expanded) -> Result<Tokens<'a>, LexFault>
+    ensures source { IfOk result (λ tokens. tokens.source ≡ source.now) }
+    ensures lexed { IfOk result (λ tokens. Lexed source.now.text (pieces_of tokens)) }
+    ensures only { IfOk result (λ tokens. IsOnlyLexed source.now.text (pieces_of tokens)) }
+    ensures none { IfErr result (λ fault. HasNoTokens source.now.text fault) }
+    ensures reason { IfErr result (λ fault. IsReason source.now fault) }
+{
+    let text = source.text();
+    let mut spans = Vec::new(alloc);
+    let mut at = 0;
+    while at < text.len() {
+        match front(text.split_at(at).1) {
+            Front::Piece(form, len) => {
+                push_piece(&mut spans, form, at, len)?;
+                at += len;
+            }
+            Front::NotEnded => {
+                return Err(LexFault::NotEnded {
+                    place: source.place(at),
+                });
+            }
+            Front::Bad => {
+                return Err(LexFault::BadToken {
+                    place: source.place(at),
+                });
+            }
+        }
+    }
+    Ok(Tokens::new(source, spans))
+}
+
+// Adds the piece, if it is a token.
+fn push_piece(spans: &mut Vec<Span>, form: Form, at: usize, len: usize) -> Result<(), AllocError>
+    requires { at + len ≤ 33554432 }
+    ensures { OnOk result (spans.new.items ≡ spans.old.items ++ spans_of form at len) }
+{
+    match form {
+        Form::Token(kind) => spans.push(Span {
+            start: at as u32,
+            len: len as u32,
+            kind,
+        })?,
+        Form::Blank => {}
+        Form::Comment => {}
+    }
+    Ok(())
+}

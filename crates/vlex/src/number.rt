@@ -1,0 +1,142 @@
+ghost use Rattle.std.specs.Prelude.{◌≡◌, ◌∷◌, ◌++◌, ◌≤◌, ◌==◌, ◌||◌, ◌+◌, ◌*◌, true, not, min, length, slice_index, ◌<◌, ◌^◌};
+ghost use Rattle.std.specs.List.{list_all};
+ghost use Rattle.vlex.specs.Bytes.{is_digit, is_in, lead_of};
+ghost use Rattle.vlex.specs.Forms.{digits_from, digits_after, is_base_and_digits, is_based, is_size};
+ghost use Rattle.vlex.specs.Fronts.{Finds, IsAnswer};
+
+use crate::bytes::{Lead, Set, byte_at, is_in, is_unknown, run_len};
+use crate::form::{Form, Front};
+use crate::kind::Kind;
+
+/// The number that begins with a digit.
+pub fn number(first: u8, rest: &[u8]) -> Front
+    requires lead { lead_of first ≡ Lead.Digit }
+    requires digit { is_digit first ≡ true }
+    ensures { IsAnswer (first ∷ rest.now) result }
+{
+    let (digits, after) = rest.split_at(run_len(Set::Decimals, rest));
+    if byte_at(after, 0) != b'\'' {
+        return Front::Piece(Form::Token(Kind::Plain), 1 + digits.len());
+    }
+    sized(first, digits, after.split_at(1).1)
+}
+
+// The number with these digits as its size, told from what stands behind the apostrophe.
+fn sized(first: u8, digits: &[u8], base: &[u8]) -> Front
+    requires lead { lead_of first ≡ Lead.Digit }
+    requires digit { is_digit first ≡ true }
+    requires digits { list_all (is_in Set.Decimals) digits.now ≡ true }
+    requires short { length digits.now + 1 + length base.now < 2 ^ 63 }
+    ensures { IsAnswer (first ∷ digits.now ++ 39 ∷ base.now) result }
+{
+    let Some(len) = based_len(base) else {
+        return Front::Bad;
+    };
+    if !is_size(first, digits) {
+        return Front::Bad;
+    }
+    if !is_ended(base, len) {
+        return Front::Bad;
+    }
+    Front::Piece(Form::Token(Kind::Based), 2 + digits.len() + len)
+}
+
+/// The number that begins with an apostrophe.
+pub fn based(first: u8, rest: &[u8]) -> Front
+    requires { lead_of first ≡ Lead.Apostrophe }
+    ensures { IsAnswer (first ∷ rest.now) result }
+{
+    let Some(len) = based_len(rest) else {
+        return Front::Bad;
+    };
+    if !is_ended(rest, len) {
+        return Front::Bad;
+    }
+    Front::Piece(Form::Token(Kind::Based), 1 + len)
+}
+
+// Whether no letter, digit, `_` or `$` follows at once.
+fn is_ended(bytes: &[u8], len: usize) -> bool
+    ensures { result ≡ not (is_in Set.Words (slice_index bytes.now len)) }
+{
+    !is_in(Set::Words, byte_at(bytes, len))
+}
+
+// How far the base and its digits go behind an apostrophe.
+fn based_len(bytes: &[u8]) -> Option<usize>
+    ensures { Finds is_based bytes.now result }
+{
+    if !is_sign(byte_at(bytes, 0)) {
+        return base_len(bytes);
+    }
+    let Some(len) = base_len(bytes.split_at(1).1) else {
+        return None;
+    };
+    Some(1 + len)
+}
+
+fn is_sign(byte: u8) -> bool
+    ensures { result ≡ (byte == 115 || byte == 83) }
+{
+    byte == b's' || byte == b'S'
+}
+
+fn base_len(bytes: &[u8]) -> Option<usize>
+    ensures { Finds is_base_and_digits bytes.now result }
+{
+    if bytes.len() < 2 {
+        return None;
+    }
+    let Some(set) = digits_after(bytes[0], bytes[1]) else {
+        return None;
+    };
+    Some(2 + run_len(set, bytes.split_at(2).1))
+}
+
+// What may stand behind a base letter and a first digit.
+fn digits_after(base: u8, first: u8) -> Option<Set>
+    ensures { result ≡ digits_after base first }
+{
+    match base {
+        b'b' | b'B' => digits_from(Set::Binaries, first),
+        b'o' | b'O' => digits_from(Set::Octals, first),
+        b'h' | b'H' => digits_from(Set::Hexadecimals, first),
+        b'd' | b'D' if is_unknown(first) => Some(Set::Underscores),
+        b'd' | b'D' => digits_from(Set::Decimals, first),
+        _ => None,
+    }
+}
+
+fn digits_from(set: Set, first: u8) -> Option<Set>
+    ensures { result ≡ digits_from set first }
+{
+    if is_in(set, first) && first != b'_' {
+        Some(set)
+    } else {
+        None
+    }
+}
+
+// Whether the digits spell a size, 1 to 64.
+fn is_size(first: u8, digits: &[u8]) -> bool
+    requires first { is_digit first ≡ true }
+    requires digits { list_all (is_in Set.Decimals) digits.now ≡ true }
+    ensures { result ≡ is_size (first ∷ digits.now) }
+{
+    let mut size = first - b'0';
+    for digit in digits {
+        if *digit != b'_' {
+            size = more(size, *digit - b'0');
+        }
+    }
+    1 <= size && size <= 64
+}
+
+// The size with one more digit; 65 stands for all that is greater.
+fn more(size: u8, digit: u8) -> u8
+    requires size { size ≤ 65 }
+    requires digit { digit ≤ 9 }
+    ensures { result ≡ min 65 (10 * size + digit) }
+{
+    (10 * u16::from(size) + u16::from(digit)).min(65) as u8
+}
