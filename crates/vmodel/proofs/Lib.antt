@@ -1,2 +1,4 @@
 pub mod ProcessLemmas
 pub mod FutureLemmas
+pub mod RemainderLemmas
+pub mod OpeningLemmas

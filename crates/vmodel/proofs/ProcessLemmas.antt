@@ -1,5 +1,6 @@
 -- Sets of processes as rising lists.
-use Rattle.std.proofs.Common.{◌≡◌, ◌≢◌, ℕ, zero, suc, ◌+◌, ◌<◌, ◌≤◌, Bool, true, false, ◌&&◌, ◌==◌, nat_le, nat_lt, List, [], ◌∷◌, length, insert, remove, get_or, refl, sym, ap, subst, ◌∙◌, arith}
+use Rattle.std.proofs.Common.{◌≡◌, ◌≢◌, ℕ, zero, suc, ◌+◌, ◌<◌, ◌≤◌, Bool, true, false, ◌&&◌, ◌==◌, nat_le, nat_lt, List, [], ◌∷◌, length, insert, remove, get_or, refl, sym, ap, subst, ◌∙◌, arith, Some}
+use Rattle.std.specs.Prelude.{slice_get}
 use Rattle.std.proofs.lemmas.Bool.Decides.{nat_tests}
 use Rattle.vmodel.specs.ProcessSets.{rises, place_of}
 use Rattle.vmodel.specs.Queue.{with_process, without_process}
@@ -61,7 +62,7 @@ pub differs : (a b : ℕ) → a ≢ b → (a == b) ≡ false
 differs a b h = grind (arith, nat_tests)
 
 -- the three cases of `with_process`
-with_less : (p q : ℕ) (qs : List ℕ) → p < q → with_process p (q ∷ qs) ≡ p ∷ q ∷ qs
+pub with_less : (p q : ℕ) (qs : List ℕ) → p < q → with_process p (q ∷ qs) ≡ p ∷ q ∷ qs
 with_less p q qs lt = rw (is_lt p q lt)
 
 with_same : (p q : ℕ) (qs : List ℕ) → p ≡ q → with_process p (q ∷ qs) ≡ q ∷ qs
@@ -213,3 +214,10 @@ module _ (p k : ℕ) (members xs ys : List ℕ) (xs_are : xs ≡ members) (ys_ar
 
   pub without_when_absent : rises 0 members ≡ true → (k < length ys → get_or ys k 0 ≢ p) → without_process p members ≡ members
   without_when_absent h ne = without_absent p 0 members 0 h (differs_there ne)
+
+pub slice_get-rises : (low : ℕ) (ps : List ℕ) (i x : ℕ) → rises low ps ≡ true → slice_get ps i ≡ Some x → x < 256
+slice_get-rises low [] i x h e = cc
+slice_get-rises low (p ∷ ps) zero x h e =
+    let same : p ≡ x = cc in
+    omega (arith, same, (rises_parts low p ps h).1)
+slice_get-rises low (p ∷ ps) (suc i) x h e = slice_get-rises (suc p) ps i x (rises_parts low p ps h).2 e

@@ -1,5 +1,5 @@
 -- `Choices` (IEEE 1364-2005, 11.4.1, 11.4.2): what may be taken next, choice 0 by default.
-use Rattle.std.specs.Prelude.{ℕ, cond, is_some, List, [], ◌∷◌, ◌++◌, Option, Some, None, map}
+use Rattle.std.specs.Prelude.{ℕ, ◌<◌, cond, is_some, List, [], ◌∷◌, ◌++◌, Option, Some, None, map}
 use Rattle.vmodel.specs.declared.queue.Update as posted_update
 use Rattle.vmodel.specs.declared.choice.Choice.{Choice}
 use Rattle.vmodel.specs.declared.choice.Choice.TheVariants.{Run, Update, Advance}
@@ -35,6 +35,15 @@ offered q Process (Some p) = Run p ∷ []
 offered q Process None = active_choices q
 offered q Statement last = active_choices q
 
+abbrev pub queue_choices : Queue → List Choice
+queue_choices q = or_advance (offered q q.grain q.last) q.future
+
 -- once `$finish` was taken there is no choice at all
 abbrev pub choices : State → List Choice
-choices s = cond (is_some s.cause) [] (or_advance (offered s.queue s.queue.grain s.queue.last) s.queue.future)
+choices s = cond (is_some s.cause) [] (queue_choices s.queue)
+
+-- a process goes by a number below 256
+abbrev pub IsWithin : Choice → Type 0
+IsWithin (Run p) = p < 256
+IsWithin Update = Unit {0}
+IsWithin Advance = Unit {0}

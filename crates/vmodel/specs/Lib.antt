@@ -6,4 +6,6 @@ pub mod Choices
 pub mod History
 pub mod Step
 pub mod QueueViews
+pub mod Remainders
+pub mod StateViews
 pub mod Run

@@ -142,22 +142,31 @@ process_turn p (then action rest) s =
     let did = did_of action s.values in
     closed (acted p did (rest_of action rest) s) (items_of_did did)
 
--- the first activated update is written (11.4.1)
-abbrev pub update_turn : List Update → State → Turn
-update_turn [] s = closed s []
-update_turn (u ∷ us) s =
-    closed (record s { values = slice_set s.values u.target u.value; queue = record s.queue { last = None; activated = us } }) []
+-- what is written and what the queue is, once the first activated update is taken (11.4.1)
+abbrev pub values_updated : List Update → List Vector → List Vector
+values_updated [] values = values
+values_updated (u ∷ us) values = slice_set values u.target u.value
+
+abbrev pub without_update : List Update → Queue → Queue
+without_update [] q = q
+without_update (u ∷ us) q = record q { last = None; activated = us }
+
+abbrev pub updated : State → State
+updated s = record s {
+  values = values_updated s.queue.activated s.values;
+  queue = without_update s.queue.activated s.queue;
+}
 
 -- the time goes on to the next future time, whose processes become active and whose updates are posted in their order
-abbrev pub advance_turn : List (ℕ × Slot) → State → Turn
-advance_turn [] s = closed s []
-advance_turn (e ∷ es) s =
-    closed (record s { queue = record s.queue { time = e.0; last = None; active = e.1.processes; posted = e.1.updates; future = es } }) []
+abbrev pub advanced_to : List (ℕ × Slot) → Queue → Queue
+advanced_to [] q = q
+advanced_to (e ∷ es) q =
+    record q { time = e.0; last = None; active = e.1.processes; posted = e.1.updates; future = es }
 
 abbrev pub turn_of : Choice → State → Turn
 turn_of (Run p) s = process_turn p (remainder_at s.remainders p) s
-turn_of TheUpdate s = update_turn s.queue.activated s
-turn_of Advance s = advance_turn s.queue.future s
+turn_of TheUpdate s = closed (updated s) []
+turn_of Advance s = closed (record s { queue = advanced_to s.queue.future s.queue }) []
 
 abbrev pub turn_by : Option Choice → State → Turn
 turn_by None s = record { state = s; items = [] }

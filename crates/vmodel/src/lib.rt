@@ -4,8 +4,18 @@
 #![tactic(auto)]
 
 pub mod choice;
+mod choices;
 pub mod did;
+mod future;
 pub mod history;
+mod open;
 pub mod process_set;
 pub mod queue;
+mod regions;
+mod remainder;
+pub mod state;
+mod step;
 mod value;
+
+pub use open::opening;
+pub use step::{slow_step, slow_width};

@@ -1,6 +1,7 @@
 // A set of processes, by their numbers.
 
-ghost use Rattle.std.specs.Prelude.{◌≡◌, ◌<◌, ◌≤◌, [], ℕ, List, IsTrue, OnOk, OnErr, IfOk, length, slice_get, slice_index, Some, true, false, ◌≢◌};
+ghost use Rattle.std.specs.Prelude.{◌==◌, ◌≡◌, ◌<◌, ◌≤◌, [], ℕ, List, IsTrue, OnOk, OnErr, IfOk, length, slice_get, slice_index, Some, true, false, ◌≢◌};
+ghost use Rattle.std.specs.Option.{ForSome};
 ghost use Rattle.vmodel.specs.ProcessSets.{rises, place_of};
 ghost use Rattle.vmodel.specs.Queue.{with_process, without_process};
 
@@ -49,6 +50,41 @@ impl ProcessSet {
         ensures few { result < 256 }
     {
         self.members[i as usize]
+    }
+
+    /// Whether no process is in the set.
+    pub fn is_empty(&self) -> bool
+        ensures { result ≡ (length self.now == 0) }
+    {
+        self.members.is_empty()
+    }
+
+    /// How many processes other than this one are in the set.
+    pub fn len_without(&self, process: u32) -> u32
+        ensures exact { result ≡ length (without_process process self.now) }
+        ensures few { result ≤ 256 }
+    {
+        count_without(&self.members, process) as u32
+    }
+
+    /// The process of this place in the order of their numbers, this one left out.
+    pub fn nth_without(&self, process: u32, i: u32) -> Option<u32>
+        ensures exact { result ≡ slice_get (without_process process self.now) i }
+        ensures few { ForSome result (λ p. p < 256) }
+    {
+        nth_other(&self.members, process, i)
+    }
+
+    /// The process of this place in the order of their numbers, if there is one.
+    pub fn get(&self, i: u32) -> Option<u32>
+        ensures exact { result ≡ slice_get self.now i }
+        ensures few { ForSome result (λ p. p < 256) }
+    {
+        if i < self.len() {
+            Some(self.nth(i))
+        } else {
+            None
+        }
     }
 
     /// The set with one process more.
@@ -105,4 +141,34 @@ fn stands_at(members: &[u32], place: usize, process: u32) -> bool
     ensures no { result ≡ false → place < length members.now → slice_index members.now place ≢ process }
 {
     place < members.len() && members[place] == process
+}
+
+// How many of the members are other processes than this one.
+fn count_without(members: &[u32], process: u32) -> usize
+    ensures exact { result ≡ length (without_process process members.now) }
+    ensures within { result ≤ length members.now }
+{
+    let mut count = 0;
+    for member in members {
+        if *member != process {
+            count += 1;
+        }
+    }
+    count
+}
+
+// The member of this place, this process left out.
+fn nth_other(members: &[u32], process: u32, i: u32) -> Option<u32>
+    ensures exact { result ≡ slice_get (without_process process members.now) i }
+{
+    let mut left = i;
+    for member in members {
+        if *member != process {
+            if left == 0 {
+                return Some(*member);
+            }
+            left -= 1;
+        }
+    }
+    None
 }

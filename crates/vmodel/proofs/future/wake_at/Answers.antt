@@ -3,7 +3,7 @@ use Rattle.std.specs.Prelude.{slice_get}
 use Rattle.vmodel.specs.QueueViews.{future_views, place_of_time, SomeIs, NoneIs}
 use Rattle.vmodel.specs.declared.queue.Future.{Future}
 use Rattle.vmodel.proofs.FutureLemmas.{woken_with, put_in}
-use Rattle.vmodel.proofs.queue.wake_at.Goals as goal
+use Rattle.vmodel.proofs.future.wake_at.Goals as goal
 
 pub returns-then-stands_at : goal.returns-then-stands_at
 returns-then-stands_at c =

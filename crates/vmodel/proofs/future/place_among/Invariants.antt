@@ -1,6 +1,6 @@
 use Rattle.std.proofs.Common.{◌≡◌, ◌+◌, drop}
 use Rattle.vmodel.specs.QueueViews.{future_views, place_of_time}
-use Rattle.vmodel.proofs.queue.place_among.Given as goal
+use Rattle.vmodel.proofs.future.place_among.Given as goal
 
 abbrev pub invariant-loop-entry : goal.invariant-loop-entry
 invariant-loop-entry l =
