@@ -8,7 +8,7 @@ use Rattle.std.proofs.lemmas.Nat.{and_mask, pow_pos, pow-add, div_below, le-div}
 use Rattle.std.proofs.Math.Nat.{add-mul-mod_self_right}
 use Rattle.std.proofs.Math.Pow.{mod-mod-pow}
 use Rattle.vbits.specs.Numbers.{read, wrapped}
-use Rattle.vbits.specs.Planes.{letters_of, sign_bit, signed_number, bool_xor}
+use Rattle.vbits.specs.Planes.{letters_of, sign_bit, signed_number}
 use Rattle.vbits.specs.Vectors.{quotient_of, remainder_of}
 use Rattle.vbits.proofs.LettersOf.{digits-letters_of}
 
@@ -141,6 +141,10 @@ product-same s t n a c some h g =
     ]
 
 -- ---- quotients and remainders: by magnitudes and signs
+
+abbrev bool_xor : Bool → Bool → Bool
+bool_xor false b = b
+bool_xor true b = not b
 
 abbrev pub is_below : ℤ → Bool
 is_below (pos a) = false

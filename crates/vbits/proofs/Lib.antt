@@ -10,3 +10,4 @@ pub mod Reductions
 pub mod Shifts
 pub mod Integers
 pub mod Arithmetic
+pub mod Sizes

@@ -1,5 +1,5 @@
 -- How two words stand for a list of letters: a letter is a bit of each, lowest first.
-use Rattle.std.specs.Prelude.{Bool, true, false, not, cond, ℤ, pos, neg_ℤ, ℕ, zero, suc, ◌+◌, ◌-◌, ◌*◌, ◌/◌, ◌%◌, ◌^◌, ◌<◌, ◌≤◌, List, [], ◌∷◌}
+use Rattle.std.specs.Prelude.{Bool, true, false, cond, ℤ, pos, neg_ℤ, ℕ, zero, suc, ◌+◌, ◌-◌, ◌*◌, ◌/◌, ◌%◌, ◌^◌, ◌<◌, ◌≤◌, List, [], ◌∷◌}
 use Rattle.vbits.specs.declared.bit4.Bit4.{Bit4}
 use Rattle.vbits.specs.declared.bit4.Bit4.TheVariants.{Zero, One, X, Z}
 
@@ -61,7 +61,3 @@ spliced plane high low part =
 abbrev pub signed_number : Bool → ℕ → ℤ
 signed_number false magnitude = pos magnitude
 signed_number true magnitude = neg_ℤ (pos magnitude)
-
-abbrev pub bool_xor : Bool → Bool → Bool
-bool_xor false b = b
-bool_xor true b = not b

@@ -73,7 +73,7 @@ pub fn magnitude(plane: u64, len: u32, signed: bool) -> u64
 }
 
 /// The lowest `len` bits of a magnitude or of its negative.
-pub fn with_sign(negative: bool, magnitude: u64, len: u32) -> u64
+pub fn wrapped(negative: bool, magnitude: u64, len: u32) -> u64
     requires some { 1 ≤ len }
     requires few { len ≤ 64 }
     ensures digits { planes.letters_of len result 0 ≡ numbers.wrapped len (planes.signed_number negative magnitude) }
