@@ -29,10 +29,10 @@ twos_complement count n = cond (nat_le (2 ^ (count - 1)) n) (pos n -ℤ pos (2 ^
 abbrev pub read : Bool → ℕ → ℕ → ℤ
 read signed count n = cond signed (twos_complement count n) (pos n)
 
--- the integer that the letters stand for, read as signed or not (3.5.1, 4.5), or None where one is unknown
+-- the integer that the letters stand for, read as signed or not (5.1.6), or None where one is unknown
 abbrev pub integer : Bool → List Bit4 → Option ℤ
 integer signed letters = option_map (read signed (length letters)) (number letters)
 
--- the digits of an integer modulo 2 ^ count: sums and products wrap (5.1.5)
+-- the digits of an integer modulo 2 ^ count: sums and products wrap (4.3.1)
 abbrev pub wrapped : ℕ → ℤ → List Bit4
 wrapped count z = digits count (unsigned_abs (int_rem_euclid z (pos (2 ^ count))))

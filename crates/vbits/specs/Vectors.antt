@@ -32,7 +32,7 @@ with_sign v mark = record { letters = v.letters; signed = mark }
 unfoldable pub sign_letter : Vector → Bit4
 sign_letter v = cond v.signed (get_or v.letters (length v.letters - 1) Zero) Zero
 
--- extended by its own sign, or cut on the left (5.5.4)
+-- extended by its own sign (5.5.2, 5.5.4), or cut on the left
 unfoldable pub resize : Vector → ℕ → Vector
 resize v count = record {
   letters = take count (v.letters ++ replicate count (sign_letter v));

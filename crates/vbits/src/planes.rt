@@ -1,5 +1,5 @@
 //! Words as planes: their lowest bits are the bits of the letters.
-ghost use Rattle.std.specs.Prelude.{◌≡◌, ℕ, ◌+◌, ◌-◌, ◌*◌, ◌^◌, ◌<◌, ◌≤◌, unsigned_abs, int_lt};
+ghost use Rattle.std.specs.Prelude.{◌≡◌, ◌+◌, ◌-◌, ◌*◌, ◌^◌, ◌<◌, ◌≤◌, unsigned_abs, int_lt};
 ghost use Rattle.vbits.specs.Numbers as numbers;
 ghost use Rattle.vbits.specs.Planes as planes;
 

@@ -1,4 +1,4 @@
-ghost use Rattle.std.specs.Prelude.{◌≡◌, ℕ, ◌+◌, ◌-◌, ◌*◌, ◌^◌, ◌<◌, ◌≤◌, length, slice_get};
+ghost use Rattle.std.specs.Prelude.{◌≡◌, ◌<◌, ◌≤◌, length, slice_get};
 ghost use Rattle.vbits.specs.Numbers as numbers;
 ghost use Rattle.vbits.specs.Vectors as vectors;
 
@@ -15,7 +15,8 @@ mod reduce;
 mod shift;
 mod sums;
 
-/// A value: 1 to 64 letters, numbered from the right by 0, and a sign mark.
+/// A value: 1 to 64 letters, numbered from the right by 0, and a sign mark (4.1, 4.3).
+/// Kept as two words: the letter at place i is bit i of each (`specs/Planes.antt`).
 #[derive(Clone, Copy, Debug, PartialEq, Eq, Hash)]
 pub struct Vec4 {
     value: u64,
@@ -25,7 +26,7 @@ pub struct Vec4 {
 }
 
 impl Model for Vec4 {
-    ghost use Rattle.std.specs.Prelude.{ℕ, ◌^◌, ◌<◌, ◌≤◌, length};
+    ghost use Rattle.std.specs.Prelude.{length};
     ghost use Rattle.vbits.specs.Vectors.{Vector};
     ghost use Rattle.vbits.specs.Planes.{letters_of, values_of, unknowns_of, Planes};
     ghost use Rattle.vbits.specs.PlanesBack.{length-letters_of, values_of-letters_of, unknowns_of-letters_of};
@@ -36,9 +37,19 @@ impl Model for Vec4 {
 
     ghost invariant = { λ v. Planes v.len v.value v.unknown };
 
-    ghost inverse = { λ v. record { value = values_of v.letters; unknown = unknowns_of v.letters; len = length v.letters; signed = v.signed } };
+    ghost inverse = { λ v. record {
+      value = values_of v.letters;
+      unknown = unknowns_of v.letters;
+      len = length v.letters;
+      signed = v.signed;
+    } };
 
-    ghost inverse_ok = { λ a h. λ i. record { value = values_of-letters_of a.len a.value a.unknown h.value_within i; unknown = unknowns_of-letters_of a.len a.value a.unknown h.unknown_within i; len = length-letters_of a.len a.value a.unknown i; signed = a.signed } };
+    ghost inverse_ok = { λ a h. λ i. record {
+      value = values_of-letters_of a.len a.value a.unknown h.value_within i;
+      unknown = unknowns_of-letters_of a.len a.value a.unknown h.unknown_within i;
+      len = length-letters_of a.len a.value a.unknown i;
+      signed = a.signed;
+    } };
 }
 
 impl Vec4 {

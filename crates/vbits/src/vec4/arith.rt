@@ -1,4 +1,4 @@
-//! Binary `-`, `*`, `/` and `%`: all x where a letter is unknown, else wrapped to the length (5.1.5).
+//! Binary `-`, `*`, `/` and `%`: all x where a letter is unknown, else wrapped to the length (5.1.5, 4.3.1).
 //! The operands are read as signed where both are signed, and so is the result.
 ghost use Rattle.std.specs.Prelude.{◌≡◌, length};
 ghost use Rattle.vbits.specs.Vectors as vectors;

@@ -1,5 +1,5 @@
 //! Vectors made longer or shorter, taken apart and put together.
-ghost use Rattle.std.specs.Prelude.{◌≡◌, ℕ, ◌+◌, ◌-◌, ◌<◌, ◌≤◌, length};
+ghost use Rattle.std.specs.Prelude.{◌≡◌, ◌+◌, ◌-◌, ◌<◌, ◌≤◌, length};
 ghost use Rattle.vbits.specs.Vectors as vectors;
 
 use super::Vec4;
@@ -7,7 +7,7 @@ use crate::planes;
 
 impl Vec4 {
     /// Made `len` letters long: extended by its own sign (a signed vector by its leftmost letter,
-    /// an unsigned one by 0), or cut on the left (5.5.4).
+    /// an unsigned one by 0), or cut on the left (5.5.2, 5.5.4).
     pub fn resize(self, len: u32) -> Vec4
         requires some { 1 ≤ len }
         requires few { len ≤ 64 }

@@ -52,7 +52,10 @@ impl Vec4 {
     fn shifted_right(self, amount: Vec4, value_top: u64, unknown_top: u64) -> Vec4
         requires value_bit { value_top < 2 }
         requires unknown_bit { unknown_top < 2 }
-        ensures { result ≡ record self { letters = vectors.shifted_right (planes.letter value_top unknown_top) self.letters (numbers.number amount.letters) } }
+        ensures { let top = planes.letter value_top unknown_top in
+            result ≡ record self {
+              letters = vectors.shifted_right top self.letters (numbers.number amount.letters);
+            } }
     {
         let Some(places) = amount.to_u64() else {
             return Vec4::unknowns(self.len, self.signed);
