@@ -14,5 +14,5 @@ mod tests;
 pub use grid::{Grid, Square};
 pub use log::{Log, LogFault, LogHead, Member};
 pub use log_text::{read_log, read_named_log, write_log, write_named_log};
-pub use run::{Reached, ReplayFault, replay};
+pub use run::{Reached, ReplayFault, next_choice, replay};
 pub use space::Space;

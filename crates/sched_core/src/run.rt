@@ -33,8 +33,8 @@ impl From<AllocError> for ReplayFault {
     }
 }
 
-/// The choice of step `n`, and the members after it.
-fn next_choice(members: &[Member], n: u32) -> (u32, &[Member])
+/// The choice of step `n` of a run under a log, of which these members are left, and the members after it.
+pub fn next_choice(members: &[Member], n: u32) -> (u32, &[Member])
     requires { IsLogFrom n members.now }
     ensures next { IsNextChoice members.now n result.0 result.1.now }
     ensures lawful { IsLogFrom (n + 1) result.1.now }
