@@ -2,3 +2,4 @@ pub mod ProcessLemmas
 pub mod FutureLemmas
 pub mod RemainderLemmas
 pub mod OpeningLemmas
+pub mod PlayedLemmas

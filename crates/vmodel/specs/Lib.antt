@@ -8,4 +8,7 @@ pub mod Step
 pub mod QueueViews
 pub mod Remainders
 pub mod StateViews
+pub mod Same
 pub mod Run
+pub mod Played
+pub mod RunViews

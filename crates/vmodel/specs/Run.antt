@@ -1,8 +1,8 @@
 -- Runs under logs, and their histories (docs/SCHEDULING.md).
-use Rattle.std.specs.Prelude.{◌≡◌, ℕ, zero, suc, ◌<◌, Bool, true, false, List, [], ◌∷◌, ◌++◌, Option, Some, None, map, length}
+use Rattle.std.specs.Prelude.{ℕ, zero, suc, ◌==◌, ◌&&◌, ◌||◌, is_some, Bool, true, false, List, [], ◌∷◌, ◌++◌, Option, Some, None, map, length}
 use Rattle.vbits.specs.declared.bit4.Bit4.TheVariants.{X}
 use Rattle.vbits.specs.Vectors.{Vector, filled, with_sign}
-use Rattle.sched_core.specs.Rules.{choice_at, NamesBelow}
+use Rattle.sched_core.specs.Rules.{Rules, stands, choice_at}
 use Rattle.vast.specs.Design.{VariableView, Actions, done, then, DesignView}
 use Rattle.vmodel.specs.declared.history.Cause.{Cause}
 use Rattle.vmodel.specs.declared.history.Cause.TheVariants.{Quiet, Limit}
@@ -11,6 +11,7 @@ use Rattle.vmodel.specs.declared.history.Grain.{Grain}
 use Rattle.vmodel.specs.State.{State}
 use Rattle.vmodel.specs.Choices.{choices}
 use Rattle.vmodel.specs.History.{HistoryItem, HistoryView}
+use Rattle.vmodel.specs.Same.{state_same}
 use Rattle.vmodel.specs.Step.{next, slot_end_of}
 
 -- every variable starts at x (4.2.2)
@@ -56,12 +57,25 @@ pub record Setting : Type 0 where
 abbrev pub opening_of : Setting → State
 opening_of setting = opening setting.design setting.until setting.grain
 
+-- a slot has ended, or the run has
+abbrev pub is_mark : State → Bool
+is_mark s = is_some s.cause || (length s.queue.active == 0 && length s.queue.activated == 0)
+
+-- the runs of a setting: `stands`, `IsRun` and how a run under a log ends are those of any rules
+unfoldable pub rules_of : Setting → Rules State
+rules_of setting = record {
+  same = state_same;
+  first = opening_of setting;
+  width = λ s. length (choices s);
+  mark = is_mark;
+  after = λ s i. (next s i).state;
+}
+
 -- the state that the run under the log stands in after n steps
 abbrev pub state_after : Setting → List (ℕ × ℕ) → ℕ → State
-state_after setting log zero = opening_of setting
-state_after setting log (suc n) = (next (state_after setting log n) (choice_at log n)).state
+state_after setting log n = stands (rules_of setting) log n
 
--- what it has given to its history by then
+-- what the run under the log has given to its history after n steps
 abbrev pub given_by : Setting → List (ℕ × ℕ) → ℕ → List HistoryItem
 given_by setting log zero = opening_items (opening_of setting)
 given_by setting log (suc n) = given_by setting log n ++ (next (state_after setting log n) (choice_at log n)).items
@@ -74,13 +88,6 @@ cause_of None false = Quiet
 
 abbrev pub end_of : State → End
 end_of s = record { time = s.queue.time; cause = cause_of s.cause s.queue.beyond }
-
--- the run under the log takes n steps and ends: each choice is there, each step that the log names is taken, and
--- after them there is no choice
-pub record IsRunOf (setting : Setting) (log : List (ℕ × ℕ)) (n : ℕ) : Type 0 where
-  pub lawful : (k : ℕ) → k < n → choice_at log k < length (choices (state_after setting log k))
-  pub named : NamesBelow log n
-  pub ended : choices (state_after setting log n) ≡ []
 
 -- the history of the run after n steps
 abbrev pub history_after : Setting → List (ℕ × ℕ) → ℕ → HistoryView

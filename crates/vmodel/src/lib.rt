@@ -13,6 +13,8 @@ pub mod process_set;
 pub mod queue;
 mod regions;
 mod remainder;
+pub mod run;
+pub mod sink;
 pub mod state;
 mod step;
 mod value;

@@ -65,8 +65,12 @@ fn items_by(alloc: Global, did: &Did) -> Result<Vec<Item>, AllocError>
     Ok(items)
 }
 
-// The end of the slot, where nothing is active.
-fn slot_end(alloc: Global, queue: &Queue, values: &[Vec4]) -> Result<Option<Item>, AllocError>
+/// The end of the slot, where nothing is active.
+pub(crate) fn slot_end(
+    alloc: Global,
+    queue: &Queue,
+    values: &[Vec4],
+) -> Result<Option<Item>, AllocError>
     ensures { IfOk result (λ item. item_views (option_to_list item) ≡ slot_end_of queue.now.active queue.now.activated.items queue.now.time values.now) }
 {
     if !queue.active.is_empty() || !queue.activated.is_empty() {

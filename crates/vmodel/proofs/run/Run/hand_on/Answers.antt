@@ -1,0 +1,63 @@
+use Rattle.std.proofs.Common.{◌≡◌, ◌≤◌, ◌<◌, ◌+◌, ℕ, ◌∙◌, ◌++◌, sym, ap, subst, List, length}
+use Rattle.vmodel.specs.History.{HistoryItem}
+use Rattle.vmodel.specs.Choices.{choices}
+use Rattle.vmodel.specs.Step.{Turn}
+use Rattle.vmodel.specs.Run.{given_by, opening_items}
+use Rattle.vmodel.specs.RunViews.{setting_of}
+use Rattle.vmodel.specs.StateViews.{state_view, item_views}
+use Rattle.vmodel.proofs.PlayedLemmas.{IsAt, at_opening, finishes, too_early, takes_more, no_choice, at_next, given_next}
+use Rattle.vmodel.proofs.run.Run.hand_on.Goals as goal
+
+pub turns-init : goal.turns-init
+turns-init g c =
+    let setting = setting_of c.args.self.now in
+    let at = subst (λ (rest : List (ℕ × ℕ)). IsAt setting c.args.log.now rest c.args.steps 0 (state_view c.in_ok-state.state)) (sym c.members-rest.ensures.list)
+    (at_opening setting c.args.log.now c.args.steps (state_view c.in_ok-state.state) c.members-rest.ensures.lawful c.in_ok-state.ensures) in
+    let items : item_views c.deref.result.now ≡ given_by setting c.args.log.now 0 =
+    ap item_views c.deref.ensures.value ∙ c.in_ok-first.ensures ∙ ap opening_items c.in_ok-state.ensures in
+    (at, subst (λ (xs : List HistoryItem). g.S.Sink.takes c.args.sink.now xs c.hand.new.sink) items c.in_ok-hand.ensures.ok)
+
+pub returns-then-not-is_empty-clause-missing : goal.returns-then-not-is_empty-clause-missing
+returns-then-not-is_empty-clause-missing g c = λ e.
+    too_early (setting_of c.args.self.now) c.args.log.now c.turns.rest.now c.args.steps c.turns.n (state_view c.turns.state) c.turns.invariant.0
+    (sym c.slow_width-width.ensures ∙ c.if-width-eq0.true) (sym c.is_empty.ensures ∙ c.if-not-is_empty.true)
+
+pub returns-then-width-eq0-clause-ends : goal.returns-then-width-eq0-clause-ends
+returns-then-width-eq0-clause-ends g c = (
+  c.turns.n,
+  finishes (setting_of c.args.self.now) c.args.log.now c.turns.rest.now c.args.steps c.turns.n (state_view c.turns.state) c.turns.invariant.0 c.end_of.result
+      (sym c.slow_width-width.ensures ∙ c.if-width-eq0.true) (sym c.is_empty.ensures ∙ c.if-not-is_empty.false) c.end_of.ensures,
+  c.turns.invariant.1,
+)
+
+pub returns-then-n-steps-clause-more : goal.returns-then-n-steps-clause-more
+returns-then-n-steps-clause-more g c = λ e.
+    takes_more (setting_of c.args.self.now) c.args.log.now c.turns.rest.now c.args.steps c.turns.n (state_view c.turns.state) c.turns.invariant.0
+    (λ none. c.if-width-eq0.false (c.slow_width-width.ensures ∙ none)) c.if-n-steps.true
+
+pub returns-then-choice-width-clause-missing : goal.returns-then-choice-width-clause-missing
+returns-then-choice-width-clause-missing g c = λ e.
+    no_choice (setting_of c.args.self.now) c.args.log.now c.turns.rest.now c.args.steps c.turns.n (state_view c.turns.state) c.turns.invariant.0
+    c.next_choice-choice.result.0 c.next_choice-choice.result.1.now c.next_choice-choice.ensures.next
+    (λ none. c.if-width-eq0.false (c.slow_width-width.ensures ∙ none)) c.if-n-steps.false
+    (subst (λ (width : ℕ). width ≤ c.next_choice-choice.result.0) c.slow_width-width.ensures c.if-choice-width.true)
+
+pub turns-preserved : goal.turns-preserved
+turns-preserved g c =
+    let setting = setting_of c.args.self.now in
+    let here = c.turns.invariant.0 in
+    let choice = c.next_choice-choice.result.0 in
+    let later = c.next_choice-choice.result.1.now in
+    let lt : choice < length (choices (state_view c.turns.state)) =
+    subst (λ (width : ℕ). choice < width) c.slow_width-width.ensures c.if-choice-width.false in
+    let at = at_next setting c.args.log.now c.turns.rest.now c.args.steps c.turns.n (state_view c.turns.state) here choice later c.next_choice-choice.ensures.next
+    (state_view c.in_ok-after.after) c.if-n-steps.false lt c.next_choice-choice.ensures.lawful (ap (λ (turn : Turn). turn.state) c.in_ok-after.ensures) in
+    let items : given_by setting c.args.log.now c.turns.n ++ item_views c.deref-in-turns.result.now ≡ given_by setting c.args.log.now (c.turns.n + 1) =
+    given_next setting c.args.log.now c.turns.rest.now c.args.steps c.turns.n (state_view c.turns.state) here choice later c.next_choice-choice.ensures.next
+    (item_views c.deref-in-turns.result.now)
+    (ap (λ (turn : Turn). turn.items) c.in_ok-after.ensures ∙ sym (ap item_views c.deref-in-turns.ensures.value)) in (
+      at,
+      subst (λ (xs : List HistoryItem). g.S.Sink.takes c.args.sink.now xs c.hand-in-turns.new.sink) items
+          (g.met.S.Sink.joins c.args.sink.now c.turns.sink c.hand-in-turns.new.sink (given_by setting c.args.log.now c.turns.n) (item_views c.deref-in-turns.result.now)
+          c.turns.invariant.1 c.in_ok-hand-2.ensures.ok),
+    )
