@@ -1,14 +1,14 @@
 -- One piece off the head of a text.
-use Rattle.std.proofs.Common.{◌≡◌, ℕ, zero, suc, ◌+◌, ◌<◌, ◌≤◌, ◌⊎◌, List, [], ◌∷◌, ◌++◌, None, Some, length, take, drop, map, refl, sym, ◌∙◌, ap, subst, arith, inl, inr, append_assoc}
+use Rattle.std.proofs.Common.{◌≡◌, ℕ, zero, suc, ◌+◌, ◌<◌, ◌≤◌, ◌⊎◌, List, [], ◌∷◌, ◌++◌, None, Some, length, take, drop, map, refl, sym, ◌∙◌, ap, subst, arith, inl, inr, append_assoc, All}
 use Rattle.std.proofs.lemmas.List.{drop-drop, length-drop, append-nil, map-append}
 use Rattle.std.proofs.Math.ListN.{drop_of_length-le}
-use Rattle.std.proofs.lemmas.List.Elements.{All-nil, All-cons, All-append}
+use Rattle.std.proofs.lemmas.List.Elements.{All-nil, All-cons}
 use Rattle.vlex.specs.declared.form.Form.{Form}
 use Rattle.vlex.specs.declared.form.Form.TheVariants.{Blank, Comment, Token}
 use Rattle.vlex.specs.declared.list.Span.{Span}
 use Rattle.vlex.specs.Lexed.{IsFront, IsStuck, Lexed, Piece}
 use Rattle.vlex.specs.Lexed.Lexed.{done, blank, comment, token}
-use Rattle.vlex.specs.Tokenized.{piece_at, spans_of, AreWithin}
+use Rattle.vlex.specs.Tokenized.{piece_at, spans_of, AreInOrder}
 use Rattle.vlex.proofs.Pieces.{longest_of_front, same_length, same_form}
 
 -- the token that a piece is, if it is one
@@ -76,13 +76,31 @@ pieces_grow text spans Blank at len = map-append (piece_at text) spans []
 pieces_grow text spans Comment at len = map-append (piece_at text) spans []
 pieces_grow text spans (Token kind) at len = map-append (piece_at text) spans (record { start = at; len = len; kind = kind } ∷ [])
 
-pub spans_within : (text : List ℕ) (spans : List Span) (form : Form) (at len : ℕ) → at + len ≤ length text → AreWithin text spans → AreWithin text (spans ++ spans_of form at len)
-spans_within text spans Blank at len within all = subst (AreWithin text) (sym (append-nil spans)) all
-spans_within text spans Comment at len within all = subst (AreWithin text) (sym (append-nil spans)) all
-spans_within text spans (Token kind) at len within all =
-    let P : Span → Type 0 = λ span. span.start + span.len ≤ length text in
-    let span : Span = record { start = at; len = len; kind = kind } in
-    All-append P spans (span ∷ []) all (All-cons P span [] within (All-nil P))
+-- spans that end by one place end by a later one
+pub in_order_more : (from : ℕ) (spans : List Span) (at to : ℕ) → at ≤ to → AreInOrder from spans at → AreInOrder from spans to
+in_order_more from [] at to le h = omega arith
+in_order_more from (span ∷ spans) at to le h = (h.0, in_order_more (span.start + span.len) spans at to le h.1)
+
+in_order_push : (from : ℕ) (spans : List Span) (span : Span) (at : ℕ) → AreInOrder from spans at → at ≤ span.start → AreInOrder from (spans ++ span ∷ []) (span.start + span.len)
+in_order_push from [] span at h le = (omega arith, omega arith)
+in_order_push from (first ∷ spans) span at h le = (h.0, in_order_push (first.start + first.len) spans span at h.1 le)
+
+-- one more piece stands behind the tokens so far
+pub order_grows : (spans : List Span) (form : Form) (at len : ℕ) → AreInOrder 0 spans at → AreInOrder 0 (spans ++ spans_of form at len) (at + len)
+order_grows spans Blank at len h =
+    let P : List Span → Type 0 = λ ss. AreInOrder 0 ss (at + len) in subst P (sym (append-nil spans)) (in_order_more 0 spans at (at + len) (omega arith) h)
+order_grows spans Comment at len h =
+    let P : List Span → Type 0 = λ ss. AreInOrder 0 ss (at + len) in subst P (sym (append-nil spans)) (in_order_more 0 spans at (at + len) (omega arith) h)
+order_grows spans (Token kind) at len h = in_order_push 0 spans (record { start = at; len = len; kind = kind }) at h (omega arith)
+
+in_order_le : (from : ℕ) (spans : List Span) (to : ℕ) → AreInOrder from spans to → from ≤ to
+in_order_le from [] to h = h
+in_order_le from (span ∷ spans) to h = omega (arith, h.0, in_order_le (span.start + span.len) spans to h.1)
+
+pub all_within : (from : ℕ) (spans : List Span) (to : ℕ) → AreInOrder from spans to → All (λ span. span.start + span.len ≤ to) spans
+all_within from [] to h = All-nil (λ span. span.start + span.len ≤ to)
+all_within from (span ∷ spans) to h =
+    All-cons (λ s. s.start + s.len ≤ to) span spans (in_order_le (span.start + span.len) spans to h.1) (all_within (span.start + span.len) spans to h.1)
 
 pub goes_onward : (text : List ℕ) (spans : List Span) (form : Form) (at len : ℕ) (pieces : List Piece) → IsFront (drop at text) form len
     → ((left : List Piece) → Lexed (drop at text) left → Lexed text (map (piece_at text) spans ++ left))

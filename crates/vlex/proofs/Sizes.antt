@@ -36,9 +36,10 @@ decimal_not_apostrophe d digit = elim (cases_Bool (nat_eq d 39)) [
 position_split : (ds zs : List ℕ) → list_all (is_in Decimals) ds ≡ true → position_or_len is_apostrophe (ds ++ 39 ∷ zs) ≡ length ds
 position_split [] zs all = refl
 position_split (d ∷ ds) zs all =
-    let later : position_or_len is_apostrophe (ds ++ 39 ∷ zs) ≡ length ds = position_split ds zs (right_of_and _ _ all) in
+    let later : position_or_len is_apostrophe (ds ++ 39 ∷ zs) ≡ length ds = position_split ds zs (right_of_and (is_in Decimals d) (list_all (is_in Decimals) ds) all) in
     let here : nat_eq d 39 ≡ false = decimal_not_apostrophe d (left_of_and _ _ all) in
-    ap (λ b. cond (not b) (1 + position_or_len is_apostrophe (ds ++ 39 ∷ zs)) 0) here ∙ omega (arith, later)
+    let sum : 1 + position_or_len is_apostrophe (ds ++ 39 ∷ zs) ≡ suc (length ds) = omega (arith, later) in
+    ap (λ b. cond (not b) (1 + position_or_len is_apostrophe (ds ++ 39 ∷ zs)) 0) here ∙ sum
 
 -- the digits before the first apostrophe, and what stands behind it
 before_split : (ds zs : List ℕ) → list_all (is_in Decimals) ds ≡ true → before_first is_apostrophe (ds ++ 39 ∷ zs) ≡ ds

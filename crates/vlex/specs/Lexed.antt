@@ -1,5 +1,5 @@
 -- The relation between a text and its tokens (IEEE 1364-2005, clause 3).
-use Rattle.std.specs.Prelude.{◌≡◌, ℕ, ◌<◌, ◌≤◌, Bool, true, false, ◌==◌, ◌&&◌, ◌||◌, not, List, [], ◌∷◌, None, Some, length, take, drop, slice_index, ◌⊎◌}
+use Rattle.std.specs.Prelude.{◌≡◌, ℕ, ◌+◌, ◌<◌, ◌≤◌, Bool, true, false, ◌==◌, ◌&&◌, ◌||◌, not, List, [], ◌∷◌, None, Some, length, take, drop, slice_index, ◌⊎◌}
 use Rattle.vsrc.specs.Source.{Source, place_of}
 use Rattle.vlex.specs.declared.bytes.Set.TheVariants.{Words}
 use Rattle.vlex.specs.declared.form.Form.{Form}
@@ -70,8 +70,19 @@ HasNoTokens text (NotEnded place) = (pieces : List Piece) → Lexed text pieces 
 HasNoTokens text (BadToken place) = (pieces : List Piece) → Lexed text pieces → ⊥
 HasNoTokens text Memory = Unit {0}
 
--- what each fault says of the text: from some place on no piece stands
+-- the pieces from the head of the text on go up to this place
+pub data Reaches (text : List ℕ) : ℕ → Type 0 where
+  start : Reaches text 0
+  next : (at : ℕ) (form : Form) (len : ℕ) → Reaches text at → IsFront (drop at text) form len → Reaches text (at + len)
+
+-- the pieces go up to a place within the text, and no piece stands there
+pub record StopsAt (text : List ℕ) (at : ℕ) : Type 0 where
+  pub reached : Reaches text at
+  pub within : at < length text
+  pub stuck : IsStuck (drop at text)
+
+-- what each fault says of the text: where its pieces stop a comment or a string is open, or not
 abbrev pub IsReason : Source → LexFault → Type 0
-IsReason source (NotEnded place) = (at : ℕ) × ((place ≡ place_of source at) × IsStuck (drop at source.text) × IsOpen (drop at source.text))
-IsReason source (BadToken place) = (at : ℕ) × ((place ≡ place_of source at) × IsStuck (drop at source.text) × ¬ IsOpen (drop at source.text))
+IsReason source (NotEnded place) = (at : ℕ) × (StopsAt source.text at × (place ≡ place_of source at) × IsOpen (drop at source.text))
+IsReason source (BadToken place) = (at : ℕ) × (StopsAt source.text at × (place ≡ place_of source at) × ¬ IsOpen (drop at source.text))
 IsReason source Memory = Unit {0}

@@ -27,6 +27,11 @@ start_of t index = unwrap_or (option_map (λ span. span.start) (slice_get t.span
 abbrev pub AreWithin : List ℕ → List Span → Type 0
 AreWithin text spans = All (λ span. span.start + span.len ≤ length text) spans
 
+-- the spans stand in order between two places, none over another
+abbrev pub AreInOrder : ℕ → List Span → ℕ → Type 0
+AreInOrder from [] to = from ≤ to
+AreInOrder from (span ∷ spans) to = (from ≤ span.start) × AreInOrder (span.start + span.len) spans to
+
 -- the span of a piece, if it is a token
 abbrev pub spans_of : Form → ℕ → ℕ → List Span
 spans_of Blank at len = []

@@ -11,6 +11,8 @@ mod kind;
 mod lexer;
 mod list;
 mod number;
+#[cfg(test)]
+mod tests;
 mod text;
 
 pub use fault::LexFault;

@@ -7,6 +7,8 @@ mod expanded;
 mod fault;
 mod files;
 mod outside;
+#[cfg(test)]
+mod tests;
 
 pub use expanded::{Expanded, Place, Scale, Unit};
 pub use fault::SrcFault;

@@ -1,11 +1,15 @@
-use Rattle.std.proofs.Common.{◌≡◌, ◌+◌, ◌++◌, ◌≤◌, List, ℕ, length, drop, map, arith, ap, sym, ◌∙◌, subst}
+use Rattle.std.proofs.Common.{rules, ◌≡◌, ◌+◌, ◌++◌, ◌≤◌, List, ℕ, length, drop, map, arith, ap, sym, ◌∙◌, subst}
 use Rattle.std.proofs.lemmas.List.{length-drop}
 use Rattle.vlex.specs.declared.form.Form.{Form}
 use Rattle.vlex.specs.declared.list.Span.{Span}
+use Rattle.vlex.specs.Lexed.Reaches.{start, next}
 use Rattle.vlex.specs.Lexed.{Lexed, Piece, IsFront}
-use Rattle.vlex.specs.Tokenized.{Tokenized, piece_at, pieces_of, spans_of, AreWithin}
-use Rattle.vlex.proofs.Cuts.{spans_within, goes_onward, goes_back, all_lexed, only_lexed, none_lexed}
+use Rattle.vlex.specs.Tokenized.{Tokenized, piece_at, pieces_of, spans_of, AreWithin, AreInOrder}
+use Rattle.vlex.proofs.Cuts.{order_grows, in_order_more, all_within, goes_onward, goes_back, all_lexed, only_lexed, none_lexed}
 use Rattle.vlex.proofs.lexer.tokens.Goals as goal
+
+pub loop-at-init : goal.loop-at-init
+loop-at-init c = record { within = search rules; reached = start; order = search rules; onward = search rules; back = search rules }
 
 pub loop-at-preserved : goal.loop-at-preserved
 loop-at-preserved c =
@@ -18,9 +22,11 @@ loop-at-preserved c =
     let front : IsFront (drop at text) form len = subst Front c.split_at.ensures.back c.in-Piece.ensures in
     let pushed : c.push_piece.new.spans.items ≡ spans ++ spans_of form at len = c.in_ok-push_piece-in-Piece.ensures in
     let within : at + len ≤ length text = omega (arith, front.within, length-drop at text) in
+    let Order : List Span → Type 0 = λ ss. AreInOrder 0 ss (at + len) in
     record {
       within = within;
-      spans = subst (AreWithin text) (sym pushed) (spans_within text spans form at len within c.loop-at.invariant.spans);
+      reached = next at form len c.loop-at.invariant.reached front;
+      order = subst Order (sym pushed) (order_grows spans form at len c.loop-at.invariant.order);
       onward = λ pieces l.
           let P : List Span → Type 0 = λ ss. Lexed text (map (piece_at text) ss ++ pieces) in
           subst P (sym pushed) (goes_onward text spans form at len pieces front c.loop-at.invariant.onward l);
@@ -55,3 +61,17 @@ returns-clause-only c = λ others l.
     let P : List ℕ → Type 0 = λ t. Lexed t others in
     only_lexed text spans c.loop-at.at others c.loop-at-test.false (c.loop-at.invariant.back others (subst P (sym c.text-text.ensures.value) l))
     ∙ ap (λ t. map (piece_at t) spans) c.text-text.ensures.value ∙ ap pieces_of (sym c.new.ensures)
+
+pub new-requires : goal.new-requires
+new-requires c =
+    let P : List ℕ → Type 0 = λ t. AreWithin t c.loop-at.spans.items in
+    subst P c.text-text.ensures.value
+    (all_within 0 c.loop-at.spans.items (length c.text-text.result.now)
+    (in_order_more 0 c.loop-at.spans.items c.loop-at.at (length c.text-text.result.now) c.loop-at.invariant.within c.loop-at.invariant.order))
+
+pub returns-clause-order : goal.returns-clause-order
+returns-clause-order c =
+    let P : List ℕ → Type 0 = λ t. AreInOrder 0 c.loop-at.spans.items (length t) in
+    let Q : Tokenized → Type 0 = λ t. AreInOrder 0 t.spans (length c.args.source.now.text) in
+    subst Q (sym c.new.ensures)
+    (subst P c.text-text.ensures.value (in_order_more 0 c.loop-at.spans.items c.loop-at.at (length c.text-text.result.now) c.loop-at.invariant.within c.loop-at.invariant.order))

@@ -1,13 +1,14 @@
 use Rattle.std.proofs.Common.{◌≡◌, ◌-◌, ◌≤◌, ◌++◌, List, length, drop, map}
-use Rattle.vlex.specs.Lexed.{Lexed, Piece}
-use Rattle.vlex.specs.Tokenized.{piece_at, AreWithin}
+use Rattle.vlex.specs.Lexed.{Lexed, Piece, Reaches}
+use Rattle.vlex.specs.Tokenized.{piece_at, AreInOrder}
 use Rattle.vlex.proofs.lexer.tokens.Given as goal
 
 -- the tokens so far and those of what is left are those of the whole, and the other way round
 abbrev pub invariant-loop-at : goal.invariant-loop-at
 invariant-loop-at l = record {
   within : l.at ≤ length l.text;
-  spans : AreWithin l.text l.spans.items;
+  reached : Reaches l.text l.at;
+  order : AreInOrder 0 l.spans.items l.at;
   onward : (pieces : List Piece) → Lexed (drop l.at l.text) pieces → Lexed l.text (map (piece_at l.text) l.spans.items ++ pieces);
   back : (pieces : List Piece) → Lexed l.text pieces → (left : List Piece) × ((pieces ≡ map (piece_at l.text) l.spans.items ++ left) × Lexed (drop l.at l.text) left);
 }
