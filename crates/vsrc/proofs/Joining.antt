@@ -1,14 +1,15 @@
 -- Adding a file to a text that is joined, and where its borders stand.
-use Rattle.std.proofs.Common.{◌≡◌, ℕ, zero, suc, ◌+◌, ◌<◌, ◌≤◌, List, [], ◌∷◌, ◌++◌, length, drop, map, get_or, refl, sym, ◌∙◌, ap, subst, arith, append_assoc}
+use Rattle.std.proofs.Common.{◌≡◌, ℕ, zero, suc, ◌+◌, ◌<◌, ◌≤◌, List, [], ◌∷◌, ◌++◌, length, take, drop, map, get_or, refl, sym, ◌∙◌, ap, subst, arith, append_assoc}
 use Rattle.std.specs.List.{flat_map, All}
 use Rattle.std.specs.List.Sorted.{IsNonDecreasing}
-use Rattle.std.proofs.lemmas.List.{length-append}
+use Rattle.std.proofs.lemmas.List.{length-append, append-nil}
+use Rattle.std.proofs.lemmas.Grind.{flat_map-append}
 use Rattle.std.proofs.lemmas.List.Elements.{All-nil, All-cons}
 use Rattle.memchr.specs.Find.{is_byte, places}
 use Rattle.vsrc.specs.declared.fault.SrcFault.{SrcFault}
 use Rattle.vsrc.specs.declared.fault.SrcFault.TheVariants.{NotYet, Growth, Memory}
-use Rattle.vsrc.specs.Expansion.{IsGrowth}
-use Rattle.vsrc.specs.Source.{joined, borders_of, borders_from, IsIndexed}
+use Rattle.vsrc.specs.Expansion.{IsGrowth, IsJoinReason}
+use Rattle.vsrc.specs.Source.{joined, borders_of, borders_from, IsIndexed, text_limit}
 use Rattle.vsrc.proofs.Counting.{rises-cons, places_sorted}
 
 -- a file and the line feed before it
@@ -37,18 +38,44 @@ borders_grow whole borders text file files i here h =
     ∙ ap (λ n. borders ++ length text ∷ borders_from n (drop (i + 1) files)) len
     ∙ sym (ap (λ l. borders ++ borders_from (length text) l) here) ∙ h
 
--- the file and the line feed before it fit the whole
-pub text_fits : (whole text file : List ℕ) (files : List (List ℕ)) (i : ℕ) → drop i files ≡ file ∷ drop (i + 1) files
-    → text ++ flat_map after_feed (drop i files) ≡ whole → length text + 1 + length file ≤ length whole
-text_fits whole text file files i here h =
-    let all : length (text ++ (after_feed file ++ flat_map after_feed (drop (i + 1) files))) ≡ length whole =
-    ap length (sym (ap (λ l. text ++ flat_map after_feed l) here) ∙ h) in
-    omega (arith, simp length-append at all)
+take_next : (files : List (List ℕ)) (i : ℕ) (file : List ℕ) (later : List (List ℕ)) → drop i files ≡ file ∷ later → take (i + 1) files ≡ take i files ++ file ∷ []
+take_next files zero file later here = ap (take 1) here
+take_next [] (suc i) file later here = cc
+take_next (x ∷ xs) (suc i) file later here =
+    let sum : suc i + 1 ≡ suc (i + 1) = omega arith in ap (λ n. take n (x ∷ xs)) sum ∙ ap (λ l. x ∷ l) (take_next xs i file later here)
 
-pub grows_more : (a b : ℕ) (fault : SrcFault) → a ≤ b → IsGrowth a fault → IsGrowth b fault
-grows_more a b (NotYet place) le h = h
-grows_more a b (Growth place) le h = omega arith
-grows_more a b Memory le h = tt
+regroup : (first made file : List ℕ) → first ++ (made ++ ((10 ∷ file) ++ [])) ≡ ((first ++ made) ++ 10 ∷ []) ++ file
+regroup first made file = simp (append_assoc, append-nil)
+
+joined_more : (first file : List ℕ) (files later : List (List ℕ)) (i : ℕ) → drop i files ≡ file ∷ later
+    → joined (take (i + 1 + 1) (first ∷ files)) ≡ (joined (take (i + 1) (first ∷ files)) ++ 10 ∷ []) ++ file
+joined_more first file files later i here =
+    let more : i + 1 + 1 ≡ suc (i + 1) = omega arith in
+    let one : suc i ≡ i + 1 = omega arith in
+    ap (λ n. joined (take n (first ∷ files))) more ∙ ap (λ l. first ++ flat_map after_feed l) (take_next files i file later here)
+    ∙ ap (λ l. first ++ l) (flat_map-append after_feed (take i files) (file ∷ [])) ∙ regroup first (flat_map after_feed (take i files)) file
+    ∙ ap (λ n. (joined (take n (first ∷ files)) ++ 10 ∷ []) ++ file) one
+
+-- the text so far, with one more file
+pub joined_next : (all : List (List ℕ)) (first file : List ℕ) (files later : List (List ℕ)) (text : List ℕ) (i : ℕ) → all ≡ first ∷ files → drop i files ≡ file ∷ later
+    → text ≡ joined (take (i + 1) all) → joined (take (i + 1 + 1) all) ≡ (text ++ 10 ∷ []) ++ file
+joined_next all first file files later text i whole here sofar =
+    ap (λ fs. joined (take (i + 1 + 1) fs)) whole ∙ joined_more first file files later i here
+    ∙ ap (λ l. (l ++ 10 ∷ []) ++ file) (ap (λ fs. joined (take (i + 1) fs)) (sym whole) ∙ sym sofar)
+
+-- why a file isn't joined, told of all the files
+pub overflows_at : (files : List (List ℕ)) (text : List ℕ) (n len file : ℕ) (fault : SrcFault) → text ≡ joined (take n files) → length text ≤ text_limit
+    → len ≡ length (joined (take (n + 1) files)) → file ≡ n + 1 → IsGrowth len file fault → IsJoinReason files fault
+overflows_at files text n len file (NotYet place) made short sum number h = h
+overflows_at files text n len file (Growth place) made short sum number h = (
+  n,
+  record {
+    place_is = h.1 ∙ ap (λ k. record { file = k; line = 1 }) number;
+    before = omega (arith, ap length made);
+    behind = omega (arith, h.0);
+  },
+)
+overflows_at files text n len file Memory made short sum number h = tt
 
 borders_low : (end : ℕ) (files : List (List ℕ)) (least : ℕ) → least ≤ end → All (λ b. least ≤ b) (borders_from end files)
 borders_low end [] least le = All-nil (λ b. least ≤ b)
@@ -78,7 +105,7 @@ borders_within (file ∷ files) =
 
 -- what files make is indexed by their borders and the places of the line feeds
 pub joined_indexed : (files : List (List ℕ)) (text borders feeds : List ℕ) → text ≡ joined files → borders ≡ borders_of files → feeds ≡ places (is_byte 10) text
-    → length text ≤ 33554432 → IsIndexed text borders feeds
+    → length text ≤ text_limit → IsIndexed text borders feeds
 joined_indexed files text borders feeds made cut all short =
     let Within : List ℕ → List ℕ → Type 0 = λ t bs. All (λ b. b < length t) bs in
     let within : Within text borders = rw (made, cut) (borders_within files) in

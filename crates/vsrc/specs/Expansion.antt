@@ -1,6 +1,7 @@
 -- When files are expanded, and why they aren't.
-use Rattle.std.specs.Prelude.{◌≡◌, ℕ, ◌<◌, List, length}
-use Rattle.vsrc.specs.Source.{joined, source_of, place_of}
+use Rattle.std.specs.Prelude.{◌≡◌, ℕ, ◌+◌, ◌<◌, ◌≤◌, List, length, take}
+use Rattle.vsrc.specs.Source.{joined, source_of, place_of, text_limit}
+use Rattle.vsrc.specs.declared.expanded.Place.{Place}
 use Rattle.vsrc.specs.Outside.{IsFirstTick}
 use Rattle.vsrc.specs.declared.fault.SrcFault.{SrcFault}
 use Rattle.vsrc.specs.declared.fault.SrcFault.TheVariants.{NotYet, Growth, Memory}
@@ -9,14 +10,26 @@ use Rattle.vsrc.specs.declared.fault.SrcFault.TheVariants.{NotYet, Growth, Memor
 abbrev pub HasNoTick : List ℕ → Type 0
 HasNoTick text = (at : ℕ) → IsFirstTick text at → ⊥
 
--- a text of this length is too long, or memory ran out
-abbrev pub IsGrowth : ℕ → SrcFault → Type 0
-IsGrowth len (NotYet place) = ⊥
-IsGrowth len (Growth place) = 33554432 < len
-IsGrowth len Memory = Unit {0}
+-- The file after the first n is the one with which the text gets too long: it is told by its first line.
+pub record Overflows (files : List (List ℕ)) (place : Place) (n : ℕ) : Type 0 where
+  pub place_is : place ≡ record { file = n + 1; line = 1 }
+  pub before : length (joined (take n files)) ≤ text_limit
+  pub behind : text_limit < length (joined (take (n + 1) files))
 
 -- what each fault says of the files
 abbrev pub IsReason : List (List ℕ) → SrcFault → Type 0
 IsReason files (NotYet place) = (at : ℕ) × IsFirstTick (joined files) at × (place ≡ place_of (source_of files) at)
-IsReason files (Growth place) = 33554432 < length (joined files)
+IsReason files (Growth place) = (n : ℕ) × Overflows files place n
 IsReason files Memory = Unit {0}
+
+-- what joining the files may answer
+abbrev pub IsJoinReason : List (List ℕ) → SrcFault → Type 0
+IsJoinReason files (NotYet place) = ⊥
+IsJoinReason files (Growth place) = (n : ℕ) × Overflows files place n
+IsJoinReason files Memory = Unit {0}
+
+-- a text of this length is too long with this file, or memory ran out
+abbrev pub IsGrowth : ℕ → ℕ → SrcFault → Type 0
+IsGrowth len file (NotYet place) = ⊥
+IsGrowth len file (Growth place) = (text_limit < len) × (place ≡ record { file = file; line = 1 })
+IsGrowth len file Memory = Unit {0}

@@ -7,6 +7,10 @@ use Rattle.vsrc.specs.declared.expanded.Place.{Place}
 use Rattle.vsrc.specs.declared.expanded.Scale.{Scale}
 use Rattle.vsrc.specs.declared.expanded.Unit.TheVariants.{Nanosecond}
 
+-- the most bytes that a text may have, 2 ^ 25
+abbrev pub text_limit : ℕ
+text_limit = 33554432
+
 -- a text, the places of the line feeds that were put between its files, and its timescale
 pub record Source : Type 0 where
   pub text : List ℕ
@@ -47,10 +51,10 @@ place_of source at = record {
   line = 1 + count_by (is_byte 10) (drop (file_start 0 source.borders at) (take at source.text));
 }
 
--- borders rise and stand in the text; feeds are the places of all its line feeds; the text has at most 2 ^ 25 bytes
+-- borders rise and stand in the text; feeds are the places of all its line feeds; the text is not too long
 pub record IsIndexed (text borders feeds : List ℕ) : Type 0 where
   pub rising : IsNonDecreasing borders
   pub within : (k : ℕ) → k < length borders → slice_index borders k < length text
   pub feeds_rising : IsNonDecreasing feeds
   pub all : feeds ≡ places (is_byte 10) text
-  pub short : length text ≤ 33554432
+  pub short : length text ≤ text_limit

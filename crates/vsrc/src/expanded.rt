@@ -1,6 +1,6 @@
 ghost use Rattle.std.specs.Prelude.{◌≡◌, ℕ, ◌≤◌, length, codes};
 ghost use Rattle.std.specs.List.Sorted.{IsNonDecreasing};
-ghost use Rattle.vsrc.specs.Source.{count_below};
+ghost use Rattle.vsrc.specs.Source.{count_below, text_limit};
 
 use std::marker::Model;
 
@@ -80,7 +80,7 @@ impl Expanded {
     /// The whole text.
     pub fn text(&self) -> &[u8]
         ensures value { result.now ≡ self.now.text }
-        ensures short { length result.now ≤ 33554432 }
+        ensures short { length result.now ≤ text_limit }
     {
         self.text.as_slice()
     }

@@ -1,7 +1,7 @@
 ghost use Rattle.std.specs.Prelude.{◌≡◌, ◌≤◌, ◌+◌, ◌++◌, ◌∷◌, ℕ, length, map, IfOk, IfErr, OnOk, OnErr};
 ghost use Rattle.memchr.specs.Find.{is_byte, places};
-ghost use Rattle.vsrc.specs.Expansion.{HasNoTick, IsReason, IsGrowth};
-ghost use Rattle.vsrc.specs.Source.{joined, borders_of, source_of};
+ghost use Rattle.vsrc.specs.Expansion.{HasNoTick, IsReason, IsJoinReason, IsGrowth};
+ghost use Rattle.vsrc.specs.Source.{joined, borders_of, source_of, text_limit};
 
 use crate::expanded::{Expanded, Place, Scale, Unit};
 use crate::fault::SrcFault;
@@ -40,8 +40,8 @@ pub fn expand(alloc: Global, files: &[Vec<u8>]) -> Result<Expanded, SrcFault>
 fn join(alloc: Global, files: &[Vec<u8>]) -> Result<(Vec<u8>, Vec<usize>), SrcFault>
     ensures text { IfOk result (λ made. made.0.items ≡ joined (map (λ file. file.items) files.now)) }
     ensures borders { IfOk result (λ made. made.1.items ≡ borders_of (map (λ file. file.items) files.now)) }
-    ensures short { IfOk result (λ made. length made.0.items ≤ 33554432) }
-    ensures err { IfErr result (λ fault. IsGrowth (length (joined (map (λ file. file.items) files.now))) fault) }
+    ensures short { IfOk result (λ made. length made.0.items ≤ text_limit) }
+    ensures err { IfErr result (λ fault. IsJoinReason (map (λ file. file.items) files.now) fault) }
 {
     let mut text = Vec::new(alloc);
     let mut borders = Vec::new(alloc);
@@ -58,11 +58,11 @@ fn join(alloc: Global, files: &[Vec<u8>]) -> Result<(Vec<u8>, Vec<usize>), SrcFa
 
 // Adds a file at the end, with what leads it.
 fn append(text: &mut Vec<u8>, lead: &[u8], bytes: &[u8], file: usize) -> Result<(), SrcFault>
-    requires old { length text.old.items ≤ 33554432 }
+    requires old { length text.old.items ≤ text_limit }
     requires lead { length lead.now ≤ 1 }
     ensures ok { OnOk result (text.new.items ≡ (text.old.items ++ lead.now) ++ bytes.now) }
-    ensures short { OnOk result (length text.new.items ≤ 33554432) }
-    ensures err { IfErr result (λ fault. IsGrowth (length text.old.items + length lead.now + length bytes.now) fault) }
+    ensures short { OnOk result (length text.new.items ≤ text_limit) }
+    ensures err { IfErr result (λ fault. IsGrowth (length text.old.items + length lead.now + length bytes.now) file fault) }
 {
     if bytes.len() > LIMIT || text.len() + lead.len() > LIMIT - bytes.len() {
         return Err(SrcFault::Growth {
