@@ -11,7 +11,10 @@ use Rattle.vmodel.specs.History.{HistoryItem}
 use Rattle.vmodel.specs.declared.history.End.{End}
 use Rattle.vmodel.specs.Step.{Turn, next}
 use Rattle.vmodel.specs.Run.{Setting, rules_of, opening_of, state_after, given_by, end_of}
-use Rattle.vmodel.specs.Played.{Finishes, opening_is, width_is, after_is}
+use Rattle.vmodel.specs.declared.run.RunFault.{RunFault}
+use Rattle.vmodel.specs.declared.run.RunFault.TheVariants.{Replay, Sink}
+use Rattle.vmodel.specs.RunViews.{IsOfSink, IfOfSink}
+use Rattle.vmodel.specs.Played.{Finishes, IsUnderway, opening_is, width_is, after_is}
 
 -- after n steps the run stands at the state, this is left of the log, and what was given was taken
 pub record IsAt (setting : Setting) (log rest : List (ℕ × ℕ)) (steps n : ℕ) (state : State) : Type 0 where
@@ -81,3 +84,13 @@ module _ (setting : Setting) (log rest : List (ℕ × ℕ)) (steps n : ℕ) (sta
     given_next items is =
         ap (λ (more : List HistoryItem). given_by setting log n ++ more) (sym is ∙ ap (λ (turn : Turn). turn.items) next_is)
         ∙ ap (given_by setting log) (sym (add-one n))
+
+pub underway : (setting : Setting) (log rest : List (ℕ × ℕ)) (steps n : ℕ) (state : State) → IsAt setting log rest steps n state → IsUnderway setting log steps n
+underway setting log rest steps n state here = record { within = here.within; run = here.run }
+
+pub underway_first : (setting : Setting) (log : List (ℕ × ℕ)) (steps : ℕ) → IsUnderway setting log steps 0
+underway_first setting log steps = record { within = omega arith; run = λ k lt. absurd (omega arith) }
+
+pub of_sink : {F : Type 0} (fault : RunFault F) (P Q : F → Type 0) → ((f : F) → P f → Q f) → IsOfSink P fault → IfOfSink Q fault
+of_sink (Replay fault) P Q step h = tt
+of_sink (Sink fault) P Q step h = step fault h

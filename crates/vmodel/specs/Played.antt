@@ -1,5 +1,6 @@
 -- What the runs of a setting say, step by step.
 use Rattle.std.specs.Prelude.{◌≡◌, ℕ, ◌≤◌, List, length, refl}
+use Rattle.sched_core.specs.Rules.{IsRun}
 use Rattle.sched_core.specs.Replay.{EndsAfter}
 use Rattle.vmodel.specs.declared.history.End.{End}
 use Rattle.vmodel.specs.State.{State}
@@ -12,6 +13,11 @@ pub record Finishes (setting : Setting) (log : List (ℕ × ℕ)) (steps n : ℕ
   pub within : n ≤ steps
   pub ends : EndsAfter (rules_of setting) log n
   pub end_is : end ≡ end_of (state_after setting log n)
+
+-- the run under the log takes n steps, no more than allowed
+pub record IsUnderway (setting : Setting) (log : List (ℕ × ℕ)) (steps n : ℕ) : Type 0 where
+  pub within : n ≤ steps
+  pub run : IsRun (rules_of setting) log n
 
 pub opening_is : (setting : Setting) → (rules_of setting).first ≡ opening_of setting
 unfolding rules_of

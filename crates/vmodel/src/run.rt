@@ -1,12 +1,12 @@
 // The run of a design under a log, step by step, handed on as it goes.
 
-ghost use Rattle.std.specs.Prelude.{◌≡◌, ℕ, IfOk, IfErr, OnOk, IsErrOf};
+ghost use Rattle.std.specs.Prelude.{◌≡◌, ℕ, IfOk, IfErr, OnOk, IsErrOf, take};
 ghost use Rattle.vast.specs.DesignViews.{design_view};
 ghost use Rattle.sched_core.specs.Rules.{IsRun};
 ghost use Rattle.sched_core.specs.Replay.{EndsAfter, IsMissing, TakesMore};
 ghost use Rattle.vmodel.specs.Run.{Setting, rules_of, given_by, end_of as end_of_state, opening_items as items_of_opening};
-ghost use Rattle.vmodel.specs.Played.{Finishes};
-ghost use Rattle.vmodel.specs.RunViews.{IsOfSink};
+ghost use Rattle.vmodel.specs.Played.{Finishes, IsUnderway};
+ghost use Rattle.vmodel.specs.RunViews.{IsOfSink, IfOfSink, IfOfReplay};
 ghost use Rattle.vmodel.specs.StateViews.{state_view, item_views};
 
 use crate::history::{Cause, End, Grain, Item};
@@ -24,17 +24,6 @@ use vast::design::Design;
 pub enum RunFault<F> {
     Replay(ReplayFault),
     Sink(F),
-}
-
-impl<F: Drop> From<AllocError> for RunFault<F> {
-    ghost use Rattle.vmodel.specs.declared.run.RunFault.TheVariants.{Replay};
-    ghost use Rattle.sched_core.specs.declared.run.ReplayFault.TheVariants.{Memory};
-
-    ghost from_gives = { λ _ e. e ≡ Replay Memory };
-
-    fn from(_error: AllocError) -> RunFault<F> {
-        RunFault::Replay(ReplayFault::Memory)
-    }
 }
 
 /// What is run: a design, the time limit in units of the precision, and the grain.
@@ -93,10 +82,16 @@ impl<'d> Run<'d> {
     ) -> Result<End, RunFault<S::Fault>>
         ensures ends { IfOk result (λ end. (n : ℕ) × Finishes (setting_of self.now) log.now steps n end × S.takes sink.old (given_by (setting_of self.now) log.now n) sink.new) }
         ensures missing { IsErrOf result (RunFault.Replay NoSuchChoice) → IsMissing (rules_of (setting_of self.now)) log.now steps }
+        ensures handed { IfErr result (IfOfReplay ((n k : ℕ) × IsUnderway (setting_of self.now) log.now steps n × S.takes sink.old (take k (given_by (setting_of self.now) log.now n)) sink.new)) }
+        ensures failed { IfErr result (IfOfSink (λ fault. (n : ℕ) × IsUnderway (setting_of self.now) log.now steps n × S.fails sink.old (given_by (setting_of self.now) log.now n) fault sink.new)) }
         ensures more { IsErrOf result (RunFault.Replay TooManySteps) → TakesMore (rules_of (setting_of self.now)) log.now steps }
     {
-        let mut state = opening(alloc, self.design, self.until, self.grain)?;
-        let first = opening_items(alloc, &state)?;
+        let Ok(mut state) = opening(alloc, self.design, self.until, self.grain) else {
+            return Err(RunFault::Replay(ReplayFault::Memory));
+        };
+        let Ok(first) = opening_items(alloc, &state) else {
+            return Err(RunFault::Replay(ReplayFault::Memory));
+        };
         hand(sink, &first)?;
         let mut rest = log.members();
         let mut n = 0;
@@ -115,8 +110,13 @@ impl<'d> Run<'d> {
             if choice >= width {
                 return Err(RunFault::Replay(ReplayFault::NoSuchChoice));
             }
-            let (after, items) = slow_step(alloc, &state, choice)?;
-            hand(sink, &items)?;
+            let Ok((after, items)) = slow_step(alloc, &state, choice) else {
+                return Err(RunFault::Replay(ReplayFault::Memory));
+            };
+            match hand(sink, &items) {
+                Ok(()) => {}
+                Err(fault) => return Err(fault),
+            }
             state = after;
             rest = later;
             n += 1;
@@ -127,7 +127,7 @@ impl<'d> Run<'d> {
 // Hands items on.
 fn hand<S: Sink>(sink: &mut S, items: &[Item]) -> Result<(), RunFault<S::Fault>>
     ensures ok { OnOk result (S.takes sink.old (item_views items.now) sink.new) }
-    ensures err { IfErr result IsOfSink }
+    ensures err { IfErr result (IsOfSink (λ fault. S.fails sink.old (item_views items.now) fault sink.new)) }
 {
     match sink.take(items) {
         Ok(()) => Ok(()),
