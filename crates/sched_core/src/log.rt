@@ -74,7 +74,8 @@ impl Log {
 
     /// An equal log.
     pub fn copy(&self) -> Result<Log, AllocError>
-        ensures { IfOk result (λ copy. copy ≡ self.now) }
+        ensures equal { IfOk result (λ copy. copy ≡ self.now) }
+        ensures lawful { IsLog self.now }
     {
         Ok(Log {
             members: self.members.clone()?,

@@ -12,7 +12,7 @@ use Rattle.statebook.specs.ExplorerCore.Event.{Add, Finish, Give, Take, Open, Sh
 use Rattle.statebook.proofs.RunLemmas.{departs, used, used-le, used_grows, is_station_same, mark_is_station, GoesAlong, along}
 
 -- places of a list, as it grows
-slice_get-front : {X : Type 0} (xs ys : List X) (i : ℕ) (x : X) → slice_get xs i ≡ Some x → slice_get (xs ++ ys) i ≡ Some x
+pub slice_get-front : {X : Type 0} (xs ys : List X) (i : ℕ) (x : X) → slice_get xs i ≡ Some x → slice_get (xs ++ ys) i ≡ Some x
 slice_get-front [] ys i x e = absurd cc
 slice_get-front (y ∷ xs) ys zero x e = e
 slice_get-front (y ∷ xs) ys (suc i) x e = slice_get-front xs ys i x e

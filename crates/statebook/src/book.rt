@@ -1,4 +1,4 @@
-ghost use Rattle.std.specs.Prelude.{◌≡◌, ◌≢◌, ℕ, ◌<◌, ◌≤◌, ◌↔◌, true, false, length, slice_get, map, Contains, Some, None, IsTrue, IsSome, IfSome, IfNone, IfOk, IfErr, OnOk, OnErr, option_copied};
+ghost use Rattle.std.specs.Prelude.{◌≡◌, ℕ, List, ◌<◌, ◌≤◌, ◌↔◌, true, false, length, slice_get, map, Contains, Some, None, IsTrue, IsSome, IfSome, IfNone, IfOk, IfErr, OnOk, OnErr, option_copied};
 ghost use Rattle.statebook.specs.Books.{AllClosed, AllIn, Book, Dominates, IsClosed, IsClosedAt, IsRootAt, IsUndominated, Meets, alike, finish, no_entries, places_of};
 ghost use Rattle.statebook.specs.declared.entry.Entry.{Entry};
 
@@ -196,7 +196,7 @@ impl<S: Eq + Hash + Drop> PlainBook<S> {
         requires { done.entry < length self.old.entries }
         ensures ok { OnOk result ((slice_get self.old.finished done.entry ≡ Some None) × (self.new ≡ finish self.old done.entry done.next.items)) }
         ensures handed_back { IfErr result (λ back. back ≡ done) }
-        ensures twice { OnErr result (slice_get self.old.finished done.entry ≢ Some None) }
+        ensures twice { OnErr result ((places : List ℕ) × (slice_get self.old.finished done.entry ≡ Some (Some places))) }
         ensures err { OnErr result (self.new ≡ self.old) }
     {
         if self.finished[done.entry].is_some() {

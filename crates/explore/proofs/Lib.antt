@@ -1,0 +1,7 @@
+pub mod WayLemmas
+pub mod NextLemmas
+pub mod VisitLemmas
+pub mod ClassLemmas
+pub mod CloseLemmas
+pub mod MarkLemmas
+pub mod AloneLemmas

@@ -1,0 +1,196 @@
+-- What meeting a book with the successors of an entry keeps.
+use Rattle.std.proofs.Common.{◌≡◌, ℕ, ◌+◌, ◌<◌, ◌≤◌, zero, suc, Bool, true, false, List, [], ◌∷◌, ◌++◌, length, length-append, slice_get, slice_set, Option, Some, None, arith, ap, refl, sym, ◌∙◌, subst, ◌⊎◌, inl, inr, Result, Ok, Err, OnOk, OnErr}
+use Rattle.std.specs.Cmp.{IsEquivalence}
+use Rattle.std.proofs.lemmas.Option.{same_Some, slice_get_within}
+use Rattle.sched_core.specs.Rules.{Rules, IsLawful, stands}
+use Rattle.statebook.specs.Stations.{forced}
+use Rattle.statebook.specs.Books.{Book, Dominates, IsRootAt, add, finish}
+use Rattle.statebook.specs.ExplorerCore.{IsEntry, IsMet, AllMet, choices_of, budget_after}
+use Rattle.statebook.specs.declared.entry.Entry.{Entry}
+use Rattle.statebook.proofs.CoreLemmas.{slice_get-front, sound_add, sound_finish}
+use Rattle.statebook.proofs.BookLemmas.{place_of_more}
+use Rattle.explore.specs.Exploring.{Follows, Grows, IsFinished, IsFoundAt, IsSameOrAdded, IsUnderWay}
+
+last_place : {X : Type 0} (xs : List X) (x : X) → slice_get (xs ++ x ∷ []) (length xs) ≡ Some x
+last_place [] x = refl
+last_place (y ∷ xs) x = last_place xs x
+
+pub found_new : {S : Type 0} (same : S → S → Bool) → IsEquivalence same → (old : Book S) (e : Entry S) (new : Book S) (place : ℕ) → place ≡ length old.entries → new ≡ add old e → IsFoundAt same new e place
+found_new {S} same eq old e new place at grown =
+    let P : Book S → Type 0 = λ b. IsFoundAt same b e place in
+    let Q : ℕ → Type 0 = λ p. slice_get (old.entries ++ e ∷ []) p ≡ Some e in
+    subst P (sym grown) (record {
+      entry = e;
+      at = subst Q (sym at) (last_place old.entries e);
+      dominates = record { state = eq.refl e.state; budget = omega arith };
+    })
+
+pub found_known : {S : Type 0} (same : S → S → Bool) (old : Book S) (e f : Entry S) (new : Book S) (place : ℕ) → slice_get old.entries place ≡ Some f → Dominates same f e.state e.budget → new ≡ old → IsFoundAt same new e place
+found_known {S} same old e f new place at d stays =
+    let P : Book S → Type 0 = λ b. IsFoundAt same b e place in
+    subst P (sym stays) (record { entry = f; at = at; dominates = d })
+
+-- the first entry's state is the opening one
+pub root_state : {S : Type 0} (r : Rules S) (k limit : ℕ) (b : Book S) (e : Entry S) → IsUnderWay r k limit b → slice_get b.entries 0 ≡ Some e → r.same e.state r.first ≡ true
+root_state {S} r k limit b e u at =
+    let same : u.root.entry ≡ e = same_Some u.root.entry e (sym u.root.at ∙ at) in
+    let is : IsEntry r k limit u.root.entry = u.sound.entry 0 u.root.entry u.root.at in
+    let A : ℕ → Type 0 = λ n. r.same u.root.entry.state (stands r u.root.entry.log n) ≡ true in
+    let P : Entry S → Type 0 = λ f. r.same f.state r.first ≡ true in
+    subst P same (subst A u.root.steps is.at)
+
+-- what follows an entry and is dominated in the book is met
+pub is_met : {S : Type 0} (r : Rules S) → IsLawful r → (same : S → S → Bool) → ((s t : S) → r.same s t ≡ same s t) → (b : Book S) (e next : Entry S) (c j : ℕ) → Follows r e c next → IsFoundAt same b next j → IsMet r b.entries e c j
+is_met r law same agree b e next c j f at = record {
+  found = at.entry;
+  at = at.at;
+  steps = f.steps;
+  next = f.station;
+  dominates = record {
+    state = law.transitive at.entry.state next.state (forced r (r.after e.state c) f.steps) (agree at.entry.state next.state ∙ at.dominates.state) f.same;
+    budget = omega (arith, at.dominates.budget, f.budget);
+  };
+}
+
+root_more : {S : Type 0} (b : Book S) (e : Entry S) → IsRootAt b.entries 0 → IsRootAt (b.entries ++ e ∷ []) 0
+root_more b e r = record { entry = r.entry; at = slice_get-front b.entries (e ∷ []) 0 r.entry r.at; log = r.log; steps = r.steps }
+
+pub under_way_more : {S : Type 0} (r : Rules S) (k limit : ℕ) (old : Book S) (e : Entry S) (new : Book S) → IsUnderWay r k limit old → IsEntry r k limit e → IsSameOrAdded old e new → IsUnderWay r k limit new
+under_way_more {S} r k limit old e new u is (inl same) =
+    let P : Book S → Type 0 = λ b. IsUnderWay r k limit b in
+    subst P (sym same) u
+under_way_more {S} r k limit old e new u is (inr added) =
+    let P : Book S → Type 0 = λ b. IsUnderWay r k limit b in
+    subst P (sym added) (record { sound = sound_add r k limit old e u.sound is; root = root_more old e u.root })
+
+pub grows_not : {S : Type 0} (b : Book S) (budget : ℕ) → Grows b b budget
+grows_not b budget = record { stays = λ i e at. at; done = λ i places at. at; lower = λ i e at. inl at }
+
+pub grows_more : {S : Type 0} (old : Book S) (e : Entry S) (new : Book S) (budget : ℕ) → e.budget ≤ budget → IsSameOrAdded old e new → Grows old new budget
+grows_more {S} old e new budget le (inl same) =
+    let P : Book S → Type 0 = λ b. Grows old b budget in
+    subst P (sym same) (grows_not old budget)
+grows_more {S} old e new budget le (inr added) =
+    let P : Book S → Type 0 = λ b. Grows old b budget in
+    subst P (sym added) (record {
+      stays = λ i f at. slice_get-front old.entries (e ∷ []) i f at;
+      done = λ i places at. slice_get-front old.finished (None ∷ []) i (Some places) at;
+      lower = λ i f at. elim (place_of_more old.entries e i f at) [
+        | inl there ↦ inl there
+        | inr last ↦ (let Q : Entry S → Type 0 = λ x. x.budget ≤ budget in inr (subst Q last.1 le))
+      ];
+    })
+
+lower_of_two : {S : Type 0} (old mid new : Book S) (budget : ℕ) → Grows old mid budget → Grows mid new budget → (i : ℕ) (e : Entry S) → slice_get new.entries i ≡ Some e → (slice_get old.entries i ≡ Some e) ⊎ (e.budget ≤ budget)
+lower_of_two old mid new budget g h i e at = elim (h.lower i e at) [
+  | inl there ↦ g.lower i e there
+  | inr le ↦ inr le
+]
+
+pub grows_twice : {S : Type 0} (old mid new : Book S) (budget : ℕ) → Grows old mid budget → Grows mid new budget → Grows old new budget
+grows_twice old mid new budget g h = record {
+  stays = λ i e at. h.stays i e (g.stays i e at);
+  done = λ i places at. h.done i places (g.done i places at);
+  lower = lower_of_two old mid new budget g h;
+}
+
+pub budget_after-le : (b c : ℕ) → budget_after b c ≤ b
+budget_after-le b zero = omega arith
+budget_after-le b (suc c) = omega arith
+
+-- the first choices of the entry at the place are met, one place each
+pub record HasMet {S : Type 0} (r : Rules S) (old now : Book S) (place choice : ℕ) (next : List ℕ) : Type 0 where
+  pub count : length next ≡ choice
+  pub met : (e : Entry S) → slice_get old.entries place ≡ Some e → (c j : ℕ) → slice_get next c ≡ Some j → IsMet r now.entries e c j
+
+pub met_none : {S : Type 0} (r : Rules S) (b : Book S) (place : ℕ) → HasMet r b b place 0 []
+met_none r b place = record { count = refl; met = λ e at c j h. absurd cc }
+
+met_later : {S : Type 0} (r : Rules S) (old new : Book S) (budget : ℕ) (e : Entry S) (c j : ℕ) → Grows old new budget → IsMet r old.entries e c j → IsMet r new.entries e c j
+met_later r old new budget e c j g m = record { found = m.found; at = g.stays j m.found m.at; steps = m.steps; next = m.next; dominates = m.dominates }
+
+pub met_more : {S : Type 0} (r : Rules S) (old now new : Book S) (place choice j : ℕ) (next : List ℕ) → HasMet r old now place choice next → ((e : Entry S) → slice_get old.entries place ≡ Some e → Grows now new e.budget) → ((e : Entry S) → slice_get old.entries place ≡ Some e → IsMet r new.entries e choice j) → HasMet r old new place (choice + 1) (next ++ j ∷ [])
+met_more {S} r old now new place choice j next h g m = record {
+  count = length-append next (j ∷ []) ∙ omega (arith, h.count);
+  met = λ e at c i listed. elim (place_of_more next j c i listed) [
+    | inl there ↦ met_later r now new e.budget e c i (g e at) (h.met e at c i there)
+    | inr last ↦ (
+        let P : ℕ → Type 0 = λ d. IsMet r new.entries e d i in
+        let Q : ℕ → Type 0 = λ d. IsMet r new.entries e choice d in
+        let same : choice ≡ c = omega (arith, last.0, h.count) in
+        subst P same (subst Q last.1 (m e at)))
+  ];
+}
+
+set_at : {X : Type 0} (xs : List X) (i : ℕ) (x y : X) → slice_get xs i ≡ Some x → slice_get (slice_set xs i y) i ≡ Some y
+set_at [] i x y e = absurd cc
+set_at (z ∷ xs) zero x y e = refl
+set_at (z ∷ xs) (suc i) x y e = set_at xs i x y e
+
+set_other : {X : Type 0} (xs : List X) (i j : ℕ) (y : X) → (i ≡ j → ⊥) → slice_get (slice_set xs i y) j ≡ slice_get xs j
+set_other [] i j y ne = refl
+set_other (z ∷ xs) zero zero y ne = absurd (ne refl)
+set_other (z ∷ xs) zero (suc j) y ne = refl
+set_other (z ∷ xs) (suc i) zero y ne = refl
+set_other (z ∷ xs) (suc i) (suc j) y ne = set_other xs i j y (λ e. ne (ap suc e))
+
+-- what finishing an entry leaves: its list is noted, or was there
+abbrev pub Finishes : {S : Type 0} → Book S → ℕ → List ℕ → Book S → Type 0
+Finishes old place places new = ((slice_get old.finished place ≡ Some None) × (new ≡ finish old place places)) ⊎ (IsFinished old place × (new ≡ old))
+
+pub finishes : {S U E : Type 0} (result : Result U E) (old : Book S) (place : ℕ) (places : List ℕ) (new : Book S) → OnOk result ((slice_get old.finished place ≡ Some None) × (new ≡ finish old place places)) → OnErr result (IsFinished old place) → OnErr result (new ≡ old) → Finishes old place places new
+finishes (Ok u) old place places new ok twice err = inl ok
+finishes (Err e) old place places new ok twice err = inr (twice, err)
+
+pub finished_now : {S : Type 0} (old : Book S) (place : ℕ) (places : List ℕ) (new : Book S) → Finishes old place places new → IsFinished new place
+finished_now {S} old place places new (inl h) =
+    let P : Book S → Type 0 = λ b. IsFinished b place in
+    subst P (sym h.1) (places, set_at old.finished place None (Some places) h.0)
+finished_now {S} old place places new (inr h) =
+    let P : Book S → Type 0 = λ b. IsFinished b place in
+    subst P (sym h.1) h.0
+
+pub under_way_done : {S : Type 0} (r : Rules S) (k limit : ℕ) (old : Book S) (place : ℕ) (places : List ℕ) (new : Book S) → AllMet r old.entries place places → IsUnderWay r k limit old → Finishes old place places new → IsUnderWay r k limit new
+under_way_done {S} r k limit old place places new m u (inl h) =
+    let P : Book S → Type 0 = λ b. IsUnderWay r k limit b in
+    subst P (sym h.1) (record { sound = sound_finish r k limit old place places u.sound m; root = u.root })
+under_way_done {S} r k limit old place places new m u (inr h) =
+    let P : Book S → Type 0 = λ b. IsUnderWay r k limit b in
+    subst P (sym h.1) u
+
+done_stays : (finished : List (Option (List ℕ))) (place : ℕ) (places : List ℕ) → slice_get finished place ≡ Some None → (i : ℕ) (others : List ℕ) → slice_get finished i ≡ Some (Some others) → slice_get (slice_set finished place (Some places)) i ≡ Some (Some others)
+done_stays finished place places open_place i others at =
+    set_other finished place i (Some places) (λ e.
+    (let P : ℕ → Type 0 = λ p. slice_get finished p ≡ Some None in
+    let here : slice_get finished i ≡ Some None = subst P e open_place in
+    let clash : None ≡ Some others = same_Some None (Some others) (sym here ∙ at) in
+    absurd cc)) ∙ at
+
+pub grows_done : {S : Type 0} (old : Book S) (place : ℕ) (places : List ℕ) (new : Book S) (budget : ℕ) → Finishes old place places new → Grows old new budget
+grows_done {S} old place places new budget (inl h) =
+    let P : Book S → Type 0 = λ b. Grows old b budget in
+    subst P (sym h.1) (record { stays = λ i e at. at; done = done_stays old.finished place places h.0; lower = λ i e at. inl at })
+grows_done {S} old place places new budget (inr h) =
+    let P : Book S → Type 0 = λ b. Grows old b budget in
+    subst P (sym h.1) (grows_not old budget)
+
+-- once each choice is met, all is that Finish asks
+pub all_met : {S : Type 0} (r : Rules S) (old now : Book S) (place count : ℕ) (next : List ℕ) (e : Entry S) → HasMet r old now place count next → slice_get old.entries place ≡ Some e → Grows old now e.budget → count ≡ choices_of (r.width e.state) e.budget → AllMet r now.entries place next
+all_met r old now place count next e h at g all = record {
+  entry = e;
+  at = g.stays place e at;
+  count = h.count ∙ all;
+  met = h.met e at;
+}
+
+pub place_within : {S : Type 0} (old now : Book S) (budget place : ℕ) (e : Entry S) → Grows old now budget → slice_get old.entries place ≡ Some e → place < length now.entries
+place_within old now budget place e g at = slice_get_within now.entries place e (g.stays place e at)
+
+pub still_there : {S : Type 0} (old now : Book S) (budget place : ℕ) (e f : Entry S) → Grows old now budget → slice_get old.entries place ≡ Some e → slice_get now.entries place ≡ Some f → e ≡ f
+still_there old now budget place e f g at at' = same_Some e f (sym (g.stays place e at) ∙ at')
+
+pub grows_on : {S : Type 0} (old now new : Book S) (place : ℕ) (e : Entry S) → Grows old now e.budget → slice_get old.entries place ≡ Some e → ((f : Entry S) → slice_get now.entries place ≡ Some f → Grows now new f.budget) → Grows old new e.budget
+grows_on old now new place e g at h = grows_twice old now new e.budget g (h e (g.stays place e at))
+
+pub true_not_false : true ≡ false → ⊥
+true_not_false e = cc

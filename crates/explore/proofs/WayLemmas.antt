@@ -1,0 +1,30 @@
+-- Facts about forced ways and the runs that take them.
+use Rattle.std.proofs.Common.{◌≡◌, ℕ, ◌<◌, suc, true, false, arith, sym, ◌∙◌, subst, inl, inr}
+use Rattle.std.proofs.lemmas.Bool.{cases_lt}
+use Rattle.sched_core.specs.Rules.{Rules, IsLawful}
+use Rattle.statebook.specs.Stations.{is_station, forced}
+use Rattle.statebook.proofs.RunLemmas.{is_station_same, width_between}
+
+-- how far forced steps have come without a station
+pub record Passes {S : Type 0} (r : Rules S) (s t : S) (m : ℕ) : Type 0 where
+  pub same : r.same t (forced r s m) ≡ true
+  pub passes : (j : ℕ) → j < m → is_station r (forced r s j) ≡ false
+
+pub passes_none : {S : Type 0} (r : Rules S) → IsLawful r → (s : S) → Passes r s s 0
+passes_none r law s = record { same = law.reflexive s; passes = λ j lt. absurd (omega (arith, lt)) }
+
+pub passes_one : {S : Type 0} (r : Rules S) → IsLawful r → (s t u : S) (m : ℕ) → Passes r s t m → is_station r t ≡ false → r.same u (r.after t 0) ≡ true → Passes r s u (suc m)
+passes_one r law s t u m p none e =
+    let one : r.width t ≡ 1 = width_between r t none in
+    let step : r.same (r.after t 0) (r.after (forced r s m) 0) ≡ true = law.after_same t (forced r s m) 0 p.same (omega arith) in
+    let here : is_station r (forced r s m) ≡ false = sym (is_station_same r law t (forced r s m) p.same) ∙ none in
+    record {
+      same = law.transitive u (r.after t 0) (forced r s (suc m)) e step;
+      passes = λ j lt. elim (cases_lt j m) [
+        | inl less ↦ p.passes j less
+        | inr ge ↦ (
+            let P : ℕ → Type 0 = λ i. is_station r (forced r s i) ≡ false in
+            let at : m ≡ j = omega arith in
+            subst P at here)
+      ];
+    }

@@ -1,0 +1,17 @@
+// In come a lawful space and limits: departures, steps of one run, entries.
+// Out come the marks that were met, each under a log of the fewest departures, and whether that is all.
+// The law: exhausted means that every mark of every run of at most K departures is listed.
+#![tactic(auto)]
+
+mod alone;
+mod classes;
+mod findings;
+mod marks;
+mod next;
+#[cfg(test)]
+mod tests;
+mod visit;
+mod way;
+
+pub use alone::explore_alone;
+pub use findings::{Findings, Reason, Status};

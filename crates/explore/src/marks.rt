@@ -1,0 +1,47 @@
+ghost use Rattle.std.specs.Prelude.{◌≡◌, IfOk, OnOk};
+ghost use Rattle.indexmap.specs.IndexMap.{IsUnique, insert_entry};
+ghost use Rattle.explore.specs.Exploring.{IsUnderWay};
+ghost use Rattle.explore.specs.Found.{AreFound, HasNoShorter, ListsMarks};
+
+use indexmap::IndexMap;
+use sched_core::{Log, Space};
+use statebook::{Limits, PlainBook};
+use std::alloc::{AllocError, Global};
+use std::hash::Hash;
+
+/// Notes the mark under its log, in place of the log that was noted before.
+fn note<S: Eq + Hash + Drop>(
+    marks: &mut IndexMap<S, Log>,
+    state: S,
+    log: Log,
+) -> Result<(), AllocError>
+    ensures noted { OnOk result (marks.new.entries ≡ insert_entry S.eq marks.old.entries state log) }
+    ensures distinct { IsUnique S.eq marks.new }
+{
+    marks.insert(state, log)?;
+    Ok(())
+}
+
+/// The marks that the book's entries stand at, each once. Of entries of equal states a later one
+/// has a greater budget, so its log, which has fewer departures, takes the place of an earlier's.
+pub fn list_marks<P: Space>(
+    alloc: Global,
+    space: &P,
+    limits: &Limits,
+    book: &PlainBook<P::State>,
+) -> Result<IndexMap<P::State, Log>, AllocError>
+    requires { IsUnderWay (P.rules space.now) limits.now.depart limits.now.steps book.now }
+    ensures found { IfOk result (λ marks. AreFound (P.rules space.now) limits.now.depart limits.now.steps marks.entries) }
+    ensures listed { IfOk result (λ marks. ListsMarks (P.rules space.now) book.now.entries marks.entries) }
+    ensures shortest { IfOk result (λ marks. HasNoShorter (P.rules space.now) book.now.entries marks.entries) }
+    ensures distinct { IfOk result (λ marks. IsUnique P.State.eq marks) }
+{
+    let mut marks = IndexMap::new(alloc);
+    for place in 0..book.len() {
+        let entry = book.read(place);
+        if space.is_mark(&entry.state) {
+            note(&mut marks, space.copy(&entry.state)?, entry.log.copy()?)?;
+        }
+    }
+    Ok(marks)
+}

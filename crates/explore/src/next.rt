@@ -1,0 +1,66 @@
+ghost use Rattle.std.specs.Prelude.{◌≡◌, ◌<◌, ◌≤◌, true, IfOk, IfSome, IfNone};
+ghost use Rattle.sched_core.specs.Rules.{NamesBelow};
+ghost use Rattle.statebook.specs.ExplorerCore.{IsEntry, budget_after, choices_of};
+ghost use Rattle.explore.specs.Exploring.{Follows, SomeRunExceeds, log_of};
+
+use crate::way::to_station;
+use sched_core::{Log, Space};
+use statebook::{Entry, Limits};
+use std::alloc::AllocError;
+
+/// The log of a run that goes on by this choice at this step.
+fn log_after(log: &Log, step: u32, choice: u32) -> Result<Log, AllocError>
+    requires names { NamesBelow log.now step }
+    requires step { step ≤ 999999 }
+    ensures { IfOk result (λ after. after ≡ log_of log.now step choice) }
+{
+    let mut after = log.copy()?;
+    if choice != 0 {
+        after.push(step, choice)?;
+    }
+    Ok(after)
+}
+
+/// The departures left after the choice.
+fn budget_left(budget: u32, choice: u32) -> u32
+    ensures { result ≡ budget_after budget choice }
+{
+    if choice == 0 {
+        budget
+    } else {
+        budget.saturating_sub(1)
+    }
+}
+
+/// The entry of the next station after a choice that the entry's budget allows; None where the
+/// way there takes more steps than the limit. The state is copied once.
+pub fn next_entry<P: Space>(
+    space: &P,
+    root: &P::State,
+    entry: &Entry<P::State>,
+    choice: u32,
+    limits: &Limits,
+) -> Result<Option<Entry<P::State>>, AllocError>
+    requires root { (P.rules space.now).same root.now (P.rules space.now).first ≡ true }
+    requires entry { IsEntry (P.rules space.now) limits.now.depart limits.now.steps entry.now }
+    requires choice { choice < choices_of ((P.rules space.now).width entry.now.state) entry.now.budget }
+    ensures follows { IfOk result (λ next. IfSome next (Follows (P.rules space.now) entry.now choice)) }
+    ensures allowed { IfOk result (λ next. IfSome next (IsEntry (P.rules space.now) limits.now.depart limits.now.steps)) }
+    ensures past { IfOk result (λ next. IfNone next (SomeRunExceeds (P.rules space.now) limits.now.depart limits.now.steps)) }
+{
+    if entry.steps == limits.steps {
+        return Ok(None);
+    }
+    let log = log_after(&entry.log, entry.steps, choice)?;
+    let mut state = space.copy(&entry.state)?;
+    space.step(&mut state, choice)?;
+    match to_station(space, root, &mut state, entry.steps + 1, limits.steps)? {
+        Some(steps) => Ok(Some(Entry {
+            state,
+            budget: budget_left(entry.budget, choice),
+            log,
+            steps,
+        })),
+        None => Ok(None),
+    }
+}
