@@ -1,0 +1,12 @@
+use Rattle.std.proofs.Common.{ap, ◌∙◌, arith}
+use Rattle.vbits.specs.Vectors.{Vector}
+use Rattle.vbits.specs.Numbers.{number}
+use Rattle.vcd_text.proofs.ValueLemmas.{kept_by_number, always_known}
+use Rattle.vcd_text.proofs.values.is_kept.Goals as goal
+
+pub returns-in-Some : goal.returns-in-Some
+returns-in-Some c =
+    kept_by_number c.args.old c.args.new c.in-Some.one (c.in-Some.ensures ∙ ap (λ (v : Vector). number v.letters) c.case_eq.ensures) (omega arith)
+
+pub returns-in-None : goal.returns-in-None
+returns-in-None c = absurd (always_known c.args.old c.args.new (c.in-None.ensures ∙ ap (λ (v : Vector). number v.letters) c.case_eq.ensures))

@@ -1,0 +1,181 @@
+// The lines that say what variables are worth (18.2.1).
+
+ghost use Rattle.std.specs.Prelude.{◌≡◌, ◌<◌, ◌++◌, OnOk, true, false, length, drop, map, reverse};
+ghost use Rattle.vcd_text.specs.DumpText.{following, digit as digit_code, extension as extension_code, shortened, change, named_line, value_lines, changed_lines, is_kept as is_kept_vector};
+
+use std::alloc::{AllocError, Global};
+use vbits::{Bit4, Vec4};
+
+// The code of the next variable, in place.
+fn follow(name: &mut Vec<u8>) -> Result<(), AllocError>
+    ensures { OnOk result (name.new.items ≡ following name.old.items) }
+{
+    for i in 0..name.len() {
+        let digit = name[i];
+        if digit < b'~' {
+            name[i] = digit + 1;
+            return Ok(());
+        }
+        name[i] = b'!';
+    }
+    name.push(b'!')?;
+    Ok(())
+}
+
+fn digit(letter: Bit4) -> u8
+    ensures { result ≡ digit_code letter }
+{
+    match letter {
+        Bit4::Zero => b'0',
+        Bit4::One => b'1',
+        Bit4::X => b'x',
+        Bit4::Z => b'z',
+    }
+}
+
+fn extension(digit: u8) -> u8
+    ensures { result ≡ extension_code digit }
+{
+    if digit == b'1' { b'0' } else { digit }
+}
+
+// Whether the extension of the second digit gives the first one back.
+fn is_given_back(digits: &[u8]) -> bool
+    ensures yes { result ≡ true → (1 < length digits.now) × (shortened digits.now ≡ shortened (drop 1 digits.now)) }
+    ensures no { result ≡ false → shortened digits.now ≡ digits.now }
+{
+    digits.len() > 1 && digits[0] == extension(digits[1])
+}
+
+// The digits without those on the left that extension gives back.
+fn kept(digits: &[u8]) -> &[u8]
+    ensures { result.now ≡ shortened digits.now }
+{
+    let mut rest = digits;
+    while is_given_back(rest) {
+        rest = rest.split_at(1).1;
+    }
+    rest
+}
+
+// The digits of a value, leftmost first.
+fn put_digits(text: &mut Vec<u8>, value: Vec4) -> Result<(), AllocError>
+    ensures { OnOk result (text.new.items ≡ text.old.items ++ map digit_code (reverse value.letters)) }
+{
+    let mut i = value.len();
+    while i > 0 {
+        i -= 1;
+        text.push(digit(value.bit(i)))?;
+    }
+    Ok(())
+}
+
+// One digit and the code, or b, digits, a space and the code.
+fn put_change(text: &mut Vec<u8>, digits: &[u8], name: &[u8]) -> Result<(), AllocError>
+    ensures { OnOk result (text.new.items ≡ text.old.items ++ change digits.now name.now) }
+{
+    if digits.len() > 1 {
+        text.push(b'b')?;
+        text.extend_from_slice(kept(digits))?;
+        text.push(b' ')?;
+    } else {
+        text.extend_from_slice(digits)?;
+    }
+    text.extend_from_slice(name)
+}
+
+// The line that says what the variable of this code is worth. The scratch is for its digits.
+fn put_value(
+    text: &mut Vec<u8>,
+    scratch: &mut Vec<u8>,
+    value: Vec4,
+    name: &[u8],
+) -> Result<(), AllocError>
+    ensures { OnOk result (text.new.items ≡ text.old.items ++ named_line name.now value) }
+{
+    scratch.clear();
+    put_digits(scratch, value)?;
+    put_change(text, scratch, name)?;
+    text.push(b'\n')?;
+    Ok(())
+}
+
+/// Writes the lines of all values at the end of the text, in the order of the variables (18.2.1; docs/FORMATS.md,
+/// "Dumps"): a digit and the code, or `b`, digits, a space and the code. E901 is the only refusal.
+pub fn put_values(alloc: Global, text: &mut Vec<u8>, values: &[Vec4]) -> Result<(), AllocError>
+    ensures { OnOk result (text.new.items ≡ text.old.items ++ value_lines 0 values.now) }
+{
+    let mut scratch = Vec::new(alloc);
+    let mut name = Vec::from_slice(alloc, b"!")?;
+    for value in values {
+        put_value(text, &mut scratch, *value, &name)?;
+        follow(&mut name)?;
+    }
+    Ok(())
+}
+
+// Whether two values have the same letters.
+fn is_kept(old: Vec4, new: Vec4) -> bool
+    ensures { result ≡ is_kept_vector old new }
+{
+    if old.len() != new.len() {
+        return false;
+    }
+    match old.case_eq(new).to_u64() {
+        Some(one) => one == 1,
+        None => false,
+    }
+}
+
+/// Writes the lines of the values at the end of the text that differ from those of an earlier list, in the order of the
+/// variables (18.2.2). E901 is the only refusal.
+pub fn put_changes(
+    alloc: Global,
+    text: &mut Vec<u8>,
+    old: &[Vec4],
+    new: &[Vec4],
+) -> Result<(), AllocError>
+    ensures { OnOk result (text.new.items ≡ text.old.items ++ changed_lines 0 old.now new.now) }
+{
+    let mut scratch = Vec::new(alloc);
+    let mut name = Vec::from_slice(alloc, b"!")?;
+    let mut rest = old;
+    for value in new {
+        let Some((before, after)) = rest.split_first() else {
+            return Ok(());
+        };
+        if !is_kept(*before, *value) {
+            put_value(text, &mut scratch, *value, &name)?;
+        }
+        follow(&mut name)?;
+        rest = after;
+    }
+    Ok(())
+}
+
+#[cfg(test)]
+mod tests {
+    use super::*;
+    use std::test::Fail;
+
+    // What the standard's rule makes of some values: leftmost digits go while extension gives them back.
+    #[test]
+    fn lines_of_values(rt: HostRuntime) -> Result<(), Fail> {
+        let alloc = rt.alloc();
+        let mut text = Vec::new(alloc);
+        let unknown = Vec4::all_x(8);
+        let two = Vec4::from_u64(8, 2);
+        put_values(
+            alloc,
+            &mut text,
+            &[Vec4::zeros(1), two, unknown, Vec4::all_z(3)],
+        )?;
+        assert_eq!(rt; text.as_slice(), b"0!\nb10 \"\nbx #\nbz $\n".as_slice());
+        put_changes(alloc, &mut text, &[two, unknown], &[two, two])?;
+        assert_eq!(rt;
+            text.as_slice(),
+            b"0!\nb10 \"\nbx #\nbz $\nb10 \"\n".as_slice()
+        );
+        Ok(())
+    }
+}
