@@ -10,4 +10,3 @@ pub mod Reductions
 pub mod Shifts
 pub mod Integers
 pub mod Arithmetic
-pub mod Sizes
