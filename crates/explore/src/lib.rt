@@ -1,6 +1,6 @@
 // In come a lawful space and limits: departures, steps of one run, entries.
-// Out come the marks that were met, each under a log of the fewest departures, and whether that is all.
-// The law: exhausted means that every mark of every run of at most K departures is listed.
+// Out come the marks that were met, each under a log that reaches it, and whether that is all.
+// The law: exhausted means that every mark of every run of at most K departures is listed, with the fewest departures.
 #![tactic(auto)]
 
 mod alone;

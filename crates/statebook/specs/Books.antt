@@ -63,7 +63,7 @@ Meets {S} same old e (Known place) new = (f : Entry S) × (slice_get old.entries
 abbrev pub alike : {S : Type 0} → (S → S → Bool) → Entry S → Entry S → Bool
 alike same e f = same e.state f.state && (e.budget == f.budget)
 
--- No entry is dominated by an earlier one, so a book that is given the list answers New to each.
+-- No entry comes behind one that dominates it: met in this order, each of them would be new.
 pub record IsUndominated {S : Type 0} (same : S → S → Bool) (entries : List (Entry S)) : Type 0 where
   pub later : (i j : ℕ) (e f : Entry S) → i < j → slice_get entries i ≡ Some e → slice_get entries j ≡ Some f → ¬ Dominates same e f.state f.budget
 

@@ -2,7 +2,7 @@
 use Rattle.std.specs.Prelude.{◌≡◌, ℕ, ◌≤◌, true, List, length}
 use Rattle.sched_core.specs.Rules.{Rules, stands, IsRun}
 
--- Every mark that a run of d departures reaches, d at most k, after however many steps, is listed
--- under a log of at most d departures.
+-- However a run with no more than k departures comes to a mark, and however late, the mark is listed,
+-- with a log that departs no more often than the run.
 abbrev pub IsCovered : {S : Type 0} → Rules S → ℕ → (S → ℕ → Type 0) → Type 0
 IsCovered {S} r k Listed = (log : List (ℕ × ℕ)) (n : ℕ) → length log ≤ k → IsRun r log n → r.mark (stands r log n) ≡ true → Listed (stands r log n) (length log)

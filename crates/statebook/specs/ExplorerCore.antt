@@ -5,8 +5,9 @@ use Rattle.statebook.specs.Stations.{is_station, forced, IsNextStation}
 use Rattle.statebook.specs.Books.{Book, Dominates, no_entries, add, finish}
 use Rattle.statebook.specs.declared.entry.Entry.{Entry}
 
--- Add, dominance aside: after e.steps steps, within the step limit, the run under e.log stands at
--- e.state, a station; the log's steps are below e.steps; the budget is K less the departures.
+-- What may be added, whatever stands in the book: the run under the entry's log is lawful for so many
+-- steps as the entry says, no more than the limit, and has come to the entry's state, which is a station;
+-- the log names nothing later; budget and departures are k together.
 pub record IsEntry {S : Type 0} (r : Rules S) (k limit : ℕ) (e : Entry S) : Type 0 where
   pub run : IsRun r e.log e.steps
   pub at : r.same e.state (stands r e.log e.steps) ≡ true
