@@ -59,10 +59,6 @@ no_next text log rest m after r f none whole h e =
     let P : ℕ × ℕ → Type 0 = λ k. IsLog (log ++ k ∷ []) in
     none (subst P (sym same.0) (IsLogFrom-front 0 (log ++ g.m ∷ []) g.ms parts))
 
--- the last member was read
-pub all_read : (text : List ℕ) (log : List (ℕ × ℕ)) (rest : List ℕ) (m : ℕ × ℕ) → HasRead text log rest → IsMemberFront rest m [] → text ≡ log_text (log ++ m ∷ [])
-all_read text log rest m r f = r.sound m [] f.whole
-
 after_all : (ms : List (ℕ × ℕ)) → [] ≡ more_text ms → ms ≡ []
 after_all [] e = refl
 after_all (n ∷ ms) e = absurd (cc)

@@ -1,9 +1,9 @@
 -- Facts about runs under logs.
-use Rattle.std.proofs.Common.{◌≡◌, ◌≢◌, ℕ, ◌+◌, ◌<◌, ◌≤◌, ◌==◌, true, false, List, [], ◌∷◌, inl, inr, arith, refl, sym, ◌∙◌, subst, add-one, below_more, length}
+use Rattle.std.proofs.Common.{◌≡◌, ◌≢◌, ℕ, ◌+◌, ◌<◌, ◌≤◌, ◌==◌, false, List, [], ◌∷◌, inl, inr, arith, refl, sym, ◌∙◌, subst, below_more, length}
 use Rattle.std.proofs.lemmas.Bool.{cases_lt}
 use Rattle.std.proofs.lemmas.Bool.Decides.{nat_tests}
 use Rattle.sched_core.specs.Logs.{IsLogFrom}
-use Rattle.sched_core.specs.Rules.{Rules, IsLawful, stands, choice_at, IsRun, NamesBelow}
+use Rattle.sched_core.specs.Rules.{Rules, stands, choice_at, IsRun, NamesBelow}
 use Rattle.sched_core.specs.Replay.{IsNextChoice, EndsAfter, EndsTooEarly}
 
 -- what is left of the log from step n on
@@ -31,16 +31,6 @@ choice_below low n (m ∷ log) lt h =
     let other : (m.0 == n) ≡ false = grind (arith, nat_tests, h.0) in
     rw other (choice_below (m.0 + 1) n log (omega (arith, h.0, lt)) h.4)
 
-pub next_named : (low : ℕ) (m : ℕ × ℕ) (log : List (ℕ × ℕ)) → IsNextChoice (m ∷ log) m.0 m.1 log
-next_named low m log =
-    let same : (m.0 == m.0) ≡ true = grind (arith, nat_tests) in
-    record {
-      taken = rw same refl;
-      later = λ k lt. let other : (m.0 == k) ≡ false = grind (arith, nat_tests) in rw other refl;
-      names = λ k lt n. (lt, n);
-      names_back = λ k n. n.1;
-    }
-
 -- no member is of a step below the first
 pub next_default : (low n : ℕ) (log : List (ℕ × ℕ)) → n < low → IsLogFrom low log → IsNextChoice log n 0 log
 next_default low n log lt h = record { taken = sym (choice_below low n log lt h); later = λ k l. refl; names = λ k l m. m; names_back = λ k m. m }
@@ -51,13 +41,6 @@ later_from n m log ne h = (omega (arith, h.0, ne), h.1, h.2, h.3, h.4)
 
 pub run_more : {S : Type 0} (r : Rules S) (log : List (ℕ × ℕ)) (n : ℕ) → IsRun r log n → choice_at log n < r.width (stands r log n) → IsRun r log (n + 1)
 run_more r log n run now = below_more (λ k. choice_at log k < r.width (stands r log k)) n run now
-
--- equal states step to equal states
-pub stands_more : {S : Type 0} (r : Rules S) (log : List (ℕ × ℕ)) (n : ℕ) (s t : S) (c : ℕ) → IsLawful r → r.same s (stands r log n) ≡ true → c ≡ choice_at log n → c < r.width s → r.same t (r.after s c) ≡ true → r.same t (stands r log (n + 1)) ≡ true
-stands_more r log n s t c law at is lt e =
-    let here : r.same (r.after s c) (r.after (stands r log n) c) ≡ true = law.after_same s (stands r log n) c at lt in
-    let there : r.same t (r.after (stands r log n) c) ≡ true = law.transitive t (r.after s c) (r.after (stands r log n) c) e here in
-    rw (add-one n) (rw is at there)
 
 pub default_at_none : (n : ℕ) (log : List (ℕ × ℕ)) → length log ≡ 0 → IsNextChoice log n 0 log
 default_at_none n [] e = record { taken = refl; later = λ k l. refl; names = λ k l m. m; names_back = λ k m. m }

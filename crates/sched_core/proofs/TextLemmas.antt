@@ -1,5 +1,5 @@
 -- Facts about the decimals in a log's text.
-use Rattle.std.proofs.Common.{◌≡◌, ◌≢◌, ℕ, ◌+◌, ◌^◌, ◌<◌, ◌≤◌, ◌&&◌, zero, suc, Bool, true, false, List, [], ◌∷◌, ◌++◌, length, get_or, take, drop, arith, ap, refl, sym, subst, ◌∙◌, drop-cons, add-one, append_assoc, IfSome, IfNone, Option, None, Some, Result, Ok, Err}
+use Rattle.std.proofs.Common.{◌≡◌, ◌≢◌, ℕ, ◌+◌, ◌^◌, ◌<◌, ◌≤◌, ◌&&◌, zero, suc, Bool, true, false, List, [], ◌∷◌, ◌++◌, length, get_or, take, drop, arith, ap, refl, sym, subst, ◌∙◌, add-one, append_assoc, IfSome, IfNone, Option, None, Some, Result, Ok, Err}
 use Rattle.std.specs.Char.{is_ascii_digit}
 use Rattle.std.specs.Str.{all_ascii_digits, IsUtf8}
 use Rattle.std.specs.Str.Parse.{digits_value, ParsesUnsigned}
@@ -9,7 +9,7 @@ use Rattle.std.proofs.lemmas.Str.Parse.{IsNumeralModel, numerals_by_value, tells
 use Rattle.std.proofs.lemmas.Fmt.{digits_decimal, digits_value-decimal, IsAscii-from_digits, decimal-digits_value, first_decimal, decimal_digit, decimal_nonempty, decimal_injective}
 use Rattle.std.proofs.lemmas.Str.{IsUtf8-from_ascii}
 use Rattle.sched_core.specs.LogText.{member_text}
-use Rattle.sched_core.specs.Reading.{StartsNoNumber, IsNumberFront, HasNoNumber, IsMemberFront}
+use Rattle.sched_core.specs.Reading.{StartsNoNumber, IsNumberFront, HasNoNumber}
 
 pub own : IsNumeralModel (λ ds. all_ascii_digits ds ≡ true) (digits_value 10)
 own = numerals_by_value _ tells_all_ascii_digits
@@ -46,9 +46,6 @@ all_ascii_digits-more (x ∷ xs) (suc i) h d a =
     let first : is_ascii_digit x ≡ true = and_left _ _ a in
     let rest : all_ascii_digits (take (i + 1) xs) ≡ true = all_ascii_digits-more xs i (omega (arith, h)) d (and_right _ _ a) in
     rw (add-one (suc i), first) (rw add-one at rest)
-
-pub starts_no_number_at : (xs : List ℕ) (i : ℕ) → i < length xs → is_ascii_digit (get_or xs i 0) ≡ false → StartsNoNumber (drop i xs)
-starts_no_number_at xs i h d = rw (drop-cons xs i 0) d
 
 pub decimal_digits : (n : ℕ) → n < 2 ^ 32 → all_ascii_digits (decimal n) ≡ true
 decimal_digits n h = digits_decimal own n (omega arith)
@@ -107,14 +104,6 @@ member_whole m rest = append_assoc (decimal m.0) (58 ∷ decimal m.1) rest
 pub after_step : (text : List ℕ) (n : ℕ) (after : List ℕ) (m : ℕ × ℕ) (rest : List ℕ) → m.0 < 2 ^ 32 → IsNumberFront text n after → text ≡ member_text m ++ rest → after ≡ 58 ∷ (decimal m.1 ++ rest)
 after_step text n after m rest small' f e =
     (number_unique n m.0 after (58 ∷ (decimal m.1 ++ rest)) f.small small' f.stops refl (sym f.whole ∙ e ∙ member_whole m rest)).1
-
-pub member_front : (text : List ℕ) (n i : ℕ) (after next rest : List ℕ) → IsNumberFront text n after → after ≡ 58 ∷ next → IsNumberFront next i rest → IsMemberFront text (n, i) rest
-member_front text n i after next rest f e g = record {
-  step_small = f.small;
-  index_small = g.small;
-  whole = f.whole ∙ ap (λ t. decimal n ++ t) (e ∙ ap (λ t. 58 ∷ t) g.whole) ∙ sym (member_whole (n, i) rest);
-  stops = g.stops;
-}
 
 -- a member and what follows it can be cut in one way
 pub member_unique : (m k : ℕ × ℕ) (r s : List ℕ) → m.0 < 2 ^ 32 → m.1 < 2 ^ 32 → k.0 < 2 ^ 32 → k.1 < 2 ^ 32 → StartsNoNumber r → StartsNoNumber s → member_text m ++ r ≡ member_text k ++ s → (m ≡ k) × (r ≡ s)

@@ -3,7 +3,7 @@ use Rattle.std.specs.Prelude.{ℕ, ◌+◌, ◌==◌, nat_lt, ◌&&◌, ◌||◌
 use Rattle.sched_core.specs.Rules.{Rules}
 use Rattle.sched_core.specs.declared.grid.Square.{Square}
 
--- choice 0 is a step right where x is below right, then comes a step down where y is below down
+-- one may go right until x is right, and down until y is down; to go right is the first choice
 abbrev pub grid_width : ℕ → ℕ → Square → ℕ
 grid_width right down s = (if nat_lt s.x right then 1 else 0) + (if nat_lt s.y down then 1 else 0)
 

@@ -14,7 +14,8 @@ pub record Rules (S : Type 0) : Type 0 where
   -- the state after the one step that the choice makes
   pub after : S → ℕ → S
 
--- Equal states have equal widths, marks and successors, and a state without a choice is a mark.
+-- States that are equal can't be told apart by what follows: as many choices, both marks or neither,
+-- and equal states after the same choice. Where nothing is left to choose there is a mark.
 pub record IsLawful {S : Type 0} (r : Rules S) : Type 0 where
   pub reflexive : (s : S) → r.same s s ≡ true
   pub symmetric : (s t : S) → r.same s t ≡ true → r.same t s ≡ true

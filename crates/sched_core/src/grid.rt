@@ -10,9 +10,9 @@ pub struct Square {
     pub y: u32,
 }
 
-/// A toy space: moves on a board from (0, 0). Choice 0 is a step right where x is below `right`,
-/// then comes a step down where y is below `down`. Marks are the squares with x = y, and the last
-/// one. No call takes memory.
+/// A toy space: moves on a board from (0, 0), right until x is `right` and down until y is `down`.
+/// To go right is the first choice where there is room for it. Marks are the squares with x = y, and
+/// the one in the far corner. No call takes memory.
 #[derive(Clone, Copy, Debug)]
 pub struct Grid {
     pub right: u32,
