@@ -85,13 +85,3 @@ pub none_over : {S : Type 0} (r : Rules S) (k limit : ℕ) (b : Book S) (budget 
 none_over r k limit b budget u lt i e at le =
     let is = (u.sound.entry i e at).budget in
     absurd (omega (arith, is, lt, le))
-
--- one class more
-pub finished_from : {S : Type 0} (old new : Book S) (budget : ℕ) → Grows old new budget → FinishedFrom old (budget + 1) → FinishedAt new budget → FinishedFrom new budget
-finished_from old new budget g above here i e at le = elim (cases_lt budget e.budget) [
-  | inl more ↦ elim (g.lower i e at) [
-    | inl there ↦ (let f = above i e there (omega (arith, more)) in (f.0, g.done i f.0 f.1))
-    | inr no_more ↦ absurd (omega (arith, more, no_more))
-  ]
-  | inr ge ↦ here i e at (omega (arith, ge, le))
-]

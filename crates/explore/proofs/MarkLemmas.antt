@@ -119,21 +119,10 @@ equivalence r law eq agree = record {
       (λ h. sym (agree x z) ∙ law.transitive x y z (agree x y ∙ e) (agree y z ∙ h));
 }
 
-nothing_at : {X : Type 0} (xs : List X) (i : ℕ) (x : X) → xs ≡ [] → slice_get xs i ≡ Some x → ⊥
-nothing_at [] i x e at = cc
-nothing_at (y ∷ xs) i x e at = cc
-
 same_place : {X : Type 0} (xs : List X) (i j : ℕ) (x y : X) → j ≡ i → slice_get xs i ≡ Some x → slice_get xs j ≡ Some y → x ≡ y
 same_place {X} xs i j x y e at at' =
     let P : ℕ → Type 0 = λ p. slice_get xs p ≡ Some y in
     same_Some x y (sym at ∙ subst P e at')
-
-pub marks_none : {S : Type 0} (r : Rules S) (k limit : ℕ) (entries : List (Entry S)) (marks : List (S × List (ℕ × ℕ))) → marks ≡ [] → MarksUpTo r k limit entries 0 marks
-marks_none {S} r k limit entries marks none = record {
-  found = λ i p at. absurd (nothing_at marks i p none at);
-  listed = λ i e lt. absurd (omega (arith, lt));
-  shortest = λ j p at i e lt. absurd (omega (arith, lt));
-}
 
 -- the entry at the place is no mark
 pub marks_skip : {S : Type 0} (r : Rules S) → IsLawful r → (k limit : ℕ) (entries : List (Entry S)) (place : ℕ) (marks : List (S × List (ℕ × ℕ))) (x : Entry S) → MarksUpTo r k limit entries place marks → slice_get entries place ≡ Some x → r.mark x.state ≡ false → MarksUpTo r k limit entries (place + 1) marks

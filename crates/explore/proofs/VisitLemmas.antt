@@ -103,9 +103,6 @@ pub record HasMet {S : Type 0} (r : Rules S) (old now : Book S) (place choice : 
   pub count : length next ≡ choice
   pub met : (e : Entry S) → slice_get old.entries place ≡ Some e → (c j : ℕ) → slice_get next c ≡ Some j → IsMet r now.entries e c j
 
-pub met_none : {S : Type 0} (r : Rules S) (b : Book S) (place : ℕ) → HasMet r b b place 0 []
-met_none r b place = record { count = refl; met = λ e at c j h. absurd cc }
-
 met_later : {S : Type 0} (r : Rules S) (old new : Book S) (budget : ℕ) (e : Entry S) (c j : ℕ) → Grows old new budget → IsMet r old.entries e c j → IsMet r new.entries e c j
 met_later r old new budget e c j g m = record { found = m.found; at = g.stays j m.found m.at; steps = m.steps; next = m.next; dominates = m.dominates }
 

@@ -10,9 +10,6 @@ pub record Passes {S : Type 0} (r : Rules S) (s t : S) (m : ℕ) : Type 0 where
   pub same : r.same t (forced r s m) ≡ true
   pub passes : (j : ℕ) → j < m → is_station r (forced r s j) ≡ false
 
-pub passes_none : {S : Type 0} (r : Rules S) → IsLawful r → (s : S) → Passes r s s 0
-passes_none r law s = record { same = law.reflexive s; passes = λ j lt. absurd (omega (arith, lt)) }
-
 pub passes_one : {S : Type 0} (r : Rules S) → IsLawful r → (s t u : S) (m : ℕ) → Passes r s t m → is_station r t ≡ false → r.same u (r.after t 0) ≡ true → Passes r s u (suc m)
 passes_one r law s t u m p none e =
     let one : r.width t ≡ 1 = width_between r t none in
