@@ -1,3 +1,4 @@
+pub mod Profile
 pub mod Readers
 pub mod Reading
 pub mod Trees

@@ -5,3 +5,4 @@
 
 pub mod law;
 pub mod lead;
+pub mod profile;
