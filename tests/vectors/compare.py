@@ -1,9 +1,11 @@
 #!/usr/bin/env python3
-"""Compares the definitions of the four-state operators with Icarus Verilog on random operands.
+"""Compares the four-state operators with Icarus Verilog on random operands.
 
 The definitions of crates/vbits/specs are written again below, letter by letter, as plain Python over
 strings (leftmost letter first). A Verilog text computes the same with variables, so that the simulator
-works and not only its constant folding. The operands come from a fixed seed.
+works and not only its constant folding. The operands come from a fixed seed. Where the program of the
+crate vbits_bench is built (`rt run` in its folder), the crate itself is asked too: for every operator of
+the tables below, shifts, concatenation, join and truth, at the same operands.
 
 Known difference: `?:` under an unknown condition makes z joined with z an x here, and a z there.
 
@@ -193,6 +195,22 @@ def literal(v):
     return "%d'%sb%s" % (len(v[0]), "s" if v[1] else "", v[0])
 
 
+NAMES = {
+    "+": "add", "-": "sub", "*": "mul", "/": "div", "%": "rem", "&": "and", "|": "or", "^": "xor", "~^": "xnor",
+    "==": "eq", "!=": "ne", "===": "case_eq", "!==": "case_ne", "<": "lt", "<=": "le", ">": "gt", ">=": "ge",
+    "<<": "shl", "<<<": "shl", ">>": "shr", ">>>": "ashr",
+}
+UNARY_NAMES = {
+    "~": "not", "-": "neg", "&": "reduce_and", "~&": "reduce_nand", "|": "reduce_or", "~|": "reduce_nor",
+    "^": "reduce_xor", "~^": "reduce_xnor",
+}
+
+
+def word(v):
+    """An operand as the program reads it."""
+    return ("s" if v[1] else "") + v[0]
+
+
 class Cases:
     """The Verilog text, and beside each line that it prints what the definitions say."""
 
@@ -200,6 +218,7 @@ class Cases:
         self.declarations = []
         self.statements = []
         self.expected = []
+        self.calls = []
         self.variables = 0
 
     def variable(self, v):
@@ -209,10 +228,12 @@ class Cases:
         self.statements.append("%s = %s;" % (name, literal(v)))
         return name
 
-    def shown(self, expression, wanted, told, passed=""):
-        """passed: the letters that are not compared are marked by -"""
+    def shown(self, expression, wanted, told, passed="", call=None):
+        """passed: the letters that are not compared are marked by -; call: the words for the program"""
         self.statements.append('$display("%%b", %s);' % expression)
         self.expected.append((wanted, told, passed))
+        if call:
+            self.calls.append((call, wanted))
 
     def text(self):
         return "module tb;\n%s\ninitial begin\n%s\nend\nendmodule\n" % (
@@ -227,17 +248,20 @@ def fill(cases, chance, count):
             if chance.random() < 0.2:
                 w = (v[0], w[1])
             expression = "%s %s %s" % (cases.variable(v), operator, cases.variable(w))
-            cases.shown(expression, meaning(v, w), "%s %s %s" % (literal(v), operator, literal(w)))
+            cases.shown(expression, meaning(v, w), "%s %s %s" % (literal(v), operator, literal(w)),
+                        call=(NAMES[operator], word(v), word(w)))
     for operator, meaning in UNARY.items():
         for _ in range(count):
             v = random_vector(chance, random_length(chance))
-            cases.shown("%s%s" % (operator, cases.variable(v)), meaning(v), "%s %s" % (operator, literal(v)))
+            cases.shown("%s%s" % (operator, cases.variable(v)), meaning(v), "%s %s" % (operator, literal(v)),
+                        call=(UNARY_NAMES[operator], word(v), word(v)))
     for operator in ("<<", "<<<", ">>", ">>>"):
         for _ in range(count):
             v = random_vector(chance, random_length(chance))
             amount = random_vector(chance, chance.randint(1, 8))
             expression = "%s %s %s" % (cases.variable(v), operator, cases.variable(amount))
-            cases.shown(expression, shift(v, amount, operator), "%s %s %s" % (literal(v), operator, literal(amount)))
+            cases.shown(expression, shift(v, amount, operator), "%s %s %s" % (literal(v), operator, literal(amount)),
+                        call=(NAMES[operator], word(v), word(amount)))
     for _ in range(count):
         length = random_length(chance)
         v = random_vector(chance, length)
@@ -255,22 +279,40 @@ def fill(cases, chance, count):
         left = random_vector(chance, max(1, min(64 - len(right[0]), length)))
         if len(left[0]) + len(right[0]) <= 64:
             expression = "{%s, %s}" % (cases.variable(left), cases.variable(right))
-            cases.shown(expression, left[0] + right[0], "{%s, %s}" % (literal(left), literal(right)))
+            cases.shown(expression, left[0] + right[0], "{%s, %s}" % (literal(left), literal(right)),
+                        call=("concat", word(left), word(right)))
         wide = chance.randint(1, 64)
         target = cases.variable(("0" * wide, False))
         cases.statements.append("%s = %s;" % (target, cases.variable(v)))
         cases.shown(target, resize(v, wide), "%s at %d" % (literal(v), wide))
-        cases.shown("%s ? 1'b1 : 1'b0" % cases.variable(v), truth(v), "%s as a condition" % literal(v))
+        cases.shown("%s ? 1'b1 : 1'b0" % cases.variable(v), truth(v), "%s as a condition" % literal(v),
+                    call=("truth", word(v), word(v)))
         w = random_vector(chance, length)
         both_z = "".join("-" if a == b == "z" else " " for a, b in zip(v[0], w[0]))
         cases.shown("1'bx ? %s : %s" % (cases.variable(v), cases.variable(w)), bitwise(join_letter)(v, w),
-                    "1'bx ? %s : %s" % (literal(v), literal(w)), both_z)
+                    "1'bx ? %s : %s" % (literal(v), literal(w)), both_z, ("join", word(v), word(w)))
 
 
 def differs(wanted, found, passed):
     if len(wanted) != len(found):
         return True
     return any(a != b and mark != "-" for a, b, mark in zip(wanted, found, passed or " " * len(wanted)))
+
+
+def ask_the_crate(calls):
+    """How many answers of the crate differ; none where its program isn't built."""
+    program = Path(__file__).resolve().parents[2] / "crates/vbits_bench/out/vbits_bench"
+    if not program.exists():
+        print("vectors: the crate itself is not asked, vbits_bench is not built")
+        return 0
+    wrong = 0
+    for words, wanted in calls:
+        answer = subprocess.run([str(program), *words], check=True, capture_output=True, text=True).stdout.strip()
+        if answer != wanted:
+            wrong += 1
+            print("%s: wanted %s, the crate says %s" % (" ".join(words), wanted, answer))
+    print("vectors: the crate asked %d times, %d answers differ" % (len(calls), wrong))
+    return wrong
 
 
 def main():
@@ -298,7 +340,7 @@ def main():
             joined += 1
     print("vectors: %d compared, %d differ, %d with the known difference (z joined with z)"
           % (len(found), wrong, joined))
-    return 1 if wrong else 0
+    return 1 if wrong + ask_the_crate(cases.calls) else 0
 
 
 if __name__ == "__main__":

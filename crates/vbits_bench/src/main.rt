@@ -1,12 +1,14 @@
-//! Runs one operator of `vbits` as often as it is told, so that its instructions can be counted.
-//! In go the operator's name and the number of turns, as two words; out comes a sum of the results.
-//! Without words nothing is run. No law is claimed.
+//! Runs one operator of `vbits`: as often as it is told, so that its instructions can be counted, or once, so that its
+//! result can be compared. In go the operator's name and the number of turns, as two words, and out comes a sum of the
+//! results; or the name and two operands, each its letters from the left, behind an `s` where it is signed, and out come
+//! the letters of the result, or a `?` for operands that don't go together. Without words nothing is run. No law is
+//! claimed.
 #![tactic(auto)]
 
 ghost use Rattle.std.specs.Prelude.{◌≡◌, ◌≤◌, length};
 
 use std::{env, io};
-use vbits::{Red, Vec4};
+use vbits::{Bit4, Red, Vec4};
 
 #[derive(Clone, Copy)]
 enum Operator {
@@ -33,8 +35,11 @@ enum Operator {
     Gt,
     Ge,
     ReduceAnd,
+    ReduceNand,
     ReduceOr,
+    ReduceNor,
     ReduceXor,
+    ReduceXnor,
     Truth,
     Shl,
     Shr,
@@ -70,8 +75,11 @@ fn named(name: &str) -> Operator {
         "gt" => Operator::Gt,
         "ge" => Operator::Ge,
         "reduce_and" => Operator::ReduceAnd,
+        "reduce_nand" => Operator::ReduceNand,
         "reduce_or" => Operator::ReduceOr,
+        "reduce_nor" => Operator::ReduceNor,
         "reduce_xor" => Operator::ReduceXor,
+        "reduce_xnor" => Operator::ReduceXnor,
         "truth" => Operator::Truth,
         "shl" => Operator::Shl,
         "shr" => Operator::Shr,
@@ -110,8 +118,11 @@ fn applied(operator: Operator, left: Vec4, right: Vec4) -> Vec4
         Operator::Gt => left.gt(right),
         Operator::Ge => left.ge(right),
         Operator::ReduceAnd => left.reduce(Red::And),
+        Operator::ReduceNand => left.reduce(Red::Nand),
         Operator::ReduceOr => left.reduce(Red::Or),
+        Operator::ReduceNor => left.reduce(Red::Nor),
         Operator::ReduceXor => left.reduce(Red::Xor),
+        Operator::ReduceXnor => left.reduce(Red::Xnor),
         Operator::Truth => Vec4::of_bit(left.truth()),
         Operator::Select => left.select(left.len() - 1, left.len() / 2),
         Operator::Resize => left.resize(right.len() / 2 + 30),
@@ -215,16 +226,92 @@ fn run(operator: Operator, turns: u64) -> u64 {
     sum
 }
 
+fn letter_of(byte: u8) -> Option<Bit4> {
+    match byte {
+        b'0' => Some(Bit4::Zero),
+        b'1' => Some(Bit4::One),
+        b'x' => Some(Bit4::X),
+        b'z' => Some(Bit4::Z),
+        _ => None,
+    }
+}
+
+// The vector of these letters, leftmost first; none where there are none, too many, or others.
+fn vector_of(letters: &[u8]) -> Option<Vec4> {
+    let (first, rest) = letters.split_first()?;
+    let mut vector = Vec4::of_bit(letter_of(*first)?);
+    for byte in rest {
+        let letter = Vec4::of_bit(letter_of(*byte)?);
+        if vector.len() + letter.len() > 64 {
+            return None;
+        }
+        vector = vector.concat(letter);
+    }
+    Some(vector)
+}
+
+// An operand: its letters, behind an `s` where it is signed.
+fn operand_of(word: &[u8]) -> Option<Vec4> {
+    match word.split_first() {
+        Some((b's', letters)) => Some(vector_of(letters)?.with_sign(true)),
+        _ => vector_of(word),
+    }
+}
+
+// What the operator makes of the operands, where they go together.
+fn result_of(operator: Operator, left: &[u8], right: &[u8]) -> Option<Vec4> {
+    let left = operand_of(left)?;
+    let right = operand_of(right)?;
+    if takes_free(operator) {
+        return Some(applied_to_free(operator, left, right));
+    }
+    if left.len() == right.len() {
+        Some(applied(operator, left, right))
+    } else {
+        None
+    }
+}
+
+fn print_letters(rt: &impl Print, vector: Vec4) -> io::Result<()> {
+    for i in 0..vector.len() {
+        let shown = match vector.bit(vector.len() - 1 - i) {
+            Bit4::Zero => "0",
+            Bit4::One => "1",
+            Bit4::X => "x",
+            Bit4::Z => "z",
+        };
+        rt.print(shown)?;
+    }
+    Ok(())
+}
+
+fn show(rt: &impl Print, operator: Operator, left: &[u8], right: &[u8]) -> io::Result<()> {
+    match result_of(operator, left, right) {
+        Some(result) => print_letters(rt, result)?,
+        None => rt.print("?")?,
+    }
+    rt.println("")
+}
+
 fn main(rt: HostRuntime) -> io::Result<()> {
     let mut words = env::args(&rt)?;
     let _program = words.next();
     let Some(name) = words.next() else {
         return Ok(());
     };
-    let turns = match words.next() {
-        Some(word) => word.as_str().parse::<u64>().unwrap_or(0),
-        None => 0,
+    let operator = named(name.as_str());
+    let Some(second) = words.next() else {
+        return Ok(());
     };
-    let sum = run(named(name.as_str()), turns);
+    if let Some(right) = words.next() {
+        return show(
+            &rt,
+            operator,
+            second.as_str().as_bytes(),
+            right.as_str().as_bytes(),
+        );
+    }
+    let turns = second.as_str().parse::<u64>().unwrap_or(0);
+    let sum = run(operator, turns);
     println!(rt; "{name} {turns} {sum}")
 }
