@@ -1,3 +1,8 @@
+pub mod Cursors
 pub mod ReaderLaws
 pub mod ReadingLaws
 pub mod SourceLaws
+pub mod Turns
+pub mod Fewer
+pub mod StatementLaws
+pub mod ParseLaws

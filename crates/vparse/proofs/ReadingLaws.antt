@@ -301,7 +301,7 @@ no_end levels (delay amount body) rest fit = refl
 no_end levels dump_vars rest fit = refl
 no_end levels finish rest fit = refl
 
-some_words : (tree : StatementTree) → 0 < length (spell_statement tree)
+pub some_words : (tree : StatementTree) → 0 < length (spell_statement tree)
 some_words empty = omega arith
 some_words (block trees) = omega arith
 some_words (assign target held) = omega arith

@@ -14,7 +14,7 @@ use Rattle.vparse.proofs.ReadingLaws.{name_is_not, fewer, statement_reads}
 
 -- names
 
-more_reads : Reads more_name (λ more. codes "," ∷ more ∷ []) is_name
+pub more_reads : Reads more_name (λ more. codes "," ∷ more ∷ []) is_name
 more_reads = record {
   spelled = λ words tree rest e.
       let a = parts (symbol (codes ",") words) _ (tree, rest) e in
@@ -44,7 +44,7 @@ names_found words letters rest e =
       fitting = sym (ap (list_all is_name) p.0) ∙ both (is_name a.0.0) (list_all is_name b.0.0) w.1 m.fitting;
     }
 
-two_words : (more : Text) → 0 < length (codes "," ∷ more ∷ [])
+pub two_words : (more : Text) → 0 < length (codes "," ∷ more ∷ [])
 two_words more = omega arith
 
 names_complete : (letters : Text) (more : List Text) (rest : List Text) → is_name letters ≡ true → list_all is_name more ≡ true → no_more_names rest ≡ true →
@@ -171,7 +171,7 @@ item_complete (registers bits (letters ∷ more)) rest fit =
 item_complete (initial tree) rest fit =
     then_is (statement 64 (spell_statement tree ++ rest)) (λ t last. Some (initial t, last)) tree rest ((statement_reads 64).complete tree rest fit)
 
-item_reads : Reads item spell_item fits_item
+pub item_reads : Reads item spell_item fits_item
 item_reads = record {
   spelled = λ words tree rest e. (item_found words tree rest e).spelled;
   fitting = λ words tree rest e. (item_found words tree rest e).fitting;
@@ -184,7 +184,7 @@ endmodule_reserved : is_name (codes "endmodule") ≡ false
 unfolding reserved_words
 endmodule_reserved = refl
 
-item_words : (tree : ItemTree) → 0 < length (spell_item tree)
+pub item_words : (tree : ItemTree) → 0 < length (spell_item tree)
 item_words (registers bits letters) = omega arith
 item_words (initial tree) = omega arith
 
@@ -229,7 +229,7 @@ unit_complete tree rest fit =
     (many_complete item spell_item fits_item (begins (codes "endmodule")) item_reads item_words no_endmodule (1 + length words) tree.items behind
     (right_of (is_name tree.name) (list_all fits_item tree.items) fit) refl (fewer (length words)))
 
-unit_reads : Reads unit spell_module fits_module
+pub unit_reads : Reads unit spell_module fits_module
 unit_reads = record {
   spelled = λ words tree rest e. (unit_found words tree rest e).spelled;
   fitting = λ words tree rest e. (unit_found words tree rest e).fitting;
@@ -238,7 +238,7 @@ unit_reads = record {
 
 -- whole texts
 
-unit_words : (tree : ModuleTree) → 0 < length (spell_module tree)
+pub unit_words : (tree : ModuleTree) → 0 < length (spell_module tree)
 unit_words tree = omega arith
 
 append_nil : (words : List Text) → words ++ [] ≡ words

@@ -1,4 +1,7 @@
+pub mod Answers
+pub mod Faults
 pub mod Profile
 pub mod Readers
 pub mod Reading
 pub mod Trees
+pub mod Words

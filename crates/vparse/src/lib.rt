@@ -3,6 +3,18 @@
 // is no other.
 #![tactic(auto)]
 
+mod cursor;
+mod fault;
+mod items;
 pub mod law;
 pub mod lead;
+mod modules;
+mod parser;
 pub mod profile;
+mod statements;
+mod stop;
+#[cfg(test)]
+mod tests;
+
+pub use fault::SyntaxFault;
+pub use parser::parse;

@@ -1,0 +1,19 @@
+use Rattle.std.proofs.Common.{ap, sym, ◌∙◌}
+use Rattle.vast.specs.Trees.{source_tree}
+use Rattle.vparse.specs.Reading.{source}
+use Rattle.vparse.specs.Words.{words_of}
+use Rattle.vparse.proofs.SourceLaws.{source_derives}
+use Rattle.vparse.proofs.ParseLaws.{only_read, no_tree}
+use Rattle.vparse.proofs.parser.parse.Goals as goal
+
+pub returns-in-Ok-clause-derives : goal.returns-in-Ok-clause-derives
+returns-in-Ok-clause-derives c =
+    source_derives (words_of c.args.tokens.now) (source_tree (record { modules = c.in-Ok.modules })) c.source.new.cursor (ap source (sym c.new-cursor.ensures) ∙ c.in-Ok.ensures)
+
+pub returns-in-Ok-clause-only : goal.returns-in-Ok-clause-only
+returns-in-Ok-clause-only c =
+    only_read (words_of c.args.tokens.now) (source_tree (record { modules = c.in-Ok.modules })) c.source.new.cursor (ap source (sym c.new-cursor.ensures) ∙ c.in-Ok.ensures)
+
+pub returns-in-Err-clause-none : goal.returns-in-Err-clause-none
+returns-in-Err-clause-none c =
+    no_tree (words_of c.args.tokens.now) c.in-Err.stop c.fault.result c.fault.ensures.memory (λ kept. ap source (sym c.new-cursor.ensures) ∙ c.in-Err.ensures kept)

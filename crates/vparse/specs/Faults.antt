@@ -1,0 +1,42 @@
+-- What a fault says of a text.
+use Rattle.std.specs.Prelude.{◌≡◌, ℕ, ◌≤◌, Bool, true, false, List, Option, None, Some, length, slice_get}
+use Rattle.vsrc.specs.Source.{place_of}
+use Rattle.vsrc.specs.declared.expanded.Place.{Place}
+use Rattle.vlex.specs.Tokenized.{Tokenized, start_of}
+use Rattle.vast.specs.Syntax.{Text, SourceTree}
+use Rattle.vast.specs.Derives.{Derives}
+use Rattle.vparse.specs.declared.fault.SyntaxFault.{SyntaxFault}
+use Rattle.vparse.specs.declared.fault.SyntaxFault.TheVariants.{NoTree, Outside, TooDeep, Memory}
+use Rattle.vparse.specs.Profile.{is_outside}
+use Rattle.vparse.specs.Words.{words_of}
+
+-- a tree is the words' only one
+abbrev pub IsOnlyTree : List Text → SourceTree → Type 0
+IsOnlyTree words tree = (other : SourceTree) → Derives words other → other ≡ tree
+
+-- save for want of memory a fault says that no tree derives the words
+abbrev pub HasNoTree : List Text → SyntaxFault → Type 0
+HasNoTree words (NoTree place) = (tree : SourceTree) → Derives words tree → ⊥
+HasNoTree words (Outside place) = (tree : SourceTree) → Derives words tree → ⊥
+HasNoTree words (TooDeep place) = (tree : SourceTree) → Derives words tree → ⊥
+HasNoTree words Memory = Unit {0}
+
+-- whether a word stands outside the profile, where there is one
+abbrev pub is_any_outside : Option Text → Bool
+is_any_outside None = false
+is_any_outside (Some word) = is_outside word
+
+-- The token of this number begins at the place, or the text ends there, and the word there stands outside the
+-- profile or not.
+pub record StandsAt (tokens : Tokenized) (place : Place) (outside : Bool) : Type 0 where
+  pub index : ℕ
+  pub within : index ≤ length (words_of tokens)
+  pub placed : place ≡ place_of tokens.source (start_of tokens index)
+  pub judged : is_any_outside (slice_get (words_of tokens) index) ≡ outside
+
+-- E202 comes at a token whose word stands outside the profile, and the others only elsewhere
+abbrev pub IsReason : Tokenized → SyntaxFault → Type 0
+IsReason tokens (NoTree place) = StandsAt tokens place false
+IsReason tokens (Outside place) = StandsAt tokens place true
+IsReason tokens (TooDeep place) = StandsAt tokens place false
+IsReason tokens Memory = Unit {0}

@@ -1,0 +1,182 @@
+// Statements, by their first words (IEEE 1364-2005, A.6).
+
+ghost use Rattle.std.specs.Prelude.{◌≡◌, ◌∷◌, drop, map, codes};
+ghost use Rattle.vast.specs.Syntax.{ExpressionTree, StatementTree, dump_vars, finish};
+ghost use Rattle.vast.specs.Trees.{word_text, expression_tree, statement_tree};
+ghost use Rattle.vparse.specs.Readers.{begins, until};
+ghost use Rattle.vparse.specs.Reading.{expression, value, assignment, task, led, block_of, delay_of, statement};
+ghost use Rattle.vparse.specs.Answers.{Answers};
+
+use crate::cursor::Cursor;
+use crate::lead::{Lead, is, lead_of_word};
+use crate::stop::Stop;
+use std::alloc::Global;
+use vast::syntax::{Expr, Stmt, Word};
+use vast::words::{is_name, is_number};
+
+fn expression<'a>(cursor: &mut Cursor<'_, 'a>) -> Result<Expr<'a>, Stop>
+    ensures { Answers expression expression_tree cursor.old cursor.new result }
+{
+    match cursor.word() {
+        None => Err(Stop::NoTree),
+        Some(word) => {
+            if is_number(word.text) {
+                cursor.pass();
+                Ok(Expr::Number(word))
+            } else if is_name(word.text) {
+                cursor.pass();
+                Ok(Expr::Name(word))
+            } else {
+                Err(Stop::NoTree)
+            }
+        }
+    }
+}
+
+// What an assignment gives its target, and the semicolon.
+fn value<'a>(cursor: &mut Cursor<'_, 'a>) -> Result<Expr<'a>, Stop>
+    ensures { (make : ExpressionTree → StatementTree) → Answers (value make) (λ held. make (expression_tree held)) cursor.old cursor.new result }
+{
+    let held = expression(cursor)?;
+    cursor.symbol(b";")?;
+    Ok(held)
+}
+
+// What follows the name that begins an assignment.
+fn assignment<'a>(cursor: &mut Cursor<'_, 'a>, target: Word<'a>) -> Result<Stmt<'a>, Stop>
+    ensures { Answers (assignment (word_text target.entry)) statement_tree cursor.old cursor.new result }
+{
+    match cursor.word() {
+        None => Err(Stop::NoTree),
+        Some(sign) => {
+            if is(sign.text, b"=") {
+                cursor.pass();
+                let value = value(cursor)?;
+                Ok(Stmt::Assign { target, value })
+            } else if is(sign.text, b"<=") {
+                cursor.pass();
+                let value = value(cursor)?;
+                Ok(Stmt::Nonblocking { target, value })
+            } else {
+                Err(Stop::NoTree)
+            }
+        }
+    }
+}
+
+// The semicolon behind `$dumpvars` (18.1.2).
+fn dump_vars<'a>(cursor: &mut Cursor<'_, 'a>) -> Result<Stmt<'a>, Stop>
+    ensures { Answers (task dump_vars) statement_tree cursor.old cursor.new result }
+{
+    cursor.symbol(b";")?;
+    Ok(Stmt::DumpVars)
+}
+
+// The semicolon behind `$finish` (17.4.1).
+fn finish<'a>(cursor: &mut Cursor<'_, 'a>) -> Result<Stmt<'a>, Stop>
+    ensures { Answers (task finish) statement_tree cursor.old cursor.new result }
+{
+    cursor.symbol(b";")?;
+    Ok(Stmt::Finish)
+}
+
+/// A statement of so many levels at most (clause 9; docs/LANGUAGE.md, "Depth").
+#[cycle(statements)]
+pub fn statement<'a>(
+    alloc: Global,
+    cursor: &mut Cursor<'_, 'a>,
+    levels: u32,
+) -> Result<Stmt<'a>, Stop>
+    ensures { Answers (statement levels) statement_tree cursor.old cursor.new result }
+{
+    if levels == 0 {
+        return Err(Stop::TooDeep);
+    }
+    match cursor.word() {
+        None => Err(Stop::NoTree),
+        Some(word) => led(alloc, cursor, word, levels - 1),
+    }
+}
+
+// The statement that begins with the word here, with so many levels below it.
+#[cycle(statements)]
+fn led<'a>(
+    alloc: Global,
+    cursor: &mut Cursor<'_, 'a>,
+    word: Word<'a>,
+    below: u32,
+) -> Result<Stmt<'a>, Stop>
+    requires { cursor.old ≡ word_text word ∷ drop 1 cursor.old }
+    ensures { Answers (led below (statement below)) statement_tree cursor.old cursor.new result }
+{
+    match lead_of_word(word.text) {
+        Lead::Name => {
+            if below == 0 {
+                return Err(Stop::TooDeep);
+            }
+            cursor.pass();
+            assignment(cursor, word)
+        }
+        Lead::Semicolon => {
+            cursor.pass();
+            Ok(Stmt::Empty)
+        }
+        Lead::Begin => {
+            cursor.pass();
+            block(alloc, cursor, below)
+        }
+        Lead::Hash => {
+            cursor.pass();
+            delay(alloc, cursor, below)
+        }
+        Lead::DumpVars => {
+            cursor.pass();
+            dump_vars(cursor)
+        }
+        Lead::Finish => {
+            cursor.pass();
+            finish(cursor)
+        }
+        Lead::Other => Err(Stop::NoTree),
+    }
+}
+
+// The statements behind `begin`, and `end` (9.8.1).
+#[cycle(statements)]
+fn block<'a>(alloc: Global, cursor: &mut Cursor<'_, 'a>, levels: u32) -> Result<Stmt<'a>, Stop>
+    ensures { Answers (block_of (statement levels)) statement_tree cursor.old cursor.new result }
+{
+    let statements = statements(alloc, cursor, levels)?;
+    cursor.symbol(b"end")?;
+    Ok(Stmt::Block(statements))
+}
+
+// Statements up to `end`.
+#[cycle(statements)]
+fn statements<'a>(
+    alloc: Global,
+    cursor: &mut Cursor<'_, 'a>,
+    levels: u32,
+) -> Result<Vec<Stmt<'a>>, Stop>
+    ensures { Answers (until (statement levels) (begins (codes "end"))) (λ found. map statement_tree found.items) cursor.old cursor.new result }
+{
+    let mut found = Vec::new(alloc);
+    'turns: while !cursor.begins(b"end") {
+        let one = statement(alloc, cursor, levels)?;
+        found.push(one)?;
+    }
+    Ok(found)
+}
+
+// The number and the statement behind `#` (9.7.1).
+#[cycle(statements)]
+fn delay<'a>(alloc: Global, cursor: &mut Cursor<'_, 'a>, levels: u32) -> Result<Stmt<'a>, Stop>
+    ensures { Answers (delay_of (statement levels)) statement_tree cursor.old cursor.new result }
+{
+    let amount = cursor.number()?;
+    let body = statement(alloc, cursor, levels)?;
+    Ok(Stmt::Delay {
+        amount,
+        body: Box::new(alloc, body)?,
+    })
+}
