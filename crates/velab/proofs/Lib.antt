@@ -1,0 +1,7 @@
+pub mod NumberLemmas
+pub mod NameLemmas
+pub mod VariableLemmas
+pub mod ListLemmas
+pub mod FaultLemmas
+pub mod StatementLemmas
+pub mod TopLemmas

@@ -1,0 +1,96 @@
+-- Names kept as keys, and lists in which a name stands twice.
+use Rattle.std.proofs.Common.{◌≡◌, ℕ, ◌+◌, Bool, true, false, cond, ◌||◌, not, if◌then◌else◌, nat_lt, List, [], ◌∷◌, ◌++◌, map, length, position, Bor, Option, Some, None, refl, sym, ap, ◌∙◌, true≢false}
+use Rattle.std.specs.List.{list_any, prefix_len}
+use Rattle.std.specs.Str.{bytes_eq}
+use Rattle.std.specs.Cmp.Lexicographic.{nat_list_eq_equiv}
+use Rattle.std.proofs.lemmas.List.{length-map, map-append}
+use Rattle.std.proofs.lemmas.List.Folds.{list_any-append}
+use Rattle.vast.specs.Syntax.{Text}
+use Rattle.velab.specs.Elaborate.{has_double, is_declared}
+
+abbrev pub texts : List (Bor Text) → List Text
+texts = map (λ key. key.now)
+
+pub any-texts : (p : Text → Bool) (keys : List (Bor Text)) → list_any (λ (key : Bor Text). p key.now) keys ≡ list_any p (texts keys)
+any-texts p [] = refl
+any-texts p (key ∷ keys) = ap (λ b. p key.now || b) (any-texts p keys)
+
+prefix-texts : (p : Text → Bool) (keys : List (Bor Text)) → prefix_len (λ (key : Bor Text). p key.now) keys ≡ prefix_len p (texts keys)
+prefix-texts p [] = refl
+prefix-texts p (key ∷ keys) = ap (λ n. cond (p key.now) (1 + n) 0) (prefix-texts p keys)
+
+pub position-texts : (p : Text → Bool) (keys : List (Bor Text)) → position (λ (key : Bor Text). p key.now) keys ≡ position p (texts keys)
+position-texts p keys = λ i. found (prefix-texts (λ t. not (p t)) keys i) (shown i)
+  where
+    found : ℕ → ℕ → Option ℕ
+    found n m = cond (nat_lt n m) (Some n) None
+
+    shown : length keys ≡ length (texts keys)
+    shown = sym (length-map keys (λ (key : Bor Text). key.now))
+
+or_true : (a b : Bool) → b ≡ true → (a || b) ≡ true
+or_true true b e = refl
+or_true false b e = e
+
+or_false : (a b : Bool) → a ≡ false → b ≡ false → (a || b) ≡ false
+or_false a b e f = (λ i. e i || f i)
+
+left_false : (a b : Bool) → (a || b) ≡ false → a ≡ false
+left_false true b e = absurd (true≢false e)
+left_false false b e = refl
+
+right_false : (a b : Bool) → (a || b) ≡ false → b ≡ false
+right_false true b e = absurd (true≢false e)
+right_false false b e = e
+
+-- a name that stands before is there twice
+pub double_at : (xs rest : List Text) (y : Text) → is_declared xs y ≡ true → has_double (xs ++ y ∷ rest) ≡ true
+double_at [] rest y there = absurd (true≢false (sym there))
+double_at (x ∷ xs) rest y there = by (bytes_eq y x) refl (double_at xs rest y)
+  where
+    among : bytes_eq x y ≡ true → list_any (bytes_eq x) (xs ++ y ∷ rest) ≡ true
+    among e = list_any-append (bytes_eq x) xs (y ∷ rest) ∙ or_true (list_any (bytes_eq x) xs) (list_any (bytes_eq x) (y ∷ rest)) (ap (λ b. b || list_any (bytes_eq x) rest) e)
+
+    by : (b : Bool) → bytes_eq y x ≡ b → (is_declared xs y ≡ true → has_double (xs ++ y ∷ rest) ≡ true) →
+        (list_any (bytes_eq x) (xs ++ y ∷ rest) || has_double (xs ++ y ∷ rest)) ≡ true
+    by true e later = ap (λ b. b || has_double (xs ++ y ∷ rest)) (among (nat_list_eq_equiv.symm x y ∙ e))
+    by false e later = or_true (list_any (bytes_eq x) (xs ++ y ∷ rest)) (has_double (xs ++ y ∷ rest))
+        (later (sym (ap (λ b. b || is_declared xs y) e) ∙ there))
+
+-- a name that doesn't stand before may come last
+pub no_double-push : (xs : List Text) (y : Text) → has_double xs ≡ false → is_declared xs y ≡ false → has_double (xs ++ y ∷ []) ≡ false
+no_double-push [] y none new = refl
+no_double-push (x ∷ xs) y none new =
+    or_false (list_any (bytes_eq x) (xs ++ y ∷ [])) (has_double (xs ++ y ∷ []))
+    (
+    list_any-append (bytes_eq x) xs (y ∷ [])
+    ∙ or_false (list_any (bytes_eq x) xs) (bytes_eq x y || false) (left_false (list_any (bytes_eq x) xs) (has_double xs) none)
+    (or_false (bytes_eq x y) false (nat_list_eq_equiv.symm x y ∙ left_false (bytes_eq y x) (is_declared xs y) new) refl)
+    )
+    (no_double-push xs y (right_false (list_any (bytes_eq x) xs) (has_double xs) none) (right_false (bytes_eq y x) (is_declared xs y) new))
+
+-- the names after one was put in
+pub no_double-inserted : (keys new : List (Bor Text)) (key : Bor Text) → has_double (texts keys) ≡ false → list_any (λ (k : Bor Text). bytes_eq key.now k.now) keys ≡ false →
+    new ≡ (if list_any (λ (k : Bor Text). bytes_eq key.now k.now) keys then keys else keys ++ key ∷ []) → has_double (texts new) ≡ false
+no_double-inserted keys new key none absent is =
+    ap (λ ks. has_double (texts ks)) (is ∙ ap (λ b. if b then keys else keys ++ key ∷ []) absent)
+    ∙ ap has_double (map-append (λ (k : Bor Text). k.now) keys (key ∷ []))
+    ∙ no_double-push (texts keys) key.now none (sym (any-texts (bytes_eq key.now) keys) ∙ absent)
+
+-- where a name was not new
+pub was_there : (keys : List (Bor Text)) (names : List Text) (added : Bool) (text : Text) → added ≡ not (list_any (λ (k : Bor Text). bytes_eq text k.now) keys) →
+    added ≡ false → texts keys ≡ names → is_declared names text ≡ true
+was_there keys names added text is old shows =
+    ap (λ xs. is_declared xs text) (sym shows) ∙ sym (any-texts (bytes_eq text) keys) ∙ by (list_any (λ (k : Bor Text). bytes_eq text k.now) keys) (sym is ∙ old)
+  where
+    by : (b : Bool) → not b ≡ false → b ≡ true
+    by true e = refl
+    by false e = absurd (true≢false e)
+
+pub was_new : (keys : List (Bor Text)) (added : Bool) (text : Text) → added ≡ not (list_any (λ (k : Bor Text). bytes_eq text k.now) keys) → added ≡ true →
+    list_any (λ (k : Bor Text). bytes_eq text k.now) keys ≡ false
+was_new keys added text is new = by (list_any (λ (k : Bor Text). bytes_eq text k.now) keys) (sym is ∙ new)
+  where
+    by : (b : Bool) → not b ≡ true → b ≡ false
+    by true e = absurd (true≢false (sym e))
+    by false e = refl

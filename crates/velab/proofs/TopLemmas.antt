@@ -1,0 +1,33 @@
+-- Faults of the modules' names and of the top.
+use Rattle.std.proofs.Common.{◌≡◌, ◌<◌, ◌⊎◌, inl, inr, ℕ, ◌+◌, true, false, List, ◌∷◌, ◌++◌, length, map, drop, get_or, Option, Some, None, Result, Ok, Err, IfErr, sym, ap, subst, ◌∙◌, true≢false, arith}
+use Rattle.std.specs.Prelude.{unwrap_or}
+use Rattle.std.specs.List.{list_all}
+use Rattle.vast.specs.Syntax.{Text, ModuleTree, SourceTree}
+use Rattle.vast.specs.Trees.{word_text, module_tree}
+use Rattle.vast.specs.declared.syntax.Module.{Module}
+use Rattle.velab.specs.declared.fault.ElabFault.{ElabFault}
+use Rattle.velab.specs.declared.fault.ElabFault.TheVariants.{Module as ModuleFault, Doubled, Unknown, Width, TooMany, Memory}
+use Rattle.velab.specs.Elaborate.{top_of, has_double, is_declared, module_names, declared_names, declarations, initials, has_range, knows, IsRight}
+use Rattle.velab.specs.Reasons.{Because, Breaks, IsReason, IsOfText, HasNoDesign, OfTop}
+use Rattle.velab.proofs.FaultLemmas.{because_of}
+use Rattle.velab.proofs.ListLemmas.{drop_at}
+use Rattle.velab.proofs.VariableLemmas.{name_stops}
+
+pub modules_err : (modules : List Module) (i : ℕ) (unit : Module) (names all : List Text) (e : ElabFault) → i < length modules → unit ≡ get_or modules i unit →
+    names ++ module_names (map module_tree (drop i modules)) ≡ all → Because (is_declared names (word_text unit.name) ≡ true) ⊥ ⊥ ⊥ e → Because (has_double all ≡ true) ⊥ ⊥ ⊥ e
+modules_err modules i unit names all e within is same h =
+    because_of (name_stops names (module_names (map module_tree (drop (i + 1) modules))) all (word_text unit.name) here) (λ u. u) (λ w. w) (λ m. m) e h
+  where
+    here : names ++ word_text unit.name ∷ module_names (map module_tree (drop (i + 1) modules)) ≡ all
+    here = ap (λ ms. names ++ module_names (map module_tree ms)) (sym (drop_at modules i unit within is)) ∙ same
+
+-- a rule that the top breaks is a rule that the text breaks
+pub top_err : {T : Type 0} (result : Result T ElabFault) (tree : SourceTree) (top : Option Text) (m : ModuleTree) → top_of tree top ≡ Some m →
+    IfErr result (Breaks m) → IfErr result (IsReason tree top)
+top_err (Ok x) tree top m is h = tt
+top_err (Err (ModuleFault at)) tree top m is h = absurd h
+top_err (Err (Doubled at)) tree top m is h = inr (m, is, h)
+top_err (Err (Unknown at)) tree top m is h = (m, is, h)
+top_err (Err (Width at)) tree top m is h = (m, is, h)
+top_err (Err (TooMany at)) tree top m is h = (m, is, h)
+top_err (Err Memory) tree top m is h = tt

@@ -1,0 +1,135 @@
+-- Bounds and the lists of declared names.
+use Rattle.std.proofs.Common.{◌≡◌, ◌<◌, ◌≤◌, ℕ, suc, ◌+◌, drop, drop-cons, ◌-◌, Bool, true, false, cond, ◌||◌, List, [], ◌∷◌, ◌++◌, length, map, get_or, slice_get, Option, Some, Result, Ok, Err, IfErr, Vec, Global, refl, sym, ap, subst, ◌∙◌, true≢false, length-append, arith}
+use Rattle.std.proofs.lemmas.Option.{unwrap_or-slice_get}
+use Rattle.std.proofs.lemmas.List.Folds.{list_any-append}
+use Rattle.std.specs.Prelude.{unwrap_or, option_map}
+use Rattle.std.proofs.lemmas.List.{map-append}
+use Rattle.std.specs.List.{list_any, list_all, flat_map}
+use Rattle.std.specs.Str.{bytes_eq}
+use Rattle.vbits.specs.declared.bit4.Bit4.{Bit4}
+use Rattle.vbits.specs.declared.bit4.Bit4.TheVariants.{Zero}
+use Rattle.vbits.specs.Letters.{is_one}
+use Rattle.vbits.specs.Vectors.{Vector, sign_letter}
+use Rattle.vast.specs.Syntax.{Text, RangeTree, registers}
+use Rattle.vast.specs.Trees.{word_text, range_tree, item_tree}
+use Rattle.vast.specs.declared.syntax.Word.{Word}
+use Rattle.vast.specs.declared.syntax.Range.{Range}
+use Rattle.vast.specs.declared.syntax.Item.{Item}
+use Rattle.vast.specs.declared.syntax.Item.TheVariants.{Registers}
+use Rattle.vast.specs.declared.design.Bounds.{Bounds}
+use Rattle.velab.specs.declared.fault.ElabFault.{ElabFault}
+use Rattle.velab.specs.Elaborate.{is_negative, is_declared, has_double, has_range, Declaration, declared, declarations_of, bounds_of, variable_by, variable_of}
+use Rattle.velab.specs.Parts.{names_of, names_in}
+use Rattle.velab.specs.Reasons.{Because}
+use Rattle.velab.proofs.ListLemmas.{stopped, fails_at, longer}
+use Rattle.velab.proofs.NameLemmas.{double_at}
+use Rattle.velab.proofs.FaultLemmas.{because_of}
+
+pub unsigned_is_not : (v : Vector) → v.signed ≡ false → is_negative v ≡ false
+unfolding sign_letter
+unsigned_is_not v e = ap (λ b. is_one (cond b (get_or v.letters (length v.letters - 1) Zero) Zero)) e
+
+pub signed_is : (v : Vector) (n : ℕ) (l : Bit4) → v.signed ≡ true → n ≡ length v.letters → slice_get v.letters (n - 1) ≡ Some l → is_one l ≡ is_negative v
+unfolding sign_letter
+signed_is v n l marked len at =
+    sym (ap (λ b. is_one (cond b (get_or v.letters (length v.letters - 1) Zero) Zero)) marked
+    ∙ ap is_one (ap (λ k. get_or v.letters (k - 1) Zero) (sym len) ∙ sym (unwrap_or-slice_get v.letters (n - 1) Zero) ∙ ap (λ o. unwrap_or o Zero) at))
+
+-- ---- lists of declared names
+
+-- what a name that can't be declared says of all
+pub name_stops : (names : List Text) (rest all : List Text) (text : Text) → names ++ text ∷ rest ≡ all → is_declared names text ≡ true → has_double all ≡ true
+name_stops names rest all text is there = sym (ap has_double is) ∙ double_at names rest text there
+
+pub names_full : (names : List Text) (rest all : List Text) (text : Text) → names ++ text ∷ rest ≡ all → 1024 ≤ length names → 1024 < length all
+names_full names rest all text is full = subst (λ l. 1024 < length l) is (more (length (names ++ text ∷ rest)) (length-append names (text ∷ rest)))
+  where
+    more : (n : ℕ) → n ≡ length names + length (text ∷ rest) → 1024 < n
+    more n e = omega arith
+
+double_prefix : (xs ys : List Text) → has_double xs ≡ true → has_double (xs ++ ys) ≡ true
+double_prefix [] ys e = absurd (true≢false (sym e))
+double_prefix (x ∷ xs) ys e = by (list_any (bytes_eq x) xs) refl (double_prefix xs ys)
+  where
+    tail : (a b : Bool) → a ≡ false → (a || b) ≡ true → b ≡ true
+    tail true b f t = absurd (true≢false f)
+    tail false b f t = t
+
+    there : (a b : Bool) → b ≡ true → (a || b) ≡ true
+    there true b f = refl
+    there false b f = f
+
+    by : (b : Bool) → list_any (bytes_eq x) xs ≡ b → (has_double xs ≡ true → has_double (xs ++ ys) ≡ true) → (list_any (bytes_eq x) (xs ++ ys) || has_double (xs ++ ys)) ≡ true
+    by true among later = ap (λ b. b || has_double (xs ++ ys)) (list_any-append (bytes_eq x) xs ys ∙ ap (λ b. b || list_any (bytes_eq x) ys) among)
+    by false alone later = there (list_any (bytes_eq x) (xs ++ ys)) (has_double (xs ++ ys)) (later (tail (list_any (bytes_eq x) xs) (has_double xs) alone e))
+
+-- a part in which a name stands twice
+pub part_stops : (part rest all : List Text) → part ++ rest ≡ all → has_double part ≡ true → has_double all ≡ true
+part_stops part rest all is double = sym (ap has_double is) ∙ double_prefix part rest double
+
+-- ---- one item
+
+map_names : (range : Option RangeTree) (ts : List Text) → map (λ (d : Declaration). d.name) (map (declared range) ts) ≡ ts
+map_names range [] = refl
+map_names range (t ∷ ts) = ap (λ l. t ∷ l) (map_names range ts)
+
+map_variables : (scope : Text) (range : Option RangeTree) (ts : List Text) → map (variable_of scope) (map (declared range) ts) ≡ map (variable_by scope (option_map bounds_of range)) ts
+map_variables scope range [] = refl
+map_variables scope range (t ∷ ts) = ap (λ l. variable_by scope (option_map bounds_of range) t ∷ l) (map_variables scope range ts)
+
+module _ (item : Item) (range : Option Range) (words : Vec Word Global) (list : List Word) (is : item ≡ Registers range words) (same : list ≡ words.items) where
+  tree : item_tree item ≡ registers (option_map range_tree range) (map word_text list)
+  tree = ap item_tree is ∙ ap (λ (ws : List Word). registers (option_map range_tree range) (map word_text ws)) (sym same)
+
+  pub item_names : map word_text list ≡ names_of (item_tree item)
+  item_names = sym (ap names_of tree ∙ map_names (option_map range_tree range) (map word_text list))
+
+  pub item_variables : (scope : Text) (bounds : Option Bounds) → bounds ≡ option_map bounds_of (option_map range_tree range) →
+      map (variable_by scope bounds) (map word_text list) ≡ map (variable_of scope) (declarations_of (item_tree item))
+  item_variables scope bounds bounds_is =
+      ap (λ b. map (variable_by scope b) (map word_text list)) bounds_is
+      ∙ sym (ap (λ t. map (variable_of scope) (declarations_of t)) tree ∙ map_variables scope (option_map range_tree range) (map word_text list))
+
+  pub item_err : (result : Result (Unit {0}) ElabFault) (names : List Text) →
+      IfErr result (Because (has_double (names ++ map word_text list) ≡ true) ⊥ ⊥ (1024 < length (names ++ map word_text list))) →
+      IfErr result (Because (has_double (names ++ names_of (item_tree item)) ≡ true) ⊥ (has_range (item_tree item) ≡ false) (1024 < length (names ++ names_of (item_tree item))))
+  item_err (Ok u) names h = tt
+  item_err (Err e) names h =
+      because_of (λ d. sym (ap (λ l. has_double (names ++ l)) item_names) ∙ d) (λ u. u) (λ w. absurd w) (subst (λ l. 1024 < length (names ++ l)) item_names) e h
+
+-- ---- why a list of names, or of items, can't be declared
+
+pub words_err : (words : List Word) (i : ℕ) (d : Word) (names all : List Text) (e : ElabFault) → i < length words → names ++ map word_text (drop i words) ≡ all →
+    Because (is_declared names (word_text (get_or words i d)) ≡ true) ⊥ ⊥ (1024 ≤ length names) e → Because (has_double all ≡ true) ⊥ ⊥ (1024 < length all) e
+words_err words i d names all e within same h =
+    because_of (name_stops names rest all text is) (λ u. u) (λ w. w) (names_full names rest all text is) e h
+  where
+    text : Text
+    text = word_text (get_or words i d)
+
+    rest : List Text
+    rest = map word_text (drop (suc i) words)
+
+    is : names ++ text ∷ rest ≡ all
+    is = ap (λ ws. names ++ map word_text ws) (sym (drop-cons words i d within)) ∙ same
+
+in_order : (item : Item) (items : List Item) → names_in (map item_tree (item ∷ items)) ≡ names_of (item_tree item) ++ names_in (map item_tree items)
+in_order item items = map-append (λ (d : Declaration). d.name) (declarations_of (item_tree item)) (flat_map declarations_of (map item_tree items))
+
+pub items_err : (items : List Item) (i : ℕ) (item : Item) (names all : List Text) (ranges : Bool) (e : ElabFault) → i < length items → item ≡ get_or items i item →
+    names ++ names_in (map item_tree (drop i items)) ≡ all → list_all has_range (map item_tree (drop i items)) ≡ ranges →
+    Because (has_double (names ++ names_of (item_tree item)) ≡ true) ⊥ (has_range (item_tree item) ≡ false) (1024 < length (names ++ names_of (item_tree item))) e →
+    Because (has_double all ≡ true) ⊥ (ranges ≡ false) (1024 < length all) e
+items_err items i item names all ranges e within is same right h =
+    because_of (part_stops part rest all whole_is) (λ u. u)
+    (fails_at items i item within is (λ xs. list_all has_range (map item_tree xs)) (λ x. has_range (item_tree x)) (λ y ys. refl) ranges right)
+    (λ many. longer 1024 part rest all many whole_is) e h
+  where
+    part : List Text
+    part = names ++ names_of (item_tree item)
+
+    rest : List Text
+    rest = names_in (map item_tree (drop (i + 1) items))
+
+    whole_is : part ++ rest ≡ all
+    whole_is = stopped items i item within is (λ xs. names_in (map item_tree xs)) (λ x. names_of (item_tree x)) in_order names all same

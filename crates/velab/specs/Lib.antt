@@ -1,0 +1,4 @@
+pub mod Literals
+pub mod Elaborate
+pub mod Reasons
+pub mod Parts

@@ -1,0 +1,72 @@
+ghost use Rattle.std.specs.Prelude.{◌≡◌, ◌≤◌, ◌∷◌, [], ℕ, map, IfOk, IfErr, OnOk, option_map};
+ghost use Rattle.vast.specs.Design.{DesignView};
+ghost use Rattle.vast.specs.DesignViews.{design_view, scope_view};
+ghost use Rattle.vast.specs.Trees.{source_tree, module_tree};
+ghost use Rattle.velab.specs.Elaborate as spec;
+ghost use Rattle.velab.specs.Elaborate.{Elaborates, IsRight};
+ghost use Rattle.velab.specs.Reasons.{IsReason, IsOfText, HasNoDesign, Because, Breaks};
+
+use crate::fault::ElabFault;
+use crate::statement::processes;
+use crate::top::{check_names, top_of};
+use crate::variable::{Declarations, declare_items};
+use std::alloc::Global;
+use vast::design::{Design, Scope};
+use vast::syntax::{Ast, Module};
+
+// The only scope: the top's.
+fn scopes(alloc: Global, name: &[u8], variables: u32) -> Result<Vec<Scope>, ElabFault>
+    ensures ok { IfOk result (λ scopes. map scope_view scopes.items ≡ spec.scope_by name.now variables ∷ []) }
+    ensures err { IfErr result (Because ⊥ ⊥ ⊥ ⊥) }
+{
+    let name = Vec::from_slice(alloc, name)?;
+    let mut scopes = Vec::new(alloc);
+    scopes.push(Scope {
+        name,
+        depth: 0,
+        variables,
+    })?;
+    Ok(scopes)
+}
+
+// The design that a module describes, where it is right.
+fn design_of(alloc: Global, unit: &Module<'_>) -> Result<Design, ElabFault>
+    ensures ok { IfOk result (λ design. design_view design ≡ spec.design_of (module_tree unit.now)) }
+    ensures right { OnOk result (IsRight (module_tree unit.now)) }
+    ensures err { IfErr result (Breaks (module_tree unit.now)) }
+{
+    let Declarations { names, variables } = declare_items(alloc, unit.name.text, &unit.items)?;
+    let processes = processes(alloc, &names, &unit.items)?;
+    let scopes = scopes(alloc, unit.name.text, names.len() as u32)?;
+    Ok(Design {
+        variables,
+        processes,
+        scopes,
+    })
+}
+
+/// The design that the text stands for. `top` names its top module; without it the text's only module is the top.
+/// Errors: E301, E302, E303, E306 and E309, each only where its rule is broken, and E901. Of several faults
+/// any one may be answered. Modules other than the top are not looked into (12.1).
+pub fn elaborate(alloc: Global, ast: &Ast<'_>, top: Option<&[u8]>) -> Result<Design, ElabFault>
+    ensures design { IfOk result (λ design. Elaborates (source_tree ast.now) (option_map (λ t. t.now) top.entry) (design_view design)) }
+    ensures only { IfOk result (λ design. (other : DesignView) → Elaborates (source_tree ast.now) (option_map (λ t. t.now) top.entry) other → other ≡ design_view design) }
+    ensures reason { IfErr result (IsReason (source_tree ast.now) (option_map (λ t. t.now) top.entry)) }
+    ensures none { IfErr result (λ e. IsOfText e → HasNoDesign (source_tree ast.now) (option_map (λ t. t.now) top.entry)) }
+{
+    check_names(alloc, &ast.modules)?;
+    match top_of(&ast.modules, top) {
+        Some(unit) => design_of(alloc, unit),
+        None => Err(ElabFault::Module {
+            at: second(&ast.modules, top),
+        }),
+    }
+}
+
+// The token of the name that is one too many, where no top was asked for.
+fn second(modules: &[Module<'_>], top: Option<&[u8]>) -> Option<u32> {
+    match top {
+        Some(_) => None,
+        None => modules.get(1).map(|unit| unit.name.at),
+    }
+}

@@ -1,0 +1,37 @@
+ghost use Rattle.std.specs.Prelude.{◌≡◌};
+ghost use Rattle.velab.specs.declared.fault.ElabFault.TheVariants.{Memory};
+
+use std::alloc::{AllocError, AllocFailed};
+
+/// Why a text has no design. `at` is the number of the token at fault, where there is one.
+#[derive(Clone, Copy, Debug, PartialEq, Eq)]
+pub enum ElabFault {
+    /// E301: no module in the text, none of the name that was asked for, or several and none asked for.
+    Module { at: Option<u32> },
+    /// E302: two modules, or two variables of the top module, have this name.
+    Doubled { at: Option<u32> },
+    /// E303: a name that is no variable of the module.
+    Unknown { at: Option<u32> },
+    /// E306: a bound that isn't 0 to 65,535, or more than 64 bits from one bound to the other.
+    Width { at: Option<u32> },
+    /// E309: more than 1,024 variables or more than 256 processes.
+    TooMany { at: Option<u32> },
+    /// E901: a growth was refused.
+    Memory,
+}
+
+impl From<AllocError> for ElabFault {
+    ghost from_gives = { λ _ e. e ≡ Memory };
+
+    fn from(_error: AllocError) -> ElabFault {
+        ElabFault::Memory
+    }
+}
+
+impl<T: Drop> From<AllocFailed<T>> for ElabFault {
+    ghost from_gives = { λ _ e. e ≡ Memory };
+
+    fn from(_error: AllocFailed<T>) -> ElabFault {
+        ElabFault::Memory
+    }
+}

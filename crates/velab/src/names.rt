@@ -1,0 +1,68 @@
+ghost use Rattle.std.specs.Prelude.{◌≡◌, ◌<◌, ◌++◌, ◌∷◌, [], true, false, length, position, IfOk, IfErr, IfSome, OnOk, is_some};
+ghost use Rattle.std.specs.Str.{bytes_eq};
+ghost use Rattle.velab.specs.Elaborate.{has_double, is_declared};
+ghost use Rattle.velab.specs.Reasons.{Because};
+
+use crate::fault::ElabFault;
+use indexmap::IndexSet;
+use std::alloc::Global;
+use std::marker::Model;
+use vast::syntax::Word;
+
+/// Names in the order in which they were added, no two alike. A name is found by its bytes, at once.
+#[derive(Drop)]
+pub struct Names<'t> {
+    set: IndexSet<&'t [u8]>,
+}
+
+impl<'t> Model for Names<'t> {
+    ghost use Rattle.std.specs.Prelude.{◌≡◌, ℕ, List, map, false};
+    ghost use Rattle.velab.specs.Elaborate.{has_double};
+
+    ghost Value = { List (List ℕ) };
+
+    ghost view = { λ n. map (λ key. key.now) n.set.keys };
+
+    ghost invariant = { λ n. has_double (map (λ key. key.now) n.set.keys) ≡ false };
+}
+
+impl<'t> Names<'t> {
+    /// No names.
+    pub fn new(alloc: Global) -> Self
+        ensures { result ≡ [] }
+    {
+        Names {
+            set: IndexSet::new(alloc),
+        }
+    }
+
+    /// How many there are.
+    pub fn len(&self) -> usize
+        ensures count { result ≡ length self.now }
+        ensures unique { has_double self.now ≡ false }
+    {
+        self.set.len()
+    }
+
+    /// Adds a name behind the others. E302 where it is among them.
+    pub fn add(&mut self, word: &Word<'t>) -> Result<(), ElabFault>
+        ensures added { OnOk result (self.new ≡ self.old ++ word.now.text.now ∷ []) }
+        ensures unique { has_double self.new ≡ false }
+        ensures err { IfErr result (Because (is_declared self.old word.now.text.now ≡ true) ⊥ ⊥ ⊥) }
+    {
+        let added = self.set.insert(word.text)?;
+        if !added {
+            return Err(ElabFault::Doubled { at: Some(word.at) });
+        }
+        Ok(())
+    }
+
+    /// The place of a name among them, from 0.
+    pub fn place(&self, name: &[u8]) -> Option<usize>
+        ensures place { result ≡ position (bytes_eq name.now) self.now }
+        ensures found { is_some result ≡ is_declared self.now name.now }
+        ensures within { IfSome result (λ place. place < length self.now) }
+    {
+        self.set.get_index_of(&name)
+    }
+}
