@@ -1,1 +1,4 @@
+pub mod HeaderLemmas
+pub mod ItemLemmas
+pub mod PutLemmas
 pub mod ValueLemmas

@@ -82,14 +82,20 @@ bounds_text None = []
 bounds_text (Some bounds) = codes " [" ++ decimal bounds.left ++ codes ":" ++ decimal bounds.right ++ codes "]"
 
 -- $var KIND WIDTH CODE NAME $end, with the name without its scopes
-abbrev pub variable_line : ℕ → VariableView → List ℕ
-variable_line n variable =
-    line (codes "$var " ++ kind_word variable.kind ++ codes " " ++ decimal variable.length ++ codes " " ++ code n ++ codes " "
+abbrev pub named_variable_line : List ℕ → VariableView → List ℕ
+named_variable_line name variable =
+    line (codes "$var " ++ kind_word variable.kind ++ codes " " ++ decimal variable.length ++ codes " " ++ name ++ codes " "
     ++ after_last (λ c. c == 46) variable.name ++ bounds_text variable.bounds ++ codes " $end")
+
+abbrev pub variable_line : ℕ → VariableView → List ℕ
+variable_line n = named_variable_line (code n)
 
 abbrev pub variable_lines : ℕ → List VariableView → List ℕ
 variable_lines n [] = []
 variable_lines n (v ∷ vs) = variable_line n v ++ variable_lines (suc n) vs
+
+abbrev pub scope_line : List ℕ → List ℕ
+scope_line name = line (codes "$scope module " ++ name ++ codes " $end")
 
 abbrev pub closings : ℕ → List ℕ
 closings zero = []
@@ -100,7 +106,7 @@ abbrev pub scope_lines : ℕ → ℕ → List ScopeView → List VariableView �
 scope_lines around n [] variables = closings around
 scope_lines around n (s ∷ scopes) variables =
     closings (around - s.depth)
-    ++ line (codes "$scope module " ++ s.name ++ codes " $end")
+    ++ scope_line s.name
     ++ variable_lines n (take s.variables variables)
     ++ scope_lines (suc s.depth) (n + s.variables) scopes (drop s.variables variables)
 
@@ -163,7 +169,9 @@ end_text idle t = []
 end_text asked t = []
 end_text (started last old) t = cond (last == t) [] (time_line t)
 
--- the dump of a history; without a start no byte
+-- the dump of a history below a header; without a start no byte
+abbrev pub dump_below : List ℕ → HistoryView → List ℕ
+dump_below head history = items_text head idle history.items ++ end_text (progress_over idle history.items) history.end.time
+
 abbrev pub vcd : DesignView → HistoryView → List ℕ
-vcd design history =
-    items_text (header design) idle history.items ++ end_text (progress_over idle history.items) history.end.time
+vcd design history = dump_below (header design) history

@@ -1,1 +1,5 @@
 pub mod DumpText
+pub mod Metered
+pub mod MeteredLaws
+pub mod SinkLaws
+pub mod Sinks

@@ -1,8 +1,22 @@
-// Histories to the text of a value change dump (IEEE 1364-2005, clause 18). In go the values of a design's variables at
-// a slot end; out come the lines that say what they are worth, all of them or those that changed.
-// The law: the lines are those of specs/DumpText.antt, which says what the whole dump of a history is.
+// Histories to the text of a value change dump (IEEE 1364-2005, clause 18). In go a design and what its run shows;
+// out come bytes in a writer, as the run goes or at once, and a fault where they don't.
+// The law: the bytes are those of specs/DumpText.antt, and after a fault a prefix of them.
 #![tactic(auto)]
 
+mod fault;
+mod header;
+mod metered;
+mod progress;
+mod put;
+mod sink;
+#[cfg(test)]
+mod tests;
 mod values;
+mod write;
 
+pub use fault::WriteFault;
+pub use header::Header;
+pub use metered::Metered;
+pub use sink::DumpSink;
 pub use values::{put_changes, put_values};
+pub use write::write_vcd;

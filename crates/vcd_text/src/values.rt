@@ -7,7 +7,7 @@ use std::alloc::{AllocError, Global};
 use vbits::{Bit4, Vec4};
 
 // The code of the next variable, in place.
-fn follow(name: &mut Vec<u8>) -> Result<(), AllocError>
+pub(crate) fn follow(name: &mut Vec<u8>) -> Result<(), AllocError>
     ensures { OnOk result (name.new.items ≡ following name.old.items) }
 {
     for i in 0..name.len() {

@@ -1,0 +1,11 @@
+use Rattle.std.proofs.Common.{◌≡◌, ◌++◌, ℕ, drop, map}
+use Rattle.vast.specs.DesignViews.{scope_view, variable_view}
+use Rattle.vcd_text.specs.DumpText.{code, scope_lines}
+use Rattle.vcd_text.proofs.header.put_scopes.Given as goal
+
+abbrev pub invariant-loop-scope : goal.invariant-loop-scope
+invariant-loop-scope l =
+    (n : ℕ)
+    × (l.name.items ≡ code n)
+    × (l.text.items ++ scope_lines l.around n (map scope_view (drop l.scope-index l.scopes)) (map variable_view l.rest)
+    ≡ l.initial.text.items ++ scope_lines 0 0 (map scope_view l.scopes) (map variable_view l.variables))

@@ -1,0 +1,35 @@
+-- Readers and writers whose failures are counted, and what pieces of text make of such a writer.
+use Rattle.std.specs.Prelude.{◌≡◌, ℕ, zero, suc, ◌+◌, ◌%◌, ◌^◌, Bool, true, false, cond, List, [], ◌∷◌, take, Option, Result, Ok, Err}
+use Rattle.std.specs.Io.KnownBytes.{Appends}
+use Rattle.vcd_text.specs.declared.metered.Metered.{Metered}
+use Rattle.vcd_text.specs.declared.fault.WriteFault.{WriteFault}
+use Rattle.vcd_text.specs.declared.fault.WriteFault.TheVariants.{Memory, Write}
+
+-- a call of `write` failed: an error, or no byte was taken of a piece that isn't empty
+abbrev pub is_failed_write : {E : Type 0} → Result ℕ E → List ℕ → Bool
+is_failed_write (Err e) piece = true
+is_failed_write (Ok zero) [] = false
+is_failed_write (Ok zero) (c ∷ cs) = true
+is_failed_write (Ok (suc n)) piece = false
+
+-- the count after one failure more: it is kept in 64 bits
+abbrev pub one_more : ℕ → ℕ
+one_more n = (n + 1) % 2 ^ 64
+
+-- the count after a call that failed or not
+abbrev pub counted : Bool → ℕ → ℕ
+counted failed n = cond failed (one_more n) n
+
+-- the count after this fault: want of memory is no failure of the writer
+abbrev pub count_after : WriteFault → ℕ → ℕ
+count_after Memory n = n
+count_after Write n = one_more n
+
+-- the text was written, and nothing failed; `contents` says what a writer holds, where it tells
+abbrev pub Grows : {W : Type 0} → (W → Option (List ℕ)) → Metered W → Metered W → List ℕ → Type 0
+Grows contents old new text = Appends (contents old.inner) (contents new.inner) text × (new.failures ≡ old.failures)
+
+-- this fault came somewhere in the text, and what stands before that place was written
+abbrev pub Stops : {W : Type 0} → (W → Option (List ℕ)) → Metered W → Metered W → List ℕ → WriteFault → Type 0
+Stops contents old new text fault =
+    ((n : ℕ) × Appends (contents old.inner) (contents new.inner) (take n text)) × (new.failures ≡ count_after fault old.failures)

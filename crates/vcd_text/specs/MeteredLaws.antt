@@ -1,0 +1,46 @@
+-- What several texts make of a writer.
+use Rattle.std.proofs.Common.{◌≡◌, ℕ, ◌+◌, min, List, [], ◌++◌, length, take, Option, None, Some, refl, sym, ap, ◌∙◌, append_assoc, arith}
+use Rattle.std.specs.Io.KnownBytes.{Appends}
+use Rattle.std.proofs.lemmas.List.{append-nil, take-append-le, take_min}
+use Rattle.std.proofs.Math.Seq.{take-append-add}
+use Rattle.vcd_text.specs.declared.metered.Metered.{Metered}
+use Rattle.vcd_text.specs.declared.fault.WriteFault.{WriteFault}
+use Rattle.vcd_text.specs.Metered.{Grows, Stops, count_after}
+
+appends_none : (c : Option (List ℕ)) → Appends c c []
+appends_none None = tt
+appends_none (Some xs) = sym (append-nil xs)
+
+appends_joins : (a b c : Option (List ℕ)) (xs ys : List ℕ) → Appends a b xs → Appends b c ys → Appends a c (xs ++ ys)
+appends_joins None b c xs ys p q = tt
+appends_joins (Some ws) None c xs ys p q = absurd p
+appends_joins (Some ws) (Some bs) None xs ys p q = absurd q
+appends_joins (Some ws) (Some bs) (Some cs) xs ys p q = q ∙ ap (λ (zs : List ℕ). zs ++ ys) p ∙ append_assoc ws xs ys
+
+pub grows_none : {W : Type 0} (contents : W → Option (List ℕ)) (m : Metered W) → Grows contents m m []
+grows_none contents m = (appends_none (contents m.inner), refl)
+
+pub grows_joins : {W : Type 0} (contents : W → Option (List ℕ)) (a b c : Metered W) (xs ys : List ℕ) → Grows contents a b xs → Grows contents b c ys →
+    Grows contents a c (xs ++ ys)
+grows_joins contents a b c xs ys p q = (appends_joins (contents a.inner) (contents b.inner) (contents c.inner) xs ys p.0 q.0, q.1 ∙ p.1)
+
+take_front : (xs ys : List ℕ) (n : ℕ) → take (min n (length xs)) (xs ++ ys) ≡ take n xs
+take_front xs ys n = take-append-le (min n (length xs)) xs ys (omega arith) ∙ take_min n xs
+
+-- the fault comes after a text that was written
+pub stops_after : {W : Type 0} (contents : W → Option (List ℕ)) (a b c : Metered W) (xs ys : List ℕ) (fault : WriteFault) → Grows contents a b xs →
+    Stops contents b c ys fault → Stops contents a c (xs ++ ys) fault
+stops_after contents a b c xs ys fault p q =
+    let whole : Appends (contents a.inner) (contents c.inner) (xs ++ take q.0.0 ys) =
+    appends_joins (contents a.inner) (contents b.inner) (contents c.inner) xs (take q.0.0 ys) p.0 q.0.1 in
+    let place : ℕ = length xs + q.0.0 in
+    let written : Appends (contents a.inner) (contents c.inner) (take place (xs ++ ys)) = rw (take-append-add xs ys q.0.0) whole in
+    ((place, written), q.1 ∙ ap (count_after fault) p.1)
+
+-- the fault comes before a text that wasn't come to
+pub stops_before : {W : Type 0} (contents : W → Option (List ℕ)) (a b : Metered W) (xs ys : List ℕ) (fault : WriteFault) → Stops contents a b xs fault →
+    Stops contents a b (xs ++ ys) fault
+stops_before contents a b xs ys fault p =
+    let place : ℕ = min p.0.0 (length xs) in
+    let written : Appends (contents a.inner) (contents b.inner) (take place (xs ++ ys)) = rw (take_front xs ys p.0.0) p.0.1 in
+    ((place, written), p.1)

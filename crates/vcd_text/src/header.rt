@@ -1,0 +1,170 @@
+// The header of a dump (18.2.3).
+
+ghost use Rattle.std.specs.Prelude.{◌≡◌, ◌++◌, ◌+◌, ◌==◌, ℕ, IfOk, OnOk, decimal, length, map};
+ghost use Rattle.std.specs.List.{after_last};
+ghost use Rattle.vast.specs.DesignViews.{design_view, scope_view, variable_view};
+ghost use Rattle.vcd_text.specs.DumpText.{bounds_text, closings, code, header as header_text, kind_word, named_variable_line, scope_line, scope_lines, variable_lines};
+
+use crate::values::follow;
+use itoa::Buffer;
+use std::alloc::{AllocError, Global};
+use std::marker::Model;
+use vast::design::{Bounds, Design, Kind, Scope, Variable};
+
+/// The header of the dumps of one design: version, timescale, scopes and variables with their codes (18.2.3;
+/// docs/FORMATS.md, "Dumps"). Its value is the bytes.
+#[derive(Drop)]
+pub struct Header {
+    text: Vec<u8>,
+}
+
+impl Model for Header {
+    ghost use Rattle.std.specs.Prelude.{ℕ, List};
+
+    ghost Value = { List ℕ };
+
+    ghost view = { λ h. h.text.items };
+}
+
+impl Header {
+    /// The header of a design. E901 is the only refusal.
+    pub fn new(alloc: Global, design: &Design) -> Result<Header, AllocError>
+        ensures { IfOk result (λ header. header ≡ header_text (design_view design.now)) }
+    {
+        let mut text = Vec::from_slice(alloc, b"$version vrace $end\n")?;
+        text.extend_from_slice(b"$timescale 1 ns $end\n")?;
+        put_scopes(alloc, &mut text, &design.scopes, &design.variables)?;
+        text.extend_from_slice(b"$enddefinitions $end\n")?;
+        Ok(Header { text })
+    }
+
+    /// The bytes.
+    pub fn as_bytes(&self) -> &[u8]
+        ensures { result.now ≡ self.now }
+    {
+        &self.text
+    }
+}
+
+fn put_number(text: &mut Vec<u8>, number: u32) -> Result<(), AllocError>
+    ensures { OnOk result (text.new.items ≡ text.old.items ++ decimal number) }
+{
+    let mut digits = Buffer::new();
+    text.extend_from_slice(digits.format(number).as_bytes())
+}
+
+fn put_kind(text: &mut Vec<u8>, kind: Kind) -> Result<(), AllocError>
+    ensures { OnOk result (text.new.items ≡ text.old.items ++ kind_word kind) }
+{
+    match kind {
+        Kind::Reg => text.extend_from_slice(b"reg"),
+    }
+}
+
+// The range of what was declared with one.
+fn put_bounds(text: &mut Vec<u8>, bounds: Option<Bounds>) -> Result<(), AllocError>
+    ensures { OnOk result (text.new.items ≡ text.old.items ++ bounds_text bounds) }
+{
+    match bounds {
+        None => Ok(()),
+        Some(bounds) => {
+            text.extend_from_slice(b" [")?;
+            put_number(text, bounds.left)?;
+            text.extend_from_slice(b":")?;
+            put_number(text, bounds.right)?;
+            text.extend_from_slice(b"]")
+        }
+    }
+}
+
+// A variable's name without its scopes: what stands after the last dot.
+fn own_name(name: &[u8]) -> &[u8]
+    ensures { result.now ≡ after_last (λ c. c == 46) name.now }
+{
+    let mut start = name.len();
+    while start > 0 {
+        if name[start - 1] == b'.' {
+            return name.split_at(start).1;
+        }
+        start -= 1;
+    }
+    name
+}
+
+// The line of a variable with this code.
+fn put_variable(text: &mut Vec<u8>, name: &[u8], variable: &Variable) -> Result<(), AllocError>
+    ensures { OnOk result (text.new.items ≡ text.old.items ++ named_variable_line name.now (variable_view variable.now)) }
+{
+    text.extend_from_slice(b"$var ")?;
+    put_kind(text, variable.kind)?;
+    text.extend_from_slice(b" ")?;
+    put_number(text, variable.length)?;
+    text.extend_from_slice(b" ")?;
+    text.extend_from_slice(name)?;
+    text.extend_from_slice(b" ")?;
+    text.extend_from_slice(own_name(&variable.name))?;
+    put_bounds(text, variable.bounds)?;
+    text.extend_from_slice(b" $end")?;
+    text.push(b'\n')?;
+    Ok(())
+}
+
+// The lines of variables. The code is that of the first one, and after them that of the next.
+fn put_variables(
+    text: &mut Vec<u8>,
+    name: &mut Vec<u8>,
+    variables: &[Variable],
+) -> Result<(), AllocError>
+    ensures names { (n : ℕ) → name.old.items ≡ code n → OnOk result (name.new.items ≡ code (n + length variables.now)) }
+    ensures lines { (n : ℕ) → name.old.items ≡ code n → OnOk result (text.new.items ≡ text.old.items ++ variable_lines n (map variable_view variables.now)) }
+{
+    for variable in variables {
+        put_variable(text, name, variable)?;
+        follow(name)?;
+    }
+    Ok(())
+}
+
+fn put_closings(text: &mut Vec<u8>, count: u64) -> Result<(), AllocError>
+    ensures { OnOk result (text.new.items ≡ text.old.items ++ closings count) }
+{
+    for _ in 0..count {
+        text.extend_from_slice(b"$upscope $end\n")?;
+    }
+    Ok(())
+}
+
+fn put_scope(text: &mut Vec<u8>, name: &[u8]) -> Result<(), AllocError>
+    ensures { OnOk result (text.new.items ≡ text.old.items ++ scope_line name.now) }
+{
+    text.extend_from_slice(b"$scope module ")?;
+    text.extend_from_slice(name)?;
+    text.extend_from_slice(b" $end")?;
+    text.push(b'\n')?;
+    Ok(())
+}
+
+// Scopes with their variables, depth first.
+fn put_scopes(
+    alloc: Global,
+    text: &mut Vec<u8>,
+    scopes: &[Scope],
+    variables: &[Variable],
+) -> Result<(), AllocError>
+    ensures { OnOk result (text.new.items ≡ text.old.items ++ scope_lines 0 0 (map scope_view scopes.now) (map variable_view variables.now)) }
+{
+    let mut name = Vec::from_slice(alloc, b"!")?;
+    let mut around = 0u64;
+    let mut rest = variables;
+    for scope in scopes {
+        let depth = u64::from(scope.depth);
+        put_closings(text, around.saturating_sub(depth))?;
+        put_scope(text, &scope.name)?;
+        let count = (scope.variables as usize).min(rest.len());
+        let (own, later) = rest.split_at(count);
+        put_variables(text, &mut name, own)?;
+        around = depth + 1;
+        rest = later;
+    }
+    put_closings(text, around)
+}

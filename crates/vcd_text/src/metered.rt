@@ -1,0 +1,100 @@
+// Readers and writers whose failures are counted.
+
+ghost use Rattle.std.specs.Prelude.{◌≡◌, is_err};
+ghost use Rattle.std.specs.Io.{ReadsAtMost, WritesAtMost};
+ghost use Rattle.std.specs.Io.KnownBytes.{Keeps, ReadConsumes, WriteAppends};
+ghost use Rattle.vcd_text.specs.Metered.{counted, is_failed_write};
+
+use std::io;
+use std::io::{Read, Write};
+
+/// A reader or writer and the count of its failures: of each error, and of each `write` that takes no byte of a piece
+/// that isn't empty. The count goes from 2^64 - 1 to 0. One that differs after a call shows that it failed in it.
+#[derive(Drop)]
+pub struct Metered<T> {
+    inner: T,
+    failures: u64,
+}
+
+impl<T> Metered<T> {
+    /// Counts from 0. It takes no memory.
+    pub fn new(inner: T) -> Metered<T>
+        ensures inner { result.inner ≡ inner }
+        ensures failures { result.failures ≡ 0 }
+    {
+        Metered { inner, failures: 0 }
+    }
+
+    /// How often it has failed, modulo 2^64.
+    pub fn failures(&self) -> u64
+        ensures { result ≡ self.now.failures }
+    {
+        self.failures
+    }
+
+    /// The reader or writer itself.
+    pub fn into_inner(self) -> T
+        ensures { result ≡ self.inner }
+    {
+        let Metered { inner, failures: _ } = self;
+        inner
+    }
+}
+
+// The count after a call that failed or not.
+fn count(failures: u64, has_failed: bool) -> u64
+    ensures { result ≡ counted has_failed failures }
+{
+    if has_failed {
+        failures.wrapping_add(1)
+    } else {
+        failures
+    }
+}
+
+impl<R: Read> Read for Metered<R> {
+    ghost remaining = { λ m. R.remaining m.inner };
+
+    fn read(&mut self, buf: &mut [u8]) -> io::Result<usize>
+        ensures bound { ReadsAtMost result buf.new }
+        ensures bytes { ReadConsumes (R.remaining self.old.inner) (R.remaining self.new.inner) result buf.new }
+        ensures failures { self.new.failures ≡ counted (is_err result) self.old.failures }
+    {
+        let answer = self.inner.read(buf);
+        self.failures = count(self.failures, answer.is_err());
+        answer
+    }
+}
+
+// Whether a write failed.
+fn has_failed(answer: &io::Result<usize>, piece: &[u8]) -> bool
+    ensures { result ≡ is_failed_write answer.now piece.now }
+{
+    match answer {
+        Ok(taken) => *taken == 0 && !piece.is_empty(),
+        Err(_) => true,
+    }
+}
+
+impl<W: Write> Write for Metered<W> {
+    ghost contents = { λ m. W.contents m.inner };
+
+    fn write(&mut self, buf: &[u8]) -> io::Result<usize>
+        ensures bound { WritesAtMost result buf.now }
+        ensures bytes { WriteAppends (W.contents self.old.inner) (W.contents self.new.inner) result buf.now }
+        ensures failures { self.new.failures ≡ counted (is_failed_write result buf.now) self.old.failures }
+    {
+        let answer = self.inner.write(buf);
+        self.failures = count(self.failures, has_failed(&answer, buf));
+        answer
+    }
+
+    fn flush(&mut self) -> io::Result<()>
+        ensures bytes { Keeps (W.contents self.old.inner) (W.contents self.new.inner) }
+        ensures failures { self.new.failures ≡ counted (is_err result) self.old.failures }
+    {
+        let answer = self.inner.flush();
+        self.failures = count(self.failures, answer.is_err());
+        answer
+    }
+}

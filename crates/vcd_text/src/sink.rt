@@ -1,0 +1,240 @@
+// The dump of a run, written slot by slot as the run goes.
+
+ghost use Rattle.std.specs.Prelude.{◌≡◌, [], ◌∷◌, OnOk, IfOk, IfErr, cond, ◌==◌};
+ghost use Rattle.vmodel.specs.History.{slot_end, dump};
+ghost use Rattle.vmodel.specs.StateViews.{item_view};
+ghost use Rattle.vmodel.specs.declared.history.DumpCommand.{DumpCommand};
+ghost use Rattle.vcd_text.specs.DumpText.{idle, asked, changed_lines, end_text, last_line, start_text, time_line, timed};
+ghost use Rattle.vcd_text.specs.Metered.{Grows, Stops};
+
+use crate::fault::WriteFault;
+use crate::header::Header;
+use crate::metered::Metered;
+use crate::progress::{Progress, ask, first_text, later_text, line_after, line_of};
+use crate::put::put;
+use std::alloc::Global;
+use std::io::Write;
+use vbits::Vec4;
+use vmodel::history::{End, Item};
+use vmodel::sink::Sink;
+
+/// Writes the dump of a run as its items come: the header and all values at the end of the first slot with a
+/// `$dumpvars`, the changes at each later slot end (18.2.2; docs/FORMATS.md, "Dumps"). Before a start nothing is
+/// written. `finish` completes the dump, and `into_writer` gives the writer back.
+#[derive(Drop)]
+pub struct DumpSink<'a, W> {
+    alloc: Global,
+    header: &'a Header,
+    writer: &'a mut Metered<W>,
+    progress: Progress,
+}
+
+// The header and the first slot's end.
+fn put_start<W: Write>(
+    alloc: Global,
+    header: &[u8],
+    writer: &mut Metered<W>,
+    time: u64,
+    values: &[Vec4],
+) -> Result<(), WriteFault>
+    ensures ok { OnOk result (Grows W.contents writer.old writer.new (start_text header.now time values.now)) }
+    ensures err { IfErr result (Stops W.contents writer.old writer.new (start_text header.now time values.now)) }
+{
+    let Ok(text) = first_text(alloc, time, values) else {
+        return Err(WriteFault::Memory);
+    };
+    match put(writer, header) {
+        Ok(()) => put(writer, &text),
+        Err(fault) => Err(fault),
+    }
+}
+
+// The changes of a later slot. The answer is the last time line.
+fn put_slot<W: Write>(
+    alloc: Global,
+    writer: &mut Metered<W>,
+    last: u64,
+    old: &[Vec4],
+    time: u64,
+    new: &[Vec4],
+) -> Result<u64, WriteFault>
+    ensures last { IfOk result (λ line. line ≡ last_line last time (changed_lines 0 old.now new.now)) }
+    ensures ok { OnOk result (Grows W.contents writer.old writer.new (timed time (changed_lines 0 old.now new.now))) }
+    ensures err { IfErr result (Stops W.contents writer.old writer.new (timed time (changed_lines 0 old.now new.now))) }
+{
+    let Ok(text) = later_text(alloc, time, old, new) else {
+        return Err(WriteFault::Memory);
+    };
+    match put(writer, &text) {
+        Ok(()) => Ok(line_after(last, time, &text)),
+        Err(fault) => Err(fault),
+    }
+}
+
+// The time of the end, unless the last time line is that.
+fn put_end<W: Write>(
+    alloc: Global,
+    writer: &mut Metered<W>,
+    last: u64,
+    time: u64,
+) -> Result<(), WriteFault>
+    ensures ok { OnOk result (Grows W.contents writer.old writer.new (cond (last == time) [] (time_line time))) }
+    ensures err { IfErr result (Stops W.contents writer.old writer.new (cond (last == time) [] (time_line time))) }
+{
+    if last == time {
+        return Ok(());
+    }
+    let Ok(text) = line_of(alloc, time) else {
+        return Err(WriteFault::Memory);
+    };
+    put(writer, &text)
+}
+
+impl<'a, W: Write> DumpSink<'a, W> {
+    ghost use Rattle.vcd_text.specs.Sinks.{progress_view, IsSameDump, Takes, Fails};
+
+    /// A dump of which nothing has come yet.
+    pub fn new(alloc: Global, header: &'a Header, writer: &'a mut Metered<W>) -> DumpSink<'a, W>
+        ensures same_writer { result.writer.ghost_name ≡ writer.entry.ghost_name }
+        ensures unwritten { result.writer.now ≡ writer.old }
+        ensures header { result.header.now ≡ header.now }
+        ensures progress { progress_view result.progress ≡ idle }
+    {
+        DumpSink {
+            alloc,
+            header,
+            writer,
+            progress: Progress::Idle,
+        }
+    }
+
+    // The slot that asked for the dump has ended.
+    fn start(&mut self, time: u64, values: &[Vec4]) -> Result<(), WriteFault>
+        requires { progress_view self.old.progress ≡ asked }
+        ensures ok { OnOk result (Takes W.contents self.old (slot_end time values.now ∷ []) self.new) }
+        ensures err { IfErr result (λ fault. Fails W.contents self.old (slot_end time values.now ∷ []) fault self.new) }
+    {
+        let Ok(kept) = Vec::from_slice(self.alloc, values) else {
+            return Err(WriteFault::Memory);
+        };
+        match put_start(
+            self.alloc,
+            self.header.as_bytes(),
+            self.writer,
+            time,
+            values,
+        ) {
+            Ok(()) => {
+                self.progress = Progress::Started {
+                    last: time,
+                    values: kept,
+                };
+                Ok(())
+            }
+            Err(fault) => Err(fault),
+        }
+    }
+
+    // A slot has ended.
+    fn end_slot(&mut self, time: u64, values: &[Vec4]) -> Result<(), WriteFault>
+        ensures ok { OnOk result (Takes W.contents self.old (slot_end time values.now ∷ []) self.new) }
+        ensures err { IfErr result (λ fault. Fails W.contents self.old (slot_end time values.now ∷ []) fault self.new) }
+    {
+        match &self.progress {
+            Progress::Idle => Ok(()),
+            Progress::Asked => self.start(time, values),
+            Progress::Started { last, values: old } => {
+                let Ok(kept) = Vec::from_slice(self.alloc, values) else {
+                    return Err(WriteFault::Memory);
+                };
+                match put_slot(self.alloc, self.writer, *last, old, time, values) {
+                    Ok(line) => {
+                        self.progress = Progress::Started {
+                            last: line,
+                            values: kept,
+                        };
+                        Ok(())
+                    }
+                    Err(fault) => Err(fault),
+                }
+            }
+        }
+    }
+
+    // A dump command.
+    fn ask(&mut self)
+        ensures { (command : DumpCommand) → Takes W.contents self.old (dump command ∷ []) self.new }
+    {
+        ask(&mut self.progress);
+    }
+
+    // The next item.
+    fn take_item(&mut self, item: &Item) -> Result<(), WriteFault>
+        ensures ok { OnOk result (Takes W.contents self.old (item_view item.now ∷ []) self.new) }
+        ensures err { IfErr result (λ fault. Fails W.contents self.old (item_view item.now ∷ []) fault self.new) }
+    {
+        match item {
+            Item::SlotEnd { time, values } => self.end_slot(*time, values),
+            Item::Dump(_) => {
+                self.ask();
+                Ok(())
+            }
+        }
+    }
+
+    /// Writes what the end of the run adds: its time, unless the last time line is that (E901, E902).
+    pub fn finish(&mut self, end: &End) -> Result<(), WriteFault>
+        ensures same { IsSameDump self.old self.new }
+        ensures ok { OnOk result (Grows W.contents self.old.writer.now self.new.writer.now (end_text (progress_view self.old.progress) end.now.time)) }
+        ensures err { IfErr result (Stops W.contents self.old.writer.now self.new.writer.now (end_text (progress_view self.old.progress) end.now.time)) }
+    {
+        match &self.progress {
+            Progress::Idle => Ok(()),
+            Progress::Asked => Ok(()),
+            Progress::Started { last, values: _ } => {
+                put_end(self.alloc, self.writer, *last, end.time)
+            }
+        }
+    }
+
+    /// The writer, with all that was written.
+    pub fn into_writer(self) -> &'a mut Metered<W>
+        ensures same_writer { result.ghost_name ≡ self.entry.writer.ghost_name }
+        ensures written { result.now ≡ self.entry.writer.now }
+    {
+        let DumpSink {
+            alloc: _,
+            header: _,
+            writer,
+            progress: _,
+        } = self;
+        writer
+    }
+}
+
+impl<'a, W: Write> Sink for DumpSink<'a, W> {
+    ghost use Rattle.vcd_text.specs.Sinks.{Takes, Fails};
+    ghost use Rattle.vcd_text.specs.SinkLaws.{takes_none, takes_joins, fails_after};
+
+    type Fault = WriteFault;
+
+    ghost takes = { Takes W.contents };
+
+    ghost fails = { Fails W.contents };
+
+    fn take(&mut self, items: &[Item]) -> Result<(), WriteFault> {
+        for item in items {
+            match self.take_item(item) {
+                Ok(()) => {}
+                Err(fault) => return Err(fault),
+            }
+        }
+        Ok(())
+    }
+
+    ghost none = { takes_none W.contents };
+
+    ghost joins = { takes_joins W.contents };
+
+    ghost fails_later = { fails_after W.contents };
+}

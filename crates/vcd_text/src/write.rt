@@ -1,0 +1,48 @@
+// The whole dump of a history.
+
+ghost use Rattle.std.specs.Prelude.{◌≡◌, OnOk, IfErr};
+ghost use Rattle.vast.specs.Design.{DesignView};
+ghost use Rattle.vcd_text.specs.DumpText.{idle, dump_below, header as header_text, vcd};
+ghost use Rattle.vcd_text.specs.Metered.{Grows, Stops};
+ghost use Rattle.vcd_text.specs.Sinks.{history_view, progress_view, IsSameDump};
+
+use crate::fault::WriteFault;
+use crate::header::Header;
+use crate::metered::Metered;
+use crate::sink::DumpSink;
+use std::alloc::Global;
+use std::io::Write;
+use vmodel::history::History;
+use vmodel::sink::Sink;
+
+// A whole history into a fresh sink.
+fn fill<W: Write>(sink: &mut DumpSink<'_, W>, history: &History) -> Result<(), WriteFault>
+    requires { progress_view sink.old.progress ≡ idle }
+    ensures same { IsSameDump sink.old sink.new }
+    ensures ok { OnOk result (Grows W.contents sink.old.writer.now sink.new.writer.now (dump_below sink.old.header.now (history_view history.now))) }
+    ensures err { IfErr result (Stops W.contents sink.old.writer.now sink.new.writer.now (dump_below sink.old.header.now (history_view history.now))) }
+{
+    match sink.take(&history.items) {
+        Ok(()) => sink.finish(&history.end),
+        Err(fault) => Err(fault),
+    }
+}
+
+/// Writes the dump of a history below the header of its design (18.2; docs/FORMATS.md, "Dumps"); without a start no
+/// byte. After a fault a prefix of it stands written. E901, and E902 only where the writer failed in this call.
+pub fn write_vcd<W: Write>(
+    alloc: Global,
+    header: &Header,
+    history: &History,
+    writer: &mut Metered<W>,
+) -> Result<(), WriteFault>
+    ensures ok { (design : DesignView) → header.now ≡ header_text design → OnOk result (Grows W.contents writer.old writer.new (vcd design (history_view history.now))) }
+    ensures err { (design : DesignView) → header.now ≡ header_text design → IfErr result (Stops W.contents writer.old writer.new (vcd design (history_view history.now))) }
+{
+    let mut sink = DumpSink::new(alloc, header, writer);
+    let result = fill(&mut sink, history);
+    let writer = sink.into_writer();
+    // No effect at run time. The proof reads what the writer holds from this use.
+    let _ = &*writer;
+    result
+}
