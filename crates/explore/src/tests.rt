@@ -1,4 +1,6 @@
-use crate::{Reason, Status, explore_alone};
+ghost use Rattle.std.specs.Prelude.{◌≤◌};
+
+use crate::{Findings, Reason, Status, explore_alone};
 use sched_core::{Grid, Square};
 use statebook::Limits;
 use std::test::Fail;
@@ -53,4 +55,33 @@ fn cuts_name_their_reason(rt: HostRuntime) -> Result<(), Fail> {
     assert!(rt; findings.status == Status::Cut(Reason::Entries));
     assert_eq!(rt; findings.marks.len(), 1);
     Ok(())
+}
+
+// Whichever growth is refused, what is told is true: an exhausted search has the three marks, and one that was cut
+// for want of memory has some of them and no other. docs/GATE.md tells the command that refuses each growth in turn.
+#[test]
+fn growth_refused_while_exploring(rt: HostRuntime) {
+    let Some(limits) = Limits::new(1, 100, 100) else {
+        return;
+    };
+    let Ok(findings) = explore_alone(rt.alloc(), &Grid::new(2, 2), &limits) else {
+        return;
+    };
+    let known = count(&findings, 0) + count(&findings, 1) + count(&findings, 2);
+    assert_eq!(rt; findings.marks.len(), known);
+    match findings.status {
+        Status::Exhausted => assert_eq!(rt; known, 3),
+        Status::Cut(reason) => assert!(rt; reason == Reason::Memory),
+    }
+}
+
+// 1 where the mark in this row and column was found.
+fn count(findings: &Findings<Square>, both: u32) -> usize
+    ensures { result ≤ 1 }
+{
+    if findings.marks.contains_key(&square(both, both)) {
+        1
+    } else {
+        0
+    }
 }
