@@ -1,0 +1,4 @@
+mod DesignLemmas
+mod DumpLemmas
+mod ReplayLemmas
+mod RunLemmas

@@ -1,0 +1,78 @@
+-- From the run of a design to the replay of files.
+use Rattle.std.proofs.Common.{◌≡◌, ◌⊎◌, inl, inr, ℕ, List, Option, None, Some, refl, sym, ap, subst, ◌∙◌}
+use Rattle.std.specs.Io.KnownBytes.{Keeps}
+use Rattle.vmodel.specs.Run.{Setting, rules_of, history_after}
+use Rattle.vmodel.specs.Played.{Finishes}
+use Rattle.sched_core.specs.Replay.{IsMissing, TakesMore}
+use Rattle.vcd_text.specs.DumpText.{header, vcd}
+use Rattle.vcd_text.specs.declared.metered.Metered.{Metered}
+use Rattle.vcd_text.specs.declared.fault.WriteFault.{WriteFault}
+use Rattle.vcd_text.specs.declared.fault.WriteFault.TheVariants as write
+use Rattle.vcd_text.specs.Metered.{count_after}
+use Rattle.vrace.specs.Asked.{Asked}
+use Rattle.vrace.specs.Replays.{Played, setting_of, IsDump}
+use Rattle.vrace.specs.Refusals.{IsRunReason, IsReason, IsOfWriting, IsBegun, Leaves}
+use Rattle.vrace.specs.RunDumps.{IsRunDump, IsRunFault, StopsDump, Ends, fault_of, failures_after}
+use Rattle.vrace.specs.declared.fault.Fault.{Fault}
+use Rattle.vrace.specs.declared.fault.Fault.TheVariants.{NotEnded, BadToken, Growth, NoTree, Outside, TooDeep, NotYet, NoTop, Doubled, Unknown, Width, TooMany, BadLog, NoSuchChoice, TooManySteps, OutOfLimit, Memory, Write, Read, TooLong}
+
+pub keeps_itself : (c : Option (List ℕ)) → Keeps c c
+keeps_itself None = tt
+keeps_itself (Some xs) = refl
+
+of_writing : (cause : WriteFault) → IsOfWriting (fault_of cause)
+of_writing write.Memory = tt
+of_writing write.Write = tt
+
+reason_of_writing : (files : List (List ℕ)) (asked : Asked) (log : List ℕ) (cause : WriteFault) → IsRunReason files asked log (fault_of cause)
+reason_of_writing files asked log write.Memory = tt
+reason_of_writing files asked log write.Write = tt
+
+count_of_writing : (cause : WriteFault) (n : ℕ) → count_after cause n ≡ failures_after (fault_of cause) n
+count_of_writing write.Memory n = refl
+count_of_writing write.Write n = refl
+
+module _ (files : List (List ℕ)) (asked : Asked) (log : List ℕ) (played : Played files asked log) (setting : Setting) (same : setting ≡ setting_of files asked log played) where
+  pub dumped : (dump : List ℕ) → IsRunDump (header played.design) setting played.members asked.steps dump → IsDump files asked log dump
+  dumped dump d = record {
+    played = played;
+    steps = d.steps;
+    end = d.end;
+    finishes = subst (λ (s : Setting). Finishes s played.members asked.steps d.steps d.end) same d.finishes;
+    is_text = d.is_text ∙ ap (λ (s : Setting). vcd played.design (history_after s played.members d.steps)) same;
+  }
+
+  run_reason : (fault : Fault) → IsRunFault setting played.members asked.steps fault → IsRunReason files asked log fault
+  run_reason NoSuchChoice p = (played, subst (λ (s : Setting). IsMissing (rules_of s) played.members asked.steps) same p)
+  run_reason TooManySteps p = (played, subst (λ (s : Setting). TakesMore (rules_of s) played.members asked.steps) same p)
+  run_reason Memory p = tt
+  run_reason (NotEnded at) p = absurd p
+  run_reason (BadToken at) p = absurd p
+  run_reason (Growth at) p = absurd p
+  run_reason (NoTree at) p = absurd p
+  run_reason (Outside at) p = absurd p
+  run_reason (TooDeep at) p = absurd p
+  run_reason (NotYet at) p = absurd p
+  run_reason (NoTop at) p = absurd p
+  run_reason (Doubled at) p = absurd p
+  run_reason (Unknown at) p = absurd p
+  run_reason (Width at) p = absurd p
+  run_reason (TooMany at) p = absurd p
+  run_reason BadLog p = absurd p
+  run_reason OutOfLimit p = absurd p
+  run_reason Write p = absurd p
+  run_reason Read p = absurd p
+  run_reason TooLong p = absurd p
+
+  module _ {W : Type 0} (contents : W → Option (List ℕ)) (old new : Metered W) where
+    pub reason : (fault : Fault) → Ends contents (header played.design) setting played.members asked.steps old new fault → IsReason files asked log fault
+    reason fault (inl (p, kept)) = inr (inr (run_reason fault p))
+    reason fault (inr stops) = inr (inr (subst (IsRunReason files asked log) (sym stops.is) (reason_of_writing files asked log stops.cause)))
+
+    pub left : (fault : Fault) → Ends contents (header played.design) setting played.members asked.steps old new fault →
+        Leaves files asked log fault (contents old.inner) (contents new.inner)
+    left fault (inl (p, kept)) = inl (subst (λ (m : Metered W). Keeps (contents old.inner) (contents m.inner)) (sym kept) (keeps_itself (contents old.inner)))
+    left fault (inr stops) = inr (
+      subst IsOfWriting (sym stops.is) (of_writing stops.cause),
+      record { dump = stops.dump; is_dump = dumped stops.dump stops.is_dump; len = stops.stops.0.0; front = stops.stops.0.1 },
+    )

@@ -1,0 +1,15 @@
+use Rattle.std.proofs.Common.{option_map}
+use Rattle.vast.specs.Trees.{source_tree}
+use Rattle.vrace.proofs.design.design_of_text.Goals as goal
+
+pub returns-in-Err-clause-err : goal.returns-in-Err-clause-err
+returns-in-Err-clause-err c = c.in-Err.ensures.err (option_map (λ name. name.now) c.args.top)
+
+pub returns-in-Err-tree_of-clause-err : goal.returns-in-Err-tree_of-clause-err
+returns-in-Err-tree_of-clause-err c =
+    c.in-Err-tree_of.ensures.err c.args.text.now.text (option_map (λ name. name.now) c.args.top) c.in-Ok.ensures.ok
+
+pub returns-clause-err : goal.returns-clause-err
+returns-clause-err c =
+    c.of_design.ensures c.args.text.now.text (source_tree c.in-Ok-tree_of.ast) (option_map (λ name. name.now) c.args.top)
+    (c.in-Ok-tree_of.ensures.ok c.args.text.now.text c.in-Ok.ensures.ok) c.in-Err-elaborate.ensures.reason c.in-Err-elaborate.ensures.none

@@ -1,0 +1,6 @@
+use Rattle.std.proofs.Common.{◌≡◌, nat_lt, drop}
+use Rattle.vrace.specs.Refusals.{texts, total, limit}
+use Rattle.vrace.proofs.design.is_too_long.Given as goal
+
+abbrev pub invariant-loop-file : goal.invariant-loop-file
+invariant-loop-file l = nat_lt l.room (total (texts (drop l.file-index l.files))) ≡ nat_lt limit (total (texts l.files))

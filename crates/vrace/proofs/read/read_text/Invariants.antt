@@ -1,0 +1,15 @@
+use Rattle.std.proofs.Common.{◌≡◌, ◌≤◌, ◌-◌, ℕ, length}
+use Rattle.std.specs.Io.KnownBytes.{Consumes}
+use Rattle.vrace.specs.Refusals.{limit}
+use Rattle.vrace.proofs.read.read_text.Given as goal
+
+abbrev pub invariant-reads : goal.invariant-reads
+invariant-reads g l = record {
+  piece : length l.piece ≡ 65536;
+  short : length l.text.items ≤ limit;
+  taken : Consumes (g.R.Read.remaining l.initial.reader.inner) (g.R.Read.remaining l.reader.inner) l.text.items;
+  kept : l.reader.failures ≡ l.initial.reader.failures;
+}
+
+abbrev pub decreases-reads : goal.decreases-reads
+decreases-reads g l = limit - length l.text.items

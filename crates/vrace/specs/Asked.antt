@@ -1,0 +1,31 @@
+-- What is asked of a replay: the top module's name, the time limit, the steps of one run, and the grain.
+use Rattle.std.specs.Prelude.{ℕ, ◌≤◌, ◌^◌, ◌-◌, List, Option, option_map}
+use Rattle.vmodel.specs.declared.history.Grain.{Grain}
+use Rattle.vrace.specs.declared.options.Options.{Options}
+
+pub record Asked : Type 0 where
+  pub top : Option (List ℕ)
+  pub until : ℕ
+  pub steps : ℕ
+  pub grain : Grain
+
+abbrev pub asked : Options → Asked
+asked options = record {
+  top = option_map (λ name. name.now) options.top;
+  until = options.until;
+  steps = options.limits.steps;
+  grain = options.grain;
+}
+
+-- how far runs are explored, each within its limit
+pub record AreLimits (depart steps entries : ℕ) : Type 0 where
+  pub few_departures : depart ≤ 4
+  pub some_steps : 1 ≤ steps
+  pub few_steps : steps ≤ 1000000
+  pub some_entries : 1 ≤ entries
+  pub few_entries : entries ≤ 1000000
+
+-- each number is within its limit
+pub record IsWithin (until depart steps entries : ℕ) : Type 0 where
+  pub not_too_late : until ≤ 4611686018427387903
+  pub limits : AreLimits depart steps entries

@@ -1,0 +1,108 @@
+-- When a replay is refused, and what then stands written.
+use Rattle.std.specs.Prelude.{◌≡◌, ◌≢◌, ℕ, ◌<◌, ◌+◌, ◌⊎◌, List, [], ◌∷◌, Option, Some, true, length, take, sum_by, slice_get, map, Vec}
+use Rattle.std.specs.Io.KnownBytes.{Appends, Keeps}
+use Rattle.vsrc.specs.Source.{joined, source_of, place_of}
+use Rattle.vsrc.specs.Expansion.{IsReason as IsSourceReason}
+use Rattle.vsrc.specs.declared.fault.SrcFault.TheVariants as source
+use Rattle.vsrc.specs.declared.expanded.Place.{Place}
+use Rattle.vlex.specs.Lexed.{Lexed, Piece, IsReason as IsTokenReason}
+use Rattle.vlex.specs.declared.fault.LexFault.TheVariants as lex
+use Rattle.vast.specs.Syntax.{SourceTree}
+use Rattle.vast.specs.Design.{DesignView}
+use Rattle.velab.specs.Reasons.{IsReason as IsDesignReason}
+use Rattle.velab.specs.declared.fault.ElabFault.{ElabFault}
+use Rattle.velab.specs.declared.fault.ElabFault.TheVariants as elab
+use Rattle.sched_core.specs.LogText.{IsNoNamedLogText}
+use Rattle.sched_core.specs.Replay.{IsMissing, TakesMore}
+use Rattle.vmodel.specs.Run.{rules_of}
+use Rattle.vparse.specs.Profile.{is_outside}
+use Rattle.vrace.specs.Asked.{Asked}
+use Rattle.vrace.specs.Replays.{texts_of, IsTreeOf, IsDesignOf, Played, setting_of, IsDump}
+use Rattle.vrace.specs.declared.fault.Fault.{Fault}
+use Rattle.vrace.specs.declared.fault.Fault.TheVariants.{NotEnded, BadToken, Growth, NoTree, Outside, TooDeep, NotYet, NoTop, Doubled, Unknown, Width, TooMany, BadLog, NoSuchChoice, TooManySteps, OutOfLimit, Memory, Write, Read, TooLong}
+
+-- the most bytes that the files may have together
+abbrev pub limit : ℕ
+limit = 16777216
+
+-- the bytes of the files
+abbrev pub texts : {A : Type 0} → List (Vec ℕ A) → List (List ℕ)
+texts = map (λ file. file.items)
+
+abbrev pub total : List (List ℕ) → ℕ
+total = sum_by length
+
+abbrev pub HasNoTokens : List ℕ → Type 0
+HasNoTokens text = (pieces : List Piece) → Lexed text pieces → ⊥
+
+abbrev pub HasNoTree : List ℕ → Type 0
+HasNoTree text = (tree : SourceTree) → IsTreeOf text tree → ⊥
+
+abbrev pub HasNoDesign : List ℕ → Option (List ℕ) → Type 0
+HasNoDesign text top = (design : DesignView) → IsDesignOf text top design → ⊥
+
+-- the text has a tree, and a rule of its design is broken there
+abbrev pub Breaks : List ℕ → Option (List ℕ) → ElabFault → Type 0
+Breaks text top fault = HasNoDesign text top × ((tree : SourceTree) × IsTreeOf text tree × IsDesignReason tree top fault)
+
+-- a word of the text stands outside the profile
+pub record HasWordOutside (text : List ℕ) : Type 0 where
+  pub pieces : List Piece
+  pub lexed : Lexed text pieces
+  pub index : ℕ
+  pub word : List ℕ
+  pub stands : slice_get (texts_of pieces) index ≡ Some word
+  pub outside : is_outside word ≡ true
+
+-- what a fault of the files says of them; here as below the place of a fault is shown, and not told
+abbrev pub IsFileReason : List (List ℕ) → Fault → Type 0
+IsFileReason files (Growth at) = (place : Place) × IsSourceReason files (source.Growth place)
+IsFileReason files (NotYet at) = (place : Place) × IsSourceReason files (source.NotYet place)
+IsFileReason files Memory = Unit {0}
+IsFileReason files TooLong = limit < total files
+IsFileReason files other = ⊥
+
+-- what a fault of the text says of it
+abbrev pub IsTextReason : List ℕ → Option (List ℕ) → Fault → Type 0
+IsTextReason text top (NotEnded at) = HasNoTokens text
+IsTextReason text top (BadToken at) = HasNoTokens text
+IsTextReason text top (NoTree at) = HasNoTree text
+IsTextReason text top (Outside at) = HasNoTree text × HasWordOutside text
+IsTextReason text top (TooDeep at) = HasNoTree text
+IsTextReason text top (NoTop at) = (token : Option ℕ) × Breaks text top (elab.Module token)
+IsTextReason text top (Doubled at) = (token : Option ℕ) × Breaks text top (elab.Doubled token)
+IsTextReason text top (Unknown at) = (token : Option ℕ) × Breaks text top (elab.Unknown token)
+IsTextReason text top (Width at) = (token : Option ℕ) × Breaks text top (elab.Width token)
+IsTextReason text top (TooMany at) = (token : Option ℕ) × Breaks text top (elab.TooMany token)
+IsTextReason text top Memory = Unit {0}
+IsTextReason text top other = ⊥
+
+-- what a fault of the log or of its run says; a writer that failed is told by its count
+abbrev pub IsRunReason : List (List ℕ) → Asked → List ℕ → Fault → Type 0
+IsRunReason files asked log BadLog = IsNoNamedLogText log
+IsRunReason files asked log NoSuchChoice = (played : Played files asked log) × IsMissing (rules_of (setting_of files asked log played)) played.members asked.steps
+IsRunReason files asked log TooManySteps = (played : Played files asked log) × TakesMore (rules_of (setting_of files asked log played)) played.members asked.steps
+IsRunReason files asked log Memory = Unit {0}
+IsRunReason files asked log Write = Unit {0}
+IsRunReason files asked log other = ⊥
+
+-- why a replay is refused: for its files, for their text, or for the log and its run
+abbrev pub IsReason : List (List ℕ) → Asked → List ℕ → Fault → Type 0
+IsReason files asked log fault = IsFileReason files fault ⊎ (IsTextReason (joined files) asked.top fault ⊎ IsRunReason files asked log fault)
+
+-- a fault that may come while the dump goes out
+abbrev pub IsOfWriting : Fault → Type 0
+IsOfWriting Memory = Unit {0}
+IsOfWriting Write = Unit {0}
+IsOfWriting other = ⊥
+
+-- a front of the dump stands written
+pub record IsBegun (files : List (List ℕ)) (asked : Asked) (log : List ℕ) (old new : Option (List ℕ)) : Type 0 where
+  pub dump : List ℕ
+  pub is_dump : IsDump files asked log dump
+  pub len : ℕ
+  pub front : Appends old new (take len dump)
+
+-- what stands written after a refusal: nothing, or a front of the dump where memory or the writer failed as it went out
+abbrev pub Leaves : List (List ℕ) → Asked → List ℕ → Fault → Option (List ℕ) → Option (List ℕ) → Type 0
+Leaves files asked log fault old new = Keeps old new ⊎ (IsOfWriting fault × IsBegun files asked log old new)

@@ -1,0 +1,64 @@
+-- What a replay writes, from the bytes of the files to the dump of the run.
+use Rattle.std.specs.Prelude.{◌≡◌, ℕ, List, Option, map}
+use Rattle.vsrc.specs.Source.{joined}
+use Rattle.vlex.specs.Lexed.{Lexed, Piece}
+use Rattle.vast.specs.Syntax.{Text, SourceTree}
+use Rattle.vast.specs.Derives.{Derives}
+use Rattle.vast.specs.Design.{DesignView}
+use Rattle.velab.specs.Elaborate.{Elaborates}
+use Rattle.sched_core.specs.Logs.{IsLog}
+use Rattle.sched_core.specs.LogText.{named_log_text}
+use Rattle.sched_core.specs.declared.log.LogHead.{LogHead}
+use Rattle.sched_core.specs.declared.log.LogHead.TheVariants as head
+use Rattle.vmodel.specs.declared.history.End.{End}
+use Rattle.vmodel.specs.declared.history.Grain.{Grain}
+use Rattle.vmodel.specs.declared.history.Grain.TheVariants as grains
+use Rattle.vmodel.specs.Run.{Setting, history_after}
+use Rattle.vmodel.specs.Played.{Finishes}
+use Rattle.vcd_text.specs.DumpText.{vcd}
+use Rattle.vrace.specs.Asked.{Asked}
+
+abbrev pub texts_of : List Piece → List Text
+texts_of = map (λ piece. piece.text)
+
+-- A text stands for a tree: its tokens derive it.
+pub record IsTreeOf (text : List ℕ) (tree : SourceTree) : Type 0 where
+  pub pieces : List Piece
+  pub lexed : Lexed text pieces
+  pub derived : Derives (texts_of pieces) tree
+
+-- A text stands for a design: that of the top module in its tree.
+pub record IsDesignOf (text : List ℕ) (top : Option Text) (design : DesignView) : Type 0 where
+  pub tree : SourceTree
+  pub is_tree : IsTreeOf text tree
+  pub elaborated : Elaborates tree top design
+
+-- the grain that the log names, or else the one that is asked for
+abbrev pub grain_under : LogHead → Grain → Grain
+grain_under head.Plain grain = grain
+grain_under head.Process grain = grains.Process
+grain_under head.Statement grain = grains.Statement
+
+-- What is run: the design of the files, under the log that the log's text writes.
+pub record Played (files : List (List ℕ)) (asked : Asked) (log : List ℕ) : Type 0 where
+  pub design : DesignView
+  pub is_design : IsDesignOf (joined files) asked.top design
+  pub head : LogHead
+  pub members : List (ℕ × ℕ)
+  pub is_log : IsLog members
+  pub written : log ≡ named_log_text head members
+
+abbrev pub setting_of : (files : List (List ℕ)) (asked : Asked) (log : List ℕ) → Played files asked log → Setting
+setting_of files asked log played = record {
+  design = played.design;
+  until = asked.until;
+  grain = grain_under played.head asked.grain;
+}
+
+-- The dump of the files under the log: the value change dump of the run to its end.
+pub record IsDump (files : List (List ℕ)) (asked : Asked) (log : List ℕ) (dump : List ℕ) : Type 0 where
+  pub played : Played files asked log
+  pub steps : ℕ
+  pub end : End
+  pub finishes : Finishes (setting_of files asked log played) played.members asked.steps steps end
+  pub is_text : dump ≡ vcd played.design (history_after (setting_of files asked log played) played.members steps)

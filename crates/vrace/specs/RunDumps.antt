@@ -1,0 +1,57 @@
+-- The dump of one run, on its way to a writer.
+use Rattle.std.specs.Prelude.{◌≡◌, ◌⊎◌, ℕ, List, Option}
+use Rattle.sched_core.specs.Replay.{IsMissing, TakesMore}
+use Rattle.sched_core.specs.declared.run.ReplayFault.{ReplayFault}
+use Rattle.sched_core.specs.declared.run.ReplayFault.TheVariants as replay
+use Rattle.vmodel.specs.declared.history.End.{End}
+use Rattle.vmodel.specs.Run.{Setting, rules_of, history_after}
+use Rattle.vmodel.specs.Played.{Finishes}
+use Rattle.vcd_text.specs.DumpText.{dump_below}
+use Rattle.vcd_text.specs.Metered.{Stops, one_more}
+use Rattle.vcd_text.specs.declared.metered.Metered.{Metered}
+use Rattle.vcd_text.specs.declared.fault.WriteFault.{WriteFault}
+use Rattle.vcd_text.specs.declared.fault.WriteFault.TheVariants as write
+use Rattle.vrace.specs.declared.fault.Fault.{Fault}
+use Rattle.vrace.specs.declared.fault.Fault.TheVariants.{NoSuchChoice, TooManySteps, Memory, Write}
+
+-- the run under the log ends, and this is its dump below the header
+pub record IsRunDump (head : List ℕ) (setting : Setting) (log : List (ℕ × ℕ)) (limit : ℕ) (dump : List ℕ) : Type 0 where
+  pub steps : ℕ
+  pub end : End
+  pub finishes : Finishes setting log limit steps end
+  pub is_text : dump ≡ dump_below head (history_after setting log steps)
+
+-- why a run isn't replayed to its end
+abbrev pub IsRunFault : Setting → List (ℕ × ℕ) → ℕ → Fault → Type 0
+IsRunFault setting log limit NoSuchChoice = IsMissing (rules_of setting) log limit
+IsRunFault setting log limit TooManySteps = TakesMore (rules_of setting) log limit
+IsRunFault setting log limit Memory = Unit {0}
+IsRunFault setting log limit other = ⊥
+
+abbrev pub fault_of : WriteFault → Fault
+fault_of write.Memory = Memory
+fault_of write.Write = Write
+
+-- the fault came as the dump went out
+pub record StopsDump {W : Type 0} (contents : W → Option (List ℕ)) (head : List ℕ) (setting : Setting) (log : List (ℕ × ℕ)) (limit : ℕ) (old new : Metered W) (fault : Fault) : Type 0 where
+  pub cause : WriteFault
+  pub is : fault ≡ fault_of cause
+  pub dump : List ℕ
+  pub is_dump : IsRunDump head setting log limit dump
+  pub stops : Stops contents old new dump cause
+
+-- the count of a writer's failures after a fault
+abbrev pub failures_after : Fault → ℕ → ℕ
+failures_after Write n = one_more n
+failures_after other n = n
+
+-- the number of a fault of the run
+abbrev pub refused : ReplayFault → Fault
+refused replay.NoSuchChoice = NoSuchChoice
+refused replay.TooManySteps = TooManySteps
+refused replay.Memory = Memory
+
+-- the run wasn't begun to be written, or the fault came as it went out
+abbrev pub Ends : {W : Type 0} → (W → Option (List ℕ)) → List ℕ → Setting → List (ℕ × ℕ) → ℕ → Metered W → Metered W → Fault → Type 0
+Ends contents head setting log limit old new fault =
+    (IsRunFault setting log limit fault × (new ≡ old)) ⊎ StopsDump contents head setting log limit old new fault

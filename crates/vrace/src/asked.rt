@@ -1,0 +1,61 @@
+// The options that are asked for, where each number is within its limit.
+
+ghost use Rattle.std.specs.Prelude.{◌≡◌, IfOk, IfErr, IfSome, IfNone};
+ghost use Rattle.vrace.specs.Asked.{AreLimits, IsWithin};
+ghost use Rattle.vrace.specs.declared.fault.Fault.TheVariants.{OutOfLimit};
+
+use crate::fault::Fault;
+use crate::options::Options;
+use statebook::Limits;
+use vmodel::history::Grain;
+
+/// The latest time to which a run may go, 2^62 - 1.
+const UNTIL_MAX: u64 = 4_611_686_018_427_387_903;
+
+impl<'a> Options<'a> {
+    /// The options, if each number is within its limit: `until` 0 to 2^62 - 1, `depart` 0 to 4, `steps` and `entries` 1 to
+    /// 1,000,000. E404 for a number out of its limit, and else never.
+    pub fn new(
+        top: Option<&'a [u8]>,
+        until: u64,
+        depart: u64,
+        steps: u64,
+        entries: u64,
+        grain: Grain,
+    ) -> Result<Options<'a>, Fault>
+        ensures top { IfOk result (λ options. options.top ≡ top.entry) }
+        ensures until { IfOk result (λ options. options.until ≡ until) }
+        ensures depart { IfOk result (λ options. options.limits.depart ≡ depart) }
+        ensures steps { IfOk result (λ options. options.limits.steps ≡ steps) }
+        ensures entries { IfOk result (λ options. options.limits.entries ≡ entries) }
+        ensures grain { IfOk result (λ options. options.grain ≡ grain) }
+        ensures number { IfErr result (λ fault. fault ≡ OutOfLimit) }
+        ensures refused { IfErr result (λ fault. ¬ IsWithin until depart steps entries) }
+    {
+        let Some(limits) = limits_of(depart, steps, entries) else {
+            return Err(Fault::OutOfLimit);
+        };
+        if until > UNTIL_MAX {
+            return Err(Fault::OutOfLimit);
+        }
+        Ok(Options {
+            top,
+            until,
+            limits,
+            grain,
+        })
+    }
+}
+
+// The limits, where each number is within its own.
+fn limits_of(depart: u64, steps: u64, entries: u64) -> Option<Limits>
+    ensures depart { IfSome result (λ limits. limits.depart ≡ depart) }
+    ensures steps { IfSome result (λ limits. limits.steps ≡ steps) }
+    ensures entries { IfSome result (λ limits. limits.entries ≡ entries) }
+    ensures none { IfNone result (¬ AreLimits depart steps entries) }
+{
+    let depart = u32::try_from(depart).ok()?;
+    let steps = u32::try_from(steps).ok()?;
+    let entries = u32::try_from(entries).ok()?;
+    Limits::new(depart, steps, entries)
+}

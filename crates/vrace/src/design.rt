@@ -1,0 +1,176 @@
+// From the bytes of the files to the design that they stand for.
+
+ghost use Rattle.std.specs.Prelude.{◌≡◌, ◌⊎◌, ℕ, nat_lt, List, Option, IfOk, IfErr, option_map};
+ghost use Rattle.vsrc.specs.Source.{joined, source_of};
+ghost use Rattle.vsrc.specs.Expansion.{IsReason as IsSourceReason};
+ghost use Rattle.vlex.specs.Lexed.{HasNoTokens};
+ghost use Rattle.vlex.specs.Tokenized.{Tokenized, pieces_of};
+ghost use Rattle.vast.specs.Syntax.{SourceTree};
+ghost use Rattle.vast.specs.Trees.{source_tree};
+ghost use Rattle.vast.specs.DesignViews.{design_view};
+ghost use Rattle.vparse.specs.Words.{words_of};
+ghost use Rattle.vparse.specs.Faults.{HasNoTree, IsReason as IsSyntaxReason};
+ghost use Rattle.velab.specs.Reasons.{IsReason as IsDesignReason, IsOfText, HasNoDesign};
+ghost use Rattle.vrace.specs.Replays.{IsDesignOf};
+ghost use Rattle.vrace.specs.Stages.{IsCut, IsReadAs};
+ghost use Rattle.vrace.specs.Refusals.{texts, total, limit, IsFileReason, IsTextReason};
+
+use crate::fault::{At, Fault};
+use crate::read::LIMIT;
+use std::alloc::Global;
+use vast::design::Design;
+use vast::syntax::Ast;
+use velab::{ElabFault, elaborate};
+use vlex::{LexFault, Tokens, tokens};
+use vparse::{SyntaxFault, parse};
+use vsrc::{Expanded, Place, SrcFault, expand};
+
+// The place that a fault was found at.
+fn at(place: Place) -> At {
+    At(Some(place))
+}
+
+// The place of the token of this number, if there is one.
+fn at_token(tokens: &Tokens<'_>, number: Option<u32>) -> At {
+    match number {
+        None => At(None),
+        Some(number) => {
+            if number as usize <= tokens.len() {
+                At(Some(tokens.place(number as usize)))
+            } else {
+                At(None)
+            }
+        }
+    }
+}
+
+// What stops the expansion of the files.
+fn of_source(fault: SrcFault) -> Fault
+    ensures { (files : List (List ℕ)) → IsSourceReason files fault → IsFileReason files result }
+{
+    match fault {
+        SrcFault::NotYet { place } => Fault::NotYet(at(place)),
+        SrcFault::Growth { place } => Fault::Growth(at(place)),
+        SrcFault::Memory => Fault::Memory,
+    }
+}
+
+// What stops the cut into tokens.
+fn of_tokens(fault: LexFault) -> Fault
+    ensures { (text : List ℕ) (top : Option (List ℕ)) → HasNoTokens text fault → IsTextReason text top result }
+{
+    match fault {
+        LexFault::NotEnded { place } => Fault::NotEnded(at(place)),
+        LexFault::BadToken { place } => Fault::BadToken(at(place)),
+        LexFault::Memory => Fault::Memory,
+    }
+}
+
+// What stops the reading of the tokens.
+fn of_tree(fault: SyntaxFault) -> Fault
+    ensures { (text : List ℕ) (tokens : Tokenized) (top : Option (List ℕ)) → IsCut text (pieces_of tokens) → HasNoTree (words_of tokens) fault → IsSyntaxReason tokens fault → IsTextReason text top result }
+{
+    match fault {
+        SyntaxFault::NoTree { place } => Fault::NoTree(at(place)),
+        SyntaxFault::Outside { place } => Fault::Outside(at(place)),
+        SyntaxFault::TooDeep { place } => Fault::TooDeep(at(place)),
+        SyntaxFault::Memory => Fault::Memory,
+    }
+}
+
+// What stops the elaboration of the tree.
+fn of_design(tokens: &Tokens<'_>, fault: ElabFault) -> Fault
+    ensures { (text : List ℕ) (tree : SourceTree) (top : Option (List ℕ)) → IsReadAs text tree → IsDesignReason tree top fault → (IsOfText fault → HasNoDesign tree top) → IsTextReason text top result }
+{
+    match fault {
+        ElabFault::Module { at } => Fault::NoTop(at_token(tokens, at)),
+        ElabFault::Doubled { at } => Fault::Doubled(at_token(tokens, at)),
+        ElabFault::Unknown { at } => Fault::Unknown(at_token(tokens, at)),
+        ElabFault::Width { at } => Fault::Width(at_token(tokens, at)),
+        ElabFault::TooMany { at } => Fault::TooMany(at_token(tokens, at)),
+        ElabFault::Memory => Fault::Memory,
+    }
+}
+
+// The text of the files.
+fn text_of(alloc: Global, files: &[Vec<u8>]) -> Result<Expanded, Fault>
+    ensures ok { IfOk result (λ expanded. expanded ≡ source_of (texts files.now)) }
+    ensures err { IfErr result (λ fault. IsFileReason (texts files.now) fault) }
+{
+    match expand(alloc, files) {
+        Ok(expanded) => Ok(expanded),
+        Err(fault) => Err(of_source(fault)),
+    }
+}
+
+// The tokens of the text.
+fn tokens_of<'a>(alloc: Global, text: &'a Expanded) -> Result<Tokens<'a>, Fault>
+    ensures ok { IfOk result (λ tokens. IsCut text.now.text (pieces_of tokens)) }
+    ensures err { (top : Option (List ℕ)) → IfErr result (λ fault. IsTextReason text.now.text top fault) }
+{
+    match tokens(alloc, text) {
+        Ok(tokens) => Ok(tokens),
+        Err(fault) => Err(of_tokens(fault)),
+    }
+}
+
+// The tree of the tokens.
+fn tree_of<'a>(alloc: Global, tokens: &Tokens<'a>) -> Result<Ast<'a>, Fault>
+    ensures ok { (text : List ℕ) → IsCut text (pieces_of tokens.now) → IfOk result (λ ast. IsReadAs text (source_tree ast)) }
+    ensures err { (text : List ℕ) (top : Option (List ℕ)) → IsCut text (pieces_of tokens.now) → IfErr result (λ fault. IsTextReason text top fault) }
+{
+    match parse(alloc, tokens) {
+        Ok(ast) => Ok(ast),
+        Err(fault) => Err(of_tree(fault)),
+    }
+}
+
+// The design of the text.
+fn design_of_text(alloc: Global, text: &Expanded, top: Option<&[u8]>) -> Result<Design, Fault>
+    ensures ok { IfOk result (λ design. IsDesignOf text.now.text (option_map (λ name. name.now) top.entry) (design_view design)) }
+    ensures err { IfErr result (λ fault. IsTextReason text.now.text (option_map (λ name. name.now) top.entry) fault) }
+{
+    let tokens = match tokens_of(alloc, text) {
+        Ok(tokens) => tokens,
+        Err(fault) => return Err(fault),
+    };
+    let ast = match tree_of(alloc, &tokens) {
+        Ok(ast) => ast,
+        Err(fault) => return Err(fault),
+    };
+    match elaborate(alloc, &ast, top) {
+        Ok(design) => Ok(design),
+        Err(fault) => Err(of_design(&tokens, fault)),
+    }
+}
+
+/// The design of the top module in the files. E904 where the files together are longer than 16,777,216 bytes; E1xx,
+/// E2xx and E3xx only where their text has no tokens, no tree, or no design; E299 where it uses a directive or a macro;
+/// E901.
+pub fn design_of(alloc: Global, files: &[Vec<u8>], top: Option<&[u8]>) -> Result<Design, Fault>
+    ensures ok { IfOk result (λ design. IsDesignOf (joined (texts files.now)) (option_map (λ name. name.now) top.entry) (design_view design)) }
+    ensures err { IfErr result (λ fault. IsFileReason (texts files.now) fault ⊎ IsTextReason (joined (texts files.now)) (option_map (λ name. name.now) top.entry) fault) }
+{
+    if is_too_long(files) {
+        return Err(Fault::TooLong);
+    }
+    let text = match text_of(alloc, files) {
+        Ok(text) => text,
+        Err(fault) => return Err(fault),
+    };
+    design_of_text(alloc, &text, top)
+}
+
+// Whether the files together are too long.
+fn is_too_long(files: &[Vec<u8>]) -> bool
+    ensures { result ≡ nat_lt limit (total (texts files.now)) }
+{
+    let mut room = LIMIT;
+    for file in files {
+        if file.len() > room {
+            return true;
+        }
+        room -= file.len();
+    }
+    false
+}

@@ -1,0 +1,104 @@
+// Every refusal, with its number and, where one is known, its place in the files.
+
+ghost use Rattle.std.specs.Prelude.{◌≡◌};
+ghost use Rattle.vrace.specs.declared.fault.Fault.TheVariants.{Memory};
+
+use std::alloc::{AllocError, AllocFailed};
+use std::fmt;
+use thiserror::Error;
+use vsrc::Place;
+
+/// A place in the files, if one is known. It prints as ` at F:L`, the numbers of the file and of its line from 1, or as
+/// nothing.
+#[derive(Clone, Copy, Debug, PartialEq, Eq)]
+pub struct At(pub Option<Place>);
+
+impl fmt::Display for At {
+    fn fmt<W: fmt::Write>(&self, f: &mut fmt::Formatter<W>) -> fmt::Result {
+        match self.0 {
+            None => Ok(()),
+            Some(place) => write!(f, " at {}:{}", place.file, place.line),
+        }
+    }
+}
+
+/// A refusal, by its number in docs/FAULTS.md. It prints as the number and the place.
+#[derive(Clone, Copy, Debug, PartialEq, Eq, Error)]
+pub enum Fault {
+    /// A comment or a string isn't ended.
+    #[error("E101{0}")]
+    NotEnded(At),
+    /// A bad character, number or escape.
+    #[error("E102{0}")]
+    BadToken(At),
+    /// The text grows too long with this file.
+    #[error("E112{0}")]
+    Growth(At),
+    /// No tree derives the words.
+    #[error("E201{0}")]
+    NoTree(At),
+    /// A word, operator or system name outside the profile.
+    #[error("E202{0}")]
+    Outside(At),
+    /// Statements and expressions nest deeper than 64.
+    #[error("E203{0}")]
+    TooDeep(At),
+    /// A directive or a macro, and none is read yet.
+    #[error("E299{0}")]
+    NotYet(At),
+    /// No module is the top.
+    #[error("E301{0}")]
+    NoTop(At),
+    /// A name is declared twice.
+    #[error("E302{0}")]
+    Doubled(At),
+    /// A name isn't declared.
+    #[error("E303{0}")]
+    Unknown(At),
+    /// A width or a bound is out of its limits.
+    #[error("E306{0}")]
+    Width(At),
+    /// Too many variables or processes.
+    #[error("E309{0}")]
+    TooMany(At),
+    /// The log is ill formed.
+    #[error("E401")]
+    BadLog,
+    /// The run has no such step, or not that choice there.
+    #[error("E402")]
+    NoSuchChoice,
+    /// The run takes more steps than allowed.
+    #[error("E403")]
+    TooManySteps,
+    /// A number is out of its limit.
+    #[error("E404")]
+    OutOfLimit,
+    /// A growth was refused.
+    #[error("E901")]
+    Memory,
+    /// The writer failed.
+    #[error("E902")]
+    Write,
+    /// The reader failed.
+    #[error("E903")]
+    Read,
+    /// The text is longer than 16,777,216 bytes.
+    #[error("E904")]
+    TooLong,
+}
+
+impl From<AllocError> for Fault {
+    ghost from_gives = { λ _ e. e ≡ Memory };
+
+    fn from(_error: AllocError) -> Fault {
+        Fault::Memory
+    }
+}
+
+impl<T: Drop> From<AllocFailed<T>> for Fault {
+    ghost from_gives = { λ _ e. e ≡ Memory };
+
+    fn from(_error: AllocFailed<T>) -> Fault {
+        Fault::Memory
+    }
+}

@@ -1,0 +1,17 @@
+// How a text is run.
+
+ghost use Rattle.std.specs.Prelude.{◌≤◌};
+
+use statebook::Limits;
+use vmodel::history::Grain;
+
+/// How a text is run: its top module, or none where the text has only one; the time limit in units of the precision; how
+/// far runs are explored and how many steps one may take; and the grain (docs/SCHEDULING.md).
+#[derive(Clone, Copy, Debug)]
+pub struct Options<'a> {
+    pub top: Option<&'a [u8]>,
+    pub until: u64,
+    pub limits: Limits,
+    pub grain: Grain,
+    ghost until_limit: { until ≤ 4611686018427387903 },
+}

@@ -1,0 +1,59 @@
+// A whole text from a reader.
+
+ghost use Rattle.std.specs.Prelude.{◌≡◌, ◌≤◌, ◌<◌, ℕ, List, ◌++◌, IfOk, IfErr, length};
+ghost use Rattle.vrace.specs.Refusals.{limit};
+ghost use Rattle.vrace.specs.Reads.{IsAllOf, IsReadReason, IsTaken};
+
+use crate::fault::Fault;
+use std::alloc::Global;
+use std::io::Read;
+use vcd_text::Metered;
+
+/// The most bytes that a text may have.
+pub const LIMIT: usize = 16_777_216;
+
+// The most bytes of one read.
+const PIECE: usize = 65_536;
+
+// One read, put at the end of the text. The answer is how many bytes came.
+fn read_more<R: Read>(
+    reader: &mut Metered<R>,
+    piece: &mut [u8],
+    text: &mut Vec<u8>,
+) -> Result<usize, Fault>
+    requires { 0 < length piece.old }
+    ensures same { length piece.new ≡ length piece.old }
+    ensures ok { IfOk result (λ count. (bytes : List ℕ) × IsTaken (R.remaining reader.old.inner) (R.remaining reader.new.inner) reader.old.failures reader.new.failures bytes × (length bytes ≡ count) × (text.new.items ≡ text.old.items ++ bytes)) }
+    ensures err { IfErr result (λ fault. IsReadReason (R.remaining reader.old.inner) reader.old.failures reader.new.failures fault) }
+{
+    let Ok(count) = reader.read(piece) else {
+        return Err(Fault::Read);
+    };
+    match text.extend_from_slice(piece.split_at(count).0) {
+        Ok(()) => Ok(count),
+        Err(_) => Err(Fault::Memory),
+    }
+}
+
+/// All bytes of a reader, at most 16,777,216: E904 where there are more, also of a reader that never ends; E903 only where
+/// the reader failed; E901 only where a growth was refused.
+pub fn read_text<R: Read>(alloc: Global, reader: &mut Metered<R>) -> Result<Vec<u8>, Fault>
+    ensures all { IfOk result (λ text. IsAllOf (R.remaining reader.old.inner) (R.remaining reader.new.inner) text.items) }
+    ensures unfailed { IfOk result (λ _. reader.new.failures ≡ reader.old.failures) }
+    ensures reason { IfErr result (λ fault. IsReadReason (R.remaining reader.old.inner) reader.old.failures reader.new.failures fault) }
+{
+    let mut text = Vec::new(alloc);
+    let mut piece = [0; PIECE];
+    'reads: loop {
+        let count = match read_more(reader, &mut piece, &mut text) {
+            Ok(count) => count,
+            Err(fault) => return Err(fault),
+        };
+        if count == 0 {
+            return Ok(text);
+        }
+        if text.len() > LIMIT {
+            return Err(Fault::TooLong);
+        }
+    }
+}

@@ -1,0 +1,181 @@
+// From files and a log to the dump of the run.
+
+ghost use Rattle.std.specs.Prelude.{◌≡◌, ◌⊎◌, ℕ, List, OnOk, IfErr};
+ghost use Rattle.vast.specs.DesignViews.{design_view};
+ghost use Rattle.vmodel.specs.declared.history.End.{End};
+ghost use Rattle.vmodel.specs.Played.{Finishes};
+ghost use Rattle.vmodel.specs.RunViews.{setting_of};
+ghost use Rattle.vcd_text.specs.DumpText.{header, idle};
+ghost use Rattle.vcd_text.specs.Metered.{Grows};
+ghost use Rattle.vcd_text.specs.Sinks.{progress_view, IsSameDump};
+ghost use Rattle.vrace.specs.Asked.{asked};
+ghost use Rattle.vrace.specs.Replays.{IsDump, grain_under as grain_by};
+ghost use Rattle.vrace.specs.Refusals.{texts, IsReason, Leaves};
+ghost use Rattle.vrace.specs.RunDumps.{IsRunDump, IsRunFault, StopsDump, Ends, fault_of, refused, failures_after};
+
+use crate::design::design_of;
+use crate::fault::Fault;
+use crate::options::Options;
+use crate::unwatched::Unwatched;
+use sched_core::{Log, LogFault, LogHead, ReplayFault, read_named_log};
+use std::alloc::Global;
+use std::io::Write;
+use vcd_text::{DumpSink, Header, Metered, WriteFault};
+use vmodel::history::Grain;
+use vmodel::run::{Run, RunFault};
+
+/// What a replay shows of a run.
+#[derive(Clone, Copy, Debug, PartialEq, Eq)]
+pub enum Show {
+    /// Its value change dump (clause 18; docs/FORMATS.md, "Dumps").
+    Dump,
+}
+
+// The grain that the log names, or else the one asked for.
+fn grain_under(head: LogHead, grain: Grain) -> Grain
+    ensures { result ≡ grain_by head grain }
+{
+    match head {
+        LogHead::Plain => grain,
+        LogHead::Process => Grain::Process,
+        LogHead::Statement => Grain::Statement,
+    }
+}
+
+fn of_replay(fault: ReplayFault) -> Fault
+    ensures { result ≡ refused fault }
+{
+    match fault {
+        ReplayFault::NoSuchChoice => Fault::NoSuchChoice,
+        ReplayFault::TooManySteps => Fault::TooManySteps,
+        ReplayFault::Memory => Fault::Memory,
+    }
+}
+
+fn of_writing(fault: WriteFault) -> Fault
+    ensures { result ≡ fault_of fault }
+{
+    match fault {
+        WriteFault::Memory => Fault::Memory,
+        WriteFault::Write => Fault::Write,
+    }
+}
+
+// Runs the design under the log where nobody watches: whether the run ends.
+fn see_end(alloc: Global, run: &Run<'_>, log: &Log, steps: u32) -> Result<(), Fault>
+    ensures ends { OnOk result ((n : ℕ) × (end : End) × Finishes (setting_of run.now) log.now steps n end) }
+    ensures reason { IfErr result (λ fault. IsRunFault (setting_of run.now) log.now steps fault) }
+{
+    let mut sink = Unwatched;
+    match run.hand_on(alloc, log, steps, &mut sink) {
+        Ok(_) => Ok(()),
+        Err(RunFault::Replay(fault)) => Err(of_replay(fault)),
+        Err(RunFault::Sink(never)) => match never {},
+    }
+}
+
+// Runs it again into a fresh sink.
+fn fill<W: Write>(
+    alloc: Global,
+    run: &Run<'_>,
+    log: &Log,
+    steps: u32,
+    sink: &mut DumpSink<'_, W>,
+) -> Result<(), Fault>
+    requires fresh { progress_view sink.old.progress ≡ idle }
+    requires ends { (dump : List ℕ) × IsRunDump sink.old.header.now (setting_of run.now) log.now steps dump }
+    ensures same { IsSameDump sink.old sink.new }
+    ensures ok { OnOk result ((dump : List ℕ) × IsRunDump sink.old.header.now (setting_of run.now) log.now steps dump × Grows W.contents sink.old.writer.now sink.new.writer.now dump) }
+    ensures err { IfErr result (λ fault. StopsDump W.contents sink.old.header.now (setting_of run.now) log.now steps sink.old.writer.now sink.new.writer.now fault) }
+{
+    match run.hand_on(alloc, log, steps, sink) {
+        Ok(end) => match sink.finish(&end) {
+            Ok(()) => Ok(()),
+            Err(fault) => Err(of_writing(fault)),
+        },
+        Err(RunFault::Sink(fault)) => Err(of_writing(fault)),
+        Err(RunFault::Replay(fault)) => Err(of_replay(fault)),
+    }
+}
+
+// Writes the dump of the run below the header.
+fn write_run<W: Write>(
+    alloc: Global,
+    run: &Run<'_>,
+    log: &Log,
+    steps: u32,
+    head: &Header,
+    writer: &mut Metered<W>,
+) -> Result<(), Fault>
+    requires ends { (dump : List ℕ) × IsRunDump head.now (setting_of run.now) log.now steps dump }
+    ensures ok { OnOk result ((dump : List ℕ) × IsRunDump head.now (setting_of run.now) log.now steps dump × Grows W.contents writer.old writer.new dump) }
+    ensures err { IfErr result (λ fault. StopsDump W.contents head.now (setting_of run.now) log.now steps writer.old writer.new fault) }
+{
+    let mut sink = DumpSink::new(alloc, head, writer);
+    let result = fill(alloc, run, log, steps, &mut sink);
+    let writer = sink.into_writer();
+    // No effect at run time. The proof reads what the writer holds from this use.
+    let _ = &*writer;
+    result
+}
+
+// Writes the dump of the run, once it is known to end.
+fn dump_run<W: Write>(
+    alloc: Global,
+    run: &Run<'_>,
+    log: &Log,
+    steps: u32,
+    writer: &mut Metered<W>,
+) -> Result<(), Fault>
+    ensures ok { OnOk result ((dump : List ℕ) × IsRunDump (header (design_view run.now.design.now)) (setting_of run.now) log.now steps dump × Grows W.contents writer.old writer.new dump) }
+    ensures err { IfErr result (λ fault. Ends W.contents (header (design_view run.now.design.now)) (setting_of run.now) log.now steps writer.old writer.new fault) }
+{
+    match see_end(alloc, run, log, steps) {
+        Ok(()) => {}
+        Err(fault) => return Err(fault),
+    }
+    match Header::new(alloc, run.design) {
+        Ok(head) => write_run(alloc, run, log, steps, &head, writer),
+        Err(_) => Err(Fault::Memory),
+    }
+}
+
+/// Writes the value change dump of the run of the files under the log to the writer, slot by slot. The log's text may
+/// name a grain, as `statement/5:1`; else the grain is that of the options.
+///
+/// Refusals, in the order in which they are looked for: E904 where the files together are longer than 16,777,216 bytes;
+/// E1xx to E3xx where their text has no tokens, no tree or no design; E401 where the log's text is none; E403 where the
+/// run takes more steps than allowed; E402 where a step that the log names isn't reached or hasn't that choice. Then
+/// nothing is written, as the run is seen to end before its first byte goes out. E902 where the writer failed, and E901
+/// where memory was refused: then a prefix of the dump may stand written.
+pub fn replay_text<W: Write>(
+    alloc: Global,
+    files: &[Vec<u8>],
+    options: &Options<'_>,
+    log: &[u8],
+    show: Show,
+    writer: &mut Metered<W>,
+) -> Result<(), Fault>
+    ensures dump { OnOk result ((dump : List ℕ) × IsDump (texts files.now) (asked options.now) log.now dump × Grows W.contents writer.old writer.new dump) }
+    ensures reason { IfErr result (λ fault. IsReason (texts files.now) (asked options.now) log.now fault) }
+    ensures left { IfErr result (λ fault. Leaves (texts files.now) (asked options.now) log.now fault (W.contents writer.old.inner) (W.contents writer.new.inner)) }
+    ensures failures { IfErr result (λ fault. writer.new.failures ≡ failures_after fault writer.old.failures) }
+{
+    let design = match design_of(alloc, files, options.top) {
+        Ok(design) => design,
+        Err(fault) => return Err(fault),
+    };
+    let (head, members) = match read_named_log(alloc, log) {
+        Ok(named) => named,
+        Err(LogFault::IllFormed) => return Err(Fault::BadLog),
+        Err(LogFault::Memory) => return Err(Fault::Memory),
+    };
+    let run = Run {
+        design: &design,
+        until: options.until,
+        grain: grain_under(head, options.grain),
+    };
+    match show {
+        Show::Dump => dump_run(alloc, &run, &members, options.limits.steps, writer),
+    }
+}
