@@ -11,42 +11,25 @@ by massif at the peak. Status 1 where a choice costs more than 3,000 instruction
 those of the smaller with 3 departures, or an entry more than 200 bytes beside its state (8 bytes) and its log (a list
 of its own, of up to 4 members of 8 bytes).
 """
-import re
-import shutil
-import subprocess
 import sys
-import tempfile
 from pathlib import Path
+
+sys.path.insert(0, str(Path(__file__).resolve().parents[1]))
+from counting import counted, peak_bytes, program_of
 
 SMALL, LARGE = 2_500, 25_000
 STATE, LOG = 8, 32
 
 
 def instructions(program, right, depart):
-    with tempfile.TemporaryDirectory() as folder:
-        run = subprocess.run(
-            ["valgrind", "--tool=callgrind", "--callgrind-out-file=%s/out" % folder, program, str(right), str(depart)],
-            check=True, capture_output=True, text=True)
-    if run.stdout != "%d marks, exhausted\n" % (depart + 2):
-        raise SystemExit("unexpected answer: " + run.stdout)
-    return int(re.search(r"Collected : (\d+)", run.stderr).group(1))
-
-
-def peak_bytes(program, right, depart):
-    with tempfile.TemporaryDirectory() as folder:
-        subprocess.run(
-            ["valgrind", "--tool=massif", "--massif-out-file=%s/out" % folder, program, str(right), str(depart)],
-            check=True, capture_output=True, text=True)
-        text = Path(folder, "out").read_text()
-    return max(int(heap) for heap in re.findall(r"mem_heap_B=(\d+)", text))
+    count, answer = counted(program, [str(right), str(depart)])
+    if answer != b"%d marks, exhausted\n" % (depart + 2):
+        raise SystemExit("unexpected answer: " + answer.decode())
+    return count
 
 
 def main():
-    if shutil.which("valgrind") is None:
-        print("benches: skipped, valgrind is not installed")
-        return 0
-    top = Path(__file__).resolve().parents[2]
-    program = sys.argv[1] if len(sys.argv) > 1 else str(top / "crates/explore_bench/out/explore_bench")
+    program = program_of("explore_bench")
     small, large = instructions(program, SMALL, 3), instructions(program, LARGE, 3)
     per_choice, growth = large / (7 * LARGE), large / small
     print("%d by 4, 3 departures: %d instructions, %.0f a choice" % (SMALL, small, small / (7 * SMALL)))
@@ -57,7 +40,7 @@ def main():
         choices, forced = 8 * right + 1, (right - 5) * (right - 4) // 2
         print("%d by 4, 4 departures: %d instructions; %.1f each of %d forced steps, a choice as above"
               % (right, count, (count - per_choice * choices) / forced, forced))
-    per_entry = peak_bytes(program, LARGE, 4) / (4 * LARGE + 2) - STATE - LOG
+    per_entry = peak_bytes(program, [str(LARGE), "4"]) / (4 * LARGE + 2) - STATE - LOG
     print("at the peak %.0f bytes an entry beside state and log (at most 200)" % per_entry)
     return 0 if per_choice <= 3000 and growth <= 11 and per_entry <= 200 else 1
 

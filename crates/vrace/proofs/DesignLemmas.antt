@@ -12,9 +12,10 @@ use Rattle.vrace.specs.declared.fault.Fault.{Fault}
 
 pub breaks : (text : List ℕ) (tree : SourceTree) (top : Option (List ℕ)) (fault : ElabFault) → IsReadAs text tree →
     IsDesignReason tree top fault → TreeHasNoDesign tree top → Breaks text top fault
-breaks text tree top fault read reason none =
-    ((λ design is. none design (subst (λ t. Elaborates t top design) (read.only is.tree is.is_tree) is.elaborated)),
-    (tree, read.is_tree, reason))
+breaks text tree top fault read reason none = (
+  (λ design is. none design (subst (λ t. Elaborates t top design) (read.only is.tree is.is_tree) is.elaborated)),
+  (tree, read.is_tree, reason),
+)
 
 -- a fault of the text that the files make is one of the files
 pub err_of_text : {T : Type 0} (r : Result T Fault) (files : List (List ℕ)) (text : List ℕ) (top : Option (List ℕ)) → text ≡ joined files →

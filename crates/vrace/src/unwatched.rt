@@ -1,6 +1,5 @@
 // A run that nobody watches.
 
-
 use vmodel::history::Item;
 use vmodel::sink::Sink;
 

@@ -11,8 +11,10 @@ pub write_run-requires : goal.write_run-requires
 write_run-requires g c =
     let known = c.in-Ok.ensures.ends in
     record {
-      ends = (dump_below c.in-Ok-new.head (history_after (setting_of c.args.run.now) c.args.log.now known.0),
-          the_dump c.in-Ok-new.head (setting_of c.args.run.now) c.args.log.now c.args.steps known.0 known.1 known.2);
+      ends = (
+        dump_below c.in-Ok-new.head (history_after (setting_of c.args.run.now) c.args.log.now known.0),
+        the_dump c.in-Ok-new.head (setting_of c.args.run.now) c.args.log.now c.args.steps known.0 known.1 known.2,
+      );
     }
 
 pub returns-in-Ok-new-clause-ok : goal.returns-in-Ok-new-clause-ok

@@ -1,0 +1,36 @@
+"""What the measures of this folder share: where the program is, and what it costs."""
+import re
+import shutil
+import subprocess
+import sys
+import tempfile
+from pathlib import Path
+
+
+def program_of(crate):
+    """The program that the first word names, or the one that the crate built. Ends the measure where there is no valgrind."""
+    if shutil.which("valgrind") is None:
+        print("benches: skipped, valgrind is not installed")
+        sys.exit(0)
+    if len(sys.argv) > 1:
+        return sys.argv[1]
+    return str(Path(__file__).resolve().parents[1] / "crates" / crate / "out" / crate)
+
+
+def counted(program, words, text=b""):
+    """Instructions by callgrind, and standard output."""
+    with tempfile.TemporaryDirectory() as folder:
+        run = subprocess.run(
+            ["valgrind", "--tool=callgrind", f"--callgrind-out-file={folder}/out", program, *words],
+            input=text, capture_output=True, check=False)
+    return int(re.search(rb"Collected : (\d+)", run.stderr).group(1)), run.stdout
+
+
+def peak_bytes(program, words, text=b""):
+    """Bytes of the heap at the peak, by massif."""
+    with tempfile.TemporaryDirectory() as folder:
+        subprocess.run(
+            ["valgrind", "--tool=massif", f"--massif-out-file={folder}/out", program, *words],
+            input=text, capture_output=True, check=False)
+        told = Path(folder, "out").read_text()
+    return max(int(heap) for heap in re.findall(r"mem_heap_B=(\d+)", told))

@@ -1,0 +1,68 @@
+#!/usr/bin/env python3
+"""Counts what the program costs, a byte of text read, a step taken, and a byte of dump written.
+
+Usage: benches/replay/measure.py [PATH_OF_vrace_program]
+
+Reading: ordinary text of many modules, of which the top does nothing, so that text, tokens and tree are all that costs; the
+difference between a long text and a short one. Steps: one process of many assignments and no dump. Dumps: one process that waits 1 and
+changes a bit, and the same without `$dumpvars`; the difference is the dump. Status 1 where a byte read costs more than 400
+instructions, a byte of blanks more than 100, twice the steps more than 2.2 times, a byte written more than 150, or a
+byte of text more than 60 bytes of memory at the peak.
+"""
+import sys
+from pathlib import Path
+
+sys.path.insert(0, str(Path(__file__).resolve().parents[1]))
+from counting import counted, peak_bytes, program_of
+
+UNIT = """module counter_%d;
+  reg [7:0] count, next; // a line of comment
+  reg clock;
+  initial begin count = 8'h00; #5 next <= count; clock = 1'b1; #10 clock = 0; end
+endmodule
+"""
+
+
+def ordinary(count):
+    return ("module tb; endmodule\n" + "".join(UNIT % i for i in range(count))).encode()
+
+
+def assignments(count):
+    return ("module tb; reg a, b; initial begin " + "a = b; " * count + "end endmodule").encode()
+
+
+def changes(count, dumped):
+    start = "$dumpvars; " if dumped else "; "
+    return ("module tb; reg a; initial begin " + start + "#1 a = 1; #1 a = 0; " * count + "end endmodule").encode()
+
+
+def main():
+    program = program_of("vrace_program")
+    over = 0
+
+    def say(what, value, limit):
+        nonlocal over
+        over += value > limit
+        print(f"{what}: {value:.1f} (at most {limit})")
+
+    def per_byte(short, long, words):
+        return (counted(program, words, long)[0] - counted(program, words, short)[0]) / (len(long) - len(short))
+
+    tb = ["replay", "--top", "tb"]
+    say("instructions a byte of ordinary text", per_byte(ordinary(500), ordinary(5500), tb), 400)
+    say("instructions a byte of blanks", per_byte(b" " * 100_000, b" " * 2_100_000, tb), 100)
+    text = ordinary(5500)
+    say("bytes of memory a byte of text", peak_bytes(program, tb, text) / len(text), 60)
+    steps = ["replay", "--steps", "1000000"]
+    few, many = assignments(20_000), assignments(40_000)
+    taken = [counted(program, steps, text)[0] for text in (few, many)]
+    say("times the instructions for twice the steps", taken[1] / taken[0], 2.2)
+    print(f"instructions a step, the reading of its statement with it: {(taken[1] - taken[0]) / 20_000:.0f}")
+    dumped, written = counted(program, steps, changes(20_000, True))
+    plain, nothing = counted(program, steps, changes(20_000, False))
+    say("instructions a byte of dump", (dumped - plain) / (len(written) - len(nothing)), 150)
+    return 1 if over else 0
+
+
+if __name__ == "__main__":
+    sys.exit(main())

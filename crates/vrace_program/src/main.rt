@@ -1,0 +1,164 @@
+//! The program `vrace`. In go words and Verilog; out comes a value change dump on standard output, or one line with the
+//! number of a fault on standard error. What is written is the contract of `vrace::replay_text`.
+#![tactic(auto)]
+
+mod words;
+
+use clap::Error;
+use clap::error::ErrorKind;
+use std::fs::File;
+use std::io::{BufWriter, Write};
+use std::process::ExitCode;
+use std::{env, io};
+use vcd_text::Metered;
+use vrace::{Fault, Options, Show, read_text, replay_text};
+use words::{Request, commands, request_of};
+
+// What stands for the limits of exploring, which a replay doesn't read.
+const DEPART: u64 = 1;
+
+const ENTRIES: u64 = 100_000;
+
+// The text of one file.
+fn read_file(rt: &HostRuntime, name: &str) -> Result<Vec<u8>, Fault> {
+    match File::open(rt, name) {
+        Ok(file) => read_text(rt.alloc(), &mut Metered::new(file)),
+        Err(_) => Err(Fault::Read),
+    }
+}
+
+// The texts of the files, or of standard input.
+fn texts(rt: &HostRuntime, names: &[&str]) -> Result<Vec<Vec<u8>>, Fault> {
+    let mut texts = Vec::new(rt.alloc());
+    if names.is_empty() {
+        texts.push(read_text(rt.alloc(), &mut Metered::new(rt.reader()))?)?;
+    }
+    for name in names {
+        texts.push(read_file(rt, name)?)?;
+    }
+    Ok(texts)
+}
+
+// Replays what is asked for onto standard output.
+fn replay(rt: &HostRuntime, request: &Request<'_>) -> Result<(), Fault> {
+    let top = request.top.map(|name| name.as_bytes());
+    let options = Options::new(
+        top,
+        request.until,
+        DEPART,
+        request.steps,
+        ENTRIES,
+        request.grain,
+    )?;
+    let texts = texts(rt, &request.files)?;
+    let Ok(buffered) = BufWriter::new(rt.alloc(), io::writer(rt)) else {
+        return Err(Fault::Memory);
+    };
+    let mut writer = Metered::new(buffered);
+    replay_text(
+        rt.alloc(),
+        &texts,
+        &options,
+        request.log.as_bytes(),
+        Show::Dump,
+        &mut writer,
+    )?;
+    match writer.flush() {
+        Ok(()) => Ok(()),
+        Err(_) => Err(Fault::Write),
+    }
+}
+
+// What ends the program early.
+enum Stop {
+    // Help was asked for and printed.
+    Helped,
+    // The words don't parse.
+    Usage,
+    Refused(Fault),
+}
+
+impl From<Fault> for Stop {
+    fn from(fault: Fault) -> Stop {
+        Stop::Refused(fault)
+    }
+}
+
+// What clap says of words that it doesn't take: help on standard output, or a refusal.
+fn stopped(rt: &HostRuntime, error: &Error) -> Stop {
+    if error.kind() == ErrorKind::OutOfMemory {
+        return Stop::Refused(Fault::Memory);
+    }
+    if error.use_stderr() {
+        return Stop::Usage;
+    }
+    match error.print(rt) {
+        Ok(()) => Stop::Helped,
+        Err(_) => Stop::Refused(Fault::Write),
+    }
+}
+
+// The words, with `replay` where there are none.
+fn words_of(rt: &HostRuntime) -> Result<Vec<String>, Stop> {
+    let arguments = match env::args(rt) {
+        Ok(arguments) => arguments,
+        Err(error) => {
+            if error.kind() == io::ErrorKind::OutOfMemory {
+                return Err(Stop::Refused(Fault::Memory));
+            }
+            return Err(Stop::Usage);
+        }
+    };
+    let Ok(mut words) = arguments.collect::<Vec<String>>(rt.alloc()) else {
+        return Err(Stop::Refused(Fault::Memory));
+    };
+    if words.len() == 1 {
+        let Ok(replay) = String::from_str(rt.alloc(), "replay") else {
+            return Err(Stop::Refused(Fault::Memory));
+        };
+        let Ok(()) = words.push(replay) else {
+            return Err(Stop::Refused(Fault::Memory));
+        };
+    }
+    Ok(words)
+}
+
+// Does what the words ask for.
+fn run<'a>(rt: &HostRuntime, words: &'a [String]) -> Result<(), Stop> {
+    let Ok(commands) = commands(rt.alloc()) else {
+        return Err(Stop::Refused(Fault::Memory));
+    };
+    let matches = match commands.try_get_matches_from(words) {
+        Ok(matches) => matches,
+        Err(error) => return Err(stopped(rt, &error)),
+    };
+    let Some(matches) = matches.subcommand_matches("replay") else {
+        return Err(Stop::Usage);
+    };
+    let Ok(request) = request_of(rt.alloc(), matches) else {
+        return Err(Stop::Refused(Fault::Memory));
+    };
+    match replay(rt, &request) {
+        Ok(()) => Ok(()),
+        Err(fault) => Err(Stop::Refused(fault)),
+    }
+}
+
+fn main(rt: HostRuntime) -> ExitCode {
+    let done = match words_of(&rt) {
+        Ok(words) => run(&rt, &words),
+        Err(stop) => Err(stop),
+    };
+    match done {
+        Ok(()) => ExitCode::SUCCESS,
+        Err(Stop::Helped) => ExitCode::SUCCESS,
+        Err(Stop::Usage) => {
+            let _ = eprintln!(rt; "vrace: usage");
+            ExitCode::from(2)
+        }
+        Err(Stop::Refused(fault)) => {
+            let _ = eprintln!(rt; "vrace: {fault}");
+            ExitCode::from(2)
+        }
+    }
+}
