@@ -23,7 +23,7 @@ abbrev pub code : ℕ → List ℕ
 code zero = 33 ∷ []
 code (suc n) = following (code n)
 
--- ---- values (18.2.1)
+-- ---- values (18.2.2)
 
 abbrev pub digit : Bit4 → ℕ
 digit Zero = 48
@@ -117,7 +117,7 @@ header design =
     ++ scope_lines 0 0 design.scopes design.variables
     ++ line (codes "$enddefinitions $end")
 
--- ---- the body (18.2.2)
+-- ---- the body (18.2.1)
 
 -- how far a dump has come
 pub data Progress : Type 0 where

@@ -1,4 +1,4 @@
-// How far a dump has come, and what a slot end adds to it (18.2.2).
+// How far a dump has come, and what a slot end adds to it (18.2.1).
 
 ghost use Rattle.std.specs.Prelude.{◌≡◌, ◌++◌, List, ℕ, IfOk};
 ghost use Rattle.vmodel.specs.History.{dump};

@@ -19,7 +19,7 @@ use vmodel::history::{End, Item};
 use vmodel::sink::Sink;
 
 /// Writes the dump of a run as its items come: the header and all values at the end of the first slot with a
-/// `$dumpvars`, the changes at each later slot end (18.2.2; docs/FORMATS.md, "Dumps"). Before a start nothing is
+/// `$dumpvars`, the changes at each later slot end (18.2.1; docs/FORMATS.md, "Dumps"). Before a start nothing is
 /// written. `finish` completes the dump, and `into_writer` gives the writer back.
 #[derive(Drop)]
 pub struct DumpSink<'a, W> {
@@ -185,6 +185,7 @@ impl<'a, W: Write> DumpSink<'a, W> {
     /// Writes what the end of the run adds: its time, unless the last time line is that (E901, E902).
     pub fn finish(&mut self, end: &End) -> Result<(), WriteFault>
         ensures same { IsSameDump self.old self.new }
+        ensures progress { progress_view self.new.progress ≡ progress_view self.old.progress }
         ensures ok { OnOk result (Grows W.contents self.old.writer.now self.new.writer.now (end_text (progress_view self.old.progress) end.now.time)) }
         ensures err { IfErr result (Stops W.contents self.old.writer.now self.new.writer.now (end_text (progress_view self.old.progress) end.now.time)) }
     {

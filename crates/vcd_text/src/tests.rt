@@ -117,7 +117,7 @@ fn history(alloc: Global, end: u64) -> Result<History, Fail> {
     })
 }
 
-// By hand, after 18.2.3 and 18.2.2.
+// By hand, after 18.2.1 to 18.2.3.
 const TEXT: &str =
     "$version vrace $end\n$timescale 1 ns $end\n$scope module top $end\n$var reg 1 ! go $end\n\
 $var reg 8 \" sum [7:0] $end\n$scope module left $end\n$var reg 4 # n $end\n$upscope $end\n\

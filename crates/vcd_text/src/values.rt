@@ -1,4 +1,4 @@
-// The lines that say what variables are worth (18.2.1).
+// The lines that say what variables are worth (18.2.2).
 
 ghost use Rattle.std.specs.Prelude.{◌≡◌, ◌<◌, ◌++◌, OnOk, true, false, length, drop, map, reverse};
 ghost use Rattle.vcd_text.specs.DumpText.{following, digit as digit_code, extension as extension_code, shortened, change, named_line, value_lines, changed_lines, is_kept as is_kept_vector};
@@ -100,7 +100,7 @@ fn put_value(
     Ok(())
 }
 
-/// Writes the lines of all values at the end of the text, in the order of the variables (18.2.1; docs/FORMATS.md,
+/// Writes the lines of all values at the end of the text, in the order of the variables (18.2.2; docs/FORMATS.md,
 /// "Dumps"): a digit and the code, or `b`, digits, a space and the code. E901 is the only refusal.
 pub fn put_values(alloc: Global, text: &mut Vec<u8>, values: &[Vec4]) -> Result<(), AllocError>
     ensures { OnOk result (text.new.items ≡ text.old.items ++ value_lines 0 values.now) }
@@ -128,7 +128,7 @@ fn is_kept(old: Vec4, new: Vec4) -> bool
 }
 
 /// Writes the lines of the values at the end of the text that differ from those of an earlier list, in the order of the
-/// variables (18.2.2). E901 is the only refusal.
+/// variables (18.2.1). E901 is the only refusal.
 pub fn put_changes(
     alloc: Global,
     text: &mut Vec<u8>,

@@ -14,7 +14,7 @@ use Rattle.vast.specs.declared.design.Expression.{Expression}
 use Rattle.vast.specs.declared.design.Expression.TheVariants.{Constant, Variable}
 use Rattle.velab.specs.Literals.{constant_of}
 
--- ---- names (3.7, 12.5)
+-- ---- names (3.7, 12.7)
 
 -- whether a name stands twice in the list
 abbrev pub has_double : List Text → Bool

@@ -30,7 +30,7 @@ abbrev pub value_of : Expression → List Vector → ℕ → Bool → Vector
 value_of (Constant constant) values size sign = extended constant.value (constant.spreads || sign) sign size
 value_of (Variable variable) values size sign = extended (value_at values variable) sign sign size
 
--- 5.4.1, 5.5.4: the right side at the larger size of both sides, extended by its own sign and cut on the left; the
+-- 5.4.1, 5.5.3: the right side at the larger size of both sides, extended by its own sign and cut on the left; the
 -- sign mark is the target's
 abbrev pub assigned : Expression → List Vector → Vector → Vector
 assigned e values old =

@@ -58,7 +58,7 @@ fn value_of(expression: &Expression, values: &[Vec4], size: u32, sign: bool) -> 
     }
 }
 
-/// What a variable that had the value `old` has after the expression was assigned to it (5.4.1, 5.5.4).
+/// What a variable that had the value `old` has after the expression was assigned to it (5.4.1, 5.5.3).
 pub fn assigned(expression: &Expression, values: &[Vec4], old: Vec4) -> Vec4
     ensures { result ≡ assigned_vector expression.now values.now old }
 {

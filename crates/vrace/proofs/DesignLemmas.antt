@@ -1,13 +1,13 @@
 -- A rule that the only tree of a text breaks leaves the text without a design.
-use Rattle.std.proofs.Common.{◌≡◌, ◌⊎◌, inr, ℕ, List, Option, Result, Ok, Err, IfErr, subst}
+use Rattle.std.proofs.Common.{◌≡◌, inr, ℕ, List, Option, Result, Ok, Err, IfErr, subst}
 use Rattle.vsrc.specs.Source.{joined}
 use Rattle.vast.specs.Syntax.{SourceTree}
 use Rattle.velab.specs.Elaborate.{Elaborates}
 use Rattle.velab.specs.Reasons.{IsReason as IsDesignReason, HasNoDesign as TreeHasNoDesign}
 use Rattle.velab.specs.declared.fault.ElabFault.{ElabFault}
-use Rattle.vrace.specs.Replays.{IsTreeOf, IsDesignOf}
-use Rattle.vrace.specs.Stages.{IsReadAs}
-use Rattle.vrace.specs.Refusals.{Breaks, IsFileReason, IsTextReason}
+use Rattle.vrace.specs.Replays.{AreRead, IsTreeOf, IsDesignOf}
+use Rattle.vrace.specs.Unique.{IsReadAs}
+use Rattle.vrace.specs.Refusals.{Breaks, IsTextReason, IsDesignFault}
 use Rattle.vrace.specs.declared.fault.Fault.{Fault}
 
 pub breaks : (text : List ℕ) (tree : SourceTree) (top : Option (List ℕ)) (fault : ElabFault) → IsReadAs text tree →
@@ -17,8 +17,8 @@ breaks text tree top fault read reason none = (
   (tree, read.is_tree, reason),
 )
 
--- a fault of the text that the files make is one of the files
-pub err_of_text : {T : Type 0} (r : Result T Fault) (files : List (List ℕ)) (text : List ℕ) (top : Option (List ℕ)) → text ≡ joined files →
-    IfErr r (λ fault. IsTextReason text top fault) → IfErr r (λ fault. IsFileReason files fault ⊎ IsTextReason (joined files) top fault)
-err_of_text (Ok x) files text top same reason = tt
-err_of_text (Err fault) files text top same reason = inr (subst (λ t. IsTextReason t top fault) same reason)
+-- a fault of the text that the files make is one of the design
+pub err_of_text : {T : Type 0} (r : Result T Fault) (files : List (List ℕ)) (text : List ℕ) (top : Option (List ℕ)) → AreRead files → text ≡ joined files →
+    IfErr r (λ fault. IsTextReason text top fault) → IfErr r (λ fault. IsDesignFault files top fault)
+err_of_text (Ok x) files text top read same reason = tt
+err_of_text (Err fault) files text top read same reason = inr (read, subst (λ t. IsTextReason t top fault) same reason)

@@ -66,8 +66,8 @@ module _ (files : List (List ℕ)) (asked : Asked) (log : List ℕ) (played : Pl
 
   module _ {W : Type 0} (contents : W → Option (List ℕ)) (old new : Metered W) where
     pub reason : (fault : Fault) → Ends contents (header played.design) setting played.members asked.steps old new fault → IsReason files asked log fault
-    reason fault (inl (p, kept)) = inr (inr (run_reason fault p))
-    reason fault (inr stops) = inr (inr (subst (IsRunReason files asked log) (sym stops.is) (reason_of_writing files asked log stops.cause)))
+    reason fault (inl (p, kept)) = inr (run_reason fault p)
+    reason fault (inr stops) = inr (subst (IsRunReason files asked log) (sym stops.is) (reason_of_writing files asked log stops.cause))
 
     pub left : (fault : Fault) → Ends contents (header played.design) setting played.members asked.steps old new fault →
         Leaves files asked log fault (contents old.inner) (contents new.inner)

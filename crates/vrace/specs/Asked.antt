@@ -1,5 +1,5 @@
 -- What is asked of a replay: the top module's name, the time limit, the steps of one run, and the grain.
-use Rattle.std.specs.Prelude.{ℕ, ◌≤◌, ◌^◌, ◌-◌, List, Option, option_map}
+use Rattle.std.specs.Prelude.{ℕ, ◌≤◌, List, Option, option_map}
 use Rattle.vmodel.specs.declared.history.Grain.{Grain}
 use Rattle.vrace.specs.declared.options.Options.{Options}
 

@@ -1,6 +1,6 @@
 pub mod Asked
 pub mod Refusals
 pub mod Replays
-pub mod Stages
+pub mod Unique
 pub mod RunDumps
 pub mod Reads

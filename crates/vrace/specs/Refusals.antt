@@ -1,12 +1,11 @@
 -- When a replay is refused, and what then stands written.
-use Rattle.std.specs.Prelude.{◌≡◌, ◌≢◌, ℕ, ◌<◌, ◌+◌, ◌⊎◌, List, [], ◌∷◌, Option, Some, true, length, take, sum_by, slice_get, map, Vec}
+use Rattle.std.specs.Prelude.{◌≡◌, ℕ, ◌<◌, ◌≤◌, ◌⊎◌, List, Option, Some, true, take, drop, slice_get, map, Vec}
 use Rattle.std.specs.Io.KnownBytes.{Appends, Keeps}
-use Rattle.vsrc.specs.Source.{joined, source_of, place_of}
+use Rattle.vsrc.specs.Source.{joined}
 use Rattle.vsrc.specs.Expansion.{IsReason as IsSourceReason}
 use Rattle.vsrc.specs.declared.fault.SrcFault.TheVariants as source
 use Rattle.vsrc.specs.declared.expanded.Place.{Place}
-use Rattle.vlex.specs.Lexed.{Lexed, Piece, IsReason as IsTokenReason}
-use Rattle.vlex.specs.declared.fault.LexFault.TheVariants as lex
+use Rattle.vlex.specs.Lexed.{Lexed, Piece, StopsAt, IsOpen}
 use Rattle.vast.specs.Syntax.{SourceTree}
 use Rattle.vast.specs.Design.{DesignView}
 use Rattle.velab.specs.Reasons.{IsReason as IsDesignReason}
@@ -17,23 +16,26 @@ use Rattle.sched_core.specs.Replay.{IsMissing, TakesMore}
 use Rattle.vmodel.specs.Run.{rules_of}
 use Rattle.vparse.specs.Profile.{is_outside}
 use Rattle.vrace.specs.Asked.{Asked}
-use Rattle.vrace.specs.Replays.{texts_of, IsTreeOf, IsDesignOf, Played, setting_of, IsDump}
+use Rattle.vrace.specs.Replays.{limit, total, AreRead, texts_of, IsTreeOf, IsDesignOf, Played, setting_of, IsDump}
 use Rattle.vrace.specs.declared.fault.Fault.{Fault}
-use Rattle.vrace.specs.declared.fault.Fault.TheVariants.{NotEnded, BadToken, Growth, NoTree, Outside, TooDeep, NotYet, NoTop, Doubled, Unknown, Width, TooMany, BadLog, NoSuchChoice, TooManySteps, OutOfLimit, Memory, Write, Read, TooLong}
-
--- the most bytes that the files may have together
-abbrev pub limit : ℕ
-limit = 16777216
+use Rattle.vrace.specs.declared.fault.Fault.TheVariants.{NotEnded, BadToken, Growth, NoTree, Outside, TooDeep, NotYet, NoTop, Doubled, Unknown, Width, TooMany, BadLog, NoSuchChoice, TooManySteps, Memory, Write, TooLong}
 
 -- the bytes of the files
 abbrev pub texts : {A : Type 0} → List (Vec ℕ A) → List (List ℕ)
 texts = map (λ file. file.items)
 
-abbrev pub total : List (List ℕ) → ℕ
-total = sum_by length
-
 abbrev pub HasNoTokens : List ℕ → Type 0
 HasNoTokens text = (pieces : List Piece) → Lexed text pieces → ⊥
+
+abbrev pub HasTokens : List ℕ → Type 0
+HasTokens text = (pieces : List Piece) × Lexed text pieces
+
+-- where the text's pieces stop, a comment or a string is open, or none is
+abbrev pub StopsOpen : List ℕ → Type 0
+StopsOpen text = (at : ℕ) × StopsAt text at × IsOpen (drop at text)
+
+abbrev pub StopsBad : List ℕ → Type 0
+StopsBad text = (at : ℕ) × StopsAt text at × ¬ IsOpen (drop at text)
 
 abbrev pub HasNoTree : List ℕ → Type 0
 HasNoTree text = (tree : SourceTree) → IsTreeOf text tree → ⊥
@@ -56,19 +58,19 @@ pub record HasWordOutside (text : List ℕ) : Type 0 where
 
 -- what a fault of the files says of them; here as below the place of a fault is shown, and not told
 abbrev pub IsFileReason : List (List ℕ) → Fault → Type 0
-IsFileReason files (Growth at) = (place : Place) × IsSourceReason files (source.Growth place)
-IsFileReason files (NotYet at) = (place : Place) × IsSourceReason files (source.NotYet place)
+IsFileReason files (Growth at) = (total files ≤ limit) × ((place : Place) × IsSourceReason files (source.Growth place))
+IsFileReason files (NotYet at) = (total files ≤ limit) × ((place : Place) × IsSourceReason files (source.NotYet place))
 IsFileReason files Memory = Unit {0}
 IsFileReason files TooLong = limit < total files
 IsFileReason files other = ⊥
 
 -- what a fault of the text says of it
 abbrev pub IsTextReason : List ℕ → Option (List ℕ) → Fault → Type 0
-IsTextReason text top (NotEnded at) = HasNoTokens text
-IsTextReason text top (BadToken at) = HasNoTokens text
-IsTextReason text top (NoTree at) = HasNoTree text
-IsTextReason text top (Outside at) = HasNoTree text × HasWordOutside text
-IsTextReason text top (TooDeep at) = HasNoTree text
+IsTextReason text top (NotEnded at) = HasNoTokens text × StopsOpen text
+IsTextReason text top (BadToken at) = HasNoTokens text × StopsBad text
+IsTextReason text top (NoTree at) = HasTokens text × HasNoTree text
+IsTextReason text top (Outside at) = HasWordOutside text × HasNoTree text
+IsTextReason text top (TooDeep at) = HasTokens text × HasNoTree text
 IsTextReason text top (NoTop at) = (token : Option ℕ) × Breaks text top (elab.Module token)
 IsTextReason text top (Doubled at) = (token : Option ℕ) × Breaks text top (elab.Doubled token)
 IsTextReason text top (Unknown at) = (token : Option ℕ) × Breaks text top (elab.Unknown token)
@@ -79,16 +81,20 @@ IsTextReason text top other = ⊥
 
 -- what a fault of the log or of its run says; a writer that failed is told by its count
 abbrev pub IsRunReason : List (List ℕ) → Asked → List ℕ → Fault → Type 0
-IsRunReason files asked log BadLog = IsNoNamedLogText log
+IsRunReason files asked log BadLog = AreRead files × ((design : DesignView) × IsDesignOf (joined files) asked.top design) × IsNoNamedLogText log
 IsRunReason files asked log NoSuchChoice = (played : Played files asked log) × IsMissing (rules_of (setting_of files asked log played)) played.members asked.steps
 IsRunReason files asked log TooManySteps = (played : Played files asked log) × TakesMore (rules_of (setting_of files asked log played)) played.members asked.steps
 IsRunReason files asked log Memory = Unit {0}
 IsRunReason files asked log Write = Unit {0}
 IsRunReason files asked log other = ⊥
 
--- why a replay is refused: for its files, for their text, or for the log and its run
+-- a fault of the files, or of the text that they make
+abbrev pub IsDesignFault : List (List ℕ) → Option (List ℕ) → Fault → Type 0
+IsDesignFault files top fault = IsFileReason files fault ⊎ (AreRead files × IsTextReason (joined files) top fault)
+
+-- why a replay is refused: for its files or their text, or for the log and its run
 abbrev pub IsReason : List (List ℕ) → Asked → List ℕ → Fault → Type 0
-IsReason files asked log fault = IsFileReason files fault ⊎ (IsTextReason (joined files) asked.top fault ⊎ IsRunReason files asked log fault)
+IsReason files asked log fault = IsDesignFault files asked.top fault ⊎ IsRunReason files asked log fault
 
 -- a fault that may come while the dump goes out
 abbrev pub IsOfWriting : Fault → Type 0

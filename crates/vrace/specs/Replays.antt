@@ -1,6 +1,7 @@
 -- What a replay writes, from the bytes of the files to the dump of the run.
-use Rattle.std.specs.Prelude.{◌≡◌, ℕ, List, Option, map}
+use Rattle.std.specs.Prelude.{◌≡◌, ℕ, ◌≤◌, List, Option, length, map, sum_by}
 use Rattle.vsrc.specs.Source.{joined}
+use Rattle.vsrc.specs.Expansion.{HasNoTick}
 use Rattle.vlex.specs.Lexed.{Lexed, Piece}
 use Rattle.vast.specs.Syntax.{Text, SourceTree}
 use Rattle.vast.specs.Derives.{Derives}
@@ -17,6 +18,18 @@ use Rattle.vmodel.specs.Run.{Setting, history_after}
 use Rattle.vmodel.specs.Played.{Finishes}
 use Rattle.vcd_text.specs.DumpText.{vcd}
 use Rattle.vrace.specs.Asked.{Asked}
+
+-- the most bytes that the files may have together
+abbrev pub limit : ℕ
+limit = 16777216
+
+abbrev pub total : List (List ℕ) → ℕ
+total = sum_by length
+
+-- The files make a text that is read: they aren't too long, and use no directive and no macro.
+pub record AreRead (files : List (List ℕ)) : Type 0 where
+  pub within : total files ≤ limit
+  pub clean : HasNoTick (joined files)
 
 abbrev pub texts_of : List Piece → List Text
 texts_of = map (λ piece. piece.text)
@@ -41,6 +54,7 @@ grain_under head.Statement grain = grains.Statement
 
 -- What is run: the design of the files, under the log that the log's text writes.
 pub record Played (files : List (List ℕ)) (asked : Asked) (log : List ℕ) : Type 0 where
+  pub are_read : AreRead files
   pub design : DesignView
   pub is_design : IsDesignOf (joined files) asked.top design
   pub head : LogHead

@@ -1,9 +1,9 @@
 // From the bytes of the files to the design that they stand for.
 
-ghost use Rattle.std.specs.Prelude.{◌≡◌, ◌⊎◌, ℕ, nat_lt, List, Option, IfOk, IfErr, option_map};
-ghost use Rattle.vsrc.specs.Source.{joined, source_of};
+ghost use Rattle.std.specs.Prelude.{◌≡◌, ◌≤◌, ℕ, nat_lt, List, Option, IfOk, OnOk, IfErr, option_map};
+ghost use Rattle.vsrc.specs.Source.{Source, joined, source_of};
 ghost use Rattle.vsrc.specs.Expansion.{IsReason as IsSourceReason};
-ghost use Rattle.vlex.specs.Lexed.{HasNoTokens};
+ghost use Rattle.vlex.specs.Lexed.{HasNoTokens, IsReason as IsTokenReason};
 ghost use Rattle.vlex.specs.Tokenized.{Tokenized, pieces_of};
 ghost use Rattle.vast.specs.Syntax.{SourceTree};
 ghost use Rattle.vast.specs.Trees.{source_tree};
@@ -11,9 +11,9 @@ ghost use Rattle.vast.specs.DesignViews.{design_view};
 ghost use Rattle.vparse.specs.Words.{words_of};
 ghost use Rattle.vparse.specs.Faults.{HasNoTree, IsReason as IsSyntaxReason};
 ghost use Rattle.velab.specs.Reasons.{IsReason as IsDesignReason, IsOfText, HasNoDesign};
-ghost use Rattle.vrace.specs.Replays.{IsDesignOf};
-ghost use Rattle.vrace.specs.Stages.{IsCut, IsReadAs};
-ghost use Rattle.vrace.specs.Refusals.{texts, total, limit, IsFileReason, IsTextReason};
+ghost use Rattle.vrace.specs.Replays.{limit, total, AreRead, IsDesignOf};
+ghost use Rattle.vrace.specs.Unique.{IsCut, IsReadAs};
+ghost use Rattle.vrace.specs.Refusals.{texts, IsFileReason, IsTextReason, IsDesignFault};
 
 use crate::fault::{At, Fault};
 use crate::read::LIMIT;
@@ -46,7 +46,7 @@ fn at_token(tokens: &Tokens<'_>, number: Option<u32>) -> At {
 
 // What stops the expansion of the files.
 fn of_source(fault: SrcFault) -> Fault
-    ensures { (files : List (List ℕ)) → IsSourceReason files fault → IsFileReason files result }
+    ensures { (files : List (List ℕ)) → total files ≤ limit → IsSourceReason files fault → IsFileReason files result }
 {
     match fault {
         SrcFault::NotYet { place } => Fault::NotYet(at(place)),
@@ -57,7 +57,7 @@ fn of_source(fault: SrcFault) -> Fault
 
 // What stops the cut into tokens.
 fn of_tokens(fault: LexFault) -> Fault
-    ensures { (text : List ℕ) (top : Option (List ℕ)) → HasNoTokens text fault → IsTextReason text top result }
+    ensures { (source : Source) (top : Option (List ℕ)) → HasNoTokens source.text fault → IsTokenReason source fault → IsTextReason source.text top result }
 {
     match fault {
         LexFault::NotEnded { place } => Fault::NotEnded(at(place)),
@@ -94,7 +94,9 @@ fn of_design(tokens: &Tokens<'_>, fault: ElabFault) -> Fault
 
 // The text of the files.
 fn text_of(alloc: Global, files: &[Vec<u8>]) -> Result<Expanded, Fault>
+    requires { total (texts files.now) ≤ limit }
     ensures ok { IfOk result (λ expanded. expanded ≡ source_of (texts files.now)) }
+    ensures read { OnOk result (AreRead (texts files.now)) }
     ensures err { IfErr result (λ fault. IsFileReason (texts files.now) fault) }
 {
     match expand(alloc, files) {
@@ -148,8 +150,9 @@ fn design_of_text(alloc: Global, text: &Expanded, top: Option<&[u8]>) -> Result<
 /// E2xx and E3xx only where their text has no tokens, no tree, or no design; E299 where it uses a directive or a macro;
 /// E901.
 pub fn design_of(alloc: Global, files: &[Vec<u8>], top: Option<&[u8]>) -> Result<Design, Fault>
+    ensures read { OnOk result (AreRead (texts files.now)) }
     ensures ok { IfOk result (λ design. IsDesignOf (joined (texts files.now)) (option_map (λ name. name.now) top.entry) (design_view design)) }
-    ensures err { IfErr result (λ fault. IsFileReason (texts files.now) fault ⊎ IsTextReason (joined (texts files.now)) (option_map (λ name. name.now) top.entry) fault) }
+    ensures err { IfErr result (λ fault. IsDesignFault (texts files.now) (option_map (λ name. name.now) top.entry) fault) }
 {
     if is_too_long(files) {
         return Err(Fault::TooLong);

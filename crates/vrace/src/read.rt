@@ -1,7 +1,7 @@
 // A whole text from a reader.
 
 ghost use Rattle.std.specs.Prelude.{◌≡◌, ◌≤◌, ◌<◌, ℕ, List, ◌++◌, IfOk, IfErr, length};
-ghost use Rattle.vrace.specs.Refusals.{limit};
+ghost use Rattle.vrace.specs.Replays.{limit};
 ghost use Rattle.vrace.specs.Reads.{IsAllOf, IsReadReason, IsTaken};
 
 use crate::fault::Fault;

@@ -12,7 +12,7 @@ use std::process::ExitCode;
 use std::{env, io};
 use vcd_text::Metered;
 use vrace::{Fault, Options, Show, read_text, replay_text};
-use words::{Request, commands, request_of};
+use words::{Request, commands, has_dashed_value, request_of};
 
 // What stands for the limits of exploring, which a replay doesn't read.
 const DEPART: u64 = 1;
@@ -135,6 +135,9 @@ fn run<'a>(rt: &HostRuntime, words: &'a [String]) -> Result<(), Stop> {
     let Some(matches) = matches.subcommand_matches("replay") else {
         return Err(Stop::Usage);
     };
+    if has_dashed_value(matches) {
+        return Err(Stop::Usage);
+    }
     let Ok(request) = request_of(rt.alloc(), matches) else {
         return Err(Stop::Refused(Fault::Memory));
     };

@@ -77,6 +77,24 @@ pub fn commands<'a>(alloc: Global) -> Result<Command<'a>, AllocError> {
         .subcommand(replay_command(alloc)?)
 }
 
+// Whether a word reads as an option, as all do that begin with a minus but `-` itself.
+fn is_option(word: &str) -> bool {
+    word.len() > 1 && word.as_bytes()[0] == b'-'
+}
+
+// Whether the value of an option of this name, which clap takes behind `=` unasked, reads as an option itself.
+fn is_dashed(matches: &ArgMatches<'_>, name: &str) -> bool {
+    match matches.get_str(name) {
+        None => false,
+        Some(value) => is_option(value),
+    }
+}
+
+/// Whether the value of `--top` or `--log` reads as an option.
+pub fn has_dashed_value(matches: &ArgMatches<'_>) -> bool {
+    is_dashed(matches, "top") || is_dashed(matches, "log")
+}
+
 /// What the words behind `replay` ask for.
 pub fn request_of<'a>(alloc: Global, matches: &ArgMatches<'a>) -> Result<Request<'a>, AllocError> {
     let files = match matches.get_strs("FILE") {

@@ -6,4 +6,4 @@ use Rattle.vrace.proofs.design.design_of.Goals as goal
 pub returns-clause-err : goal.returns-clause-err
 returns-clause-err c =
     err_of_text c.design_of_text.result (texts c.args.files.now) c.in-Ok.text.text (option_map (λ name. name.now) c.args.top)
-    (ap (λ source. source.text) c.in-Ok.ensures.ok) c.design_of_text.ensures.err
+    c.in-Ok.ensures.read (ap (λ source. source.text) c.in-Ok.ensures.ok) c.design_of_text.ensures.err

@@ -1,5 +1,6 @@
 use Rattle.std.proofs.Common.{◌≡◌, nat_lt, drop}
-use Rattle.vrace.specs.Refusals.{texts, total, limit}
+use Rattle.vrace.specs.Replays.{total, limit}
+use Rattle.vrace.specs.Refusals.{texts}
 use Rattle.vrace.proofs.design.is_too_long.Given as goal
 
 abbrev pub invariant-loop-file : goal.invariant-loop-file

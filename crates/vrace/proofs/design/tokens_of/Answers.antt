@@ -1,4 +1,4 @@
 use Rattle.vrace.proofs.design.tokens_of.Goals as goal
 
 pub returns-in-Err-clause-err : goal.returns-in-Err-clause-err
-returns-in-Err-clause-err c = λ top. c.of_tokens.ensures c.args.text.now.text top c.in-Err.ensures.none
+returns-in-Err-clause-err c = λ top. c.of_tokens.ensures c.args.text.now top c.in-Err.ensures.none c.in-Err.ensures.reason

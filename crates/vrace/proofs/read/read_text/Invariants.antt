@@ -1,6 +1,6 @@
 use Rattle.std.proofs.Common.{◌≡◌, ◌≤◌, ◌-◌, ℕ, length}
 use Rattle.std.specs.Io.KnownBytes.{Consumes}
-use Rattle.vrace.specs.Refusals.{limit}
+use Rattle.vrace.specs.Replays.{limit}
 use Rattle.vrace.proofs.read.read_text.Given as goal
 
 abbrev pub invariant-reads : goal.invariant-reads

@@ -13,6 +13,7 @@ use Rattle.vrace.proofs.replay.replay_text.Goals as goal
 pub returns-clause-dump : goal.returns-clause-dump
 returns-clause-dump g c =
     let played : Played (texts c.args.files.now) (asked c.args.options.now) c.args.log.now = record {
+      are_read = c.in-Ok.ensures.read;
       design = design_view c.in-Ok.design;
       is_design = c.in-Ok.ensures.ok;
       head = c.in-Ok-read_named_log.named.0;
@@ -29,6 +30,7 @@ returns-clause-dump g c =
 pub returns-clause-reason : goal.returns-clause-reason
 returns-clause-reason g c =
     let played : Played (texts c.args.files.now) (asked c.args.options.now) c.args.log.now = record {
+      are_read = c.in-Ok.ensures.read;
       design = design_view c.in-Ok.design;
       is_design = c.in-Ok.ensures.ok;
       head = c.in-Ok-read_named_log.named.0;
@@ -46,6 +48,7 @@ returns-clause-reason g c =
 pub returns-clause-left : goal.returns-clause-left
 returns-clause-left g c =
     let played : Played (texts c.args.files.now) (asked c.args.options.now) c.args.log.now = record {
+      are_read = c.in-Ok.ensures.read;
       design = design_view c.in-Ok.design;
       is_design = c.in-Ok.ensures.ok;
       head = c.in-Ok-read_named_log.named.0;

@@ -1,5 +1,5 @@
--- What one stage of reading hands to the next: the only tokens of a text, and its only tree.
-use Rattle.std.specs.Prelude.{◌≡◌, ℕ, List, map}
+-- The only tokens of a text, and its only tree.
+use Rattle.std.specs.Prelude.{◌≡◌, ℕ, List}
 use Rattle.vlex.specs.Lexed.{Lexed, Piece, IsOnlyLexed}
 use Rattle.vast.specs.Syntax.{SourceTree}
 use Rattle.vrace.specs.Replays.{IsTreeOf}
