@@ -13,7 +13,7 @@ use crate::history::{Cause, End, Grain, Item};
 use crate::open::opening;
 use crate::sink::Sink;
 use crate::state::SlowState;
-use crate::step::{slot_end, slow_step, slow_width};
+use crate::step::{slot_end, slow_width, stepped};
 use sched_core::{Log, ReplayFault, next_choice};
 use std::alloc::{AllocError, Global};
 use vast::design::Design;
@@ -110,7 +110,7 @@ impl<'d> Run<'d> {
             if choice >= width {
                 return Err(RunFault::Replay(ReplayFault::NoSuchChoice));
             }
-            let Ok((after, items)) = slow_step(alloc, &state, choice) else {
+            let Ok((after, items)) = stepped(alloc, state, choice) else {
                 return Err(RunFault::Replay(ReplayFault::Memory));
             };
             match hand(sink, &items) {

@@ -145,6 +145,18 @@ impl<'d> SlowState<'d> {
         self.queue.advance();
         self.close(alloc, Vec::new(alloc))
     }
+
+    // The step of choice `i`, in place. After want of memory the state is not to be read again.
+    fn take(&mut self, alloc: Global, i: u32) -> Result<Vec<Item>, AllocError>
+        ensures { IfOk result (λ items. next (state_view self.old) i ≡ record { state = state_view self.new; items = item_views items.items }) }
+    {
+        match choice_at(self, i) {
+            None => Ok(Vec::new(alloc)),
+            Some(Choice::Run(process)) => self.run(alloc, process),
+            Some(Choice::Update) => self.update(alloc),
+            Some(Choice::Advance) => self.advance(alloc),
+        }
+    }
 }
 
 /// How many choices the state has: 0 where the run has ended.
@@ -180,12 +192,19 @@ pub fn slow_step<'d>(
 ) -> Result<(SlowState<'d>, Vec<Item>), AllocError>
     ensures { IfOk result (λ after. next (state_view state.now) i ≡ record { state = state_view after.0; items = item_views after.1.items }) }
 {
-    let mut after = state.copy(alloc)?;
-    let items = match choice_at(state, i) {
-        None => Vec::new(alloc),
-        Some(Choice::Run(process)) => after.run(alloc, process)?,
-        Some(Choice::Update) => after.update(alloc)?,
-        Some(Choice::Advance) => after.advance(alloc)?,
-    };
+    let copy = state.copy(alloc)?;
+    stepped(alloc, copy, i)
+}
+
+/// The same of a state that nobody reads again: it is changed in place.
+pub(crate) fn stepped<'d>(
+    alloc: Global,
+    state: SlowState<'d>,
+    i: u32,
+) -> Result<(SlowState<'d>, Vec<Item>), AllocError>
+    ensures { IfOk result (λ after. next (state_view state.entry) i ≡ record { state = state_view after.0; items = item_views after.1.items }) }
+{
+    let mut after = state;
+    let items = after.take(alloc, i)?;
     Ok((after, items))
 }

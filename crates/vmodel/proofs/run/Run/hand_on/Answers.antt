@@ -52,11 +52,11 @@ turns-preserved g c =
     let lt : choice < length (choices (state_view c.turns.state)) =
     subst (λ (width : ℕ). choice < width) c.slow_width-width.ensures c.if-choice-width.false in
     let at = at_next setting c.args.log.now c.turns.rest.now c.args.steps c.turns.n (state_view c.turns.state) here choice later c.next_choice-choice.ensures.next
-    (state_view c.in-Ok-slow_step.after) c.if-n-steps.false lt c.next_choice-choice.ensures.lawful (ap (λ (turn : Turn). turn.state) c.in-Ok-slow_step.ensures) in
+    (state_view c.in-Ok-stepped.after) c.if-n-steps.false lt c.next_choice-choice.ensures.lawful (ap (λ (turn : Turn). turn.state) c.in-Ok-stepped.ensures) in
     let items : given_by setting c.args.log.now c.turns.n ++ item_views c.deref-in-turns.result.now ≡ given_by setting c.args.log.now (c.turns.n + 1) =
     given_next setting c.args.log.now c.turns.rest.now c.args.steps c.turns.n (state_view c.turns.state) here choice later c.next_choice-choice.ensures.next
     (item_views c.deref-in-turns.result.now)
-    (ap (λ (turn : Turn). turn.items) c.in-Ok-slow_step.ensures ∙ sym (ap item_views c.deref-in-turns.ensures.value)) in (
+    (ap (λ (turn : Turn). turn.items) c.in-Ok-stepped.ensures ∙ sym (ap item_views c.deref-in-turns.ensures.value)) in (
       at,
       subst (λ (xs : List HistoryItem). g.S.Sink.takes c.args.sink.now xs c.hand-in-turns.new.sink) items
           (g.met.S.Sink.joins c.args.sink.now c.turns.sink c.hand-in-turns.new.sink (given_by setting c.args.log.now c.turns.n) (item_views c.deref-in-turns.result.now)
@@ -94,8 +94,8 @@ returns-then-choice-width-clause-handed g c =
       subst (λ (xs : List HistoryItem). g.S.Sink.takes c.args.sink.now xs c.turns.sink) (sym (take-length given)) c.turns.invariant.1,
     )
 
-pub returns-in_default-slow_step-clause-handed : goal.returns-in_default-slow_step-clause-handed
-returns-in_default-slow_step-clause-handed g c =
+pub returns-in_default-stepped-clause-handed : goal.returns-in_default-stepped-clause-handed
+returns-in_default-stepped-clause-handed g c =
     let given = given_by (setting_of c.args.self.now) c.args.log.now c.turns.n in (
       c.turns.n,
       length given,
@@ -112,15 +112,15 @@ returns-in-Err-clause-failed g c =
     let lt : choice < length (choices (state_view c.turns.state)) =
     subst (λ (width : ℕ). choice < width) c.slow_width-width.ensures c.if-choice-width.false in
     let at = at_next setting c.args.log.now c.turns.rest.now c.args.steps c.turns.n (state_view c.turns.state) here choice later c.next_choice-choice.ensures.next
-    (state_view c.in-Ok-slow_step.after) c.if-n-steps.false lt c.next_choice-choice.ensures.lawful (ap (λ (turn : Turn). turn.state) c.in-Ok-slow_step.ensures) in
+    (state_view c.in-Ok-stepped.after) c.if-n-steps.false lt c.next_choice-choice.ensures.lawful (ap (λ (turn : Turn). turn.state) c.in-Ok-stepped.ensures) in
     let items : given_by setting c.args.log.now c.turns.n ++ item_views c.deref-in-turns.result.now ≡ given_by setting c.args.log.now (c.turns.n + 1) =
     given_next setting c.args.log.now c.turns.rest.now c.args.steps c.turns.n (state_view c.turns.state) here choice later c.next_choice-choice.ensures.next
     (item_views c.deref-in-turns.result.now)
-    (ap (λ (turn : Turn). turn.items) c.in-Ok-slow_step.ensures ∙ sym (ap item_views c.deref-in-turns.ensures.value)) in
+    (ap (λ (turn : Turn). turn.items) c.in-Ok-stepped.ensures ∙ sym (ap item_views c.deref-in-turns.ensures.value)) in
     of_sink c.in-Err.fault (λ fault. g.S.Sink.fails c.turns.sink (item_views c.deref-in-turns.result.now) fault c.hand-in-turns.new.sink) _
     (λ fault failed. (
       c.turns.n + 1,
-      underway setting c.args.log.now later c.args.steps (c.turns.n + 1) (state_view c.in-Ok-slow_step.after) at,
+      underway setting c.args.log.now later c.args.steps (c.turns.n + 1) (state_view c.in-Ok-stepped.after) at,
       subst (λ (xs : List HistoryItem). g.S.Sink.fails c.args.sink.now xs fault c.hand-in-turns.new.sink) items
           (g.met.S.Sink.fails_later c.args.sink.now c.turns.sink c.hand-in-turns.new.sink (given_by setting c.args.log.now c.turns.n)
           (item_views c.deref-in-turns.result.now) fault c.turns.invariant.1 failed),
