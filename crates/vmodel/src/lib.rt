@@ -17,6 +17,8 @@ pub mod run;
 pub mod sink;
 pub mod state;
 mod step;
+#[cfg(test)]
+mod tests;
 mod value;
 
 pub use open::opening;
