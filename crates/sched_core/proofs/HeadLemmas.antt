@@ -15,6 +15,17 @@ digit_first : (ds r : List ℕ) → all_ascii_digits ds ≡ true → 0 < length 
 digit_first [] r h some = absurd (omega (arith, some))
 digit_first (c ∷ cs) r h some = omega (arith, (tells_all_ascii_digits.parts c cs h).0)
 
+-- the text of a log with members begins with a digit
+digit_least : (ds r : List ℕ) → all_ascii_digits ds ≡ true → 0 < length ds → 47 < get_or (ds ++ r) 0 0
+digit_least [] r h some = absurd (omega (arith, some))
+digit_least (c ∷ cs) r h some = omega (arith, (tells_all_ascii_digits.parts c cs h).0)
+
+pub member_first : (m : ℕ × ℕ) (ms : List (ℕ × ℕ)) → IsLog (m ∷ ms) → 47 < get_or (log_text (m ∷ ms)) 0 0
+member_first m ms h =
+    let small : m.0 < 2 ^ 32 = omega (arith, h.1) in
+    let P : List ℕ → Type 0 = λ t. 47 < get_or t 0 0 in
+    subst P (sym (member_whole m (more_text ms))) (digit_least (decimal m.0) _ (decimal_digits m.0 small) (decimal_nonempty m.0 (omega arith)))
+
 -- the text of a log begins with '-' or a digit
 log_first : (log : List (ℕ × ℕ)) → IsLog log → get_or (log_text log) 0 0 < 58
 log_first [] h = omega arith

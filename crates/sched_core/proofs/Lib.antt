@@ -3,3 +3,4 @@ pub mod TextLemmas
 pub mod ReadingLemmas
 pub mod HeadLemmas
 pub mod RunLemmas
+pub mod OneLemmas

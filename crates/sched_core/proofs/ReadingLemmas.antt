@@ -30,11 +30,11 @@ start text some = record {
   complete = start_complete text some;
 }
 
-starts_more : (ms : List (ℕ × ℕ)) → StartsNoNumber (more_text ms)
+pub starts_more : (ms : List (ℕ × ℕ)) → StartsNoNumber (more_text ms)
 starts_more [] = tt
 starts_more (m ∷ ms) = refl
 
-bounds : (low : ℕ) (log : List (ℕ × ℕ)) (m : ℕ × ℕ) (ms : List (ℕ × ℕ)) → IsLogFrom low (log ++ m ∷ ms) → (m.0 < 2 ^ 32) × (m.1 < 2 ^ 32)
+pub bounds : (low : ℕ) (log : List (ℕ × ℕ)) (m : ℕ × ℕ) (ms : List (ℕ × ℕ)) → IsLogFrom low (log ++ m ∷ ms) → (m.0 < 2 ^ 32) × (m.1 < 2 ^ 32)
 bounds low [] m ms h = (omega (arith, h.1), omega (arith, h.3))
 bounds low (x ∷ xs) m ms h = bounds (x.0 + 1) xs m ms h.4
 

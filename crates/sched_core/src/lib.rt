@@ -4,6 +4,7 @@
 #![tactic(auto)]
 
 mod grid;
+pub mod law;
 mod log;
 mod log_text;
 mod run;

@@ -72,7 +72,7 @@ impl Log {
         self.members.as_slice()
     }
 
-    /// An equal log.
+    /// An equal log. The error is want of memory, E901.
     pub fn copy(&self) -> Result<Log, AllocError>
         ensures equal { IfOk result (λ copy. copy ≡ self.now) }
         ensures lawful { IsLog self.now }
@@ -82,7 +82,7 @@ impl Log {
         })
     }
 
-    /// Puts one member last. After want of memory the log is as it was.
+    /// Puts one member last. After want of memory, E901, the log is as it was.
     pub fn push(&mut self, step: u32, index: u32) -> Result<(), AllocError>
         requires { IsLog (self.old ++ (step, index) ∷ []) }
         ensures ok { OnOk result (self.new ≡ self.old ++ (step, index) ∷ []) }
@@ -92,7 +92,7 @@ impl Log {
         Ok(())
     }
 
-    /// The least step that a further member may name.
+    // The least step that a further member may name.
     fn next_step(&self) -> u32
         ensures value { result ≡ next_from 0 self.now }
         ensures lawful { IsLog self.now }

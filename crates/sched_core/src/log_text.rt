@@ -10,7 +10,7 @@ use crate::log::{Log, LogFault, LogHead, Member};
 use itoa::Buffer;
 use std::alloc::{AllocError, Global};
 
-/// How many digits stand at the front.
+// How many digits stand at the front.
 fn digits_len(text: &[u8]) -> usize
     ensures within { result ≤ length text.now }
     ensures digits { all_ascii_digits (take result text.now) ≡ true }
@@ -24,7 +24,7 @@ fn digits_len(text: &[u8]) -> usize
     text.len()
 }
 
-/// The number of 32 bits that is written by these digits, without leading zeros.
+// The number of 32 bits that is written by these digits, without leading zeros.
 fn plain_value(digits: &[u8]) -> Option<u32>
     requires { all_ascii_digits digits.now ≡ true }
     ensures read { IfSome result (λ n. digits.now ≡ decimal n) }
@@ -39,7 +39,7 @@ fn plain_value(digits: &[u8]) -> Option<u32>
     }
 }
 
-/// The digits at the front, and what follows them.
+// The digits at the front, and what follows them.
 fn split_digits(text: &[u8]) -> (&[u8], &[u8])
     ensures whole { result.0.now ++ result.1.now ≡ text.now }
     ensures digits { all_ascii_digits result.0.now ≡ true }
@@ -48,7 +48,7 @@ fn split_digits(text: &[u8]) -> (&[u8], &[u8])
     text.split_at(digits_len(text))
 }
 
-/// The number at the front, and what follows it.
+// The number at the front, and what follows it.
 fn front_number(text: &[u8]) -> Option<(u32, &[u8])>
     ensures read { IfSome result (λ p. IsNumberFront text.now p.0 p.1.now) }
     ensures none { IfNone result (HasNoNumber text.now) }
@@ -58,7 +58,7 @@ fn front_number(text: &[u8]) -> Option<(u32, &[u8])>
     Some((value, rest))
 }
 
-/// What follows the byte at the front, if it is this one.
+// What follows the byte at the front, if it is this one.
 fn after_byte(text: &[u8], byte: u8) -> Option<&[u8]>
     ensures some { IfSome result (λ rest. text.now ≡ byte ∷ rest.now) }
     ensures none { IfNone result ((rest : List ℕ) → text.now ≢ byte ∷ rest) }
@@ -67,7 +67,7 @@ fn after_byte(text: &[u8], byte: u8) -> Option<&[u8]>
     if *first == byte { Some(rest) } else { None }
 }
 
-/// The member at the front, and what follows it.
+// The member at the front, and what follows it.
 fn front_member(text: &[u8]) -> Option<(Member, &[u8])>
     ensures read { IfSome result (λ p. IsMemberFront text.now p.0 p.1.now) }
     ensures none { IfNone result (HasNoMember text.now) }
@@ -81,6 +81,7 @@ fn front_member(text: &[u8]) -> Option<(Member, &[u8])>
 /// Reads the text of a log: `-`, or `step:index` joined by commas.
 ///
 /// It accepts exactly the texts that `write_log` writes. Any other is `LogFault::IllFormed`, E401.
+/// Want of memory is `LogFault::Memory`, E901.
 pub fn read_log(alloc: Global, text: &[u8]) -> Result<Log, LogFault>
     ensures read { IfOk result (λ log. IsLog log × (text.now ≡ log_text log)) }
     ensures ill_formed { IsErrOf result LogFault.IllFormed → IsNoLogText text.now }
@@ -109,7 +110,7 @@ pub fn read_log(alloc: Global, text: &[u8]) -> Result<Log, LogFault>
     }
 }
 
-/// What follows these bytes at the front.
+// What follows these bytes at the front.
 fn after_prefix<'a>(text: &'a [u8], prefix: &[u8]) -> Option<&'a [u8]>
     ensures some { IfSome result (λ rest. text.now ≡ prefix.now ++ rest.now) }
     ensures none { IfNone result ((rest : List ℕ) → text.now ≢ prefix.now ++ rest) }
@@ -117,7 +118,7 @@ fn after_prefix<'a>(text: &'a [u8], prefix: &[u8]) -> Option<&'a [u8]>
     text.strip_prefix(prefix)
 }
 
-/// The grain that the text names, and what follows it.
+// The grain that the text names, and what follows it.
 fn split_head(text: &[u8]) -> (LogHead, &[u8])
     ensures whole { text.now ≡ head_text result.0 ++ result.1.now }
     ensures named { (head : LogHead) (log : List (ℕ × ℕ)) → IsLog log → text.now ≡ named_log_text head log → (result.0 ≡ head) × (result.1.now ≡ log_text log) }
@@ -134,7 +135,7 @@ fn split_head(text: &[u8]) -> (LogHead, &[u8])
 /// Reads the text of a log that may name its grain: `LOG`, `process/LOG` or `statement/LOG`.
 ///
 /// It accepts exactly the texts that `write_named_log` writes. Any other is
-/// `LogFault::IllFormed`, E401.
+/// `LogFault::IllFormed`, E401. Want of memory is `LogFault::Memory`, E901.
 pub fn read_named_log(alloc: Global, text: &[u8]) -> Result<(LogHead, Log), LogFault>
     ensures read { IfOk result (λ named. IsLog named.1 × (text.now ≡ named_log_text named.0 named.1)) }
     ensures ill_formed { IsErrOf result LogFault.IllFormed → IsNoNamedLogText text.now }
@@ -145,7 +146,7 @@ pub fn read_named_log(alloc: Global, text: &[u8]) -> Result<(LogHead, Log), LogF
     Ok((head, log))
 }
 
-/// Puts the text of the member last.
+// Puts the text of the member last.
 fn append_member(text: &mut Vec<u8>, member: Member) -> Result<(), AllocError>
     ensures { OnOk result (text.new.items ≡ text.old.items ++ member_text member) }
 {
@@ -156,7 +157,7 @@ fn append_member(text: &mut Vec<u8>, member: Member) -> Result<(), AllocError>
     Ok(())
 }
 
-/// Puts the members last, each behind a comma.
+// Puts the members last, each behind a comma.
 fn append_more(text: &mut Vec<u8>, more: &[Member]) -> Result<(), AllocError>
     ensures { OnOk result (text.new.items ≡ text.old.items ++ more_text more.now) }
 {
@@ -167,7 +168,7 @@ fn append_more(text: &mut Vec<u8>, more: &[Member]) -> Result<(), AllocError>
     Ok(())
 }
 
-/// Puts the text of the log last.
+// Puts the text of the log last.
 fn append_log(text: &mut Vec<u8>, log: &Log) -> Result<(), AllocError>
     ensures { OnOk result (text.new.items ≡ text.old.items ++ log_text log.now) }
 {
@@ -179,7 +180,7 @@ fn append_log(text: &mut Vec<u8>, log: &Log) -> Result<(), AllocError>
     append_more(text, more)
 }
 
-/// The text of the log: `-`, or `step:index` joined by commas.
+/// The text of the log: `-`, or `step:index` joined by commas. The error is want of memory, E901.
 pub fn write_log(alloc: Global, log: &Log) -> Result<Vec<u8>, AllocError>
     ensures { IfOk result (λ text. text.items ≡ log_text log.now) }
 {
@@ -188,7 +189,8 @@ pub fn write_log(alloc: Global, log: &Log) -> Result<Vec<u8>, AllocError>
     Ok(text)
 }
 
-/// The text of the log behind the name of its grain, if it has one.
+/// The text of the log behind the name of its grain, if it has one. The error is want of memory,
+/// E901.
 pub fn write_named_log(alloc: Global, head: LogHead, log: &Log) -> Result<Vec<u8>, AllocError>
     ensures { IfOk result (λ text. text.items ≡ named_log_text head log.now) }
 {

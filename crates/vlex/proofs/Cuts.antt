@@ -2,13 +2,13 @@
 use Rattle.std.proofs.Common.{◌≡◌, ℕ, zero, suc, ◌+◌, ◌<◌, ◌≤◌, ◌⊎◌, List, [], ◌∷◌, ◌++◌, None, Some, length, take, drop, map, refl, sym, ◌∙◌, ap, subst, arith, inl, inr, append_assoc, All}
 use Rattle.std.proofs.lemmas.List.{drop-drop, length-drop, append-nil, map-append}
 use Rattle.std.proofs.Math.ListN.{drop_of_length-le}
-use Rattle.std.proofs.lemmas.List.Elements.{All-nil, All-cons}
+use Rattle.std.proofs.lemmas.List.Elements.{All-nil, All-cons, All-push}
 use Rattle.vlex.specs.declared.form.Form.{Form}
 use Rattle.vlex.specs.declared.form.Form.TheVariants.{Blank, Comment, Token}
 use Rattle.vlex.specs.declared.list.Span.{Span}
-use Rattle.vlex.specs.Lexed.{IsFront, IsStuck, Lexed, Piece}
+use Rattle.vlex.specs.Lexed.{IsFront, IsStuck, Lexed, Piece, Reaches}
 use Rattle.vlex.specs.Lexed.Lexed.{done, blank, comment, token}
-use Rattle.vlex.specs.Tokenized.{piece_at, spans_of, AreInOrder}
+use Rattle.vlex.specs.Tokenized.{piece_at, spans_of, AreInOrder, IsTokenAt}
 use Rattle.vlex.proofs.Pieces.{longest_of_front, same_length, same_form}
 
 -- the token that a piece is, if it is one
@@ -147,3 +147,24 @@ pub none_lexed : (text rest : List ℕ) (spans : List Span) (at : ℕ) (pieces :
     → (left : List Piece) × ((pieces ≡ map (piece_at text) spans ++ left) × Lexed (drop at text) left) → ⊥
 none_lexed text rest spans at pieces within is stuck found =
     stuck_lexed (drop at text) found.0 (omega (arith, length-drop at text)) (subst IsStuck is stuck) found.1.1
+
+-- one more piece is a token where the pieces before it end, if it is one
+pub stands_grows : (text : List ℕ) (spans : List Span) (form : Form) (at len : ℕ) → Reaches text at → IsFront (drop at text) form len
+    → All (IsTokenAt text) spans → All (IsTokenAt text) (spans ++ spans_of form at len)
+stands_grows text spans Blank at len r f h = subst (All (IsTokenAt text)) (sym (append-nil spans)) h
+stands_grows text spans Comment at len r f h = subst (All (IsTokenAt text)) (sym (append-nil spans)) h
+stands_grows text spans (Token kind) at len r f h =
+    All-push (IsTokenAt text) spans (record { start = at; len = len; kind = kind }) h (record { reached = r; front = f })
+
+-- a text is cut in one way
+pub one_list : (text : List ℕ) (pieces others : List Piece) → Lexed text pieces → Lexed text others → pieces ≡ others
+one_list text pieces others done l = sym (ends_lexed others l)
+one_list text pieces others (blank t len left f m) l =
+    let (behind, (whole, rest)) = take_piece t Blank len others f l in
+    one_list (drop len t) left behind m rest ∙ sym whole
+one_list text pieces others (comment t len left f m) l =
+    let (behind, (whole, rest)) = take_piece t Comment len others f l in
+    one_list (drop len t) left behind m rest ∙ sym whole
+one_list text pieces others (token t kind len left f m) l =
+    let (behind, (whole, rest)) = take_piece t (Token kind) len others f l in
+    ap (λ ps. record { kind = kind; text = take len t } ∷ ps) (one_list (drop len t) left behind m rest) ∙ sym whole

@@ -6,3 +6,6 @@ mod Words
 mod Cuts
 mod Strings
 mod Comments
+pub mod Leads
+mod Calm
+mod Ticks

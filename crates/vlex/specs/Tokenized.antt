@@ -5,7 +5,7 @@ use Rattle.vsrc.specs.Source.{Source}
 use Rattle.vlex.specs.declared.list.Span.{Span}
 use Rattle.vlex.specs.declared.form.Form.{Form}
 use Rattle.vlex.specs.declared.form.Form.TheVariants.{Blank, Comment, Token}
-use Rattle.vlex.specs.Lexed.{Piece}
+use Rattle.vlex.specs.Lexed.{Piece, IsFront, Reaches}
 
 pub record Tokenized : Type 0 where
   pub source : Source
@@ -26,6 +26,11 @@ start_of t index = unwrap_or (option_map (λ span. span.start) (slice_get t.span
 -- each token ends within the text
 abbrev pub AreWithin : List ℕ → List Span → Type 0
 AreWithin text spans = All (λ span. span.start + span.len ≤ length text) spans
+
+-- where the pieces before it end, the token of the span is the next piece
+pub record IsTokenAt (text : List ℕ) (span : Span) : Type 0 where
+  pub reached : Reaches text span.start
+  pub front : IsFront (drop span.start text) (Token span.kind) span.len
 
 -- the spans stand in order between two places, none over another
 abbrev pub AreInOrder : ℕ → List Span → ℕ → Type 0

@@ -1,6 +1,6 @@
-ghost use Rattle.std.specs.Prelude.{◌≡◌, ◌+◌, ◌++◌, ◌≤◌, length, IfOk, IfErr, OnOk};
+ghost use Rattle.std.specs.Prelude.{◌≡◌, ◌+◌, ◌++◌, ◌≤◌, length, All, IfOk, IfErr, OnOk};
 ghost use Rattle.vlex.specs.Lexed.{Lexed, IsOnlyLexed, IsReason, HasNoTokens};
-ghost use Rattle.vlex.specs.Tokenized.{pieces_of, spans_of, AreInOrder};
+ghost use Rattle.vlex.specs.Tokenized.{pieces_of, spans_of, AreInOrder, IsTokenAt};
 
 use crate::fault::LexFault;
 use crate::form::{Form, Front};
@@ -15,6 +15,7 @@ use vsrc::Expanded;
 pub fn tokens<'a>(alloc: Global, source: &'a Expanded) -> Result<Tokens<'a>, LexFault>
     ensures source { IfOk result (λ tokens. tokens.source ≡ source.now) }
     ensures lexed { IfOk result (λ tokens. Lexed source.now.text (pieces_of tokens)) }
+    ensures stands { IfOk result (λ tokens. All (IsTokenAt source.now.text) tokens.spans) }
     ensures order { IfOk result (λ tokens. AreInOrder 0 tokens.spans (length source.now.text)) }
     ensures only { IfOk result (λ tokens. IsOnlyLexed source.now.text (pieces_of tokens)) }
     ensures none { IfErr result (λ fault. HasNoTokens source.now.text fault) }

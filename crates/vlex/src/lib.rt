@@ -8,6 +8,7 @@ mod fault;
 mod form;
 mod front;
 mod kind;
+pub mod law;
 mod lexer;
 mod list;
 mod number;

@@ -17,6 +17,7 @@ const LIMIT: usize = 33_554_432;
 /// 33,554,432 bytes, E901 where a growth was refused.
 pub fn expand(alloc: Global, files: &[Vec<u8>]) -> Result<Expanded, SrcFault>
     ensures ok { IfOk result (λ expanded. expanded ≡ source_of (map (λ file. file.items) files.now)) }
+    ensures short { OnOk result (length (joined (map (λ file. file.items) files.now)) ≤ text_limit) }
     ensures clean { OnOk result (HasNoTick (joined (map (λ file. file.items) files.now))) }
     ensures err { IfErr result (λ fault. IsReason (map (λ file. file.items) files.now) fault) }
 {

@@ -6,6 +6,7 @@
 mod expanded;
 mod fault;
 mod files;
+pub mod law;
 mod outside;
 #[cfg(test)]
 mod tests;

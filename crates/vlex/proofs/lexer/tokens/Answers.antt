@@ -1,15 +1,15 @@
-use Rattle.std.proofs.Common.{rules, ◌≡◌, ◌+◌, ◌++◌, ◌≤◌, List, ℕ, length, drop, map, arith, ap, sym, ◌∙◌, subst}
+use Rattle.std.proofs.Common.{rules, All, ◌≡◌, ◌+◌, ◌++◌, ◌≤◌, List, ℕ, length, drop, map, arith, ap, sym, ◌∙◌, subst}
 use Rattle.std.proofs.lemmas.List.{length-drop}
 use Rattle.vlex.specs.declared.form.Form.{Form}
 use Rattle.vlex.specs.declared.list.Span.{Span}
 use Rattle.vlex.specs.Lexed.Reaches.{start, next}
 use Rattle.vlex.specs.Lexed.{Lexed, Piece, IsFront}
-use Rattle.vlex.specs.Tokenized.{Tokenized, piece_at, pieces_of, spans_of, AreWithin, AreInOrder}
-use Rattle.vlex.proofs.Cuts.{order_grows, in_order_more, all_within, goes_onward, goes_back, all_lexed, only_lexed, none_lexed}
+use Rattle.vlex.specs.Tokenized.{Tokenized, piece_at, pieces_of, spans_of, AreWithin, AreInOrder, IsTokenAt}
+use Rattle.vlex.proofs.Cuts.{order_grows, stands_grows, in_order_more, all_within, goes_onward, goes_back, all_lexed, only_lexed, none_lexed}
 use Rattle.vlex.proofs.lexer.tokens.Goals as goal
 
 pub loop-at-init : goal.loop-at-init
-loop-at-init c = record { within = search rules; reached = start; order = search rules; onward = search rules; back = search rules }
+loop-at-init c = record { within = search rules; reached = start; stands = search rules; order = search rules; onward = search rules; back = search rules }
 
 pub loop-at-preserved : goal.loop-at-preserved
 loop-at-preserved c =
@@ -26,6 +26,7 @@ loop-at-preserved c =
     record {
       within = within;
       reached = next at form len c.loop-at.invariant.reached front;
+      stands = subst (All (IsTokenAt text)) (sym pushed) (stands_grows text spans form at len c.loop-at.invariant.reached front c.loop-at.invariant.stands);
       order = subst Order (sym pushed) (order_grows spans form at len c.loop-at.invariant.order);
       onward = λ pieces l.
           let P : List Span → Type 0 = λ ss. Lexed text (map (piece_at text) ss ++ pieces) in
@@ -75,3 +76,9 @@ returns-clause-order c =
     let Q : Tokenized → Type 0 = λ t. AreInOrder 0 t.spans (length c.args.source.now.text) in
     subst Q (sym c.new.ensures)
     (subst P c.text-text.ensures.value (in_order_more 0 c.loop-at.spans.items c.loop-at.at (length c.text-text.result.now) c.loop-at.invariant.within c.loop-at.invariant.order))
+
+pub returns-clause-stands : goal.returns-clause-stands
+returns-clause-stands c =
+    let P : List ℕ → Type 0 = λ t. All (IsTokenAt t) c.loop-at.spans.items in
+    let Q : Tokenized → Type 0 = λ t. All (IsTokenAt c.args.source.now.text) t.spans in
+    subst Q (sym c.new.ensures) (subst P c.text-text.ensures.value c.loop-at.invariant.stands)

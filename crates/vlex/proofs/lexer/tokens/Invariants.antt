@@ -1,6 +1,6 @@
-use Rattle.std.proofs.Common.{◌≡◌, ◌-◌, ◌≤◌, ◌++◌, List, length, drop, map}
+use Rattle.std.proofs.Common.{All, ◌≡◌, ◌-◌, ◌≤◌, ◌++◌, List, length, drop, map}
 use Rattle.vlex.specs.Lexed.{Lexed, Piece, Reaches}
-use Rattle.vlex.specs.Tokenized.{piece_at, AreInOrder}
+use Rattle.vlex.specs.Tokenized.{piece_at, AreInOrder, IsTokenAt}
 use Rattle.vlex.proofs.lexer.tokens.Given as goal
 
 -- the tokens so far and those of what is left are those of the whole, and the other way round
@@ -8,6 +8,7 @@ abbrev pub invariant-loop-at : goal.invariant-loop-at
 invariant-loop-at l = record {
   within : l.at ≤ length l.text;
   reached : Reaches l.text l.at;
+  stands : All (IsTokenAt l.text) l.spans.items;
   order : AreInOrder 0 l.spans.items l.at;
   onward : (pieces : List Piece) → Lexed (drop l.at l.text) pieces → Lexed l.text (map (piece_at l.text) l.spans.items ++ pieces);
   back : (pieces : List Piece) → Lexed l.text pieces → (left : List Piece) × ((pieces ≡ map (piece_at l.text) l.spans.items ++ left) × Lexed (drop l.at l.text) left);

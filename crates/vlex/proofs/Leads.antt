@@ -1,0 +1,44 @@
+-- What each lead says of its byte.
+use Rattle.std.proofs.Common.{◌≡◌, ◌≢◌, ℕ, Bool, true, false, cond, ◌||◌, nat_eq, refl, subst}
+use Rattle.std.proofs.lemmas.Bool.{eqb-true, eqb-false}
+use Rattle.vlex.specs.declared.bytes.Set.TheVariants.{Blanks}
+use Rattle.vlex.specs.declared.bytes.Lead.{Lead}
+use Rattle.vlex.specs.declared.bytes.Lead.TheVariants as lead
+use Rattle.vlex.specs.Bytes.{is_in, is_digit, is_letter, is_mark, lead_of}
+
+-- what begins neither a name nor a number
+pub record BeginsNeither (c : ℕ) : Type 0 where
+  pub letter : (is_letter c || nat_eq c 95) ≡ false
+  pub digit : is_digit c ≡ false
+  pub apostrophe : c ≢ 39
+
+abbrev pub Says : Lead → ℕ → Type 0
+Says lead.Blank c = is_in Blanks c ≡ true
+Says lead.Letter c = (is_letter c || nat_eq c 95) ≡ true
+Says lead.Dollar c = c ≡ 36
+Says lead.Digit c = is_digit c ≡ true
+Says lead.Apostrophe c = c ≡ 39
+Says lead.Quote c = c ≡ 34
+Says lead.Slash c = c ≡ 47
+Says lead.Mark c = BeginsNeither c
+Says lead.Other c = BeginsNeither c
+
+by_tests : (blank letter dollar digit apostrophe quote slash mark : Bool) (c : ℕ)
+    → is_in Blanks c ≡ blank → (is_letter c || nat_eq c 95) ≡ letter → nat_eq c 36 ≡ dollar → is_digit c ≡ digit → nat_eq c 39 ≡ apostrophe
+    → nat_eq c 34 ≡ quote → nat_eq c 47 ≡ slash
+    → Says (cond blank lead.Blank (cond letter lead.Letter (cond dollar lead.Dollar (cond digit lead.Digit (cond apostrophe lead.Apostrophe
+    (cond quote lead.Quote (cond slash lead.Slash (cond mark lead.Mark lead.Other)))))))) c
+by_tests true l d n a q s m c blank letter dollar digit apostrophe quote slash = blank
+by_tests false true d n a q s m c blank letter dollar digit apostrophe quote slash = letter
+by_tests false false true n a q s m c blank letter dollar digit apostrophe quote slash = eqb-true c 36 dollar
+by_tests false false false true a q s m c blank letter dollar digit apostrophe quote slash = digit
+by_tests false false false false true q s m c blank letter dollar digit apostrophe quote slash = eqb-true c 39 apostrophe
+by_tests false false false false false true s m c blank letter dollar digit apostrophe quote slash = eqb-true c 34 quote
+by_tests false false false false false false true m c blank letter dollar digit apostrophe quote slash = eqb-true c 47 slash
+by_tests false false false false false false false true c blank letter dollar digit apostrophe quote slash =
+    record { letter = letter; digit = digit; apostrophe = eqb-false c 39 apostrophe }
+by_tests false false false false false false false false c blank letter dollar digit apostrophe quote slash =
+    record { letter = letter; digit = digit; apostrophe = eqb-false c 39 apostrophe }
+
+pub says : (c : ℕ) (l : Lead) → lead_of c ≡ l → Says l c
+says c l e = subst (λ k. Says k c) e (by_tests _ _ _ _ _ _ _ (is_mark c) c refl refl refl refl refl refl refl)
