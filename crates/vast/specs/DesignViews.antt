@@ -1,5 +1,5 @@
 -- What a design of the program stands for.
-use Rattle.std.specs.Prelude.{ℕ, List, [], ◌∷◌, map}
+use Rattle.std.specs.Prelude.{List, [], ◌∷◌, map}
 use Rattle.vast.specs.Design.{VariableView, ScopeView, Action, assign, nonblocking, delay, dump_vars, finish, Actions, done, then, DesignView}
 use Rattle.vast.specs.declared.design.Variable.{Variable}
 use Rattle.vast.specs.declared.design.Scope.{Scope}

@@ -4,15 +4,15 @@ use Rattle.std.specs.Prelude.{Bool, false, ◌&&◌, ◌||◌, not, ℕ, ◌==�
 use Rattle.std.specs.List.{list_any, list_all}
 use Rattle.std.specs.Str.{bytes_eq}
 
-abbrev pub is_letter : ℕ → Bool
-is_letter c = (nat_le 97 c && nat_le c 122) || (nat_le 65 c && nat_le c 90) || (c == 95)
+abbrev pub begins_name : ℕ → Bool
+begins_name c = (nat_le 97 c && nat_le c 122) || (nat_le 65 c && nat_le c 90) || (c == 95)
 
 abbrev pub is_digit : ℕ → Bool
 is_digit c = nat_le 48 c && nat_le c 57
 
 -- a letter, `_`, a digit or `$`
 abbrev pub is_in_name : ℕ → Bool
-is_in_name c = is_letter c || is_digit c || (c == 36)
+is_in_name c = begins_name c || is_digit c || (c == 36)
 
 -- the reserved words of this product (docs/LANGUAGE.md), in the order of their letters
 unfoldable pub reserved_words : List (List ℕ)
@@ -40,7 +40,7 @@ is_reserved word = list_any (λ reserved. bytes_eq reserved word) reserved_words
 -- 3.7: a letter or `_`, then letters, digits, `_` and `$`, and no reserved word
 abbrev pub is_name : List ℕ → Bool
 is_name [] = false
-is_name (c ∷ cs) = is_letter c && list_all is_in_name cs && not (is_reserved (c ∷ cs))
+is_name (c ∷ cs) = begins_name c && list_all is_in_name cs && not (is_reserved (c ∷ cs))
 
 -- 3.5.1: among tokens the numbers are those that begin with a digit or an apostrophe
 abbrev pub is_number : List ℕ → Bool

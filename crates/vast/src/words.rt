@@ -3,7 +3,7 @@
 ghost use Rattle.std.specs.Prelude.{◌≡◌};
 ghost use Rattle.std.specs.List.{list_any, list_all};
 ghost use Rattle.std.specs.Str.{bytes_eq};
-ghost use Rattle.vast.specs.Words.{is_reserved as is_reserved_word, is_name as is_name_text, is_number as is_number_text, is_letter as is_letter_code, is_in_name as is_in_name_code};
+ghost use Rattle.vast.specs.Words.{is_reserved as is_reserved_word, is_name as is_name_text, is_number as is_number_text, begins_name as begins_name_code, is_in_name as is_in_name_code};
 
 static RESERVED: [&[u8]; 96] = [
     b"always",
@@ -124,7 +124,7 @@ pub fn is_name(text: &[u8]) -> bool
 {
     match text.split_first() {
         None => false,
-        Some((first, rest)) => is_letter(*first) && are_in_name(rest) && !is_reserved(text),
+        Some((first, rest)) => begins_name(*first) && are_in_name(rest) && !is_reserved(text),
     }
 }
 
@@ -144,8 +144,8 @@ pub fn is_number(text: &[u8]) -> bool
     }
 }
 
-fn is_letter(c: u8) -> bool
-    ensures { result ≡ is_letter_code c }
+fn begins_name(c: u8) -> bool
+    ensures { result ≡ begins_name_code c }
 {
     c.is_ascii_alphabetic() || c == b'_'
 }
@@ -153,5 +153,5 @@ fn is_letter(c: u8) -> bool
 fn is_in_name(c: u8) -> bool
     ensures { result ≡ is_in_name_code c }
 {
-    is_letter(c) || c.is_ascii_digit() || c == b'$'
+    begins_name(c) || c.is_ascii_digit() || c == b'$'
 }

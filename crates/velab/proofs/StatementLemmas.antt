@@ -1,44 +1,17 @@
 -- Lists of actions, and what a statement puts behind one.
-use Rattle.std.proofs.Common.{◌≡◌, ◌<◌, ◌≤◌, ℕ, ◌+◌, Bool, true, ◌&&◌, List, [], ◌∷◌, ◌++◌, length, drop, get_or, Vec, Global, Result, Ok, Err, OnOk, refl, sym, ap, ◌∙◌}
+use Rattle.std.proofs.Common.{◌≡◌, ◌<◌, ◌≤◌, ℕ, ◌+◌, Bool, true, ◌&&◌, List, [], ◌∷◌, ◌++◌, length, drop, get_or, Vec, Global, Result, Ok, Err, OnOk, sym, ap, ◌∙◌}
 use Rattle.std.proofs.Math.ListN.{drop_of_length-le}
-use mathlib.Core.Former.{Count}
 use Rattle.vast.specs.Syntax.{block, first}
 use Rattle.vast.specs.Trees.{statement_tree, statement_trees}
 use Rattle.vast.specs.declared.syntax.Stmt.{Stmt, Block}
 use Rattle.vast.proofs.TreeLemmas.{tree_of_block}
-use Rattle.vast.specs.Design.{Actions, delay, done, then, join}
-use Rattle.vast.specs.DesignViews.{action, actions, row_actions}
-use Rattle.vast.specs.declared.design.Expression.{Expression}
-use Rattle.vast.specs.declared.design.Statement.{Statement, Delay, Delay', Row_of-Statement, end_of-Statement, more_of-Statement, items-the_row-Statement, items_hidden-the_row-Statement-0}
+use Rattle.vast.proofs.ActionLemmas.{join_done, join_assoc, actions-append}
+use Rattle.vast.specs.Design.{Actions, done, then, join}
+use Rattle.vast.specs.DesignViews.{action, actions}
+use Rattle.vast.specs.declared.design.Statement.{Statement}
 use Rattle.velab.specs.declared.fault.ElabFault.{ElabFault}
 use Rattle.velab.specs.Elaborate.{actions_of, all_actions_of, knows, knows_all}
 use Rattle.velab.proofs.ListLemmas.{drop_at}
-
-pub join_done : (xs : Actions) → join xs done ≡ xs
-join_done done = refl
-join_done (then a rest) = ap (then a) (join_done rest)
-
-pub join_assoc : (xs ys zs : Actions) → join (join xs ys) zs ≡ join xs (join ys zs)
-join_assoc done ys zs = refl
-join_assoc (then a rest) ys zs = ap (then a) (join_assoc rest ys zs)
-
-actions-append : (xs ys : List Statement) → actions (xs ++ ys) ≡ join (actions xs) (actions ys)
-actions-append [] ys = refl
-actions-append (x ∷ xs) ys = ap (then (action x)) (actions-append xs ys)
-
-abbrev row_of : Statement → (n : Count) × Row_of-Statement n
-row_of (Delay' amount shape row) = (_, row)
-row_of _ = (_, end_of-Statement)
-
-actions_of_row : (n : _) (row : Row_of-Statement n) → row_actions row ≡ actions (items-the_row-Statement n row)
-actions_of_row n end_of-Statement = refl
-actions_of_row n (more_of-Statement statement rest) = ap (then (action statement)) (actions_of_row _ rest)
-
-pub action_of_delay : (amount : Expression) (body : Vec Statement Global) → action (Delay amount body) ≡ delay amount (actions body.items)
-action_of_delay amount body =
-    let row = row_of (Delay amount body) in
-    let same = items_hidden-the_row-Statement-0 body in
-    ap (delay amount) (actions_of_row row.0 row.1 ∙ ap actions same)
 
 -- one statement was put behind the others
 pub put_gives : (result : Result (Unit {0}) ElabFault) (old new : List Statement) (s : Statement) (wanted : Actions) → OnOk result (new ≡ old ++ s ∷ []) →

@@ -22,7 +22,7 @@ is_z_digit c = c == 122 || c == 90 || c == 63
 
 -- 0 to 9, and a to f in either case
 abbrev pub digit_value : ℕ → ℕ
-digit_value c = if nat_lt c 65 then c - 48 else if nat_lt c 97 then c - 55 else c - 87
+digit_value c = if nat_lt c 65 then c - 48 else if nat_lt c 97 then c - 65 + 10 else c - 97 + 10
 
 -- the number written with these decimal digits
 abbrev pub with_digit : ℕ → ℕ → ℕ

@@ -5,6 +5,7 @@
 
 mod design;
 mod fault;
+pub mod law;
 mod names;
 mod number;
 mod statement;

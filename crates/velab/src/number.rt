@@ -7,8 +7,8 @@ ghost use Rattle.velab.specs.Literals as literals;
 use vast::design::Constant;
 use vbits::{Bit4, Vec4};
 
-/// The widest number, in bits.
-const WIDEST: u32 = 64;
+/// The widest number or variable, in bits.
+pub(crate) const WIDEST: u32 = 64;
 
 fn is_x_digit(c: u8) -> bool
     ensures { result ≡ literals.is_x_digit c }
@@ -28,9 +28,9 @@ fn digit_value(c: u8) -> u8
     if c < b'A' {
         c.saturating_sub(b'0')
     } else if c < b'a' {
-        c - 55
+        c - b'A' + 10
     } else {
-        c - 87
+        c - b'a' + 10
     }
 }
 

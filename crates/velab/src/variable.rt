@@ -11,7 +11,7 @@ ghost use Rattle.velab.specs.Parts.{names_in, names_of};
 
 use crate::fault::ElabFault;
 use crate::names::Names;
-use crate::number::constant_of;
+use crate::number::{WIDEST, constant_of};
 use std::alloc::Global;
 use vast::design::{Bounds, Kind, Variable};
 use vast::syntax::{Item, Range, Word};
@@ -26,8 +26,6 @@ pub struct Declarations<'t> {
 
 /// The greatest number of a bit.
 const GREATEST_BOUND: u64 = 65535;
-/// The widest variable, in bits.
-const WIDEST: u32 = 64;
 /// The most variables of a design.
 const MOST_VARIABLES: usize = 1024;
 

@@ -6,7 +6,8 @@ use Rattle.vast.specs.declared.design.Expression.TheVariants.{Constant}
 use Rattle.vast.specs.declared.design.Statement.{Assign, Nonblocking, Delay, DumpVars, Finish}
 use Rattle.velab.specs.Elaborate.{actions_of}
 use Rattle.velab.specs.Reasons.{Because}
-use Rattle.velab.proofs.StatementLemmas.{join_done, action_of_delay, put_gives, block_actions, block_knows, actions_step, knows_step, actions_end}
+use Rattle.vast.proofs.ActionLemmas.{join_done, action_of_delay}
+use Rattle.velab.proofs.StatementLemmas.{put_gives, block_actions, block_knows, actions_step, knows_step, actions_end}
 use Rattle.velab.proofs.statement.+statements.Goals as goal
 
 pub put_actions-returns-in-Empty-clause-ok : goal.put_actions-returns-in-Empty-clause-ok
