@@ -6,3 +6,5 @@ pub mod Turns
 pub mod Fewer
 pub mod StatementLaws
 pub mod ParseLaws
+pub mod LevelLaws
+pub mod WordLaws

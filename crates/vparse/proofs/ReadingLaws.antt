@@ -5,7 +5,7 @@ use Rattle.std.specs.List.{list_all}
 use Rattle.std.specs.Str.{bytes_eq}
 use Rattle.std.proofs.lemmas.Bool.{cases_Bool}
 use Rattle.std.proofs.lemmas.Bool.Decides.{nat_tests}
-use Rattle.vast.specs.Words.{is_name, is_number, is_letter, is_digit, is_in_name, is_reserved, reserved_words}
+use Rattle.vast.specs.Words.{is_name, is_number, begins_name, is_digit, is_in_name, is_reserved, reserved_words}
 use Rattle.vast.specs.Syntax.{Text, ExpressionTree, number, name, StatementTree, empty, block, assign, nonblocking, delay, dump_vars, finish, StatementTrees, none, first}
 use Rattle.vast.specs.Derives.{spell_expression, spell_statement, spell_statements, fits_expression, fits_statement, fits_statements, depth, greatest_depth}
 use Rattle.vast.specs.Depth.{fits_within, all_fit_within}
@@ -17,16 +17,16 @@ use Rattle.vparse.specs.Trees.{trees_of}
 use Rattle.vparse.specs.Reading.{lead_of, expression, value, assignment, task, block_of, delay_of, follow, led, statement}
 use Rattle.vparse.proofs.ReaderLaws.{same_pair, none_is_not, parts, then_is, chosen, passed_over, both, left_of, right_of, same_text, text_same, word_taken, word_takes, symbol_taken, symbol_takes, many_sound, many_complete}
 
+pub no_digit : (c : ℕ) → begins_name c ≡ true → (is_digit c || (c == 39)) ≡ false
+no_digit c e = grind (arith, nat_tests)
+
 -- no number is a name
 pub number_no_name : (word : Text) → is_name word ≡ true → is_number word ≡ false
 number_no_name [] fit = absurd (false_true fit)
   where
     false_true : false ≡ true → ⊥
     false_true e = cc
-number_no_name (c ∷ cs) fit = no_digit c (left_of (is_letter c) (list_all is_in_name cs) (left_of (is_letter c && list_all is_in_name cs) (not (is_reserved (c ∷ cs))) fit))
-  where
-    no_digit : (c : ℕ) → is_letter c ≡ true → (is_digit c || (c == 39)) ≡ false
-    no_digit c e = grind (arith, nat_tests)
+number_no_name (c ∷ cs) fit = no_digit c (left_of (begins_name c) (list_all is_in_name cs) (left_of (begins_name c && list_all is_in_name cs) (not (is_reserved (c ∷ cs))) fit))
 
 -- the leads of words
 

@@ -1,8 +1,9 @@
 -- What the program's readers answer, by the readers of the definition.
-use Rattle.std.specs.Prelude.{◌≡◌, ◌≢◌, List, Some, None, Result, Ok, Err}
+use Rattle.std.specs.Prelude.{◌≡◌, ◌≢◌, ℕ, List, Some, None, Result, Ok, Err}
 use Rattle.vast.specs.Syntax.{Text}
 use Rattle.vparse.specs.declared.stop.Stop.{Stop}
-use Rattle.vparse.specs.declared.stop.Stop.TheVariants.{Memory}
+use Rattle.vparse.specs.declared.stop.Stop.TheVariants.{TooDeep, Memory}
+use Rattle.vparse.specs.Levels.{Opens}
 use Rattle.vparse.specs.Readers.{Reader}
 
 -- A value stands for what is read of the words, and what is left is behind it. Save for want of memory a stop says
@@ -10,3 +11,13 @@ use Rattle.vparse.specs.Readers.{Reader}
 abbrev pub Answers : {A T : Type 0} → Reader A → (T → A) → List Text → List Text → Result T Stop → Type 0
 Answers read view words left (Ok value) = read words ≡ Some (view value, left)
 Answers read view words left (Err stop) = stop ≢ Memory → read words ≡ None
+
+-- it doesn't stop for want of levels
+abbrev pub IsFlat : {T : Type 0} → Result T Stop → Type 0
+IsFlat (Ok value) = Unit {0}
+IsFlat (Err stop) = stop ≢ TooDeep
+
+-- where it stops for want of levels, so many were opened at least
+abbrev pub Deepens : {T : Type 0} → ℕ → List Text → List Text → Result T Stop → Type 0
+Deepens levels words left (Ok value) = Unit {0}
+Deepens levels words left (Err stop) = stop ≡ TooDeep → Opens levels words left

@@ -1,5 +1,5 @@
 -- What a fault says of a text.
-use Rattle.std.specs.Prelude.{◌≡◌, ℕ, ◌≤◌, Bool, true, false, List, Option, None, Some, length, slice_get}
+use Rattle.std.specs.Prelude.{◌≡◌, ℕ, ◌≤◌, Bool, true, false, List, Option, None, Some, length, take, slice_get}
 use Rattle.vsrc.specs.Source.{place_of}
 use Rattle.vsrc.specs.declared.expanded.Place.{Place}
 use Rattle.vlex.specs.Tokenized.{Tokenized, start_of}
@@ -7,6 +7,7 @@ use Rattle.vast.specs.Syntax.{Text, SourceTree}
 use Rattle.vast.specs.Derives.{Derives}
 use Rattle.vparse.specs.declared.fault.SyntaxFault.{SyntaxFault}
 use Rattle.vparse.specs.declared.fault.SyntaxFault.TheVariants.{NoTree, Outside, TooDeep, Memory}
+use Rattle.vparse.specs.Levels.{openings}
 use Rattle.vparse.specs.Profile.{is_outside}
 use Rattle.vparse.specs.Words.{words_of}
 
@@ -34,9 +35,14 @@ pub record StandsAt (tokens : Tokenized) (place : Place) (outside : Bool) : Type
   pub placed : place ≡ place_of tokens.source (start_of tokens index)
   pub judged : is_any_outside (slice_get (words_of tokens) index) ≡ outside
 
--- E202 comes at a token whose word stands outside the profile, and the others only elsewhere
+-- It stands inside the profile, and behind words that open 63 levels at least (docs/LANGUAGE.md, "Depth").
+pub record StandsDeep (tokens : Tokenized) (place : Place) : Type 0 where
+  pub stands : StandsAt tokens place false
+  pub deep : 63 ≤ openings (take stands.index (words_of tokens))
+
+-- E202 comes at a token whose word stands outside the profile, the others only elsewhere, and E203 only so deep
 abbrev pub IsReason : Tokenized → SyntaxFault → Type 0
 IsReason tokens (NoTree place) = StandsAt tokens place false
 IsReason tokens (Outside place) = StandsAt tokens place true
-IsReason tokens (TooDeep place) = StandsAt tokens place false
+IsReason tokens (TooDeep place) = StandsDeep tokens place
 IsReason tokens Memory = Unit {0}

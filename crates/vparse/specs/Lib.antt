@@ -1,5 +1,6 @@
 pub mod Answers
 pub mod Faults
+pub mod Levels
 pub mod Profile
 pub mod Readers
 pub mod Reading

@@ -1,7 +1,18 @@
--- The words of a text, as its tokens stand.
-use Rattle.std.specs.Prelude.{List, map}
+-- The words of a text, as its tokens stand, and what they tell.
+use Rattle.std.specs.Prelude.{◌≡◌, ◌⊎◌, ◌↔◌, IsTrue, false, List, map}
+use Rattle.vlex.specs.declared.kind.Kind.TheVariants.{Name, Plain, Based}
+use Rattle.vlex.specs.Lexed.{Piece}
 use Rattle.vlex.specs.Tokenized.{Tokenized, pieces_of}
 use Rattle.vast.specs.Syntax.{Text}
+use Rattle.vast.specs.Words.{is_number, is_name, is_reserved}
 
 abbrev pub words_of : Tokenized → List Text
 words_of tokens = map (λ piece. piece.text) (pieces_of tokens)
+
+-- a token's word is a number exactly where its kind is one of numbers (3.5.1)
+abbrev pub TellsNumber : Piece → Type 0
+TellsNumber piece = IsTrue (is_number piece.text) ↔ ((piece.kind ≡ Plain) ⊎ (piece.kind ≡ Based))
+
+-- it is a name exactly where its kind is that of names and it isn't reserved (3.7, 3.7.2)
+abbrev pub TellsName : Piece → Type 0
+TellsName piece = IsTrue (is_name piece.text) ↔ ((piece.kind ≡ Name) × (is_reserved piece.text ≡ false))

@@ -7,7 +7,7 @@ ghost use Rattle.vast.specs.Trees.{word_text};
 ghost use Rattle.vparse.specs.Words.{words_of};
 ghost use Rattle.vparse.specs.Readers.{take_word, symbol, begins};
 ghost use Rattle.vparse.specs.Reading.{at_end};
-ghost use Rattle.vparse.specs.Answers.{Answers};
+ghost use Rattle.vparse.specs.Answers.{Answers, IsFlat};
 
 use crate::lead::is;
 use crate::stop::Stop;
@@ -45,9 +45,11 @@ impl<'c, 'a> Cursor<'c, 'a> {
         Cursor { tokens, at: 0 }
     }
 
-    /// How many tokens are passed.
-    pub fn at(&self) -> usize {
-        self.at as usize
+    /// How many words are left.
+    pub fn left(&self) -> usize
+        ensures { result ≡ length self.now }
+    {
+        self.tokens.len().saturating_sub(self.at as usize)
     }
 
     /// The word here, if there is one.
@@ -95,7 +97,8 @@ impl<'c, 'a> Cursor<'c, 'a> {
 
     /// Reads this very word.
     pub fn symbol(&mut self, text: &[u8]) -> Result<Word<'a>, Stop>
-        ensures { Answers (symbol text.now) word_text self.old self.new result }
+        ensures reads { Answers (symbol text.now) word_text self.old self.new result }
+        ensures flat { IsFlat result }
     {
         match self.word() {
             None => Err(Stop::NoTree),
@@ -112,7 +115,8 @@ impl<'c, 'a> Cursor<'c, 'a> {
 
     /// Reads a name (3.7).
     pub fn name(&mut self) -> Result<Word<'a>, Stop>
-        ensures { Answers (take_word is_name_text) word_text self.old self.new result }
+        ensures reads { Answers (take_word is_name_text) word_text self.old self.new result }
+        ensures flat { IsFlat result }
     {
         match self.word() {
             None => Err(Stop::NoTree),
@@ -129,7 +133,8 @@ impl<'c, 'a> Cursor<'c, 'a> {
 
     /// Reads a number (3.5.1).
     pub fn number(&mut self) -> Result<Word<'a>, Stop>
-        ensures { Answers (take_word is_number_text) word_text self.old self.new result }
+        ensures reads { Answers (take_word is_number_text) word_text self.old self.new result }
+        ensures flat { IsFlat result }
     {
         match self.word() {
             None => Err(Stop::NoTree),

@@ -4,7 +4,7 @@ ghost use Rattle.std.specs.Prelude.{Some, option_map, map, codes};
 ghost use Rattle.vast.specs.Trees.{word_text, range_tree, item_tree};
 ghost use Rattle.vparse.specs.Readers.{begins, until};
 ghost use Rattle.vparse.specs.Reading.{bounds, range, more_name, names, registers_of, initial_of, item};
-ghost use Rattle.vparse.specs.Answers.{Answers};
+ghost use Rattle.vparse.specs.Answers.{Answers, Deepens, IsFlat};
 
 use crate::cursor::Cursor;
 use crate::lead::is;
@@ -16,7 +16,8 @@ use vast::syntax::{Item, Range, Word};
 
 // `[left:right]` (4.3.1)
 fn bounds<'a>(cursor: &mut Cursor<'_, 'a>) -> Result<Range<'a>, Stop>
-    ensures { Answers bounds (λ range. Some (range_tree range)) cursor.old cursor.new result }
+    ensures reads { Answers bounds (λ range. Some (range_tree range)) cursor.old cursor.new result }
+    ensures flat { IsFlat result }
 {
     cursor.symbol(b"[")?;
     let left = cursor.number()?;
@@ -28,7 +29,8 @@ fn bounds<'a>(cursor: &mut Cursor<'_, 'a>) -> Result<Range<'a>, Stop>
 
 // The range, where one stands.
 fn range<'a>(cursor: &mut Cursor<'_, 'a>) -> Result<Option<Range<'a>>, Stop>
-    ensures { Answers range (λ range. option_map range_tree range) cursor.old cursor.new result }
+    ensures reads { Answers range (λ range. option_map range_tree range) cursor.old cursor.new result }
+    ensures flat { IsFlat result }
 {
     if cursor.begins(b"[") {
         let range = bounds(cursor)?;
@@ -40,7 +42,8 @@ fn range<'a>(cursor: &mut Cursor<'_, 'a>) -> Result<Option<Range<'a>>, Stop>
 
 // A comma and a name.
 fn more_name<'a>(cursor: &mut Cursor<'_, 'a>) -> Result<Word<'a>, Stop>
-    ensures { Answers more_name word_text cursor.old cursor.new result }
+    ensures reads { Answers more_name word_text cursor.old cursor.new result }
+    ensures flat { IsFlat result }
 {
     cursor.symbol(b",")?;
     cursor.name()
@@ -48,7 +51,8 @@ fn more_name<'a>(cursor: &mut Cursor<'_, 'a>) -> Result<Word<'a>, Stop>
 
 // Names with commas between them, at least one.
 fn names<'a>(alloc: Global, cursor: &mut Cursor<'_, 'a>) -> Result<Vec<Word<'a>>, Stop>
-    ensures { Answers names (λ names. map word_text names.items) cursor.old cursor.new result }
+    ensures reads { Answers names (λ names. map word_text names.items) cursor.old cursor.new result }
+    ensures flat { IsFlat result }
 {
     let mut names = Vec::new(alloc);
     let first = cursor.name()?;
@@ -62,7 +66,8 @@ fn names<'a>(alloc: Global, cursor: &mut Cursor<'_, 'a>) -> Result<Vec<Word<'a>>
 
 // What follows `reg` (4.2).
 fn registers<'a>(alloc: Global, cursor: &mut Cursor<'_, 'a>) -> Result<Item<'a>, Stop>
-    ensures { Answers registers_of item_tree cursor.old cursor.new result }
+    ensures reads { Answers registers_of item_tree cursor.old cursor.new result }
+    ensures flat { IsFlat result }
 {
     let range = range(cursor)?;
     let names = names(alloc, cursor)?;
@@ -72,7 +77,8 @@ fn registers<'a>(alloc: Global, cursor: &mut Cursor<'_, 'a>) -> Result<Item<'a>,
 
 // What follows `initial` (9.9.1).
 fn initial<'a>(alloc: Global, cursor: &mut Cursor<'_, 'a>) -> Result<Item<'a>, Stop>
-    ensures { Answers initial_of item_tree cursor.old cursor.new result }
+    ensures reads { Answers initial_of item_tree cursor.old cursor.new result }
+    ensures deepens { Deepens 63 cursor.old cursor.new result }
 {
     let body = statement(alloc, cursor, DEPTH)?;
     Ok(Item::Initial(body))
@@ -80,7 +86,8 @@ fn initial<'a>(alloc: Global, cursor: &mut Cursor<'_, 'a>) -> Result<Item<'a>, S
 
 // An item, by its first word.
 fn item<'a>(alloc: Global, cursor: &mut Cursor<'_, 'a>) -> Result<Item<'a>, Stop>
-    ensures { Answers item item_tree cursor.old cursor.new result }
+    ensures reads { Answers item item_tree cursor.old cursor.new result }
+    ensures deepens { Deepens 63 cursor.old cursor.new result }
 {
     match cursor.word() {
         None => Err(Stop::NoTree),
@@ -100,7 +107,8 @@ fn item<'a>(alloc: Global, cursor: &mut Cursor<'_, 'a>) -> Result<Item<'a>, Stop
 
 /// Items up to `endmodule` (A.1.4).
 pub fn items<'a>(alloc: Global, cursor: &mut Cursor<'_, 'a>) -> Result<Vec<Item<'a>>, Stop>
-    ensures { Answers (until item (begins (codes "endmodule"))) (λ found. map item_tree found.items) cursor.old cursor.new result }
+    ensures reads { Answers (until item (begins (codes "endmodule"))) (λ found. map item_tree found.items) cursor.old cursor.new result }
+    ensures deepens { Deepens 63 cursor.old cursor.new result }
 {
     let mut found = Vec::new(alloc);
     'turns: while !cursor.begins(b"endmodule") {

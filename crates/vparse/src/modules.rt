@@ -3,7 +3,7 @@
 ghost use Rattle.std.specs.Prelude.{map};
 ghost use Rattle.vast.specs.Trees.{module_tree};
 ghost use Rattle.vparse.specs.Reading.{unit, source};
-ghost use Rattle.vparse.specs.Answers.{Answers};
+ghost use Rattle.vparse.specs.Answers.{Answers, Deepens};
 
 use crate::cursor::Cursor;
 use crate::items::items;
@@ -13,7 +13,8 @@ use vast::syntax::Module;
 
 // `module name; .. endmodule` (12.1)
 fn unit<'a>(alloc: Global, cursor: &mut Cursor<'_, 'a>) -> Result<Module<'a>, Stop>
-    ensures { Answers unit module_tree cursor.old cursor.new result }
+    ensures reads { Answers unit module_tree cursor.old cursor.new result }
+    ensures deepens { Deepens 63 cursor.old cursor.new result }
 {
     cursor.symbol(b"module")?;
     let name = cursor.name()?;
@@ -25,7 +26,8 @@ fn unit<'a>(alloc: Global, cursor: &mut Cursor<'_, 'a>) -> Result<Module<'a>, St
 
 /// Modules up to the end of the text.
 pub fn source<'a>(alloc: Global, cursor: &mut Cursor<'_, 'a>) -> Result<Vec<Module<'a>>, Stop>
-    ensures { Answers source (λ found. map module_tree found.items) cursor.old cursor.new result }
+    ensures reads { Answers source (λ found. map module_tree found.items) cursor.old cursor.new result }
+    ensures deepens { Deepens 63 cursor.old cursor.new result }
 {
     let mut found = Vec::new(alloc);
     'turns: while !cursor.is_ended() {

@@ -1,11 +1,11 @@
 // Statements, by their first words (IEEE 1364-2005, A.6).
 
-ghost use Rattle.std.specs.Prelude.{◌≡◌, ◌∷◌, drop, map, codes};
+ghost use Rattle.std.specs.Prelude.{◌≡◌, ◌-◌, ◌∷◌, drop, map, codes};
 ghost use Rattle.vast.specs.Syntax.{ExpressionTree, StatementTree, dump_vars, finish};
 ghost use Rattle.vast.specs.Trees.{word_text, expression_tree, statement_tree};
 ghost use Rattle.vparse.specs.Readers.{begins, until};
 ghost use Rattle.vparse.specs.Reading.{expression, value, assignment, task, led, block_of, delay_of, statement};
-ghost use Rattle.vparse.specs.Answers.{Answers};
+ghost use Rattle.vparse.specs.Answers.{Answers, Deepens, IsFlat};
 
 use crate::cursor::Cursor;
 use crate::lead::{Lead, is, lead_of_word};
@@ -15,7 +15,8 @@ use vast::syntax::{Expr, Stmt, Word};
 use vast::words::{is_name, is_number};
 
 fn expression<'a>(cursor: &mut Cursor<'_, 'a>) -> Result<Expr<'a>, Stop>
-    ensures { Answers expression expression_tree cursor.old cursor.new result }
+    ensures reads { Answers expression expression_tree cursor.old cursor.new result }
+    ensures flat { IsFlat result }
 {
     match cursor.word() {
         None => Err(Stop::NoTree),
@@ -35,7 +36,8 @@ fn expression<'a>(cursor: &mut Cursor<'_, 'a>) -> Result<Expr<'a>, Stop>
 
 // What an assignment gives its target, and the semicolon.
 fn value<'a>(cursor: &mut Cursor<'_, 'a>) -> Result<Expr<'a>, Stop>
-    ensures { (make : ExpressionTree → StatementTree) → Answers (value make) (λ held. make (expression_tree held)) cursor.old cursor.new result }
+    ensures reads { (make : ExpressionTree → StatementTree) → Answers (value make) (λ held. make (expression_tree held)) cursor.old cursor.new result }
+    ensures flat { IsFlat result }
 {
     let held = expression(cursor)?;
     cursor.symbol(b";")?;
@@ -44,7 +46,8 @@ fn value<'a>(cursor: &mut Cursor<'_, 'a>) -> Result<Expr<'a>, Stop>
 
 // What follows the name that begins an assignment.
 fn assignment<'a>(cursor: &mut Cursor<'_, 'a>, target: Word<'a>) -> Result<Stmt<'a>, Stop>
-    ensures { Answers (assignment (word_text target.entry)) statement_tree cursor.old cursor.new result }
+    ensures reads { Answers (assignment (word_text target.entry)) statement_tree cursor.old cursor.new result }
+    ensures flat { IsFlat result }
 {
     match cursor.word() {
         None => Err(Stop::NoTree),
@@ -66,7 +69,8 @@ fn assignment<'a>(cursor: &mut Cursor<'_, 'a>, target: Word<'a>) -> Result<Stmt<
 
 // The semicolon behind `$dumpvars` (18.1.2).
 fn dump_vars<'a>(cursor: &mut Cursor<'_, 'a>) -> Result<Stmt<'a>, Stop>
-    ensures { Answers (task dump_vars) statement_tree cursor.old cursor.new result }
+    ensures reads { Answers (task dump_vars) statement_tree cursor.old cursor.new result }
+    ensures flat { IsFlat result }
 {
     cursor.symbol(b";")?;
     Ok(Stmt::DumpVars)
@@ -74,7 +78,8 @@ fn dump_vars<'a>(cursor: &mut Cursor<'_, 'a>) -> Result<Stmt<'a>, Stop>
 
 // The semicolon behind `$finish` (17.4.1).
 fn finish<'a>(cursor: &mut Cursor<'_, 'a>) -> Result<Stmt<'a>, Stop>
-    ensures { Answers (task finish) statement_tree cursor.old cursor.new result }
+    ensures reads { Answers (task finish) statement_tree cursor.old cursor.new result }
+    ensures flat { IsFlat result }
 {
     cursor.symbol(b";")?;
     Ok(Stmt::Finish)
@@ -87,7 +92,8 @@ pub fn statement<'a>(
     cursor: &mut Cursor<'_, 'a>,
     levels: u32,
 ) -> Result<Stmt<'a>, Stop>
-    ensures { Answers (statement levels) statement_tree cursor.old cursor.new result }
+    ensures reads { Answers (statement levels) statement_tree cursor.old cursor.new result }
+    ensures deepens { Deepens (levels - 1) cursor.old cursor.new result }
 {
     if levels == 0 {
         return Err(Stop::TooDeep);
@@ -107,7 +113,8 @@ fn led<'a>(
     below: u32,
 ) -> Result<Stmt<'a>, Stop>
     requires { cursor.old ≡ word_text word ∷ drop 1 cursor.old }
-    ensures { Answers (led below (statement below)) statement_tree cursor.old cursor.new result }
+    ensures reads { Answers (led below (statement below)) statement_tree cursor.old cursor.new result }
+    ensures deepens { Deepens below cursor.old cursor.new result }
 {
     match lead_of_word(word.text) {
         Lead::Name => {
@@ -144,7 +151,8 @@ fn led<'a>(
 // The statements behind `begin`, and `end` (9.8.1).
 #[cycle(statements)]
 fn block<'a>(alloc: Global, cursor: &mut Cursor<'_, 'a>, levels: u32) -> Result<Stmt<'a>, Stop>
-    ensures { Answers (block_of (statement levels)) statement_tree cursor.old cursor.new result }
+    ensures reads { Answers (block_of (statement levels)) statement_tree cursor.old cursor.new result }
+    ensures deepens { Deepens (levels - 1) cursor.old cursor.new result }
 {
     let statements = statements(alloc, cursor, levels)?;
     cursor.symbol(b"end")?;
@@ -158,7 +166,8 @@ fn statements<'a>(
     cursor: &mut Cursor<'_, 'a>,
     levels: u32,
 ) -> Result<Vec<Stmt<'a>>, Stop>
-    ensures { Answers (until (statement levels) (begins (codes "end"))) (λ found. map statement_tree found.items) cursor.old cursor.new result }
+    ensures reads { Answers (until (statement levels) (begins (codes "end"))) (λ found. map statement_tree found.items) cursor.old cursor.new result }
+    ensures deepens { Deepens (levels - 1) cursor.old cursor.new result }
 {
     let mut found = Vec::new(alloc);
     'turns: while !cursor.begins(b"end") {
@@ -171,7 +180,8 @@ fn statements<'a>(
 // The number and the statement behind `#` (9.7.1).
 #[cycle(statements)]
 fn delay<'a>(alloc: Global, cursor: &mut Cursor<'_, 'a>, levels: u32) -> Result<Stmt<'a>, Stop>
-    ensures { Answers (delay_of (statement levels)) statement_tree cursor.old cursor.new result }
+    ensures reads { Answers (delay_of (statement levels)) statement_tree cursor.old cursor.new result }
+    ensures deepens { Deepens (levels - 1) cursor.old cursor.new result }
 {
     let amount = cursor.number()?;
     let body = statement(alloc, cursor, levels)?;

@@ -1,5 +1,6 @@
 use Rattle.std.proofs.Common.{◌≡◌, length, map, codes}
 use Rattle.vast.specs.Trees.{item_tree}
+use Rattle.vparse.specs.Levels.{Opens}
 use Rattle.vparse.specs.Readers.{begins, until}
 use Rattle.vparse.specs.Reading.{item}
 use Rattle.vparse.proofs.Turns.{behind}
@@ -7,8 +8,10 @@ use Rattle.vparse.proofs.items.items.Given as goal
 
 -- the items so far, and what is read of the words that are left, are what is read of the whole
 abbrev pub invariant-turns : goal.invariant-turns
-invariant-turns l =
-    behind (map item_tree l.found.items) (until item (begins (codes "endmodule")) l.cursor) ≡ until item (begins (codes "endmodule")) l.fn.cursor
+invariant-turns l = record {
+  read : behind (map item_tree l.found.items) (until item (begins (codes "endmodule")) l.cursor) ≡ until item (begins (codes "endmodule")) l.fn.cursor;
+  passed : Opens 0 l.fn.cursor l.cursor;
+}
 
 abbrev pub decreases-turns : goal.decreases-turns
 decreases-turns l = length l.cursor

@@ -8,12 +8,12 @@ use Rattle.vparse.proofs.parser.parse.Goals as goal
 
 pub returns-in-Ok-clause-derives : goal.returns-in-Ok-clause-derives
 returns-in-Ok-clause-derives c =
-    source_derives (words_of c.args.tokens.now) (source_tree (record { modules = c.in-Ok.modules })) c.source.new.cursor (ap source (sym c.new-cursor.ensures) ∙ c.in-Ok.ensures)
+    source_derives (words_of c.args.tokens.now) (source_tree (record { modules = c.in-Ok.modules })) c.source.new.cursor (ap source (sym c.new-cursor.ensures) ∙ c.in-Ok.ensures.reads)
 
 pub returns-in-Ok-clause-only : goal.returns-in-Ok-clause-only
 returns-in-Ok-clause-only c =
-    only_read (words_of c.args.tokens.now) (source_tree (record { modules = c.in-Ok.modules })) c.source.new.cursor (ap source (sym c.new-cursor.ensures) ∙ c.in-Ok.ensures)
+    only_read (words_of c.args.tokens.now) (source_tree (record { modules = c.in-Ok.modules })) c.source.new.cursor (ap source (sym c.new-cursor.ensures) ∙ c.in-Ok.ensures.reads)
 
 pub returns-in-Err-clause-none : goal.returns-in-Err-clause-none
 returns-in-Err-clause-none c =
-    no_tree (words_of c.args.tokens.now) c.in-Err.stop c.fault.result c.fault.ensures.memory (λ kept. ap source (sym c.new-cursor.ensures) ∙ c.in-Err.ensures kept)
+    no_tree (words_of c.args.tokens.now) c.in-Err.stop c.fault.result c.fault.ensures.memory (λ kept. ap source (sym c.new-cursor.ensures) ∙ c.in-Err.ensures.reads kept)

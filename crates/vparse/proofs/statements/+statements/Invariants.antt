@@ -1,5 +1,6 @@
 use Rattle.std.proofs.Common.{◌≡◌, ◌+◌, ◌*◌, length, map, codes}
 use Rattle.vast.specs.Trees.{statement_tree}
+use Rattle.vparse.specs.Levels.{Opens}
 use Rattle.vparse.specs.Readers.{begins, until}
 use Rattle.vparse.specs.Reading.{statement}
 use Rattle.vparse.proofs.Turns.{behind}
@@ -22,9 +23,11 @@ decreases-delay l = 4 * l.levels + 1
 
 -- the statements so far, and what is read of the words that are left, are what is read of the whole
 abbrev pub invariant-statements-turns : goal.invariant-statements-turns
-invariant-statements-turns l =
-    behind (map statement_tree l.found.items) (until (statement l.levels) (begins (codes "end")) l.cursor)
-    ≡ until (statement l.levels) (begins (codes "end")) l.fn.cursor
+invariant-statements-turns l = record {
+  read : behind (map statement_tree l.found.items) (until (statement l.levels) (begins (codes "end")) l.cursor)
+      ≡ until (statement l.levels) (begins (codes "end")) l.fn.cursor;
+  passed : Opens 0 l.fn.cursor l.cursor;
+}
 
 abbrev pub decreases-statements-turns : goal.decreases-statements-turns
 decreases-statements-turns l = length l.cursor
