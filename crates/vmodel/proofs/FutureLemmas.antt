@@ -15,13 +15,13 @@ map-insert f (y ∷ ys) zero x = refl
 map-insert f (y ∷ ys) (suc k) x = ap (λ rest. f y ∷ rest) (map-insert f ys k x)
 
 module _ (t : ℕ) (sleeper : Option ℕ) where
-  earlier : (e : ℕ × Slot) (es : List (ℕ × Slot)) → e.0 < t → wake_at t sleeper (e ∷ es) ≡ e ∷ wake_at t sleeper es
+  pub earlier : (e : ℕ × Slot) (es : List (ℕ × Slot)) → e.0 < t → wake_at t sleeper (e ∷ es) ≡ e ∷ wake_at t sleeper es
   earlier e es lt = rw (not_lt t e.0 (omega arith), differs t e.0 (omega arith))
 
-  here : (e : ℕ × Slot) (es : List (ℕ × Slot)) → t ≡ e.0 → wake_at t sleeper (e ∷ es) ≡ (e.0, waking sleeper e.1) ∷ es
+  pub here : (e : ℕ × Slot) (es : List (ℕ × Slot)) → t ≡ e.0 → wake_at t sleeper (e ∷ es) ≡ (e.0, waking sleeper e.1) ∷ es
   here e es is = rw (not_lt t e.0 (omega arith), same t e.0 is)
 
-  later : (e : ℕ × Slot) (es : List (ℕ × Slot)) → t < e.0 → wake_at t sleeper (e ∷ es) ≡ (t, waking sleeper empty_slot) ∷ e ∷ es
+  pub later : (e : ℕ × Slot) (es : List (ℕ × Slot)) → t < e.0 → wake_at t sleeper (e ∷ es) ≡ (t, waking sleeper empty_slot) ∷ e ∷ es
   later e es lt = rw (is_lt t e.0 lt)
 
   place_earlier : (e : ℕ × Slot) (es : List (ℕ × Slot)) → e.0 < t → place_of_time t (e ∷ es) ≡ suc (place_of_time t es)

@@ -3,3 +3,10 @@ pub mod FutureLemmas
 pub mod RemainderLemmas
 pub mod OpeningLemmas
 pub mod PlayedLemmas
+pub mod SameLemmas
+pub mod RulesLemmas
+pub mod PlaceLemmas
+pub mod MovedLemmas
+pub mod KeptLemmas
+pub mod TimesLemmas
+pub mod ValuesLemmas

@@ -65,10 +65,10 @@ differs a b h = grind (arith, nat_tests)
 pub with_less : (p q : ℕ) (qs : List ℕ) → p < q → with_process p (q ∷ qs) ≡ p ∷ q ∷ qs
 with_less p q qs lt = rw (is_lt p q lt)
 
-with_same : (p q : ℕ) (qs : List ℕ) → p ≡ q → with_process p (q ∷ qs) ≡ q ∷ qs
+pub with_same : (p q : ℕ) (qs : List ℕ) → p ≡ q → with_process p (q ∷ qs) ≡ q ∷ qs
 with_same p q qs e = rw (not_lt p q (omega arith), same p q e)
 
-with_more : (p q : ℕ) (qs : List ℕ) → q < p → with_process p (q ∷ qs) ≡ q ∷ with_process p qs
+pub with_more : (p q : ℕ) (qs : List ℕ) → q < p → with_process p (q ∷ qs) ≡ q ∷ with_process p qs
 with_more p q qs lt = rw (not_lt p q (omega arith), differs p q (omega arith))
 
 place_more : (p q : ℕ) (qs : List ℕ) → q < p → place_of p (q ∷ qs) ≡ suc (place_of p qs)
@@ -77,10 +77,10 @@ place_more p q qs lt = rw (is_lt q p lt)
 place_here : (p q : ℕ) (qs : List ℕ) → p ≤ q → place_of p (q ∷ qs) ≡ 0
 place_here p q qs le = rw (not_lt q p le)
 
-without_other : (p q : ℕ) (qs : List ℕ) → p ≢ q → without_process p (q ∷ qs) ≡ q ∷ without_process p qs
+pub without_other : (p q : ℕ) (qs : List ℕ) → p ≢ q → without_process p (q ∷ qs) ≡ q ∷ without_process p qs
 without_other p q qs ne = rw (differs p q ne)
 
-without_same : (p q : ℕ) (qs : List ℕ) → p ≡ q → without_process p (q ∷ qs) ≡ without_process p qs
+pub without_same : (p q : ℕ) (qs : List ℕ) → p ≡ q → without_process p (q ∷ qs) ≡ without_process p qs
 without_same p q qs e = rw (same p q e)
 
 -- what stands above a number isn't taken out with it

@@ -12,3 +12,4 @@ pub mod Same
 pub mod Run
 pub mod Played
 pub mod RunViews
+pub mod Kept

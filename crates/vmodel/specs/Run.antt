@@ -18,13 +18,13 @@ use Rattle.vmodel.specs.Step.{next, slot_end_of}
 abbrev pub opening_value : VariableView → Vector
 opening_value variable = with_sign (filled variable.length X) variable.signed
 
--- the numbers of the processes that have something to do, from n on
+-- 9.9.1: the numbers of the processes that have something to do, from n on
 abbrev pub busy_from : ℕ → List Actions → List ℕ
 busy_from n [] = []
 busy_from n (done ∷ rest) = busy_from (suc n) rest
 busy_from n (then action after ∷ rest) = n ∷ busy_from (suc n) rest
 
--- at time 0 all processes are active that have something to do
+-- 9.9.1: at time 0 all processes are active that have something to do
 abbrev pub opening : DesignView → ℕ → Grain → State
 opening design until grain = record {
   values = map opening_value design.variables;
@@ -80,7 +80,8 @@ abbrev pub given_by : Setting → List (ℕ × ℕ) → ℕ → List HistoryItem
 given_by setting log zero = opening_items (opening_of setting)
 given_by setting log (suc n) = given_by setting log n ++ (next (state_after setting log n) (choice_at log n)).items
 
--- why a run ends where it has no choice: `$finish`, else something past the limit, else nothing is left
+-- why a run ends where it has no choice: `$finish` (17.4.1), else something past the limit, else nothing is left
+-- (docs/SCHEDULING.md)
 abbrev pub cause_of : Option Cause → Bool → Cause
 cause_of (Some cause) beyond = cause
 cause_of None true = Limit

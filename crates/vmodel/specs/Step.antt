@@ -54,8 +54,8 @@ abbrev pub becomes_inactive : Option ℕ → Queue → Queue
 becomes_inactive None q = q
 becomes_inactive (Some p) q = record q { inactive = with_process p q.inactive }
 
--- 11.4: it sleeps, inactive after a delay of 0 and else in the future; where nothing is left it has ended, and its
--- delay still stands as a future time
+-- 11.3, 9.7.1: it sleeps, inactive after a delay of 0 and else in the future; where nothing is left it has ended, and
+-- its delay still stands as a future time
 abbrev pub sleeps : ℕ → Option ℕ → Queue → Queue
 sleeps zero sleeper q = becomes_inactive sleeper q
 sleeps (suc d) sleeper q = wake_after (suc d) sleeper q
@@ -88,7 +88,7 @@ items_of_did (Slept d) = []
 items_of_did (Commanded c) = dump c ∷ []
 items_of_did (Ended cause) = []
 
--- ---- the region moves (11.3, 11.4)
+-- ---- the region moves (11.4)
 
 -- while something is active it stays; else what is inactive becomes active; else what is posted is activated
 abbrev pub regions : List ℕ → List Update → List ℕ → List Update → Queue → Queue
@@ -135,7 +135,7 @@ acted p did left s = record {
   cause = cause_after did;
 }
 
--- a process takes one step; one with nothing left is never active
+-- a process takes one step; one with nothing left is never active (specs/Kept.antt), so that its case is never reached
 abbrev pub process_turn : ℕ → Actions → State → Turn
 process_turn p done s = closed s []
 process_turn p (then action rest) s =

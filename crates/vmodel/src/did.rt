@@ -19,7 +19,9 @@ pub enum Did {
     Posted(Update),
     /// The process sleeps so long, in units of the precision.
     Slept(u64),
+    /// The dump is commanded (18.1).
     Commanded(DumpCommand),
+    /// The run has ended (17.4.1).
     Ended(Cause),
 }
 

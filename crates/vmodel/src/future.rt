@@ -6,8 +6,9 @@ ghost use Rattle.vmodel.specs.Queue.{waking, empty_slot, wake_at as wake_at_time
 ghost use Rattle.vmodel.specs.QueueViews.{future_view, future_views, place_of_time, SomeIs, NoneIs};
 
 use crate::process_set::ProcessSet;
-use crate::queue::Future;
+use crate::queue::{Future, copy_updates};
 use std::alloc::{AllocError, Global};
+use std::collections::VecDeque;
 
 // How many future times are below this one.
 fn place_among(future: &[Future], time: u64) -> usize
@@ -47,7 +48,7 @@ fn new_future(alloc: Global, time: u64, sleeper: Option<u32>) -> Result<Future, 
     Ok(Future {
         time,
         processes,
-        updates: Vec::new(alloc),
+        updates: VecDeque::new(alloc),
     })
 }
 
@@ -88,7 +89,7 @@ fn copy_entry(alloc: Global, entry: &Future) -> Result<Future, AllocError>
     Ok(Future {
         time: entry.time,
         processes: entry.processes.copy(alloc)?,
-        updates: Vec::from_slice(alloc, &entry.updates)?,
+        updates: copy_updates(alloc, &entry.updates)?,
     })
 }
 

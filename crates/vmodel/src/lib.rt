@@ -1,6 +1,6 @@
 // Runs of a design, step by step, as IEEE 1364-2005 defines them. In go a design, a time limit and a grain; out
 // come states, how many choices each has, and for a choice the next state with what it gives to the history.
-// The law: `slow_step` is `Step` of specs/Step.antt, to the letter.
+// The law: `slow_step` is `Step` of specs/Step.antt, to the letter. What all runs keep is said by `run_law`.
 #![tactic(auto)]
 
 pub mod choice;
@@ -8,11 +8,13 @@ mod choices;
 pub mod did;
 mod future;
 pub mod history;
+mod law;
 mod open;
 pub mod process_set;
 pub mod queue;
 mod regions;
 mod remainder;
+mod remainders;
 pub mod run;
 pub mod sink;
 pub mod state;
@@ -21,5 +23,6 @@ mod step;
 mod tests;
 mod value;
 
+pub use law::run_law;
 pub use open::opening;
 pub use step::{slow_step, slow_width};

@@ -12,6 +12,7 @@ use crate::queue::Queue;
 use crate::remainder::Remainder;
 use crate::state::SlowState;
 use std::alloc::{AllocError, Global};
+use std::collections::VecDeque;
 use vast::design::{Design, Process, Variable};
 use vbits::Vec4;
 
@@ -57,7 +58,7 @@ fn busy(alloc: Global, processes: &[Process]) -> Result<ProcessSet, AllocError>
 
 /// The state that a run of the design opens with (docs/SCHEDULING.md): time 0, every variable x, all processes active
 /// that have something to do. `until` is the time limit, in units of the precision. Nothing of the design is copied
-/// but the number and the widths of its variables.
+/// but the number and the widths of its variables. E901 is the only refusal.
 pub fn opening<'d>(
     alloc: Global,
     design: &'d Design,
@@ -76,8 +77,8 @@ pub fn opening<'d>(
             last: None,
             active: busy(alloc, &design.processes)?,
             inactive: ProcessSet::new(alloc),
-            activated: Vec::new(alloc),
-            posted: Vec::new(alloc),
+            activated: VecDeque::new(alloc),
+            posted: VecDeque::new(alloc),
             future: Vec::new(alloc),
             beyond: false,
         },

@@ -8,10 +8,7 @@ ghost use Rattle.vmodel.specs.Queue.{with_process, without_process};
 use std::alloc::{AllocError, Global};
 use std::marker::Model;
 
-/// How many processes a design may have (docs/LANGUAGE.md, "Limits").
-pub const PROCESSES: u32 = 256;
-
-/// A set of processes: their numbers, rising.
+/// A set of processes: their numbers, rising and below 256 (docs/LANGUAGE.md, "Limits").
 #[derive(Drop)]
 pub struct ProcessSet {
     members: Vec<u32>,
@@ -87,7 +84,7 @@ impl ProcessSet {
         }
     }
 
-    /// The set with one process more.
+    /// The set with one process more. Where memory is refused (E901) nothing changes.
     pub fn insert(&mut self, process: u32) -> Result<(), AllocError>
         requires { process < 256 }
         ensures ok { OnOk result (self.new ≡ with_process process self.old) }
@@ -111,7 +108,7 @@ impl ProcessSet {
         }
     }
 
-    /// A set of the same processes.
+    /// A set of the same processes. E901 is the only refusal.
     pub fn copy(&self, alloc: Global) -> Result<ProcessSet, AllocError>
         ensures { IfOk result (λ set. set ≡ self.now) }
     {

@@ -8,7 +8,7 @@ ghost use Rattle.vmodel.specs.Step.{leaves, goes_on, sleeps, moved, settled, wit
 
 use crate::did::Did;
 use crate::future::{copy_future, wake_at};
-use crate::queue::{Future, Queue, Update};
+use crate::queue::{Future, Queue, Update, copy_updates};
 use std::alloc::{AllocError, Global};
 use std::mem;
 
@@ -72,7 +72,7 @@ impl Queue {
         match did {
             Did::Wrote(..) => self.go_on(process, left),
             Did::Posted(update) => {
-                self.posted.push(*update)?;
+                self.posted.push_back(*update)?;
                 self.go_on(process, left);
             }
             Did::Slept(delay) => {
@@ -105,11 +105,13 @@ impl Queue {
         ensures taken { result ≡ slice_get self.old.activated.items 0 }
         ensures left { queue_view self.new ≡ without_update self.old.activated.items (queue_view self.old) }
     {
-        if self.activated.is_empty() {
-            return None;
+        match self.activated.pop_front() {
+            None => None,
+            Some(update) => {
+                self.last = None;
+                Some(update)
+            }
         }
-        self.last = None;
-        Some(self.activated.remove(0))
     }
 
     /// The time goes on to the next future time, if there is one.
@@ -141,8 +143,8 @@ impl Queue {
             last: self.last,
             active: self.active.copy(alloc)?,
             inactive: self.inactive.copy(alloc)?,
-            activated: Vec::from_slice(alloc, &self.activated)?,
-            posted: Vec::from_slice(alloc, &self.posted)?,
+            activated: copy_updates(alloc, &self.activated)?,
+            posted: copy_updates(alloc, &self.posted)?,
             future: copy_future(alloc, &self.future)?,
             beyond: self.beyond,
         })

@@ -18,11 +18,12 @@ use sched_core::{Log, ReplayFault, next_choice};
 use std::alloc::{AllocError, Global};
 use vast::design::Design;
 
-/// Why a run wasn't handed on to its end: there is no such run (E402, E403), want of memory (E901), or a fault of the
-/// sink.
+/// Why a run wasn't handed on to its end.
 #[derive(Drop)]
 pub enum RunFault<F> {
+    /// There is no such run (E402, E403), or memory was refused (E901).
     Replay(ReplayFault),
+    /// The sink failed.
     Sink(F),
 }
 
@@ -72,7 +73,8 @@ impl<'d> Run<'d> {
 
     /// Runs the design under the log to its end, by at most `steps` steps, and hands all that it gives to its history on
     /// to the sink, in order. The step limit is tested before the log: where the run goes on after `steps` steps the
-    /// fault is E403, whatever the log names there; else a named step that isn't reached or hasn't the choice is E402.
+    /// fault is E403, whatever the log names there; else a named step that isn't reached or hasn't the choice is E402. E901
+    /// where memory was refused; else a fault is the sink's.
     pub fn hand_on<S: Sink>(
         &self,
         alloc: Global,

@@ -12,7 +12,7 @@ use crate::choices;
 use crate::did::{Did, did_of};
 use crate::history::{Cause, Item};
 use crate::queue::Queue;
-use crate::remainder::{copy_all, going_at, step_at};
+use crate::remainders::{copy_all, going_at, step_at};
 use crate::state::SlowState;
 use std::alloc::{AllocError, Global};
 use vbits::Vec4;

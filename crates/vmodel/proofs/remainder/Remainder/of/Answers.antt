@@ -2,7 +2,7 @@ use Rattle.std.proofs.Common.{ap, ◌∙◌}
 use Rattle.vast.specs.Design.{Actions, join}
 use Rattle.vast.specs.DesignViews.{actions}
 use Rattle.vmodel.specs.Remainders.{stacked}
-use Rattle.vmodel.proofs.RemainderLemmas.{join_done}
+use Rattle.vast.proofs.ActionLemmas.{join_done}
 use Rattle.vmodel.proofs.remainder.Remainder.of.Goals as goal
 
 pub returns : goal.returns

@@ -1,6 +1,6 @@
 use Rattle.std.proofs.Common.{arith}
 use Rattle.vmodel.proofs.RemainderLemmas.{stepped_at}
-use Rattle.vmodel.proofs.remainder.step_at.Goals as goal
+use Rattle.vmodel.proofs.remainders.step_at.Goals as goal
 
 pub returns : goal.returns
 returns c =

@@ -2,8 +2,8 @@ use Rattle.std.proofs.Common.{sym, ap, ◌∙◌}
 use Rattle.vast.specs.Design.{Action, Actions, join}
 use Rattle.vast.specs.DesignViews.{action, actions}
 use Rattle.vmodel.specs.Step.{rest_of}
-use Rattle.vmodel.proofs.RemainderLemmas.{action_of_delay}
-use Rattle.vmodel.proofs.remainder.body_of.Goals as goal
+use Rattle.vast.proofs.ActionLemmas.{action_of_delay}
+use Rattle.vmodel.proofs.remainders.body_of.Goals as goal
 
 pub returns-in-Delay : goal.returns-in-Delay
 returns-in-Delay c = λ rest.

@@ -1,6 +1,6 @@
 use Rattle.std.proofs.Common.{◌≡◌, ◌++◌, drop, map}
 use Rattle.vmodel.specs.Remainders.{remainder_view}
-use Rattle.vmodel.proofs.remainder.copy_all.Given as goal
+use Rattle.vmodel.proofs.remainders.copy_all.Given as goal
 
 abbrev pub invariant-loop-remainder : goal.invariant-loop-remainder
 invariant-loop-remainder l =

@@ -1,0 +1,68 @@
+-- What every state of a run keeps, under every log (IEEE 1364-2005, 11.3, 11.4; docs/SCHEDULING.md).
+use Rattle.std.specs.Prelude.{◌≡◌, ℕ, suc, ◌+◌, ◌≤◌, ◌==◌, cond, List, [], ◌∷◌, length, None}
+use Rattle.std.specs.Option.{ForSome}
+use Rattle.vast.specs.Design.{Actions, done, then}
+use Rattle.vmodel.specs.Queue.{Slot, Queue}
+use Rattle.vmodel.specs.State.{State}
+use Rattle.vmodel.specs.Step.{remainder_at}
+use Rattle.vmodel.specs.History.{HistoryItem, slot_end, dump}
+
+-- the numbers rise, from low on
+abbrev pub RisesFrom : ℕ → List ℕ → Type 0
+RisesFrom low [] = Unit {0}
+RisesFrom low (n ∷ ns) = (low ≤ n) × RisesFrom (suc n) ns
+
+-- the times rise, from low on and up to the limit; the processes of each stand in the order of their numbers
+abbrev pub FutureFrom : ℕ → ℕ → List (ℕ × Slot) → Type 0
+FutureFrom low until [] = Unit {0}
+FutureFrom low until (e ∷ es) = (low ≤ e.0) × (e.0 ≤ until) × RisesFrom 0 e.1.processes × FutureFrom (suc e.0) until es
+
+-- 11.3: the future lies after the current time, and no process stands twice in a region
+pub record IsInOrder (q : Queue) : Type 0 where
+  pub active : RisesFrom 0 q.active
+  pub inactive : RisesFrom 0 q.inactive
+  pub future : FutureFrom (suc q.time) q.until q.future
+
+-- how often a number stands in a list
+abbrev pub count_in : ℕ → List ℕ → ℕ
+count_in p [] = 0
+count_in p (q ∷ qs) = cond (p == q) (suc (count_in p qs)) (count_in p qs)
+
+abbrev pub asleep : ℕ → List (ℕ × Slot) → ℕ
+asleep p [] = 0
+asleep p (e ∷ es) = count_in p e.1.processes + asleep p es
+
+-- in how many places a process stands: active, inactive or asleep
+abbrev pub places : ℕ → Queue → ℕ
+places p q = count_in p q.active + count_in p q.inactive + asleep p q.future
+
+-- in how many places at most, by what it has left
+abbrev pub most_places : Actions → ℕ
+most_places done = 0
+most_places (then action rest) = 1
+
+-- 9.9.1: a process with something left stands in one place at most, one with nothing left in none; the process that made
+-- the last step is active
+pub record IsInPlace (q : Queue) (remainders : List Actions) : Type 0 where
+  pub once : (p : ℕ) → places p q ≤ most_places (remainder_at remainders p)
+  pub last : ForSome q.last (λ p. 1 ≤ count_in p q.active)
+
+abbrev pub IsIdle : Queue → Type 0
+IsIdle q = (q.active ≡ []) × (q.activated ≡ [])
+
+pub record IsKept (s : State) : Type 0 where
+  pub order : IsInOrder s.queue
+  pub place : IsInPlace s.queue s.remainders
+  -- 11.4: while the run goes on the region moves were made: where nothing is active, nothing else stands at this time
+  pub moves : s.cause ≡ None → IsIdle s.queue → (s.queue.inactive ≡ []) × (s.queue.posted ≡ [])
+
+-- the times of the slot ends
+abbrev pub slot_times : List HistoryItem → List ℕ
+slot_times [] = []
+slot_times (slot_end time values ∷ items) = time ∷ slot_times items
+slot_times (dump command ∷ items) = slot_times items
+
+-- 4.2.2: each variable stores a value at all times, so that a slot end has so many values; a dump command has none
+abbrev pub HasValues : ℕ → HistoryItem → Type 0
+HasValues count (slot_end time values) = length values ≡ count
+HasValues count (dump command) = Unit {0}
