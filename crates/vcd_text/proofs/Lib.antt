@@ -1,4 +1,8 @@
+pub mod CodeLemmas
+pub mod DumpLemmas
 pub mod HeaderLemmas
 pub mod ItemLemmas
 pub mod PutLemmas
+pub mod ReaderLemmas
 pub mod ValueLemmas
+pub mod ShortLemmas

@@ -1,5 +1,5 @@
 -- Codes and digits.
-use Rattle.std.proofs.Common.{◌≡◌, ◌<◌, ◌≤◌, ◌+◌, ◌-◌, ℕ, zero, suc, Bool, true, false, cond, ◌&&◌, ◌==◌, nat_lt, List, [], ◌∷◌, ◌++◌, length, take, drop, set, get_or, map, reverse, Some, None, drop-cons, append_assoc, refl, sym, ap, ◌∙◌, add-one, arith}
+use Rattle.std.proofs.Common.{◌≡◌, ◌<◌, ◌≤◌, ◌+◌, ◌-◌, ℕ, zero, suc, Bool, true, false, cond, ◌&&◌, ◌==◌, List, [], ◌∷◌, ◌++◌, length, take, drop, set, get_or, map, reverse, Some, None, drop-cons, append_assoc, refl, sym, ap, ◌∙◌, add-one, arith}
 use Rattle.std.proofs.lemmas.Bool.Decides.{nat_tests}
 use Rattle.std.specs.Prelude.{slice_get}
 use Rattle.std.proofs.lemmas.List.{reverse-append, take_more}
@@ -9,14 +9,12 @@ use Rattle.vbits.specs.declared.bit4.Bit4.TheVariants.{Zero, One}
 use Rattle.vbits.specs.Vectors.{Vector, case_eq, single, same_letters}
 use Rattle.vbits.specs.Numbers.{number}
 use Rattle.vcd_text.specs.DumpText.{digit, following, shortened, is_kept}
+use Rattle.vcd_text.proofs.CodeLemmas.{following_less}
 
 set_parts : (xs : List ℕ) (i v : ℕ) → i < length xs → set xs i v ≡ take i xs ++ v ∷ drop (suc i) xs
 set_parts [] i v lt = absurd (omega arith)
 set_parts (x ∷ xs) zero v lt = refl
 set_parts (x ∷ xs) (suc i) v lt = ap (λ rest. x ∷ rest) (set_parts xs i v (omega arith))
-
-following_less : (c : ℕ) (cs : List ℕ) → c < 126 → following (c ∷ cs) ≡ suc c ∷ cs
-following_less c cs lt = let test : nat_lt c 126 ≡ true = grind (arith, nat_tests) in rw test
 
 -- a digit below the last one goes one on, and the code is complete
 pub followed : (xs ys : List ℕ) (i c : ℕ) → take i xs ++ following (drop i ys) ≡ following ys → drop i xs ≡ drop i ys → i < length xs →

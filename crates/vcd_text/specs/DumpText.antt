@@ -1,6 +1,6 @@
 -- `DumpText` (IEEE 1364-2005, clause 18; docs/FORMATS.md): the value change dump of a design and a history.
-use Rattle.std.specs.Prelude.{ℕ, zero, suc, ◌+◌, ◌-◌, ◌==◌, nat_lt, ◌&&◌, length, Bool, cond, List, [], ◌∷◌, ◌++◌, Option, Some, None, map, reverse, take, drop, codes, decimal}
-use Rattle.std.specs.List.{after_last}
+use Rattle.std.specs.Prelude.{ℕ, zero, suc, ◌+◌, ◌-◌, ◌==◌, nat_lt, ◌&&◌, length, Bool, true, false, cond, List, [], ◌∷◌, ◌++◌, Option, Some, None, map, reverse, take, drop, codes, decimal}
+use Rattle.std.specs.List.{after_last, enumerate_from, list_any}
 use Rattle.vbits.specs.declared.bit4.Bit4.{Bit4}
 use Rattle.vbits.specs.declared.bit4.Bit4.TheVariants.{Zero, One, X, Z}
 use Rattle.vbits.specs.Vectors.{Vector, same_letters}
@@ -8,6 +8,8 @@ use Rattle.vast.specs.declared.design.Bounds.{Bounds}
 use Rattle.vast.specs.declared.design.Kind.{Kind}
 use Rattle.vast.specs.declared.design.Kind.TheVariants.{Reg}
 use Rattle.vast.specs.Design.{VariableView, ScopeView, DesignView}
+use Rattle.vmodel.specs.declared.history.DumpCommand.{DumpCommand}
+use Rattle.vmodel.specs.declared.history.DumpCommand.TheVariants.{Vars}
 use Rattle.vmodel.specs.History.{HistoryItem, slot_end, dump, HistoryView}
 
 abbrev pub line : List ℕ → List ℕ
@@ -54,19 +56,21 @@ named_line name v = line (change (map digit (reverse v.letters)) name)
 abbrev pub value_line : ℕ → Vector → List ℕ
 value_line n = named_line (code n)
 
-abbrev pub value_lines : ℕ → List Vector → List ℕ
-value_lines n [] = []
-value_lines n (v ∷ vs) = value_line n v ++ value_lines (suc n) vs
+-- ---- what is told (18.2.1): values with the numbers of their variables
+
+abbrev pub value_lines : List (ℕ × Vector) → List ℕ
+value_lines [] = []
+value_lines (entry ∷ told) = value_line entry.0 entry.1 ++ value_lines told
 
 -- the letters are the same
 abbrev pub is_kept : Vector → Vector → Bool
 is_kept u v = length u.letters == length v.letters && same_letters u.letters v.letters
 
--- the same of those alone that differ from an earlier list
-abbrev pub changed_lines : ℕ → List Vector → List Vector → List ℕ
-changed_lines n us [] = []
-changed_lines n [] (v ∷ vs) = []
-changed_lines n (u ∷ us) (v ∷ vs) = cond (is_kept u v) [] (value_line n v) ++ changed_lines (suc n) us vs
+-- those values from number n on that differ from earlier ones
+abbrev pub changes : ℕ → List Vector → List Vector → List (ℕ × Vector)
+changes n us [] = []
+changes n [] (v ∷ vs) = []
+changes n (u ∷ us) (v ∷ vs) = cond (is_kept u v) (changes (suc n) us vs) ((n, v) ∷ changes (suc n) us vs)
 
 abbrev pub time_line : ℕ → List ℕ
 time_line t = line (35 ∷ decimal t)
@@ -117,61 +121,84 @@ header design =
     ++ scope_lines 0 0 design.scopes design.variables
     ++ line (codes "$enddefinitions $end")
 
+-- ---- slots
+
+-- a slot that ended: the dump commands given in it, its time, and the values at its end
+pub record Slot : Type 0 where
+  pub commands : List DumpCommand
+  pub time : ℕ
+  pub values : List Vector
+
+-- the slots of a history, the first of which was given these commands before; one that $finish cuts short has no end
+abbrev pub slots_after : List DumpCommand → List HistoryItem → List Slot
+slots_after commands [] = []
+slots_after commands (dump command ∷ items) = slots_after (commands ++ command ∷ []) items
+slots_after commands (slot_end t values ∷ items) = record { commands = commands; time = t; values = values } ∷ slots_after [] items
+
+-- $dumpvars is one (18.1.2)
+abbrev pub is_start : DumpCommand → Bool
+is_start Vars = true
+
+-- the slots from the first one with a $dumpvars on: at its end the dump starts (18.1.2)
+abbrev pub dumped : List Slot → List Slot
+dumped [] = []
+dumped (slot ∷ slots) = cond (list_any is_start slot.commands) (slot ∷ slots) (dumped slots)
+
 -- ---- the body (18.2.1)
 
--- how far a dump has come
-pub data Progress : Type 0 where
-  idle : Progress  -- no $dumpvars yet
-  asked : Progress  -- one in the slot that runs
-  started : ℕ → List Vector → Progress  -- the last time line, and the values at the last slot end
+-- what is told at a time, and the word of the command that asked for it; no command asks for changes
+pub record Piece : Type 0 where
+  pub time : ℕ
+  pub word : List ℕ
+  pub told : List (ℕ × Vector)
 
--- the text of a slot's end: its changes after the time, where there is one
-abbrev pub timed : ℕ → List ℕ → List ℕ
-timed t [] = []
-timed t (c ∷ cs) = time_line t ++ (c ∷ cs)
+-- at the first slot's end all values (18.1.2)
+abbrev pub start : Slot → Piece
+start slot = record { time = slot.time; word = codes "$dumpvars"; told = enumerate_from 0 slot.values }
 
--- the last time line, once a text has been written at a time
-abbrev pub last_line : ℕ → ℕ → List ℕ → ℕ
-last_line old t [] = old
-last_line old t (c ∷ cs) = t
+-- at the end of each later one the values that differ from those at the end of the slot before
+abbrev pub later_pieces : Slot → List Slot → List Piece
+later_pieces before [] = []
+later_pieces before (slot ∷ slots) = record { time = slot.time; word = []; told = changes 0 before.values slot.values } ∷ later_pieces slot slots
 
-abbrev pub start_text : List ℕ → ℕ → List Vector → List ℕ
-start_text head t values = head ++ time_line t ++ line (codes "$dumpvars") ++ value_lines 0 values ++ line (codes "$end")
+abbrev pub pieces : List Slot → List Piece
+pieces [] = []
+pieces (first ∷ later) = start first ∷ later_pieces first later
 
--- what an item adds to the dump, below this header
-abbrev pub item_text : List ℕ → Progress → HistoryItem → List ℕ
-item_text head idle item = []
-item_text head asked (dump command) = []
-item_text head asked (slot_end t values) = start_text head t values
-item_text head (started last old) (dump command) = []
-item_text head (started last old) (slot_end t values) = timed t (changed_lines 0 old values)
+-- between the command's word and $end (18.2.3)
+abbrev pub framed : List ℕ → List ℕ → List ℕ
+framed [] text = text
+framed (c ∷ cs) text = line (c ∷ cs) ++ text ++ line (codes "$end")
 
-abbrev pub progress_after : Progress → HistoryItem → Progress
-progress_after idle (dump command) = asked
-progress_after idle (slot_end t values) = idle
-progress_after asked (dump command) = asked
-progress_after asked (slot_end t values) = started t values
-progress_after (started last old) (dump command) = started last old
-progress_after (started last old) (slot_end t values) = started (last_line last t (changed_lines 0 old values)) values
+abbrev pub piece_text : Piece → List ℕ
+piece_text piece = framed piece.word (value_lines piece.told)
 
--- what items add, one after another
-abbrev pub items_text : List ℕ → Progress → List HistoryItem → List ℕ
-items_text head p [] = []
-items_text head p (item ∷ items) = item_text head p item ++ items_text head (progress_after p item) items
+abbrev pub is_nothing : List ℕ → Bool
+is_nothing [] = true
+is_nothing (c ∷ cs) = false
 
-abbrev pub progress_over : Progress → List HistoryItem → Progress
-progress_over p [] = p
-progress_over p (item ∷ items) = progress_over (progress_after p item) items
+-- the pieces that say something
+abbrev pub spoken : List Piece → List Piece
+spoken [] = []
+spoken (p ∷ ps) = cond (is_nothing (piece_text p)) (spoken ps) (p ∷ spoken ps)
 
--- the time of the end, unless the last time line is that
-abbrev pub end_text : Progress → ℕ → List ℕ
-end_text idle t = []
-end_text asked t = []
-end_text (started last old) t = cond (last == t) [] (time_line t)
+-- each behind its time, and last the time of the run's end, unless the last one stands there (docs/FORMATS.md)
+abbrev pub body : List Piece → ℕ → List ℕ
+body [] end = []
+body (p ∷ []) end = time_line p.time ++ piece_text p ++ cond (p.time == end) [] (time_line end)
+body (p ∷ q ∷ ps) end = time_line p.time ++ piece_text p ++ body (q ∷ ps) end
 
--- the dump of a history below a header; without a start no byte
+-- ---- the whole
+
+-- without a start no byte
+abbrev pub below : List ℕ → List Piece → ℕ → List ℕ
+below head [] end = []
+below head (p ∷ ps) end = head ++ body (p ∷ ps) end
+
+-- the dump of a history below a header
 abbrev pub dump_below : List ℕ → HistoryView → List ℕ
-dump_below head history = items_text head idle history.items ++ end_text (progress_over idle history.items) history.end.time
+dump_below head history = below head (spoken (pieces (dumped (slots_after [] history.items)))) history.end.time
 
+-- the dump of a design and a history (18.2)
 abbrev pub vcd : DesignView → HistoryView → List ℕ
 vcd design history = dump_below (header design) history

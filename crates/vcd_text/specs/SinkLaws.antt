@@ -1,13 +1,11 @@
 -- The laws of a sink that writes the dump.
 use Rattle.std.proofs.Common.{◌≡◌, ℕ, List, [], ◌∷◌, ◌++◌, Option, refl, sym, ap, ◌∙◌, append_assoc}
-use Rattle.vmodel.specs.History.{HistoryItem, HistoryView}
-use Rattle.vcd_text.specs.DumpText.{Progress, idle, item_text, items_text, progress_after, progress_over, end_text, dump_below}
+use Rattle.vmodel.specs.History.{HistoryItem}
 use Rattle.vcd_text.specs.declared.fault.WriteFault.{WriteFault}
 use Rattle.vcd_text.specs.declared.sink.DumpSink.{DumpSink}
-use Rattle.vcd_text.specs.declared.metered.Metered.{Metered}
 use Rattle.vcd_text.specs.Metered.{Grows, Stops}
 use Rattle.vcd_text.specs.MeteredLaws.{grows_none, grows_joins, stops_after, stops_before}
-use Rattle.vcd_text.specs.Sinks.{progress_view, text_of, Takes, Fails}
+use Rattle.vcd_text.specs.Sinks.{Progress, item_text, items_text, progress_after, progress_over, progress_view, text_of, Takes, Fails}
 
 text_joins : (head : List ℕ) (p : Progress) (xs ys : List HistoryItem) →
     items_text head p (xs ++ ys) ≡ items_text head p xs ++ items_text head (progress_over p xs) ys
@@ -56,32 +54,3 @@ fails_before contents s u xs ys fault p =
     (stops_before contents s.writer.now u.writer.now (text_of s xs)
     (items_text s.header.now (progress_over (progress_view s.progress) xs) ys) fault p.1) in
     (p.0, stopped)
-
--- from a start with nothing come, what a history adds up to its end is its whole dump
-dumped : {W : Type 0} (contents : W → Option (List ℕ)) (s t : DumpSink W) (history : HistoryView) → progress_view s.progress ≡ idle →
-    Takes contents s history.items t →
-    dump_below s.header.now history ≡ text_of s history.items ++ end_text (progress_view t.progress) history.end.time
-dumped contents s t history fresh p =
-    ap (λ (from : Progress). items_text s.header.now from history.items ++ end_text (progress_over from history.items) history.end.time) (sym fresh)
-    ∙ ap (λ (after : Progress). text_of s history.items ++ end_text after history.end.time) (sym p.1)
-
-pub completes : {W : Type 0} (contents : W → Option (List ℕ)) (s t : DumpSink W) (history : HistoryView) (m : Metered W) → progress_view s.progress ≡ idle →
-    Takes contents s history.items t → Grows contents t.writer.now m (end_text (progress_view t.progress) history.end.time) →
-    Grows contents s.writer.now m (dump_below s.header.now history)
-completes contents s t history m fresh p q =
-    rw (dumped contents s t history fresh p)
-    (grows_joins contents s.writer.now t.writer.now m (text_of s history.items) (end_text (progress_view t.progress) history.end.time) p.2 q)
-
-pub stops_completing : {W : Type 0} (contents : W → Option (List ℕ)) (s t : DumpSink W) (history : HistoryView) (m : Metered W) (fault : WriteFault) →
-    progress_view s.progress ≡ idle → Takes contents s history.items t →
-    Stops contents t.writer.now m (end_text (progress_view t.progress) history.end.time) fault → Stops contents s.writer.now m (dump_below s.header.now history) fault
-stops_completing contents s t history m fault fresh p q =
-    rw (dumped contents s t history fresh p)
-    (stops_after contents s.writer.now t.writer.now m (text_of s history.items) (end_text (progress_view t.progress) history.end.time) fault p.2 q)
-
-pub stops_taking : {W : Type 0} (contents : W → Option (List ℕ)) (s t : DumpSink W) (history : HistoryView) (fault : WriteFault) →
-    progress_view s.progress ≡ idle → Fails contents s history.items fault t → Stops contents s.writer.now t.writer.now (dump_below s.header.now history) fault
-stops_taking contents s t history fault fresh p =
-    rw (ap (λ (from : Progress). items_text s.header.now from history.items ++ end_text (progress_over from history.items) history.end.time) (sym fresh))
-    (stops_before contents s.writer.now t.writer.now (text_of s history.items)
-    (end_text (progress_over (progress_view s.progress) history.items) history.end.time) fault p.1)

@@ -1,14 +1,80 @@
--- What taking items makes of a sink that writes the dump.
-use Rattle.std.specs.Prelude.{◌≡◌, ℕ, List, Option}
-use Rattle.vmodel.specs.History.{HistoryItem, HistoryView}
+-- A sink that writes the dump: what it keeps from item to item, and what taking them makes of it.
+use Rattle.std.specs.Prelude.{◌≡◌, ℕ, ◌==◌, cond, List, [], ◌∷◌, ◌++◌, Option, codes}
+use Rattle.std.specs.List.{enumerate_from}
+use Rattle.vbits.specs.Vectors.{Vector}
+use Rattle.vmodel.specs.History.{HistoryItem, slot_end, dump, HistoryView}
 use Rattle.vmodel.specs.StateViews.{item_views}
 use Rattle.vmodel.specs.declared.history.History.{History}
-use Rattle.vcd_text.specs.DumpText.{Progress, idle, asked, started, items_text, progress_over}
+use Rattle.vcd_text.specs.DumpText.{changes, framed, time_line, value_lines}
 use Rattle.vcd_text.specs.Metered.{Grows, Stops}
 use Rattle.vcd_text.specs.declared.fault.WriteFault.{WriteFault}
 use Rattle.vcd_text.specs.declared.progress.Progress as declared
 use Rattle.vcd_text.specs.declared.progress.Progress.TheVariants.{Idle, Asked, Started}
 use Rattle.vcd_text.specs.declared.sink.DumpSink.{DumpSink}
+
+-- ---- from item to item
+
+-- how far a dump has come
+pub data Progress : Type 0 where
+  idle : Progress  -- no $dumpvars yet
+  asked : Progress  -- one in the slot that runs
+  started : ℕ → List Vector → Progress  -- the last time line, and the values at the last slot end
+
+-- a text behind its time, where there is one
+abbrev pub timed : ℕ → List ℕ → List ℕ
+timed t [] = []
+timed t (c ∷ cs) = time_line t ++ (c ∷ cs)
+
+-- the last time line after it
+abbrev pub last_line : ℕ → ℕ → List ℕ → ℕ
+last_line old t [] = old
+last_line old t (c ∷ cs) = t
+
+abbrev pub start_text : List ℕ → ℕ → List Vector → List ℕ
+start_text head t values = head ++ time_line t ++ framed (codes "$dumpvars") (value_lines (enumerate_from 0 values))
+
+-- the lines of a later slot's end
+abbrev pub changed_lines : List Vector → List Vector → List ℕ
+changed_lines old new = value_lines (changes 0 old new)
+
+-- what an item adds to the dump, below this header
+abbrev pub item_text : List ℕ → Progress → HistoryItem → List ℕ
+item_text head idle item = []
+item_text head asked (dump command) = []
+item_text head asked (slot_end t values) = start_text head t values
+item_text head (started last old) (dump command) = []
+item_text head (started last old) (slot_end t values) = timed t (changed_lines old values)
+
+abbrev pub progress_after : Progress → HistoryItem → Progress
+progress_after idle (dump command) = asked
+progress_after idle (slot_end t values) = idle
+progress_after asked (dump command) = asked
+progress_after asked (slot_end t values) = started t values
+progress_after (started last old) (dump command) = started last old
+progress_after (started last old) (slot_end t values) = started (last_line last t (changed_lines old values)) values
+
+-- what items add, one after another
+abbrev pub items_text : List ℕ → Progress → List HistoryItem → List ℕ
+items_text head p [] = []
+items_text head p (item ∷ items) = item_text head p item ++ items_text head (progress_after p item) items
+
+abbrev pub progress_over : Progress → List HistoryItem → Progress
+progress_over p [] = p
+progress_over p (item ∷ items) = progress_over (progress_after p item) items
+
+-- what the end adds
+abbrev pub end_text : Progress → ℕ → List ℕ
+end_text idle t = []
+end_text asked t = []
+end_text (started last old) t = cond (last == t) [] (time_line t)
+
+-- after it the last time line is that of the end, and the same end adds nothing more
+abbrev pub progress_at_end : Progress → ℕ → Progress
+progress_at_end idle t = idle
+progress_at_end asked t = asked
+progress_at_end (started last old) t = started t old
+
+-- ---- what the program keeps
 
 abbrev pub history_view : History → HistoryView
 history_view history = record {

@@ -5,6 +5,7 @@
 
 mod fault;
 mod header;
+mod law;
 mod metered;
 mod progress;
 mod put;
@@ -16,7 +17,7 @@ mod write;
 
 pub use fault::WriteFault;
 pub use header::Header;
+pub use law::dumps_are_readable;
 pub use metered::Metered;
 pub use sink::DumpSink;
-pub use values::{put_changes, put_values};
 pub use write::write_vcd;

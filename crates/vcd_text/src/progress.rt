@@ -1,10 +1,10 @@
 // How far a dump has come, and what a slot end adds to it (18.2.1).
 
-ghost use Rattle.std.specs.Prelude.{◌≡◌, ◌++◌, List, ℕ, IfOk};
+ghost use Rattle.std.specs.Prelude.{◌≡◌, ◌++◌, List, ℕ, IfOk, OnOk};
 ghost use Rattle.vmodel.specs.History.{dump};
 ghost use Rattle.vmodel.specs.declared.history.DumpCommand.{DumpCommand};
-ghost use Rattle.vcd_text.specs.DumpText.{changed_lines, last_line, line, progress_after, start_text, time_line, timed, value_lines};
-ghost use Rattle.vcd_text.specs.Sinks.{progress_view};
+ghost use Rattle.vcd_text.specs.DumpText.{time_line};
+ghost use Rattle.vcd_text.specs.Sinks.{changed_lines, last_line, progress_after, progress_view, start_text, timed};
 
 use crate::values::{put_changes, put_values};
 use itoa::Buffer;
@@ -64,7 +64,7 @@ pub(crate) fn later_text(
     old: &[Vec4],
     new: &[Vec4],
 ) -> Result<Vec<u8>, AllocError>
-    ensures { IfOk result (λ text. text.items ≡ timed time (changed_lines 0 old.now new.now)) }
+    ensures { IfOk result (λ text. text.items ≡ timed time (changed_lines old.now new.now)) }
 {
     let mut text = line_of(alloc, time)?;
     let start = text.len();
@@ -73,6 +73,14 @@ pub(crate) fn later_text(
         text.clear();
     }
     Ok(text)
+}
+
+// The values at a slot end in place of those at the one before. It takes memory only where they are more.
+pub(crate) fn keep(kept: &mut Vec<Vec4>, values: &[Vec4]) -> Result<(), AllocError>
+    ensures { OnOk result (kept.new.items ≡ values.now) }
+{
+    kept.clear();
+    kept.extend_from_slice(values)
 }
 
 // The last time line, once this text has been written at a time.

@@ -1,16 +1,17 @@
 // The dump of a run, written slot by slot as the run goes.
 
-ghost use Rattle.std.specs.Prelude.{◌≡◌, [], ◌∷◌, OnOk, IfOk, IfErr, cond, ◌==◌};
+ghost use Rattle.std.specs.Prelude.{◌≡◌, [], ◌∷◌, OnOk, OnErr, IfErr, cond, ◌==◌};
 ghost use Rattle.vmodel.specs.History.{slot_end, dump};
 ghost use Rattle.vmodel.specs.StateViews.{item_view};
 ghost use Rattle.vmodel.specs.declared.history.DumpCommand.{DumpCommand};
-ghost use Rattle.vcd_text.specs.DumpText.{idle, asked, changed_lines, end_text, last_line, start_text, time_line, timed};
+ghost use Rattle.vcd_text.specs.DumpText.{time_line};
+ghost use Rattle.vcd_text.specs.Sinks.{idle, asked, changed_lines, end_text, last_line, start_text, timed};
 ghost use Rattle.vcd_text.specs.Metered.{Grows, Stops};
 
 use crate::fault::WriteFault;
 use crate::header::Header;
 use crate::metered::Metered;
-use crate::progress::{Progress, ask, first_text, later_text, line_after, line_of};
+use crate::progress::{Progress, ask, first_text, keep, later_text, line_after, line_of};
 use crate::put::put;
 use std::alloc::Global;
 use std::io::Write;
@@ -49,24 +50,31 @@ fn put_start<W: Write>(
     }
 }
 
-// The changes of a later slot. The answer is the last time line.
+// The changes of a later slot. What is kept moves on to its values, and to its time where it has a line.
 fn put_slot<W: Write>(
     alloc: Global,
     writer: &mut Metered<W>,
-    last: u64,
-    old: &[Vec4],
+    last: &mut u64,
+    kept: &mut Vec<Vec4>,
     time: u64,
-    new: &[Vec4],
-) -> Result<u64, WriteFault>
-    ensures last { IfOk result (λ line. line ≡ last_line last time (changed_lines 0 old.now new.now)) }
-    ensures ok { OnOk result (Grows W.contents writer.old writer.new (timed time (changed_lines 0 old.now new.now))) }
-    ensures err { IfErr result (Stops W.contents writer.old writer.new (timed time (changed_lines 0 old.now new.now))) }
+    values: &[Vec4],
+) -> Result<(), WriteFault>
+    ensures last { OnOk result (last.new ≡ last_line last.old time (changed_lines kept.old.items values.now)) }
+    ensures kept { OnOk result (kept.new.items ≡ values.now) }
+    ensures ok { OnOk result (Grows W.contents writer.old writer.new (timed time (changed_lines kept.old.items values.now))) }
+    ensures err { IfErr result (Stops W.contents writer.old writer.new (timed time (changed_lines kept.old.items values.now))) }
 {
-    let Ok(text) = later_text(alloc, time, old, new) else {
+    let Ok(text) = later_text(alloc, time, kept, values) else {
+        return Err(WriteFault::Memory);
+    };
+    let Ok(()) = keep(kept, values) else {
         return Err(WriteFault::Memory);
     };
     match put(writer, &text) {
-        Ok(()) => Ok(line_after(last, time, &text)),
+        Ok(()) => {
+            *last = line_after(*last, time, &text);
+            Ok(())
+        }
         Err(fault) => Err(fault),
     }
 }
@@ -91,7 +99,7 @@ fn put_end<W: Write>(
 }
 
 impl<'a, W: Write> DumpSink<'a, W> {
-    ghost use Rattle.vcd_text.specs.Sinks.{progress_view, IsSameDump, Takes, Fails};
+    ghost use Rattle.vcd_text.specs.Sinks.{progress_at_end, progress_view, IsSameDump, Takes, Fails};
 
     /// A dump of which nothing has come yet.
     pub fn new(alloc: Global, header: &'a Header, writer: &'a mut Metered<W>) -> DumpSink<'a, W>
@@ -140,23 +148,11 @@ impl<'a, W: Write> DumpSink<'a, W> {
         ensures ok { OnOk result (Takes W.contents self.old (slot_end time values.now ∷ []) self.new) }
         ensures err { IfErr result (λ fault. Fails W.contents self.old (slot_end time values.now ∷ []) fault self.new) }
     {
-        match &self.progress {
+        match &mut self.progress {
             Progress::Idle => Ok(()),
             Progress::Asked => self.start(time, values),
-            Progress::Started { last, values: old } => {
-                let Ok(kept) = Vec::from_slice(self.alloc, values) else {
-                    return Err(WriteFault::Memory);
-                };
-                match put_slot(self.alloc, self.writer, *last, old, time, values) {
-                    Ok(line) => {
-                        self.progress = Progress::Started {
-                            last: line,
-                            values: kept,
-                        };
-                        Ok(())
-                    }
-                    Err(fault) => Err(fault),
-                }
+            Progress::Started { last, values: kept } => {
+                put_slot(self.alloc, self.writer, last, kept, time, values)
             }
         }
     }
@@ -182,18 +178,26 @@ impl<'a, W: Write> DumpSink<'a, W> {
         }
     }
 
-    /// Writes what the end of the run adds: its time, unless the last time line is that (E901, E902).
+    /// Writes what the end of the run adds: its time, unless the last time line is that (E901, E902). After `Ok` a second
+    /// call with the same end writes nothing.
     pub fn finish(&mut self, end: &End) -> Result<(), WriteFault>
         ensures same { IsSameDump self.old self.new }
-        ensures progress { progress_view self.new.progress ≡ progress_view self.old.progress }
+        ensures progress { OnOk result (progress_view self.new.progress ≡ progress_at_end (progress_view self.old.progress) end.now.time) }
+        ensures kept { OnErr result (progress_view self.new.progress ≡ progress_view self.old.progress) }
         ensures ok { OnOk result (Grows W.contents self.old.writer.now self.new.writer.now (end_text (progress_view self.old.progress) end.now.time)) }
         ensures err { IfErr result (Stops W.contents self.old.writer.now self.new.writer.now (end_text (progress_view self.old.progress) end.now.time)) }
     {
-        match &self.progress {
+        match &mut self.progress {
             Progress::Idle => Ok(()),
             Progress::Asked => Ok(()),
             Progress::Started { last, values: _ } => {
-                put_end(self.alloc, self.writer, *last, end.time)
+                match put_end(self.alloc, self.writer, *last, end.time) {
+                    Ok(()) => {
+                        *last = end.time;
+                        Ok(())
+                    }
+                    Err(fault) => Err(fault),
+                }
             }
         }
     }

@@ -147,6 +147,8 @@ fn dump_slot_by_slot(rt: HostRuntime) -> Result<(), Fail> {
         assert_eq!(rt; sink.take(std::slice::from_ref(item)), Ok(()));
     }
     assert_eq!(rt; sink.finish(&history.end), Ok(()));
+    // The same end again adds nothing.
+    assert_eq!(rt; sink.finish(&history.end), Ok(()));
     assert_eq!(rt; sink.into_writer().failures(), 0);
     let mut text = Vec::from_slice(alloc, TEXT.as_bytes())?;
     text.extend_from_slice(b"#9\n")?;

@@ -1,7 +1,9 @@
 // The lines that say what variables are worth (18.2.2).
 
 ghost use Rattle.std.specs.Prelude.{◌≡◌, ◌<◌, ◌++◌, OnOk, true, false, length, drop, map, reverse};
-ghost use Rattle.vcd_text.specs.DumpText.{following, digit as digit_code, extension as extension_code, shortened, change, named_line, value_lines, changed_lines, is_kept as is_kept_vector};
+ghost use Rattle.std.specs.List.{enumerate_from};
+ghost use Rattle.vcd_text.specs.DumpText.{following, digit as digit_code, extension as extension_code, shortened, change, named_line, value_lines, is_kept as is_kept_vector};
+ghost use Rattle.vcd_text.specs.Sinks.{changed_lines};
 
 use std::alloc::{AllocError, Global};
 use vbits::{Bit4, Vec4};
@@ -100,10 +102,13 @@ fn put_value(
     Ok(())
 }
 
-/// Writes the lines of all values at the end of the text, in the order of the variables (18.2.2; docs/FORMATS.md,
-/// "Dumps"): a digit and the code, or `b`, digits, a space and the code. E901 is the only refusal.
-pub fn put_values(alloc: Global, text: &mut Vec<u8>, values: &[Vec4]) -> Result<(), AllocError>
-    ensures { OnOk result (text.new.items ≡ text.old.items ++ value_lines 0 values.now) }
+// The lines of all values at the end of the text, in the order of the variables.
+pub(crate) fn put_values(
+    alloc: Global,
+    text: &mut Vec<u8>,
+    values: &[Vec4],
+) -> Result<(), AllocError>
+    ensures { OnOk result (text.new.items ≡ text.old.items ++ value_lines (enumerate_from 0 values.now)) }
 {
     let mut scratch = Vec::new(alloc);
     let mut name = Vec::from_slice(alloc, b"!")?;
@@ -127,15 +132,14 @@ fn is_kept(old: Vec4, new: Vec4) -> bool
     }
 }
 
-/// Writes the lines of the values at the end of the text that differ from those of an earlier list, in the order of the
-/// variables (18.2.1). E901 is the only refusal.
-pub fn put_changes(
+// The lines of the values that differ from those of an earlier list, in the order of the variables (18.2.1).
+pub(crate) fn put_changes(
     alloc: Global,
     text: &mut Vec<u8>,
     old: &[Vec4],
     new: &[Vec4],
 ) -> Result<(), AllocError>
-    ensures { OnOk result (text.new.items ≡ text.old.items ++ changed_lines 0 old.now new.now) }
+    ensures { OnOk result (text.new.items ≡ text.old.items ++ changed_lines old.now new.now) }
 {
     let mut scratch = Vec::new(alloc);
     let mut name = Vec::from_slice(alloc, b"!")?;

@@ -2,9 +2,9 @@
 
 ghost use Rattle.std.specs.Prelude.{◌≡◌, OnOk, IfErr};
 ghost use Rattle.vast.specs.Design.{DesignView};
-ghost use Rattle.vcd_text.specs.DumpText.{idle, dump_below, header as header_text, vcd};
+ghost use Rattle.vcd_text.specs.DumpText.{dump_below, header as header_text, vcd};
 ghost use Rattle.vcd_text.specs.Metered.{Grows, Stops};
-ghost use Rattle.vcd_text.specs.Sinks.{history_view, progress_view, IsSameDump};
+ghost use Rattle.vcd_text.specs.Sinks.{idle, history_view, progress_view, IsSameDump};
 
 use crate::fault::WriteFault;
 use crate::header::Header;

@@ -5,7 +5,7 @@ use Rattle.vast.specs.Syntax.{SourceTree}
 use Rattle.velab.specs.Elaborate.{Elaborates}
 use Rattle.velab.specs.Reasons.{IsReason as IsDesignReason, HasNoDesign as TreeHasNoDesign}
 use Rattle.velab.specs.declared.fault.ElabFault.{ElabFault}
-use Rattle.vrace.specs.Replays.{AreRead, IsTreeOf, IsDesignOf}
+use Rattle.vrace.specs.Replays.{AreRead}
 use Rattle.vrace.specs.Unique.{IsReadAs}
 use Rattle.vrace.specs.Refusals.{Breaks, IsTextReason, IsDesignFault}
 use Rattle.vrace.specs.declared.fault.Fault.{Fault}

@@ -1,5 +1,5 @@
 -- What stands written when a run that ends is handed to a fresh sink.
-use Rattle.std.proofs.Common.{◌≡◌, ℕ, List, ◌++◌, take, drop, Option, Result, Ok, Err, OnOk, IfErr, refl, sym, subst}
+use Rattle.std.proofs.Common.{◌≡◌, ℕ, List, take, drop, Option, Result, Ok, Err, OnOk, IfErr, refl, sym, subst}
 use Rattle.std.proofs.lemmas.List.{take-append-drop}
 use Rattle.sched_core.specs.Replay.{IsMissing, TakesMore}
 use Rattle.sched_core.specs.declared.run.ReplayFault.{ReplayFault}
@@ -11,11 +11,12 @@ use Rattle.vmodel.specs.Played.{Finishes, IsUnderway}
 use Rattle.vmodel.specs.RunViews.{IfOfSink, IfOfReplay}
 use Rattle.vmodel.specs.declared.run.RunFault.{RunFault}
 use Rattle.vmodel.specs.declared.run.RunFault.TheVariants.{Replay, Sink}
-use Rattle.vcd_text.specs.DumpText.{idle, dump_below, end_text}
-use Rattle.vcd_text.specs.Metered.{Stops}
+use Rattle.vcd_text.specs.DumpText.{dump_below}
+use Rattle.vcd_text.specs.Metered.{Grows, Stops}
 use Rattle.vcd_text.specs.MeteredLaws.{grows_none}
-use Rattle.vcd_text.specs.Sinks.{progress_view, text_of, Takes, Fails}
-use Rattle.vcd_text.specs.SinkLaws.{fails_after, fails_before, stops_taking, stops_completing}
+use Rattle.vcd_text.specs.Sinks.{idle, end_text, progress_view, text_of, Takes, Fails}
+use Rattle.vcd_text.specs.SinkLaws.{fails_after, fails_before}
+use Rattle.vcd_text.proofs.DumpLemmas.{completes, stops_taking, stops_completing}
 use Rattle.vcd_text.specs.declared.metered.Metered.{Metered}
 use Rattle.vcd_text.specs.declared.sink.DumpSink.{DumpSink}
 use Rattle.vcd_text.specs.declared.fault.WriteFault.{WriteFault}
@@ -59,6 +60,16 @@ pub the_dump : (head : List ℕ) (setting : Setting) (log : List (ℕ × ℕ)) (
 the_dump head setting log limit n end finishes = record { steps = n; end = end; finishes = finishes; is_text = refl }
 
 module _ {W : Type 0} (contents : W → Option (List ℕ)) (setting : Setting) (log : List (ℕ × ℕ)) (limit : ℕ) (s : DumpSink W) (fresh : progress_view s.progress ≡ idle) where
+  -- all of it was written
+  pub grows_whole : (t : DumpSink W) (m : Metered W) (end : End) → ((n : ℕ) × Finishes setting log limit n end × Takes contents s (given_by setting log n) t) →
+      Grows contents t.writer.now m (end_text (progress_view t.progress) end.time) →
+      (dump : List ℕ) × IsRunDump s.header.now setting log limit dump × Grows contents s.writer.now m dump
+  grows_whole t m end (n, finishes, taken) grows =
+      let history : HistoryView = history_after setting log n in
+      let late : Grows contents t.writer.now m (end_text (progress_view t.progress) history.end.time) =
+      subst (λ (e : End). Grows contents t.writer.now m (end_text (progress_view t.progress) e.time)) finishes.end_is grows in
+      (dump_below s.header.now history, the_dump s.header.now setting log limit n end finishes, completes contents s t history m fresh taken late)
+
   -- the fault came in what the end adds
   pub stops_at_end : (t : DumpSink W) (m : Metered W) (end : End) (cause : WriteFault) (fault : Fault) → fault ≡ fault_of cause →
       ((n : ℕ) × Finishes setting log limit n end × Takes contents s (given_by setting log n) t) →

@@ -1,6 +1,5 @@
 -- From the run of a design to the replay of files.
-use Rattle.std.proofs.Common.{◌≡◌, ◌⊎◌, inl, inr, ℕ, List, Option, None, Some, refl, sym, ap, subst, ◌∙◌}
-use Rattle.std.specs.Io.KnownBytes.{Keeps}
+use Rattle.std.proofs.Common.{◌≡◌, inl, inr, ℕ, List, Option, refl, sym, ap, subst, ◌∙◌}
 use Rattle.vmodel.specs.Run.{Setting, rules_of, history_after}
 use Rattle.vmodel.specs.Played.{Finishes}
 use Rattle.sched_core.specs.Replay.{IsMissing, TakesMore}
@@ -11,22 +10,18 @@ use Rattle.vcd_text.specs.declared.fault.WriteFault.TheVariants as write
 use Rattle.vcd_text.specs.Metered.{count_after}
 use Rattle.vrace.specs.Asked.{Asked}
 use Rattle.vrace.specs.Replays.{Played, setting_of, IsDump}
-use Rattle.vrace.specs.Refusals.{IsRunReason, IsReason, IsOfWriting, IsBegun, Leaves}
-use Rattle.vrace.specs.RunDumps.{IsRunDump, IsRunFault, StopsDump, Ends, fault_of, failures_after}
+use Rattle.vrace.specs.Refusals.{IsRunReason, IsReason, IsOfWriting, Leaves}
+use Rattle.vrace.specs.RunDumps.{IsRunDump, IsRunFault, Ends, fault_of, failures_after}
 use Rattle.vrace.specs.declared.fault.Fault.{Fault}
 use Rattle.vrace.specs.declared.fault.Fault.TheVariants.{NotEnded, BadToken, Growth, NoTree, Outside, TooDeep, NotYet, NoTop, Doubled, Unknown, Width, TooMany, BadLog, NoSuchChoice, TooManySteps, OutOfLimit, Memory, Write, Read, TooLong}
-
-pub keeps_itself : (c : Option (List ℕ)) → Keeps c c
-keeps_itself None = tt
-keeps_itself (Some xs) = refl
 
 of_writing : (cause : WriteFault) → IsOfWriting (fault_of cause)
 of_writing write.Memory = tt
 of_writing write.Write = tt
 
-reason_of_writing : (files : List (List ℕ)) (asked : Asked) (log : List ℕ) (cause : WriteFault) → IsRunReason files asked log (fault_of cause)
-reason_of_writing files asked log write.Memory = tt
-reason_of_writing files asked log write.Write = tt
+reason_of_writing : (files : List (List ℕ)) (asked : Asked) (log dump : List ℕ) (cause : WriteFault) → IsDump files asked log dump → IsRunReason files asked log (fault_of cause)
+reason_of_writing files asked log dump write.Memory is = tt
+reason_of_writing files asked log dump write.Write is = (dump, is)
 
 count_of_writing : (cause : WriteFault) (n : ℕ) → count_after cause n ≡ failures_after (fault_of cause) n
 count_of_writing write.Memory n = refl
@@ -67,11 +62,11 @@ module _ (files : List (List ℕ)) (asked : Asked) (log : List ℕ) (played : Pl
   module _ {W : Type 0} (contents : W → Option (List ℕ)) (old new : Metered W) where
     pub reason : (fault : Fault) → Ends contents (header played.design) setting played.members asked.steps old new fault → IsReason files asked log fault
     reason fault (inl (p, kept)) = inr (run_reason fault p)
-    reason fault (inr stops) = inr (subst (IsRunReason files asked log) (sym stops.is) (reason_of_writing files asked log stops.cause))
+    reason fault (inr stops) = inr (subst (IsRunReason files asked log) (sym stops.is) (reason_of_writing files asked log stops.dump stops.cause (dumped stops.dump stops.is_dump)))
 
     pub left : (fault : Fault) → Ends contents (header played.design) setting played.members asked.steps old new fault →
-        Leaves files asked log fault (contents old.inner) (contents new.inner)
-    left fault (inl (p, kept)) = inl (subst (λ (m : Metered W). Keeps (contents old.inner) (contents m.inner)) (sym kept) (keeps_itself (contents old.inner)))
+        Leaves contents files asked log fault old new
+    left fault (inl (p, kept)) = inl kept
     left fault (inr stops) = inr (
       subst IsOfWriting (sym stops.is) (of_writing stops.cause),
       record { dump = stops.dump; is_dump = dumped stops.dump stops.is_dump; len = stops.stops.0.0; front = stops.stops.0.1 },

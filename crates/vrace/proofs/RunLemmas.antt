@@ -1,7 +1,7 @@
 -- A run under a log that ends is the only one, and what it gives on the way stands at the front of what it gives in all.
-use Rattle.std.proofs.Common.{◌≡◌, ℕ, zero, suc, ◌<◌, ◌≤◌, List, [], ◌++◌, take, drop, inl, inr, refl, sym, ap, subst, ◌∙◌, append_assoc, arith}
+use Rattle.std.proofs.Common.{◌≡◌, ℕ, zero, suc, ◌≤◌, List, [], ◌++◌, inl, inr, sym, ap, subst, ◌∙◌, append_assoc, arith}
 use Rattle.std.proofs.lemmas.Bool.{cases_lt}
-use Rattle.std.proofs.lemmas.List.{append-nil, take-append-drop}
+use Rattle.std.proofs.lemmas.List.{append-nil}
 use Rattle.sched_core.specs.Rules.{Rules, stands, choice_at, IsRun, NamesBelow}
 use Rattle.sched_core.specs.Replay.{EndsAfter, IsMissing, TakesMore}
 use Rattle.vmodel.specs.History.{HistoryItem}

@@ -4,3 +4,4 @@ pub mod Replays
 pub mod Unique
 pub mod RunDumps
 pub mod Reads
+pub mod Places

@@ -1,5 +1,5 @@
 -- What reading a text to its end takes from a reader.
-use Rattle.std.specs.Prelude.{◌≡◌, ℕ, ◌<◌, ◌≤◌, List, Option, IfSome, length}
+use Rattle.std.specs.Prelude.{◌≡◌, ℕ, ◌+◌, ◌<◌, ◌≤◌, List, Option, length}
 use Rattle.std.specs.Io.KnownBytes.{Consumes, IsAtEnd}
 use Rattle.vcd_text.specs.Metered.{one_more}
 use Rattle.vrace.specs.Replays.{limit}
@@ -12,12 +12,24 @@ pub record IsAllOf (old new : Option (List ℕ)) (text : List ℕ) : Type 0 wher
   pub at_end : IsAtEnd new
   pub short : length text ≤ limit
 
--- what a fault says of a reader and of the count of its failures
-abbrev pub IsReadReason : Option (List ℕ) → ℕ → ℕ → Fault → Type 0
-IsReadReason old before after Memory = after ≡ before
-IsReadReason old before after Read = after ≡ one_more before
-IsReadReason old before after TooLong = IfSome old (λ bytes. limit < length bytes) × (after ≡ before)
-IsReadReason old before after other = ⊥
+-- how many bytes are asked for at once
+abbrev pub most : ℕ
+most = 65536
+
+-- what was taken from a reader before it was refused
+abbrev pub Took : Option (List ℕ) → Option (List ℕ) → (List ℕ → Type 0) → Type 0
+Took old new P = (bytes : List ℕ) × Consumes old new bytes × P bytes
+
+-- more than a text may have, by no more than what is asked for at once
+abbrev pub IsTooMuch : List ℕ → Type 0
+IsTooMuch bytes = (limit < length bytes) × (length bytes ≤ limit + most)
+
+-- what a fault says of a reader, of what was taken from it, and of the count of its failures
+abbrev pub IsReadReason : Option (List ℕ) → Option (List ℕ) → ℕ → ℕ → Fault → Type 0
+IsReadReason old new before after Memory = Took old new (λ bytes. length bytes ≤ limit + most) × (after ≡ before)
+IsReadReason old new before after Read = Took old new (λ bytes. length bytes ≤ limit) × (after ≡ one_more before)
+IsReadReason old new before after TooLong = Took old new IsTooMuch × (after ≡ before)
+IsReadReason old new before after other = ⊥
 
 -- some bytes were taken, the reader didn't fail, and nothing taken means that the reader is at its end
 pub record IsTaken (old new : Option (List ℕ)) (before after : ℕ) (bytes : List ℕ) : Type 0 where

@@ -1,6 +1,6 @@
 -- When a replay is refused, and what then stands written.
-use Rattle.std.specs.Prelude.{◌≡◌, ℕ, ◌<◌, ◌≤◌, ◌⊎◌, List, Option, Some, true, take, drop, slice_get, map, Vec}
-use Rattle.std.specs.Io.KnownBytes.{Appends, Keeps}
+use Rattle.std.specs.Prelude.{◌≡◌, ℕ, ◌<◌, ◌≤◌, ◌⊎◌, List, Option, Some, true, length, take, drop, slice_get, map, Vec}
+use Rattle.std.specs.Io.KnownBytes.{Appends}
 use Rattle.vsrc.specs.Source.{joined}
 use Rattle.vsrc.specs.Expansion.{IsReason as IsSourceReason}
 use Rattle.vsrc.specs.declared.fault.SrcFault.TheVariants as source
@@ -14,7 +14,9 @@ use Rattle.velab.specs.declared.fault.ElabFault.TheVariants as elab
 use Rattle.sched_core.specs.LogText.{IsNoNamedLogText}
 use Rattle.sched_core.specs.Replay.{IsMissing, TakesMore}
 use Rattle.vmodel.specs.Run.{rules_of}
+use Rattle.vparse.specs.Levels.{openings}
 use Rattle.vparse.specs.Profile.{is_outside}
+use Rattle.vcd_text.specs.declared.metered.Metered.{Metered}
 use Rattle.vrace.specs.Asked.{Asked}
 use Rattle.vrace.specs.Replays.{limit, total, AreRead, texts_of, IsTreeOf, IsDesignOf, Played, setting_of, IsDump}
 use Rattle.vrace.specs.declared.fault.Fault.{Fault}
@@ -56,6 +58,14 @@ pub record HasWordOutside (text : List ℕ) : Type 0 where
   pub stands : slice_get (texts_of pieces) index ≡ Some word
   pub outside : is_outside word ≡ true
 
+-- a word of the text, or its end, stands behind words that open 63 levels at least (docs/LANGUAGE.md, "Depth")
+pub record HasDepth (text : List ℕ) : Type 0 where
+  pub pieces : List Piece
+  pub lexed : Lexed text pieces
+  pub index : ℕ
+  pub within : index ≤ length pieces
+  pub deep : 63 ≤ openings (take index (texts_of pieces))
+
 -- what a fault of the files says of them; here as below the place of a fault is shown, and not told
 abbrev pub IsFileReason : List (List ℕ) → Fault → Type 0
 IsFileReason files (Growth at) = (total files ≤ limit) × ((place : Place) × IsSourceReason files (source.Growth place))
@@ -70,7 +80,7 @@ IsTextReason text top (NotEnded at) = HasNoTokens text × StopsOpen text
 IsTextReason text top (BadToken at) = HasNoTokens text × StopsBad text
 IsTextReason text top (NoTree at) = HasTokens text × HasNoTree text
 IsTextReason text top (Outside at) = HasWordOutside text × HasNoTree text
-IsTextReason text top (TooDeep at) = HasTokens text × HasNoTree text
+IsTextReason text top (TooDeep at) = HasDepth text × HasNoTree text
 IsTextReason text top (NoTop at) = (token : Option ℕ) × Breaks text top (elab.Module token)
 IsTextReason text top (Doubled at) = (token : Option ℕ) × Breaks text top (elab.Doubled token)
 IsTextReason text top (Unknown at) = (token : Option ℕ) × Breaks text top (elab.Unknown token)
@@ -79,13 +89,13 @@ IsTextReason text top (TooMany at) = (token : Option ℕ) × Breaks text top (el
 IsTextReason text top Memory = Unit {0}
 IsTextReason text top other = ⊥
 
--- what a fault of the log or of its run says; a writer that failed is told by its count
+-- what a fault of the log or of its run says; where a writer failed there was a dump to write
 abbrev pub IsRunReason : List (List ℕ) → Asked → List ℕ → Fault → Type 0
 IsRunReason files asked log BadLog = AreRead files × ((design : DesignView) × IsDesignOf (joined files) asked.top design) × IsNoNamedLogText log
 IsRunReason files asked log NoSuchChoice = (played : Played files asked log) × IsMissing (rules_of (setting_of files asked log played)) played.members asked.steps
 IsRunReason files asked log TooManySteps = (played : Played files asked log) × TakesMore (rules_of (setting_of files asked log played)) played.members asked.steps
 IsRunReason files asked log Memory = Unit {0}
-IsRunReason files asked log Write = Unit {0}
+IsRunReason files asked log Write = (dump : List ℕ) × IsDump files asked log dump
 IsRunReason files asked log other = ⊥
 
 -- a fault of the files, or of the text that they make
@@ -109,6 +119,7 @@ pub record IsBegun (files : List (List ℕ)) (asked : Asked) (log : List ℕ) (o
   pub len : ℕ
   pub front : Appends old new (take len dump)
 
--- what stands written after a refusal: nothing, or a front of the dump where memory or the writer failed as it went out
-abbrev pub Leaves : List (List ℕ) → Asked → List ℕ → Fault → Option (List ℕ) → Option (List ℕ) → Type 0
-Leaves files asked log fault old new = Keeps old new ⊎ (IsOfWriting fault × IsBegun files asked log old new)
+-- what a refusal leaves: the writer as it was, or a front of the dump in it, where memory or the writer failed as it went out
+abbrev pub Leaves : {W : Type 0} → (W → Option (List ℕ)) → List (List ℕ) → Asked → List ℕ → Fault → Metered W → Metered W → Type 0
+Leaves contents files asked log fault old new =
+    (new ≡ old) ⊎ (IsOfWriting fault × IsBegun files asked log (contents old.inner) (contents new.inner))

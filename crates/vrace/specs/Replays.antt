@@ -1,6 +1,6 @@
 -- What a replay writes, from the bytes of the files to the dump of the run.
 use Rattle.std.specs.Prelude.{◌≡◌, ℕ, ◌≤◌, List, Option, length, map, sum_by}
-use Rattle.vsrc.specs.Source.{joined}
+use Rattle.vsrc.specs.Source.{joined, text_limit}
 use Rattle.vsrc.specs.Expansion.{HasNoTick}
 use Rattle.vlex.specs.Lexed.{Lexed, Piece}
 use Rattle.vast.specs.Syntax.{Text, SourceTree}
@@ -26,9 +26,10 @@ limit = 16777216
 abbrev pub total : List (List ℕ) → ℕ
 total = sum_by length
 
--- The files make a text that is read: they aren't too long, and use no directive and no macro.
+-- The files make a text that is read: neither they nor their text are too long, and they use no directive and no macro.
 pub record AreRead (files : List (List ℕ)) : Type 0 where
   pub within : total files ≤ limit
+  pub short : length (joined files) ≤ text_limit
   pub clean : HasNoTick (joined files)
 
 abbrev pub texts_of : List Piece → List Text

@@ -14,6 +14,11 @@ use vsrc::Place;
 pub struct At(pub Option<Place>);
 
 impl fmt::Display for At {
+    ghost use Rattle.std.specs.Prelude.{Some};
+    ghost use Rattle.vrace.specs.Places.{place_text};
+
+    ghost output = { λ at. Some (place_text at.0) };
+
     fn fmt<W: fmt::Write>(&self, f: &mut fmt::Formatter<W>) -> fmt::Result {
         match self.0 {
             None => Ok(()),

@@ -6,9 +6,12 @@
 mod asked;
 mod design;
 mod fault;
+pub mod law;
 mod options;
 mod read;
 mod replay;
+#[cfg(test)]
+mod tests;
 mod unwatched;
 
 pub use fault::{At, Fault};

@@ -1,8 +1,9 @@
 // A whole text from a reader.
 
-ghost use Rattle.std.specs.Prelude.{◌≡◌, ◌≤◌, ◌<◌, ℕ, List, ◌++◌, IfOk, IfErr, length};
+ghost use Rattle.std.specs.Prelude.{◌≡◌, ◌≤◌, ◌<◌, ℕ, List, ◌++◌, Option, IfOk, IfErr, length};
+ghost use Rattle.std.specs.Io.KnownBytes.{Consumes};
 ghost use Rattle.vrace.specs.Replays.{limit};
-ghost use Rattle.vrace.specs.Reads.{IsAllOf, IsReadReason, IsTaken};
+ghost use Rattle.vrace.specs.Reads.{IsAllOf, IsReadReason, IsTaken, most};
 
 use crate::fault::Fault;
 use std::alloc::Global;
@@ -21,10 +22,12 @@ fn read_more<R: Read>(
     piece: &mut [u8],
     text: &mut Vec<u8>,
 ) -> Result<usize, Fault>
-    requires { 0 < length piece.old }
+    requires some { 0 < length piece.old }
+    requires few { length piece.old ≤ most }
     ensures same { length piece.new ≡ length piece.old }
     ensures ok { IfOk result (λ count. (bytes : List ℕ) × IsTaken (R.remaining reader.old.inner) (R.remaining reader.new.inner) reader.old.failures reader.new.failures bytes × (length bytes ≡ count) × (text.new.items ≡ text.old.items ++ bytes)) }
-    ensures err { IfErr result (λ fault. IsReadReason (R.remaining reader.old.inner) reader.old.failures reader.new.failures fault) }
+    ensures few { IfOk result (λ count. count ≤ most) }
+    ensures err { (first : Option (List ℕ)) (front : List ℕ) → Consumes first (R.remaining reader.old.inner) front → length front ≤ limit → IfErr result (λ fault. IsReadReason first (R.remaining reader.new.inner) reader.old.failures reader.new.failures fault) }
 {
     let Ok(count) = reader.read(piece) else {
         return Err(Fault::Read);
@@ -36,11 +39,12 @@ fn read_more<R: Read>(
 }
 
 /// All bytes of a reader, at most 16,777,216: E904 where there are more, also of a reader that never ends; E903 only where
-/// the reader failed; E901 only where a growth was refused.
+/// the reader failed; E901 only where a growth was refused. A refused reader stands where the reading stopped, at most
+/// 65,536 bytes past the limit.
 pub fn read_text<R: Read>(alloc: Global, reader: &mut Metered<R>) -> Result<Vec<u8>, Fault>
     ensures all { IfOk result (λ text. IsAllOf (R.remaining reader.old.inner) (R.remaining reader.new.inner) text.items) }
     ensures unfailed { IfOk result (λ _. reader.new.failures ≡ reader.old.failures) }
-    ensures reason { IfErr result (λ fault. IsReadReason (R.remaining reader.old.inner) reader.old.failures reader.new.failures fault) }
+    ensures reason { IfErr result (λ fault. IsReadReason (R.remaining reader.old.inner) (R.remaining reader.new.inner) reader.old.failures reader.new.failures fault) }
 {
     let mut text = Vec::new(alloc);
     let mut piece = [0; PIECE];

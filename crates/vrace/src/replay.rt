@@ -5,9 +5,9 @@ ghost use Rattle.vast.specs.DesignViews.{design_view};
 ghost use Rattle.vmodel.specs.declared.history.End.{End};
 ghost use Rattle.vmodel.specs.Played.{Finishes};
 ghost use Rattle.vmodel.specs.RunViews.{setting_of};
-ghost use Rattle.vcd_text.specs.DumpText.{header, idle};
+ghost use Rattle.vcd_text.specs.DumpText.{header};
 ghost use Rattle.vcd_text.specs.Metered.{Grows};
-ghost use Rattle.vcd_text.specs.Sinks.{progress_view, IsSameDump};
+ghost use Rattle.vcd_text.specs.Sinks.{idle, progress_view, IsSameDump};
 ghost use Rattle.vrace.specs.Asked.{asked};
 ghost use Rattle.vrace.specs.Replays.{IsDump, grain_under as grain_by};
 ghost use Rattle.vrace.specs.Refusals.{texts, IsReason, Leaves};
@@ -158,7 +158,7 @@ pub fn replay_text<W: Write>(
 ) -> Result<(), Fault>
     ensures dump { OnOk result ((dump : List ℕ) × IsDump (texts files.now) (asked options.now) log.now dump × Grows W.contents writer.old writer.new dump) }
     ensures reason { IfErr result (λ fault. IsReason (texts files.now) (asked options.now) log.now fault) }
-    ensures left { IfErr result (λ fault. Leaves (texts files.now) (asked options.now) log.now fault (W.contents writer.old.inner) (W.contents writer.new.inner)) }
+    ensures left { IfErr result (λ fault. Leaves W.contents (texts files.now) (asked options.now) log.now fault writer.old writer.new) }
     ensures failures { IfErr result (λ fault. writer.new.failures ≡ failures_after fault writer.old.failures) }
 {
     let design = match design_of(alloc, files, options.top) {

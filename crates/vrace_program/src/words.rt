@@ -71,7 +71,7 @@ pub fn commands<'a>(alloc: Global) -> Result<Command<'a>, AllocError> {
     Command::new(alloc, "vrace")
         .bin_name("vrace")?
         .about(
-            "Runs Verilog in any order that the standard allows. Without words: replays standard input.",
+            "Runs Verilog in the order that a log names. Without words: replays standard input.",
         )
         .subcommand_required(true)
         .subcommand(replay_command(alloc)?)

@@ -2,7 +2,7 @@ use Rattle.std.proofs.Common.{◌∙◌, ap, subst, List}
 use Rattle.vmodel.specs.History.{HistoryItem}
 use Rattle.vmodel.specs.StateViews.{item_views}
 use Rattle.vcd_text.specs.Sinks.{history_view, Takes, Fails}
-use Rattle.vcd_text.specs.SinkLaws.{completes, stops_completing, stops_taking}
+use Rattle.vcd_text.proofs.DumpLemmas.{completes, stops_completing, stops_taking}
 use Rattle.vcd_text.proofs.PutLemmas.{on_ok, on_err}
 use Rattle.vcd_text.proofs.write.fill.Goals as goal
 

@@ -1,4 +1,4 @@
-use Rattle.std.proofs.Common.{◌≡◌, ℕ, List, Option, subst, sym}
+use Rattle.std.proofs.Common.{subst, sym}
 use Rattle.velab.specs.Reasons.{IsReason as IsDesignReason, IsOfText}
 use Rattle.velab.specs.declared.fault.ElabFault.TheVariants as elab
 use Rattle.vrace.proofs.DesignLemmas.{breaks}

@@ -1,4 +1,4 @@
-use Rattle.std.proofs.Common.{◌≡◌, ℕ, List, OnOk, IfErr, inr, subst}
+use Rattle.std.proofs.Common.{ℕ, List, OnOk, IfErr, inr, subst}
 use Rattle.vmodel.specs.RunViews.{setting_of}
 use Rattle.vmodel.specs.Run.{history_after}
 use Rattle.vcd_text.specs.DumpText.{dump_below}

@@ -1,8 +1,13 @@
 use Rattle.std.proofs.Common.{ap, ◌∙◌, Err}
 use Rattle.vmodel.specs.RunViews.{setting_of}
 use Rattle.vmodel.specs.declared.run.RunFault.TheVariants.{Replay}
-use Rattle.vrace.proofs.DumpLemmas.{from_sink, from_replay, stops_at_end, stops_within, stops_by_replay}
+use Rattle.vrace.proofs.DumpLemmas.{from_sink, from_replay, grows_whole, stops_at_end, stops_within, stops_by_replay}
 use Rattle.vrace.proofs.replay.fill.Goals as goal
+
+pub returns-in-Ok-finish-clause-ok : goal.returns-in-Ok-finish-clause-ok
+returns-in-Ok-finish-clause-ok g c =
+    grows_whole g.W.Write.contents (setting_of c.args.run.now) c.args.log.now c.args.steps c.args.sink.now c.requires.fresh c.hand_on.new.sink
+    c.finish.new.self.writer.now c.in-Ok.end c.in-Ok.ensures.ends c.in-Ok-finish.ensures.ok
 
 pub returns-in-Err-clause-err : goal.returns-in-Err-clause-err
 returns-in-Err-clause-err g c =

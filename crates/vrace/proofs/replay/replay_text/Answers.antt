@@ -1,7 +1,6 @@
-use Rattle.std.proofs.Common.{◌≡◌, ap}
+use Rattle.std.proofs.Common.{ap}
 use Rattle.vast.specs.DesignViews.{design_view}
 use Rattle.vmodel.specs.Run.{Setting}
-use Rattle.vmodel.specs.RunViews.{setting_of}
 use Rattle.vmodel.specs.declared.history.Grain.{Grain}
 use Rattle.vrace.specs.Asked.{asked}
 use Rattle.vrace.specs.Replays.{Played}

@@ -1,0 +1,37 @@
+-- What a reader of a dump knows.
+use Rattle.std.specs.Prelude.{◌≡◌, ℕ, ◌+◌, ◌-◌, ◌==◌, ◌||◌, cond, List, [], ◌∷◌, ◌++◌, Some, All, get_or, length, map, replicate, slice_get, slice_set, take}
+use Rattle.vbits.specs.declared.bit4.Bit4.{Bit4}
+use Rattle.vbits.specs.Vectors.{Vector}
+use Rattle.vcd_text.specs.DumpText.{Piece, Slot, pieces, spoken}
+
+-- what a reader puts to the left of the digits that stand written (18.2.2): 0 where the leftmost is 0 or 1, x or z where it is that
+abbrev pub left_fill : ℕ → ℕ
+left_fill d = cond (d == 48 || d == 49) 48 d
+
+-- the digits of a value of this width
+abbrev pub extended : ℕ → List ℕ → List ℕ
+extended width digits = replicate (width - length digits) (left_fill (get_or digits 0 48)) ++ digits
+
+-- each value that is told takes the place of the one before (18.2.1)
+abbrev pub overlaid : List Vector → List (ℕ × Vector) → List Vector
+overlaid values [] = values
+overlaid values (entry ∷ told) = overlaid (slice_set values entry.0 entry.1) told
+
+-- the values after these pieces
+abbrev pub known : List Vector → List Piece → List Vector
+known values [] = values
+known values (p ∷ ps) = known (overlaid values p.told) ps
+
+-- no sign is told (18.2.2)
+abbrev pub letters_of : List Vector → List (List Bit4)
+letters_of = map (λ v. v.letters)
+
+-- each slot has values of so many variables
+abbrev pub AllHave : ℕ → List Slot → Type 0
+AllHave count = All (λ slot. length slot.values ≡ count)
+
+-- what is written up to a slot's end and with it tells the values at it, whatever values a reader took up before
+abbrev pub IsTold : List Slot → Type 0
+IsTold slots =
+    (values : List Vector) (k : ℕ) (slot : Slot) → AllHave (length values) slots → slice_get slots k ≡ Some slot →
+    letters_of (known values (spoken (take (k + 1) (pieces slots)))) ≡ letters_of slot.values

@@ -1,0 +1,18 @@
+// The law of dumps: what is written can be read.
+
+ghost use Rattle.std.specs.Prelude.{◌≡◌, ◌+◌, ℕ, List, All, length};
+ghost use Rattle.vcd_text.specs.CodeLaws.{IsDigit, number_of};
+ghost use Rattle.vcd_text.specs.DumpText.{Slot, code, shortened};
+ghost use Rattle.vcd_text.specs.Readers.{IsTold, extended};
+
+/// The law of dumps (docs/FORMATS.md, "Dumps"), which does nothing. The code of variable n is n + 1 in bijective base
+/// 94, the lowest digit first, with the digits `!` to `~`, and no other text is. A reader that extends the digits of a value
+/// on the left has all digits back. Where all slots have the same variables, the values told up to a slot's end and with
+/// it, each in place of the one before, are the values at it.
+pub fn dumps_are_readable()
+    ensures digits { (n : ℕ) → All IsDigit (code n) }
+    ensures number { (n : ℕ) → number_of (code n) ≡ n + 1 }
+    ensures only { (n : ℕ) (text : List ℕ) → All IsDigit text → number_of text ≡ n + 1 → text ≡ code n }
+    ensures back { (digits : List ℕ) → extended (length digits) (shortened digits) ≡ digits }
+    ensures values { (slots : List Slot) → IsTold slots }
+{}

@@ -1,0 +1,149 @@
+-- One text, one replay: from the laws of each layer.
+use Rattle.std.proofs.Common.{◌≡◌, ℕ, ◌<◌, List, [], length, Option, None, Some, inl, inr, sym, ap, subst, ◌∙◌, arith}
+use Rattle.vsrc.specs.Source.{joined, text_limit}
+use Rattle.vsrc.specs.Expansion.{IsReason as IsSourceReason}
+use Rattle.vsrc.specs.declared.fault.SrcFault.TheVariants as source_fault
+use Rattle.vsrc.specs.declared.expanded.Place.{Place}
+use Rattle.vlex.specs.Lexed.{Lexed, Piece}
+use Rattle.vast.specs.Syntax.{Text, SourceTree}
+use Rattle.vast.specs.Derives.{Derives}
+use Rattle.vast.specs.Design.{DesignView}
+use Rattle.vparse.specs.Reading.{source}
+use Rattle.velab.specs.Elaborate.{Elaborates}
+use Rattle.sched_core.specs.Logs.{IsLog}
+use Rattle.sched_core.specs.LogText.{named_log_text}
+use Rattle.sched_core.specs.Replay.{EndsAfter}
+use Rattle.sched_core.specs.declared.log.LogHead.{LogHead}
+use Rattle.vmodel.specs.Run.{Setting, rules_of, history_after}
+use Rattle.vcd_text.specs.DumpText.{vcd}
+use Rattle.vrace.specs.Asked.{Asked}
+use Rattle.vrace.specs.Replays.{texts_of, IsTreeOf, IsDesignOf, grain_under, Played, setting_of, IsDump}
+use Rattle.vrace.specs.Refusals.{IsFileReason, IsTextReason, IsRunReason, IsReason, IsOfWriting}
+use Rattle.vrace.specs.declared.fault.Fault.{Fault}
+use Rattle.vrace.specs.declared.fault.Fault.TheVariants.{NotEnded, BadToken, Growth, NoTree, Outside, TooDeep, NotYet, NoTop, Doubled, Unknown, Width, TooMany, BadLog, NoSuchChoice, TooManySteps, OutOfLimit, Memory, Write, Read, TooLong}
+use Rattle.vrace.proofs.RunLemmas.{same_end, never_missing, never_more}
+
+pub record Laws : Type 0 where
+  pub growth : (files : List (List ℕ)) (place : Place) → IsSourceReason files (source_fault.Growth place) → text_limit < length (joined files)
+  pub one_list : (text : List ℕ) (pieces others : List Piece) → Lexed text pieces → Lexed text others → pieces ≡ others
+  pub reads : (words : List Text) (tree : SourceTree) → Derives words tree → source words ≡ Some (tree, [])
+  pub one_design : (tree : SourceTree) (top : Option Text) (design other : DesignView) → Elaborates tree top design → Elaborates tree top other → design ≡ other
+  pub one_log : (head other : LogHead) (log others : List (ℕ × ℕ)) → IsLog log → IsLog others → named_log_text head log ≡ named_log_text other others → (head ≡ other) × (log ≡ others)
+
+abbrev whole : SourceTree → Option (SourceTree × List Text)
+whole tree = Some (tree, [])
+
+same_tree : (t u : SourceTree) → whole t ≡ whole u → t ≡ u
+same_tree t u = ap tree_of where
+  tree_of : Option (SourceTree × List Text) → SourceTree
+  tree_of None = []
+  tree_of (Some read) = read.0
+
+module _ (laws : Laws) where
+  one_tree : (text : List ℕ) (t u : SourceTree) → IsTreeOf text t → IsTreeOf text u → t ≡ u
+  one_tree text t u a b =
+      let pieces = laws.one_list text a.pieces b.pieces a.lexed b.lexed in
+      let here = subst (λ ps. Derives (texts_of ps) t) pieces a.derived in
+      same_tree t u (sym (laws.reads (texts_of b.pieces) t here) ∙ laws.reads (texts_of b.pieces) u b.derived)
+
+  one_design_of : (text : List ℕ) (top : Option Text) (d e : DesignView) → IsDesignOf text top d → IsDesignOf text top e → d ≡ e
+  one_design_of text top d e a b =
+      let tree = one_tree text a.tree b.tree a.is_tree b.is_tree in
+      laws.one_design b.tree top d e (subst (λ t. Elaborates t top d) tree a.elaborated) b.elaborated
+
+  module _ (files : List (List ℕ)) (asked : Asked) (log : List ℕ) where
+    module _ (p q : Played files asked log) where
+      designs : p.design ≡ q.design
+      designs = one_design_of (joined files) asked.top p.design q.design p.is_design q.is_design
+
+      logs : (p.head ≡ q.head) × (p.members ≡ q.members)
+      logs = laws.one_log p.head q.head p.members q.members p.is_log q.is_log (sym p.written ∙ q.written)
+
+      settings : setting_of files asked log p ≡ setting_of files asked log q
+      settings = λ i. record { design = designs i; until = asked.until; grain = grain_under (logs.0 i) asked.grain }
+
+      -- what ends under the one ends under the other
+      moved : (n : ℕ) → EndsAfter (rules_of (setting_of files asked log p)) p.members n → EndsAfter (rules_of (setting_of files asked log q)) q.members n
+      moved n = subst (λ (pair : Setting × List (ℕ × ℕ)). EndsAfter (rules_of pair.0) pair.1 n) (λ i. (settings i, logs.1 i))
+
+    pub one_dump : (dump other : List ℕ) → IsDump files asked log dump → IsDump files asked log other → dump ≡ other
+    one_dump dump other d e =
+        let p = d.played in
+        let q = e.played in
+        let ends = moved p q d.steps d.finishes.ends in
+        let steps : d.steps ≡ e.steps = same_end (rules_of (setting_of files asked log q)) q.members d.steps e.steps ends.run ends.end e.finishes.ends in
+        d.is_text ∙ (λ i. vcd (designs p q i) (history_after (settings p q i) ((logs p q).1 i) (steps i))) ∙ sym e.is_text
+
+    module _ (dump : List ℕ) (d : IsDump files asked log dump) where
+      not_for_files : (fault : Fault) → IsFileReason files fault → IsOfWriting fault
+      not_for_files (Growth at) (within, (place, reason)) = absurd (omega (arith, laws.growth files place reason, d.played.are_read.short))
+      not_for_files (NotYet at) (within, (place, (tick, first, is))) = absurd (d.played.are_read.clean tick first)
+      not_for_files Memory r = tt
+      not_for_files TooLong r = absurd (omega (arith, r, d.played.are_read.within))
+      not_for_files (NotEnded at) r = absurd r
+      not_for_files (BadToken at) r = absurd r
+      not_for_files (NoTree at) r = absurd r
+      not_for_files (Outside at) r = absurd r
+      not_for_files (TooDeep at) r = absurd r
+      not_for_files (NoTop at) r = absurd r
+      not_for_files (Doubled at) r = absurd r
+      not_for_files (Unknown at) r = absurd r
+      not_for_files (Width at) r = absurd r
+      not_for_files (TooMany at) r = absurd r
+      not_for_files BadLog r = absurd r
+      not_for_files NoSuchChoice r = absurd r
+      not_for_files TooManySteps r = absurd r
+      not_for_files OutOfLimit r = absurd r
+      not_for_files Write r = absurd r
+      not_for_files Read r = absurd r
+
+      not_for_text : (fault : Fault) → IsTextReason (joined files) asked.top fault → IsOfWriting fault
+      not_for_text (NotEnded at) r = absurd (r.0 d.played.is_design.is_tree.pieces d.played.is_design.is_tree.lexed)
+      not_for_text (BadToken at) r = absurd (r.0 d.played.is_design.is_tree.pieces d.played.is_design.is_tree.lexed)
+      not_for_text (NoTree at) r = absurd (r.1 d.played.is_design.tree d.played.is_design.is_tree)
+      not_for_text (Outside at) r = absurd (r.1 d.played.is_design.tree d.played.is_design.is_tree)
+      not_for_text (TooDeep at) r = absurd (r.1 d.played.is_design.tree d.played.is_design.is_tree)
+      not_for_text (NoTop at) (token, (none, broken)) = absurd (none d.played.design d.played.is_design)
+      not_for_text (Doubled at) (token, (none, broken)) = absurd (none d.played.design d.played.is_design)
+      not_for_text (Unknown at) (token, (none, broken)) = absurd (none d.played.design d.played.is_design)
+      not_for_text (Width at) (token, (none, broken)) = absurd (none d.played.design d.played.is_design)
+      not_for_text (TooMany at) (token, (none, broken)) = absurd (none d.played.design d.played.is_design)
+      not_for_text Memory r = tt
+      not_for_text (Growth at) r = absurd r
+      not_for_text (NotYet at) r = absurd r
+      not_for_text BadLog r = absurd r
+      not_for_text NoSuchChoice r = absurd r
+      not_for_text TooManySteps r = absurd r
+      not_for_text OutOfLimit r = absurd r
+      not_for_text Write r = absurd r
+      not_for_text Read r = absurd r
+      not_for_text TooLong r = absurd r
+
+      not_for_run : (fault : Fault) → IsRunReason files asked log fault → IsOfWriting fault
+      not_for_run BadLog (read, design, none) = absurd (none d.played.head d.played.members d.played.is_log d.played.written)
+      not_for_run NoSuchChoice (played, missing) =
+          absurd (never_missing (rules_of (setting_of files asked log played)) played.members asked.steps d.steps (moved d.played played d.steps d.finishes.ends) missing)
+      not_for_run TooManySteps (played, more) =
+          absurd (never_more (rules_of (setting_of files asked log played)) played.members asked.steps d.steps (moved d.played played d.steps d.finishes.ends) d.finishes.within more)
+      not_for_run Memory r = tt
+      not_for_run Write r = tt
+      not_for_run (NotEnded at) r = absurd r
+      not_for_run (BadToken at) r = absurd r
+      not_for_run (Growth at) r = absurd r
+      not_for_run (NoTree at) r = absurd r
+      not_for_run (Outside at) r = absurd r
+      not_for_run (TooDeep at) r = absurd r
+      not_for_run (NotYet at) r = absurd r
+      not_for_run (NoTop at) r = absurd r
+      not_for_run (Doubled at) r = absurd r
+      not_for_run (Unknown at) r = absurd r
+      not_for_run (Width at) r = absurd r
+      not_for_run (TooMany at) r = absurd r
+      not_for_run OutOfLimit r = absurd r
+      not_for_run Read r = absurd r
+      not_for_run TooLong r = absurd r
+
+      pub not_refused : (fault : Fault) → IsReason files asked log fault → IsOfWriting fault
+      not_refused fault (inl (inl r)) = not_for_files fault r
+      not_refused fault (inl (inr (read, r))) = not_for_text fault r
+      not_refused fault (inr r) = not_for_run fault r
