@@ -2,6 +2,7 @@
 use Rattle.std.proofs.Common.{◌≡◌, ℕ, ◌≤◌, ◌||◌, not, ◌==◌, Bool, true, false, List, [], length, slice_get, Some, arith, ap, refl, sym, ◌∙◌, subst, inl, inr}
 use Rattle.std.proofs.lemmas.Bool.{cases_lt}
 use Rattle.std.proofs.lemmas.Option.{slice_get_within}
+use Rattle.sched_core.specs.Logs.{IsLog}
 use Rattle.sched_core.specs.Rules.{Rules, IsLawful, stands, NamesBelow}
 use Rattle.statebook.specs.Books.{Book, IsUndominated, Meets, no_entries}
 use Rattle.statebook.specs.Covered.{IsCovered}
@@ -24,11 +25,13 @@ root_entry {S} r k limit e same budget log steps =
     let none : length e.log ≡ 0 = ap length log in
     let A : ℕ → Type 0 = λ n. r.same e.state (stands r e.log n) ≡ true in
     let N : List (ℕ × ℕ) → Type 0 = λ l. NamesBelow l e.steps in
+    let L : List (ℕ × ℕ) → Type 0 = λ l. IsLog l in
     record {
       run = λ j lt. absurd (omega (arith, lt, steps));
       at = subst A (sym steps) same;
       station = or_first (r.same e.state r.first) (not (r.width e.state == 1) || r.mark e.state) same;
       within = omega (arith, steps);
+      log = subst L (sym log) tt;
       names = subst N (sym log) tt;
       budget = omega (arith, budget, none);
     }

@@ -1,18 +1,23 @@
 -- What visiting the entries of one budget after another keeps.
-use Rattle.std.proofs.Common.{◌≡◌, ◌≢◌, ℕ, ◌+◌, ◌^◌, ◌<◌, ◌≤◌, Bool, true, false, length, slice_get, Some, arith, ap, sym, ◌∙◌, subst, inl, inr}
+use Rattle.std.proofs.Common.{◌≡◌, ◌≢◌, ℕ, ◌+◌, ◌<◌, ◌≤◌, Bool, true, false, length, slice_get, Some, arith, ap, sym, ◌∙◌, subst, inl, inr}
 use Rattle.std.proofs.lemmas.Bool.{cases_lt}
 use Rattle.std.proofs.lemmas.Option.{same_Some, slice_get_within}
 use Rattle.sched_core.specs.Rules.{Rules}
 use Rattle.statebook.specs.Books.{Book}
 use Rattle.statebook.specs.declared.entry.Entry.{Entry}
 use Rattle.statebook.proofs.BookLemmas.{listed_place}
-use Rattle.explore.specs.Exploring.{FinishedAt, FinishedFrom, Grows, IsFinished, IsUnderWay, SomeRunExceeds}
+use Rattle.explore.specs.Exploring.{FinishedAt, Grows, IsFinished, IsUnderWay, width_limit}
+use Rattle.explore.specs.Found.{SomeRunExceeds}
 use Rattle.explore.proofs.VisitLemmas.{grows_twice, still_there, true_not_false}
+
+-- Each entry with at least this budget is finished.
+abbrev pub FinishedFrom : {S : Type 0} → Book S → ℕ → Type 0
+FinishedFrom {S} b budget = (i : ℕ) (e : Entry S) → slice_get b.entries i ≡ Some e → budget ≤ e.budget → IsFinished b i
 
 -- how far a class has come
 pub record InClass {S : Type 0} (r : Rules S) (k limit most : ℕ) (start now : Book S) (budget place : ℕ) (within : Bool) : Type 0 where
   pub under_way : IsUnderWay r k limit now
-  pub few : length now.entries ≤ most + 2 ^ 32
+  pub few : length now.entries ≤ most + width_limit
   pub grows : Grows start now budget
   pub finished : within ≡ true → (i : ℕ) (e : Entry S) → i < place → slice_get now.entries i ≡ Some e → e.budget ≡ budget → IsFinished now i
   pub past : within ≡ false → SomeRunExceeds r k limit
@@ -35,7 +40,7 @@ visited {S} old new budget place g lt h f i e less at same = elim (cases_lt i pl
 ]
 
 -- the entry at the place was visited, and is finished
-pub class_finished : {S : Type 0} (r : Rules S) (k limit most : ℕ) (start now new : Book S) (budget place : ℕ) (within : Bool) → InClass r k limit most start now budget place within → place < length now.entries → length now.entries < most → Grows now new budget → length new.entries < length now.entries + 2 ^ 32 → IsUnderWay r k limit new → IsFinished new place → InClass r k limit most start new budget (place + 1) within
+pub class_finished : {S : Type 0} (r : Rules S) (k limit most : ℕ) (start now new : Book S) (budget place : ℕ) (within : Bool) → InClass r k limit most start now budget place within → place < length now.entries → length now.entries < most → Grows now new budget → length new.entries < length now.entries + width_limit → IsUnderWay r k limit new → IsFinished new place → InClass r k limit most start new budget (place + 1) within
 class_finished r k limit most start now new budget place within s lt less g few u f = record {
   under_way = u;
   few = omega (arith, few, less);
@@ -45,7 +50,7 @@ class_finished r k limit most start now new budget place within s lt less g few 
 }
 
 -- the entry at the place was visited, and is not finished
-pub class_cut : {S : Type 0} (r : Rules S) (k limit most : ℕ) (start now new : Book S) (budget place : ℕ) (within : Bool) → InClass r k limit most start now budget place within → length now.entries < most → Grows now new budget → length new.entries < length now.entries + 2 ^ 32 → IsUnderWay r k limit new → SomeRunExceeds r k limit → InClass r k limit most start new budget (place + 1) false
+pub class_cut : {S : Type 0} (r : Rules S) (k limit most : ℕ) (start now new : Book S) (budget place : ℕ) (within : Bool) → InClass r k limit most start now budget place within → length now.entries < most → Grows now new budget → length new.entries < length now.entries + width_limit → IsUnderWay r k limit new → SomeRunExceeds r k limit → InClass r k limit most start new budget (place + 1) false
 class_cut r k limit most start now new budget place within s less g few u x = record {
   under_way = u;
   few = omega (arith, few, less);

@@ -1,18 +1,33 @@
 -- A run that goes on from an entry by a choice, and then by forced steps.
 use Rattle.std.proofs.Common.{◌≡◌, ◌≢◌, ℕ, ◌+◌, ◌-◌, ◌<◌, ◌≤◌, ◌==◌, zero, suc, true, false, if◌then◌else◌, List, [], ◌∷◌, ◌++◌, length, length-append, arith, ap, refl, sym, ◌∙◌, subst, add-one, below_more}
 use Rattle.std.proofs.lemmas.Bool.Decides.{nat_tests}
-use Rattle.sched_core.specs.Logs.{next_from}
+use Rattle.sched_core.specs.Logs.{IsLog, next_from}
 use Rattle.sched_core.specs.Rules.{Rules, IsLawful, stands, choice_at, IsRun, NamesBelow}
+use Rattle.sched_core.proofs.LogLemmas.{IsLogFrom-append}
 use Rattle.statebook.specs.Stations.{is_station, forced, IsNextStation}
 use Rattle.statebook.specs.ExplorerCore.{IsEntry, choices_of, budget_after}
 use Rattle.statebook.specs.declared.entry.Entry.{Entry}
 use Rattle.statebook.proofs.RunLemmas.{departs, is_station_same, width_between}
-use Rattle.explore.specs.Exploring.{ComesTo, GoesPast, Follows, SomeRunExceeds, log_of}
+use Rattle.explore.specs.Exploring.{ComesTo, GoesPast, Follows, log_of}
+use Rattle.explore.specs.Found.{SomeRunExceeds}
 
 -- a log that names only steps below n can go on at n
-pub next_from_below : (low n : ℕ) (log : List (ℕ × ℕ)) → low ≤ n → NamesBelow log n → next_from low log ≤ n
+next_from_below : (low n : ℕ) (log : List (ℕ × ℕ)) → low ≤ n → NamesBelow log n → next_from low log ≤ n
 next_from_below low n [] h b = h
 next_from_below low n (m ∷ log) h b = next_from_below (m.0 + 1) n log (omega (arith, b.0)) b.1
+
+-- and is one then, if the choice departs
+pub push_is_log : (log : List (ℕ × ℕ)) (n c : ℕ) → IsLog log → NamesBelow log n → n ≤ 999999 → 1 ≤ c → c ≤ 4294967295 → IsLog (log ++ (n, c) ∷ [])
+push_is_log log n c l b step low high = IsLogFrom-append 0 log (n, c) l (record {
+  rising = next_from_below 0 n log (omega arith) b;
+  step = step;
+  low = low;
+  high = high;
+})
+
+log_of_is_log : (log : List (ℕ × ℕ)) (n c : ℕ) → IsLog log → NamesBelow log n → n ≤ 999999 → c ≤ 4294967295 → IsLog (log_of log n c)
+log_of_is_log log n zero l b step high = l
+log_of_is_log log n (suc c) l b step high = push_is_log log n (suc c) l b step (omega arith) high
 
 names_later : (log : List (ℕ × ℕ)) (n m : ℕ) → n ≤ m → NamesBelow log n → NamesBelow log m
 names_later [] n m h b = tt
@@ -138,11 +153,12 @@ follows_from r law e next c taken n start to way b = record {
   budget = b;
 }
 
-pub entry_from : {S : Type 0} (r : Rules S) → IsLawful r → (k limit : ℕ) (e next : Entry S) (c : ℕ) (start : S) → IsEntry r k limit e → c < choices_of (r.width e.state) e.budget → next.log ≡ log_of e.log e.steps c → r.same start (r.after e.state c) ≡ true → ComesTo r start (e.steps + 1) next.state next.steps → next.steps ≤ limit → next.budget ≡ budget_after e.budget c → IsEntry r k limit next
-entry_from {S} r law k limit e next c start is lt log to way within b =
+pub entry_from : {S : Type 0} (r : Rules S) → IsLawful r → (k limit : ℕ) (e next : Entry S) (c : ℕ) (start : S) → IsEntry r k limit e → c < choices_of (r.width e.state) e.budget → e.steps ≤ 999999 → c ≤ 4294967295 → next.log ≡ log_of e.log e.steps c → r.same start (r.after e.state c) ≡ true → ComesTo r start (e.steps + 1) next.state next.steps → next.steps ≤ limit → next.budget ≡ budget_after e.budget c → IsEntry r k limit next
+entry_from {S} r law k limit e next c start is lt step high log to way within b =
     let g : GoesOnBy e.log (log_of e.log e.steps c) e.steps c = goes_on_by e.log e.steps c is.names in
     let G : List (ℕ × ℕ) → Type 0 = λ l. GoesOnBy e.log l e.steps c in
     let goes : GoesOnBy e.log next.log e.steps c = subst G (sym log) g in
+    let L : List (ℕ × ℕ) → Type 0 = λ l. IsLog l in
     let first : Reaches r next.log start (suc e.steps) = first_step r law k limit e next.log c start is goes (allowed_width (r.width e.state) e.budget c lt) to in
     let P : ℕ → Type 0 = λ n. Reaches r next.log (forced r start way.forced_steps) n in
     let count : suc e.steps + way.forced_steps ≡ next.steps = omega (arith, way.count) in
@@ -153,6 +169,7 @@ entry_from {S} r law k limit e next c start is lt log to way within b =
       at = law.transitive next.state (forced r start way.forced_steps) (stands r next.log next.steps) way.same there.at;
       station = is_station_same r law next.state (forced r start way.forced_steps) way.same ∙ way.next.station;
       within = within;
+      log = subst L (sym log) (log_of_is_log e.log e.steps c is.log is.names step high);
       names = names_later next.log (suc e.steps) next.steps (omega (arith, count)) goes.names;
       budget = omega (arith, b, goes.count, is.budget, budget_kept (r.width e.state) e.budget c lt);
     }

@@ -1,18 +1,10 @@
 -- What the parts of the explorer keep as they go on.
-use Rattle.std.specs.Prelude.{◌≡◌, ℕ, ◌+◌, ◌<◌, ◌≤◌, ◌⊎◌, zero, suc, Bool, true, false, List, [], ◌∷◌, ◌++◌, length, slice_get, Some}
-use Rattle.sched_core.specs.Rules.{Rules, IsRun}
+use Rattle.std.specs.Prelude.{◌≡◌, ℕ, ◌+◌, ◌^◌, ◌<◌, ◌≤◌, ◌⊎◌, zero, suc, Bool, true, false, List, [], ◌∷◌, ◌++◌, length, slice_get, Some}
+use Rattle.sched_core.specs.Rules.{Rules}
 use Rattle.statebook.specs.Stations.{is_station, forced, IsNextStation}
 use Rattle.statebook.specs.Books.{Book, Dominates, IsClosed, IsRootAt, add}
 use Rattle.statebook.specs.ExplorerCore.{IsSound, budget_after}
 use Rattle.statebook.specs.declared.entry.Entry.{Entry}
-
--- Some run of at most k departures takes more than so many steps.
-pub record SomeRunExceeds {S : Type 0} (r : Rules S) (k limit : ℕ) : Type 0 where
-  pub log : List (ℕ × ℕ)
-  pub steps : ℕ
-  pub short : length log ≤ k
-  pub run : IsRun r log steps
-  pub more : limit < steps
 
 -- From s, after some steps, the forced way came to its next station after n steps in all.
 pub record ComesTo {S : Type 0} (r : Rules S) (s : S) (taken : ℕ) (t : S) (n : ℕ) : Type 0 where
@@ -42,6 +34,10 @@ pub record Grows {S : Type 0} (old new : Book S) (budget : ℕ) : Type 0 where
 abbrev pub IsFinished : {S : Type 0} → Book S → ℕ → Type 0
 IsFinished b i = (places : List ℕ) × (slice_get b.finished i ≡ Some (Some places))
 
+-- A state's choices are counted by 32 bits, so there are fewer than this.
+abbrev pub width_limit : ℕ
+width_limit = 2 ^ 32
+
 -- The log of a run that goes on by this choice at this step.
 abbrev pub log_of : List (ℕ × ℕ) → ℕ → ℕ → List (ℕ × ℕ)
 log_of log step zero = log
@@ -65,10 +61,6 @@ IsSameOrAdded old e new = (new ≡ old) ⊎ (new ≡ add old e)
 -- Each entry of the book is finished.
 abbrev pub AllFinished : {S : Type 0} → Book S → Type 0
 AllFinished {S} b = (i : ℕ) (e : Entry S) → slice_get b.entries i ≡ Some e → IsFinished b i
-
--- Each entry with at least this budget is finished.
-abbrev pub FinishedFrom : {S : Type 0} → Book S → ℕ → Type 0
-FinishedFrom {S} b budget = (i : ℕ) (e : Entry S) → slice_get b.entries i ≡ Some e → budget ≤ e.budget → IsFinished b i
 
 -- Each entry with just this budget is finished.
 abbrev pub FinishedAt : {S : Type 0} → Book S → ℕ → Type 0

@@ -27,6 +27,14 @@ pub record IsListedMark {S : Type 0} (r : Rules S) (marks : List (S × List (ℕ
 abbrev pub AllFewest : {S : Type 0} → Rules S → List (S × List (ℕ × ℕ)) → Type 0
 AllFewest {S} r marks = (i : ℕ) (found : S × List (ℕ × ℕ)) → slice_get marks i ≡ Some found → (log : List (ℕ × ℕ)) (n : ℕ) → IsRun r log n → r.same found.0 (stands r log n) ≡ true → length found.1 ≤ length log
 
+-- Some run of at most k departures takes more than so many steps.
+pub record SomeRunExceeds {S : Type 0} (r : Rules S) (k limit : ℕ) : Type 0 where
+  pub log : List (ℕ × ℕ)
+  pub steps : ℕ
+  pub short : length log ≤ k
+  pub run : IsRun r log steps
+  pub more : limit < steps
+
 -- At least so many entries exist that may be added, no two of them alike in state and budget.
 pub record HasEntries {S : Type 0} (r : Rules S) (k limit least : ℕ) : Type 0 where
   pub entries : List (Entry S)

@@ -1,2 +1,4 @@
 pub mod Found
 pub mod Exploring
+pub mod Wheels
+pub mod WheelLaws

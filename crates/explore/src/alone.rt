@@ -1,8 +1,8 @@
 ghost use Rattle.std.specs.Prelude.{◌≡◌, true, false, length, Err, IfOk, OnOk};
 ghost use Rattle.indexmap.specs.IndexMap.{IsUnique};
 ghost use Rattle.statebook.specs.Covered.{IsCovered};
-ghost use Rattle.explore.specs.Exploring.{AllFinished, Closes, IsComplete, IsUnderWay, SomeRunExceeds};
-ghost use Rattle.explore.specs.Found.{AllFewest, AreFound, HasEntries, IsListedMark};
+ghost use Rattle.explore.specs.Exploring.{AllFinished, Closes, IsComplete, IsUnderWay};
+ghost use Rattle.explore.specs.Found.{AllFewest, AreFound, HasEntries, IsListedMark, SomeRunExceeds};
 
 use crate::classes::visit_all;
 use crate::findings::{Findings, Reason, Status};
@@ -12,7 +12,7 @@ use statebook::{Entry, Limits, PlainBook};
 use std::alloc::{AllocError, Global};
 use std::hash::Hash;
 
-/// Whether all places together close the book.
+// Whether all places together close the book.
 fn closes<S: Eq + Hash + Drop>(alloc: Global, book: &PlainBook<S>) -> Result<bool, AllocError>
     ensures closed { IfOk result (λ closed. closed ≡ true → Closes book.now) }
     ensures open { IfOk result (λ closed. closed ≡ false → IsComplete book.now → ⊥) }
@@ -24,7 +24,7 @@ fn closes<S: Eq + Hash + Drop>(alloc: Global, book: &PlainBook<S>) -> Result<boo
     Ok(book.closed(0, &all))
 }
 
-/// The book with the root's entry alone.
+// The book with the root's entry alone.
 fn open_book<P: Space>(
     alloc: Global,
     space: &P,
@@ -46,8 +46,8 @@ fn open_book<P: Space>(
     }
 }
 
-/// What is to be said of a book that was gone through: exhausted where a closing scan of all its
-/// entries answers true.
+// What is to be said of a book that was gone through: exhausted where a closing scan of all its
+// entries answers true.
 fn status_of<P: Space>(
     alloc: Global,
     space: &P,
@@ -75,11 +75,16 @@ fn status_of<P: Space>(
 /// from choice 0. It lists the marks that were met, each once, with a log of the fewest departures
 /// that was met with it.
 ///
-/// Where it says `Exhausted`, every mark that such a run reaches is listed, after however many
-/// steps, and no run at all that reaches a listed mark has fewer departures than its log. Where it
-/// says `Cut`, it names a true reason, and what is listed is still true: a growth was refused
-/// (`Memory`), there are at least `limits.entries` entries (`Entries`), or some such run takes more
-/// than `limits.steps` steps (`Steps`). The error is want of memory for the root or for the list.
+/// Proved: each listed mark is reached under its log, by a run within both limits. Where it says
+/// `Exhausted`, every mark that such a run reaches is listed, after however many steps, and no run
+/// at all that reaches a listed mark has fewer departures than its log. Where it says
+/// `Cut(Entries)`, there are at least `limits.entries` entries; where `Cut(Steps)`, some such run
+/// takes more than `limits.steps` steps.
+///
+/// Only tested: that a growth was refused where it says `Cut(Memory)`, what the list of a search
+/// that was cut holds beyond being true, and which of several reasons is told.
+///
+/// The error is want of memory for the root or for the list, E901.
 pub fn explore_alone<P: Space>(
     alloc: Global,
     space: &P,

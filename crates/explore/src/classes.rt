@@ -1,5 +1,6 @@
-ghost use Rattle.std.specs.Prelude.{◌≡◌, ℕ, ◌+◌, ◌≤◌, ◌^◌, true, false, length, IfOk, OnOk, IsErrOf};
-ghost use Rattle.explore.specs.Exploring.{AllFinished, FinishedAt, Grows, IsUnderWay, SomeRunExceeds};
+ghost use Rattle.std.specs.Prelude.{◌≡◌, ℕ, ◌+◌, ◌≤◌, true, false, length, IfOk, OnOk, IsErrOf};
+ghost use Rattle.explore.specs.Exploring.{AllFinished, FinishedAt, Grows, IsUnderWay, width_limit};
+ghost use Rattle.explore.specs.Found.{SomeRunExceeds};
 
 use crate::findings::Reason;
 use crate::visit::visit;
@@ -7,8 +8,8 @@ use sched_core::Space;
 use statebook::{Limits, PlainBook};
 use std::alloc::Global;
 
-/// Visits each entry of this budget, those that it adds among them. Answers false where a way
-/// took more steps than the limit.
+// Visits each entry of this budget, those that it adds among them. Answers false where a way
+// took more steps than the limit.
 fn visit_class<P: Space>(
     alloc: Global,
     space: &P,
@@ -17,14 +18,14 @@ fn visit_class<P: Space>(
     budget: u32,
 ) -> Result<bool, Reason>
     requires under_way { IsUnderWay (P.rules space.now) limits.now.depart limits.now.steps book.old }
-    requires few { length book.old.entries ≤ limits.now.entries + 2 ^ 32 }
+    requires few { length book.old.entries ≤ limits.now.entries + width_limit }
     ensures finished { IfOk result (λ within. within ≡ true → FinishedAt book.new budget) }
     ensures past { IfOk result (λ within. within ≡ false → SomeRunExceeds (P.rules space.now) limits.now.depart limits.now.steps) }
     ensures full { IsErrOf result Reason.Entries → limits.now.entries ≤ length book.new.entries }
     ensures no_steps { IsErrOf result Reason.Steps → ⊥ }
     ensures under_way { IsUnderWay (P.rules space.now) limits.now.depart limits.now.steps book.new }
     ensures grows { Grows book.old book.new budget }
-    ensures few { length book.new.entries ≤ limits.now.entries + 2 ^ 32 }
+    ensures few { length book.new.entries ≤ limits.now.entries + width_limit }
 {
     let mut within = true;
     let mut place = 0;
@@ -53,7 +54,7 @@ pub fn visit_all<P: Space>(
     book: &mut PlainBook<P::State>,
 ) -> Result<(), Reason>
     requires under_way { IsUnderWay (P.rules space.now) limits.now.depart limits.now.steps book.old }
-    requires few { length book.old.entries ≤ limits.now.entries + 2 ^ 32 }
+    requires few { length book.old.entries ≤ limits.now.entries + width_limit }
     ensures finished { OnOk result (AllFinished book.new) }
     ensures past { IsErrOf result Reason.Steps → SomeRunExceeds (P.rules space.now) limits.now.depart limits.now.steps }
     ensures full { IsErrOf result Reason.Entries → limits.now.entries ≤ length book.new.entries }

@@ -12,6 +12,8 @@ mod next;
 mod tests;
 mod visit;
 mod way;
+#[cfg(test)]
+mod wheel;
 
 pub use alone::explore_alone;
 pub use findings::{Findings, Reason, Status};

@@ -9,7 +9,7 @@ use statebook::{Limits, PlainBook};
 use std::alloc::{AllocError, Global};
 use std::hash::Hash;
 
-/// Notes the mark under its log, in place of the log that was noted before.
+// Notes the mark under its log, in place of the log that was noted before.
 fn note<S: Eq + Hash + Drop>(
     marks: &mut IndexMap<S, Log>,
     state: S,

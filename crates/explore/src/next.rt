@@ -1,14 +1,15 @@
 ghost use Rattle.std.specs.Prelude.{◌≡◌, ◌<◌, ◌≤◌, true, IfOk, IfSome, IfNone};
 ghost use Rattle.sched_core.specs.Rules.{NamesBelow};
 ghost use Rattle.statebook.specs.ExplorerCore.{IsEntry, budget_after, choices_of};
-ghost use Rattle.explore.specs.Exploring.{Follows, SomeRunExceeds, log_of};
+ghost use Rattle.explore.specs.Exploring.{Follows, log_of};
+ghost use Rattle.explore.specs.Found.{SomeRunExceeds};
 
 use crate::way::to_station;
 use sched_core::{Log, Space};
 use statebook::{Entry, Limits};
 use std::alloc::AllocError;
 
-/// The log of a run that goes on by this choice at this step.
+// The log of a run that goes on by this choice at this step.
 fn log_after(log: &Log, step: u32, choice: u32) -> Result<Log, AllocError>
     requires names { NamesBelow log.now step }
     requires step { step ≤ 999999 }
@@ -21,7 +22,7 @@ fn log_after(log: &Log, step: u32, choice: u32) -> Result<Log, AllocError>
     Ok(after)
 }
 
-/// The departures left after the choice.
+// The departures left after the choice.
 fn budget_left(budget: u32, choice: u32) -> u32
     ensures { result ≡ budget_after budget choice }
 {

@@ -1,5 +1,6 @@
 ghost use Rattle.std.specs.Prelude.{◌≤◌};
 
+use crate::wheel::Wheel;
 use crate::{Findings, Reason, Status, explore_alone};
 use sched_core::{Grid, Square};
 use statebook::Limits;
@@ -55,6 +56,73 @@ fn cuts_name_their_reason(rt: HostRuntime) -> Result<(), Fail> {
     assert!(rt; findings.status == Status::Cut(Reason::Entries));
     assert_eq!(rt; findings.marks.len(), 1);
     Ok(())
+}
+
+fn wheel(back: u32, door: bool) -> Wheel {
+    Wheel {
+        places: 5,
+        back,
+        door,
+    }
+}
+
+// The door is met at each turn, and is left by under one departure.
+#[test]
+fn end_of_a_space_that_loops(rt: HostRuntime) -> Result<(), Fail> {
+    let limits = Limits::new(0, 100, 100).ok_or("limits")?;
+    let findings = explore_alone(rt.alloc(), &wheel(0, true), &limits)?;
+    assert!(rt; findings.status == Status::Exhausted);
+    assert_eq!(rt; findings.marks.len(), 0);
+    let limits = Limits::new(1, 100, 100).ok_or("limits")?;
+    let findings = explore_alone(rt.alloc(), &wheel(0, true), &limits)?;
+    assert!(rt; findings.status == Status::Exhausted);
+    assert_eq!(rt; findings.marks.len(), 1);
+    let log = findings.marks.get(&5).ok_or("no mark")?;
+    assert_eq!(rt; log.members().len(), 1);
+    assert_eq!(rt; log.members()[0].0 % 5, 0);
+    assert_eq!(rt; log.members()[0].1, 1);
+    Ok(())
+}
+
+// A loop that comes back to the opening state is gone through once. One that doesn't has no station, so it goes on up to
+// the limit of steps.
+#[test]
+fn spaces_without_an_end(rt: HostRuntime) -> Result<(), Fail> {
+    let limits = Limits::new(4, 1000, 100).ok_or("limits")?;
+    let findings = explore_alone(rt.alloc(), &wheel(0, false), &limits)?;
+    assert!(rt; findings.status == Status::Exhausted);
+    assert_eq!(rt; findings.marks.len(), 0);
+    let findings = explore_alone(rt.alloc(), &wheel(2, false), &limits)?;
+    assert!(rt; findings.status == Status::Cut(Reason::Steps));
+    assert_eq!(rt; findings.marks.len(), 0);
+    Ok(())
+}
+
+// Of the runs without departures the one from (2, 0) on takes a fourth step, before any job of a run that departs. By then
+// there are four entries: (0, 0), (1, 0), (0, 1) and (1, 1). With room for one more, (0, 1) and (1, 1) add none.
+#[test]
+fn first_reason_is_told(rt: HostRuntime) -> Result<(), Fail> {
+    let limits = Limits::new(1, 3, 4).ok_or("limits")?;
+    let findings = explore_alone(rt.alloc(), &Grid::new(2, 2), &limits)?;
+    assert!(rt; findings.status == Status::Cut(Reason::Entries));
+    let limits = Limits::new(1, 3, 5).ok_or("limits")?;
+    let findings = explore_alone(rt.alloc(), &Grid::new(2, 2), &limits)?;
+    assert!(rt; findings.status == Status::Cut(Reason::Steps));
+    Ok(())
+}
+
+// As above where a growth may be refused: then that is told, or the entries are, and never the steps. docs/GATE.md tells the
+// command that refuses each growth in turn.
+#[test]
+fn growth_refused_before_other_cuts(rt: HostRuntime) {
+    let Some(limits) = Limits::new(1, 3, 4) else {
+        return;
+    };
+    let Ok(findings) = explore_alone(rt.alloc(), &Grid::new(2, 2), &limits) else {
+        return;
+    };
+    let memory = findings.status == Status::Cut(Reason::Memory);
+    assert!(rt; memory || findings.status == Status::Cut(Reason::Entries));
 }
 
 // Whichever growth is refused, what is told is true: an exhausted search has the three marks, and one that was cut

@@ -1,6 +1,7 @@
-ghost use Rattle.std.specs.Prelude.{◌≡◌, ℕ, ◌+◌, ◌<◌, ◌≤◌, ◌^◌, true, false, length, slice_get, Some, IfOk, IfSome, IfNone, OnOk, OnErr};
+ghost use Rattle.std.specs.Prelude.{◌≡◌, ℕ, ◌+◌, ◌<◌, ◌≤◌, true, false, length, slice_get, Some, IfOk, IfSome, IfNone, OnOk, OnErr};
 ghost use Rattle.statebook.specs.ExplorerCore.{IsMet, choices_of};
-ghost use Rattle.explore.specs.Exploring.{Grows, IsFinished, IsFoundAt, IsSameOrAdded, IsUnderWay, SomeRunExceeds};
+ghost use Rattle.explore.specs.Exploring.{Grows, IsFinished, IsFoundAt, IsSameOrAdded, IsUnderWay, width_limit};
+ghost use Rattle.explore.specs.Found.{SomeRunExceeds};
 ghost use Rattle.statebook.specs.declared.entry.Entry.{Entry};
 
 use crate::next::next_entry;
@@ -9,7 +10,7 @@ use statebook::{Done, Entry, Limits, Met, PlainBook};
 use std::alloc::{AllocError, Global};
 use std::hash::Hash;
 
-/// How many choices the entry's budget allows: choice 0, and the others where a departure is left.
+// How many choices the entry's budget allows: choice 0, and the others where a departure is left.
 fn choice_count<P: Space>(space: &P, entry: &Entry<P::State>) -> u32
     ensures { result ≡ choices_of ((P.rules space.now).width entry.now.state) entry.now.budget }
 {
@@ -21,8 +22,8 @@ fn choice_count<P: Space>(space: &P, entry: &Entry<P::State>) -> u32
     }
 }
 
-/// The place of an entry that dominates this one, itself where none did.
-fn place_of<S: Eq + Hash + Drop>(
+// The place of an entry that dominates this one, itself where none did.
+fn met_place<S: Eq + Hash + Drop>(
     book: &mut PlainBook<S>,
     entry: Entry<S>,
 ) -> Result<usize, AllocError>
@@ -37,8 +38,8 @@ fn place_of<S: Eq + Hash + Drop>(
     }
 }
 
-/// Meets the book with the next station after the choice, and answers with the place of the entry
-/// that dominates it; None where the way there takes more steps than the limit.
+// Meets the book with the next station after the choice, and answers with the place of the entry
+// that dominates it; None where the way there takes more steps than the limit.
 fn meet_choice<P: Space>(
     space: &P,
     limits: &Limits,
@@ -57,7 +58,7 @@ fn meet_choice<P: Space>(
 {
     let root = &book.read(0).state;
     match next_entry(space, root, book.read(place), choice, limits)? {
-        Some(entry) => Ok(Some(place_of(book, entry)?)),
+        Some(entry) => Ok(Some(met_place(book, entry)?)),
         None => Ok(None),
     }
 }
@@ -78,7 +79,7 @@ pub fn visit<P: Space>(
     ensures past { IfOk result (λ within. within ≡ false → SomeRunExceeds (P.rules space.now) limits.now.depart limits.now.steps) }
     ensures under_way { IsUnderWay (P.rules space.now) limits.now.depart limits.now.steps book.new }
     ensures grows { (e : Entry P.State) → slice_get book.old.entries place ≡ Some e → Grows book.old book.new e.budget }
-    ensures few { length book.new.entries < length book.old.entries + 2 ^ 32 }
+    ensures few { length book.new.entries < length book.old.entries + width_limit }
 {
     let count = choice_count(space, book.read(place));
     let mut next = Vec::new(alloc);

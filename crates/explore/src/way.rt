@@ -5,8 +5,8 @@ ghost use Rattle.explore.specs.Exploring.{ComesTo, GoesPast};
 use sched_core::Space;
 use std::alloc::AllocError;
 
-/// Whether an explorer stops at the state: at one equal to the opening state, at one of width
-/// other than 1, and at a mark.
+// Whether an explorer stops at the state: at one equal to the opening state, at one of width
+// other than 1, and at a mark.
 fn stops_at<P: Space>(space: &P, root: &P::State, state: &P::State) -> bool
     requires { (P.rules space.now).same root.now (P.rules space.now).first ≡ true }
     ensures { result ≡ is_station (P.rules space.now) state.now }

@@ -1,12 +1,14 @@
 -- Every allowed list of events keeps the core sound, and a closed one covers every run.
-use Rattle.std.proofs.Common.{◌≡◌, ℕ, ◌+◌, ◌-◌, ◌<◌, ◌≤◌, zero, suc, true, false, List, [], ◌∷◌, ◌++◌, length, slice_get, slice_set, Contains, Some, None, arith, ap, refl, sym, ◌∙◌, subst, ◌⊎◌, inl, inr, Option}
+use Rattle.std.proofs.Common.{◌≡◌, ℕ, ◌+◌, ◌-◌, ◌<◌, ◌≤◌, zero, suc, Bool, true, false, List, [], ◌∷◌, ◌++◌, length, slice_get, slice_set, Contains, Some, None, arith, ap, refl, sym, ◌∙◌, subst, ◌⊎◌, inl, inr, Option}
 use Rattle.std.proofs.lemmas.Bool.{cases_lt}
 use Rattle.std.proofs.lemmas.Option.{same_Some, slice_get-get_or}
 use Rattle.sched_core.specs.Rules.{Rules, IsLawful, stands, choice_at, IsRun}
 use Rattle.statebook.specs.declared.entry.Entry.{Entry}
 use Rattle.statebook.specs.Stations.{is_station, forced}
 use Rattle.statebook.specs.Covered.{IsCovered}
-use Rattle.statebook.specs.Books.{Book, no_entries, add, finish, AllClosed, IsClosedAt, IsClosed}
+use Rattle.statebook.specs.declared.book.Met.{Met}
+use Rattle.statebook.specs.declared.book.Met.TheVariants.{New, Known}
+use Rattle.statebook.specs.Books.{Book, no_entries, add, finish, AllClosed, IsClosedAt, IsClosed, Meets}
 use Rattle.statebook.specs.ExplorerCore.{IsEntry, choices_of, budget_after, IsMet, AllMet, Core, Event, happens, IsAllowed, AreAllowed, after_all, empty, IsListed, IsSound}
 use Rattle.statebook.specs.ExplorerCore.Event.{Add, Finish, Give, Take, Open, Shut, Stop}
 use Rattle.statebook.proofs.RunLemmas.{departs, used, used-le, used_grows, is_station_same, mark_is_station, GoesAlong, along}
@@ -61,6 +63,14 @@ sound_add {S} r k limit b e s h = record {
     | inr same ↦ absurd cc
   ];
 }
+
+pub sound_meets : {S : Type 0} (r : Rules S) (k limit : ℕ) (same : S → S → Bool) (old : Book S) (e : Entry S) (met : Met) (new : Book S) → IsSound r k limit old → IsEntry r k limit e → Meets same old e met new → IsSound r k limit new
+sound_meets {S} r k limit same old e (New place) new s h m =
+    let P : Book S → Type 0 = λ b. IsSound r k limit b in
+    subst P (sym m.1) (sound_add r k limit old e s h)
+sound_meets {S} r k limit same old e (Known place) new s h m =
+    let P : Book S → Type 0 = λ b. IsSound r k limit b in
+    subst P (sym m.3) s
 
 pub sound_finish : {S : Type 0} (r : Rules S) (k limit : ℕ) (b : Book S) (i : ℕ) (places : List ℕ) → IsSound r k limit b → AllMet r b.entries i places → IsSound r k limit (finish b i places)
 sound_finish r k limit b i places s h = record {

@@ -1,5 +1,6 @@
 -- The explorer's core: a pure machine that knows no hash, no lock and no order of work.
-use Rattle.std.specs.Prelude.{◌≡◌, ℕ, ◌+◌, ◌-◌, ◌≤◌, ◌==◌, zero, suc, min, Bool, true, false, if◌then◌else◌, List, [], ◌∷◌, ◌++◌, length, replicate, Contains, slice_get, slice_set, slice_index, unwrap_or, Some, None}
+use Rattle.std.specs.Prelude.{◌≡◌, ℕ, ◌+◌, ◌-◌, ◌<◌, ◌≤◌, ◌==◌, zero, suc, min, Bool, true, false, if◌then◌else◌, List, [], ◌∷◌, ◌++◌, length, replicate, Contains, slice_get, slice_set, slice_index, unwrap_or, Some, None}
+use Rattle.sched_core.specs.Logs.{IsLog}
 use Rattle.sched_core.specs.Rules.{Rules, stands, IsRun, NamesBelow}
 use Rattle.statebook.specs.Stations.{is_station, forced, IsNextStation}
 use Rattle.statebook.specs.Books.{Book, Dominates, no_entries, add, finish}
@@ -7,12 +8,13 @@ use Rattle.statebook.specs.declared.entry.Entry.{Entry}
 
 -- What may be added, whatever stands in the book: the run under the entry's log is lawful for so many
 -- steps as the entry says, no more than the limit, and has come to the entry's state, which is a station;
--- the log names nothing later; budget and departures are k together.
+-- the log, each of whose members is a departure, names nothing later; budget and departures are k together.
 pub record IsEntry {S : Type 0} (r : Rules S) (k limit : ℕ) (e : Entry S) : Type 0 where
   pub run : IsRun r e.log e.steps
   pub at : r.same e.state (stands r e.log e.steps) ≡ true
   pub station : is_station r e.state ≡ true
   pub within : e.steps ≤ limit
+  pub log : IsLog e.log
   pub names : NamesBelow e.log e.steps
   pub budget : e.budget + length e.log ≡ k
 
@@ -79,10 +81,10 @@ happens w Stop = record w { stopped = true }
 abbrev pub IsAllowed : {S : Type 0} → Rules S → ℕ → ℕ → Core S → Event S → Type 0
 IsAllowed r k limit w (Add e) = IsEntry r k limit e
 IsAllowed r k limit w (Finish i places) = (slice_get w.book.finished i ≡ Some None) × AllMet r w.book.entries i places
-IsAllowed r k limit w (Give worker job) = Unit {0}
+IsAllowed r k limit w (Give worker job) = worker < length w.jobs
 IsAllowed r k limit w (Take worker job) = Contains (jobs_of w.jobs worker) job
-IsAllowed r k limit w (Open seat) = Unit {0}
-IsAllowed r k limit w (Shut seat) = Unit {0}
+IsAllowed r k limit w (Open seat) = seat < length w.opens
+IsAllowed r k limit w (Shut seat) = seat < length w.shuts
 IsAllowed r k limit w Stop = Unit {0}
 
 -- each event of the list may happen after those before it

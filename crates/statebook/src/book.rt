@@ -54,7 +54,7 @@ impl<S: Eq + Hash> Model for PlainBook<S> {
     ghost invariant = { λ b. IsKept S.eq (record { entries = b.entries.keys; finished = map places_of b.finished.items }) b.top };
 }
 
-/// The place of the entry that is equal in state and budget.
+// The place of the entry that is equal in state and budget.
 fn place_of<S: Eq + Hash>(entries: &IndexSet<Entry<S>>, probe: &Entry<S>) -> Option<usize>
     ensures found { IfSome result (λ i. (f : Entry S) × (slice_get entries.now.keys i ≡ Some f) × (alike S.eq probe.now f ≡ true)) }
     ensures none { IfNone result ((i : ℕ) (f : Entry S) → slice_get entries.now.keys i ≡ Some f → alike S.eq probe.now f ≡ false) }
@@ -62,8 +62,8 @@ fn place_of<S: Eq + Hash>(entries: &IndexSet<Entry<S>>, probe: &Entry<S>) -> Opt
     entries.get_index_of(probe)
 }
 
-/// The place of an entry that dominates this one, where no budget is over the top. One look-up
-/// for each budget that would do.
+// The place of an entry that dominates this one, where no budget is over the top. One look-up
+// for each budget that would do.
 fn dominator<S: Eq + Hash>(
     entries: &IndexSet<Entry<S>>,
     entry: &mut Entry<S>,
@@ -83,14 +83,14 @@ fn dominator<S: Eq + Hash>(
     found
 }
 
-/// Whether the place is in the list. In the list of all places it is found at once.
+// Whether the place is in the list. In the list of all places it is found at once.
 fn is_among(all: &[usize], place: usize) -> bool
     ensures { IsTrue result ↔ Contains all.now place }
 {
     all.get(place) == Some(&place) || all.contains(&place)
 }
 
-/// Whether each of the places is in the list.
+// Whether each of the places is in the list.
 fn are_among(all: &[usize], places: &[usize]) -> bool
     ensures { IsTrue result ↔ AllIn all.now places.now }
 {
@@ -102,7 +102,7 @@ fn are_among(all: &[usize], places: &[usize]) -> bool
     true
 }
 
-/// Whether the entry at the place is finished, and all that its list names are in the list.
+// Whether the entry at the place is finished, and all that its list names are in the list.
 fn is_closed_at(finished: &[Option<Vec<usize>>], all: &[usize], place: usize) -> bool
     ensures { IsTrue result ↔ IsClosedAt (map places_of finished.now) all.now place }
 {
@@ -113,7 +113,7 @@ fn is_closed_at(finished: &[Option<Vec<usize>>], all: &[usize], place: usize) ->
     }
 }
 
-/// Whether each place of the list is closed.
+// Whether each place of the list is closed.
 fn are_closed(finished: &[Option<Vec<usize>>], all: &[usize]) -> bool
     ensures { IsTrue result ↔ AllClosed (map places_of finished.now) all.now }
 {
@@ -207,7 +207,7 @@ impl<S: Eq + Hash + Drop> PlainBook<S> {
         Ok(())
     }
 
-    /// Whether the place is that of a run's first entry, with no departure and no step.
+    // Whether the place is that of a run's first entry, with no departure and no step.
     fn is_root(&self, place: usize) -> bool
         ensures { IsTrue result ↔ IsRootAt self.now.entries place }
     {

@@ -12,5 +12,5 @@ mod tests;
 
 pub use book::{BookFault, Done, Met, PlainBook};
 pub use entry::Entry;
-pub use law::closed_covers;
+pub use law::{book_stays_sound, closed_covers};
 pub use limits::Limits;

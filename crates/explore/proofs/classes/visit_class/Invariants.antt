@@ -1,4 +1,5 @@
-use Rattle.std.proofs.Common.{◌+◌, ◌-◌, ◌^◌}
+use Rattle.std.proofs.Common.{◌+◌, ◌-◌}
+use Rattle.explore.specs.Exploring.{width_limit}
 use Rattle.explore.proofs.ClassLemmas.{InClass}
 use Rattle.explore.proofs.classes.visit_class.Given as goal
 
@@ -6,4 +7,4 @@ abbrev pub invariant-loop-place : goal.invariant-loop-place
 invariant-loop-place g l = InClass (g.P.Space.rules l.space) l.limits.depart l.limits.steps l.limits.entries l.initial.book l.book l.budget l.place l.within
 
 abbrev pub decreases-loop-place : goal.decreases-loop-place
-decreases-loop-place g l = l.limits.entries + 2 ^ 32 - l.place
+decreases-loop-place g l = l.limits.entries + width_limit - l.place

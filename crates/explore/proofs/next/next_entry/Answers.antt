@@ -31,6 +31,8 @@ returns-in-Some-clause-follows g c =
 pub returns-in-Some-clause-allowed : goal.returns-in-Some-clause-allowed
 returns-in-Some-clause-allowed g c =
     entry_from (g.P.Space.rules c.args.space.now) (g.met.P.Space.lawful c.args.space.now) c.args.limits.now.depart c.args.limits.now.steps c.args.entry.now _ c.args.choice c.step.new.s c.requires.entry c.requires.choice
+    (let w = c.requires.entry.within in let n = c.if-entry-limits.false in omega arith)
+    (omega arith)
     c.in_ok-log.ensures
     (taken g (goal.at.returns-in-Some-clause-allowed g c).In_ok-steps)
     (rw c.in-Some.is at c.in_ok-steps.ensures.there)

@@ -1,6 +1,7 @@
 use Rattle.std.proofs.Common.{◌≡◌, ◌+◌, ◌≤◌, true, false, length, slice_get, Some}
 use Rattle.statebook.specs.declared.entry.Entry.{Entry}
-use Rattle.explore.specs.Exploring.{Grows, IsUnderWay, SomeRunExceeds}
+use Rattle.explore.specs.Exploring.{Grows, IsUnderWay}
+use Rattle.explore.specs.Found.{SomeRunExceeds}
 use Rattle.explore.proofs.VisitLemmas.{HasMet}
 use Rattle.explore.proofs.visit.visit.Given as goal
 

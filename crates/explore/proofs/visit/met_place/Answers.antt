@@ -1,8 +1,8 @@
 use Rattle.statebook.specs.Books.{Meets}
 use Rattle.statebook.specs.declared.book.Met.TheVariants.{New, Known}
 use Rattle.explore.proofs.VisitLemmas.{found_new, found_known}
-use Rattle.explore.proofs.visit.place_of.Goals as goal
-use Rattle.explore.proofs.visit.place_of.Goals.{in-Ok-New, in-Ok-Known, in-Err}
+use Rattle.explore.proofs.visit.met_place.Goals as goal
+use Rattle.explore.proofs.visit.met_place.Goals.{in-Ok-New, in-Ok-Known, in-Err}
 
 pub returns-clause-found : goal.returns-clause-found
 returns-clause-found g c = elim c.match-meet.branch [
