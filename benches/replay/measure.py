@@ -4,10 +4,11 @@
 Usage: benches/replay/measure.py [PATH_OF_vrace_program]
 
 Reading: ordinary text of many modules, of which the top does nothing, so that text, tokens and tree are all that costs; the
-difference between a long text and a short one. Steps: one process of many assignments and no dump. Dumps: one process that waits 1 and
-changes a bit, and the same without `$dumpvars`; the difference is the dump. Status 1 where a byte read costs more than 400
-instructions, a byte of blanks more than 100, twice the steps more than 2.2 times, a byte written more than 150, or a
-byte of text more than 60 bytes of memory at the peak.
+difference between a long text and a short one. Refusals: texts of one piece repeated, which is as bad as a text can be. Steps: one
+process of many assignments, blocking or all posted at one time, and no dump. Dumps: one process that waits 1 and changes a bit, and the
+same without `$dumpvars`; the difference is the dump. Status 1 where a byte read costs more than 400 instructions, a byte of
+blanks more than 100, twice the steps more than 2.2 times, a byte written more than 150, or a byte of text more than 60 bytes
+of memory at the peak.
 """
 import sys
 from pathlib import Path
@@ -27,8 +28,8 @@ def ordinary(count):
     return ("module tb; endmodule\n" + "".join(UNIT % i for i in range(count))).encode()
 
 
-def assignments(count):
-    return ("module tb; reg a, b; initial begin " + "a = b; " * count + "end endmodule").encode()
+def assignments(count, statement):
+    return ("module tb; reg a, b; initial begin " + statement * count + "end endmodule").encode()
 
 
 def changes(count, dumped):
@@ -51,13 +52,16 @@ def main():
     tb = ["replay", "--top", "tb"]
     say("instructions a byte of ordinary text", per_byte(ordinary(500), ordinary(5500), tb), 400)
     say("instructions a byte of blanks", per_byte(b" " * 100_000, b" " * 2_100_000, tb), 100)
+    for name, piece in (("quotes", b'""'), ("line feeds", b"\n"), ("slashes with blanks", b"/ "), ("parentheses", b"(")):
+        short, long = (piece * (count // len(piece)) for count in (100_000, 2_100_000))
+        print(f"instructions a byte of {name}, refused: {per_byte(short, long, tb):.1f}")
     text = ordinary(5500)
     say("bytes of memory a byte of text", peak_bytes(program, tb, text) / len(text), 60)
     steps = ["replay", "--steps", "1000000"]
-    few, many = assignments(20_000), assignments(40_000)
-    taken = [counted(program, steps, text)[0] for text in (few, many)]
-    say("times the instructions for twice the steps", taken[1] / taken[0], 2.2)
-    print(f"instructions a step, the reading of its statement with it: {(taken[1] - taken[0]) / 20_000:.0f}")
+    for name, statement, each in (("steps", "a = b; ", 1), ("updates of one time", "a <= b; ", 2)):
+        taken = [counted(program, steps, assignments(count, statement))[0] for count in (20_000, 40_000)]
+        say(f"times the instructions for twice the {name}", taken[1] / taken[0], 2.2)
+        print(f"instructions a step, the reading of its statement with it: {(taken[1] - taken[0]) / (20_000 * each):.0f}")
     dumped, written = counted(program, steps, changes(20_000, True))
     plain, nothing = counted(program, steps, changes(20_000, False))
     say("instructions a byte of dump", (dumped - plain) / (len(written) - len(nothing)), 150)
