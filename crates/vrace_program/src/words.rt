@@ -70,9 +70,7 @@ fn replay_command<'a>(alloc: Global) -> Result<Command<'a>, AllocError> {
 pub fn commands<'a>(alloc: Global) -> Result<Command<'a>, AllocError> {
     Command::new(alloc, "vrace")
         .bin_name("vrace")?
-        .about(
-            "Runs Verilog in the order that a log names. Without words: replays standard input.",
-        )
+        .about("Runs Verilog in the order that a log names. Without words: replays standard input.")
         .subcommand_required(true)
         .subcommand(replay_command(alloc)?)
 }
