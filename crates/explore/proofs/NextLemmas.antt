@@ -126,7 +126,7 @@ budget_kept w b zero lt = omega arith
 budget_kept w zero (suc c) lt = absurd (omega (arith, lt))
 budget_kept w (suc b) (suc c) lt = omega arith
 
-forced_same : {S : Type 0} (r : Rules S) → IsLawful r → (s t : S) (n : ℕ) → r.same s t ≡ true → ((j : ℕ) → j < n → is_station r (forced r s j) ≡ false) → r.same (forced r s n) (forced r t n) ≡ true
+pub forced_same : {S : Type 0} (r : Rules S) → IsLawful r → (s t : S) (n : ℕ) → r.same s t ≡ true → ((j : ℕ) → j < n → is_station r (forced r s j) ≡ false) → r.same (forced r s n) (forced r t n) ≡ true
 forced_same r law s t zero e passes = e
 forced_same r law s t (suc n) e passes =
     let before : r.same (forced r s n) (forced r t n) ≡ true = forced_same r law s t n e (λ j lt. passes j (omega (arith, lt))) in
@@ -134,7 +134,7 @@ forced_same r law s t (suc n) e passes =
     law.after_same (forced r s n) (forced r t n) 0 before (omega arith)
 
 -- equal states have their next stations after as many steps
-next_same : {S : Type 0} (r : Rules S) → IsLawful r → (s t : S) (n : ℕ) → r.same s t ≡ true → IsNextStation r s n → IsNextStation r t n
+pub next_same : {S : Type 0} (r : Rules S) → IsLawful r → (s t : S) (n : ℕ) → r.same s t ≡ true → IsNextStation r s n → IsNextStation r t n
 next_same r law s t n e x = record {
   passes = λ j lt.
       (let alike : r.same (forced r s j) (forced r t j) ≡ true = forced_same r law s t j e (λ i less. x.passes i (omega (arith, less, lt))) in

@@ -7,6 +7,8 @@ ghost use Rattle.explore.specs.Found.{AllFewest, AreFound, HasEntries, IsListedM
 use crate::classes::visit_all;
 use crate::findings::{Findings, Reason, Status};
 use crate::marks::list_marks;
+use crate::search::Search;
+use indexmap::IndexMap;
 use sched_core::{Log, Space};
 use statebook::{Entry, Limits, PlainBook};
 use std::alloc::{AllocError, Global};
@@ -81,6 +83,9 @@ fn status_of<P: Space>(
 /// `Cut(Entries)`, there are at least `limits.entries` entries; where `Cut(Steps)`, some such run
 /// takes more than `limits.steps` steps.
 ///
+/// Beside the entries it keeps states on long forced ways, one in 256 steps, so that a way that joins
+/// a known one isn't walked again: at most 4,096 of them more than there are entries.
+///
 /// Only tested: that a growth was refused where it says `Cut(Memory)`, what the list of a search
 /// that was cut holds beyond being true, and which of several reasons is told.
 ///
@@ -97,8 +102,13 @@ pub fn explore_alone<P: Space>(
     ensures entries { IfOk result (λ findings. findings.status ≡ Status.Cut Reason.Entries → HasEntries (P.rules space.now) limits.now.depart limits.now.steps limits.now.entries) }
     ensures steps { IfOk result (λ findings. findings.status ≡ Status.Cut Reason.Steps → SomeRunExceeds (P.rules space.now) limits.now.depart limits.now.steps) }
 {
-    let mut book = open_book(alloc, space, limits)?;
-    let visited = visit_all(alloc, space, limits, &mut book);
+    let mut search = Search {
+        book: open_book(alloc, space, limits)?,
+        ways: IndexMap::new(alloc),
+    };
+    let visited = visit_all(alloc, space, limits, &mut search);
+    let Search { book, ways } = search;
+    drop(ways);
     let status = status_of(alloc, space, limits, &book, visited);
     let marks = list_marks(alloc, space, limits, &book)?;
     Ok(Findings { marks, status })

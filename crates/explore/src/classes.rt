@@ -1,11 +1,13 @@
 ghost use Rattle.std.specs.Prelude.{◌≡◌, ℕ, ◌+◌, ◌≤◌, true, false, length, IfOk, OnOk, IsErrOf};
-ghost use Rattle.explore.specs.Exploring.{AllFinished, FinishedAt, Grows, IsUnderWay, width_limit};
+ghost use Rattle.explore.specs.Exploring.{AllFinished, FinishedAt, Grows, width_limit};
 ghost use Rattle.explore.specs.Found.{SomeRunExceeds};
+ghost use Rattle.explore.specs.Ways.{IsSearching};
 
 use crate::findings::Reason;
+use crate::search::Search;
 use crate::visit::visit;
 use sched_core::Space;
-use statebook::{Limits, PlainBook};
+use statebook::Limits;
 use std::alloc::Global;
 
 // Visits each entry of this budget, those that it adds among them. Answers false where a way
@@ -14,27 +16,27 @@ fn visit_class<P: Space>(
     alloc: Global,
     space: &P,
     limits: &Limits,
-    book: &mut PlainBook<P::State>,
+    search: &mut Search<P::State>,
     budget: u32,
 ) -> Result<bool, Reason>
-    requires under_way { IsUnderWay (P.rules space.now) limits.now.depart limits.now.steps book.old }
-    requires few { length book.old.entries ≤ limits.now.entries + width_limit }
-    ensures finished { IfOk result (λ within. within ≡ true → FinishedAt book.new budget) }
+    requires searching { IsSearching (P.rules space.now) limits.now.depart limits.now.steps search.old }
+    requires few { length search.old.book.entries ≤ limits.now.entries + width_limit }
+    ensures finished { IfOk result (λ within. within ≡ true → FinishedAt search.new.book budget) }
     ensures past { IfOk result (λ within. within ≡ false → SomeRunExceeds (P.rules space.now) limits.now.depart limits.now.steps) }
-    ensures full { IsErrOf result Reason.Entries → limits.now.entries ≤ length book.new.entries }
+    ensures full { IsErrOf result Reason.Entries → limits.now.entries ≤ length search.new.book.entries }
     ensures no_steps { IsErrOf result Reason.Steps → ⊥ }
-    ensures under_way { IsUnderWay (P.rules space.now) limits.now.depart limits.now.steps book.new }
-    ensures grows { Grows book.old book.new budget }
-    ensures few { length book.new.entries ≤ limits.now.entries + width_limit }
+    ensures searching { IsSearching (P.rules space.now) limits.now.depart limits.now.steps search.new }
+    ensures grows { Grows search.old.book search.new.book budget }
+    ensures few { length search.new.book.entries ≤ limits.now.entries + width_limit }
 {
     let mut within = true;
     let mut place = 0;
-    while place < book.len() {
-        if book.read(place).budget == budget {
-            if book.len() >= limits.entries as usize {
+    while place < search.book.len() {
+        if search.book.read(place).budget == budget {
+            if search.book.len() >= limits.entries as usize {
                 return Err(Reason::Entries);
             }
-            match visit(alloc, space, limits, book, place) {
+            match visit(alloc, space, limits, search, place) {
                 Ok(true) => {}
                 Ok(false) => within = false,
                 Err(_) => return Err(Reason::Memory),
@@ -51,18 +53,18 @@ pub fn visit_all<P: Space>(
     alloc: Global,
     space: &P,
     limits: &Limits,
-    book: &mut PlainBook<P::State>,
+    search: &mut Search<P::State>,
 ) -> Result<(), Reason>
-    requires under_way { IsUnderWay (P.rules space.now) limits.now.depart limits.now.steps book.old }
-    requires few { length book.old.entries ≤ limits.now.entries + width_limit }
-    ensures finished { OnOk result (AllFinished book.new) }
+    requires searching { IsSearching (P.rules space.now) limits.now.depart limits.now.steps search.old }
+    requires few { length search.old.book.entries ≤ limits.now.entries + width_limit }
+    ensures finished { OnOk result (AllFinished search.new.book) }
     ensures past { IsErrOf result Reason.Steps → SomeRunExceeds (P.rules space.now) limits.now.depart limits.now.steps }
-    ensures full { IsErrOf result Reason.Entries → limits.now.entries ≤ length book.new.entries }
-    ensures under_way { IsUnderWay (P.rules space.now) limits.now.depart limits.now.steps book.new }
+    ensures full { IsErrOf result Reason.Entries → limits.now.entries ≤ length search.new.book.entries }
+    ensures searching { IsSearching (P.rules space.now) limits.now.depart limits.now.steps search.new }
 {
     let mut within = true;
     for departures in 0..limits.depart + 1 {
-        if !visit_class(alloc, space, limits, book, limits.depart - departures)? {
+        if !visit_class(alloc, space, limits, search, limits.depart - departures)? {
             within = false;
         }
     }

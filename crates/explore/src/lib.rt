@@ -8,10 +8,12 @@ mod classes;
 mod findings;
 mod marks;
 mod next;
+mod search;
 #[cfg(test)]
 mod tests;
 mod visit;
 mod way;
+mod ways;
 #[cfg(test)]
 mod wheel;
 

@@ -1,9 +1,11 @@
-ghost use Rattle.std.specs.Prelude.{◌≡◌, ◌<◌, ◌≤◌, true, IfOk, IfSome, IfNone};
+ghost use Rattle.std.specs.Prelude.{◌≡◌, ◌<◌, ◌≤◌, [], IfOk, IfSome, IfNone};
 ghost use Rattle.sched_core.specs.Rules.{NamesBelow};
 ghost use Rattle.statebook.specs.ExplorerCore.{IsEntry, budget_after, choices_of};
 ghost use Rattle.explore.specs.Exploring.{Follows, log_of};
 ghost use Rattle.explore.specs.Found.{SomeRunExceeds};
+ghost use Rattle.explore.specs.Ways.{AllCome, AllGoPast, IsSearching};
 
+use crate::search::{Landmark, Search};
 use crate::way::to_station;
 use sched_core::{Log, Space};
 use statebook::{Entry, Limits};
@@ -34,20 +36,25 @@ fn budget_left(budget: u32, choice: u32) -> u32
 }
 
 /// The entry of the next station after a choice that the entry's budget allows; None where the
-/// way there takes more steps than the limit. The state is copied once.
+/// way there takes more steps than the limit. The state is copied once, and where a known way is
+/// joined the known station's state once. Each landmark on the way leads there too.
 pub fn next_entry<P: Space>(
     space: &P,
-    root: &P::State,
+    limits: &Limits,
+    search: &Search<P::State>,
     entry: &Entry<P::State>,
     choice: u32,
-    limits: &Limits,
+    landmarks: &mut Vec<Landmark<P::State>>,
 ) -> Result<Option<Entry<P::State>>, AllocError>
-    requires root { (P.rules space.now).same root.now (P.rules space.now).first ≡ true }
+    requires searching { IsSearching (P.rules space.now) limits.now.depart limits.now.steps search.now }
     requires entry { IsEntry (P.rules space.now) limits.now.depart limits.now.steps entry.now }
     requires choice { choice < choices_of ((P.rules space.now).width entry.now.state) entry.now.budget }
+    requires none_yet { landmarks.old.items ≡ [] }
     ensures follows { IfOk result (λ next. IfSome next (Follows (P.rules space.now) entry.now choice)) }
     ensures allowed { IfOk result (λ next. IfSome next (IsEntry (P.rules space.now) limits.now.depart limits.now.steps)) }
     ensures past { IfOk result (λ next. IfNone next (SomeRunExceeds (P.rules space.now) limits.now.depart limits.now.steps)) }
+    ensures come { IfOk result (λ next. IfSome next (λ e. AllCome (P.rules space.now) landmarks.new.items e.state e.steps)) }
+    ensures go_past { IfOk result (λ next. IfNone next (AllGoPast (P.rules space.now) landmarks.new.items limits.now.steps)) }
 {
     if entry.steps == limits.steps {
         return Ok(None);
@@ -55,7 +62,8 @@ pub fn next_entry<P: Space>(
     let log = log_after(&entry.log, entry.steps, choice)?;
     let mut state = space.copy(&entry.state)?;
     space.step(&mut state, choice)?;
-    match to_station(space, root, &mut state, entry.steps + 1, limits.steps)? {
+    let taken = entry.steps + 1;
+    match to_station(space, limits, search, &mut state, taken, landmarks)? {
         Some(steps) => Ok(Some(Entry {
             state,
             budget: budget_left(entry.budget, choice),

@@ -58,6 +58,22 @@ fn cuts_name_their_reason(rt: HostRuntime) -> Result<(), Fail> {
     Ok(())
 }
 
+// Each square (x, 3) also leads to (x, 4), and from there only right, by ways that all end at step 2,004.
+#[test]
+fn long_ways_up_to_the_limit(rt: HostRuntime) -> Result<(), Fail> {
+    let grid = Grid::new(2_000, 4);
+    let limits = Limits::new(4, 2_004, 10_000).ok_or("limits")?;
+    let findings = explore_alone(rt.alloc(), &grid, &limits)?;
+    assert!(rt; findings.status == Status::Exhausted);
+    assert_eq!(rt; findings.marks.len(), 6);
+    let limits = Limits::new(4, 2_003, 10_000).ok_or("limits")?;
+    let findings = explore_alone(rt.alloc(), &grid, &limits)?;
+    assert!(rt; findings.status == Status::Cut(Reason::Steps));
+    assert_eq!(rt; findings.marks.len(), 5);
+    assert!(rt; !findings.marks.contains_key(&square(2_000, 4)));
+    Ok(())
+}
+
 fn wheel(back: u32, door: bool) -> Wheel {
     Wheel {
         places: 5,
@@ -140,6 +156,29 @@ fn growth_refused_while_exploring(rt: HostRuntime) {
     match findings.status {
         Status::Exhausted => assert_eq!(rt; known, 3),
         Status::Cut(reason) => assert!(rt; reason == Reason::Memory),
+    }
+}
+
+// As above where a way is long enough that states on it are remembered: from place 1 it takes 999 steps back to 0.
+#[test]
+fn growth_refused_on_a_long_way(rt: HostRuntime) {
+    let wheel = Wheel {
+        places: 1_000,
+        back: 0,
+        door: true,
+    };
+    let Some(limits) = Limits::new(1, 10_000, 100) else {
+        return;
+    };
+    let Ok(findings) = explore_alone(rt.alloc(), &wheel, &limits) else {
+        return;
+    };
+    match findings.status {
+        Status::Exhausted => assert_eq!(rt; findings.marks.len(), 1),
+        Status::Cut(reason) => {
+            assert!(rt; reason == Reason::Memory);
+            assert!(rt; findings.marks.len() <= 1);
+        }
     }
 }
 

@@ -1,10 +1,13 @@
 ghost use Rattle.std.specs.Prelude.{◌≡◌, ℕ, ◌+◌, ◌<◌, ◌≤◌, true, false, length, slice_get, Some, IfOk, IfSome, IfNone, OnOk, OnErr};
 ghost use Rattle.statebook.specs.ExplorerCore.{IsMet, choices_of};
-ghost use Rattle.explore.specs.Exploring.{Grows, IsFinished, IsFoundAt, IsSameOrAdded, IsUnderWay, width_limit};
+ghost use Rattle.explore.specs.Exploring.{Grows, IsFinished, IsFoundAt, IsSameOrAdded, width_limit};
 ghost use Rattle.explore.specs.Found.{SomeRunExceeds};
+ghost use Rattle.explore.specs.Ways.{IsSearching};
 ghost use Rattle.statebook.specs.declared.entry.Entry.{Entry};
 
 use crate::next::next_entry;
+use crate::search::Search;
+use crate::ways::remember;
 use sched_core::Space;
 use statebook::{Done, Entry, Limits, Met, PlainBook};
 use std::alloc::{AllocError, Global};
@@ -41,25 +44,36 @@ fn met_place<S: Eq + Hash + Drop>(
 // Meets the book with the next station after the choice, and answers with the place of the entry
 // that dominates it; None where the way there takes more steps than the limit.
 fn meet_choice<P: Space>(
+    alloc: Global,
     space: &P,
     limits: &Limits,
-    book: &mut PlainBook<P::State>,
+    search: &mut Search<P::State>,
     place: usize,
     choice: u32,
 ) -> Result<Option<usize>, AllocError>
-    requires under_way { IsUnderWay (P.rules space.now) limits.now.depart limits.now.steps book.old }
-    requires place { place < length book.old.entries }
-    requires choice { (e : Entry P.State) → slice_get book.old.entries place ≡ Some e → choice < choices_of ((P.rules space.now).width e.state) e.budget }
-    ensures met { IfOk result (λ met. IfSome met (λ j. (e : Entry P.State) → slice_get book.old.entries place ≡ Some e → IsMet (P.rules space.now) book.new.entries e choice j)) }
+    requires searching { IsSearching (P.rules space.now) limits.now.depart limits.now.steps search.old }
+    requires place { place < length search.old.book.entries }
+    requires choice { (e : Entry P.State) → slice_get search.old.book.entries place ≡ Some e → choice < choices_of ((P.rules space.now).width e.state) e.budget }
+    ensures met { IfOk result (λ met. IfSome met (λ j. (e : Entry P.State) → slice_get search.old.book.entries place ≡ Some e → IsMet (P.rules space.now) search.new.book.entries e choice j)) }
     ensures past { IfOk result (λ met. IfNone met (SomeRunExceeds (P.rules space.now) limits.now.depart limits.now.steps)) }
-    ensures under_way { IsUnderWay (P.rules space.now) limits.now.depart limits.now.steps book.new }
-    ensures grows { (e : Entry P.State) → slice_get book.old.entries place ≡ Some e → Grows book.old book.new e.budget }
-    ensures few { length book.new.entries ≤ length book.old.entries + 1 }
+    ensures searching { IsSearching (P.rules space.now) limits.now.depart limits.now.steps search.new }
+    ensures grows { (e : Entry P.State) → slice_get search.old.book.entries place ≡ Some e → Grows search.old.book search.new.book e.budget }
+    ensures few { length search.new.book.entries ≤ length search.old.book.entries + 1 }
 {
-    let root = &book.read(0).state;
-    match next_entry(space, root, book.read(place), choice, limits)? {
-        Some(entry) => Ok(Some(met_place(book, entry)?)),
-        None => Ok(None),
+    let mut landmarks = Vec::new(alloc);
+    let entry = search.book.read(place);
+    match next_entry(space, limits, search, entry, choice, &mut landmarks)? {
+        Some(next) => {
+            let end = next.steps;
+            let met = Some(met_place(&mut search.book, next)?);
+            remember(search.book.len(), &mut search.ways, landmarks, end, met)?;
+            Ok(met)
+        }
+        None => {
+            let end = limits.steps + 1;
+            remember(search.book.len(), &mut search.ways, landmarks, end, None)?;
+            Ok(None)
+        }
     }
 }
 
@@ -70,28 +84,28 @@ pub fn visit<P: Space>(
     alloc: Global,
     space: &P,
     limits: &Limits,
-    book: &mut PlainBook<P::State>,
+    search: &mut Search<P::State>,
     place: usize,
 ) -> Result<bool, AllocError>
-    requires under_way { IsUnderWay (P.rules space.now) limits.now.depart limits.now.steps book.old }
-    requires place { place < length book.old.entries }
-    ensures finished { IfOk result (λ within. within ≡ true → IsFinished book.new place) }
+    requires searching { IsSearching (P.rules space.now) limits.now.depart limits.now.steps search.old }
+    requires place { place < length search.old.book.entries }
+    ensures finished { IfOk result (λ within. within ≡ true → IsFinished search.new.book place) }
     ensures past { IfOk result (λ within. within ≡ false → SomeRunExceeds (P.rules space.now) limits.now.depart limits.now.steps) }
-    ensures under_way { IsUnderWay (P.rules space.now) limits.now.depart limits.now.steps book.new }
-    ensures grows { (e : Entry P.State) → slice_get book.old.entries place ≡ Some e → Grows book.old book.new e.budget }
-    ensures few { length book.new.entries < length book.old.entries + width_limit }
+    ensures searching { IsSearching (P.rules space.now) limits.now.depart limits.now.steps search.new }
+    ensures grows { (e : Entry P.State) → slice_get search.old.book.entries place ≡ Some e → Grows search.old.book search.new.book e.budget }
+    ensures few { length search.new.book.entries < length search.old.book.entries + width_limit }
 {
-    let count = choice_count(space, book.read(place));
+    let count = choice_count(space, search.book.read(place));
     let mut next = Vec::new(alloc);
     let mut within = true;
     for choice in 0..count {
-        match meet_choice(space, limits, book, place, choice)? {
+        match meet_choice(alloc, space, limits, search, place, choice)? {
             Some(at) => next.push(at)?,
             None => within = false,
         }
     }
     if within {
-        let _ = book.finish(Done { entry: place, next });
+        let _ = search.book.finish(Done { entry: place, next });
     }
     Ok(within)
 }

@@ -1,9 +1,16 @@
-ghost use Rattle.std.specs.Prelude.{◌≡◌, ◌<◌, ◌≤◌, ◌↔◌, true, IfOk, IfSome, IfNone, IsTrue, OnErr};
+ghost use Rattle.std.specs.Prelude.{◌≡◌, ◌<◌, ◌≤◌, ◌↔◌, ◌+◌, ◌-◌, [], true, IfOk, IfSome, IfNone, IsTrue, OnErr};
 ghost use Rattle.statebook.specs.Stations.{is_station};
 ghost use Rattle.explore.specs.Exploring.{ComesTo, GoesPast};
+ghost use Rattle.explore.specs.Ways.{AllCome, AllGoPast, IsAhead, IsSearching, Passes};
 
+use crate::search::{Landmark, Search};
+use crate::ways::known;
 use sched_core::Space;
+use statebook::Limits;
 use std::alloc::AllocError;
+
+/// How far apart the states on a way are that are looked up and remembered, in steps of the run.
+const SPACING: u32 = 256;
 
 // Whether an explorer stops at the state: at one equal to the opening state, at one of width
 // other than 1, and at a mark.
@@ -14,9 +21,9 @@ fn stops_at<P: Space>(space: &P, root: &P::State, state: &P::State) -> bool
     state == root || space.width(state) != 1 || space.is_mark(state)
 }
 
-/// Takes forced steps to the next station, the state itself if it is one, and answers how many
-/// steps were taken in all; None where that would take more than `limit`.
-pub fn to_station<P: Space>(
+// Takes forced steps to the next station, the state itself if it is one, and answers how many
+// steps were taken in all; None where there is none up to `limit` steps, and there the state stands.
+fn walk<P: Space>(
     space: &P,
     root: &P::State,
     state: &mut P::State,
@@ -28,6 +35,7 @@ pub fn to_station<P: Space>(
     ensures there { IfOk result (λ reached. IfSome reached (λ n. ComesTo (P.rules space.now) state.old taken state.new n)) }
     ensures limit { IfOk result (λ reached. IfSome reached (λ n. n ≤ limit)) }
     ensures past { IfOk result (λ reached. IfNone reached (GoesPast (P.rules space.now) state.old taken limit)) }
+    ensures on { IfOk result (λ reached. IfNone reached (Passes (P.rules space.now) state.old state.new (limit - taken))) }
 {
     let mut n = taken;
     loop {
@@ -39,5 +47,85 @@ pub fn to_station<P: Space>(
         }
         space.step(state, 0)?;
         n += 1;
+    }
+}
+
+// What is known of a way from a state on it: it comes to its station after so many steps in all,
+// it goes past the limit, or nothing that would decide it.
+enum Ahead {
+    Station(u32),
+    Past,
+    Unknown,
+}
+
+// Puts the next station in the place of the state where it is known and within the limit.
+fn look_ahead<P: Space>(
+    space: &P,
+    limits: &Limits,
+    search: &Search<P::State>,
+    state: &mut P::State,
+    n: u32,
+) -> Result<Ahead, AllocError>
+    requires searching { IsSearching (P.rules space.now) limits.now.depart limits.now.steps search.now }
+    requires within { n ≤ limits.now.steps }
+    ensures ahead { IfOk result (λ ahead. IsAhead (P.rules space.now) state.old n limits.now.steps ahead state.new) }
+{
+    let Some(onward) = known(&search.ways, state) else {
+        return Ok(Ahead::Unknown);
+    };
+    if onward.steps > limits.steps - n {
+        return Ok(Ahead::Past);
+    }
+    match onward.station {
+        Some(place) => {
+            *state = space.copy(&search.book.read(place).state)?;
+            Ok(Ahead::Station(n + onward.steps))
+        }
+        None => Ok(Ahead::Unknown),
+    }
+}
+
+/// Takes forced steps to the next station, the state itself if it is one, and answers how many
+/// steps were taken in all; None where that would take more than the limit.
+///
+/// At each count of steps that `SPACING` divides it looks whether the way is known from there.
+/// Where it isn't, the state becomes a landmark. So at most one step in `SPACING` copies a state, and a
+/// way that joins a known one at an equal count is walked no further than to the next landmark.
+pub fn to_station<P: Space>(
+    space: &P,
+    limits: &Limits,
+    search: &Search<P::State>,
+    state: &mut P::State,
+    taken: u32,
+    landmarks: &mut Vec<Landmark<P::State>>,
+) -> Result<Option<u32>, AllocError>
+    requires searching { IsSearching (P.rules space.now) limits.now.depart limits.now.steps search.now }
+    requires within { taken ≤ limits.now.steps }
+    requires none_yet { landmarks.old.items ≡ [] }
+    ensures there { IfOk result (λ reached. IfSome reached (λ n. ComesTo (P.rules space.now) state.old taken state.new n)) }
+    ensures limit { IfOk result (λ reached. IfSome reached (λ n. n ≤ limits.now.steps)) }
+    ensures past { IfOk result (λ reached. IfNone reached (GoesPast (P.rules space.now) state.old taken limits.now.steps)) }
+    ensures come { IfOk result (λ reached. IfSome reached (λ n. AllCome (P.rules space.now) landmarks.new.items state.new n)) }
+    ensures go_past { IfOk result (λ reached. IfNone reached (AllGoPast (P.rules space.now) landmarks.new.items limits.now.steps)) }
+{
+    let root = &search.book.read(0).state;
+    let mut n = taken;
+    loop {
+        let until = limits.steps.min(n + (SPACING - n % SPACING));
+        if let Some(reached) = walk(space, root, state, n, until)? {
+            return Ok(Some(reached));
+        }
+        n = until;
+        if n == limits.steps {
+            return Ok(None);
+        }
+        match look_ahead(space, limits, search, state, n)? {
+            Ahead::Station(reached) => return Ok(Some(reached)),
+            Ahead::Past => return Ok(None),
+            Ahead::Unknown => landmarks.push(Landmark {
+                state: space.copy(state)?,
+                taken: n,
+            })?,
+        }
     }
 }

@@ -5,8 +5,8 @@ use Rattle.explore.proofs.classes.visit_all.Goals as goal
 
 pub loop-departures-init : goal.loop-departures-init
 loop-departures-init g c = record {
-  under_way = c.requires.under_way;
+  searching = c.requires.searching;
   few = c.requires.few;
-  finished = λ t. none_over (g.P.Space.rules c.args.space.now) c.args.limits.now.depart c.args.limits.now.steps c.args.book.now (c.args.limits.now.depart + 1 - 0) c.requires.under_way (omega arith);
+  finished = λ t. none_over (g.P.Space.rules c.args.space.now) c.args.limits.now.depart c.args.limits.now.steps c.args.search.now.book (c.args.limits.now.depart + 1 - 0) c.requires.searching.under_way (omega arith);
   past = λ t. absurd (true_not_false t);
 }

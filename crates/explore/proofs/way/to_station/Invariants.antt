@@ -1,13 +1,12 @@
 use Rattle.std.proofs.Common.{◌≤◌, ◌-◌}
-use Rattle.explore.proofs.WayLemmas.{Passes}
+use Rattle.explore.proofs.WayLemmas.{OnWay}
 use Rattle.explore.proofs.way.to_station.Given as goal
 
-abbrev pub invariant-loop-taken : goal.invariant-loop-taken
-invariant-loop-taken g l = record {
-  low : l.taken ≤ l.n;
-  high : l.n ≤ l.limit;
-  way : Passes (g.P.Space.rules l.space) l.initial.state l.state (l.n - l.taken);
+abbrev pub invariant-loop-reached : goal.invariant-loop-reached
+invariant-loop-reached g l = record {
+  high : l.n ≤ l.limits.steps;
+  way : OnWay (g.P.Space.rules l.space) l.initial.state l.state l.taken l.n l.landmarks.items;
 }
 
-abbrev pub decreases-loop-taken : goal.decreases-loop-taken
-decreases-loop-taken g l = l.limit - l.n
+abbrev pub decreases-loop-reached : goal.decreases-loop-reached
+decreases-loop-reached g l = l.limits.steps - l.n

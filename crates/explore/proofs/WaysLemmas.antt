@@ -1,0 +1,148 @@
+-- What is remembered of forced ways, and what it is good for.
+use Rattle.std.proofs.Common.{◌≡◌, ℕ, ◌+◌, ◌-◌, ◌<◌, ◌≤◌, ◌++◌, zero, suc, Bool, true, false, List, [], ◌∷◌, Option, Some, None, IfSome, slice_get, length, if◌then◌else◌, ap, arith, refl, sym, ◌∙◌, subst, ◌⊎◌, inl, inr}
+use Rattle.std.proofs.lemmas.Map.Entries.{place_from_lookup}
+use Rattle.std.proofs.lemmas.Option.{same_Some, slice_get_within}
+use Rattle.std.specs.Map.{lookup}
+use Rattle.indexmap.specs.IndexMap.{insert_entry}
+use Rattle.sched_core.specs.Rules.{Rules, IsLawful}
+use Rattle.statebook.specs.declared.entry.Entry.{Entry}
+use Rattle.statebook.specs.Stations.{forced}
+use Rattle.statebook.specs.Books.{Book}
+use Rattle.explore.specs.Exploring.{ComesTo, IsFoundAt}
+use Rattle.explore.specs.Ways.{AllCome, AllGoPast, AllLead, AreRemembered, IsKnownAs, LeadsTo}
+use Rattle.explore.proofs.WayLemmas.{leads_same}
+use Rattle.explore.specs.declared.search.Onward.{Onward}
+use Rattle.explore.specs.declared.search.Landmark.{Landmark}
+
+pub known_as : {S : Type 0} (test : S → Bool) (ways : List (S × Onward)) (found : Option Onward) → found ≡ lookup test ways → IfSome found (λ onward. (i : ℕ) × (p : S × Onward) × (slice_get ways i ≡ Some p) × (test p.0 ≡ true) × (p.1 ≡ onward))
+known_as test ways (Some onward) e =
+    let x = place_from_lookup test ways onward (sym e) in
+    (x.0, (x.1, onward), x.2, x.3, refl)
+known_as test ways None e = tt
+
+inserted_behind : {K V : Type 0} (eq : K → K → Bool) (e : K × V) (es : List (K × V)) (k : K) (v : V) → ((j : ℕ) (p : K × V) → slice_get (insert_entry eq es k v) j ≡ Some p → ((eq k p.0 ≡ true) × (p.1 ≡ v)) ⊎ ((i : ℕ) × (slice_get es i ≡ Some p))) → (j : ℕ) (p : K × V) (b : Bool) → eq k e.0 ≡ b → slice_get (if b then (e.0, v) ∷ es else e ∷ insert_entry eq es k v) j ≡ Some p → ((eq k p.0 ≡ true) × (p.1 ≡ v)) ⊎ ((i : ℕ) × (slice_get (e ∷ es) i ≡ Some p))
+inserted_behind {K} {V} eq e es k v later zero p true here at =
+    let same : ◌≡◌ {A = K × V} (e.0, v) p = same_Some (e.0, v) p at in
+    inl (ap (λ q. eq k q.0) (sym same) ∙ here, ap (λ q. q.1) (sym same))
+inserted_behind eq e es k v later (suc j) p true here at = inr (suc j, at)
+inserted_behind eq e es k v later zero p false other at = inr (0, at)
+inserted_behind eq e es k v later (suc j) p false other at = elim (later j p at) [
+  | inl new ↦ inl new
+  | inr old ↦ inr (suc old.0, old.1)
+]
+
+-- what inserting a pair leaves: the pair, at a key that was equal, or what was there
+inserted_pair : {K V : Type 0} (eq : K → K → Bool) → ((x : K) → eq x x ≡ true) → (es : List (K × V)) (k : K) (v : V) (j : ℕ) (p : K × V) → slice_get (insert_entry eq es k v) j ≡ Some p → ((eq k p.0 ≡ true) × (p.1 ≡ v)) ⊎ ((i : ℕ) × (slice_get es i ≡ Some p))
+inserted_pair {K} {V} eq itself [] k v zero p at =
+    let same : ◌≡◌ {A = K × V} (k, v) p = same_Some (k, v) p at in
+    inl (ap (λ q. eq k q.0) (sym same) ∙ itself k, ap (λ q. q.1) (sym same))
+inserted_pair eq itself [] k v (suc j) p at = absurd cc
+inserted_pair eq itself (e ∷ es) k v j p at = inserted_behind eq e es k v (inserted_pair eq itself es k v) j p (eq k e.0) refl at
+
+-- the landmarks left are among those that were given, and what is remembered is of the latter or was before
+pub record Remembers {S : Type 0} (same : S → S → Bool) (old : List (S × Onward)) (all left : List (Landmark S)) (end : ℕ) (station : Option ℕ) (now : List (S × Onward)) : Type 0 where
+  pub among : (i : ℕ) (l : Landmark S) → slice_get left i ≡ Some l → slice_get all i ≡ Some l
+  pub remembered : AreRemembered same old all end station now
+
+pub remembers_none : {S : Type 0} (same : S → S → Bool) (old : List (S × Onward)) (all : List (Landmark S)) (end : ℕ) (station : Option ℕ) → Remembers same old all all end station old
+remembers_none same old all end station = record { among = λ i l at. at; remembered = λ i p at. inl (i, at) }
+
+last_of : {X : Type 0} (xs : List X) (x : X) → slice_get (xs ++ x ∷ []) (length xs) ≡ Some x
+last_of [] x = refl
+last_of (y ∷ xs) x = last_of xs x
+
+front_of : {X : Type 0} (xs ys : List X) (i : ℕ) (x : X) → slice_get xs i ≡ Some x → slice_get (xs ++ ys) i ≡ Some x
+front_of [] ys i x at = absurd cc
+front_of (y ∷ xs) ys zero x at = at
+front_of (y ∷ xs) ys (suc i) x at = front_of xs ys i x at
+
+among_left : {X : Type 0} (all left rest : List X) (last : X) → ((i : ℕ) (x : X) → slice_get left i ≡ Some x → slice_get all i ≡ Some x) → left ≡ rest ++ last ∷ [] → (i : ℕ) (x : X) → slice_get rest i ≡ Some x → slice_get all i ≡ Some x
+among_left {X} all left rest last among items i x at =
+    let P : List X → Type 0 = λ xs. slice_get xs i ≡ Some x in
+    among i x (subst P (sym items) (front_of rest (last ∷ []) i x at))
+
+last_among : {X : Type 0} (all left rest : List X) (last : X) → ((i : ℕ) (x : X) → slice_get left i ≡ Some x → slice_get all i ≡ Some x) → left ≡ rest ++ last ∷ [] → slice_get all (length rest) ≡ Some last
+last_among {X} all left rest last among items =
+    let P : List X → Type 0 = λ xs. slice_get xs (length rest) ≡ Some last in
+    among (length rest) last (subst P (sym items) (last_of rest last))
+
+-- the last landmark is one that was given
+pub last_left : {S : Type 0} (same : S → S → Bool) (old : List (S × Onward)) (all left rest : List (Landmark S)) (last : Landmark S) (end : ℕ) (station : Option ℕ) (now : List (S × Onward)) → Remembers same old all left end station now → left ≡ rest ++ last ∷ [] → ((i : ℕ) (l : Landmark S) → slice_get all i ≡ Some l → l.taken ≤ end) → last.taken ≤ end
+last_left same old all left rest last end station now h items before = before (length rest) last (last_among all left rest last h.among items)
+
+-- the last landmark was taken, and is not remembered
+pub remembers_less : {S : Type 0} (same : S → S → Bool) (old : List (S × Onward)) (all left rest : List (Landmark S)) (last : Landmark S) (end : ℕ) (station : Option ℕ) (now : List (S × Onward)) → Remembers same old all left end station now → left ≡ rest ++ last ∷ [] → Remembers same old all rest end station now
+remembers_less same old all left rest last end station now h items = record { among = among_left all left rest last h.among items; remembered = h.remembered }
+
+-- the last landmark was taken, and is remembered
+pub remembers_more : {S : Type 0} (same : S → S → Bool) → ((x : S) → same x x ≡ true) → (old : List (S × Onward)) (all left rest : List (Landmark S)) (last : Landmark S) (end : ℕ) (station : Option ℕ) (now new : List (S × Onward)) → Remembers same old all left end station now → left ≡ rest ++ last ∷ [] → new ≡ insert_entry same now last.state (record { steps = end - last.taken; station = station }) → Remembers same old all rest end station new
+remembers_more {S} same itself old all left rest last end station now new h items more = record {
+  among = among_left all left rest last h.among items;
+  remembered = λ i p at.
+      (let onward : Onward = record { steps = end - last.taken; station = station } in
+      let P : List (S × Onward) → Type 0 = λ xs. slice_get xs i ≡ Some p in
+      elim (inserted_pair same itself now last.state onward i p (subst P more at)) [
+        | inl new ↦ inr (length rest, last, last_among all left rest last h.among items, new.0, new.1)
+        | inr was ↦ h.remembered was.0 p was.1
+      ]);
+}
+
+-- what a state is known as is so
+pub known_leads : {S : Type 0} (r : Rules S) → IsLawful r → (same : S → S → Bool) → ((s t : S) → r.same s t ≡ same s t) → (entries : List (Entry S)) (ways : List (S × Onward)) (s : S) (onward : Onward) → AllLead r entries ways → IsKnownAs same ways s onward → LeadsTo r entries s onward.steps onward.station
+known_leads {S} r law same agree entries ways s onward lead (i, p, at, equal, is) =
+    let P : Onward → Type 0 = λ o. LeadsTo r entries s o.steps o.station in
+    subst P is (leads_same r law entries s p.0 p.1.steps p.1.station (law.symmetric s p.0 (agree s p.0 ∙ equal)) (lead i p at))
+
+-- the entry at the place stands where the way leads
+pub leads_to_entry : {S : Type 0} (r : Rules S) (entries : List (Entry S)) (s : S) (steps : ℕ) (station : Option ℕ) (place : ℕ) (e : Entry S) → LeadsTo r entries s steps station → station ≡ Some place → slice_get entries place ≡ Some e → ComesTo r s 0 e.state steps
+leads_to_entry {S} r entries s steps station place e leads is at =
+    let P : Option ℕ → Type 0 = λ o. LeadsTo r entries s steps o in
+    let there : LeadsTo r entries s steps (Some place) = subst P is leads in
+    let Q : Entry S → Type 0 = λ x. ComesTo r s 0 x.state steps in
+    subst Q (same_Some there.0 e (sym there.1 ∙ at)) there.2
+
+pub leads_to_place : {S : Type 0} (r : Rules S) (entries : List (Entry S)) (s : S) (steps : ℕ) (station : Option ℕ) (place : ℕ) → LeadsTo r entries s steps station → station ≡ Some place → place < length entries
+leads_to_place {S} r entries s steps station place leads is =
+    let P : Option ℕ → Type 0 = λ o. LeadsTo r entries s steps o in
+    let there : LeadsTo r entries s steps (Some place) = subst P is leads in
+    slice_get_within entries place there.0 there.1
+
+-- what leads somewhere does so in a book with more entries
+leads_later : {S : Type 0} (r : Rules S) (old new : List (Entry S)) → ((i : ℕ) (e : Entry S) → slice_get old i ≡ Some e → slice_get new i ≡ Some e) → (t : S) (steps : ℕ) (station : Option ℕ) → LeadsTo r old t steps station → LeadsTo r new t steps station
+leads_later r old new stays t steps (Some place) (x, at, way) = (x, stays place x at, way)
+leads_later r old new stays t steps None none = none
+
+pub lead_later : {S : Type 0} (r : Rules S) (old new : List (Entry S)) → ((i : ℕ) (e : Entry S) → slice_get old i ≡ Some e → slice_get new i ≡ Some e) → (ways : List (S × Onward)) → AllLead r old ways → AllLead r new ways
+lead_later r old new stays ways lead i p at = leads_later r old new stays p.0 p.1.steps p.1.station (lead i p at)
+
+-- each landmark leads to the end
+abbrev pub MarksLead : {S : Type 0} → Rules S → List (Entry S) → List (Landmark S) → ℕ → Option ℕ → Type 0
+MarksLead {S} r entries landmarks end station = (i : ℕ) (l : Landmark S) → slice_get landmarks i ≡ Some l → LeadsTo r entries l.state (end - l.taken) station
+
+pub lead_more : {S : Type 0} (r : Rules S) → IsLawful r → (same : S → S → Bool) → ((s t : S) → r.same s t ≡ same s t) → (entries : List (Entry S)) (old new : List (S × Onward)) (landmarks : List (Landmark S)) (end : ℕ) (station : Option ℕ) → AllLead r entries old → MarksLead r entries landmarks end station → AreRemembered same old landmarks end station new → AllLead r entries new
+lead_more {S} r law same agree entries old new landmarks end station lead marks remembered i p at = elim (remembered i p at) [
+  | inl was ↦ lead was.0 p was.1
+  | inr (j, l, there, equal, is) ↦ (
+      let P : Onward → Type 0 = λ o. LeadsTo r entries p.0 o.steps o.station in
+      subst P (sym is) (leads_same r law entries p.0 l.state (end - l.taken) station (agree l.state p.0 ∙ equal) (marks j l there)))
+]
+
+-- where the way comes to a station that the book has met
+pub marks_lead_there : {S : Type 0} (r : Rules S) → IsLawful r → (same : S → S → Bool) → ((s t : S) → r.same s t ≡ same s t) → (b : Book S) (next : Entry S) (place end : ℕ) (landmarks : List (Landmark S)) → AllCome r landmarks next.state end → IsFoundAt same b next place → MarksLead r b.entries landmarks end (Some place)
+marks_lead_there r law same agree b next place end landmarks come found i l at =
+    let way = come i l at in (
+      found.entry,
+      found.at,
+      record {
+        forced_steps = way.forced_steps;
+        count = omega (arith, way.count);
+        next = way.next;
+        same = law.transitive found.entry.state next.state (forced r l.state way.forced_steps) (agree found.entry.state next.state ∙ found.dominates.state) way.same;
+      },
+    )
+
+pub marks_lead_past : {S : Type 0} (r : Rules S) (entries : List (Entry S)) (limit : ℕ) (landmarks : List (Landmark S)) → AllGoPast r landmarks limit → MarksLead r entries landmarks (limit + 1) None
+marks_lead_past r entries limit landmarks past i l at = λ j lt. (past i l at).1 j (omega (arith, lt))
+
+pub come_before : {S : Type 0} (r : Rules S) (landmarks : List (Landmark S)) (t : S) (end : ℕ) → AllCome r landmarks t end → (i : ℕ) (l : Landmark S) → slice_get landmarks i ≡ Some l → l.taken ≤ end
+come_before r landmarks t end come i l at = omega (arith, (come i l at).count)

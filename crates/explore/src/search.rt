@@ -1,0 +1,25 @@
+use indexmap::IndexMap;
+use statebook::PlainBook;
+use std::hash::Hash;
+
+/// What is known of a state on a forced way: for so many steps from it there is no station. With a
+/// place, the next station stands behind them, and it is that of the entry at the place.
+#[derive(Clone, Copy, Debug)]
+pub struct Onward {
+    pub steps: u32,
+    pub station: Option<usize>,
+}
+
+/// A state on the way that is walked, after so many steps of its run.
+#[derive(Drop)]
+pub struct Landmark<S> {
+    pub state: S,
+    pub taken: u32,
+}
+
+/// What an explorer keeps: its book, and what it knows of states on forced ways.
+#[derive(Drop)]
+pub struct Search<S: Eq + Hash> {
+    pub book: PlainBook<S>,
+    pub ways: IndexMap<S, Onward>,
+}
