@@ -1,5 +1,6 @@
 -- What is remembered of forced ways, and what it is good for.
-use Rattle.std.proofs.Common.{◌≡◌, ℕ, ◌+◌, ◌-◌, ◌<◌, ◌≤◌, ◌++◌, zero, suc, Bool, true, false, List, [], ◌∷◌, Option, Some, None, IfSome, slice_get, length, if◌then◌else◌, ap, arith, refl, sym, ◌∙◌, subst, ◌⊎◌, inl, inr}
+use Rattle.std.proofs.Common.{◌≡◌, ℕ, ◌+◌, ◌-◌, ◌<◌, ◌≤◌, ◌++◌, zero, suc, Bool, true, false, List, [], ◌∷◌, Option, Some, None, IfSome, IfNone, slice_get, length, length-append, if◌then◌else◌, cond, ap, arith, refl, sym, ◌∙◌, subst, ◌⊎◌, inl, inr}
+use Rattle.std.proofs.lemmas.Bool.{cases_lt}
 use Rattle.std.proofs.lemmas.Map.Entries.{place_from_lookup}
 use Rattle.std.proofs.lemmas.Option.{same_Some, slice_get_within}
 use Rattle.std.specs.Map.{lookup}
@@ -14,11 +15,24 @@ use Rattle.explore.proofs.WayLemmas.{leads_same}
 use Rattle.explore.specs.declared.search.Onward.{Onward}
 use Rattle.explore.specs.declared.search.Landmark.{Landmark}
 
+none_passes_at : {K V : Type 0} (test : K → Bool) (x : K × V) (es : List (K × V)) → (lookup test es ≡ None → (i : ℕ) (p : K × V) → slice_get es i ≡ Some p → test p.0 ≡ false) → (b : Bool) → test x.0 ≡ b → cond b (Some x.1) (lookup test es) ≡ None → (i : ℕ) (p : K × V) → slice_get (x ∷ es) i ≡ Some p → test p.0 ≡ false
+none_passes_at test x es later true h e i p at = absurd cc
+none_passes_at test x es later false h e zero p at = ap (λ q. test q.0) (sym (same_Some x p at)) ∙ h
+none_passes_at test x es later false h e (suc i) p at = later e i p at
+
+none_passes : {K V : Type 0} (test : K → Bool) (es : List (K × V)) → lookup test es ≡ None → (i : ℕ) (p : K × V) → slice_get es i ≡ Some p → test p.0 ≡ false
+none_passes test [] e i p at = absurd cc
+none_passes test (x ∷ es) e i p at = none_passes_at test x es (none_passes test es) (test x.0) refl e i p at
+
 pub known_as : {S : Type 0} (test : S → Bool) (ways : List (S × Onward)) (found : Option Onward) → found ≡ lookup test ways → IfSome found (λ onward. (i : ℕ) × (p : S × Onward) × (slice_get ways i ≡ Some p) × (test p.0 ≡ true) × (p.1 ≡ onward))
 known_as test ways (Some onward) e =
     let x = place_from_lookup test ways onward (sym e) in
     (x.0, (x.1, onward), x.2, x.3, refl)
 known_as test ways None e = tt
+
+pub unknown_as : {S : Type 0} (test : S → Bool) (ways : List (S × Onward)) (found : Option Onward) → found ≡ lookup test ways → IfNone found ((i : ℕ) (p : S × Onward) → slice_get ways i ≡ Some p → test p.0 ≡ false)
+unknown_as test ways (Some onward) e = tt
+unknown_as test ways None e = λ i p at. none_passes test ways (sym e) i p at
 
 inserted_behind : {K V : Type 0} (eq : K → K → Bool) (e : K × V) (es : List (K × V)) (k : K) (v : V) → ((j : ℕ) (p : K × V) → slice_get (insert_entry eq es k v) j ≡ Some p → ((eq k p.0 ≡ true) × (p.1 ≡ v)) ⊎ ((i : ℕ) × (slice_get es i ≡ Some p))) → (j : ℕ) (p : K × V) (b : Bool) → eq k e.0 ≡ b → slice_get (if b then (e.0, v) ∷ es else e ∷ insert_entry eq es k v) j ≡ Some p → ((eq k p.0 ≡ true) × (p.1 ≡ v)) ⊎ ((i : ℕ) × (slice_get (e ∷ es) i ≡ Some p))
 inserted_behind {K} {V} eq e es k v later zero p true here at =
@@ -39,13 +53,49 @@ inserted_pair {K} {V} eq itself [] k v zero p at =
 inserted_pair eq itself [] k v (suc j) p at = absurd cc
 inserted_pair eq itself (e ∷ es) k v j p at = inserted_behind eq e es k v (inserted_pair eq itself es k v) j p (eq k e.0) refl at
 
--- the landmarks left are among those that were given, and what is remembered is of the latter or was before
-pub record Remembers {S : Type 0} (same : S → S → Bool) (old : List (S × Onward)) (all left : List (Landmark S)) (end : ℕ) (station : Option ℕ) (now : List (S × Onward)) : Type 0 where
+inserted_key_at : {K V : Type 0} (eq : K → K → Bool) (e : K × V) (es : List (K × V)) (k : K) (v : V) → ((i : ℕ) (p : K × V) → slice_get es i ≡ Some p → (q : K × V) × (slice_get (insert_entry eq es k v) i ≡ Some q) × (q.0 ≡ p.0)) → (i : ℕ) (p : K × V) (b : Bool) → slice_get (e ∷ es) i ≡ Some p → (q : K × V) × (slice_get (if b then (e.0, v) ∷ es else e ∷ insert_entry eq es k v) i ≡ Some q) × (q.0 ≡ p.0)
+inserted_key_at eq e es k v later zero p true at = ((e.0, v), refl, ap (λ q. q.0) (same_Some e p at))
+inserted_key_at eq e es k v later (suc i) p true at = (p, at, refl)
+inserted_key_at eq e es k v later zero p false at = (p, at, refl)
+inserted_key_at eq e es k v later (suc i) p false at = later i p at
+
+-- a key that is there stays
+inserted_key : {K V : Type 0} (eq : K → K → Bool) (es : List (K × V)) (k : K) (v : V) (i : ℕ) (p : K × V) → slice_get es i ≡ Some p → (q : K × V) × (slice_get (insert_entry eq es k v) i ≡ Some q) × (q.0 ≡ p.0)
+inserted_key eq [] k v i p at = absurd cc
+inserted_key eq (e ∷ es) k v i p at = inserted_key_at eq e es k v (inserted_key eq es k v) i p (eq k e.0) at
+
+inserted_there_at : {K V : Type 0} (eq : K → K → Bool) (e : K × V) (es : List (K × V)) (k : K) (v : V) → (i : ℕ) × (p : K × V) × (slice_get (insert_entry eq es k v) i ≡ Some p) × (eq k p.0 ≡ true) → (b : Bool) → eq k e.0 ≡ b → (i : ℕ) × (p : K × V) × (slice_get (if b then (e.0, v) ∷ es else e ∷ insert_entry eq es k v) i ≡ Some p) × (eq k p.0 ≡ true)
+inserted_there_at eq e es k v later true here = (0, (e.0, v), refl, here)
+inserted_there_at eq e es k v (i, p, at, same) false other = (suc i, p, at, same)
+
+-- the key that is inserted is there
+inserted_there : {K V : Type 0} (eq : K → K → Bool) → ((x : K) → eq x x ≡ true) → (es : List (K × V)) (k : K) (v : V) → (i : ℕ) × (p : K × V) × (slice_get (insert_entry eq es k v) i ≡ Some p) × (eq k p.0 ≡ true)
+inserted_there eq itself [] k v = (0, (k, v), refl, itself k)
+inserted_there eq itself (e ∷ es) k v = inserted_there_at eq e es k v (inserted_there eq itself es k v) (eq k e.0) refl
+
+inserted_count_at : {K V : Type 0} (eq : K → K → Bool) (e : K × V) (es : List (K × V)) (k : K) (v : V) → length (insert_entry eq es k v) ≤ length es + 1 → (b : Bool) → length (if b then (e.0, v) ∷ es else e ∷ insert_entry eq es k v) ≤ length (e ∷ es) + 1
+inserted_count_at eq e es k v later true = omega arith
+inserted_count_at eq e es k v later false = omega (arith, later)
+
+inserted_count : {K V : Type 0} (eq : K → K → Bool) (es : List (K × V)) (k : K) (v : V) → length (insert_entry eq es k v) ≤ length es + 1
+inserted_count eq [] k v = omega arith
+inserted_count eq (e ∷ es) k v = inserted_count_at eq e es k v (inserted_count eq es k v) (eq k e.0)
+
+-- The landmarks left are among those that were given, and what is remembered is of the latter or was before. With room for all,
+-- something is remembered of each that is no longer left.
+pub record Remembers {S : Type 0} (same : S → S → Bool) (most : ℕ) (old : List (S × Onward)) (all left : List (Landmark S)) (end : ℕ) (station : Option ℕ) (now : List (S × Onward)) : Type 0 where
   pub among : (i : ℕ) (l : Landmark S) → slice_get left i ≡ Some l → slice_get all i ≡ Some l
   pub remembered : AreRemembered same old all end station now
+  pub count : length now + length left ≤ length old + length all
+  pub known : length old + length all ≤ most → (i : ℕ) (l : Landmark S) → length left ≤ i → slice_get all i ≡ Some l → (onward : Onward) × IsKnownAs same now l.state onward
 
-pub remembers_none : {S : Type 0} (same : S → S → Bool) (old : List (S × Onward)) (all : List (Landmark S)) (end : ℕ) (station : Option ℕ) → Remembers same old all all end station old
-remembers_none same old all end station = record { among = λ i l at. at; remembered = λ i p at. inl (i, at) }
+pub remembers_none : {S : Type 0} (same : S → S → Bool) (most : ℕ) (old : List (S × Onward)) (all : List (Landmark S)) (end : ℕ) (station : Option ℕ) → Remembers same most old all all end station old
+remembers_none same most old all end station = record {
+  among = λ i l at. at;
+  remembered = λ i p at. inl (i, at);
+  count = omega arith;
+  known = λ room i l past at. (let lt = slice_get_within all i l at in absurd (omega (arith, lt, past)));
+}
 
 last_of : {X : Type 0} (xs : List X) (x : X) → slice_get (xs ++ x ∷ []) (length xs) ≡ Some x
 last_of [] x = refl
@@ -66,26 +116,57 @@ last_among {X} all left rest last among items =
     let P : List X → Type 0 = λ xs. slice_get xs (length rest) ≡ Some last in
     among (length rest) last (subst P (sym items) (last_of rest last))
 
--- the last landmark is one that was given
-pub last_left : {S : Type 0} (same : S → S → Bool) (old : List (S × Onward)) (all left rest : List (Landmark S)) (last : Landmark S) (end : ℕ) (station : Option ℕ) (now : List (S × Onward)) → Remembers same old all left end station now → left ≡ rest ++ last ∷ [] → ((i : ℕ) (l : Landmark S) → slice_get all i ≡ Some l → l.taken ≤ end) → last.taken ≤ end
-last_left same old all left rest last end station now h items before = before (length rest) last (last_among all left rest last h.among items)
+one_less : {X : Type 0} (left rest : List X) (last : X) → left ≡ rest ++ last ∷ [] → length left ≡ length rest + 1
+one_less left rest last items = ap length items ∙ length-append rest (last ∷ [])
 
--- the last landmark was taken, and is not remembered
-pub remembers_less : {S : Type 0} (same : S → S → Bool) (old : List (S × Onward)) (all left rest : List (Landmark S)) (last : Landmark S) (end : ℕ) (station : Option ℕ) (now : List (S × Onward)) → Remembers same old all left end station now → left ≡ rest ++ last ∷ [] → Remembers same old all rest end station now
-remembers_less same old all left rest last end station now h items = record { among = among_left all left rest last h.among items; remembered = h.remembered }
+-- the last landmark is one that was given
+pub last_left : {S : Type 0} (same : S → S → Bool) (most : ℕ) (old : List (S × Onward)) (all left rest : List (Landmark S)) (last : Landmark S) (end : ℕ) (station : Option ℕ) (now : List (S × Onward)) → Remembers same most old all left end station now → left ≡ rest ++ last ∷ [] → ((i : ℕ) (l : Landmark S) → slice_get all i ≡ Some l → l.taken ≤ end) → last.taken ≤ end
+last_left same most old all left rest last end station now h items before = before (length rest) last (last_among all left rest last h.among items)
+
+-- the last landmark was taken, and is not remembered, for want of room
+pub remembers_less : {S : Type 0} (same : S → S → Bool) (most : ℕ) (old : List (S × Onward)) (all left rest : List (Landmark S)) (last : Landmark S) (end : ℕ) (station : Option ℕ) (now : List (S × Onward)) → Remembers same most old all left end station now → left ≡ rest ++ last ∷ [] → most ≤ length now → Remembers same most old all rest end station now
+remembers_less same most old all left rest last end station now h items full =
+    let less : length left ≡ length rest + 1 = one_less left rest last items in
+    record {
+      among = among_left all left rest last h.among items;
+      remembered = h.remembered;
+      count = omega (arith, h.count, less);
+      known = λ room i l past at. absurd (omega (arith, room, full, h.count, less));
+    }
+
+known_key : {S : Type 0} (same : S → S → Bool) (now : List (S × Onward)) (k : S) (v : Onward) (s : S) → (onward : Onward) × IsKnownAs same now s onward → (onward : Onward) × IsKnownAs same (insert_entry same now k v) s onward
+known_key same now k v s (onward, (i, p, at, equal, is)) =
+    let q = inserted_key same now k v i p at in
+    (q.0.1, (i, q.0, q.1, ap (same s) q.2 ∙ equal, refl))
+
+known_more : {S : Type 0} (same : S → S → Bool) → ((x : S) → same x x ≡ true) → (all left rest : List (Landmark S)) (last : Landmark S) (now : List (S × Onward)) (v : Onward) → slice_get all (length rest) ≡ Some last → length left ≡ length rest + 1 → ((i : ℕ) (l : Landmark S) → length left ≤ i → slice_get all i ≡ Some l → (onward : Onward) × IsKnownAs same now l.state onward) → (i : ℕ) (l : Landmark S) → length rest ≤ i → slice_get all i ≡ Some l → (onward : Onward) × IsKnownAs same (insert_entry same now last.state v) l.state onward
+known_more {S} same itself all left rest last now v there less known i l past at = elim (cases_lt (length rest) i) [
+  | inl later ↦ known_key same now last.state v l.state (known i l (omega (arith, later, less)) at)
+  | inr ge ↦ (
+      let here : i ≡ length rest = omega (arith, ge, past) in
+      let P : ℕ → Type 0 = λ j. slice_get all j ≡ Some l in
+      let one : last ≡ l = same_Some last l (sym there ∙ subst P here at) in
+      let Q : Landmark S → Type 0 = λ x. (onward : Onward) × IsKnownAs same (insert_entry same now last.state v) x.state onward in
+      let new = inserted_there same itself now last.state v in
+      subst Q one (new.1.1, (new.0, new.1, new.2, new.3, refl)))
+]
 
 -- the last landmark was taken, and is remembered
-pub remembers_more : {S : Type 0} (same : S → S → Bool) → ((x : S) → same x x ≡ true) → (old : List (S × Onward)) (all left rest : List (Landmark S)) (last : Landmark S) (end : ℕ) (station : Option ℕ) (now new : List (S × Onward)) → Remembers same old all left end station now → left ≡ rest ++ last ∷ [] → new ≡ insert_entry same now last.state (record { steps = end - last.taken; station = station }) → Remembers same old all rest end station new
-remembers_more {S} same itself old all left rest last end station now new h items more = record {
-  among = among_left all left rest last h.among items;
-  remembered = λ i p at.
-      (let onward : Onward = record { steps = end - last.taken; station = station } in
-      let P : List (S × Onward) → Type 0 = λ xs. slice_get xs i ≡ Some p in
-      elim (inserted_pair same itself now last.state onward i p (subst P more at)) [
-        | inl new ↦ inr (length rest, last, last_among all left rest last h.among items, new.0, new.1)
+pub remembers_more : {S : Type 0} (same : S → S → Bool) → ((x : S) → same x x ≡ true) → (most : ℕ) (old : List (S × Onward)) (all left rest : List (Landmark S)) (last : Landmark S) (end : ℕ) (station : Option ℕ) (now new : List (S × Onward)) → Remembers same most old all left end station now → left ≡ rest ++ last ∷ [] → new ≡ insert_entry same now last.state (record { steps = end - last.taken; station = station }) → Remembers same most old all rest end station new
+remembers_more {S} same itself most old all left rest last end station now new h items more =
+    let onward : Onward = record { steps = end - last.taken; station = station } in
+    let there : slice_get all (length rest) ≡ Some last = last_among all left rest last h.among items in
+    let less : length left ≡ length rest + 1 = one_less left rest last items in
+    let P : List (S × Onward) → Type 0 = λ xs. Remembers same most old all rest end station xs in
+    subst P (sym more) (record {
+      among = among_left all left rest last h.among items;
+      remembered = λ i p at. elim (inserted_pair same itself now last.state onward i p at) [
+        | inl new ↦ inr (length rest, last, there, new.0, new.1)
         | inr was ↦ h.remembered was.0 p was.1
-      ]);
-}
+      ];
+      count = omega (arith, h.count, less, inserted_count same now last.state onward);
+      known = λ room. known_more same itself all left rest last now onward there less (h.known room);
+    })
 
 -- what a state is known as is so
 pub known_leads : {S : Type 0} (r : Rules S) → IsLawful r → (same : S → S → Bool) → ((s t : S) → r.same s t ≡ same s t) → (entries : List (Entry S)) (ways : List (S × Onward)) (s : S) (onward : Onward) → AllLead r entries ways → IsKnownAs same ways s onward → LeadsTo r entries s onward.steps onward.station

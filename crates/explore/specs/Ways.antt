@@ -33,6 +33,14 @@ pub record IsSearching {S : Type 0} (r : Rules S) (k limit : ℕ) (s : Search S)
 abbrev pub IsKnownAs : {S : Type 0} → (S → S → Bool) → List (S × Onward) → S → Onward → Type 0
 IsKnownAs {S} same ways s onward = (i : ℕ) × (p : S × Onward) × (slice_get ways i ≡ Some p) × (same s p.0 ≡ true) × (p.1 ≡ onward)
 
+-- No state equal to this one is remembered.
+abbrev pub IsUnknown : {S : Type 0} → (S → S → Bool) → List (S × Onward) → S → Type 0
+IsUnknown {S} same ways s = (i : ℕ) (p : S × Onward) → slice_get ways i ≡ Some p → same s p.0 ≡ false
+
+-- Something is remembered of each landmark's state.
+abbrev pub AreKnown : {S : Type 0} → (S → S → Bool) → List (Landmark S) → List (S × Onward) → Type 0
+AreKnown {S} same landmarks ways = (i : ℕ) (l : Landmark S) → slice_get landmarks i ≡ Some l → (onward : Onward) × IsKnownAs same ways l.state onward
+
 -- From each landmark the way comes to t, after n steps in all.
 abbrev pub AllCome : {S : Type 0} → Rules S → List (Landmark S) → S → ℕ → Type 0
 AllCome {S} r landmarks t n = (i : ℕ) (l : Landmark S) → slice_get landmarks i ≡ Some l → ComesTo r l.state l.taken t n
