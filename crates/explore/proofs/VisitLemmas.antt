@@ -155,6 +155,15 @@ under_way_done {S} r k limit old place places new m u (inr h) =
     let P : Book S → Type 0 = λ b. IsUnderWay r k limit b in
     subst P (sym h.1) u
 
+-- finishing an entry takes no room
+pub room_done : {S : Type 0} (old : Book S) (place : ℕ) (places : List ℕ) (new : Book S) (count : ℕ) → Finishes old place places new → count ≤ length old.entries + 4096 → count ≤ length new.entries + 4096
+room_done {S} old place places new count (inl h) room =
+    let P : Book S → Type 0 = λ b. count ≤ length b.entries + 4096 in
+    subst P (sym h.1) room
+room_done {S} old place places new count (inr h) room =
+    let P : Book S → Type 0 = λ b. count ≤ length b.entries + 4096 in
+    subst P (sym h.1) room
+
 done_stays : (finished : List (Option (List ℕ))) (place : ℕ) (places : List ℕ) → slice_get finished place ≡ Some None → (i : ℕ) (others : List ℕ) → slice_get finished i ≡ Some (Some others) → slice_get (slice_set finished place (Some places)) i ≡ Some (Some others)
 done_stays finished place places open_place i others at =
     set_other finished place i (Some places) (λ e.

@@ -9,7 +9,7 @@ use Rattle.sched_core.specs.Rules.{Rules, IsLawful}
 use Rattle.statebook.specs.declared.entry.Entry.{Entry}
 use Rattle.statebook.specs.Stations.{forced}
 use Rattle.statebook.specs.Books.{Book}
-use Rattle.explore.specs.Exploring.{ComesTo, IsFoundAt}
+use Rattle.explore.specs.Exploring.{ComesTo, IsFoundAt, IsSameOrAdded}
 use Rattle.explore.specs.Ways.{AllCome, AllGoPast, AllLead, AreRemembered, IsKnownAs, LeadsTo}
 use Rattle.explore.proofs.WayLemmas.{leads_same}
 use Rattle.explore.specs.declared.search.Onward.{Onward}
@@ -81,12 +81,13 @@ inserted_count : {K V : Type 0} (eq : K → K → Bool) (es : List (K × V)) (k 
 inserted_count eq [] k v = omega arith
 inserted_count eq (e ∷ es) k v = inserted_count_at eq e es k v (inserted_count eq es k v) (eq k e.0)
 
--- The landmarks left are among those that were given, and what is remembered is of the latter or was before. With room for all,
--- something is remembered of each that is no longer left.
+-- The landmarks left are among those that were given, and what is remembered is of the latter or was before, and not more than there
+-- is room for. With room for all, something is remembered of each that is no longer left.
 pub record Remembers {S : Type 0} (same : S → S → Bool) (most : ℕ) (old : List (S × Onward)) (all left : List (Landmark S)) (end : ℕ) (station : Option ℕ) (now : List (S × Onward)) : Type 0 where
   pub among : (i : ℕ) (l : Landmark S) → slice_get left i ≡ Some l → slice_get all i ≡ Some l
   pub remembered : AreRemembered same old all end station now
   pub count : length now + length left ≤ length old + length all
+  pub within : length old ≤ most → length now ≤ most
   pub known : length old + length all ≤ most → (i : ℕ) (l : Landmark S) → length left ≤ i → slice_get all i ≡ Some l → (onward : Onward) × IsKnownAs same now l.state onward
 
 pub remembers_none : {S : Type 0} (same : S → S → Bool) (most : ℕ) (old : List (S × Onward)) (all : List (Landmark S)) (end : ℕ) (station : Option ℕ) → Remembers same most old all all end station old
@@ -94,6 +95,7 @@ remembers_none same most old all end station = record {
   among = λ i l at. at;
   remembered = λ i p at. inl (i, at);
   count = omega arith;
+  within = λ room. room;
   known = λ room i l past at. (let lt = slice_get_within all i l at in absurd (omega (arith, lt, past)));
 }
 
@@ -131,6 +133,7 @@ remembers_less same most old all left rest last end station now h items full =
       among = among_left all left rest last h.among items;
       remembered = h.remembered;
       count = omega (arith, h.count, less);
+      within = h.within;
       known = λ room i l past at. absurd (omega (arith, room, full, h.count, less));
     }
 
@@ -152,8 +155,8 @@ known_more {S} same itself all left rest last now v there less known i l past at
 ]
 
 -- the last landmark was taken, and is remembered
-pub remembers_more : {S : Type 0} (same : S → S → Bool) → ((x : S) → same x x ≡ true) → (most : ℕ) (old : List (S × Onward)) (all left rest : List (Landmark S)) (last : Landmark S) (end : ℕ) (station : Option ℕ) (now new : List (S × Onward)) → Remembers same most old all left end station now → left ≡ rest ++ last ∷ [] → new ≡ insert_entry same now last.state (record { steps = end - last.taken; station = station }) → Remembers same most old all rest end station new
-remembers_more {S} same itself most old all left rest last end station now new h items more =
+pub remembers_more : {S : Type 0} (same : S → S → Bool) → ((x : S) → same x x ≡ true) → (most : ℕ) (old : List (S × Onward)) (all left rest : List (Landmark S)) (last : Landmark S) (end : ℕ) (station : Option ℕ) (now new : List (S × Onward)) → Remembers same most old all left end station now → left ≡ rest ++ last ∷ [] → length now < most → new ≡ insert_entry same now last.state (record { steps = end - last.taken; station = station }) → Remembers same most old all rest end station new
+remembers_more {S} same itself most old all left rest last end station now new h items space more =
     let onward : Onward = record { steps = end - last.taken; station = station } in
     let there : slice_get all (length rest) ≡ Some last = last_among all left rest last h.among items in
     let less : length left ≡ length rest + 1 = one_less left rest last items in
@@ -161,10 +164,11 @@ remembers_more {S} same itself most old all left rest last end station now new h
     subst P (sym more) (record {
       among = among_left all left rest last h.among items;
       remembered = λ i p at. elim (inserted_pair same itself now last.state onward i p at) [
-        | inl new ↦ inr (length rest, last, there, new.0, new.1)
+        | inl new ↦ inr (record { place = length rest; landmark = last; at = there; equal = new.0; onward = new.1 })
         | inr was ↦ h.remembered was.0 p was.1
       ];
       count = omega (arith, h.count, less, inserted_count same now last.state onward);
+      within = λ room. omega (arith, space, inserted_count same now last.state onward);
       known = λ room. known_more same itself all left rest last now onward there less (h.known room);
     })
 
@@ -203,9 +207,10 @@ MarksLead {S} r entries landmarks end station = (i : ℕ) (l : Landmark S) → s
 pub lead_more : {S : Type 0} (r : Rules S) → IsLawful r → (same : S → S → Bool) → ((s t : S) → r.same s t ≡ same s t) → (entries : List (Entry S)) (old new : List (S × Onward)) (landmarks : List (Landmark S)) (end : ℕ) (station : Option ℕ) → AllLead r entries old → MarksLead r entries landmarks end station → AreRemembered same old landmarks end station new → AllLead r entries new
 lead_more {S} r law same agree entries old new landmarks end station lead marks remembered i p at = elim (remembered i p at) [
   | inl was ↦ lead was.0 p was.1
-  | inr (j, l, there, equal, is) ↦ (
+  | inr new ↦ (
       let P : Onward → Type 0 = λ o. LeadsTo r entries p.0 o.steps o.station in
-      subst P (sym is) (leads_same r law entries p.0 l.state (end - l.taken) station (agree l.state p.0 ∙ equal) (marks j l there)))
+      let l : Landmark S = new.landmark in
+      subst P (sym new.onward) (leads_same r law entries p.0 l.state (end - l.taken) station (agree l.state p.0 ∙ new.equal) (marks new.place l new.at)))
 ]
 
 -- where the way comes to a station that the book has met
@@ -227,3 +232,12 @@ marks_lead_past r entries limit landmarks past i l at = λ j lt. (past i l at).1
 
 pub come_before : {S : Type 0} (r : Rules S) (landmarks : List (Landmark S)) (t : S) (end : ℕ) → AllCome r landmarks t end → (i : ℕ) (l : Landmark S) → slice_get landmarks i ≡ Some l → l.taken ≤ end
 come_before r landmarks t end come i l at = omega (arith, (come i l at).count)
+
+-- a book with an entry more has room for what there was room for
+pub room_later : {S : Type 0} (old : Book S) (e : Entry S) (new : Book S) (count : ℕ) → IsSameOrAdded old e new → count ≤ length old.entries + 4096 → count ≤ length new.entries + 4096
+room_later {S} old e new count (inl same) room =
+    let P : Book S → Type 0 = λ b. count ≤ length b.entries + 4096 in
+    subst P (sym same) room
+room_later {S} old e new count (inr added) room =
+    let P : Book S → Type 0 = λ b. count ≤ length b.entries + 4096 in
+    subst P (sym added) (omega (arith, room, length-append old.entries (e ∷ [])))

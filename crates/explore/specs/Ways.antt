@@ -1,5 +1,5 @@
--- What an explorer remembers of forced ways, so that none is walked anew to its end.
-use Rattle.std.specs.Prelude.{◌≡◌, ℕ, ◌-◌, ◌<◌, ◌≤◌, ◌⊎◌, Bool, true, false, List, Option, Some, None, slice_get}
+-- What an explorer remembers of forced ways, so that ways that join needn't each be walked to the end.
+use Rattle.std.specs.Prelude.{◌≡◌, ℕ, ◌+◌, ◌-◌, ◌<◌, ◌≤◌, ◌⊎◌, Bool, true, false, List, length, Option, Some, None, slice_get}
 use Rattle.sched_core.specs.Rules.{Rules}
 use Rattle.statebook.specs.Stations.{is_station, forced}
 use Rattle.statebook.specs.declared.entry.Entry.{Entry}
@@ -15,19 +15,24 @@ pub record Passes {S : Type 0} (r : Rules S) (s t : S) (m : ℕ) : Type 0 where
   pub same : r.same t (forced r s m) ≡ true
   pub passes : (j : ℕ) → j < m → is_station r (forced r s j) ≡ false
 
--- From t on there is no station for so many steps; then, at a place, the state of the entry there.
+-- From s on there is no station for so many steps; with a place, there is one then, the state of the entry at the place.
 abbrev pub LeadsTo : {S : Type 0} → Rules S → List (Entry S) → S → ℕ → Option ℕ → Type 0
-LeadsTo {S} r entries t steps (Some place) = (e : Entry S) × (slice_get entries place ≡ Some e) × ComesTo r t 0 e.state steps
-LeadsTo r entries t steps None = (j : ℕ) → j < steps → is_station r (forced r t j) ≡ false
+LeadsTo {S} r entries s steps (Some place) = (e : Entry S) × (slice_get entries place ≡ Some e) × ComesTo r s 0 e.state steps
+LeadsTo r entries s steps None = (j : ℕ) → j < steps → is_station r (forced r s j) ≡ false
 
 -- Each remembered state leads where it is said to.
 abbrev pub AllLead : {S : Type 0} → Rules S → List (Entry S) → List (S × Onward) → Type 0
 AllLead {S} r entries ways = (i : ℕ) (p : S × Onward) → slice_get ways i ≡ Some p → LeadsTo r entries p.0 p.1.steps p.1.station
 
--- What a search is at any time: its book is under way, and what it remembers is so.
+-- With so many more, at most 4,096 more states are remembered than there are entries.
+abbrev pub HasRoomFor : {S : Type 0} → Search S → ℕ → Type 0
+HasRoomFor s more = length s.ways.entries + more ≤ length s.book.entries + 4096
+
+-- What a search is at any time: its book is under way, and what it remembers is so, and not too much.
 pub record IsSearching {S : Type 0} (r : Rules S) (k limit : ℕ) (s : Search S) : Type 0 where
   pub under_way : IsUnderWay r k limit s.book
   pub lead : AllLead r s.book.entries s.ways.entries
+  pub room : HasRoomFor s 0
 
 -- A state equal to this one is remembered so.
 abbrev pub IsKnownAs : {S : Type 0} → (S → S → Bool) → List (S × Onward) → S → Onward → Type 0
@@ -45,7 +50,7 @@ AreKnown {S} same landmarks ways = (i : ℕ) (l : Landmark S) → slice_get land
 abbrev pub AllCome : {S : Type 0} → Rules S → List (Landmark S) → S → ℕ → Type 0
 AllCome {S} r landmarks t n = (i : ℕ) (l : Landmark S) → slice_get landmarks i ≡ Some l → ComesTo r l.state l.taken t n
 
--- Each landmark is within the limit, and the way from it has no station up to it.
+-- Each landmark is within the limit of steps, and no station stands on the way from it up to that limit.
 abbrev pub AllGoPast : {S : Type 0} → Rules S → List (Landmark S) → ℕ → Type 0
 AllGoPast {S} r landmarks limit = (i : ℕ) (l : Landmark S) → slice_get landmarks i ≡ Some l → (l.taken ≤ limit) × GoesPast r l.state l.taken limit
 
@@ -55,6 +60,14 @@ IsAhead r s n limit (Station reached) t = ComesTo r s n t reached × (reached �
 IsAhead r s n limit Past t = GoesPast r s n limit
 IsAhead r s n limit Unknown t = t ≡ s
 
--- What is remembered was so before, or is of a landmark that leads on to the end.
+-- What is remembered of the state is of a landmark that is equal, and leads on to the end.
+pub record IsOfLandmark {S : Type 0} (same : S → S → Bool) (landmarks : List (Landmark S)) (end : ℕ) (station : Option ℕ) (known : S × Onward) : Type 0 where
+  pub place : ℕ
+  pub landmark : Landmark S
+  pub at : slice_get landmarks place ≡ Some landmark
+  pub equal : same landmark.state known.0 ≡ true
+  pub onward : known.1 ≡ record { steps = end - landmark.taken; station = station }
+
+-- What is remembered was so before, or is of a landmark.
 abbrev pub AreRemembered : {S : Type 0} → (S → S → Bool) → List (S × Onward) → List (Landmark S) → ℕ → Option ℕ → List (S × Onward) → Type 0
-AreRemembered {S} same old landmarks end station new = (i : ℕ) (p : S × Onward) → slice_get new i ≡ Some p → ((j : ℕ) × (slice_get old j ≡ Some p)) ⊎ ((j : ℕ) × (l : Landmark S) × (slice_get landmarks j ≡ Some l) × (same l.state p.0 ≡ true) × (p.1 ≡ record { steps = end - l.taken; station = station }))
+AreRemembered {S} same old landmarks end station new = (i : ℕ) (p : S × Onward) → slice_get new i ≡ Some p → ((j : ℕ) × (slice_get old j ≡ Some p)) ⊎ IsOfLandmark same landmarks end station p

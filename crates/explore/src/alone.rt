@@ -78,13 +78,13 @@ fn status_of<P: Space>(
 /// that was met with it.
 ///
 /// Proved: each listed mark is reached under its log, by a run within both limits. Where it says
-/// `Exhausted`, every mark that such a run reaches is listed, after however many steps, and no run
-/// at all that reaches a listed mark has fewer departures than its log. Where it says
-/// `Cut(Entries)`, there are at least `limits.entries` entries; where `Cut(Steps)`, some such run
-/// takes more than `limits.steps` steps.
+/// `Exhausted`, every mark that a run of at most `limits.depart` departures reaches is listed, after
+/// however many steps, and no run at all that reaches a listed mark has fewer departures than its log.
+/// Where it says `Cut(Entries)`, there are at least `limits.entries` entries; where `Cut(Steps)`, some
+/// run of at most `limits.depart` departures takes more than `limits.steps` steps.
 ///
-/// Beside the entries it keeps states on long forced ways, one in 256 steps, so that a way that joins
-/// a known one isn't walked again: at most 4,096 of them more than there are entries.
+/// Beside the entries it keeps states on forced ways, one in 256 steps and at most 4,096 more than there
+/// are entries. A way that comes to one of them at a count of steps that 256 divides isn't walked on.
 ///
 /// Only tested: that a growth was refused where it says `Cut(Memory)`, what the list of a search
 /// that was cut holds beyond being true, and which of several reasons is told.

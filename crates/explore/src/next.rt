@@ -36,8 +36,8 @@ fn budget_left(budget: u32, choice: u32) -> u32
 }
 
 /// The entry of the next station after a choice that the entry's budget allows; None where the
-/// way there takes more steps than the limit. The state is copied once, and where a known way is
-/// joined the known station's state once. Each landmark on the way leads there too.
+/// way there takes more steps than the limit. Each landmark on the way leads there too. The state is
+/// copied once, each landmark's once, and the station's once where it is known from a landmark.
 pub fn next_entry<P: Space>(
     space: &P,
     limits: &Limits,

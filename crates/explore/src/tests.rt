@@ -44,6 +44,19 @@ fn marks_of_a_long_board(rt: HostRuntime) -> Result<(), Fail> {
     Ok(())
 }
 
+// The board above has 80,002 entries: with no room for one more the last job isn't taken.
+#[test]
+fn entries_of_a_long_board(rt: HostRuntime) -> Result<(), Fail> {
+    let grid = Grid::new(20_000, 4);
+    let limits = Limits::new(4, 1_000_000, 80_003).ok_or("limits")?;
+    let findings = explore_alone(rt.alloc(), &grid, &limits)?;
+    assert!(rt; findings.status == Status::Exhausted);
+    let limits = Limits::new(4, 1_000_000, 80_002).ok_or("limits")?;
+    let findings = explore_alone(rt.alloc(), &grid, &limits)?;
+    assert!(rt; findings.status == Status::Cut(Reason::Entries));
+    Ok(())
+}
+
 #[test]
 fn cuts_name_their_reason(rt: HostRuntime) -> Result<(), Fail> {
     let grid = Grid::new(2, 2);

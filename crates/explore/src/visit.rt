@@ -66,12 +66,12 @@ fn meet_choice<P: Space>(
         Some(next) => {
             let end = next.steps;
             let met = Some(met_place(&mut search.book, next)?);
-            remember(search.book.len(), &mut search.ways, landmarks, end, met)?;
+            remember(search, landmarks, end, met)?;
             Ok(met)
         }
         None => {
             let end = limits.steps + 1;
-            remember(search.book.len(), &mut search.ways, landmarks, end, None)?;
+            remember(search, landmarks, end, None)?;
             Ok(None)
         }
     }

@@ -1,7 +1,7 @@
 ghost use Rattle.std.specs.Prelude.{◌≡◌, ◌<◌, ◌≤◌, ◌↔◌, ◌+◌, ◌-◌, [], true, IfOk, IfSome, IfNone, IsTrue, OnErr};
-ghost use Rattle.statebook.specs.Stations.{is_station};
+ghost use Rattle.statebook.specs.Stations.{forced, is_station};
 ghost use Rattle.explore.specs.Exploring.{ComesTo, GoesPast};
-ghost use Rattle.explore.specs.Ways.{AllCome, AllGoPast, IsAhead, IsSearching, Passes};
+ghost use Rattle.explore.specs.Ways.{AllCome, AllGoPast, IsAhead, IsSearching};
 
 use crate::search::{Landmark, Search};
 use crate::ways::known;
@@ -35,7 +35,7 @@ fn walk<P: Space>(
     ensures there { IfOk result (λ reached. IfSome reached (λ n. ComesTo (P.rules space.now) state.old taken state.new n)) }
     ensures limit { IfOk result (λ reached. IfSome reached (λ n. n ≤ limit)) }
     ensures past { IfOk result (λ reached. IfNone reached (GoesPast (P.rules space.now) state.old taken limit)) }
-    ensures on { IfOk result (λ reached. IfNone reached (Passes (P.rules space.now) state.old state.new (limit - taken))) }
+    ensures on { IfOk result (λ reached. IfNone reached ((P.rules space.now).same state.new (forced (P.rules space.now) state.old (limit - taken)) ≡ true)) }
 {
     let mut n = taken;
     loop {
@@ -88,9 +88,9 @@ fn look_ahead<P: Space>(
 /// Takes forced steps to the next station, the state itself if it is one, and answers how many
 /// steps were taken in all; None where that would take more than the limit.
 ///
-/// At each count of steps that `SPACING` divides it looks whether the way is known from there.
-/// Where it isn't, the state becomes a landmark. So at most one step in `SPACING` copies a state, and a
-/// way that joins a known one at an equal count is walked no further than to the next landmark.
+/// Each time that the count of steps comes to a multiple of `SPACING` it looks whether it is known how
+/// the way goes on. Where that doesn't decide, the state becomes a landmark. So at most one step in
+/// `SPACING` copies a state, and a way that comes to a remembered state at such a count ends there.
 pub fn to_station<P: Space>(
     space: &P,
     limits: &Limits,

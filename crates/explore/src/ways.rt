@@ -1,13 +1,14 @@
-ghost use Rattle.std.specs.Prelude.{◌≡◌, ◌+◌, ◌≤◌, ℕ, length, slice_get, Some, IfSome, IfNone, OnOk, OnErr};
-ghost use Rattle.explore.specs.Ways.{AreKnown, AreRemembered, IsKnownAs, IsUnknown};
+ghost use Rattle.std.specs.Prelude.{◌≡◌, ◌+◌, ◌≤◌, ℕ, length, slice_get, Some, IfSome, IfNone, OnOk};
+ghost use Rattle.explore.specs.Ways.{AreKnown, AreRemembered, HasRoomFor, IsKnownAs, IsUnknown};
 ghost use Rattle.explore.specs.declared.search.Landmark.{Landmark};
 
-use crate::search::{Landmark, Onward};
+use crate::search::{Landmark, Onward, Search};
 use indexmap::IndexMap;
 use std::alloc::AllocError;
 use std::hash::Hash;
 
-/// How many states are remembered for certain. Beyond them there are at most as many as entries.
+/// How many more states are remembered than there are entries, at most: as many as the longest way has
+/// landmarks, and some.
 const ROOM: usize = 4_096;
 
 /// What is known of the state.
@@ -19,23 +20,26 @@ pub fn known<S: Eq + Hash>(ways: &IndexMap<S, Onward>, state: &S) -> Option<Onwa
 }
 
 /// Remembers of each landmark that the way from it goes on to `end` steps in all with no station
-/// before, and to the entry's station there, if a place is given. Where there is no room left beside
-/// so many entries, no more are.
+/// before, and to the station of the entry at the place, if one is given. Landmarks for which there is
+/// no room are let go.
 pub fn remember<S: Eq + Hash + Drop>(
-    entries: usize,
-    ways: &mut IndexMap<S, Onward>,
+    search: &mut Search<S>,
     mut landmarks: Vec<Landmark<S>>,
     end: u32,
     station: Option<usize>,
 ) -> Result<(), AllocError>
     requires before { (i : ℕ) (l : Landmark S) → slice_get landmarks.items i ≡ Some l → l.taken ≤ end }
-    ensures remembered { AreRemembered S.eq ways.old.entries landmarks.items end station ways.new.entries }
-    ensures all { OnOk result (length ways.old.entries + length landmarks.items ≤ entries + 4096 → AreKnown S.eq landmarks.items ways.new.entries) }
+    requires room { HasRoomFor search.old 0 }
+    ensures remembered { AreRemembered S.eq search.old.ways.entries landmarks.items end station search.new.ways.entries }
+    ensures all { OnOk result (HasRoomFor search.old (length landmarks.items) → AreKnown S.eq landmarks.items search.new.ways.entries) }
+    ensures room { HasRoomFor search.new 0 }
+    ensures book { search.new.book ≡ search.old.book }
 {
+    let most = search.book.len().saturating_add(ROOM);
     while let Some(Landmark { state, taken }) = landmarks.pop() {
-        if ways.len() < entries.saturating_add(ROOM) {
+        if search.ways.len() < most {
             let steps = end - taken;
-            ways.insert(state, Onward { steps, station })?;
+            search.ways.insert(state, Onward { steps, station })?;
         }
     }
     Ok(())

@@ -1,7 +1,7 @@
-use Rattle.std.proofs.Common.{◌≡◌, ◌+◌, ◌<◌, ◌++◌, ◌∷◌, [], ◌∙◌, sym, subst, arith, slice_get, Some, List, ℕ, ap}
+use Rattle.std.proofs.Common.{length, ◌≡◌, ◌+◌, ◌<◌, ◌++◌, ◌∷◌, [], ◌∙◌, sym, subst, arith, slice_get, Some, List, ℕ, ap}
 use Rattle.statebook.specs.ExplorerCore.{IsMet, AllMet, choices_of}
 use Rattle.statebook.specs.declared.entry.Entry.{Entry}
-use Rattle.explore.proofs.VisitLemmas.{HasMet, Finishes, finishes, finished_now, under_way_done, grows_done, grows_twice, grows_on, all_met, met_more, place_within, still_there, true_not_false}
+use Rattle.explore.proofs.VisitLemmas.{HasMet, Finishes, finishes, finished_now, under_way_done, grows_done, grows_twice, grows_on, all_met, met_more, place_within, still_there, true_not_false, room_done}
 use Rattle.explore.proofs.WaysLemmas.{lead_later}
 use Rattle.explore.proofs.visit.visit.Given.{Over}
 use Rattle.explore.proofs.visit.visit.Goals as goal
@@ -71,6 +71,7 @@ returns-then-within-clause-searching g c =
     record {
       under_way = under_way_done r c.args.limits.now.depart c.args.limits.now.steps c.loop-choice.search.book c.args.place c.loop-choice.next.items c.finish.new.self done i.searching.under_way (noted g c);
       lead = lead_later r c.loop-choice.search.book.entries c.finish.new.self.entries (grows_done c.loop-choice.search.book c.args.place c.loop-choice.next.items c.finish.new.self 0 (noted g c)).stays c.loop-choice.search.ways.entries i.searching.lead;
+      room = room_done c.loop-choice.search.book c.args.place c.loop-choice.next.items c.finish.new.self (length c.loop-choice.search.ways.entries + 0) (noted g c) i.searching.room;
     }
 
 pub returns-then-within-clause-grows : goal.returns-then-within-clause-grows

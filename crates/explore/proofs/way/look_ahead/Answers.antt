@@ -8,7 +8,7 @@ use Rattle.explore.proofs.way.look_ahead.Goals.{In-Some}
 
 -- what is known of the state leads on from it
 leads : (g : Over) (c : In-Some g) → LeadsTo (g.P.Space.rules c.args.space.now) c.args.search.now.book.entries c.args.state.now c.in-Some.onward.steps c.in-Some.onward.station
-leads g c = known_leads (g.P.Space.rules c.args.space.now) (g.met.P.Space.lawful c.args.space.now) g.P.State.PartialEq.eq (g.met.P.Space.same_is_eq c.args.space.now) c.args.search.now.book.entries c.args.search.now.ways.entries c.args.state.now c.in-Some.onward c.requires.searching.lead c.in-Some.ensures
+leads g c = known_leads (g.P.Space.rules c.args.space.now) (g.met.P.Space.lawful c.args.space.now) g.P.State.PartialEq.eq (g.met.P.Space.same_is_eq c.args.space.now) c.args.search.now.book.entries c.args.search.now.ways.entries c.args.state.now c.in-Some.onward c.requires.searching.lead c.in-Some.ensures.known
 
 pub returns-then-onward-limits : goal.returns-then-onward-limits
 returns-then-onward-limits g c = record {

@@ -1,6 +1,6 @@
 use Rattle.std.proofs.Common.{arith, ◌≡◌, ◌-◌, ◌≤◌, ℕ, subst, sym}
 use Rattle.explore.specs.Exploring.{ComesTo, GoesPast}
-use Rattle.explore.specs.Ways.{IsAhead}
+use Rattle.explore.specs.Ways.{IsAhead, Passes}
 use Rattle.explore.specs.declared.way.Ahead.TheVariants.{Station}
 use Rattle.explore.proofs.VisitLemmas.{root_state}
 use Rattle.explore.proofs.WayLemmas.{OnWay, way_opens, way_goes_on, way_marked, way_comes, marks_come, way_past, marks_past}
@@ -46,11 +46,16 @@ returns-then-n-limits-clause-go_past g c =
     marks_past (g.P.Space.rules c.args.space.now) (g.met.P.Space.lawful c.args.space.now) c.args.state.now c.loop-reached.state c.args.taken c.loop-reached.n c.args.limits.now.steps c.loop-reached.landmarks.items
     c.loop-reached.invariant.way c.loop-reached.invariant.high (none_left g c)
 
+open_way : (g : Over) (c : In_ok-reached-2 g) → Passes (g.P.Space.rules c.args.space.now) c.loop-reached.state c.walk.new.state (c.min-until.result - c.loop-reached.n)
+open_way g c =
+    let past : GoesPast (g.P.Space.rules c.args.space.now) c.loop-reached.state c.loop-reached.n c.min-until.result = rw c.in_default.is at c.in_ok-reached.ensures.past in
+    record { same = rw c.in_default.is at c.in_ok-reached.ensures.on; passes = λ j lt. past j (omega (arith, lt)) }
+
 -- the way goes on to the next landmark
 walked : (g : Over) (c : In_ok-reached-2 g) → OnWay (g.P.Space.rules c.args.space.now) c.args.state.now c.walk.new.state c.args.taken c.min-until.result c.loop-reached.landmarks.items
 walked g c =
     way_goes_on (g.P.Space.rules c.args.space.now) (g.met.P.Space.lawful c.args.space.now) c.args.state.now c.loop-reached.state c.walk.new.state c.args.taken c.loop-reached.n (c.min-until.result - c.loop-reached.n) c.min-until.result c.loop-reached.landmarks.items
-    c.loop-reached.invariant.way (rw c.in_default.is at c.in_ok-reached.ensures.on) (omega (arith, c.loop-reached.invariant.high, c.min-until.ensures))
+    c.loop-reached.invariant.way (open_way g c) (omega (arith, c.loop-reached.invariant.high, c.min-until.ensures))
 
 within : (g : Over) (c : In_ok-reached-2 g) → c.min-until.result ≤ c.args.limits.now.steps
 within g c = omega (arith, c.min-until.ensures)

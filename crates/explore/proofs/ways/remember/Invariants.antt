@@ -1,9 +1,12 @@
-use Rattle.std.proofs.Common.{◌+◌, length}
+use Rattle.std.proofs.Common.{◌≡◌, ◌+◌, length}
 use Rattle.explore.proofs.WaysLemmas.{Remembers}
 use Rattle.explore.proofs.ways.remember.Given as goal
 
 abbrev pub invariant-loop-state : goal.invariant-loop-state
-invariant-loop-state g l = Remembers g.S.PartialEq.eq (l.entries + 4096) l.initial.ways.entries l.initial.landmarks.items l.landmarks.items l.end l.station l.ways.entries
+invariant-loop-state g l = record {
+  remembers : Remembers g.S.PartialEq.eq (length l.initial.search.book.entries + 4096) l.initial.search.ways.entries l.initial.landmarks.items l.landmarks.items l.end l.station l.search.ways.entries;
+  book : l.search.book ≡ l.initial.search.book;
+}
 
 abbrev pub decreases-loop-state : goal.decreases-loop-state
 decreases-loop-state g l = length l.landmarks.items
