@@ -1,0 +1,8 @@
+// The lowest crate: want of memory as a value that only a refused growth makes.
+// In go the errors of the library's allocations; out comes `NoMemory`, alone or beside a fault of one's own.
+// The law: nobody outside this crate can write a `NoMemory` down, so whoever has one was refused a growth.
+#![tactic(auto)]
+
+mod memory;
+
+pub use memory::{NoMemory, OrMemory};
