@@ -1,2 +1,1 @@
 pub mod TreeLemmas
-pub mod ActionLemmas

@@ -1,12 +1,12 @@
--- A design as the definitions see it (IEEE 1364-2005, clause 12): variables, processes and scopes, with names
--- only where they are shown.
+-- A design as the definitions see it (IEEE 1364-2005, clause 12): variables, scopes, and one table of actions.
 use Rattle.std.specs.Prelude.{ℕ, Bool, List, Option}
+use Rattle.basis.specs.declared.timescale.Span.{Span}
 use Rattle.vast.specs.declared.design.Kind.{Kind}
 use Rattle.vast.specs.declared.design.Bounds.{Bounds}
-use Rattle.vast.specs.declared.design.Expression.{Expression}
+use Rattle.vast.specs.declared.design.Action.{Action}
 
 -- 4.2: a variable; its name is its scopes' names from the top's on and its own, joined by dots
-pub record VariableView : Type 0 where
+pub record Variable : Type 0 where
   pub name : List ℕ
   pub kind : Kind
   pub length : ℕ
@@ -14,31 +14,16 @@ pub record VariableView : Type 0 where
   pub bounds : Option Bounds
 
 -- 12.1: an instance or the top, how many scopes are round it, and how many variables are its own
-pub record ScopeView : Type 0 where
+pub record Scope : Type 0 where
   pub name : List ℕ
   pub depth : ℕ
   pub variables : ℕ
 
--- clause 9: a statement that takes a step, and what a process has to do; variables go by number
-mutual
-  pub data Action : Type 0 where
-    assign : ℕ → Expression → Action  -- target = value
-    nonblocking : ℕ → Expression → Action  -- target <= value
-    delay : Expression → Actions → Action  -- # amount, and then the body
-    dump_vars : Action  -- $dumpvars
-    finish : Action  -- $finish
-
-  pub data Actions : Type 0 where
-    done : Actions
-    then : Action → Actions → Actions
-
--- the actions of the one list, and after them those of the other
-abbrev pub join : Actions → Actions → Actions
-join done after = after
-join (then action rest) after = then action (join rest after)
-
--- variables, processes and scopes go by their numbers, from 0
-pub record DesignView : Type 0 where
-  pub variables : List VariableView
-  pub processes : List Actions
-  pub scopes : List ScopeView
+-- variables, scopes, actions and processes go by their numbers, from 0; an action's number is its place
+pub record Design : Type 0 where
+  pub top : List ℕ
+  pub precision : Span  -- 19.8
+  pub variables : List Variable
+  pub scopes : List Scope
+  pub actions : List Action
+  pub processes : List (List ℕ)  -- the places at which each begins, in order (9.9.1)

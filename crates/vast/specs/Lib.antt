@@ -5,4 +5,3 @@ pub mod Derives
 pub mod Depth
 pub mod Spellings
 pub mod Design
-pub mod DesignViews

@@ -1,19 +1,77 @@
-// What a text stands for once its names are resolved and its top module is known (IEEE 1364-2005, clause 12).
+// What a text stands for once its names are resolved and its top module is known (IEEE 1364-2005, clause 12): variables,
+// scopes, and one table of the actions that its processes take.
 
-ghost use Rattle.std.specs.Prelude.{◌≤◌, vec_len};
+ghost use Rattle.std.specs.Prelude.{◌≤◌, ◌≡◌, List, ℕ, length};
 
+use basis::Span;
+use std::marker::Model;
 use vbits::Vec4;
 
-/// A whole design: variables, processes (256 at most) and scopes, each in the order of docs/LANGUAGE.md, "Order".
+/// Places of a design's table of actions, in the order in which they are come to.
 #[derive(Drop)]
-pub struct Design {
-    pub variables: Vec<Variable>,
-    pub processes: Vec<Process>,
-    pub scopes: Vec<Scope>,
-    ghost few_processes: { vec_len processes ≤ 256 },
+pub struct Places {
+    list: Vec<usize>,
 }
 
-/// A variable (4.2). Variables are numbered from 0 in the order of the list.
+impl Model for Places {
+    ghost Value = { List ℕ };
+
+    ghost view = { λ places. places.list.items };
+}
+
+impl Places {
+    /// These places.
+    pub fn new(list: Vec<usize>) -> Places
+        ensures { result ≡ list.items }
+    {
+        Places { list }
+    }
+
+    /// The places, as a list.
+    pub fn as_slice(&self) -> &[usize]
+        ensures { result.now ≡ self.now }
+    {
+        &self.list
+    }
+}
+
+/// A whole design, each list in the order of docs/LANGUAGE.md, "Order". A clause sees it as the record `Design` of
+/// specs/Design.antt.
+#[derive(Drop)]
+pub struct Design {
+    /// The name of the top module.
+    pub top: Vec<u8>,
+    /// The unit in which time is counted, the precision (19.8).
+    pub precision: Span,
+    pub variables: Vec<Variable>,
+    pub scopes: Vec<Scope>,
+    /// Every action of every process; an action goes by its place in this list, from 0.
+    pub actions: Vec<Action>,
+    /// For each process where it begins: the places that it comes to first, in order. 256 processes at most.
+    pub processes: Vec<Places>,
+    /// For each action the number of the token at which its statement begins. No clause speaks of it.
+    pub origins: Vec<u32>,
+}
+
+impl Model for Design {
+    ghost use Rattle.std.specs.Prelude.{◌≤◌, length};
+    ghost use Rattle.vast.specs.Design as design;
+
+    ghost Value = { design.Design };
+
+    ghost view = { λ d. record {
+        top = d.top.items;
+        precision = d.precision;
+        variables = d.variables.items;
+        scopes = d.scopes.items;
+        actions = d.actions.items;
+        processes = d.processes.items;
+    } };
+
+    ghost invariant = { λ d. length d.processes.items ≤ 256 };
+}
+
+/// A variable (4.2). Variables are numbered from 0 in the order of the design's list.
 #[derive(Drop)]
 pub struct Variable {
     /// The names of its scopes from the top module's on and its own, joined by dots.
@@ -24,8 +82,17 @@ pub struct Variable {
     pub signed: bool,
     /// The numbers of the leftmost and of the rightmost bit, where it was declared with a range.
     pub bounds: Option<Bounds>,
-    ghost some: { 1 ≤ length },
-    ghost few: { length ≤ 64 },
+}
+
+impl Model for Variable {
+    ghost use Rattle.std.specs.Prelude.{◌≤◌};
+    ghost use Rattle.vast.specs.Design as design;
+
+    ghost Value = { design.Variable };
+
+    ghost view = { λ v. record { name = v.name.items; kind = v.kind; length = v.length; signed = v.signed; bounds = v.bounds } };
+
+    ghost invariant = { λ v. (1 ≤ v.length) × (v.length ≤ 64) };
 }
 
 /// How a variable was declared.
@@ -52,35 +119,35 @@ pub struct Scope {
     pub variables: u32,
 }
 
-/// A process: the statements that it has to do (9.9.1). What costs no step, `begin`, `end` and empty
-/// statements, isn't in them.
-#[derive(Drop)]
-pub struct Process {
-    pub body: Vec<Statement>,
+impl Model for Scope {
+    ghost use Rattle.vast.specs.Design as design;
+
+    ghost Value = { design.Scope };
+
+    ghost view = { λ s. record { name = s.name.items; depth = s.depth; variables = s.variables } };
 }
 
-/// A statement that takes a step (clause 9), its names resolved to the numbers of variables.
+/// What a process does in a step (clause 9), its names resolved to the numbers of variables. What costs no step, `begin`,
+/// `end` and empty statements, is no action.
 #[derive(Drop)]
-pub enum Statement {
+pub enum Action {
     /// `target = value;` (9.2.1)
-    Assign {
-        target: u32,
-        value: Expression,
-    },
+    Assign { target: Target, value: Expression },
     /// `target <= value;` (9.2.2)
-    Nonblocking {
-        target: u32,
-        value: Expression,
-    },
+    Nonblocking { target: Target, value: Expression },
     /// `#amount` and then the body (9.7.1)
-    Delay {
-        amount: Expression,
-        body: Vec<Statement>,
-    },
+    Delay { amount: Expression, body: Places },
     /// `$dumpvars;` (18.1.2)
     DumpVars,
     /// `$finish;` (17.4.1)
     Finish,
+}
+
+/// What an assignment writes (clause 6, table 6-1).
+#[derive(Clone, Copy, Debug, PartialEq, Eq)]
+pub enum Target {
+    /// The whole variable of this number.
+    Whole(u32),
 }
 
 /// An expression (clause 5), its names resolved.

@@ -1,18 +1,9 @@
 -- The future in order of time: one more process to wake.
-use Rattle.std.proofs.Common.{◌≡◌, ℕ, zero, suc, ◌<◌, ◌≤◌, List, [], ◌∷◌, map, insert, get_or, Option, refl, sym, ap, subst, ◌∙◌, arith}
+use Rattle.std.proofs.Common.{◌≡◌, ℕ, zero, suc, ◌<◌, ◌≤◌, List, [], ◌∷◌, insert, get_or, Option, refl, sym, ap, subst, ◌∙◌, arith}
 use Rattle.std.specs.Prelude.{slice_get, slice_set}
-use Rattle.std.proofs.lemmas.List.{map-set}
-use Rattle.std.proofs.Math.ListN.{get_or-map}
 use Rattle.vmodel.specs.Queue.{Slot, waking, empty_slot, wake_at}
-use Rattle.vmodel.specs.QueueViews.{future_view, future_views, place_of_time, SomeIs, NoneIs}
-use Rattle.vmodel.specs.declared.queue.Future.{Future}
+use Rattle.vmodel.specs.Inner.{place_of_time, SomeIs, NoneIs}
 use Rattle.vmodel.proofs.ProcessLemmas.{less, equal, more, compared, is_lt, not_lt, same, differs}
-
-map-insert : {X Y : Type 0} (f : X → Y) (xs : List X) (k : ℕ) (x : X) → map f (insert xs k x) ≡ insert (map f xs) k (f x)
-map-insert f [] zero x = refl
-map-insert f [] (suc k) x = refl
-map-insert f (y ∷ ys) zero x = refl
-map-insert f (y ∷ ys) (suc k) x = ap (λ rest. f y ∷ rest) (map-insert f ys k x)
 
 module _ (t : ℕ) (sleeper : Option ℕ) where
   pub earlier : (e : ℕ × Slot) (es : List (ℕ × Slot)) → e.0 < t → wake_at t sleeper (e ∷ es) ≡ e ∷ wake_at t sleeper es
@@ -69,30 +60,17 @@ module _ (t : ℕ) (sleeper : Option ℕ) where
         ∙ sym (earlier e es after)
   ]
 
-  -- the same over the program's entries: one is woken with the others of its time, or a time is put in
-  pub woken_with : (xs : List Future) (k : ℕ) (x y : Future) → k ≡ place_of_time t (future_views xs) →
-      SomeIs (λ e. e.0 ≡ t) (slice_get (future_views xs) k) → x ≡ get_or xs k x →
-      future_view y ≡ ((future_view x).0, waking sleeper (future_view x).1) →
-      future_views (slice_set xs k y) ≡ wake_at t sleeper (future_views xs)
-  woken_with xs k x y place is read becomes =
-      let views = future_views xs in
-      let there : SomeIs (λ e. e.0 ≡ t) (slice_get views (place_of_time t views)) =
-      subst (λ (j : ℕ). SomeIs (λ e. e.0 ≡ t) (slice_get views j)) place is in
-      let seen : future_view x ≡ get_or views (place_of_time t views) (future_view x) =
-      ap future_view read ∙ sym (get_or-map future_view xs k x) ∙ ap (λ (j : ℕ). get_or views j (future_view x)) place in
-      map-set future_view xs k y
-      ∙ ap (λ (w : ℕ × Slot). slice_set views k w) becomes
-      ∙ ap (λ (j : ℕ). slice_set views j ((future_view x).0, waking sleeper (future_view x).1)) place
-      ∙ found_at views (future_view x) there seen
+  -- the same at a place that was looked for
+  pub found_by : (es : List (ℕ × Slot)) (k : ℕ) (v w : ℕ × Slot) → k ≡ place_of_time t es → SomeIs (λ e. e.0 ≡ t) (slice_get es k) →
+      v ≡ get_or es k v → w ≡ (v.0, waking sleeper v.1) → slice_set es k w ≡ wake_at t sleeper es
+  found_by es k v w place is read becomes =
+      ap (slice_set es k) becomes
+      ∙ ap (λ (j : ℕ). slice_set es j (v.0, waking sleeper v.1)) place
+      ∙ found_at es v (subst (λ (j : ℕ). SomeIs (λ e. e.0 ≡ t) (slice_get es j)) place is) (subst (λ (j : ℕ). v ≡ get_or es j v) place read)
 
-  pub put_in : (xs : List Future) (k : ℕ) (x : Future) → k ≡ place_of_time t (future_views xs) →
-      NoneIs (λ e. e.0 ≡ t) (slice_get (future_views xs) k) → future_view x ≡ (t, waking sleeper empty_slot) →
-      future_views (insert xs k x) ≡ wake_at t sleeper (future_views xs)
-  put_in xs k x place is becomes =
-      let views = future_views xs in
-      let there : NoneIs (λ e. e.0 ≡ t) (slice_get views (place_of_time t views)) =
-      subst (λ (j : ℕ). NoneIs (λ e. e.0 ≡ t) (slice_get views j)) place is in
-      map-insert future_view xs k x
-      ∙ ap (λ (w : ℕ × Slot). insert views k w) becomes
-      ∙ ap (λ (j : ℕ). insert views j (t, waking sleeper empty_slot)) place
-      ∙ absent_at views there
+  pub absent_by : (es : List (ℕ × Slot)) (k : ℕ) (w : ℕ × Slot) → k ≡ place_of_time t es → NoneIs (λ e. e.0 ≡ t) (slice_get es k) →
+      w ≡ (t, waking sleeper empty_slot) → insert es k w ≡ wake_at t sleeper es
+  absent_by es k w place is becomes =
+      ap (insert es k) becomes
+      ∙ ap (λ (j : ℕ). insert es j (t, waking sleeper empty_slot)) place
+      ∙ absent_at es (subst (λ (j : ℕ). NoneIs (λ e. e.0 ≡ t) (slice_get es j)) place is)

@@ -1,12 +1,3 @@
-pub mod ProcessLemmas
-pub mod FutureLemmas
-pub mod RemainderLemmas
-pub mod OpeningLemmas
-pub mod PlayedLemmas
-pub mod SameLemmas
-pub mod RulesLemmas
-pub mod PlaceLemmas
-pub mod MovedLemmas
-pub mod KeptLemmas
-pub mod TimesLemmas
-pub mod ValuesLemmas
+mod ProcessLemmas
+mod FutureLemmas
+mod OpeningLemmas

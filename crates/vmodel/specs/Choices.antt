@@ -1,6 +1,6 @@
 -- `Choices` (IEEE 1364-2005, 11.4.1, 11.4.2): what may be taken next, choice 0 by default.
 use Rattle.std.specs.Prelude.{ℕ, ◌<◌, cond, is_some, List, [], ◌∷◌, ◌++◌, Option, Some, None, map}
-use Rattle.vmodel.specs.declared.queue.Update as posted_update
+use Rattle.vmodel.specs.declared.part.Part.{Part}
 use Rattle.vmodel.specs.declared.choice.Choice.{Choice}
 use Rattle.vmodel.specs.declared.choice.Choice.TheVariants.{Run, Update, Advance}
 use Rattle.vmodel.specs.Queue.{Slot, Queue, without_process}
@@ -13,7 +13,7 @@ abbrev pub in_order : Option ℕ → List ℕ → List ℕ
 in_order None active = active
 in_order (Some p) active = p ∷ without_process p active
 
-abbrev pub first_update : List posted_update.Update → List Choice
+abbrev pub first_update : List (List Part) → List Choice
 first_update [] = []
 first_update (u ∷ us) = Update ∷ []
 

@@ -1,15 +1,11 @@
 -- What a run gives to those who watch it (IEEE 1364-2005, 11.4, 18.1; docs/SCHEDULING.md, "Regions"): its slot ends,
--- where nothing is left at the current time, and its dump commands, in order.
+-- where nothing is left at the current time, and its dump commands, in order; and its end.
 use Rattle.std.specs.Prelude.{ℕ, List}
 use Rattle.vbits.specs.Vectors.{Vector}
 use Rattle.vmodel.specs.declared.history.End.{End}
-use Rattle.vmodel.specs.declared.history.DumpCommand.{DumpCommand}
+use Rattle.vmodel.specs.declared.history.Item.{Item}
 
-pub data HistoryItem : Type 0 where
-  slot_end : ℕ → List Vector → HistoryItem  -- the time and the values at it
-  dump : DumpCommand → HistoryItem
-
-pub record HistoryView : Type 0 where
-  pub items : List HistoryItem
+pub record History : Type 0 where
+  pub items : List Item
   pub end : End
-  pub values : List Vector
+  pub values : List Vector  -- at the end

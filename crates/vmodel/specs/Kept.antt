@@ -1,11 +1,12 @@
 -- What every state of a run keeps, under every log (IEEE 1364-2005, 11.3, 11.4; docs/SCHEDULING.md).
-use Rattle.std.specs.Prelude.{◌≡◌, ℕ, suc, ◌+◌, ◌≤◌, ◌==◌, cond, List, [], ◌∷◌, length, None}
+use Rattle.std.specs.Prelude.{◌≡◌, ℕ, suc, ◌+◌, ◌≤◌, ◌==◌, cond, List, [], ◌∷◌, length, slice_get, Option, Some, None}
 use Rattle.std.specs.Option.{ForSome}
-use Rattle.vast.specs.Design.{Actions, done, then}
+use Rattle.vmodel.specs.declared.process.Spot.{Spot}
 use Rattle.vmodel.specs.Queue.{Slot, Queue}
-use Rattle.vmodel.specs.State.{State}
-use Rattle.vmodel.specs.Step.{remainder_at}
-use Rattle.vmodel.specs.History.{HistoryItem, slot_end, dump}
+use Rattle.vmodel.specs.State.{Process, State}
+use Rattle.vmodel.specs.Step.{left_of}
+use Rattle.vmodel.specs.declared.history.Item.{Item}
+use Rattle.vmodel.specs.declared.history.Item.TheVariants.{SlotEnd, Dump}
 
 -- the numbers rise, from low on
 abbrev pub RisesFrom : ℕ → List ℕ → Type 0
@@ -37,14 +38,14 @@ abbrev pub places : ℕ → Queue → ℕ
 places p q = count_in p q.active + count_in p q.inactive + asleep p q.future
 
 -- in how many places at most, by what it has left
-abbrev pub most_places : Actions → ℕ
-most_places done = 0
-most_places (then action rest) = 1
+abbrev pub most_places : List Spot → ℕ
+most_places [] = 0
+most_places (spot ∷ rest) = 1
 
 -- 9.9.1: a process with something left stands in one place at most, one with nothing left in none; the process that made
 -- the last step is active
-pub record IsInPlace (q : Queue) (remainders : List Actions) : Type 0 where
-  pub once : (p : ℕ) → places p q ≤ most_places (remainder_at remainders p)
+pub record IsInPlace (q : Queue) (processes : List Process) : Type 0 where
+  pub once : (p : ℕ) → places p q ≤ most_places (left_of (slice_get processes p))
   pub last : ForSome q.last (λ p. 1 ≤ count_in p q.active)
 
 abbrev pub IsIdle : Queue → Type 0
@@ -52,17 +53,17 @@ IsIdle q = (q.active ≡ []) × (q.activated ≡ [])
 
 pub record IsKept (s : State) : Type 0 where
   pub order : IsInOrder s.queue
-  pub place : IsInPlace s.queue s.remainders
+  pub place : IsInPlace s.queue s.processes
   -- 11.4: while the run goes on the region moves were made: where nothing is active, nothing else stands at this time
   pub moves : s.cause ≡ None → IsIdle s.queue → (s.queue.inactive ≡ []) × (s.queue.posted ≡ [])
 
 -- the times of the slot ends
-abbrev pub slot_times : List HistoryItem → List ℕ
+abbrev pub slot_times : List Item → List ℕ
 slot_times [] = []
-slot_times (slot_end time values ∷ items) = time ∷ slot_times items
-slot_times (dump command ∷ items) = slot_times items
+slot_times (SlotEnd time values ∷ items) = time ∷ slot_times items
+slot_times (Dump command ∷ items) = slot_times items
 
 -- 4.2.2: each variable stores a value at all times, so that a slot end has so many values; a dump command has none
-abbrev pub HasValues : ℕ → HistoryItem → Type 0
-HasValues count (slot_end time values) = length values ≡ count
-HasValues count (dump command) = Unit {0}
+abbrev pub HasValues : ℕ → Item → Type 0
+HasValues count (SlotEnd time values) = length values ≡ count
+HasValues count (Dump command) = Unit {0}

@@ -1,15 +1,13 @@
 pub mod Value
+pub mod Parts
 pub mod ProcessSets
 pub mod Queue
 pub mod State
 pub mod Choices
 pub mod History
 pub mod Step
-pub mod QueueViews
-pub mod Remainders
-pub mod StateViews
 pub mod Same
 pub mod Run
 pub mod Played
-pub mod RunViews
 pub mod Kept
+pub mod Inner

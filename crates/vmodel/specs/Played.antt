@@ -27,6 +27,6 @@ pub width_is : (setting : Setting) (s : State) → (rules_of setting).width s �
 unfolding rules_of
 width_is setting s = refl
 
-pub after_is : (setting : Setting) (s : State) (i : ℕ) → (rules_of setting).after s i ≡ (next s i).state
+pub after_is : (setting : Setting) (s : State) (i : ℕ) → (rules_of setting).after s i ≡ (next setting.design s i).state
 unfolding rules_of
 after_is setting s i = refl

@@ -3,12 +3,13 @@
 -- order in which they were posted.
 use Rattle.std.specs.Prelude.{ℕ, ◌+◌, ◌==◌, nat_lt, Bool, true, cond, not, List, [], ◌∷◌, Option, Some, None, filter}
 use Rattle.vmodel.specs.declared.history.Grain.{Grain}
-use Rattle.vmodel.specs.declared.queue.Update.{Update}
+use Rattle.vmodel.specs.declared.part.Part.{Part}
 
--- what a future time holds; it may hold nothing, where a process that slept to it has ended
+-- what a future time holds: processes to wake, and updates, each a list of written parts; it may hold nothing, where a
+-- process that slept to it has ended
 pub record Slot : Type 0 where
   pub processes : List ℕ
-  pub updates : List Update
+  pub updates : List (List Part)
 
 pub record Queue : Type 0 where
   pub grain : Grain
@@ -17,8 +18,8 @@ pub record Queue : Type 0 where
   pub last : Option ℕ  -- the process that made the last step, if that step neither suspended nor ended it
   pub active : List ℕ
   pub inactive : List ℕ
-  pub activated : List Update  -- nonblocking updates that are active
-  pub posted : List Update
+  pub activated : List (List Part)  -- nonblocking updates that are active
+  pub posted : List (List Part)
   pub future : List (ℕ × Slot)  -- in order of time, later than now and within the limit
   pub beyond : Bool  -- something is past the limit
 

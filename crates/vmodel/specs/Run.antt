@@ -3,54 +3,60 @@ use Rattle.std.specs.Prelude.{ℕ, zero, suc, ◌==◌, ◌&&◌, ◌||◌, is_s
 use Rattle.vbits.specs.declared.bit4.Bit4.TheVariants.{X}
 use Rattle.vbits.specs.Vectors.{Vector, filled, with_sign}
 use Rattle.sched_core.specs.Rules.{Rules, stands, choice_at}
-use Rattle.vast.specs.Design.{VariableView, Actions, done, then, DesignView}
+use Rattle.vast.specs.Design.{Variable, Design}
 use Rattle.vmodel.specs.declared.history.Cause.{Cause}
 use Rattle.vmodel.specs.declared.history.Cause.TheVariants.{Quiet, Limit}
 use Rattle.vmodel.specs.declared.history.End.{End}
 use Rattle.vmodel.specs.declared.history.Grain.{Grain}
-use Rattle.vmodel.specs.State.{State}
+use Rattle.vmodel.specs.declared.history.Item.{Item}
+use Rattle.vmodel.specs.Queue.{Queue}
+use Rattle.vmodel.specs.State.{Process, State}
 use Rattle.vmodel.specs.Choices.{choices}
-use Rattle.vmodel.specs.History.{HistoryItem, HistoryView}
+use Rattle.vmodel.specs.History.{History}
 use Rattle.vmodel.specs.Same.{state_same}
-use Rattle.vmodel.specs.Step.{next, slot_end_of}
+use Rattle.vmodel.specs.Step.{spots, next, items_of, slot_end_of}
 
 -- every variable starts at x (4.2.2)
-abbrev pub opening_value : VariableView → Vector
+abbrev pub opening_value : Variable → Vector
 opening_value variable = with_sign (filled variable.length X) variable.signed
 
--- 9.9.1: the numbers of the processes that have something to do, from n on
-abbrev pub busy_from : ℕ → List Actions → List ℕ
-busy_from n [] = []
-busy_from n (done ∷ rest) = busy_from (suc n) rest
-busy_from n (then action after ∷ rest) = n ∷ busy_from (suc n) rest
+-- a process begins at its first places
+abbrev pub opening_process : List ℕ → Process
+opening_process places = record { left = spots places []; held = None; waits = None }
 
--- 9.9.1: at time 0 all processes are active that have something to do
-abbrev pub opening : DesignView → ℕ → Grain → State
+-- 9.9.1: the numbers of the processes that have something to do, from n on
+abbrev pub busy_from : ℕ → List (List ℕ) → List ℕ
+busy_from n [] = []
+busy_from n ([] ∷ rest) = busy_from (suc n) rest
+busy_from n ((place ∷ places) ∷ rest) = n ∷ busy_from (suc n) rest
+
+-- 9.9.1: at time 0 these processes are active, and nothing else is there
+abbrev pub opening_queue : List ℕ → ℕ → Grain → Queue
+opening_queue active until grain = record {
+  grain = grain;
+  until = until;
+  time = 0;
+  last = None;
+  active = active;
+  inactive = [];
+  activated = [];
+  posted = [];
+  future = [];
+  beyond = false;
+}
+
+-- those that have something to do
+abbrev pub opening : Design → ℕ → Grain → State
 opening design until grain = record {
   values = map opening_value design.variables;
-  remainders = design.processes;
-  queue = record {
-    grain = grain;
-    until = until;
-    time = 0;
-    last = None;
-    active = busy_from 0 design.processes;
-    inactive = [];
-    activated = [];
-    posted = [];
-    future = [];
-    beyond = false;
-  };
+  processes = map opening_process design.processes;
+  queue = opening_queue (busy_from 0 design.processes) until grain;
   cause = None;
 }
 
--- where no process has anything to do, the opening state is a slot end
-abbrev pub opening_items : State → List HistoryItem
-opening_items s = slot_end_of s.queue.active s.queue.activated s.queue.time s.values
-
 -- what is run: a design, a time limit and a grain
 pub record Setting : Type 0 where
-  pub design : DesignView
+  pub design : Design
   pub until : ℕ
   pub grain : Grain
 
@@ -68,17 +74,19 @@ rules_of setting = record {
   first = opening_of setting;
   width = λ s. length (choices s);
   mark = is_mark;
-  after = λ s i. (next s i).state;
+  after = λ s i. (next setting.design s i).state;
 }
 
 -- the state that the run under the log stands in after n steps
 abbrev pub state_after : Setting → List (ℕ × ℕ) → ℕ → State
 state_after setting log n = stands (rules_of setting) log n
 
--- what the run under the log has given to its history after n steps
-abbrev pub given_by : Setting → List (ℕ × ℕ) → ℕ → List HistoryItem
-given_by setting log zero = opening_items (opening_of setting)
-given_by setting log (suc n) = given_by setting log n ++ (next (state_after setting log n) (choice_at log n)).items
+-- what the run under the log has given to its history after n steps; where no process has anything to do, the opening
+-- state is a slot end
+abbrev pub given_by : Setting → List (ℕ × ℕ) → ℕ → List Item
+given_by setting log zero = slot_end_of (opening_of setting)
+given_by setting log (suc n) =
+    given_by setting log n ++ items_of (next setting.design (state_after setting log n) (choice_at log n))
 
 -- why a run ends where it has no choice: `$finish` (17.4.1), else something past the limit, else nothing is left
 -- (docs/SCHEDULING.md)
@@ -91,7 +99,7 @@ abbrev pub end_of : State → End
 end_of s = record { time = s.queue.time; cause = cause_of s.cause s.queue.beyond }
 
 -- the history of the run after n steps
-abbrev pub history_after : Setting → List (ℕ × ℕ) → ℕ → HistoryView
+abbrev pub history_after : Setting → List (ℕ × ℕ) → ℕ → History
 history_after setting log n = record {
   items = given_by setting log n;
   end = end_of (state_after setting log n);

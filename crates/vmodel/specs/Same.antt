@@ -1,17 +1,17 @@
--- When two states of a run are equal: by all that they hold.
+-- When two states of a run are equal: by all that they hold, statements by their places (docs/SCHEDULING.md).
 use Rattle.std.specs.Prelude.{ℕ, Bool, true, false, ◌&&◌, not, ◌==◌, List, [], ◌∷◌, Option, Some, None}
 use Rattle.vbits.specs.Vectors.{Vector}
 use Rattle.vbits.specs.Letters.{is_same}
-use Rattle.vast.specs.Design.{Action, assign, nonblocking, delay, dump_vars, finish, Actions, done, then}
-use Rattle.vast.specs.declared.design.Expression.{Expression}
-use Rattle.vast.specs.declared.design.Expression.TheVariants.{Constant, Variable}
 use Rattle.vmodel.specs.declared.history.Cause.{Cause}
 use Rattle.vmodel.specs.declared.history.Cause.TheVariants.{Finish, Quiet, Limit}
 use Rattle.vmodel.specs.declared.history.Grain.{Grain}
-use Rattle.vmodel.specs.declared.history.Grain.TheVariants.{Process, Statement}
-use Rattle.vmodel.specs.declared.queue.Update.{Update}
+use Rattle.vmodel.specs.declared.history.Grain.TheVariants.{Process as ByProcess, Statement}
+use Rattle.vmodel.specs.declared.part.Part.{Part}
+use Rattle.vmodel.specs.declared.part.Part.TheVariants.{Whole}
+use Rattle.vmodel.specs.declared.process.Spot.{Spot}
+use Rattle.vmodel.specs.declared.process.Spot.TheVariants.{Doing}
 use Rattle.vmodel.specs.Queue.{Slot, Queue}
-use Rattle.vmodel.specs.State.{State}
+use Rattle.vmodel.specs.State.{Process, State}
 
 abbrev pub bool_same : Bool → Bool → Bool
 bool_same true b = b
@@ -33,27 +33,15 @@ option_same same _ _ = false
 abbrev pub vector_same : Vector → Vector → Bool
 vector_same v w = list_same is_same v.letters w.letters && bool_same v.signed w.signed
 
-abbrev pub expression_same : Expression → Expression → Bool
-expression_same (Constant c) (Constant d) = vector_same c.value d.value && bool_same c.spreads d.spreads
-expression_same (Variable m) (Variable n) = m == n
-expression_same _ _ = false
+abbrev pub spot_same : Spot → Spot → Bool
+spot_same (Doing p) (Doing q) = p == q
 
-abbrev mutual
-  pub action_same : Action → Action → Bool
-  action_same (assign m e) (assign n f) = m == n && expression_same e f
-  action_same (nonblocking m e) (nonblocking n f) = m == n && expression_same e f
-  action_same (delay e body) (delay f other) = expression_same e f && actions_same body other
-  action_same dump_vars dump_vars = true
-  action_same finish finish = true
-  action_same _ _ = false
-
-  pub actions_same : Actions → Actions → Bool
-  actions_same done done = true
-  actions_same (then a rest) (then b other) = action_same a b && actions_same rest other
-  actions_same _ _ = false
+abbrev pub process_same : Process → Process → Bool
+process_same p q =
+    list_same spot_same p.left q.left && option_same vector_same p.held q.held && option_same nat_same p.waits q.waits
 
 abbrev pub grain_same : Grain → Grain → Bool
-grain_same Process Process = true
+grain_same ByProcess ByProcess = true
 grain_same Statement Statement = true
 grain_same _ _ = false
 
@@ -63,8 +51,11 @@ cause_same Quiet Quiet = true
 cause_same Limit Limit = true
 cause_same _ _ = false
 
-abbrev pub update_same : Update → Update → Bool
-update_same u v = u.target == v.target && vector_same u.value v.value
+abbrev pub part_same : Part → Part → Bool
+part_same (Whole m v) (Whole n w) = m == n && vector_same v w
+
+abbrev pub update_same : List Part → List Part → Bool
+update_same = list_same part_same
 
 abbrev pub slot_same : ℕ × Slot → ℕ × Slot → Bool
 slot_same e f = e.0 == f.0 && list_same nat_same e.1.processes f.1.processes && list_same update_same e.1.updates f.1.updates
@@ -78,5 +69,5 @@ queue_same q r =
 
 abbrev pub state_same : State → State → Bool
 state_same s t =
-    list_same vector_same s.values t.values && list_same actions_same s.remainders t.remainders
+    list_same vector_same s.values t.values && list_same process_same s.processes t.processes
     && queue_same s.queue t.queue && option_same cause_same s.cause t.cause

@@ -1,38 +1,56 @@
 -- `Step` (IEEE 1364-2005, 11.3, 11.4, 11.6; docs/SCHEDULING.md): the one step of a choice, then the region moves.
-use Rattle.std.specs.Prelude.{ℕ, zero, suc, List, [], ◌∷◌, ◌++◌, Option, Some, None, slice_get, slice_set, unwrap_or}
+use Rattle.std.specs.Prelude.{ℕ, zero, suc, List, [], ◌∷◌, ◌++◌, Option, Some, None, map, slice_get, slice_set, option_and_then}
 use Rattle.vbits.specs.Vectors.{Vector}
-use Rattle.vast.specs.Design.{Action, assign, nonblocking, delay, dump_vars, finish, Actions, done, then, join}
+use Rattle.vast.specs.Design.{Design}
+use Rattle.vast.specs.declared.design.Action.{Action}
+use Rattle.vast.specs.declared.design.Action.TheVariants.{Assign, Nonblocking, Delay, DumpVars, Finish}
 use Rattle.vmodel.specs.declared.history.Cause.{Cause}
-use Rattle.vmodel.specs.declared.history.Cause.TheVariants.{Finish}
+use Rattle.vmodel.specs.declared.history.Cause.TheVariants.{Finish as Finished}
+use Rattle.vmodel.specs.declared.history.DumpCommand.{DumpCommand}
 use Rattle.vmodel.specs.declared.history.DumpCommand.TheVariants.{Vars}
-use Rattle.vmodel.specs.Value.{value_at, assigned, delay_of}
-use Rattle.vmodel.specs.declared.queue.Update.{Update}
+use Rattle.vmodel.specs.declared.history.Item.{Item}
+use Rattle.vmodel.specs.declared.history.Item.TheVariants.{SlotEnd, Dump}
+use Rattle.vmodel.specs.declared.process.Spot.{Spot}
+use Rattle.vmodel.specs.declared.process.Spot.TheVariants.{Doing}
+use Rattle.vmodel.specs.declared.deed.Fate.{Fate}
+use Rattle.vmodel.specs.declared.deed.Fate.TheVariants.{GoesOn, Sleeps}
+use Rattle.vmodel.specs.declared.deed.Deed.{Deed}
+use Rattle.vmodel.specs.declared.part.Part.{Part}
+use Rattle.vmodel.specs.Value.{Moment, assigned, delay_of}
+use Rattle.vmodel.specs.Parts.{written}
 use Rattle.vmodel.specs.Queue.{Slot, Queue, with_process, without_process, wake_after}
-use Rattle.vmodel.specs.State.{State}
-use Rattle.vmodel.specs.History.{HistoryItem, slot_end, dump}
+use Rattle.vmodel.specs.State.{Process, State}
 use Rattle.vmodel.specs.declared.choice.Choice.{Choice}
-use Rattle.vmodel.specs.declared.choice.Choice.TheVariants.{Run, Update as TheUpdate, Advance}
-use Rattle.vmodel.specs.declared.did.Did.{Did}
-use Rattle.vmodel.specs.declared.did.Did.TheVariants.{Wrote, Posted, Slept, Commanded, Ended}
+use Rattle.vmodel.specs.declared.choice.Choice.TheVariants.{Run, Update, Advance}
 use Rattle.vmodel.specs.Choices.{choices}
 
--- ---- what a step of a process does
+-- ---- what a step of a process does: one equation for each row of the table of steps (docs/SCHEDULING.md, "Steps")
 
--- what an action does to what all processes share (9.2.1, 9.2.2, 9.7.1, 17.4.1, 18.1.2)
-abbrev pub did_of : Action → List Vector → Did
-did_of (assign target e) values = Wrote target (assigned e values (value_at values target))
-did_of (nonblocking target e) values = Posted (record { target = target; value = assigned e values (value_at values target) })
-did_of (delay amount body) values = Slept (delay_of amount values)
-did_of dump_vars values = Commanded Vars
-did_of finish values = Ended Finish
+-- what it has left, and all else that it does
+pub record Did : Type 0 where
+  pub left : List Spot
+  pub deed : Deed
 
--- what its process has left after it, of what stood behind it
-abbrev pub rest_of : Action → Actions → Actions
-rest_of (assign target e) after = after
-rest_of (nonblocking target e) after = after
-rest_of (delay amount body) after = join body after
-rest_of dump_vars after = after
-rest_of finish after = after
+-- a step that does nothing but go on
+abbrev pub quiet : Deed
+quiet = record { held = None; fate = GoesOn; wrote = []; posted = None; command = None; cause = None }
+
+-- at these places in turn, then at what stood behind
+abbrev pub spots : List ℕ → List Spot → List Spot
+spots places after = map Doing places ++ after
+
+-- what an action does at a moment, of a process that has `after` left behind it
+abbrev pub does : Action → List Spot → Moment → Did
+-- 9.2.1: `target = value` writes
+does (Assign target value) after now = record { left = after; deed = record quiet { wrote = assigned target value now } }
+-- 9.2.2, 11.6.4: `target <= value` takes value and target, and posts the update
+does (Nonblocking target value) after now = record { left = after; deed = record quiet { posted = Some (assigned target value now) } }
+-- 9.7.1: `#amount` suspends, and the body comes after it
+does (Delay amount body) after now = record { left = spots body after; deed = record quiet { fate = Sleeps (delay_of amount now) } }
+-- 18.1.2: `$dumpvars`
+does DumpVars after now = record { left = after; deed = record quiet { command = Some Vars } }
+-- 17.4.1: `$finish`
+does Finish after now = record { left = after; deed = record quiet { cause = Some Finished } }
 
 -- ---- what becomes of the process in the queue
 
@@ -41,9 +59,9 @@ abbrev pub leaves : ℕ → Queue → Queue
 leaves p q = record q { last = None; active = without_process p q.active }
 
 -- the process, where it has something left
-abbrev pub going : ℕ → Actions → Option ℕ
-going p done = None
-going p (then action rest) = Some p
+abbrev pub going : ℕ → List Spot → Option ℕ
+going p [] = None
+going p (spot ∷ rest) = Some p
 
 -- it goes on as the process that made the last step, or has ended, where nothing is left
 abbrev pub goes_on : ℕ → Option ℕ → Queue → Queue
@@ -60,38 +78,19 @@ abbrev pub sleeps : ℕ → Option ℕ → Queue → Queue
 sleeps zero sleeper q = becomes_inactive sleeper q
 sleeps (suc d) sleeper q = wake_after (suc d) sleeper q
 
-abbrev pub moved : ℕ → Did → Option ℕ → Queue → Queue
-moved p (Wrote target value) left q = goes_on p left q
-moved p (Posted u) left q = goes_on p left (record q { posted = q.posted ++ u ∷ [] })
-moved p (Slept d) left q = sleeps d left (leaves p q)
-moved p (Commanded c) left q = goes_on p left q
-moved p (Ended cause) left q = goes_on p left q
+abbrev pub fares : ℕ → Fate → Option ℕ → Queue → Queue
+fares p GoesOn left q = goes_on p left q
+fares p (Sleeps d) left q = leaves p (sleeps d left q)
 
-abbrev pub value_after : Did → List Vector → List Vector
-value_after (Wrote target value) values = slice_set values target value
-value_after (Posted u) values = values
-value_after (Slept d) values = values
-value_after (Commanded c) values = values
-value_after (Ended cause) values = values
-
-abbrev pub cause_after : Did → Option Cause
-cause_after (Wrote target value) = None
-cause_after (Posted u) = None
-cause_after (Slept d) = None
-cause_after (Commanded c) = None
-cause_after (Ended cause) = Some cause
-
-abbrev pub items_of_did : Did → List HistoryItem
-items_of_did (Wrote target value) = []
-items_of_did (Posted u) = []
-items_of_did (Slept d) = []
-items_of_did (Commanded c) = dump c ∷ []
-items_of_did (Ended cause) = []
+-- 11.4: an update stands behind those posted before
+abbrev pub posts : Option (List Part) → Queue → Queue
+posts None q = q
+posts (Some parts) q = record q { posted = q.posted ++ parts ∷ [] }
 
 -- ---- the region moves (11.4)
 
 -- while something is active it stays; else what is inactive becomes active; else what is posted is activated
-abbrev pub regions : List ℕ → List Update → List ℕ → List Update → Queue → Queue
+abbrev pub regions : List ℕ → List (List Part) → List ℕ → List (List Part) → Queue → Queue
 regions (p ∷ ps) us is posts q = q
 regions [] (u ∷ us) is posts q = q
 regions [] [] (i ∷ is) posts q = record q { active = i ∷ is; inactive = [] }
@@ -101,59 +100,70 @@ regions [] [] [] [] q = q
 abbrev pub settled : Queue → Queue
 settled q = regions q.active q.activated q.inactive q.posted q
 
--- ---- the step
+-- after `$finish` there are none
+abbrev pub closed_by : Option Cause → State → State
+closed_by (Some cause) s = s
+closed_by None s = record s { queue = settled s.queue }
 
-pub record Turn : Type 0 where
-  pub state : State
-  pub items : List HistoryItem
-
--- where nothing is left at the current time the slot has ended
-abbrev pub slot_end_of : List ℕ → List Update → ℕ → List Vector → List HistoryItem
-slot_end_of [] [] time values = slot_end time values ∷ []
-slot_end_of [] (u ∷ us) time values = []
-slot_end_of (p ∷ ps) us time values = []
-
--- the region moves, and the slot end where they lead to none; after `$finish` there are none
-abbrev pub closed_by : Option Cause → State → List HistoryItem → Turn
-closed_by (Some cause) s items = record { state = s; items = items }
-closed_by None s items =
-    let q = settled s.queue in
-    record { state = record s { queue = q }; items = items ++ slot_end_of q.active q.activated q.time s.values }
-
-abbrev pub closed : State → List HistoryItem → Turn
+abbrev pub closed : State → State
 closed s = closed_by s.cause s
 
--- what a process has left; nothing where there is no such process
-abbrev pub remainder_at : List Actions → ℕ → Actions
-remainder_at remainders p = unwrap_or (slice_get remainders p) done
+-- ---- the step
 
-abbrev pub acted : ℕ → Did → Actions → State → State
-acted p did left s = record {
-  values = value_after did s.values;
-  remainders = slice_set s.remainders p left;
-  queue = moved p did (going p left) s.queue;
-  cause = cause_after did;
+-- the state after a step, and what the step did
+pub record Turn : Type 0 where
+  pub state : State
+  pub deed : Deed
+
+-- a process after its step
+abbrev pub process_by : Did → Process
+process_by did = record { left = did.left; held = did.deed.held; waits = None }
+
+-- the process is placed, the parts are written, and the queue has what becomes of both
+abbrev pub acted : ℕ → Did → State → State
+acted p did s = record {
+  values = written did.deed.wrote s.values;
+  processes = slice_set s.processes p (process_by did);
+  queue = fares p did.deed.fate (going p did.left) (posts did.deed.posted s.queue);
+  cause = did.deed.cause;
 }
 
--- a process takes one step; one with nothing left is never active (specs/Kept.antt), so that its case is never reached
-abbrev pub process_turn : ℕ → Actions → State → Turn
-process_turn p done s = closed s []
-process_turn p (then action rest) s =
-    let did = did_of action s.values in
-    closed (acted p did (rest_of action rest) s) (items_of_did did)
+abbrev pub turned : ℕ → Did → State → Turn
+turned p did s = record { state = closed (acted p did s); deed = did.deed }
 
--- what is written and what the queue is, once the first activated update is taken (11.4.1)
-abbrev pub values_updated : List Update → List Vector → List Vector
-values_updated [] values = values
-values_updated (u ∷ us) values = slice_set values u.target u.value
+-- nothing happens
+abbrev pub unmoved : State → Turn
+unmoved s = record { state = s; deed = quiet }
 
-abbrev pub without_update : List Update → Queue → Queue
+-- the process takes the action, if there is one
+abbrev pub takes : ℕ → Option Action → List Spot → State → Turn
+takes p None after s = unmoved s
+takes p (Some action) after s = turned p (does action after (record { values = s.values })) s
+
+-- it takes the action at the first of what it has left. One with nothing left is never active (specs/Kept.antt)
+abbrev pub goes_from : List Action → ℕ → List Spot → State → Turn
+goes_from actions p [] s = unmoved s
+goes_from actions p (Doing place ∷ after) s = takes p (slice_get actions place) after s
+
+abbrev pub left_of : Option Process → List Spot
+left_of None = []
+left_of (Some process) = process.left
+
+abbrev pub process_turn : List Action → ℕ → State → Turn
+process_turn actions p s = goes_from actions p (left_of (slice_get s.processes p)) s
+
+-- the first activated update is written (11.4.1)
+abbrev pub first_of : List (List Part) → List Part
+first_of [] = []
+first_of (u ∷ us) = u
+
+abbrev pub without_update : List (List Part) → Queue → Queue
 without_update [] q = q
 without_update (u ∷ us) q = record q { last = None; activated = us }
 
 abbrev pub updated : State → State
 updated s = record s {
-  values = values_updated s.queue.activated s.values;
+  values = written (first_of s.queue.activated) s.values;
   queue = without_update s.queue.activated s.queue;
 }
 
@@ -163,15 +173,41 @@ advanced_to [] q = q
 advanced_to (e ∷ es) q =
     record q { time = e.0; last = None; active = e.1.processes; posted = e.1.updates; future = es }
 
-abbrev pub turn_of : Choice → State → Turn
-turn_of (Run p) s = process_turn p (remainder_at s.remainders p) s
-turn_of TheUpdate s = closed (updated s) []
-turn_of Advance s = closed (record s { queue = advanced_to s.queue.future s.queue }) []
+abbrev pub turn_of : Design → Choice → State → Turn
+turn_of design (Run p) s = process_turn design.actions p s
+turn_of design Update s =
+    record { state = closed (updated s); deed = record quiet { wrote = first_of s.queue.activated } }
+turn_of design Advance s =
+    record { state = closed (record s { queue = advanced_to s.queue.future s.queue }); deed = quiet }
 
-abbrev pub turn_by : Option Choice → State → Turn
-turn_by None s = record { state = s; items = [] }
-turn_by (Some c) s = turn_of c s
+abbrev pub turn_by : Design → Option Choice → State → Turn
+turn_by design None s = unmoved s
+turn_by design (Some c) s = turn_of design c s
 
--- the step of choice i: the state after it, and what it gives to the history
-abbrev pub next : State → ℕ → Turn
-next s i = turn_by (slice_get (choices s) i) s
+-- the step of choice i
+abbrev pub next : Design → State → ℕ → Turn
+next design s i = turn_by design (slice_get (choices s) i) s
+
+-- ---- what a step gives to the history
+
+abbrev pub command_items : Option DumpCommand → List Item
+command_items None = []
+command_items (Some command) = Dump command ∷ []
+
+-- where nothing is left at the current time the slot has ended
+abbrev pub idle_items : List ℕ → List (List Part) → ℕ → List Vector → List Item
+idle_items [] [] time values = SlotEnd time values ∷ []
+idle_items [] (u ∷ us) time values = []
+idle_items (p ∷ ps) us time values = []
+
+-- a slot that `$finish` cuts short has no end
+abbrev pub slot_end_by : Option Cause → State → List Item
+slot_end_by (Some cause) s = []
+slot_end_by None s = idle_items s.queue.active s.queue.activated s.queue.time s.values
+
+abbrev pub slot_end_of : State → List Item
+slot_end_of s = slot_end_by s.cause s
+
+-- what the step showed, and the slot end where the state after it is one
+abbrev pub items_of : Turn → List Item
+items_of turn = command_items turn.deed.command ++ slot_end_of turn.state

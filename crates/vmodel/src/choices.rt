@@ -3,7 +3,6 @@
 ghost use Rattle.std.specs.Prelude.{◌≡◌, ◌<◌, ◌≤◌, length, slice_get, map};
 ghost use Rattle.std.specs.Option.{ForSome};
 ghost use Rattle.vmodel.specs.Choices.{in_order, active_choices, queue_choices, IsWithin};
-ghost use Rattle.vmodel.specs.QueueViews.{queue_view};
 
 use crate::choice::Choice;
 use crate::history::Grain;
@@ -38,7 +37,7 @@ fn active_at(queue: &Queue, i: u32) -> Option<u32>
 
 // How many processes and updates may be taken.
 fn active_width(queue: &Queue) -> u32
-    ensures exact { result ≡ length (active_choices (queue_view queue.now)) }
+    ensures exact { result ≡ length (active_choices queue.now) }
     ensures few { result ≤ 258 }
 {
     let processes = active_count(queue);
@@ -51,7 +50,7 @@ fn active_width(queue: &Queue) -> u32
 
 // The process or update of this number.
 fn active_choice(queue: &Queue, i: u32) -> Option<Choice>
-    ensures exact { result ≡ slice_get (active_choices (queue_view queue.now)) i }
+    ensures exact { result ≡ slice_get (active_choices queue.now) i }
     ensures few { ForSome result IsWithin }
 {
     let processes = active_count(queue);
@@ -69,7 +68,7 @@ fn active_choice(queue: &Queue, i: u32) -> Option<Choice>
 
 /// How many choices the queue has.
 pub(crate) fn width(queue: &Queue) -> u32
-    ensures { result ≡ length (queue_choices (queue_view queue.now)) }
+    ensures { result ≡ length (queue_choices queue.now) }
 {
     if let (Grain::Process, Some(_)) = (queue.grain, queue.last) {
         return 1;
@@ -86,7 +85,7 @@ pub(crate) fn width(queue: &Queue) -> u32
 
 /// The choice of this number, if there is one.
 pub(crate) fn choice_at(queue: &Queue, i: u32) -> Option<Choice>
-    ensures exact { result ≡ slice_get (queue_choices (queue_view queue.now)) i }
+    ensures exact { result ≡ slice_get (queue_choices queue.now) i }
     ensures few { ForSome result IsWithin }
 {
     if let (Grain::Process, Some(last)) = (queue.grain, queue.last) {

@@ -1,18 +1,19 @@
-// The future: which processes and updates stand at later times, in order of time.
+// The future: which processes and updates stand at later times, in order of time (IEEE 1364-2005, 11.3).
 
-ghost use Rattle.std.specs.Prelude.{◌≡◌, ◌<◌, ◌≤◌, true, length, OnOk, IfOk, false, slice_get};
+ghost use Rattle.std.specs.Prelude.{◌≡◌, ◌<◌, ◌≤◌, true, length, OnOk, OnErr, IfOk, false, slice_get};
 ghost use Rattle.std.specs.Option.{ForSome};
 ghost use Rattle.vmodel.specs.Queue.{waking, empty_slot, wake_at as wake_at_time};
-ghost use Rattle.vmodel.specs.QueueViews.{future_view, future_views, place_of_time, SomeIs, NoneIs};
+ghost use Rattle.vmodel.specs.Inner.{place_of_time, SomeIs, NoneIs};
 
 use crate::process_set::ProcessSet;
 use crate::queue::{Future, copy_updates};
-use std::alloc::{AllocError, Global};
+use basis::NoMemory;
+use std::alloc::Global;
 use std::collections::VecDeque;
 
 // How many future times are below this one.
 fn place_among(future: &[Future], time: u64) -> usize
-    ensures exact { result ≡ place_of_time time (future_views future.now) }
+    ensures exact { result ≡ place_of_time time future.now }
     ensures within { result ≤ length future.now }
 {
     let mut place = 0;
@@ -27,8 +28,8 @@ fn place_among(future: &[Future], time: u64) -> usize
 
 // Whether this time stands at this place.
 fn stands_at(future: &[Future], place: usize, time: u64) -> bool
-    ensures yes { result ≡ true → SomeIs (λ e. e.0 ≡ time) (slice_get (future_views future.now) place) }
-    ensures no { result ≡ false → NoneIs (λ e. e.0 ≡ time) (slice_get (future_views future.now) place) }
+    ensures yes { result ≡ true → SomeIs (λ e. e.0 ≡ time) (slice_get future.now place) }
+    ensures no { result ≡ false → NoneIs (λ e. e.0 ≡ time) (slice_get future.now place) }
 {
     match future.get(place) {
         None => false,
@@ -37,9 +38,9 @@ fn stands_at(future: &[Future], place: usize, time: u64) -> bool
 }
 
 // A future time that holds one process to wake, or none.
-fn new_future(alloc: Global, time: u64, sleeper: Option<u32>) -> Result<Future, AllocError>
+fn new_future(alloc: Global, time: u64, sleeper: Option<u32>) -> Result<Future, NoMemory>
     requires { ForSome sleeper (λ p. p < 256) }
-    ensures { IfOk result (λ entry. future_view entry ≡ (time, waking sleeper empty_slot)) }
+    ensures { IfOk result (λ entry. entry ≡ (time, waking sleeper empty_slot)) }
 {
     let mut processes = ProcessSet::new(alloc);
     if let Some(process) = sleeper {
@@ -53,9 +54,10 @@ fn new_future(alloc: Global, time: u64, sleeper: Option<u32>) -> Result<Future, 
 }
 
 // One more process to wake at the future time of this place.
-fn wake_with(entry: &mut Future, sleeper: Option<u32>) -> Result<(), AllocError>
+fn wake_with(entry: &mut Future, sleeper: Option<u32>) -> Result<(), NoMemory>
     requires { ForSome sleeper (λ p. p < 256) }
-    ensures { OnOk result (future_view entry.new ≡ ((future_view entry.old).0, waking sleeper (future_view entry.old).1)) }
+    ensures ok { OnOk result (entry.new ≡ (entry.old.0, waking sleeper entry.old.1)) }
+    ensures err { OnErr result (entry.new ≡ entry.old) }
 {
     if let Some(process) = sleeper {
         entry.processes.insert(process)?;
@@ -63,19 +65,20 @@ fn wake_with(entry: &mut Future, sleeper: Option<u32>) -> Result<(), AllocError>
     Ok(())
 }
 
-/// One more process to wake at a time, which becomes a future time also where there is none.
+/// One more process to wake at a time, which becomes a future time also where there is none. After want of memory the
+/// future is as it was.
 pub(crate) fn wake_at(
     future: &mut Vec<Future>,
     time: u64,
     sleeper: Option<u32>,
-) -> Result<(), AllocError>
+) -> Result<(), NoMemory>
     requires { ForSome sleeper (λ p. p < 256) }
-    ensures { OnOk result (future_views future.new.items ≡ wake_at_time time sleeper (future_views future.old.items)) }
+    ensures ok { OnOk result (future.new.items ≡ wake_at_time time sleeper future.old.items) }
+    ensures err { OnErr result (future.new.items ≡ future.old.items) }
 {
     let place = place_among(future, time);
     if stands_at(future, place, time) {
-        wake_with(&mut future[place], sleeper)?;
-        return Ok(());
+        return wake_with(&mut future[place], sleeper);
     }
     let alloc = *future.allocator();
     let entry = new_future(alloc, time, sleeper)?;
@@ -83,8 +86,8 @@ pub(crate) fn wake_at(
     Ok(())
 }
 
-fn copy_entry(alloc: Global, entry: &Future) -> Result<Future, AllocError>
-    ensures { IfOk result (λ copied. future_view copied ≡ future_view entry.now) }
+fn copy_entry(alloc: Global, entry: &Future) -> Result<Future, NoMemory>
+    ensures { IfOk result (λ copied. copied ≡ entry.now) }
 {
     Ok(Future {
         time: entry.time,
@@ -94,8 +97,8 @@ fn copy_entry(alloc: Global, entry: &Future) -> Result<Future, AllocError>
 }
 
 /// A future that holds the same.
-pub(crate) fn copy_future(alloc: Global, future: &[Future]) -> Result<Vec<Future>, AllocError>
-    ensures { IfOk result (λ copied. future_views copied.items ≡ future_views future.now) }
+pub(crate) fn copy_future(alloc: Global, future: &[Future]) -> Result<Vec<Future>, NoMemory>
+    ensures { IfOk result (λ copied. copied.items ≡ future.now) }
 {
     let mut copied = Vec::new(alloc);
     for entry in future {

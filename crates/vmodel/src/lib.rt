@@ -5,24 +5,20 @@
 
 pub mod choice;
 mod choices;
-pub mod did;
+pub mod deed;
 mod future;
 pub mod history;
-mod law;
 mod open;
+pub mod part;
+pub mod process;
 pub mod process_set;
 pub mod queue;
 mod regions;
-mod remainder;
-mod remainders;
-pub mod run;
-pub mod sink;
 pub mod state;
 mod step;
-#[cfg(test)]
-mod tests;
 mod value;
+pub mod values;
 
-pub use law::run_law;
 pub use open::opening;
-pub use step::{slow_step, slow_width};
+pub use state::SlowState;
+pub use step::{items_after, slow_step, slow_width};

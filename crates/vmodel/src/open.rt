@@ -1,87 +1,79 @@
-// The opening state of a design.
+// The opening state of a design (docs/SCHEDULING.md).
 
 ghost use Rattle.std.specs.Prelude.{◌≡◌, ◌≤◌, IfOk, length, map};
-ghost use Rattle.vast.specs.DesignViews.{design_view, variable_view, process_actions};
-ghost use Rattle.vmodel.specs.Run.{opening as opening_state, opening_value, busy_from};
-ghost use Rattle.vmodel.specs.Remainders.{remainder_view};
-ghost use Rattle.vmodel.specs.StateViews.{state_view};
+ghost use Rattle.vmodel.specs.Run.{opening as opening_state, opening_queue as opening_queue_of, opening_process, busy_from};
 
 use crate::history::Grain;
+use crate::process::Process;
 use crate::process_set::ProcessSet;
 use crate::queue::Queue;
-use crate::remainder::Remainder;
 use crate::state::SlowState;
-use std::alloc::{AllocError, Global};
+use crate::values::Values;
+use basis::NoMemory;
+use std::alloc::Global;
 use std::collections::VecDeque;
-use vast::design::{Design, Process, Variable};
-use vbits::Vec4;
+use vast::design::{Design, Places};
 
-// Every variable starts at x (4.2.2).
-fn opening_values(alloc: Global, variables: &[Variable]) -> Result<Vec<Vec4>, AllocError>
-    ensures { IfOk result (λ values. values.items ≡ map opening_value (map variable_view variables.now)) }
+fn opening_processes(alloc: Global, begins: &[Places]) -> Result<Vec<Process>, NoMemory>
+    ensures { IfOk result (λ processes. processes.items ≡ map opening_process begins.now) }
 {
-    let mut values = Vec::new(alloc);
-    for variable in variables {
-        values.push(Vec4::all_x(variable.length).with_sign(variable.signed))?;
+    let mut processes = Vec::new(alloc);
+    for places in begins {
+        processes.push(Process::at(alloc, places.as_slice())?)?;
     }
-    Ok(values)
-}
-
-fn opening_remainders<'d>(
-    alloc: Global,
-    processes: &'d [Process],
-) -> Result<Vec<Remainder<'d>>, AllocError>
-    ensures { IfOk result (λ remainders. map remainder_view remainders.items ≡ map process_actions processes.now) }
-{
-    let mut remainders = Vec::new(alloc);
-    for process in processes {
-        remainders.push(Remainder::of(alloc, &process.body)?)?;
-    }
-    Ok(remainders)
+    Ok(processes)
 }
 
 // The processes that have something to do.
-fn busy(alloc: Global, processes: &[Process]) -> Result<ProcessSet, AllocError>
-    requires { length processes.now ≤ 256 }
-    ensures { IfOk result (λ set. set ≡ busy_from 0 (map process_actions processes.now)) }
+fn busy(alloc: Global, begins: &[Places]) -> Result<ProcessSet, NoMemory>
+    requires { length begins.now ≤ 256 }
+    ensures { IfOk result (λ set. set ≡ busy_from 0 begins.now) }
 {
     let mut set = ProcessSet::new(alloc);
-    let mut i = processes.len();
+    let mut i = begins.len();
     while i > 0 {
         i -= 1;
-        if !processes[i].body.is_empty() {
+        let places = &begins[i];
+        if !places.as_slice().is_empty() {
             set.insert(i as u32)?;
         }
     }
     Ok(set)
 }
 
-/// The state that a run of the design opens with (docs/SCHEDULING.md): time 0, every variable x, all processes active
-/// that have something to do. `until` is the time limit, in units of the precision. Nothing of the design is copied
-/// but the number and the widths of its variables. E901 is the only refusal.
-pub fn opening<'d>(
+fn opening_queue(active: ProcessSet, alloc: Global, until: u64, grain: Grain) -> Queue
+    ensures { result ≡ opening_queue_of active until grain }
+{
+    Queue {
+        grain,
+        until,
+        time: 0,
+        last: None,
+        active,
+        inactive: ProcessSet::new(alloc),
+        activated: VecDeque::new(alloc),
+        posted: VecDeque::new(alloc),
+        future: Vec::new(alloc),
+        beyond: false,
+    }
+}
+
+/// The state that a run of the design opens with: time 0, every variable x, all processes active that have something
+/// to do. `until` is the time limit, in units of the precision. Nothing of the design is copied but the number and the
+/// widths of its variables and where its processes begin. E901 is the only refusal.
+pub fn opening(
     alloc: Global,
-    design: &'d Design,
+    design: &Design,
     until: u64,
     grain: Grain,
-) -> Result<SlowState<'d>, AllocError>
-    ensures { IfOk result (λ state. state_view state ≡ opening_state (design_view design.now) until grain) }
+) -> Result<SlowState, NoMemory>
+    ensures { IfOk result (λ state. state ≡ opening_state design.now until grain) }
 {
+    let active = busy(alloc, &design.processes)?;
     Ok(SlowState {
-        values: opening_values(alloc, &design.variables)?,
-        remainders: opening_remainders(alloc, &design.processes)?,
-        queue: Queue {
-            grain,
-            until,
-            time: 0,
-            last: None,
-            active: busy(alloc, &design.processes)?,
-            inactive: ProcessSet::new(alloc),
-            activated: VecDeque::new(alloc),
-            posted: VecDeque::new(alloc),
-            future: Vec::new(alloc),
-            beyond: false,
-        },
+        values: Values::opening(alloc, &design.variables)?,
+        processes: opening_processes(alloc, &design.processes)?,
+        queue: opening_queue(active, alloc, until, grain),
         cause: None,
     })
 }

@@ -5,7 +5,8 @@ ghost use Rattle.std.specs.Option.{ForSome};
 ghost use Rattle.vmodel.specs.ProcessSets.{rises, place_of};
 ghost use Rattle.vmodel.specs.Queue.{with_process, without_process};
 
-use std::alloc::{AllocError, Global};
+use basis::NoMemory;
+use std::alloc::Global;
 use std::marker::Model;
 
 /// A set of processes: their numbers, rising and below 256 (docs/LANGUAGE.md, "Limits").
@@ -85,7 +86,7 @@ impl ProcessSet {
     }
 
     /// The set with one process more. Where memory is refused (E901) nothing changes.
-    pub fn insert(&mut self, process: u32) -> Result<(), AllocError>
+    pub fn insert(&mut self, process: u32) -> Result<(), NoMemory>
         requires { process < 256 }
         ensures ok { OnOk result (self.new ≡ with_process process self.old) }
         ensures err { OnErr result (self.new ≡ self.old) }
@@ -109,7 +110,7 @@ impl ProcessSet {
     }
 
     /// A set of the same processes. E901 is the only refusal.
-    pub fn copy(&self, alloc: Global) -> Result<ProcessSet, AllocError>
+    pub fn copy(&self, alloc: Global) -> Result<ProcessSet, NoMemory>
         ensures { IfOk result (λ set. set ≡ self.now) }
     {
         let members = Vec::from_slice(alloc, &self.members)?;

@@ -4,47 +4,74 @@ ghost use Rattle.std.specs.Prelude.{◌≡◌, ◌<◌, IfOk};
 ghost use Rattle.std.specs.Option.{ForSome};
 
 use crate::history::Grain;
+use crate::part::Parts;
 use crate::process_set::ProcessSet;
-use std::alloc::{AllocError, Global};
+use basis::NoMemory;
+use std::alloc::Global;
 use std::collections::VecDeque;
-use vbits::Vec4;
+use std::marker::Model;
 
-/// A nonblocking update (11.4.1): its value and target were taken when its statement ran.
-#[derive(Clone, Copy, Debug)]
-pub struct Update {
-    pub target: u32,
-    pub value: Vec4,
-}
-
-/// What a future time holds.
+/// What a future time holds. A clause sees it as the time and its slot.
 #[derive(Drop)]
 pub(crate) struct Future {
     pub(crate) time: u64,
     pub(crate) processes: ProcessSet,
-    pub(crate) updates: VecDeque<Update>,
+    pub(crate) updates: VecDeque<Parts>,
 }
 
-/// The regions of the current time, and the future in order of time.
+impl Model for Future {
+    ghost use Rattle.std.specs.Prelude.{ℕ};
+    ghost use Rattle.vmodel.specs.Queue.{Slot};
+
+    ghost Value = { ℕ × Slot };
+
+    ghost view = { λ f. (f.time, record { processes = f.processes; updates = f.updates.items }) };
+}
+
+/// The regions of the current time, and the future in order of time. A clause sees it as the record `Queue` of
+/// specs/Queue.antt.
 #[derive(Drop)]
-pub(crate) struct Queue {
+pub struct Queue {
     pub(crate) grain: Grain,
     pub(crate) until: u64,
     pub(crate) time: u64,
     pub(crate) last: Option<u32>,
     pub(crate) active: ProcessSet,
     pub(crate) inactive: ProcessSet,
-    pub(crate) activated: VecDeque<Update>,
-    pub(crate) posted: VecDeque<Update>,
+    pub(crate) activated: VecDeque<Parts>,
+    pub(crate) posted: VecDeque<Parts>,
     pub(crate) future: Vec<Future>,
     pub(crate) beyond: bool,
-    ghost last_few: { ForSome last (λ p. p < 256) },
+}
+
+impl Model for Queue {
+    ghost use Rattle.std.specs.Prelude.{◌<◌};
+    ghost use Rattle.std.specs.Option.{ForSome};
+    ghost use Rattle.vmodel.specs.Queue as queue;
+
+    ghost Value = { queue.Queue };
+
+    ghost view = { λ q. record {
+      grain = q.grain;
+      until = q.until;
+      time = q.time;
+      last = q.last;
+      active = q.active;
+      inactive = q.inactive;
+      activated = q.activated.items;
+      posted = q.posted.items;
+      future = q.future.items;
+      beyond = q.beyond;
+    } };
+
+    ghost invariant = { λ q. ForSome q.last (λ p. p < 256) };
 }
 
 /// The same updates in the same order.
 pub(crate) fn copy_updates(
     alloc: Global,
-    updates: &VecDeque<Update>,
-) -> Result<VecDeque<Update>, AllocError>
+    updates: &VecDeque<Parts>,
+) -> Result<VecDeque<Parts>, NoMemory>
     ensures { IfOk result (λ copied. copied.items ≡ updates.now.items) }
 {
     let (front, back) = updates.as_slices();

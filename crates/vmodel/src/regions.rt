@@ -1,22 +1,25 @@
 // The regions of the current time (IEEE 1364-2005, 11.3), and how processes and updates go from one to another.
 
-ghost use Rattle.std.specs.Prelude.{◌≡◌, ◌<◌, OnOk, IfOk, slice_get};
+ghost use Rattle.std.specs.Prelude.{◌≡◌, ◌<◌, ◌==◌, ◌&&◌, OnOk, OnErr, IfOk, length, slice_get, Some};
 ghost use Rattle.std.specs.Option.{ForSome};
-ghost use Rattle.vmodel.specs.QueueViews.{queue_view};
 ghost use Rattle.vmodel.specs.Queue.{wake_after as queue_wake_after};
-ghost use Rattle.vmodel.specs.Step.{leaves, goes_on, sleeps, moved, settled, without_update, advanced_to};
+ghost use Rattle.vmodel.specs.Inner.{unposted};
+ghost use Rattle.vmodel.specs.Step.{leaves, goes_on, sleeps, fares, posts as posts_update, settled, without_update, advanced_to};
 
-use crate::did::Did;
+use crate::deed::Fate;
 use crate::future::{copy_future, wake_at};
-use crate::queue::{Future, Queue, Update, copy_updates};
-use std::alloc::{AllocError, Global};
+use crate::part::Parts;
+use crate::queue::{Future, Queue, copy_updates};
+use basis::NoMemory;
+use std::alloc::Global;
 use std::mem;
 
 impl Queue {
     /// One more process to wake after a delay above 0; past the limit nothing is kept but that something is there.
-    pub(crate) fn wake_after(&mut self, delay: u64, sleeper: Option<u32>) -> Result<(), AllocError>
+    fn wake_after(&mut self, delay: u64, sleeper: Option<u32>) -> Result<(), NoMemory>
         requires { ForSome sleeper (λ p. p < 256) }
-        ensures { OnOk result (queue_view self.new ≡ queue_wake_after delay sleeper (queue_view self.old)) }
+        ensures ok { OnOk result (self.new ≡ queue_wake_after delay sleeper self.old) }
+        ensures err { OnErr result (self.new ≡ self.old) }
     {
         if self.until < self.time || delay > self.until - self.time {
             self.beyond = true;
@@ -27,17 +30,17 @@ impl Queue {
     }
 
     /// The process isn't active any more.
-    pub(crate) fn leave(&mut self, process: u32)
-        ensures { queue_view self.new ≡ leaves process (queue_view self.old) }
+    fn leave(&mut self, process: u32)
+        ensures { self.new ≡ leaves process self.old }
     {
         self.last = None;
         self.active.remove(process);
     }
 
     /// The process goes on as the one that made the last step, or has ended, where nothing is left of it.
-    pub(crate) fn go_on(&mut self, process: u32, left: Option<u32>)
+    fn go_on(&mut self, process: u32, left: Option<u32>)
         requires { ForSome left (λ p. p < 256) }
-        ensures { queue_view self.new ≡ goes_on process left (queue_view self.old) }
+        ensures { self.new ≡ goes_on process left self.old }
     {
         match left {
             None => self.leave(process),
@@ -46,9 +49,10 @@ impl Queue {
     }
 
     /// The process sleeps: inactive after a delay of 0, else in the future.
-    pub(crate) fn sleep(&mut self, delay: u64, sleeper: Option<u32>) -> Result<(), AllocError>
+    fn sleep(&mut self, delay: u64, sleeper: Option<u32>) -> Result<(), NoMemory>
         requires { ForSome sleeper (λ p. p < 256) }
-        ensures { OnOk result (queue_view self.new ≡ sleeps delay sleeper (queue_view self.old)) }
+        ensures ok { OnOk result (self.new ≡ sleeps delay sleeper self.old) }
+        ensures err { OnErr result (self.new ≡ self.old) }
     {
         if delay > 0 {
             return self.wake_after(delay, sleeper);
@@ -59,36 +63,65 @@ impl Queue {
         Ok(())
     }
 
-    /// What becomes of a process and the queue by what its step did.
-    pub(crate) fn move_by(
-        &mut self,
-        process: u32,
-        did: &Did,
-        left: Option<u32>,
-    ) -> Result<(), AllocError>
+    /// What becomes of a process by its step. After want of memory the queue is as it was.
+    fn fare(&mut self, process: u32, fate: Fate, left: Option<u32>) -> Result<(), NoMemory>
         requires { ForSome left (λ p. p < 256) }
-        ensures { OnOk result (queue_view self.new ≡ moved process did.now left (queue_view self.old)) }
+        ensures ok { OnOk result (self.new ≡ fares process fate left self.old) }
+        ensures err { OnErr result (self.new ≡ self.old) }
     {
-        match did {
-            Did::Wrote(..) => self.go_on(process, left),
-            Did::Posted(update) => {
-                self.posted.push_back(*update)?;
-                self.go_on(process, left);
-            }
-            Did::Slept(delay) => {
+        match fate {
+            Fate::GoesOn => self.go_on(process, left),
+            Fate::Sleeps(delay) => {
+                self.sleep(delay, left)?;
                 self.leave(process);
-                self.sleep(*delay, left)?;
             }
-            Did::Commanded(..) => self.go_on(process, left),
-            Did::Ended(..) => self.go_on(process, left),
         }
         Ok(())
     }
 
-    /// The region moves (11.3): while something is active it stays, else what is inactive becomes active, else what is
+    /// The update is posted behind the others. After want of memory the queue is as it was.
+    fn post(&mut self, parts: Parts) -> Result<(), NoMemory>
+        ensures ok { OnOk result (self.new ≡ posts_update (Some parts) self.old) }
+        ensures err { OnErr result (self.new ≡ self.old) }
+    {
+        self.posted.push_back(parts)?;
+        Ok(())
+    }
+
+    // The last posted update isn't posted any more.
+    fn take_back(&mut self)
+        ensures { self.new ≡ unposted self.old }
+    {
+        self.posted.pop_back();
+    }
+
+    /// What becomes of a process and of what its step posted. After want of memory the queue is as it was.
+    pub(crate) fn move_by(
+        &mut self,
+        process: u32,
+        fate: Fate,
+        posted: Option<Parts>,
+        left: Option<u32>,
+    ) -> Result<(), NoMemory>
+        requires { ForSome left (λ p. p < 256) }
+        ensures ok { OnOk result (self.new ≡ fares process fate left (posts_update posted self.old)) }
+        ensures err { OnErr result (self.new ≡ self.old) }
+    {
+        let Some(parts) = posted else {
+            return self.fare(process, fate, left);
+        };
+        self.post(parts)?;
+        let fared = self.fare(process, fate, left);
+        if fared.is_err() {
+            self.take_back();
+        }
+        fared
+    }
+
+    /// The region moves (11.4): while something is active it stays, else what is inactive becomes active, else what is
     /// posted is activated.
     pub(crate) fn settle(&mut self)
-        ensures { queue_view self.new ≡ settled (queue_view self.old) }
+        ensures { self.new ≡ settled self.old }
     {
         if !self.active.is_empty() || !self.activated.is_empty() {
             return;
@@ -101,9 +134,9 @@ impl Queue {
     }
 
     /// Takes the first activated update out, if there is one.
-    pub(crate) fn take_update(&mut self) -> Option<Update>
-        ensures taken { result ≡ slice_get self.old.activated.items 0 }
-        ensures left { queue_view self.new ≡ without_update self.old.activated.items (queue_view self.old) }
+    pub(crate) fn take_update(&mut self) -> Option<Parts>
+        ensures taken { result ≡ slice_get self.old.activated 0 }
+        ensures left { self.new ≡ without_update self.old.activated self.old }
     {
         match self.activated.pop_front() {
             None => None,
@@ -116,7 +149,7 @@ impl Queue {
 
     /// The time goes on to the next future time, if there is one.
     pub(crate) fn advance(&mut self)
-        ensures { queue_view self.new ≡ advanced_to (queue_view self.old).future (queue_view self.old) }
+        ensures { self.new ≡ advanced_to self.old.future self.old }
     {
         if self.future.is_empty() {
             return;
@@ -132,9 +165,16 @@ impl Queue {
         self.posted = updates;
     }
 
+    /// Whether nothing is active: a slot end, where the run goes on.
+    pub(crate) fn is_idle(&self) -> bool
+        ensures { result ≡ ((length self.now.active == 0) && (length self.now.activated == 0)) }
+    {
+        self.active.is_empty() && self.activated.is_empty()
+    }
+
     /// A queue that holds the same.
-    pub(crate) fn copy(&self, alloc: Global) -> Result<Queue, AllocError>
-        ensures { IfOk result (λ queue. queue_view queue ≡ queue_view self.now) }
+    pub(crate) fn copy(&self, alloc: Global) -> Result<Queue, NoMemory>
+        ensures { IfOk result (λ queue. queue ≡ self.now) }
     {
         Ok(Queue {
             grain: self.grain,

@@ -1,16 +1,132 @@
-// The state of a run, as the plain step works on it.
+// The state of a run (IEEE 1364-2005, 11.1, 11.3), as the plain step works on it.
 
-use crate::history::Cause;
+ghost use Rattle.std.specs.Prelude.{◌≡◌, length, slice_get, IfOk, IfSome};
+ghost use Rattle.std.specs.Option.{ForSome};
+ghost use Rattle.vmodel.specs.Choices.{choices as choices_of, IsWithin};
+ghost use Rattle.vmodel.specs.Run.{end_of, is_mark};
+
+use crate::choice::Choice;
+use crate::choices;
+use crate::history::{Cause, End};
+use crate::process::Process;
 use crate::queue::Queue;
-use crate::remainder::Remainder;
+use crate::values::Values;
+use basis::NoMemory;
+use std::alloc::Global;
+use std::marker::Model;
 use vbits::Vec4;
 
-/// A state: the values of the variables, what each process has left, the queue, and why the run ended if `$finish`
-/// was taken. It borrows the statements from its design.
+/// A state: the values of the variables, what each process stands at, the queue, and why the run ended if `$finish`
+/// was taken. Statements go by their places in the design's table. A clause sees it as the record `State` of
+/// specs/State.antt.
 #[derive(Drop)]
-pub struct SlowState<'d> {
-    pub(crate) values: Vec<Vec4>,
-    pub(crate) remainders: Vec<Remainder<'d>>,
+pub struct SlowState {
+    pub(crate) values: Values,
+    pub(crate) processes: Vec<Process>,
     pub(crate) queue: Queue,
     pub(crate) cause: Option<Cause>,
+}
+
+impl Model for SlowState {
+    ghost use Rattle.vmodel.specs.State as state;
+
+    ghost Value = { state.State };
+
+    ghost view = { λ s. record { values = s.values; processes = s.processes.items; queue = s.queue; cause = s.cause } };
+}
+
+impl SlowState {
+    /// A state that is the same.
+    pub fn copy(&self, alloc: Global) -> Result<SlowState, NoMemory>
+        ensures { IfOk result (λ state. state ≡ self.now) }
+    {
+        Ok(SlowState {
+            values: self.values.copy(alloc)?,
+            processes: copy_processes(alloc, &self.processes)?,
+            queue: self.queue.copy(alloc)?,
+            cause: self.cause,
+        })
+    }
+
+    /// How many choices the state has: 0 where the run has ended (11.4.1, 11.4.2).
+    pub fn width(&self) -> u32
+        ensures { result ≡ length (choices_of self.now) }
+    {
+        if self.cause.is_some() {
+            0
+        } else {
+            choices::width(&self.queue)
+        }
+    }
+
+    /// What choice `i` is, if there is one. Nothing changes.
+    pub fn choice(&self, i: u32) -> Option<Choice>
+        ensures exact { result ≡ slice_get (choices_of self.now) i }
+        ensures few { ForSome result IsWithin }
+    {
+        if self.cause.is_some() {
+            None
+        } else {
+            choices::choice_at(&self.queue, i)
+        }
+    }
+
+    /// Whether a slot has ended here, or the run.
+    pub fn is_mark(&self) -> bool
+        ensures { result ≡ is_mark self.now }
+    {
+        self.cause.is_some() || self.queue.is_idle()
+    }
+
+    /// The time, in units of the precision.
+    pub fn time(&self) -> u64
+        ensures { result ≡ self.now.queue.time }
+    {
+        self.queue.time
+    }
+
+    /// The value of each variable, by its number.
+    pub fn values(&self) -> &[Vec4]
+        ensures { result.now ≡ self.now.values }
+    {
+        self.values.as_slice()
+    }
+
+    /// Why the run ended, where `$finish` was taken (17.4.1).
+    pub fn cause(&self) -> Option<Cause>
+        ensures { result ≡ self.now.cause }
+    {
+        self.cause
+    }
+
+    /// The end of a run that ends here: its time, and why.
+    pub fn end(&self) -> End
+        ensures { result ≡ end_of self.now }
+    {
+        let cause = match self.cause {
+            Some(cause) => cause,
+            None => {
+                if self.queue.beyond {
+                    Cause::Limit
+                } else {
+                    Cause::Quiet
+                }
+            }
+        };
+        End {
+            time: self.queue.time,
+            cause,
+        }
+    }
+}
+
+fn copy_processes(alloc: Global, processes: &[Process]) -> Result<Vec<Process>, NoMemory>
+    ensures { IfOk result (λ copied. copied.items ≡ processes.now) }
+{
+    let mut copied = Vec::new(alloc);
+    copied.reserve(processes.len())?;
+    for process in processes {
+        copied.push(process.copy(alloc)?)?;
+    }
+    Ok(copied)
 }

@@ -1,210 +1,195 @@
 // The one step of a choice, and the region moves after it (IEEE 1364-2005, 11.3, 11.4, 11.6).
 
-ghost use Rattle.std.specs.Prelude.{◌≡◌, ◌<◌, ◌++◌, [], ◌∷◌, IfOk, length, slice_get, slice_set};
-ghost use Rattle.std.specs.Option.{option_to_list, ForSome};
-ghost use Rattle.vmodel.specs.Choices.{choices as choices_of, IsWithin};
-ghost use Rattle.vmodel.specs.Step.{value_after, cause_after, items_of_did, slot_end_of, closed, turn_of, next};
-ghost use Rattle.vmodel.specs.QueueViews.{queue_view};
-ghost use Rattle.vmodel.specs.StateViews.{state_view, item_views};
+ghost use Rattle.std.specs.Prelude.{◌≡◌, ◌<◌, [], IfOk, OnOk, OnErr, IfSome, IfNone, length, slice_get, slice_set, drop};
+ghost use Rattle.std.specs.Option.{option_to_list};
+ghost use Rattle.vmodel.specs.Step.{spots, going, process_by, fares, posts, closed, left_of, process_turn, turn_of, next, slot_end_of, items_of};
+ghost use Rattle.vast.specs.Design.{Design};
+ghost use Rattle.vmodel.specs.Step as spec;
+ghost use Rattle.vmodel.specs.Choices.{choices as choices_of};
+ghost use Rattle.vmodel.specs.Inner.{IsFirstAction};
 
 use crate::choice::Choice;
-use crate::choices;
-use crate::did::{Did, did_of};
-use crate::history::{Cause, Item};
+use crate::deed::{Deed, Doing, deed_of};
+use crate::history::Item;
+use crate::process::{Process, Spot, put_spots};
 use crate::queue::Queue;
-use crate::remainders::{copy_all, going_at, step_at};
 use crate::state::SlowState;
-use std::alloc::{AllocError, Global};
-use vbits::Vec4;
+use basis::NoMemory;
+use std::alloc::Global;
+use vast::design::{Action, Design};
 
-fn write(values: &mut Vec<Vec4>, target: u32, value: Vec4)
-    ensures { values.new.items ≡ slice_set values.old.items target value }
+// The process has done what it did, and the queue has what becomes of it. After want of memory both are as they were.
+fn move_process(
+    process: &mut Process,
+    queue: &mut Queue,
+    number: u32,
+    next: &[usize],
+    deed: &Deed,
+) -> Result<(), NoMemory>
+    requires few { number < 256 }
+    requires some { 0 < length process.old.left }
+    ensures ok { OnOk result (process.new ≡ process_by (record { left = spots next.now (drop 1 process.old.left); deed = deed.now })) }
+    ensures queue { OnOk result (queue.new ≡ fares number deed.now.fate (going number (spots next.now (drop 1 process.old.left))) (posts deed.now.posted queue.old)) }
+    ensures err { OnErr result (process.new ≡ process.old) }
+    ensures err_queue { OnErr result (queue.new ≡ queue.old) }
 {
-    if (target as usize) < values.len() {
-        values[target as usize] = value;
-    }
+    let left = &mut process.left;
+    left.reserve(next.len())?;
+    let goes = if left.len() > 1 || !next.is_empty() {
+        Some(number)
+    } else {
+        None
+    };
+    queue.move_by(number, deed.fate, deed.posted, goes)?;
+    left.pop();
+    put_spots(left, next);
+    process.held = deed.held;
+    process.waits = None;
+    Ok(())
 }
 
-// What a step writes.
-fn write_by(values: &mut Vec<Vec4>, did: &Did)
-    ensures { values.new.items ≡ value_after did.now values.old.items }
+// The same of a process among all.
+fn move_one(
+    processes: &mut Vec<Process>,
+    queue: &mut Queue,
+    number: u32,
+    next: &[usize],
+    deed: &Deed,
+) -> Result<(), NoMemory>
+    requires few { number < 256 }
+    requires some { 0 < length (left_of (slice_get processes.old.items number)) }
+    ensures ok { OnOk result (processes.new.items ≡ slice_set processes.old.items number (process_by (record { left = spots next.now (drop 1 (left_of (slice_get processes.old.items number))); deed = deed.now }))) }
+    ensures queue { OnOk result (queue.new ≡ fares number deed.now.fate (going number (spots next.now (drop 1 (left_of (slice_get processes.old.items number))))) (posts deed.now.posted queue.old)) }
+    ensures err { OnErr result (processes.new.items ≡ processes.old.items) }
+    ensures err_queue { OnErr result (queue.new ≡ queue.old) }
 {
-    match did {
-        Did::Wrote(target, value) => write(values, *target, *value),
-        Did::Posted(..) => {}
-        Did::Slept(..) => {}
-        Did::Commanded(..) => {}
-        Did::Ended(..) => {}
-    }
+    let process = &mut processes[number as usize];
+    move_process(process, queue, number, next, deed)
 }
 
-fn cause_by(did: &Did) -> Option<Cause>
-    ensures { result ≡ cause_after did.now }
-{
-    match did {
-        Did::Wrote(..) => None,
-        Did::Posted(..) => None,
-        Did::Slept(..) => None,
-        Did::Commanded(..) => None,
-        Did::Ended(cause) => Some(*cause),
-    }
-}
-
-// What a step gives to the history.
-fn items_by(alloc: Global, did: &Did) -> Result<Vec<Item>, AllocError>
-    ensures { IfOk result (λ items. item_views items.items ≡ items_of_did did.now) }
-{
-    let mut items = Vec::new(alloc);
-    match did {
-        Did::Wrote(..) => {}
-        Did::Posted(..) => {}
-        Did::Slept(..) => {}
-        Did::Commanded(command) => items.push(Item::Dump(*command))?,
-        Did::Ended(..) => {}
-    }
-    Ok(items)
-}
-
-/// The end of the slot, where nothing is active.
-pub(crate) fn slot_end(
-    alloc: Global,
-    queue: &Queue,
-    values: &[Vec4],
-) -> Result<Option<Item>, AllocError>
-    ensures { IfOk result (λ item. item_views (option_to_list item) ≡ slot_end_of queue.now.active queue.now.activated.items queue.now.time values.now) }
-{
-    if !queue.active.is_empty() || !queue.activated.is_empty() {
-        return Ok(None);
-    }
-    Ok(Some(Item::SlotEnd {
-        time: queue.time,
-        values: Vec::from_slice(alloc, values)?,
-    }))
-}
-
-impl<'d> SlowState<'d> {
-    /// A state that is the same.
-    fn copy(&self, alloc: Global) -> Result<SlowState<'d>, AllocError>
-        ensures { IfOk result (λ state. state_view state ≡ state_view self.now) }
+impl SlowState {
+    // The region moves; after `$finish` there are none.
+    fn close(&mut self)
+        ensures { self.new ≡ closed self.old }
     {
-        Ok(SlowState {
-            values: Vec::from_slice(alloc, &self.values)?,
-            remainders: copy_all(alloc, &self.remainders)?,
-            queue: self.queue.copy(alloc)?,
-            cause: self.cause,
-        })
+        if self.cause.is_none() {
+            self.queue.settle();
+        }
     }
 
-    // The region moves, and the slot end where they lead to none; after `$finish` there are none.
-    fn close(&mut self, alloc: Global, mut items: Vec<Item>) -> Result<Vec<Item>, AllocError>
-        ensures { IfOk result (λ after. closed (state_view self.old) (item_views items.items) ≡ record { state = state_view self.new; items = item_views after.items }) }
+    // The action that a process comes to first, if there is one.
+    fn action_of<'d>(&self, design: &'d Design, number: u32) -> Option<&'d Action>
+        ensures { IsFirstAction design.now.actions (left_of (slice_get self.now.processes number)) result }
     {
-        if self.cause.is_some() {
-            return Ok(items);
-        }
-        self.queue.settle();
-        if let Some(item) = slot_end(alloc, &self.queue, &self.values)? {
-            items.push(item)?;
-        }
-        Ok(items)
+        let process = self.processes.get(number as usize)?;
+        let Spot::Doing(place) = process.first()?;
+        design.actions.get(place)
     }
 
     // A process takes one step.
-    fn run(&mut self, alloc: Global, process: u32) -> Result<Vec<Item>, AllocError>
-        requires { process < 256 }
-        ensures { IfOk result (λ items. turn_of (Choice.Run process) (state_view self.old) ≡ record { state = state_view self.new; items = item_views items.items }) }
+    fn run(&mut self, design: &Design, number: u32) -> Result<Deed, NoMemory>
+        requires { number < 256 }
+        ensures ok { IfOk result (λ deed. process_turn design.now.actions number self.old ≡ record { state = self.new; deed = deed }) }
+        ensures err { OnErr result (self.new ≡ self.old) }
     {
-        match step_at(&mut self.remainders, process)? {
-            None => self.close(alloc, Vec::new(alloc)),
-            Some(statement) => {
-                let did = did_of(statement, &self.values);
-                let left = going_at(&self.remainders, process);
-                self.queue.move_by(process, &did, left)?;
-                write_by(&mut self.values, &did);
-                self.cause = cause_by(&did);
-                let items = items_by(alloc, &did)?;
-                self.close(alloc, items)
+        let Some(action) = self.action_of(design, number) else {
+            return Ok(Deed::quiet());
+        };
+        let Doing { next, deed } = deed_of(action, self.values.as_slice());
+        move_one(&mut self.processes, &mut self.queue, number, next, &deed)?;
+        self.values.write_all(deed.wrote);
+        self.cause = deed.cause;
+        self.close();
+        Ok(deed)
+    }
+
+    // The first activated update is written (11.4.1).
+    fn update(&mut self) -> Deed
+        ensures { (design : Design) → turn_of design Choice.Update self.old ≡ record { state = self.new; deed = result } }
+    {
+        let mut deed = Deed::quiet();
+        if let Some(update) = self.queue.take_update() {
+            self.values.write_all(update);
+            deed.wrote = update;
+        }
+        self.close();
+        deed
+    }
+
+    // The time goes on to the next future time.
+    fn advance(&mut self)
+        ensures { (design : Design) → turn_of design Choice.Advance self.old ≡ record { state = self.new; deed = spec.quiet } }
+    {
+        self.queue.advance();
+        self.close();
+    }
+
+    /// The step of choice `i`, in place: one step of a process, the write of an update or the advance of the time, and the
+    /// region moves after it (11.3, 11.4). The answer is what the step did. Where there is no such choice nothing
+    /// happens. E901 is the only refusal, and leaves the state as it was.
+    pub fn step(&mut self, design: &Design, i: u32) -> Result<Deed, NoMemory>
+        ensures ok { IfOk result (λ deed. next design.now self.old i ≡ record { state = self.new; deed = deed }) }
+        ensures err { OnErr result (self.new ≡ self.old) }
+    {
+        match self.choice(i) {
+            None => Ok(Deed::quiet()),
+            Some(Choice::Run(process)) => self.run(design, process),
+            Some(Choice::Update) => Ok(self.update()),
+            Some(Choice::Advance) => {
+                self.advance();
+                Ok(Deed::quiet())
             }
         }
     }
 
-    // The first activated update is written (11.4.1).
-    fn update(&mut self, alloc: Global) -> Result<Vec<Item>, AllocError>
-        ensures { IfOk result (λ items. turn_of Choice.Update (state_view self.old) ≡ record { state = state_view self.new; items = item_views items.items }) }
+    /// The end of the slot, where nothing is active and the run goes on.
+    pub fn slot_end(&self, alloc: Global) -> Result<Option<Item>, NoMemory>
+        ensures { IfOk result (λ item. option_to_list item ≡ slot_end_of self.now) }
     {
-        if let Some(update) = self.queue.take_update() {
-            write(&mut self.values, update.target, update.value);
+        if self.cause.is_some() || !self.queue.is_idle() {
+            return Ok(None);
         }
-        self.close(alloc, Vec::new(alloc))
+        Ok(Some(Item::SlotEnd {
+            time: self.queue.time,
+            values: self.values.copy(alloc)?,
+        }))
     }
+}
 
-    // The time goes on to the next future time.
-    fn advance(&mut self, alloc: Global) -> Result<Vec<Item>, AllocError>
-        ensures { IfOk result (λ items. turn_of Choice.Advance (state_view self.old) ≡ record { state = state_view self.new; items = item_views items.items }) }
-    {
-        self.queue.advance();
-        self.close(alloc, Vec::new(alloc))
+/// What a step gives to the history, in order: what it showed, and the slot end where the state after it is one.
+pub fn items_after(alloc: Global, state: &SlowState, deed: &Deed) -> Result<Vec<Item>, NoMemory>
+    ensures { IfOk result (λ items. items.items ≡ items_of (record { state = state.now; deed = deed.now })) }
+{
+    let mut items = Vec::new(alloc);
+    if let Some(command) = deed.command {
+        items.push(Item::Dump(command))?;
     }
-
-    // The step of choice `i`, in place. After want of memory the state is not to be read again.
-    fn take(&mut self, alloc: Global, i: u32) -> Result<Vec<Item>, AllocError>
-        ensures { IfOk result (λ items. next (state_view self.old) i ≡ record { state = state_view self.new; items = item_views items.items }) }
-    {
-        match choice_at(self, i) {
-            None => Ok(Vec::new(alloc)),
-            Some(Choice::Run(process)) => self.run(alloc, process),
-            Some(Choice::Update) => self.update(alloc),
-            Some(Choice::Advance) => self.advance(alloc),
-        }
+    if let Some(item) = state.slot_end(alloc)? {
+        items.push(item)?;
     }
+    Ok(items)
 }
 
 /// How many choices the state has: 0 where the run has ended.
-pub fn slow_width(state: &SlowState<'_>) -> u32
-    ensures { result ≡ length (choices_of (state_view state.now)) }
+pub fn slow_width(state: &SlowState) -> u32
+    ensures { result ≡ length (choices_of state.now) }
 {
-    if state.cause.is_some() {
-        0
-    } else {
-        choices::width(&state.queue)
-    }
+    state.width()
 }
 
-// The choice of this number, if there is one.
-fn choice_at(state: &SlowState<'_>, i: u32) -> Option<Choice>
-    ensures exact { result ≡ slice_get (choices_of (state_view state.now)) i }
-    ensures few { ForSome result IsWithin }
-{
-    if state.cause.is_some() {
-        None
-    } else {
-        choices::choice_at(&state.queue, i)
-    }
-}
-
-/// The state after the step of choice `i`, with what the step gives to the history, in order: one step of a process, the
-/// write of an update or the advance of the time, and the region moves after it (11.3, 11.4). Where there is no such
+/// The state after the step of choice `i`, with what the step gives to the history, in order. Where there is no such
 /// choice nothing happens. The state is copied; E901 is the only refusal.
-pub fn slow_step<'d>(
+pub fn slow_step(
     alloc: Global,
-    state: &SlowState<'d>,
+    design: &Design,
+    state: &SlowState,
     i: u32,
-) -> Result<(SlowState<'d>, Vec<Item>), AllocError>
-    ensures { IfOk result (λ after. next (state_view state.now) i ≡ record { state = state_view after.0; items = item_views after.1.items }) }
+) -> Result<(SlowState, Vec<Item>), NoMemory>
+    ensures state { IfOk result (λ after. after.0 ≡ (next design.now state.now i).state) }
+    ensures items { IfOk result (λ after. after.1.items ≡ items_of (next design.now state.now i)) }
 {
-    let copy = state.copy(alloc)?;
-    stepped(alloc, copy, i)
-}
-
-/// The same of a state that nobody reads again: it is changed in place.
-pub(crate) fn stepped<'d>(
-    alloc: Global,
-    state: SlowState<'d>,
-    i: u32,
-) -> Result<(SlowState<'d>, Vec<Item>), AllocError>
-    ensures { IfOk result (λ after. next (state_view state.entry) i ≡ record { state = state_view after.0; items = item_views after.1.items }) }
-{
-    let mut after = state;
-    let items = after.take(alloc, i)?;
+    let mut after = state.copy(alloc)?;
+    let deed = after.step(design, i)?;
+    let items = items_after(alloc, &after, &deed)?;
     Ok((after, items))
 }

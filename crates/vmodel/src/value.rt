@@ -1,14 +1,15 @@
-// What expressions are worth (IEEE 1364-2005, 3.5.1, 5.4, 5.5).
+// What expressions are worth, and what assignments write (IEEE 1364-2005, 3.5.1, 5.4, 5.5, 6.2).
 
 ghost use Rattle.std.specs.Prelude.{◌≡◌, ◌≤◌, length};
-ghost use Rattle.vmodel.specs.Value.{value_at as value_at_number, size_of as size_of_expression, is_signed as is_signed_expression, extended as extended_vector, value_of as value_of_expression, assigned as assigned_vector, delay_of as delay_of_expression};
+ghost use Rattle.vmodel.specs.Value as spec;
 
-use vast::design::Expression;
+use crate::part::{Part, Parts};
+use vast::design::{Expression, Target};
 use vbits::Vec4;
 
 /// The value of the variable of this number; x, one bit wide, where there is none.
 pub fn value_at(values: &[Vec4], variable: u32) -> Vec4
-    ensures { result ≡ value_at_number values.now variable }
+    ensures { result ≡ spec.value_at (record { values = values.now }) variable }
 {
     match values.get(variable as usize) {
         Some(value) => *value,
@@ -17,7 +18,7 @@ pub fn value_at(values: &[Vec4], variable: u32) -> Vec4
 }
 
 fn size_of(expression: &Expression, values: &[Vec4]) -> u32
-    ensures exact { result ≡ size_of_expression expression.now values.now }
+    ensures exact { result ≡ spec.size_of expression.now (record { values = values.now }) }
     ensures some { 1 ≤ result }
     ensures few { result ≤ 64 }
 {
@@ -28,7 +29,7 @@ fn size_of(expression: &Expression, values: &[Vec4]) -> u32
 }
 
 fn is_signed(expression: &Expression, values: &[Vec4]) -> bool
-    ensures { result ≡ is_signed_expression expression.now values.now }
+    ensures { result ≡ spec.is_signed expression.now (record { values = values.now }) }
 {
     match expression {
         Expression::Constant(constant) => constant.value.signed(),
@@ -39,7 +40,7 @@ fn is_signed(expression: &Expression, values: &[Vec4]) -> bool
 fn extended(value: Vec4, extension: bool, sign: bool, size: u32) -> Vec4
     requires some { 1 ≤ size }
     requires few { size ≤ 64 }
-    ensures { result ≡ extended_vector value extension sign size }
+    ensures { result ≡ spec.extended value extension sign size }
 {
     value.with_sign(extension).resize(size).with_sign(sign)
 }
@@ -47,7 +48,7 @@ fn extended(value: Vec4, extension: bool, sign: bool, size: u32) -> Vec4
 fn value_of(expression: &Expression, values: &[Vec4], size: u32, sign: bool) -> Vec4
     requires some { 1 ≤ size }
     requires few { size ≤ 64 }
-    ensures { result ≡ value_of_expression expression.now values.now size sign }
+    ensures { result ≡ spec.value_of expression.now (record { values = values.now }) size sign }
 {
     match expression {
         Expression::Constant(constant) => {
@@ -58,9 +59,9 @@ fn value_of(expression: &Expression, values: &[Vec4], size: u32, sign: bool) -> 
     }
 }
 
-/// What a variable that had the value `old` has after the expression was assigned to it (5.4.1, 5.5.3).
-pub fn assigned(expression: &Expression, values: &[Vec4], old: Vec4) -> Vec4
-    ensures { result ≡ assigned_vector expression.now values.now old }
+// What a variable that had the value `old` has after the expression was assigned to it (5.4.1, 5.5.3).
+fn cut_to(old: Vec4, expression: &Expression, values: &[Vec4]) -> Vec4
+    ensures { result ≡ spec.cut_to old expression.now (record { values = values.now }) }
 {
     let own = size_of(expression, values);
     let size = old.len().max(own);
@@ -70,9 +71,21 @@ pub fn assigned(expression: &Expression, values: &[Vec4], old: Vec4) -> Vec4
         .with_sign(old.signed())
 }
 
+/// The parts that an assignment of the expression writes (6.2).
+pub fn assigned(target: Target, expression: &Expression, values: &[Vec4]) -> Parts
+    ensures { result ≡ spec.assigned target expression.now (record { values = values.now }) }
+{
+    match target {
+        Target::Whole(variable) => {
+            let value = cut_to(value_at(values, variable), expression, values);
+            Parts::one(Part::Whole { variable, value })
+        }
+    }
+}
+
 /// How long a delay lasts (9.7.1): extended to 64 bits by its own sign and read as unsigned; an unknown one is 0.
 pub fn delay_of(amount: &Expression, values: &[Vec4]) -> u64
-    ensures { result ≡ delay_of_expression amount.now values.now }
+    ensures { result ≡ spec.delay_of amount.now (record { values = values.now }) }
 {
     let size = size_of(amount, values);
     let sign = is_signed(amount, values);

@@ -1,0 +1,57 @@
+-- How the program keeps what the definitions see as lists: words for the contracts of parts within.
+use Rattle.std.specs.Prelude.{◌≡◌, ℕ, zero, suc, ◌-◌, cond, nat_lt, List, [], ◌∷◌, length, take, Option, Some, None, refl}
+use Rattle.vmodel.specs.declared.part.Part.{Part}
+use Rattle.std.specs.Prelude.{slice_get}
+use Rattle.std.specs.Borrow.{Bor}
+use Rattle.vast.specs.declared.design.Action.{Action}
+use Rattle.vmodel.specs.declared.process.Spot.{Spot}
+use Rattle.vmodel.specs.declared.process.Spot.TheVariants.{Doing}
+use Rattle.vmodel.specs.Queue.{Slot, Queue}
+
+-- ---- parts
+
+abbrev pub listed_parts : Option Part → List Part
+listed_parts None = []
+listed_parts (Some part) = part ∷ []
+
+abbrev pub first_part : List Part → Option Part
+first_part [] = None
+first_part (part ∷ rest) = Some part
+
+pub first_of_listed : (part : Option Part) → first_part (listed_parts part) ≡ part
+first_of_listed None = refl
+first_of_listed (Some part) = refl
+
+-- ---- the future
+
+-- how many future times are below this one
+abbrev pub place_of_time : ℕ → List (ℕ × Slot) → ℕ
+place_of_time t [] = zero
+place_of_time t (e ∷ es) = cond (nat_lt e.0 t) (suc (place_of_time t es)) zero
+
+-- there is an entry, and the fact holds of it
+abbrev pub SomeIs : (ℕ × Slot → Type 0) → Option (ℕ × Slot) → Type 0
+SomeIs P None = ⊥
+SomeIs P (Some e) = P e
+
+-- there is no entry of which the fact holds
+abbrev pub NoneIs : (ℕ × Slot → Type 0) → Option (ℕ × Slot) → Type 0
+NoneIs P None = Unit {0}
+NoneIs P (Some e) = ¬ P e
+
+-- ---- the queue
+
+-- the last posted update is taken back
+abbrev pub unposted : Queue → Queue
+unposted q = record q { posted = take (length q.posted - 1) q.posted }
+
+-- ---- what a process comes to
+
+-- the action that the first of the spots names, if there is one
+abbrev pub first_action : List Action → List Spot → Option Action
+first_action actions [] = None
+first_action actions (Doing place ∷ after) = slice_get actions place
+
+abbrev pub IsFirstAction : List Action → List Spot → Option (Bor Action) → Type 0
+IsFirstAction actions left None = first_action actions left ≡ None
+IsFirstAction actions left (Some action) = first_action actions left ≡ Some action.now

@@ -1,0 +1,81 @@
+// What a process stands at: what it has left, the value that it holds, and where it waits (IEEE 1364-2005, clause 9).
+
+ghost use Rattle.std.specs.Prelude.{◌≡◌, ◌+◌, ◌≤◌, reverse, length, slice_get, vec_len, vec_capacity, IfOk};
+ghost use Rattle.vmodel.specs.Step.{spots};
+ghost use Rattle.vmodel.specs.Run.{opening_process};
+
+use basis::NoMemory;
+use std::alloc::Global;
+use std::marker::Model;
+use vbits::Vec4;
+
+/// One thing that a process has left.
+#[derive(Clone, Copy, Debug, PartialEq, Eq, Hash)]
+pub enum Spot {
+    /// The action at this place of the design's table.
+    Doing(usize),
+}
+
+/// What a process stands at. A clause sees the spots that are left first one first.
+#[derive(Drop)]
+pub struct Process {
+    /// The first one last.
+    pub(crate) left: Vec<Spot>,
+    pub(crate) held: Option<Vec4>,
+    pub(crate) waits: Option<usize>,
+}
+
+impl Model for Process {
+    ghost use Rattle.std.specs.Prelude.{reverse};
+    ghost use Rattle.vmodel.specs.State as state;
+
+    ghost Value = { state.Process };
+
+    ghost view = { λ p. record { left = reverse p.left.items; held = p.held; waits = p.waits } };
+}
+
+impl Process {
+    /// A process that begins at these places.
+    pub fn at(alloc: Global, places: &[usize]) -> Result<Process, NoMemory>
+        ensures { IfOk result (λ process. process ≡ opening_process places.now) }
+    {
+        let mut left = Vec::new(alloc);
+        left.reserve(places.len())?;
+        put_spots(&mut left, places);
+        Ok(Process {
+            left,
+            held: None,
+            waits: None,
+        })
+    }
+
+    /// What it comes to first, if something is left.
+    pub fn first(&self) -> Option<Spot>
+        ensures { result ≡ slice_get self.now.left 0 }
+    {
+        self.left.last().copied()
+    }
+
+    /// A process that stands at the same.
+    pub fn copy(&self, alloc: Global) -> Result<Process, NoMemory>
+        ensures { IfOk result (λ process. process ≡ self.now) }
+    {
+        Ok(Process {
+            left: Vec::from_slice(alloc, &self.left)?,
+            held: self.held,
+            waits: self.waits,
+        })
+    }
+}
+
+/// Puts the places before what is left, the first of them first. There is room for them.
+pub(crate) fn put_spots(left: &mut Vec<Spot>, places: &[usize])
+    requires { vec_len left.old + length places.now ≤ vec_capacity left.old }
+    ensures { reverse left.new.items ≡ spots places.now (reverse left.old.items) }
+{
+    let mut n = places.len();
+    while n > 0 {
+        n -= 1;
+        left.push_reserved(Spot::Doing(places[n]));
+    }
+}
