@@ -1,5 +1,5 @@
 -- From the first book to the findings.
-use Rattle.std.proofs.Common.{◌≡◌, ℕ, ◌≤◌, ◌||◌, not, ◌==◌, Bool, true, false, List, [], length, slice_get, Some, arith, ap, refl, sym, ◌∙◌, subst, inl, inr}
+use Rattle.std.proofs.Common.{◌≡◌, ℕ, ◌≤◌, ◌||◌, not, ◌==◌, Bool, true, List, [], length, slice_get, Some, arith, ap, refl, sym, ◌∙◌, subst, inl, inr}
 use Rattle.std.proofs.lemmas.Bool.{cases_lt}
 use Rattle.std.proofs.lemmas.Option.{slice_get_within}
 use Rattle.sched_core.specs.Logs.{IsLog}
@@ -10,14 +10,11 @@ use Rattle.statebook.specs.ExplorerCore.{IsEntry, IsListed}
 use Rattle.statebook.specs.declared.book.Met.{Met}
 use Rattle.statebook.specs.declared.book.Met.TheVariants.{New, Known}
 use Rattle.statebook.specs.declared.entry.Entry.{Entry}
-use Rattle.statebook.proofs.BookLemmas.{listed_place}
+use Rattle.basis.proofs.Bools.{or_first}
+use Rattle.basis.proofs.Lists.{listed_place}
 use Rattle.statebook.proofs.CoreLemmas.{closed_listed, sound_add, sound_nothing}
 use Rattle.explore.specs.Exploring.{AllFinished, Closes, IsComplete, IsUnderWay}
 use Rattle.explore.specs.Found.{AllFewest, AreFound, HasEntries, HasNoShorter, IsListedMark, ListsMarks}
-
-or_first : (a b : Bool) → a ≡ true → (a || b) ≡ true
-or_first true b h = refl
-or_first false b h = absurd cc
 
 -- the root's entry
 root_entry : {S : Type 0} (r : Rules S) (k limit : ℕ) (e : Entry S) → r.same e.state r.first ≡ true → e.budget ≡ k → e.log ≡ [] → e.steps ≡ 0 → IsEntry r k limit e

@@ -5,7 +5,7 @@ use Rattle.std.proofs.lemmas.Option.{same_Some, slice_get_within}
 use Rattle.sched_core.specs.Rules.{Rules}
 use Rattle.statebook.specs.Books.{Book}
 use Rattle.statebook.specs.declared.entry.Entry.{Entry}
-use Rattle.statebook.proofs.BookLemmas.{listed_place}
+use Rattle.basis.proofs.Lists.{listed_place}
 use Rattle.explore.specs.Exploring.{FinishedAt, Grows, IsFinished, IsUnderWay, width_limit}
 use Rattle.explore.specs.Found.{SomeRunExceeds}
 use Rattle.explore.proofs.VisitLemmas.{grows_twice, still_there, true_not_false}

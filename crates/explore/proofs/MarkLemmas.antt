@@ -7,6 +7,7 @@ use Rattle.std.proofs.lemmas.Bool.{cases_lt}
 use Rattle.std.proofs.lemmas.Map.Keys.{IsDistinct-head, IsDistinct-tail}
 use Rattle.std.proofs.lemmas.Option.{same_Some}
 use Rattle.indexmap.specs.IndexMap.{insert_entry}
+use Rattle.basis.proofs.Bools.{same_truth}
 use Rattle.sched_core.specs.Rules.{Rules, IsLawful, stands, IsRun, NamesBelow}
 use Rattle.statebook.specs.Books.{IsUndominated}
 use Rattle.statebook.specs.ExplorerCore.{IsEntry}
@@ -102,19 +103,14 @@ pub record MarksUpTo {S : Type 0} (r : Rules S) (k limit : ℕ) (entries : List 
   pub listed : (i : ℕ) (e : Entry S) → i < place → slice_get entries i ≡ Some e → r.mark e.state ≡ true → IsListedMark r marks e.state (length e.log)
   pub shortest : (j : ℕ) (p : S × List (ℕ × ℕ)) → slice_get marks j ≡ Some p → (i : ℕ) (e : Entry S) → i < place → slice_get entries i ≡ Some e → r.same p.0 e.state ≡ true → length p.1 ≤ length e.log
 
-bool_same : (a b : Bool) → (a ≡ true → b ≡ true) → (b ≡ true → a ≡ true) → a ≡ b
-bool_same true b f g = sym (f refl)
-bool_same false true f g = g refl
-bool_same false false f g = refl
-
 -- the states' own equality is one
 equivalence : {S : Type 0} (r : Rules S) → IsLawful r → (eq : S → S → Bool) → ((s t : S) → r.same s t ≡ eq s t) → IsEquivalence eq
 equivalence r law eq agree = record {
   refl = λ x. sym (agree x x) ∙ law.reflexive x;
-  symm = λ x y. bool_same (eq x y) (eq y x)
+  symm = λ x y. same_truth (eq x y) (eq y x)
       (λ h. sym (agree y x) ∙ law.symmetric x y (agree x y ∙ h))
       (λ h. sym (agree x y) ∙ law.symmetric y x (agree y x ∙ h));
-  congr = λ x y z e. bool_same (eq x z) (eq y z)
+  congr = λ x y z e. same_truth (eq x z) (eq y z)
       (λ h. sym (agree y z) ∙ law.transitive y x z (law.symmetric x y (agree x y ∙ e)) (agree x z ∙ h))
       (λ h. sym (agree x z) ∙ law.transitive x y z (agree x y ∙ e) (agree y z ∙ h));
 }

@@ -1,7 +1,8 @@
 -- A run that goes on from an entry by a choice, and then by forced steps.
 use Rattle.std.proofs.Common.{◌≡◌, ◌≢◌, ℕ, ◌+◌, ◌-◌, ◌<◌, ◌≤◌, ◌==◌, zero, suc, true, false, if◌then◌else◌, List, [], ◌∷◌, ◌++◌, length, length-append, arith, ap, refl, sym, ◌∙◌, subst, add-one, below_more}
 use Rattle.std.proofs.lemmas.Bool.Decides.{nat_tests}
-use Rattle.sched_core.specs.Logs.{IsLog, next_from}
+use Rattle.sched_core.specs.Inner.Reading.{next_from}
+use Rattle.sched_core.specs.Logs.{IsLog}
 use Rattle.sched_core.specs.Rules.{Rules, IsLawful, stands, choice_at, IsRun, NamesBelow}
 use Rattle.sched_core.proofs.LogLemmas.{IsLogFrom-append}
 use Rattle.statebook.specs.Stations.{is_station, forced, IsNextStation}

@@ -7,13 +7,9 @@ use Rattle.statebook.specs.Stations.{forced}
 use Rattle.statebook.specs.Books.{Book, Dominates, IsRootAt, add, finish}
 use Rattle.statebook.specs.ExplorerCore.{IsEntry, IsMet, AllMet, choices_of, budget_after}
 use Rattle.statebook.specs.declared.entry.Entry.{Entry}
-use Rattle.statebook.proofs.CoreLemmas.{slice_get-front, sound_add, sound_finish}
-use Rattle.statebook.proofs.BookLemmas.{place_of_more}
+use Rattle.basis.proofs.Lists.{stands_in_front, stands_last, last_or_before}
+use Rattle.statebook.proofs.CoreLemmas.{sound_add, sound_finish}
 use Rattle.explore.specs.Exploring.{Follows, Grows, IsFinished, IsFoundAt, IsSameOrAdded, IsUnderWay}
-
-last_place : {X : Type 0} (xs : List X) (x : X) → slice_get (xs ++ x ∷ []) (length xs) ≡ Some x
-last_place [] x = refl
-last_place (y ∷ xs) x = last_place xs x
 
 pub found_new : {S : Type 0} (same : S → S → Bool) → IsEquivalence same → (old : Book S) (e : Entry S) (new : Book S) (place : ℕ) → place ≡ length old.entries → new ≡ add old e → IsFoundAt same new e place
 found_new {S} same eq old e new place at grown =
@@ -21,7 +17,7 @@ found_new {S} same eq old e new place at grown =
     let Q : ℕ → Type 0 = λ p. slice_get (old.entries ++ e ∷ []) p ≡ Some e in
     subst P (sym grown) (record {
       entry = e;
-      at = subst Q (sym at) (last_place old.entries e);
+      at = subst Q (sym at) (stands_last old.entries e);
       dominates = record { state = eq.refl e.state; budget = omega arith };
     })
 
@@ -53,7 +49,7 @@ is_met r law same agree b e next c j f at = record {
 }
 
 root_more : {S : Type 0} (b : Book S) (e : Entry S) → IsRootAt b.entries 0 → IsRootAt (b.entries ++ e ∷ []) 0
-root_more b e r = record { entry = r.entry; at = slice_get-front b.entries (e ∷ []) 0 r.entry r.at; log = r.log; steps = r.steps }
+root_more b e r = record { entry = r.entry; at = stands_in_front b.entries (e ∷ []) 0 r.entry r.at; log = r.log; steps = r.steps }
 
 pub under_way_more : {S : Type 0} (r : Rules S) (k limit : ℕ) (old : Book S) (e : Entry S) (new : Book S) → IsUnderWay r k limit old → IsEntry r k limit e → IsSameOrAdded old e new → IsUnderWay r k limit new
 under_way_more {S} r k limit old e new u is (inl same) =
@@ -73,9 +69,9 @@ grows_more {S} old e new budget le (inl same) =
 grows_more {S} old e new budget le (inr added) =
     let P : Book S → Type 0 = λ b. Grows old b budget in
     subst P (sym added) (record {
-      stays = λ i f at. slice_get-front old.entries (e ∷ []) i f at;
-      done = λ i places at. slice_get-front old.finished (None ∷ []) i (Some places) at;
-      lower = λ i f at. elim (place_of_more old.entries e i f at) [
+      stays = λ i f at. stands_in_front old.entries (e ∷ []) i f at;
+      done = λ i places at. stands_in_front old.finished (None ∷ []) i (Some places) at;
+      lower = λ i f at. elim (last_or_before old.entries e i f at) [
         | inl there ↦ inl there
         | inr last ↦ (let Q : Entry S → Type 0 = λ x. x.budget ≤ budget in inr (subst Q last.1 le))
       ];
@@ -109,7 +105,7 @@ met_later r old new budget e c j g m = record { found = m.found; at = g.stays j 
 pub met_more : {S : Type 0} (r : Rules S) (old now new : Book S) (place choice j : ℕ) (next : List ℕ) → HasMet r old now place choice next → ((e : Entry S) → slice_get old.entries place ≡ Some e → Grows now new e.budget) → ((e : Entry S) → slice_get old.entries place ≡ Some e → IsMet r new.entries e choice j) → HasMet r old new place (choice + 1) (next ++ j ∷ [])
 met_more {S} r old now new place choice j next h g m = record {
   count = length-append next (j ∷ []) ∙ omega (arith, h.count);
-  met = λ e at c i listed. elim (place_of_more next j c i listed) [
+  met = λ e at c i listed. elim (last_or_before next j c i listed) [
     | inl there ↦ met_later r now new e.budget e c i (g e at) (h.met e at c i there)
     | inr last ↦ (
         let P : ℕ → Type 0 = λ d. IsMet r new.entries e d i in

@@ -8,7 +8,7 @@ use Rattle.statebook.proofs.RunLemmas.{is_station_same, width_between}
 use Rattle.explore.specs.Exploring.{ComesTo, GoesPast}
 use Rattle.explore.specs.Ways.{AllCome, AllGoPast, LeadsTo, Passes}
 use Rattle.explore.specs.declared.search.Landmark.{Landmark}
-use Rattle.statebook.proofs.BookLemmas.{place_of_more}
+use Rattle.basis.proofs.Lists.{last_or_before}
 use Rattle.explore.proofs.NextLemmas.{forced_same}
 
 pub passes_one : {S : Type 0} (r : Rules S) → IsLawful r → (s t u : S) (m : ℕ) → Passes r s t m → is_station r t ≡ false → r.same u (r.after t 0) ≡ true → Passes r s u (suc m)
@@ -138,7 +138,7 @@ way_marked {S} r law start s copy taken n landmarks more h e items =
     subst P (sym items) (record {
       low = h.low;
       way = h.way;
-      marks = λ i l at. elim (place_of_more landmarks (record { state = copy; taken = n }) i l at) [
+      marks = λ i l at. elim (last_or_before landmarks (record { state = copy; taken = n }) i l at) [
         | inl there ↦ h.marks i l there
         | inr last ↦ (
             let Q : Landmark S → Type 0 = λ x. (x.taken ≤ n) × Passes r x.state s (n - x.taken) in

@@ -5,6 +5,7 @@ use Rattle.std.proofs.lemmas.Map.Entries.{place_from_lookup}
 use Rattle.std.proofs.lemmas.Option.{same_Some, slice_get_within}
 use Rattle.std.specs.Map.{lookup}
 use Rattle.indexmap.specs.IndexMap.{insert_entry}
+use Rattle.basis.proofs.Lists.{stands_in_front, stands_last}
 use Rattle.sched_core.specs.Rules.{Rules, IsLawful}
 use Rattle.statebook.specs.declared.entry.Entry.{Entry}
 use Rattle.statebook.specs.Stations.{forced}
@@ -99,24 +100,15 @@ remembers_none same most old all end station = record {
   known = λ room i l past at. (let lt = slice_get_within all i l at in absurd (omega (arith, lt, past)));
 }
 
-last_of : {X : Type 0} (xs : List X) (x : X) → slice_get (xs ++ x ∷ []) (length xs) ≡ Some x
-last_of [] x = refl
-last_of (y ∷ xs) x = last_of xs x
-
-front_of : {X : Type 0} (xs ys : List X) (i : ℕ) (x : X) → slice_get xs i ≡ Some x → slice_get (xs ++ ys) i ≡ Some x
-front_of [] ys i x at = absurd cc
-front_of (y ∷ xs) ys zero x at = at
-front_of (y ∷ xs) ys (suc i) x at = front_of xs ys i x at
-
 among_left : {X : Type 0} (all left rest : List X) (last : X) → ((i : ℕ) (x : X) → slice_get left i ≡ Some x → slice_get all i ≡ Some x) → left ≡ rest ++ last ∷ [] → (i : ℕ) (x : X) → slice_get rest i ≡ Some x → slice_get all i ≡ Some x
 among_left {X} all left rest last among items i x at =
     let P : List X → Type 0 = λ xs. slice_get xs i ≡ Some x in
-    among i x (subst P (sym items) (front_of rest (last ∷ []) i x at))
+    among i x (subst P (sym items) (stands_in_front rest (last ∷ []) i x at))
 
 last_among : {X : Type 0} (all left rest : List X) (last : X) → ((i : ℕ) (x : X) → slice_get left i ≡ Some x → slice_get all i ≡ Some x) → left ≡ rest ++ last ∷ [] → slice_get all (length rest) ≡ Some last
 last_among {X} all left rest last among items =
     let P : List X → Type 0 = λ xs. slice_get xs (length rest) ≡ Some last in
-    among (length rest) last (subst P (sym items) (last_of rest last))
+    among (length rest) last (subst P (sym items) (stands_last rest last))
 
 one_less : {X : Type 0} (left rest : List X) (last : X) → left ≡ rest ++ last ∷ [] → length left ≡ length rest + 1
 one_less left rest last items = ap length items ∙ length-append rest (last ∷ [])

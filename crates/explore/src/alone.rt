@@ -1,3 +1,5 @@
+// The call of one owner: it opens the book, goes through it, and reads the marks from it.
+
 ghost use Rattle.std.specs.Prelude.{◌≡◌, true, false, length, Err, IfOk, OnOk};
 ghost use Rattle.indexmap.specs.IndexMap.{IsUnique};
 ghost use Rattle.statebook.specs.Covered.{IsCovered};
@@ -8,14 +10,15 @@ use crate::classes::visit_all;
 use crate::findings::{Findings, Reason, Status};
 use crate::marks::list_marks;
 use crate::search::Search;
+use basis::NoMemory;
 use indexmap::IndexMap;
 use sched_core::{Log, Space};
 use statebook::{Entry, Limits, PlainBook};
-use std::alloc::{AllocError, Global};
+use std::alloc::Global;
 use std::hash::Hash;
 
 // Whether all places together close the book.
-fn closes<S: Eq + Hash + Drop>(alloc: Global, book: &PlainBook<S>) -> Result<bool, AllocError>
+fn closes<S: Eq + Hash + Drop>(alloc: Global, book: &PlainBook<S>) -> Result<bool, NoMemory>
     ensures closed { IfOk result (λ closed. closed ≡ true → Closes book.now) }
     ensures open { IfOk result (λ closed. closed ≡ false → IsComplete book.now → ⊥) }
 {
@@ -31,7 +34,7 @@ fn open_book<P: Space>(
     alloc: Global,
     space: &P,
     limits: &Limits,
-) -> Result<PlainBook<P::State>, AllocError>
+) -> Result<PlainBook<P::State>, NoMemory>
     ensures under_way { IfOk result (IsUnderWay (P.rules space.now) limits.now.depart limits.now.steps) }
     ensures few { IfOk result (λ book. length book.entries ≡ 1) }
 {
@@ -44,7 +47,7 @@ fn open_book<P: Space>(
     let mut book = PlainBook::new(alloc);
     match book.meet(root) {
         Ok(_) => Ok(book),
-        Err(_) => Err(AllocError),
+        Err((refused, _)) => Err(refused),
     }
 }
 
@@ -68,7 +71,7 @@ fn status_of<P: Space>(
         Ok(()) => match closes(alloc, book) {
             Ok(true) => Status::Exhausted,
             Ok(false) => unreachable!(),
-            Err(_) => Status::Cut(Reason::Memory),
+            Err(refused) => Status::Cut(Reason::Memory(refused)),
         },
     }
 }
@@ -94,7 +97,7 @@ pub fn explore_alone<P: Space>(
     alloc: Global,
     space: &P,
     limits: &Limits,
-) -> Result<Findings<P::State>, AllocError>
+) -> Result<Findings<P::State>, NoMemory>
     ensures found { IfOk result (λ findings. AreFound (P.rules space.now) limits.now.depart limits.now.steps findings.marks.entries) }
     ensures distinct { IfOk result (λ findings. IsUnique P.State.eq findings.marks) }
     ensures exhausted { IfOk result (λ findings. findings.status ≡ Status.Exhausted → IsCovered (P.rules space.now) limits.now.depart (IsListedMark (P.rules space.now) findings.marks.entries)) }

@@ -1,3 +1,5 @@
+// The order of work: entry by entry, by their departures.
+
 ghost use Rattle.std.specs.Prelude.{◌≡◌, ℕ, ◌+◌, ◌≤◌, true, false, length, IfOk, OnOk, IsErrOf};
 ghost use Rattle.explore.specs.Exploring.{AllFinished, FinishedAt, Grows, width_limit};
 ghost use Rattle.explore.specs.Found.{SomeRunExceeds};
@@ -39,7 +41,7 @@ fn visit_class<P: Space>(
             match visit(alloc, space, limits, search, place) {
                 Ok(true) => {}
                 Ok(false) => within = false,
-                Err(_) => return Err(Reason::Memory),
+                Err(refused) => return Err(Reason::Memory(refused)),
             }
         }
         place += 1;

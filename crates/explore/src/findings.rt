@@ -1,3 +1,6 @@
+// What an explorer answers: the marks, and whether they are all.
+
+use basis::NoMemory;
 use indexmap::IndexMap;
 use sched_core::Log;
 use std::hash::Hash;
@@ -10,7 +13,7 @@ use std::hash::Hash;
 /// so is the order.
 #[derive(Clone, Copy, Debug, PartialEq, Eq)]
 pub enum Reason {
-    Memory,
+    Memory(NoMemory),
     Entries,
     Steps,
 }

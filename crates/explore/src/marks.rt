@@ -1,12 +1,15 @@
+// The list of marks, read from the book.
+
 ghost use Rattle.std.specs.Prelude.{◌≡◌, IfOk, OnOk};
 ghost use Rattle.indexmap.specs.IndexMap.{IsUnique, insert_entry};
 ghost use Rattle.explore.specs.Exploring.{IsUnderWay};
 ghost use Rattle.explore.specs.Found.{AreFound, HasNoShorter, ListsMarks};
 
+use basis::NoMemory;
 use indexmap::IndexMap;
 use sched_core::{Log, Space};
 use statebook::{Limits, PlainBook};
-use std::alloc::{AllocError, Global};
+use std::alloc::Global;
 use std::hash::Hash;
 
 // Notes the mark under its log, in place of the log that was noted before.
@@ -14,7 +17,7 @@ fn note<S: Eq + Hash + Drop>(
     marks: &mut IndexMap<S, Log>,
     state: S,
     log: Log,
-) -> Result<(), AllocError>
+) -> Result<(), NoMemory>
     ensures noted { OnOk result (marks.new.entries ≡ insert_entry S.eq marks.old.entries state log) }
     ensures distinct { IsUnique S.eq marks.new }
 {
@@ -29,7 +32,7 @@ pub fn list_marks<P: Space>(
     space: &P,
     limits: &Limits,
     book: &PlainBook<P::State>,
-) -> Result<IndexMap<P::State, Log>, AllocError>
+) -> Result<IndexMap<P::State, Log>, NoMemory>
     requires { IsUnderWay (P.rules space.now) limits.now.depart limits.now.steps book.now }
     ensures found { IfOk result (λ marks. AreFound (P.rules space.now) limits.now.depart limits.now.steps marks.entries) }
     ensures listed { IfOk result (λ marks. ListsMarks (P.rules space.now) book.now.entries marks.entries) }

@@ -1,3 +1,5 @@
+// The entry of the next station after a choice.
+
 ghost use Rattle.std.specs.Prelude.{◌≡◌, ◌<◌, ◌≤◌, [], IfOk, IfSome, IfNone};
 ghost use Rattle.sched_core.specs.Rules.{NamesBelow};
 ghost use Rattle.statebook.specs.ExplorerCore.{IsEntry, budget_after, choices_of};
@@ -7,12 +9,12 @@ ghost use Rattle.explore.specs.Ways.{AllCome, AllGoPast, IsSearching};
 
 use crate::search::{Landmark, Search};
 use crate::way::to_station;
+use basis::NoMemory;
 use sched_core::{Log, Space};
 use statebook::{Entry, Limits};
-use std::alloc::AllocError;
 
 // The log of a run that goes on by this choice at this step.
-fn log_after(log: &Log, step: u32, choice: u32) -> Result<Log, AllocError>
+fn log_after(log: &Log, step: u32, choice: u32) -> Result<Log, NoMemory>
     requires names { NamesBelow log.now step }
     requires step { step ≤ 999999 }
     ensures { IfOk result (λ after. after ≡ log_of log.now step choice) }
@@ -45,7 +47,7 @@ pub fn next_entry<P: Space>(
     entry: &Entry<P::State>,
     choice: u32,
     landmarks: &mut Vec<Landmark<P::State>>,
-) -> Result<Option<Entry<P::State>>, AllocError>
+) -> Result<Option<Entry<P::State>>, NoMemory>
     requires searching { IsSearching (P.rules space.now) limits.now.depart limits.now.steps search.now }
     requires entry { IsEntry (P.rules space.now) limits.now.depart limits.now.steps entry.now }
     requires choice { choice < choices_of ((P.rules space.now).width entry.now.state) entry.now.budget }

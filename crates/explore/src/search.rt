@@ -1,3 +1,5 @@
+// What an explorer keeps as it goes on.
+
 use indexmap::IndexMap;
 use statebook::PlainBook;
 use std::hash::Hash;

@@ -1,3 +1,5 @@
+// One job: all choices of one entry.
+
 ghost use Rattle.std.specs.Prelude.{◌≡◌, ℕ, ◌+◌, ◌<◌, ◌≤◌, true, false, length, slice_get, Some, IfOk, IfSome, IfNone, OnOk, OnErr};
 ghost use Rattle.statebook.specs.ExplorerCore.{IsMet, choices_of};
 ghost use Rattle.explore.specs.Exploring.{Grows, IsFinished, IsFoundAt, IsSameOrAdded, width_limit};
@@ -8,9 +10,10 @@ ghost use Rattle.statebook.specs.declared.entry.Entry.{Entry};
 use crate::next::next_entry;
 use crate::search::Search;
 use crate::ways::remember;
+use basis::NoMemory;
 use sched_core::Space;
 use statebook::{Done, Entry, Limits, Met, PlainBook};
-use std::alloc::{AllocError, Global};
+use std::alloc::Global;
 use std::hash::Hash;
 
 // How many choices the entry's budget allows: choice 0, and the others where a departure is left.
@@ -29,7 +32,7 @@ fn choice_count<P: Space>(space: &P, entry: &Entry<P::State>) -> u32
 fn met_place<S: Eq + Hash + Drop>(
     book: &mut PlainBook<S>,
     entry: Entry<S>,
-) -> Result<usize, AllocError>
+) -> Result<usize, NoMemory>
     ensures found { IfOk result (λ j. IsFoundAt S.eq book.new entry j) }
     ensures ok { OnOk result (IsSameOrAdded book.old entry book.new) }
     ensures err { OnErr result (book.new ≡ book.old) }
@@ -37,7 +40,7 @@ fn met_place<S: Eq + Hash + Drop>(
     match book.meet(entry) {
         Ok(Met::New(place)) => Ok(place),
         Ok(Met::Known(place)) => Ok(place),
-        Err(_) => Err(AllocError),
+        Err((refused, _)) => Err(refused),
     }
 }
 
@@ -50,7 +53,7 @@ fn meet_choice<P: Space>(
     search: &mut Search<P::State>,
     place: usize,
     choice: u32,
-) -> Result<Option<usize>, AllocError>
+) -> Result<Option<usize>, NoMemory>
     requires searching { IsSearching (P.rules space.now) limits.now.depart limits.now.steps search.old }
     requires place { place < length search.old.book.entries }
     requires choice { (e : Entry P.State) → slice_get search.old.book.entries place ≡ Some e → choice < choices_of ((P.rules space.now).width e.state) e.budget }
@@ -86,7 +89,7 @@ pub fn visit<P: Space>(
     limits: &Limits,
     search: &mut Search<P::State>,
     place: usize,
-) -> Result<bool, AllocError>
+) -> Result<bool, NoMemory>
     requires searching { IsSearching (P.rules space.now) limits.now.depart limits.now.steps search.old }
     requires place { place < length search.old.book.entries }
     ensures finished { IfOk result (λ within. within ≡ true → IsFinished search.new.book place) }

@@ -1,3 +1,5 @@
+// Forced ways, walked to the next station.
+
 ghost use Rattle.std.specs.Prelude.{◌≡◌, ◌<◌, ◌≤◌, ◌↔◌, ◌+◌, ◌-◌, [], true, IfOk, IfSome, IfNone, IsTrue, OnErr};
 ghost use Rattle.statebook.specs.Stations.{forced, is_station};
 ghost use Rattle.explore.specs.Exploring.{ComesTo, GoesPast};
@@ -5,9 +7,9 @@ ghost use Rattle.explore.specs.Ways.{AllCome, AllGoPast, IsAhead, IsSearching};
 
 use crate::search::{Landmark, Search};
 use crate::ways::known;
+use basis::NoMemory;
 use sched_core::Space;
 use statebook::Limits;
-use std::alloc::AllocError;
 
 /// How far apart the states on a way are that are looked up and remembered, in steps of the run.
 const SPACING: u32 = 256;
@@ -29,7 +31,7 @@ fn walk<P: Space>(
     state: &mut P::State,
     taken: u32,
     limit: u32,
-) -> Result<Option<u32>, AllocError>
+) -> Result<Option<u32>, NoMemory>
     requires root { (P.rules space.now).same root.now (P.rules space.now).first ≡ true }
     requires within { taken ≤ limit }
     ensures there { IfOk result (λ reached. IfSome reached (λ n. ComesTo (P.rules space.now) state.old taken state.new n)) }
@@ -65,7 +67,7 @@ fn look_ahead<P: Space>(
     search: &Search<P::State>,
     state: &mut P::State,
     n: u32,
-) -> Result<Ahead, AllocError>
+) -> Result<Ahead, NoMemory>
     requires searching { IsSearching (P.rules space.now) limits.now.depart limits.now.steps search.now }
     requires within { n ≤ limits.now.steps }
     ensures ahead { IfOk result (λ ahead. IsAhead (P.rules space.now) state.old n limits.now.steps ahead state.new) }
@@ -98,7 +100,7 @@ pub fn to_station<P: Space>(
     state: &mut P::State,
     taken: u32,
     landmarks: &mut Vec<Landmark<P::State>>,
-) -> Result<Option<u32>, AllocError>
+) -> Result<Option<u32>, NoMemory>
     requires searching { IsSearching (P.rules space.now) limits.now.depart limits.now.steps search.now }
     requires within { taken ≤ limits.now.steps }
     requires none_yet { landmarks.old.items ≡ [] }

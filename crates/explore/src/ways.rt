@@ -1,10 +1,12 @@
+// What is remembered of forced ways.
+
 ghost use Rattle.std.specs.Prelude.{◌≡◌, ◌+◌, ◌≤◌, ℕ, length, slice_get, Some, IfSome, IfNone, OnOk};
 ghost use Rattle.explore.specs.Ways.{AreKnown, AreRemembered, HasRoomFor, IsKnownAs, IsUnknown};
 ghost use Rattle.explore.specs.declared.search.Landmark.{Landmark};
 
 use crate::search::{Landmark, Onward, Search};
+use basis::NoMemory;
 use indexmap::IndexMap;
-use std::alloc::AllocError;
 use std::hash::Hash;
 
 /// How many more states are remembered than there are entries, at most: as many as the longest way has
@@ -27,7 +29,7 @@ pub fn remember<S: Eq + Hash + Drop>(
     mut landmarks: Vec<Landmark<S>>,
     end: u32,
     station: Option<usize>,
-) -> Result<(), AllocError>
+) -> Result<(), NoMemory>
     requires before { (i : ℕ) (l : Landmark S) → slice_get landmarks.items i ≡ Some l → l.taken ≤ end }
     requires room { HasRoomFor search.old 0 }
     ensures remembered { AreRemembered S.eq search.old.ways.entries landmarks.items end station search.new.ways.entries }

@@ -1,7 +1,9 @@
+// A toy space that loops.
+
 ghost use Rattle.std.specs.Prelude.{◌≡◌};
 
+use basis::NoMemory;
 use sched_core::Space;
-use std::alloc::AllocError;
 
 /// A toy space that loops. It has places 0 to `places` - 1, and a run opens at 0. Choice 0 is a
 /// step to the next place, from the last one to `back`. Where there is a door, choice 1 of place 0
@@ -22,11 +24,11 @@ impl Space for Wheel {
 
     ghost rules = { λ w. wheel_rules w.places w.back w.door };
 
-    fn root(&self) -> Result<u32, AllocError> {
+    fn root(&self) -> Result<u32, NoMemory> {
         Ok(0)
     }
 
-    fn copy(&self, s: &u32) -> Result<u32, AllocError> {
+    fn copy(&self, s: &u32) -> Result<u32, NoMemory> {
         Ok(*s)
     }
 
@@ -40,7 +42,7 @@ impl Space for Wheel {
         }
     }
 
-    fn step(&self, s: &mut u32, i: u32) -> Result<(), AllocError> {
+    fn step(&self, s: &mut u32, i: u32) -> Result<(), NoMemory> {
         if i != 0 {
             *s = self.places;
         } else if *s + 1 == self.places {

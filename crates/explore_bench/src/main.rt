@@ -25,7 +25,9 @@ fn main(rt: HostRuntime) -> Result<()> {
         None => 4,
     };
     let limits = Limits::new(depart, 1_000_000, 1_000_000).context("limits")?;
-    let findings = explore_alone(rt.alloc(), &Grid::new(right, down), &limits)?;
+    let findings = explore_alone(rt.alloc(), &Grid::new(right, down), &limits)
+        .ok()
+        .context("memory")?;
     let status = match findings.status {
         Status::Exhausted => "exhausted",
         Status::Cut(_) => "cut",

@@ -1,6 +1,7 @@
 -- Facts about lists of members.
 use Rattle.std.proofs.Common.{◌≡◌, ℕ, ◌+◌, ◌-◌, ◌<◌, ◌≤◌, zero, suc, List, [], ◌∷◌, ◌++◌, length, get_or, arith, ap, refl, sym, ◌∙◌}
-use Rattle.sched_core.specs.Logs.{IsLogFrom, next_from}
+use Rattle.sched_core.specs.Inner.Reading.{next_from}
+use Rattle.sched_core.specs.Logs.{IsLogFrom}
 
 -- what a member put last has to meet
 pub record Fits (next : ℕ) (m : ℕ × ℕ) : Type 0 where

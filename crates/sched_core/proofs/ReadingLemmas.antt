@@ -1,10 +1,8 @@
 -- What reading the members of a log's text one after another keeps.
-use Rattle.std.proofs.Common.{◌≡◌, ◌≢◌, ℕ, ◌+◌, ◌^◌, ◌<◌, List, [], ◌∷◌, ◌++◌, length, drop, arith, ap, refl, sym, ◌∙◌, subst, append_assoc, append-nil, true, false}
-use Rattle.std.specs.Prelude.{◌==◌}
-use Rattle.std.proofs.lemmas.Bool.Decides.{nat_tests}
+use Rattle.std.proofs.Common.{◌≡◌, ◌≢◌, ℕ, ◌+◌, ◌^◌, ◌<◌, List, [], ◌∷◌, ◌++◌, drop, arith, ap, refl, sym, ◌∙◌, subst, append_assoc, append-nil}
 use Rattle.sched_core.specs.Logs.{IsLogFrom, IsLog}
 use Rattle.sched_core.specs.LogText.{member_text, more_text, log_text, IsNoLogText}
-use Rattle.sched_core.specs.Reading.{StartsNoNumber, IsMemberFront, HasNoMember}
+use Rattle.sched_core.specs.Inner.Reading.{StartsNoNumber, IsMemberFront, HasNoMember}
 use Rattle.sched_core.proofs.TextLemmas.{member_unique}
 use Rattle.sched_core.proofs.LogLemmas.{IsLogFrom-front}
 
@@ -105,11 +103,3 @@ pub more_text-append : (ms : List (ℕ × ℕ)) (m : ℕ × ℕ) → more_text (
 more_text-append [] m = ap (λ t. 44 ∷ t) (append-nil (member_text m))
 more_text-append (n ∷ ms) m =
     ap (λ t. 44 ∷ (member_text n ++ t)) (more_text-append ms m) ∙ ap (λ t. 44 ∷ t) (sym (append_assoc (member_text n) (more_text ms) (44 ∷ member_text m)))
-
-pub empty_from_test : (xs : List ℕ) → (length xs == 0) ≡ true → xs ≡ []
-empty_from_test [] h = refl
-empty_from_test (x ∷ xs) h = absurd (grind (arith, nat_tests))
-
-pub some_from_test : (xs : List ℕ) → (length xs == 0) ≡ false → xs ≢ []
-some_from_test [] h = λ e. cc
-some_from_test (x ∷ xs) h = λ e. cc

@@ -9,7 +9,7 @@ use Rattle.std.proofs.lemmas.Str.Parse.{IsNumeralModel, numerals_by_value, tells
 use Rattle.std.proofs.lemmas.Fmt.{digits_decimal, digits_value-decimal, IsAscii-from_digits, decimal-digits_value, first_decimal, decimal_digit, decimal_nonempty, decimal_injective}
 use Rattle.std.proofs.lemmas.Str.{IsUtf8-from_ascii}
 use Rattle.sched_core.specs.LogText.{member_text}
-use Rattle.sched_core.specs.Reading.{StartsNoNumber, IsNumberFront, HasNoNumber}
+use Rattle.sched_core.specs.Inner.Reading.{StartsNoNumber, IsNumberFront, HasNoNumber}
 
 pub own : IsNumeralModel (λ ds. all_ascii_digits ds ≡ true) (digits_value 10)
 own = numerals_by_value _ tells_all_ascii_digits

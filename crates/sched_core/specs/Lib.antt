@@ -1,7 +1,6 @@
 pub mod Rules
 pub mod Logs
 pub mod LogText
-pub mod Reading
 pub mod Replay
-pub mod Grids
-pub mod GridLaws
+pub mod Inner
+pub mod Toys

@@ -1,7 +1,10 @@
 -- A log and its text: '-', or members 'step:index' joined by commas, in decimals without leading zeros.
-use Rattle.std.specs.Prelude.{◌≢◌, ℕ, List, [], ◌∷◌, ◌++◌, codes}
+use Rattle.std.specs.Prelude.{◌≡◌, ◌≢◌, ℕ, List, [], ◌∷◌, ◌++◌, codes, Result, MatchResult}
+use Rattle.basis.specs.declared.memory.OrMemory.{OrMemory}
+use Rattle.basis.specs.Reasons.{Because}
 use Rattle.std.specs.Fmt.{decimal}
 use Rattle.sched_core.specs.Logs.{IsLog}
+use Rattle.sched_core.specs.declared.log.LogFault.{LogFault}
 use Rattle.sched_core.specs.declared.log.LogHead.{LogHead}
 use Rattle.sched_core.specs.declared.log.LogHead.TheVariants.{Plain, Process, Statement}
 
@@ -32,3 +35,19 @@ IsNoLogText text = (log : List (ℕ × ℕ)) → IsLog log → text ≢ log_text
 
 abbrev pub IsNoNamedLogText : List ℕ → Type 0
 IsNoNamedLogText text = (head : LogHead) (log : List (ℕ × ℕ)) → IsLog log → text ≢ named_log_text head log
+
+-- The text of a log is read as that log, unless memory was refused.
+abbrev pub ReadsEach : List ℕ → Result (List (ℕ × ℕ)) (OrMemory LogFault) → Type 0
+ReadsEach text answer = (log : List (ℕ × ℕ)) → IsLog log → text ≡ log_text log → MatchResult answer (λ read. read ≡ log) (Because (λ _. ⊥))
+
+-- The text of a log with the grain that it names is read as these two, unless memory was refused.
+abbrev pub ReadsEachNamed : List ℕ → Result (LogHead × List (ℕ × ℕ)) (OrMemory LogFault) → Type 0
+ReadsEachNamed text answer = (head : LogHead) (log : List (ℕ × ℕ)) → IsLog log → text ≡ named_log_text head log → MatchResult answer (λ named. (named.0 ≡ head) × (named.1 ≡ log)) (Because (λ _. ⊥))
+
+-- the text is that of this log with the grain that it names
+abbrev pub IsNamedLogText : List ℕ → LogHead × List (ℕ × ℕ) → Type 0
+IsNamedLogText text named = IsLog named.1 × (text ≡ named_log_text named.0 named.1)
+
+-- No two logs, with the grains that they name, have one text.
+abbrev pub OneLogForText : Type 0
+OneLogForText = (head other : LogHead) (log others : List (ℕ × ℕ)) → IsLog log → IsLog others → named_log_text head log ≡ named_log_text other others → (head ≡ other) × (log ≡ others)

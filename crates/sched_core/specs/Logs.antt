@@ -8,8 +8,3 @@ IsLogFrom low (m ∷ log) = (low ≤ m.0) × (m.0 ≤ 999999) × (1 ≤ m.1) × 
 
 abbrev pub IsLog : List (ℕ × ℕ) → Type 0
 IsLog log = IsLogFrom 0 log
-
--- The least step that a member put last may name.
-abbrev pub next_from : ℕ → List (ℕ × ℕ) → ℕ
-next_from low [] = low
-next_from low (m ∷ log) = next_from (m.0 + 1) log

@@ -30,6 +30,10 @@ abbrev pub choice_at : List (ℕ × ℕ) → ℕ → ℕ
 choice_at [] n = 0
 choice_at (m ∷ log) n = if m.0 == n then m.1 else choice_at log n
 
+-- The state t is where choice i leads from s.
+abbrev pub IsAfter : {S : Type 0} → Rules S → S → ℕ → S → Type 0
+IsAfter r s i t = r.same t (r.after s i) ≡ true
+
 -- Where the run under the log stands after n steps.
 abbrev pub stands : {S : Type 0} → Rules S → List (ℕ × ℕ) → ℕ → S
 stands r log zero = r.first

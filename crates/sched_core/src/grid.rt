@@ -1,7 +1,9 @@
+// The board: a toy space, which takes no memory.
+
 ghost use Rattle.std.specs.Prelude.{◌≡◌};
 
 use crate::space::Space;
-use std::alloc::AllocError;
+use basis::NoMemory;
 
 /// A place on a board: `x` to the right, `y` down, from (0, 0).
 #[derive(Clone, Copy, Debug, PartialEq, Eq, Hash)]
@@ -30,19 +32,19 @@ impl Grid {
 }
 
 impl Space for Grid {
-    ghost use Rattle.sched_core.specs.Grids.{grid_rules};
+    ghost use Rattle.sched_core.specs.Toys.Grids.{grid_rules};
     ghost use Rattle.std.proofs.Common.{rules as std_rules};
-    ghost use Rattle.sched_core.specs.GridLaws.{grid_is_lawful};
+    ghost use Rattle.sched_core.specs.Toys.GridLaws.{grid_is_lawful};
 
     type State = Square;
 
     ghost rules = { λ g. grid_rules g.right g.down };
 
-    fn root(&self) -> Result<Square, AllocError> {
+    fn root(&self) -> Result<Square, NoMemory> {
         Ok(Square { x: 0, y: 0 })
     }
 
-    fn copy(&self, s: &Square) -> Result<Square, AllocError> {
+    fn copy(&self, s: &Square) -> Result<Square, NoMemory> {
         Ok(*s)
     }
 
@@ -50,7 +52,7 @@ impl Space for Grid {
         (s.x < self.right) as u32 + (s.y < self.down) as u32
     }
 
-    fn step(&self, s: &mut Square, i: u32) -> Result<(), AllocError> {
+    fn step(&self, s: &mut Square, i: u32) -> Result<(), NoMemory> {
         if i == 0 && s.x < self.right {
             s.x += 1;
         } else {

@@ -1,7 +1,11 @@
-ghost use Rattle.std.specs.Prelude.{◌≡◌, ◌↔◌, [], ◌∷◌, ◌++◌, IsTrue, IfOk, OnOk, OnErr};
-ghost use Rattle.sched_core.specs.Logs.{IsLog, next_from};
+// The departures of a run, as members (step, index).
 
-use std::alloc::{AllocError, AllocFailed, Global};
+ghost use Rattle.std.specs.Prelude.{◌≡◌, ◌↔◌, [], ◌∷◌, ◌++◌, IsTrue, IfOk, OnOk, OnErr};
+ghost use Rattle.sched_core.specs.Inner.Reading.{next_from};
+ghost use Rattle.sched_core.specs.Logs.{IsLog};
+
+use basis::NoMemory;
+use std::alloc::Global;
 use std::marker::Model;
 
 /// The last step that a log may name.
@@ -37,21 +41,10 @@ pub enum LogHead {
     Statement,
 }
 
-/// Why a text was not read as a log: it is none (E401), or memory was refused (E901).
+/// Why a text was not read as a log: it is none (E401).
 #[derive(Clone, Copy, Debug, PartialEq, Eq)]
 pub enum LogFault {
     IllFormed,
-    Memory,
-}
-
-impl From<AllocError> for LogFault {
-    ghost use Rattle.sched_core.specs.declared.log.LogFault.TheVariants.{Memory};
-
-    ghost from_gives = { λ _ e. e ≡ Memory };
-
-    fn from(_error: AllocError) -> LogFault {
-        LogFault::Memory
-    }
 }
 
 impl Log {
@@ -73,7 +66,7 @@ impl Log {
     }
 
     /// An equal log. The error is want of memory, E901.
-    pub fn copy(&self) -> Result<Log, AllocError>
+    pub fn copy(&self) -> Result<Log, NoMemory>
         ensures equal { IfOk result (λ copy. copy ≡ self.now) }
         ensures lawful { IsLog self.now }
     {
@@ -83,7 +76,7 @@ impl Log {
     }
 
     /// Puts one member last. After want of memory, E901, the log is as it was.
-    pub fn push(&mut self, step: u32, index: u32) -> Result<(), AllocError>
+    pub fn push(&mut self, step: u32, index: u32) -> Result<(), NoMemory>
         requires { IsLog (self.old ++ (step, index) ∷ []) }
         ensures ok { OnOk result (self.new ≡ self.old ++ (step, index) ∷ []) }
         ensures err { OnErr result (self.new ≡ self.old) }

@@ -1,14 +1,18 @@
+// The text of a log, read and written.
+
 ghost use Rattle.std.specs.Prelude.{◌≡◌, ◌≢◌, ℕ, ◌+◌, ◌<◌, ◌≤◌, ◌^◌, List, [], ◌∷◌, ◌++◌, true, length, take, drop, IfOk, IfSome, IfNone, OnOk, IsErrOf, MatchResult};
 ghost use Rattle.std.specs.Str.{all_ascii_digits};
 ghost use Rattle.std.specs.Fmt.{decimal};
+ghost use Rattle.basis.specs.Reasons.{IfFault};
 ghost use Rattle.sched_core.specs.Logs.{IsLog};
-ghost use Rattle.sched_core.specs.LogText.{head_text, member_text, more_text, log_text, named_log_text, IsNoLogText, IsNoNamedLogText};
-ghost use Rattle.sched_core.specs.Reading.{HasNoMember, HasNoNumber, IsMemberFront, IsNumberFront, StartsNoNumber};
+ghost use Rattle.sched_core.specs.LogText.{head_text, member_text, more_text, log_text, named_log_text, IsNamedLogText, IsNoLogText, IsNoNamedLogText, ReadsEach, ReadsEachNamed};
+ghost use Rattle.sched_core.specs.Inner.Reading.{HasNoMember, HasNoNumber, IsMemberFront, IsNumberFront, SplitsNamed, StartsNoNumber};
 ghost use Rattle.sched_core.specs.declared.log.LogHead.{LogHead};
 
 use crate::log::{Log, LogFault, LogHead, Member};
+use basis::{NoMemory, OrMemory};
 use itoa::Buffer;
-use std::alloc::{AllocError, Global};
+use std::alloc::Global;
 
 // How many digits stand at the front.
 fn digits_len(text: &[u8]) -> usize
@@ -81,11 +85,10 @@ fn front_member(text: &[u8]) -> Option<(Member, &[u8])>
 /// Reads the text of a log: `-`, or `step:index` joined by commas.
 ///
 /// It accepts exactly the texts that `write_log` writes. Any other is `LogFault::IllFormed`, E401.
-/// Want of memory is `LogFault::Memory`, E901.
-pub fn read_log(alloc: Global, text: &[u8]) -> Result<Log, LogFault>
+pub fn read_log(alloc: Global, text: &[u8]) -> Result<Log, OrMemory<LogFault>>
     ensures read { IfOk result (λ log. IsLog log × (text.now ≡ log_text log)) }
-    ensures ill_formed { IsErrOf result LogFault.IllFormed → IsNoLogText text.now }
-    ensures accepts { (log : List (ℕ × ℕ)) → IsLog log → text.now ≡ log_text log → MatchResult result (λ read. read ≡ log) (λ fault. fault ≡ LogFault.Memory) }
+    ensures ill_formed { IfFault result (λ _. IsNoLogText text.now) }
+    ensures accepts { ReadsEach text.now result }
 {
     let mut log = Log::new(alloc);
     if text == b"-".as_slice() {
@@ -94,17 +97,17 @@ pub fn read_log(alloc: Global, text: &[u8]) -> Result<Log, LogFault>
     let mut rest = text;
     loop {
         let Some((member, after_member)) = front_member(rest) else {
-            return Err(LogFault::IllFormed);
+            return Err(OrMemory::Fault(LogFault::IllFormed));
         };
         if !log.takes(member) {
-            return Err(LogFault::IllFormed);
+            return Err(OrMemory::Fault(LogFault::IllFormed));
         }
         log.push(member.0, member.1)?;
         if after_member.is_empty() {
             return Ok(log);
         }
         let Some(after_comma) = after_byte(after_member, b',') else {
-            return Err(LogFault::IllFormed);
+            return Err(OrMemory::Fault(LogFault::IllFormed));
         };
         rest = after_comma;
     }
@@ -121,7 +124,7 @@ fn after_prefix<'a>(text: &'a [u8], prefix: &[u8]) -> Option<&'a [u8]>
 // The grain that the text names, and what follows it.
 fn split_head(text: &[u8]) -> (LogHead, &[u8])
     ensures whole { text.now ≡ head_text result.0 ++ result.1.now }
-    ensures named { (head : LogHead) (log : List (ℕ × ℕ)) → IsLog log → text.now ≡ named_log_text head log → (result.0 ≡ head) × (result.1.now ≡ log_text log) }
+    ensures named { SplitsNamed text.now result.0 result.1.now }
 {
     if let Some(rest) = after_prefix(text, b"process/") {
         return (LogHead::Process, rest);
@@ -135,11 +138,11 @@ fn split_head(text: &[u8]) -> (LogHead, &[u8])
 /// Reads the text of a log that may name its grain: `LOG`, `process/LOG` or `statement/LOG`.
 ///
 /// It accepts exactly the texts that `write_named_log` writes. Any other is
-/// `LogFault::IllFormed`, E401. Want of memory is `LogFault::Memory`, E901.
-pub fn read_named_log(alloc: Global, text: &[u8]) -> Result<(LogHead, Log), LogFault>
-    ensures read { IfOk result (λ named. IsLog named.1 × (text.now ≡ named_log_text named.0 named.1)) }
-    ensures ill_formed { IsErrOf result LogFault.IllFormed → IsNoNamedLogText text.now }
-    ensures accepts { (head : LogHead) (log : List (ℕ × ℕ)) → IsLog log → text.now ≡ named_log_text head log → MatchResult result (λ named. (named.0 ≡ head) × (named.1 ≡ log)) (λ fault. fault ≡ LogFault.Memory) }
+/// `LogFault::IllFormed`, E401.
+pub fn read_named_log(alloc: Global, text: &[u8]) -> Result<(LogHead, Log), OrMemory<LogFault>>
+    ensures read { IfOk result (IsNamedLogText text.now) }
+    ensures ill_formed { IfFault result (λ _. IsNoNamedLogText text.now) }
+    ensures accepts { ReadsEachNamed text.now result }
 {
     let (head, rest) = split_head(text);
     let log = read_log(alloc, rest)?;
@@ -147,7 +150,7 @@ pub fn read_named_log(alloc: Global, text: &[u8]) -> Result<(LogHead, Log), LogF
 }
 
 // Puts the text of the member last.
-fn append_member(text: &mut Vec<u8>, member: Member) -> Result<(), AllocError>
+fn append_member(text: &mut Vec<u8>, member: Member) -> Result<(), NoMemory>
     ensures { OnOk result (text.new.items ≡ text.old.items ++ member_text member) }
 {
     let mut buffer = Buffer::new();
@@ -158,7 +161,7 @@ fn append_member(text: &mut Vec<u8>, member: Member) -> Result<(), AllocError>
 }
 
 // Puts the members last, each behind a comma.
-fn append_more(text: &mut Vec<u8>, more: &[Member]) -> Result<(), AllocError>
+fn append_more(text: &mut Vec<u8>, more: &[Member]) -> Result<(), NoMemory>
     ensures { OnOk result (text.new.items ≡ text.old.items ++ more_text more.now) }
 {
     for member in more {
@@ -169,7 +172,7 @@ fn append_more(text: &mut Vec<u8>, more: &[Member]) -> Result<(), AllocError>
 }
 
 // Puts the text of the log last.
-fn append_log(text: &mut Vec<u8>, log: &Log) -> Result<(), AllocError>
+fn append_log(text: &mut Vec<u8>, log: &Log) -> Result<(), NoMemory>
     ensures { OnOk result (text.new.items ≡ text.old.items ++ log_text log.now) }
 {
     let Some((first, more)) = log.members().split_first() else {
@@ -181,7 +184,7 @@ fn append_log(text: &mut Vec<u8>, log: &Log) -> Result<(), AllocError>
 }
 
 /// The text of the log: `-`, or `step:index` joined by commas. The error is want of memory, E901.
-pub fn write_log(alloc: Global, log: &Log) -> Result<Vec<u8>, AllocError>
+pub fn write_log(alloc: Global, log: &Log) -> Result<Vec<u8>, NoMemory>
     ensures { IfOk result (λ text. text.items ≡ log_text log.now) }
 {
     let mut text = Vec::new(alloc);
@@ -191,7 +194,7 @@ pub fn write_log(alloc: Global, log: &Log) -> Result<Vec<u8>, AllocError>
 
 /// The text of the log behind the name of its grain, if it has one. The error is want of memory,
 /// E901.
-pub fn write_named_log(alloc: Global, head: LogHead, log: &Log) -> Result<Vec<u8>, AllocError>
+pub fn write_named_log(alloc: Global, head: LogHead, log: &Log) -> Result<Vec<u8>, NoMemory>
     ensures { IfOk result (λ text. text.items ≡ named_log_text head log.now) }
 {
     let mut text = Vec::new(alloc);

@@ -1,11 +1,14 @@
-ghost use Rattle.std.specs.Prelude.{◌≡◌, ◌≢◌, ℕ, ◌+◌, ◌<◌, ◌≤◌, true, IfOk, IsErrOf, MatchResult};
+// The run of a space under a log.
+
+ghost use Rattle.std.specs.Prelude.{◌≡◌, ◌+◌, ◌≤◌, IfOk};
+ghost use Rattle.basis.specs.Reasons.{IfFault};
 ghost use Rattle.sched_core.specs.Logs.{IsLogFrom};
-ghost use Rattle.sched_core.specs.Rules.{stands};
-ghost use Rattle.sched_core.specs.Replay.{EndsAfter, IsMissing, IsNextChoice, TakesMore};
+ghost use Rattle.sched_core.specs.Replay.{EndsAfter, IsNextChoice, IsReplayReason, StandsThere, TellsEnd, TellsFault};
+ghost use Rattle.sched_core.specs.declared.run.ReplayFault.{ReplayFault};
 
 use crate::log::{Log, Member};
 use crate::space::Space;
-use std::alloc::AllocError;
+use basis::OrMemory;
 
 /// Where a run ended, and after how many steps.
 #[derive(Drop)]
@@ -15,22 +18,11 @@ pub struct Reached<S> {
 }
 
 /// Why there is no replay: the log names a step that isn't reached or has no such choice (E402),
-/// the run would take more steps than allowed (E403), or memory was refused (E901).
+/// or the run would take more steps than allowed (E403).
 #[derive(Clone, Copy, Debug, PartialEq, Eq)]
 pub enum ReplayFault {
     NoSuchChoice,
     TooManySteps,
-    Memory,
-}
-
-impl From<AllocError> for ReplayFault {
-    ghost use Rattle.sched_core.specs.declared.run.ReplayFault.TheVariants.{Memory};
-
-    ghost from_gives = { λ _ e. e ≡ Memory };
-
-    fn from(_error: AllocError) -> ReplayFault {
-        ReplayFault::Memory
-    }
 }
 
 /// The choice of step `n` of a run under a log, of which these members are left, and the members after it.
@@ -50,15 +42,17 @@ pub fn next_choice(members: &[Member], n: u32) -> (u32, &[Member])
 /// The step limit is tested before the log. So where a run goes on after `steps` steps, the fault
 /// is `TooManySteps`, E403, whatever the log names there; else a named step that isn't reached or
 /// hasn't the choice is `NoSuchChoice`, E402. It takes time linear in the steps and the log.
-pub fn replay<P: Space>(space: &P, log: &Log, steps: u32) -> Result<Reached<P::State>, ReplayFault>
+pub fn replay<P: Space>(
+    space: &P,
+    log: &Log,
+    steps: u32,
+) -> Result<Reached<P::State>, OrMemory<ReplayFault>>
     ensures ends { IfOk result (λ reached. EndsAfter (P.rules space.now) log.now reached.steps) }
-    ensures state { IfOk result (λ reached. (P.rules space.now).same reached.state (stands (P.rules space.now) log.now reached.steps) ≡ true) }
+    ensures state { IfOk result (StandsThere (P.rules space.now) log.now) }
     ensures within { IfOk result (λ reached. reached.steps ≤ steps) }
-    ensures missing { IsErrOf result ReplayFault.NoSuchChoice → IsMissing (P.rules space.now) log.now steps }
-    ensures more { IsErrOf result ReplayFault.TooManySteps → TakesMore (P.rules space.now) log.now steps }
-    ensures only_end { (n : ℕ) → n ≤ steps → EndsAfter (P.rules space.now) log.now n → MatchResult result (λ reached. reached.steps ≡ n) (λ fault. fault ≡ ReplayFault.Memory) }
-    ensures only_missing { IsMissing (P.rules space.now) log.now steps → MatchResult result (λ _. ⊥) (λ fault. fault ≢ ReplayFault.TooManySteps) }
-    ensures only_more { TakesMore (P.rules space.now) log.now steps → MatchResult result (λ _. ⊥) (λ fault. fault ≢ ReplayFault.NoSuchChoice) }
+    ensures reason { IfFault result (IsReplayReason (P.rules space.now) log.now steps) }
+    ensures only_end { TellsEnd (P.rules space.now) log.now steps result }
+    ensures only_fault { (f : ReplayFault) → TellsFault (P.rules space.now) log.now steps f result }
 {
     let mut state = space.root()?;
     let mut rest = log.members();
@@ -69,15 +63,15 @@ pub fn replay<P: Space>(space: &P, log: &Log, steps: u32) -> Result<Reached<P::S
             return if rest.is_empty() {
                 Ok(Reached { state, steps: n })
             } else {
-                Err(ReplayFault::NoSuchChoice)
+                Err(OrMemory::Fault(ReplayFault::NoSuchChoice))
             };
         }
         if n == steps {
-            return Err(ReplayFault::TooManySteps);
+            return Err(OrMemory::Fault(ReplayFault::TooManySteps));
         }
         let (choice, later) = next_choice(rest, n);
         if choice >= width {
-            return Err(ReplayFault::NoSuchChoice);
+            return Err(OrMemory::Fault(ReplayFault::NoSuchChoice));
         }
         space.step(&mut state, choice)?;
         rest = later;

@@ -1,7 +1,9 @@
-ghost use Rattle.std.specs.Prelude.{◌≡◌, ◌<◌, true, IfOk, OnOk, OnErr};
-ghost use Rattle.sched_core.specs.Rules.{IsLawful, Rules};
+// A space: states with numbered choices, as the calls of a trait.
 
-use std::alloc::AllocError;
+ghost use Rattle.std.specs.Prelude.{◌≡◌, ◌<◌, true, IfOk, OnOk, OnErr};
+ghost use Rattle.sched_core.specs.Rules.{IsAfter, IsLawful, Rules};
+
+use basis::NoMemory;
 use std::hash::Hash;
 
 /// States with numbered choices, as an explorer meets them. Choices of a state are numbered from
@@ -14,11 +16,11 @@ pub trait Space {
     ghost rules: { Self → Rules Self.State };
 
     /// The opening state.
-    fn root(&self) -> Result<Self::State, AllocError>
+    fn root(&self) -> Result<Self::State, NoMemory>
         ensures { IfOk result (λ s. (rules self.now).same s (rules self.now).first ≡ true) };
 
     /// An equal state.
-    fn copy(&self, s: &Self::State) -> Result<Self::State, AllocError>
+    fn copy(&self, s: &Self::State) -> Result<Self::State, NoMemory>
         ensures { IfOk result (λ t. (rules self.now).same t s.now ≡ true) };
 
     /// How many choices the state has. At 0 the run has ended.
@@ -26,9 +28,9 @@ pub trait Space {
         ensures { result ≡ (rules self.now).width s.now };
 
     /// Takes the one step of choice `i`. After want of memory the state is as it was.
-    fn step(&self, s: &mut Self::State, i: u32) -> Result<(), AllocError>
+    fn step(&self, s: &mut Self::State, i: u32) -> Result<(), NoMemory>
         requires { i < (rules self.now).width s.old }
-        ensures ok { OnOk result ((rules self.now).same s.new ((rules self.now).after s.old i) ≡ true) }
+        ensures ok { OnOk result (IsAfter (rules self.now) s.old i s.new) }
         ensures err { OnErr result (s.new ≡ s.old) };
 
     /// Whether the state is one of those that an explorer lists.

@@ -1,36 +1,16 @@
 -- Facts about look-ups in a book.
-use Rattle.std.proofs.Common.{◌≡◌, ℕ, ◌+◌, ◌<◌, ◌≤◌, zero, suc, Bool, true, false, ◌||◌, ◌&&◌, ◌==◌, List, [], ◌∷◌, ◌++◌, length, get_or, slice_get, slice_set, map, position, Option, Some, None, IfSome, IfNone, is_some, arith, ap, refl, sym, ◌∙◌, subst, ◌⊎◌, inl, inr, max, length-append, Vec}
+use Rattle.std.proofs.Common.{◌≡◌, ℕ, ◌+◌, ◌<◌, ◌≤◌, zero, suc, Bool, true, false, ◌==◌, List, [], ◌∷◌, ◌++◌, length, get_or, slice_get, slice_set, map, position, Option, Some, None, IfSome, IfNone, is_some, arith, ap, refl, sym, ◌∙◌, subst, inl, inr, max, length-append, Vec}
 use Rattle.std.specs.List.{list_any, position_or_len}
 use Rattle.std.proofs.lemmas.List.Quantifiers.{position-Some}
 use Rattle.std.proofs.lemmas.Bool.{cases_lt}
 use Rattle.std.proofs.lemmas.Bool.Decides.{nat_tests}
 use Rattle.std.specs.Cmp.{IsEquivalence}
+use Rattle.basis.proofs.Bools.{and_left, and_right, or_left, or_right}
+use Rattle.basis.proofs.Lists.{last_or_before}
 use Rattle.indexmap.specs.IndexSet.{insert_key}
 use Rattle.statebook.specs.Books.{Book, Dominates, IsKept, IsUndominated, add, alike, places_of}
 use Rattle.statebook.specs.declared.entry.Entry.{Entry}
-use Rattle.std.proofs.lemmas.Option.{slice_get-get_or, slice_get_within, same_Some}
-
--- where a place lies within the list, an element stands
-pub listed_place : {X : Type 0} (xs : List X) (c : ℕ) → c < length xs → (x : X) × (slice_get xs c ≡ Some x)
-listed_place [] c lt = absurd (omega (arith, lt))
-listed_place (x ∷ xs) zero lt = (x, refl)
-listed_place (x ∷ xs) (suc c) lt = listed_place xs c (omega (arith, lt))
-
-and_left : (a b : Bool) → (a && b) ≡ true → a ≡ true
-and_left true b h = refl
-and_left false b h = h
-
-and_right : (a b : Bool) → (a && b) ≡ true → b ≡ true
-and_right true b h = h
-and_right false b h = cc
-
-or_left : (a b : Bool) → (a || b) ≡ false → a ≡ false
-or_left true b h = h
-or_left false b h = refl
-
-or_right : (a b : Bool) → (a || b) ≡ false → b ≡ false
-or_right true b h = cc
-or_right false b h = h
+use Rattle.std.proofs.lemmas.Option.{slice_get-get_or, slice_get_within}
 
 -- where no element passes, each fails
 pub none_pass : {X : Type 0} (p : X → Bool) (xs : List X) → list_any p xs ≡ false → (i : ℕ) (x : X) → slice_get xs i ≡ Some x → p x ≡ false
@@ -132,25 +112,15 @@ not_finished [] i x lt e n = absurd (omega (arith, lt))
 not_finished (y ∷ items) zero x lt e n = ap Some (no_places y (ap is_some (sym e) ∙ n))
 not_finished (y ∷ items) (suc i) x lt e n = not_finished items i x (omega (arith, lt)) e n
 
--- a place of a list with one more is the last, or was there
-pub place_of_more : {X : Type 0} (xs : List X) (y : X) (i : ℕ) (x : X) → slice_get (xs ++ y ∷ []) i ≡ Some x → (slice_get xs i ≡ Some x) ⊎ ((i ≡ length xs) × (y ≡ x))
-place_of_more [] y zero x e = inr (refl, same_Some y x e)
-place_of_more [] y (suc i) x e = absurd cc
-place_of_more (z ∷ xs) y zero x e = inl e
-place_of_more (z ∷ xs) y (suc i) x e = elim (place_of_more xs y i x e) [
-  | inl there ↦ inl there
-  | inr last ↦ inr (ap suc last.0, last.1)
-]
-
 undominated-add : {S : Type 0} (same : S → S → Bool) (b : Book S) (e : Entry S) → IsUndominated same b.entries → ((i : ℕ) (f : Entry S) → slice_get b.entries i ≡ Some f → ¬ Dominates same f e.state e.budget) → (i j : ℕ) (f h : Entry S) → i < j → slice_get (b.entries ++ e ∷ []) i ≡ Some f → slice_get (b.entries ++ e ∷ []) j ≡ Some h → ¬ Dominates same f h.state h.budget
-undominated-add {S} same b e u new i j f h lt at at' d = elim (place_of_more b.entries e j h at') [
+undominated-add {S} same b e u new i j f h lt at at' d = elim (last_or_before b.entries e j h at') [
   | inl there ↦ (
       let within : j < length b.entries = slice_get_within b.entries j h there in
-      elim (place_of_more b.entries e i f at) [
+      elim (last_or_before b.entries e i f at) [
         | inl earlier ↦ u.later i j f h lt earlier there d
         | inr last ↦ absurd (omega (arith, last.0))
       ])
-  | inr last ↦ elim (place_of_more b.entries e i f at) [
+  | inr last ↦ elim (last_or_before b.entries e i f at) [
     | inl earlier ↦ (
         let P : Entry S → Type 0 = λ x. Dominates same f x.state x.budget in
         new i f earlier (subst P (sym last.1) d))
@@ -163,7 +133,7 @@ pub kept-add : {S : Type 0} (same : S → S → Bool) (b : Book S) (top : ℕ) (
 kept-add {S} same b top e k new = record {
   paired = length-append b.finished (None ∷ []) ∙ omega (arith, k.paired) ∙ sym (length-append b.entries (e ∷ []));
   undominated = record { later = undominated-add same b e k.undominated new };
-  budgets = λ i f at. elim (place_of_more b.entries e i f at) [
+  budgets = λ i f at. elim (last_or_before b.entries e i f at) [
     | inl there ↦ omega (arith, k.budgets i f there)
     | inr last ↦ (
         let P : Entry S → Type 0 = λ x. x.budget ≤ max top e.budget in
@@ -199,7 +169,3 @@ shown-add keys more items pushed v e f =
 pub position_last : {X : Type 0} (eq : X → X → Bool) (keys : List X) (v : X) → ((i : ℕ) (f : X) → slice_get keys i ≡ Some f → eq v f ≡ false) → position_or_len (eq v) keys ≡ length keys
 position_last eq [] v h = refl
 position_last eq (x ∷ keys) v h = rw (h 0 x refl) (omega (arith, position_last eq keys v (λ i. h (suc i))))
-
-pub empty_from_test : {X : Type 0} (xs : List X) → (length xs == 0) ≡ true → xs ≡ []
-empty_from_test [] h = refl
-empty_from_test (x ∷ xs) h = absurd (grind (arith, nat_tests))

@@ -2,6 +2,7 @@
 use Rattle.std.proofs.Common.{◌≡◌, ℕ, ◌+◌, ◌-◌, ◌<◌, ◌≤◌, zero, suc, Bool, true, false, List, [], ◌∷◌, ◌++◌, length, slice_get, slice_set, Contains, Some, None, arith, ap, refl, sym, ◌∙◌, subst, ◌⊎◌, inl, inr, Option}
 use Rattle.std.proofs.lemmas.Bool.{cases_lt}
 use Rattle.std.proofs.lemmas.Option.{same_Some, slice_get-get_or}
+use Rattle.basis.proofs.Lists.{listed_place, stands_in_front, last_or_before}
 use Rattle.sched_core.specs.Rules.{Rules, IsLawful, stands, choice_at, IsRun}
 use Rattle.statebook.specs.declared.entry.Entry.{Entry}
 use Rattle.statebook.specs.Stations.{is_station, forced}
@@ -12,19 +13,6 @@ use Rattle.statebook.specs.Books.{Book, no_entries, add, finish, AllClosed, IsCl
 use Rattle.statebook.specs.ExplorerCore.{IsEntry, choices_of, budget_after, IsMet, AllMet, Core, Event, happens, IsAllowed, AreAllowed, after_all, empty, IsListed, IsSound}
 use Rattle.statebook.specs.ExplorerCore.Event.{Add, Finish, Give, Take, Open, Shut, Stop}
 use Rattle.statebook.proofs.RunLemmas.{departs, used, used-le, used_grows, is_station_same, mark_is_station, GoesAlong, along}
-
--- places of a list, as it grows
-pub slice_get-front : {X : Type 0} (xs ys : List X) (i : ℕ) (x : X) → slice_get xs i ≡ Some x → slice_get (xs ++ ys) i ≡ Some x
-slice_get-front [] ys i x e = absurd cc
-slice_get-front (y ∷ xs) ys zero x e = e
-slice_get-front (y ∷ xs) ys (suc i) x e = slice_get-front xs ys i x e
-
--- a place of a list with one more is the last, or was there
-slice_get-last : {X : Type 0} (xs : List X) (y : X) (i : ℕ) (x : X) → slice_get (xs ++ y ∷ []) i ≡ Some x → (slice_get xs i ≡ Some x) ⊎ (y ≡ x)
-slice_get-last [] y zero x e = inr (same_Some y x e)
-slice_get-last [] y (suc i) x e = absurd cc
-slice_get-last (z ∷ xs) y zero x e = inl e
-slice_get-last (z ∷ xs) y (suc i) x e = slice_get-last xs y i x e
 
 -- a place of a list with one place written is that place, or was there
 slice_get-set : {X : Type 0} (xs : List X) (k : ℕ) (y : X) (i : ℕ) (x : X) → slice_get (slice_set xs k y) i ≡ Some x → (slice_get xs i ≡ Some x) ⊎ ((i ≡ k) × (y ≡ x))
@@ -41,11 +29,11 @@ slice_get-set (z ∷ xs) (suc k) y (suc i) x e = elim (slice_get-set xs k y i x 
 met_more : {S : Type 0} (r : Rules S) (entries : List (Entry S)) (e : Entry S) (i : ℕ) (places : List ℕ) → AllMet r entries i places → AllMet r (entries ++ e ∷ []) i places
 met_more r entries e i places m = record {
   entry = m.entry;
-  at = slice_get-front entries (e ∷ []) i m.entry m.at;
+  at = stands_in_front entries (e ∷ []) i m.entry m.at;
   count = m.count;
   met = λ c j h. let t = m.met c j h in record {
     found = t.found;
-    at = slice_get-front entries (e ∷ []) j t.found t.at;
+    at = stands_in_front entries (e ∷ []) j t.found t.at;
     steps = t.steps;
     next = t.next;
     dominates = t.dominates;
@@ -54,13 +42,13 @@ met_more r entries e i places m = record {
 
 pub sound_add : {S : Type 0} (r : Rules S) (k limit : ℕ) (b : Book S) (e : Entry S) → IsSound r k limit b → IsEntry r k limit e → IsSound r k limit (add b e)
 sound_add {S} r k limit b e s h = record {
-  entry = λ i f g. elim (slice_get-last b.entries e i f g) [
+  entry = λ i f g. elim (last_or_before b.entries e i f g) [
     | inl there ↦ s.entry i f there
-    | inr same ↦ (let P : Entry S → Type 0 = λ x. IsEntry r k limit x in subst P same h)
+    | inr last ↦ (let P : Entry S → Type 0 = λ x. IsEntry r k limit x in subst P last.1 h)
   ];
-  met = λ i places g. elim (slice_get-last b.finished None i (Some places) g) [
+  met = λ i places g. elim (last_or_before b.finished None i (Some places) g) [
     | inl there ↦ met_more r b.entries e i places (s.met i places there)
-    | inr same ↦ absurd cc
+    | inr last ↦ let none : None ≡ Some places = last.1 in absurd cc
   ];
 }
 
@@ -131,11 +119,6 @@ allowed width (suc b) c k u lt h g = lt
 left_after : (b c k u : ℕ) → k ≤ b + u → k ≤ budget_after b c + (u + departs c)
 left_after b zero k u h = omega (arith, h)
 left_after b (suc c) k u h = omega (arith, h)
-
-listed_place : {X : Type 0} (xs : List X) (c : ℕ) → c < length xs → (x : X) × (slice_get xs c ≡ Some x)
-listed_place [] c lt = absurd (omega (arith, lt))
-listed_place (x ∷ xs) zero lt = (x, refl)
-listed_place (x ∷ xs) (suc c) lt = listed_place xs c (omega (arith, lt))
 
 -- a mark is a station, so the end of the run isn't between two
 no_mark_between : {S : Type 0} (r : Rules S) (k limit : ℕ) (b : Book S) (all : List ℕ) (log : List (ℕ × ℕ)) (n from m : ℕ) (t : S) → Way r k limit b all log n → from ≤ n → ((q : ℕ) → q ≤ m → from + q ≤ n → GoesAlong r log t from q (from + q)) → ((j : ℕ) → j < m → is_station r (forced r t j) ≡ false) → n < from + m → ⊥

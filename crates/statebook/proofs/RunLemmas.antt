@@ -2,6 +2,7 @@
 use Rattle.std.proofs.Common.{◌≡◌, ℕ, ◌+◌, ◌<◌, ◌≤◌, ◌==◌, ◌||◌, not, zero, suc, Bool, true, false, List, [], ◌∷◌, length, if◌then◌else◌, arith, ap, refl, sym, subst, ◌⊎◌, inl, inr}
 use Rattle.std.proofs.lemmas.Bool.{cases_lt}
 use Rattle.std.proofs.lemmas.Bool.Decides.{nat_tests}
+use Rattle.basis.proofs.Bools.{same_truth}
 use Rattle.sched_core.specs.Rules.{Rules, IsLawful, stands, choice_at, IsRun}
 use Rattle.statebook.specs.Stations.{is_station, forced}
 
@@ -52,15 +53,10 @@ used_grows log p (suc n) h = elim (cases_lt n p) [
   | inr le ↦ omega (arith, used_grows log p n le)
 ]
 
-bool_same : (a b : Bool) → (a ≡ true → b ≡ true) → (b ≡ true → a ≡ true) → a ≡ b
-bool_same true b f g = sym (f refl)
-bool_same false true f g = g refl
-bool_same false false f g = refl
-
 -- equal states are stations alike
 pub is_station_same : {S : Type 0} (r : Rules S) → IsLawful r → (s t : S) → r.same s t ≡ true → is_station r s ≡ is_station r t
 is_station_same r law s t e =
-    let root : r.same s r.first ≡ r.same t r.first = bool_same _ _
+    let root : r.same s r.first ≡ r.same t r.first = same_truth _ _
     (λ h. law.transitive t s r.first (law.symmetric s t e) h)
     (λ h. law.transitive s t r.first e h) in
     let width : r.width s ≡ r.width t = law.width_same s t e in

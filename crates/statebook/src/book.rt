@@ -1,8 +1,11 @@
+// The book of one owner: its entries, each with the places of its successors once it is finished.
+
 ghost use Rattle.std.specs.Prelude.{◌≡◌, ℕ, List, ◌<◌, ◌≤◌, ◌↔◌, true, false, length, slice_get, map, Contains, Some, None, IsTrue, IsSome, IfSome, IfNone, IfOk, IfErr, OnOk, OnErr, option_copied};
 ghost use Rattle.statebook.specs.Books.{AllClosed, AllIn, Book, Dominates, IsClosed, IsClosedAt, IsRootAt, IsUndominated, Meets, alike, finish, no_entries, places_of};
 ghost use Rattle.statebook.specs.declared.entry.Entry.{Entry};
 
 use crate::entry::Entry;
+use basis::NoMemory;
 use indexmap::IndexSet;
 use std::alloc::Global;
 use std::hash::Hash;
@@ -14,12 +17,6 @@ use std::marker::Model;
 pub enum Met {
     New(usize),
     Known(usize),
-}
-
-/// Why a book didn't take an entry: memory was refused (E901).
-#[derive(Clone, Copy, Debug, PartialEq, Eq)]
-pub enum BookFault {
-    Memory,
 }
 
 /// What a finished entry met: its place, and for each choice in order the place of the entry that
@@ -55,7 +52,7 @@ impl<S: Eq + Hash> Model for PlainBook<S> {
 }
 
 // The place of the entry that is equal in state and budget.
-fn place_of<S: Eq + Hash>(entries: &IndexSet<Entry<S>>, probe: &Entry<S>) -> Option<usize>
+fn place_of_equal<S: Eq + Hash>(entries: &IndexSet<Entry<S>>, probe: &Entry<S>) -> Option<usize>
     ensures found { IfSome result (λ i. (f : Entry S) × (slice_get entries.now.keys i ≡ Some f) × (alike S.eq probe.now f ≡ true)) }
     ensures none { IfNone result ((i : ℕ) (f : Entry S) → slice_get entries.now.keys i ≡ Some f → alike S.eq probe.now f ≡ false) }
 {
@@ -74,10 +71,10 @@ fn dominator<S: Eq + Hash>(
     ensures none { IfNone result ((i : ℕ) (f : Entry S) → slice_get entries.now.keys i ≡ Some f → f.budget ≤ top → Dominates S.eq f entry.old.state entry.old.budget → ⊥) }
 {
     let budget = entry.budget;
-    let mut found = place_of(entries, entry);
+    let mut found = place_of_equal(entries, entry);
     while found.is_none() && entry.budget < top {
         entry.budget += 1;
-        found = place_of(entries, entry);
+        found = place_of_equal(entries, entry);
     }
     entry.budget = budget;
     found
@@ -148,7 +145,7 @@ impl<S: Eq + Hash + Drop> PlainBook<S> {
 
     /// Takes the entry as a new one, only where no entry dominates it; else answers with the place
     /// of one that does, and lets the entry go. After want of memory the entry is handed back.
-    pub fn meet(&mut self, mut entry: Entry<S>) -> Result<Met, (BookFault, Entry<S>)>
+    pub fn meet(&mut self, mut entry: Entry<S>) -> Result<Met, (NoMemory, Entry<S>)>
         ensures ok { IfOk result (λ met. Meets S.eq self.old entry met self.new) }
         ensures handed_back { IfErr result (λ refused. refused.1 ≡ entry) }
         ensures err { OnErr result (self.new ≡ self.old) }
@@ -156,18 +153,16 @@ impl<S: Eq + Hash + Drop> PlainBook<S> {
         if let Some(place) = dominator(&self.entries, &mut entry, self.top) {
             return Ok(Met::Known(place));
         }
-        if self.finished.reserve(1).is_err() {
-            return Err((BookFault::Memory, entry));
+        if let Err(refused) = self.finished.reserve(1) {
+            return Err((NoMemory::from(refused), entry));
         }
-        let top = self.top.max(entry.budget);
-        match self.entries.insert_full(entry) {
-            Ok((place, _)) => {
-                self.finished.push(None).unwrap();
-                self.top = top;
-                Ok(Met::New(place))
-            }
-            Err(refused) => Err((BookFault::Memory, refused.value)),
+        if let Err(refused) = self.entries.reserve(1) {
+            return Err((NoMemory::from(refused), entry));
         }
+        self.top = self.top.max(entry.budget);
+        let (place, _) = self.entries.insert_full(entry).unwrap();
+        self.finished.push(None).unwrap();
+        Ok(Met::New(place))
     }
 
     /// The entry at the place.

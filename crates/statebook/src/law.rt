@@ -1,3 +1,5 @@
+// The laws that exploring rests on.
+
 ghost use Rattle.std.specs.Prelude.{ℕ, List};
 ghost use Rattle.statebook.specs.ExplorerCore.{AllMet, AreAllowed, Core, Event, IsEntry, IsListed, IsSound, after_all, empty};
 ghost use Rattle.statebook.specs.Books.{Book, IsClosed, Meets, finish, no_entries};

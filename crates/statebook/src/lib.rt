@@ -10,7 +10,7 @@ mod limits;
 #[cfg(test)]
 mod tests;
 
-pub use book::{BookFault, Done, Met, PlainBook};
+pub use book::{Done, Met, PlainBook};
 pub use entry::Entry;
 pub use law::{book_stays_sound, closed_covers};
 pub use limits::Limits;

@@ -1,3 +1,5 @@
+// How far an explorer goes.
+
 ghost use Rattle.std.specs.Prelude.{◌≡◌, ◌≤◌, ◌↔◌, IsSome, IfSome};
 
 /// How far an explorer goes: at most `depart` departures, 0 to 4; at most `steps` steps of one

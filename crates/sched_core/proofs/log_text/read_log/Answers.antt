@@ -1,7 +1,8 @@
 use Rattle.std.proofs.Common.{◌≡◌, [], ◌∙◌, sym, subst, List, ℕ, true}
-use Rattle.sched_core.specs.Reading.{IsMemberFront}
+use Rattle.sched_core.specs.Inner.Reading.{IsMemberFront}
 use Rattle.sched_core.specs.LogText.{IsNoLogText}
-use Rattle.sched_core.proofs.ReadingLemmas.{no_member, no_next, no_comma, only_log, one_more, empty_from_test, some_from_test}
+use Rattle.basis.proofs.Lists.{empty_from_test, some_from_test}
+use Rattle.sched_core.proofs.ReadingLemmas.{no_member, no_next, no_comma, only_log, one_more}
 use Rattle.sched_core.proofs.log_text.read_log.Goals as goal
 use Rattle.sched_core.proofs.log_text.read_log.Goals.{After-takes}
 
@@ -9,7 +10,7 @@ no_front : (c : goal.After-drop-log-inside) → IsNoLogText c.args.text.now
 no_front c = no_member _ _ _ c.loop-member.invariant c.in_default.ensures.none
 
 pub returns-in_default-clause-ill_formed : goal.returns-in_default-clause-ill_formed
-returns-in_default-clause-ill_formed c = λ e. no_front c
+returns-in_default-clause-ill_formed c = no_front c
 
 pub returns-in_default-clause-accepts : goal.returns-in_default-clause-accepts
 returns-in_default-clause-accepts c = λ log h e. absurd (no_front c log h e)
@@ -18,7 +19,7 @@ no_place : (c : goal.After-drop-log-inside-then-not-takes) → IsNoLogText c.arg
 no_place c = no_next _ _ _ _ _ c.loop-member.invariant c.in-Some.ensures.read (λ l. let t : c.takes.result ≡ true = c.takes.ensures.1 l in cc)
 
 pub returns-then-not-takes-clause-ill_formed : goal.returns-then-not-takes-clause-ill_formed
-returns-then-not-takes-clause-ill_formed c = λ e. no_place c
+returns-then-not-takes-clause-ill_formed c = no_place c
 
 pub returns-then-not-takes-clause-accepts : goal.returns-then-not-takes-clause-accepts
 returns-then-not-takes-clause-accepts c = λ log h e. absurd (no_place c log h e)
@@ -36,7 +37,7 @@ no_separator c =
     c.in_default-after_byte.ensures.none
 
 pub returns-in_default-after_byte-clause-ill_formed : goal.returns-in_default-after_byte-clause-ill_formed
-returns-in_default-after_byte-clause-ill_formed c = λ e. no_separator c
+returns-in_default-after_byte-clause-ill_formed c = no_separator c
 
 pub returns-in_default-after_byte-clause-accepts : goal.returns-in_default-after_byte-clause-accepts
 returns-in_default-after_byte-clause-accepts c = λ log h e. absurd (no_separator c log h e)

@@ -10,8 +10,8 @@ early g c =
     (sym ((g.met.P.Space.lawful c.args.space.now).width_same _ _ c.loop-rest.invariant.at) ∙ sym c.width-width.ensures ∙ c.if-width-eq0.true)
     (sym c.is_empty.ensures ∙ c.if-is_empty.false)
 
-pub returns-else-is_empty-clause-missing : goal.returns-else-is_empty-clause-missing
-returns-else-is_empty-clause-missing g c = λ e. (c.loop-rest.n, c.loop-rest.invariant.within, inl (early g c))
+pub returns-else-is_empty-clause-reason : goal.returns-else-is_empty-clause-reason
+returns-else-is_empty-clause-reason g c = (c.loop-rest.n, c.loop-rest.invariant.within, inl (early g c))
 
 pub returns-else-is_empty-clause-only_end : goal.returns-else-is_empty-clause-only_end
 returns-else-is_empty-clause-only_end g c = λ n le end. absurd (early_not_end _ c.args.log.now c.loop-rest.n n (early g c) end)

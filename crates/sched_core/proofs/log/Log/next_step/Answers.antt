@@ -1,5 +1,5 @@
 use Rattle.std.proofs.Common.{◌+◌, ◌≤◌, ap, sym, ◌∙◌, arith, rules}
-use Rattle.sched_core.specs.Logs.{next_from}
+use Rattle.sched_core.specs.Inner.Reading.{next_from}
 use Rattle.sched_core.proofs.LogLemmas.{next_from-last, next_from-le}
 use Rattle.sched_core.proofs.log.Log.next_step.Goals as goal
 

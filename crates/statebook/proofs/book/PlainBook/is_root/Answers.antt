@@ -1,6 +1,6 @@
 use Rattle.std.proofs.Common.{◌≡◌, ◌∙◌, sym, ap, slice_get, length, Some, [], ◌==◌}
 use Rattle.std.proofs.lemmas.Option.{same_Some}
-use Rattle.statebook.proofs.BookLemmas.{empty_from_test}
+use Rattle.basis.proofs.Lists.{empty_from_test}
 use Rattle.statebook.proofs.book.PlainBook.is_root.Given.{Over}
 use Rattle.statebook.proofs.book.PlainBook.is_root.Goals as goal
 

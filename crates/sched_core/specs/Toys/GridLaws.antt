@@ -2,7 +2,7 @@
 use Rattle.std.proofs.Common.{◌≡◌, ℕ, true, ap, subst, arith}
 use Rattle.std.proofs.lemmas.Bool.Decides.{nat_tests}
 use Rattle.sched_core.specs.Rules.{IsLawful}
-use Rattle.sched_core.specs.Grids.{grid_rules}
+use Rattle.sched_core.specs.Toys.Grids.{grid_rules}
 use Rattle.sched_core.specs.declared.grid.Square.{Square}
 
 pub same_square : (right down : ℕ) (s t : Square) → (grid_rules right down).same s t ≡ true → s ≡ t

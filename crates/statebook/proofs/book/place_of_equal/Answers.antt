@@ -1,5 +1,5 @@
 use Rattle.statebook.proofs.BookLemmas.{found_passes, not_found_fails}
-use Rattle.statebook.proofs.book.place_of.Goals as goal
+use Rattle.statebook.proofs.book.place_of_equal.Goals as goal
 
 pub returns-clause-found : goal.returns-clause-found
 returns-clause-found g c = found_passes _ c.args.entries.now.keys c.get_index_of.result c.get_index_of.ensures.index

@@ -1,0 +1,2 @@
+-- Words for the contracts of calls within.
+pub mod Reading
