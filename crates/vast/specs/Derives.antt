@@ -98,3 +98,7 @@ fits modules = list_all fits_module modules
 pub record Derives (words : List Text) (tree : SourceTree) : Type 0 where
   pub spelled : spell tree ≡ words
   pub fitting : IsTrue (fits tree)
+
+-- no tree derives the words
+abbrev pub HasNoTree : List Text → Type 0
+HasNoTree words = (tree : SourceTree) → Derives words tree → ⊥

@@ -7,7 +7,8 @@ ghost use Rattle.vast.specs.Spellings.{texts};
 ghost use Rattle.vast.specs.Syntax.{block};
 
 use crate::syntax::{Ast, Expr, Item, Module, Range, Stmt, Word};
-use std::alloc::{AllocError, Global};
+use basis::NoMemory;
+use std::alloc::Global;
 
 /// A word that a tree spells, by its bytes.
 #[derive(Clone, Copy, Debug)]
@@ -15,17 +16,14 @@ pub struct Spelling<'t> {
     pub text: &'t [u8],
 }
 
-fn put<'t>(words: &mut Vec<Spelling<'t>>, text: &'t [u8]) -> Result<(), AllocError>
+fn put<'t>(words: &mut Vec<Spelling<'t>>, text: &'t [u8]) -> Result<(), NoMemory>
     ensures { OnOk result (texts words.new.items ≡ texts words.old.items ++ text.now ∷ []) }
 {
     words.push(Spelling { text })?;
     Ok(())
 }
 
-fn put_expression<'t>(
-    words: &mut Vec<Spelling<'t>>,
-    expression: &Expr<'t>,
-) -> Result<(), AllocError>
+fn put_expression<'t>(words: &mut Vec<Spelling<'t>>, expression: &Expr<'t>) -> Result<(), NoMemory>
     ensures { OnOk result (texts words.new.items ≡ texts words.old.items ++ spell_expression (expression_tree expression.now)) }
 {
     match expression {
@@ -39,7 +37,7 @@ fn put_assignment<'t>(
     target: &Word<'t>,
     sign: &'t [u8],
     value: &Expr<'t>,
-) -> Result<(), AllocError>
+) -> Result<(), NoMemory>
     ensures { OnOk result (texts words.new.items ≡ texts words.old.items ++ word_text target.now ∷ sign.now ∷ (spell_expression (expression_tree value.now) ++ codes ";" ∷ [])) }
 {
     put(words, target.text)?;
@@ -49,7 +47,7 @@ fn put_assignment<'t>(
 }
 
 #[cycle(spelling)]
-fn put_statement<'t>(words: &mut Vec<Spelling<'t>>, statement: &Stmt<'t>) -> Result<(), AllocError>
+fn put_statement<'t>(words: &mut Vec<Spelling<'t>>, statement: &Stmt<'t>) -> Result<(), NoMemory>
     ensures { OnOk result (texts words.new.items ≡ texts words.old.items ++ spell_statement (statement_tree statement.now)) }
 {
     match statement {
@@ -74,7 +72,7 @@ fn put_statement<'t>(words: &mut Vec<Spelling<'t>>, statement: &Stmt<'t>) -> Res
 }
 
 #[cycle(spelling)]
-fn put_block<'t>(words: &mut Vec<Spelling<'t>>, statements: &[Stmt<'t>]) -> Result<(), AllocError>
+fn put_block<'t>(words: &mut Vec<Spelling<'t>>, statements: &[Stmt<'t>]) -> Result<(), NoMemory>
     ensures { OnOk result (texts words.new.items ≡ texts words.old.items ++ spell_statement (block (statement_trees statements.now))) }
 {
     put(words, b"begin")?;
@@ -86,7 +84,7 @@ fn put_block<'t>(words: &mut Vec<Spelling<'t>>, statements: &[Stmt<'t>]) -> Resu
 fn put_statements<'t>(
     words: &mut Vec<Spelling<'t>>,
     statements: &[Stmt<'t>],
-) -> Result<(), AllocError>
+) -> Result<(), NoMemory>
     ensures { OnOk result (texts words.new.items ≡ texts words.old.items ++ spell_statements (statement_trees statements.now)) }
 {
     for statement in statements {
@@ -95,7 +93,7 @@ fn put_statements<'t>(
     Ok(())
 }
 
-fn put_range<'t>(words: &mut Vec<Spelling<'t>>, range: &Option<Range<'t>>) -> Result<(), AllocError>
+fn put_range<'t>(words: &mut Vec<Spelling<'t>>, range: &Option<Range<'t>>) -> Result<(), NoMemory>
     ensures { OnOk result (texts words.new.items ≡ texts words.old.items ++ spell_range (option_map range_tree range.now)) }
 {
     match range {
@@ -110,7 +108,7 @@ fn put_range<'t>(words: &mut Vec<Spelling<'t>>, range: &Option<Range<'t>>) -> Re
     }
 }
 
-fn put_names<'t>(words: &mut Vec<Spelling<'t>>, names: &[Word<'t>]) -> Result<(), AllocError>
+fn put_names<'t>(words: &mut Vec<Spelling<'t>>, names: &[Word<'t>]) -> Result<(), NoMemory>
     ensures { OnOk result (texts words.new.items ≡ texts words.old.items ++ spell_names (map word_text names.now)) }
 {
     match names.split_first() {
@@ -122,7 +120,7 @@ fn put_names<'t>(words: &mut Vec<Spelling<'t>>, names: &[Word<'t>]) -> Result<()
     }
 }
 
-fn put_more_names<'t>(words: &mut Vec<Spelling<'t>>, names: &[Word<'t>]) -> Result<(), AllocError>
+fn put_more_names<'t>(words: &mut Vec<Spelling<'t>>, names: &[Word<'t>]) -> Result<(), NoMemory>
     ensures { OnOk result (texts words.new.items ≡ texts words.old.items ++ flat_map (λ more. codes "," ∷ more ∷ []) (map word_text names.now)) }
 {
     for name in names {
@@ -132,7 +130,7 @@ fn put_more_names<'t>(words: &mut Vec<Spelling<'t>>, names: &[Word<'t>]) -> Resu
     Ok(())
 }
 
-fn put_item<'t>(words: &mut Vec<Spelling<'t>>, item: &Item<'t>) -> Result<(), AllocError>
+fn put_item<'t>(words: &mut Vec<Spelling<'t>>, item: &Item<'t>) -> Result<(), NoMemory>
     ensures { OnOk result (texts words.new.items ≡ texts words.old.items ++ spell_item (item_tree item.now)) }
 {
     match item {
@@ -149,7 +147,7 @@ fn put_item<'t>(words: &mut Vec<Spelling<'t>>, item: &Item<'t>) -> Result<(), Al
     }
 }
 
-fn put_items<'t>(words: &mut Vec<Spelling<'t>>, items: &[Item<'t>]) -> Result<(), AllocError>
+fn put_items<'t>(words: &mut Vec<Spelling<'t>>, items: &[Item<'t>]) -> Result<(), NoMemory>
     ensures { OnOk result (texts words.new.items ≡ texts words.old.items ++ flat_map spell_item (map item_tree items.now)) }
 {
     for item in items {
@@ -158,7 +156,7 @@ fn put_items<'t>(words: &mut Vec<Spelling<'t>>, items: &[Item<'t>]) -> Result<()
     Ok(())
 }
 
-fn put_module<'t>(words: &mut Vec<Spelling<'t>>, unit: &Module<'t>) -> Result<(), AllocError>
+fn put_module<'t>(words: &mut Vec<Spelling<'t>>, unit: &Module<'t>) -> Result<(), NoMemory>
     ensures { OnOk result (texts words.new.items ≡ texts words.old.items ++ spell_module (module_tree unit.now)) }
 {
     put(words, b"module")?;
@@ -169,7 +167,7 @@ fn put_module<'t>(words: &mut Vec<Spelling<'t>>, unit: &Module<'t>) -> Result<()
 }
 
 /// The words that a tree spells, in order: those of the text that it was read from.
-pub fn spell<'t>(alloc: Global, ast: &Ast<'t>) -> Result<Vec<Spelling<'t>>, AllocError>
+pub fn spell<'t>(alloc: Global, ast: &Ast<'t>) -> Result<Vec<Spelling<'t>>, NoMemory>
     ensures { IfOk result (λ words. texts words.items ≡ spell_tree (source_tree ast.now)) }
 {
     let mut words = Vec::new(alloc);

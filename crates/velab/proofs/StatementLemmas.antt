@@ -9,12 +9,13 @@ use Rattle.vast.proofs.ActionLemmas.{join_done, join_assoc, actions-append}
 use Rattle.vast.specs.Design.{Actions, done, then, join}
 use Rattle.vast.specs.DesignViews.{action, actions}
 use Rattle.vast.specs.declared.design.Statement.{Statement}
+use Rattle.basis.specs.declared.memory.OrMemory.{OrMemory}
 use Rattle.velab.specs.declared.fault.ElabFault.{ElabFault}
 use Rattle.velab.specs.Elaborate.{actions_of, all_actions_of, knows, knows_all}
 use Rattle.velab.proofs.ListLemmas.{drop_at}
 
 -- one statement was put behind the others
-pub put_gives : (result : Result (Unit {0}) ElabFault) (old new : List Statement) (s : Statement) (wanted : Actions) → OnOk result (new ≡ old ++ s ∷ []) →
+pub put_gives : (result : Result (Unit {0}) (OrMemory ElabFault)) (old new : List Statement) (s : Statement) (wanted : Actions) → OnOk result (new ≡ old ++ s ∷ []) →
     wanted ≡ then (action s) done → OnOk result (actions new ≡ join (actions old) wanted)
 put_gives (Ok u) old new s wanted is gives = ap actions is ∙ actions-append old (s ∷ []) ∙ ap (join (actions old)) (sym gives)
 put_gives (Err e) old new s wanted is gives = tt

@@ -1,18 +1,21 @@
 -- Faults of the modules' names and of the top.
-use Rattle.std.proofs.Common.{◌≡◌, ◌<◌, inr, ℕ, ◌+◌, true, List, ◌∷◌, ◌++◌, length, map, drop, get_or, Option, Some, Result, Ok, Err, IfErr, sym, ap, ◌∙◌}
+use Rattle.std.proofs.Common.{◌≡◌, ◌<◌, inr, ℕ, ◌+◌, true, List, ◌∷◌, ◌++◌, length, map, drop, get_or, Option, Some, Result, Ok, Err, sym, ap, ◌∙◌}
 use Rattle.vast.specs.Syntax.{Text, ModuleTree, SourceTree}
 use Rattle.vast.specs.Trees.{word_text, module_tree}
 use Rattle.vast.specs.declared.syntax.Module.{Module}
+use Rattle.basis.specs.declared.memory.OrMemory.{OrMemory}
+use Rattle.basis.specs.declared.memory.OrMemory.TheVariants.{Fault, Memory}
+use Rattle.basis.specs.Reasons.{Because, IfFault}
 use Rattle.velab.specs.declared.fault.ElabFault.{ElabFault}
-use Rattle.velab.specs.declared.fault.ElabFault.TheVariants.{Module as ModuleFault, Doubled, Unknown, Width, TooMany, Memory}
+use Rattle.velab.specs.declared.fault.ElabFault.TheVariants.{Module as ModuleFault, Doubled, Unknown, Width, TooMany}
 use Rattle.velab.specs.Elaborate.{top_of, has_double, is_declared, module_names}
-use Rattle.velab.specs.Reasons.{Because, Breaks, IsReason}
+use Rattle.velab.specs.Reasons.{IsBreach, no_breach, breaches_of, IsDesignReason}
 use Rattle.velab.proofs.FaultLemmas.{because_of}
 use Rattle.velab.proofs.ListLemmas.{drop_at}
 use Rattle.velab.proofs.VariableLemmas.{name_stops}
 
-pub modules_err : (modules : List Module) (i : ℕ) (unit : Module) (names all : List Text) (e : ElabFault) → i < length modules → unit ≡ get_or modules i unit →
-    names ++ module_names (map module_tree (drop i modules)) ≡ all → Because (is_declared names (word_text unit.name) ≡ true) ⊥ ⊥ ⊥ e → Because (has_double all ≡ true) ⊥ ⊥ ⊥ e
+pub modules_err : (modules : List Module) (i : ℕ) (unit : Module) (names all : List Text) (e : OrMemory ElabFault) → i < length modules → unit ≡ get_or modules i unit →
+    names ++ module_names (map module_tree (drop i modules)) ≡ all → Because (IsBreach (record no_breach { doubled = is_declared names (word_text unit.name) ≡ true })) e → Because (IsBreach (record no_breach { doubled = has_double all ≡ true })) e
 modules_err modules i unit names all e within is same h =
     because_of (name_stops names (module_names (map module_tree (drop (i + 1) modules))) all (word_text unit.name) here) (λ u. u) (λ w. w) (λ m. m) e h
   where
@@ -20,12 +23,12 @@ modules_err modules i unit names all e within is same h =
     here = ap (λ ms. names ++ module_names (map module_tree ms)) (sym (drop_at modules i unit within is)) ∙ same
 
 -- a rule that the top breaks is a rule that the text breaks
-pub top_err : {T : Type 0} (result : Result T ElabFault) (tree : SourceTree) (top : Option Text) (m : ModuleTree) → top_of tree top ≡ Some m →
-    IfErr result (Breaks m) → IfErr result (IsReason tree top)
+pub top_err : {T : Type 0} (result : Result T (OrMemory ElabFault)) (tree : SourceTree) (top : Option Text) (m : ModuleTree) → top_of tree top ≡ Some m →
+    IfFault result (IsBreach (breaches_of m)) → IfFault result (IsDesignReason tree top)
 top_err (Ok x) tree top m is h = tt
-top_err (Err (ModuleFault at)) tree top m is h = absurd h
-top_err (Err (Doubled at)) tree top m is h = inr (m, is, h)
-top_err (Err (Unknown at)) tree top m is h = (m, is, h)
-top_err (Err (Width at)) tree top m is h = (m, is, h)
-top_err (Err (TooMany at)) tree top m is h = (m, is, h)
-top_err (Err Memory) tree top m is h = tt
+top_err (Err (Fault (ModuleFault at))) tree top m is h = absurd h
+top_err (Err (Fault (Doubled at))) tree top m is h = inr (m, is, h)
+top_err (Err (Fault (Unknown at))) tree top m is h = (m, is, h)
+top_err (Err (Fault (Width at))) tree top m is h = (m, is, h)
+top_err (Err (Fault (TooMany at))) tree top m is h = (m, is, h)
+top_err (Err (Memory m')) tree top m is h = tt

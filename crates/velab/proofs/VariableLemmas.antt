@@ -1,5 +1,5 @@
 -- Bounds and the lists of declared names.
-use Rattle.std.proofs.Common.{◌≡◌, ◌<◌, ◌≤◌, ℕ, suc, ◌+◌, drop, drop-cons, ◌-◌, Bool, true, false, cond, ◌||◌, List, [], ◌∷◌, ◌++◌, length, map, get_or, slice_get, Option, Some, Result, Ok, Err, IfErr, Vec, Global, refl, sym, ap, subst, ◌∙◌, true≢false, length-append, arith}
+use Rattle.std.proofs.Common.{◌≡◌, ◌<◌, ◌≤◌, ℕ, suc, ◌+◌, drop, drop-cons, ◌-◌, Bool, true, false, cond, ◌||◌, List, [], ◌∷◌, ◌++◌, length, map, get_or, slice_get, Option, Some, Result, Ok, Err, Vec, Global, refl, sym, ap, subst, ◌∙◌, true≢false, length-append, arith}
 use Rattle.std.proofs.lemmas.Option.{unwrap_or-slice_get}
 use Rattle.std.proofs.lemmas.List.Folds.{list_any-append}
 use Rattle.std.specs.Prelude.{unwrap_or, option_map}
@@ -17,10 +17,12 @@ use Rattle.vast.specs.declared.syntax.Range.{Range}
 use Rattle.vast.specs.declared.syntax.Item.{Item}
 use Rattle.vast.specs.declared.syntax.Item.TheVariants.{Registers}
 use Rattle.vast.specs.declared.design.Bounds.{Bounds}
+use Rattle.basis.specs.declared.memory.OrMemory.{OrMemory}
+use Rattle.basis.specs.Reasons.{Because, IfFault}
 use Rattle.velab.specs.declared.fault.ElabFault.{ElabFault}
 use Rattle.velab.specs.Elaborate.{is_negative, is_declared, has_double, has_range, Declaration, declared, declarations_of, bounds_of, variable_by, variable_of}
 use Rattle.velab.specs.Parts.{names_of, names_in}
-use Rattle.velab.specs.Reasons.{Because}
+use Rattle.velab.specs.Reasons.{IsBreach, no_breach}
 use Rattle.velab.proofs.ListLemmas.{stopped, fails_at, longer}
 use Rattle.velab.proofs.NameLemmas.{double_at}
 use Rattle.velab.proofs.FaultLemmas.{because_of}
@@ -90,17 +92,17 @@ module _ (item : Item) (range : Option Range) (words : Vec Word Global) (list : 
       ap (λ b. map (variable_by scope b) (map word_text list)) bounds_is
       ∙ sym (ap (λ t. map (variable_of scope) (declarations_of t)) tree ∙ map_variables scope (option_map range_tree range) (map word_text list))
 
-  pub item_err : (result : Result (Unit {0}) ElabFault) (names : List Text) →
-      IfErr result (Because (has_double (names ++ map word_text list) ≡ true) ⊥ ⊥ (1024 < length (names ++ map word_text list))) →
-      IfErr result (Because (has_double (names ++ names_of (item_tree item)) ≡ true) ⊥ (has_range (item_tree item) ≡ false) (1024 < length (names ++ names_of (item_tree item))))
+  pub item_err : (result : Result (Unit {0}) (OrMemory ElabFault)) (names : List Text) →
+      IfFault result (IsBreach (record no_breach { doubled = has_double (names ++ map word_text list) ≡ true; many = 1024 < length (names ++ map word_text list) })) →
+      IfFault result (IsBreach (record no_breach { doubled = has_double (names ++ names_of (item_tree item)) ≡ true; width = has_range (item_tree item) ≡ false; many = 1024 < length (names ++ names_of (item_tree item)) }))
   item_err (Ok u) names h = tt
   item_err (Err e) names h =
       because_of (λ d. sym (ap (λ l. has_double (names ++ l)) item_names) ∙ d) (λ u. u) (λ w. absurd w) (subst (λ l. 1024 < length (names ++ l)) item_names) e h
 
 -- ---- why a list of names, or of items, can't be declared
 
-pub words_err : (words : List Word) (i : ℕ) (d : Word) (names all : List Text) (e : ElabFault) → i < length words → names ++ map word_text (drop i words) ≡ all →
-    Because (is_declared names (word_text (get_or words i d)) ≡ true) ⊥ ⊥ (1024 ≤ length names) e → Because (has_double all ≡ true) ⊥ ⊥ (1024 < length all) e
+pub words_err : (words : List Word) (i : ℕ) (d : Word) (names all : List Text) (e : OrMemory ElabFault) → i < length words → names ++ map word_text (drop i words) ≡ all →
+    Because (IsBreach (record no_breach { doubled = is_declared names (word_text (get_or words i d)) ≡ true; many = 1024 ≤ length names })) e → Because (IsBreach (record no_breach { doubled = has_double all ≡ true; many = 1024 < length all })) e
 words_err words i d names all e within same h =
     because_of (name_stops names rest all text is) (λ u. u) (λ w. w) (names_full names rest all text is) e h
   where
@@ -116,10 +118,10 @@ words_err words i d names all e within same h =
 in_order : (item : Item) (items : List Item) → names_in (map item_tree (item ∷ items)) ≡ names_of (item_tree item) ++ names_in (map item_tree items)
 in_order item items = map-append (λ (d : Declaration). d.name) (declarations_of (item_tree item)) (flat_map declarations_of (map item_tree items))
 
-pub items_err : (items : List Item) (i : ℕ) (item : Item) (names all : List Text) (ranges : Bool) (e : ElabFault) → i < length items → item ≡ get_or items i item →
+pub items_err : (items : List Item) (i : ℕ) (item : Item) (names all : List Text) (ranges : Bool) (e : OrMemory ElabFault) → i < length items → item ≡ get_or items i item →
     names ++ names_in (map item_tree (drop i items)) ≡ all → list_all has_range (map item_tree (drop i items)) ≡ ranges →
-    Because (has_double (names ++ names_of (item_tree item)) ≡ true) ⊥ (has_range (item_tree item) ≡ false) (1024 < length (names ++ names_of (item_tree item))) e →
-    Because (has_double all ≡ true) ⊥ (ranges ≡ false) (1024 < length all) e
+    Because (IsBreach (record no_breach { doubled = has_double (names ++ names_of (item_tree item)) ≡ true; width = has_range (item_tree item) ≡ false; many = 1024 < length (names ++ names_of (item_tree item)) })) e →
+    Because (IsBreach (record no_breach { doubled = has_double all ≡ true; width = ranges ≡ false; many = 1024 < length all })) e
 items_err items i item names all ranges e within is same right h =
     because_of (part_stops part rest all whole_is) (λ u. u)
     (fails_at items i item within is (λ xs. list_all has_range (map item_tree xs)) (λ x. has_range (item_tree x)) (λ y ys. refl) ranges right)

@@ -1,23 +1,26 @@
-ghost use Rattle.std.specs.Prelude.{◌≡◌, ◌≤◌, ◌∷◌, [], ℕ, map, IfOk, IfErr, OnOk, option_map};
+// The design of a text.
+
+ghost use Rattle.std.specs.Prelude.{◌≡◌, ◌≤◌, ◌∷◌, [], ℕ, map, IfOk, OnOk, option_map};
+ghost use Rattle.basis.specs.Reasons.{IfFault};
 ghost use Rattle.vast.specs.Design.{DesignView};
 ghost use Rattle.vast.specs.DesignViews.{design_view, scope_view};
 ghost use Rattle.vast.specs.Trees.{source_tree, module_tree};
 ghost use Rattle.velab.specs.Elaborate as spec;
 ghost use Rattle.velab.specs.Elaborate.{Elaborates, IsRight};
-ghost use Rattle.velab.specs.Reasons.{IsReason, IsOfText, HasNoDesign, Because, Breaks};
+ghost use Rattle.velab.specs.Reasons.{IsDesignReason, HasNoDesign, IsBreach, breaches_of};
 
 use crate::fault::ElabFault;
 use crate::statement::processes;
 use crate::top::{check_names, top_of};
 use crate::variable::{Declarations, declare_items};
+use basis::{NoMemory, OrMemory};
 use std::alloc::Global;
 use vast::design::{Design, Scope};
 use vast::syntax::{Ast, Module};
 
 // The only scope: the top's.
-fn scopes(alloc: Global, name: &[u8], variables: u32) -> Result<Vec<Scope>, ElabFault>
-    ensures ok { IfOk result (λ scopes. map scope_view scopes.items ≡ spec.scope_by name.now variables ∷ []) }
-    ensures err { IfErr result (Because ⊥ ⊥ ⊥ ⊥) }
+fn scopes(alloc: Global, name: &[u8], variables: u32) -> Result<Vec<Scope>, NoMemory>
+    ensures { IfOk result (λ scopes. map scope_view scopes.items ≡ spec.scope_by name.now variables ∷ []) }
 {
     let name = Vec::from_slice(alloc, name)?;
     let mut scopes = Vec::new(alloc);
@@ -30,10 +33,10 @@ fn scopes(alloc: Global, name: &[u8], variables: u32) -> Result<Vec<Scope>, Elab
 }
 
 // The design that a module describes, where it is right.
-fn design_of(alloc: Global, unit: &Module<'_>) -> Result<Design, ElabFault>
+fn design_of(alloc: Global, unit: &Module<'_>) -> Result<Design, OrMemory<ElabFault>>
     ensures ok { IfOk result (λ design. design_view design ≡ spec.design_of (module_tree unit.now)) }
     ensures right { OnOk result (IsRight (module_tree unit.now)) }
-    ensures err { IfErr result (Breaks (module_tree unit.now)) }
+    ensures err { IfFault result (IsBreach (breaches_of (module_tree unit.now))) }
 {
     let Declarations { names, variables } = declare_items(alloc, unit.name.text, &unit.items)?;
     let processes = processes(alloc, &names, &unit.items)?;
@@ -48,18 +51,22 @@ fn design_of(alloc: Global, unit: &Module<'_>) -> Result<Design, ElabFault>
 /// The design that the text stands for. `top` names its top module; without it the text's only module is the top.
 /// Errors: E301, E302, E303, E306 and E309, each only where its rule is broken, and E901. Of several faults
 /// any one may be answered. Modules other than the top are not looked into (12.1).
-pub fn elaborate(alloc: Global, ast: &Ast<'_>, top: Option<&[u8]>) -> Result<Design, ElabFault>
+pub fn elaborate(
+    alloc: Global,
+    ast: &Ast<'_>,
+    top: Option<&[u8]>,
+) -> Result<Design, OrMemory<ElabFault>>
     ensures design { IfOk result (λ design. Elaborates (source_tree ast.now) (option_map (λ t. t.now) top.entry) (design_view design)) }
     ensures only { IfOk result (λ design. (other : DesignView) → Elaborates (source_tree ast.now) (option_map (λ t. t.now) top.entry) other → other ≡ design_view design) }
-    ensures reason { IfErr result (IsReason (source_tree ast.now) (option_map (λ t. t.now) top.entry)) }
-    ensures none { IfErr result (λ e. IsOfText e → HasNoDesign (source_tree ast.now) (option_map (λ t. t.now) top.entry)) }
+    ensures reason { IfFault result (IsDesignReason (source_tree ast.now) (option_map (λ t. t.now) top.entry)) }
+    ensures none { IfFault result (λ fault. HasNoDesign (source_tree ast.now) (option_map (λ t. t.now) top.entry)) }
 {
     check_names(alloc, &ast.modules)?;
     match top_of(&ast.modules, top) {
         Some(unit) => design_of(alloc, unit),
-        None => Err(ElabFault::Module {
+        None => Err(OrMemory::Fault(ElabFault::Module {
             at: second(&ast.modules, top),
-        }),
+        })),
     }
 }
 

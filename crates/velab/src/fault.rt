@@ -1,7 +1,4 @@
-ghost use Rattle.std.specs.Prelude.{◌≡◌};
-ghost use Rattle.velab.specs.declared.fault.ElabFault.TheVariants.{Memory};
-
-use std::alloc::{AllocError, AllocFailed};
+// Why a text has no design.
 
 /// Why a text has no design. `at` is the number of the token at fault, where there is one.
 #[derive(Clone, Copy, Debug, PartialEq, Eq)]
@@ -16,22 +13,4 @@ pub enum ElabFault {
     Width { at: Option<u32> },
     /// E309: more than 1,024 variables or more than 256 processes.
     TooMany { at: Option<u32> },
-    /// E901: a growth was refused.
-    Memory,
-}
-
-impl From<AllocError> for ElabFault {
-    ghost from_gives = { λ _ e. e ≡ Memory };
-
-    fn from(_error: AllocError) -> ElabFault {
-        ElabFault::Memory
-    }
-}
-
-impl<T: Drop> From<AllocFailed<T>> for ElabFault {
-    ghost from_gives = { λ _ e. e ≡ Memory };
-
-    fn from(_error: AllocFailed<T>) -> ElabFault {
-        ElabFault::Memory
-    }
 }

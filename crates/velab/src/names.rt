@@ -1,9 +1,13 @@
-ghost use Rattle.std.specs.Prelude.{◌≡◌, ◌<◌, ◌++◌, ◌∷◌, [], true, false, length, position, IfOk, IfErr, IfSome, OnOk, is_some};
+// Names in order, found by their bytes.
+
+ghost use Rattle.std.specs.Prelude.{◌≡◌, ◌<◌, ◌++◌, ◌∷◌, [], true, false, length, position, IfOk, IfSome, OnOk, is_some};
 ghost use Rattle.std.specs.Str.{bytes_eq};
+ghost use Rattle.basis.specs.Reasons.{IfFault};
 ghost use Rattle.velab.specs.Elaborate.{has_double, is_declared};
-ghost use Rattle.velab.specs.Reasons.{Because};
+ghost use Rattle.velab.specs.Reasons.{IsBreach, no_breach};
 
 use crate::fault::ElabFault;
+use basis::OrMemory;
 use indexmap::IndexSet;
 use std::alloc::Global;
 use std::marker::Model;
@@ -45,14 +49,14 @@ impl<'t> Names<'t> {
     }
 
     /// Adds a name behind the others. E302 where it is among them.
-    pub fn add(&mut self, word: &Word<'t>) -> Result<(), ElabFault>
+    pub fn add(&mut self, word: &Word<'t>) -> Result<(), OrMemory<ElabFault>>
         ensures added { OnOk result (self.new ≡ self.old ++ word.now.text.now ∷ []) }
         ensures unique { has_double self.new ≡ false }
-        ensures err { IfErr result (Because (is_declared self.old word.now.text.now ≡ true) ⊥ ⊥ ⊥) }
+        ensures err { IfFault result (IsBreach (record no_breach { doubled = is_declared self.old word.now.text.now ≡ true })) }
     {
         let added = self.set.insert(word.text)?;
         if !added {
-            return Err(ElabFault::Doubled { at: Some(word.at) });
+            return Err(OrMemory::Fault(ElabFault::Doubled { at: Some(word.at) }));
         }
         Ok(())
     }

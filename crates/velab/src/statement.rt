@@ -1,17 +1,19 @@
 // Processes: what statements have to do, their names resolved (clause 9).
-ghost use Rattle.std.specs.Prelude.{◌≡◌, ◌<◌, ◌≤◌, ◌+◌, [], ◌++◌, ◌∷◌, true, false, length, map, IfOk, IfErr, OnOk};
+ghost use Rattle.std.specs.Prelude.{◌≡◌, ◌<◌, ◌≤◌, ◌+◌, [], ◌++◌, ◌∷◌, true, false, length, map, IfOk, OnOk};
 ghost use Rattle.std.specs.List.{list_all, filter_map};
+ghost use Rattle.basis.specs.Reasons.{IfFault};
 ghost use Rattle.vast.specs.Design.{join};
 ghost use Rattle.vast.specs.DesignViews.{actions, process_actions};
 ghost use Rattle.vast.specs.Trees.{word_text, expression_tree, statement_tree, statement_trees, item_tree};
 ghost use Rattle.velab.specs.Elaborate as spec;
 ghost use Rattle.velab.specs.Elaborate.{actions_of, all_actions_of, is_declared, knows, knows_all, knows_expression, place_of, statement_of};
 ghost use Rattle.velab.specs.Parts.{initials_of};
-ghost use Rattle.velab.specs.Reasons.{Because};
+ghost use Rattle.velab.specs.Reasons.{IsBreach, no_breach};
 
 use crate::fault::ElabFault;
 use crate::names::Names;
 use crate::number::constant_of;
+use basis::OrMemory;
 use std::alloc::Global;
 use vast::design::{Expression, Process, Statement};
 use vast::syntax::{Expr, Item, Stmt, Word};
@@ -20,23 +22,26 @@ use vast::syntax::{Expr, Item, Stmt, Word};
 const MOST_PROCESSES: usize = 256;
 
 // The number of a variable. E303 where there is none of that name.
-fn number_of(names: &Names<'_>, word: &Word<'_>) -> Result<u32, ElabFault>
+fn number_of(names: &Names<'_>, word: &Word<'_>) -> Result<u32, OrMemory<ElabFault>>
     requires { length names.now ≤ 1024 }
     ensures ok { IfOk result (λ n. n ≡ place_of names.now (word_text word.now)) }
     ensures declared { OnOk result (is_declared names.now (word_text word.now) ≡ true) }
-    ensures err { IfErr result (Because ⊥ (is_declared names.now (word_text word.now) ≡ false) ⊥ ⊥) }
+    ensures err { IfFault result (IsBreach (record no_breach { unknown = is_declared names.now (word_text word.now) ≡ false })) }
 {
     match names.place(word.text) {
         Some(place) => Ok(place as u32),
-        None => Err(ElabFault::Unknown { at: Some(word.at) }),
+        None => Err(OrMemory::Fault(ElabFault::Unknown { at: Some(word.at) })),
     }
 }
 
-fn expression_of(names: &Names<'_>, expression: &Expr<'_>) -> Result<Expression, ElabFault>
+fn expression_of(
+    names: &Names<'_>,
+    expression: &Expr<'_>,
+) -> Result<Expression, OrMemory<ElabFault>>
     requires { length names.now ≤ 1024 }
     ensures ok { IfOk result (λ e. e ≡ spec.expression_of names.now (expression_tree expression.now)) }
     ensures known { OnOk result (knows_expression names.now (expression_tree expression.now) ≡ true) }
-    ensures err { IfErr result (Because ⊥ (knows_expression names.now (expression_tree expression.now) ≡ false) ⊥ ⊥) }
+    ensures err { IfFault result (IsBreach (record no_breach { unknown = knows_expression names.now (expression_tree expression.now) ≡ false })) }
 {
     match expression {
         Expr::Number(word) => Ok(Expression::Constant(constant_of(word.text))),
@@ -48,9 +53,9 @@ fn expression_of(names: &Names<'_>, expression: &Expr<'_>) -> Result<Expression,
 }
 
 // One statement more.
-fn put(into: &mut Vec<Statement>, statement: Statement) -> Result<(), ElabFault>
+fn put(into: &mut Vec<Statement>, statement: Statement) -> Result<(), OrMemory<ElabFault>>
     ensures ok { OnOk result (into.new.items ≡ into.old.items ++ statement ∷ []) }
-    ensures err { IfErr result (Because ⊥ ⊥ ⊥ ⊥) }
+    ensures err { IfFault result (IsBreach no_breach) }
 {
     into.push(statement)?;
     Ok(())
@@ -63,11 +68,11 @@ fn put_actions(
     names: &Names<'_>,
     statement: &Stmt<'_>,
     into: &mut Vec<Statement>,
-) -> Result<(), ElabFault>
+) -> Result<(), OrMemory<ElabFault>>
     requires { length names.now ≤ 1024 }
     ensures ok { OnOk result (actions into.new.items ≡ join (actions into.old.items) (actions_of names.now (statement_tree statement.now))) }
     ensures known { OnOk result (knows names.now (statement_tree statement.now) ≡ true) }
-    ensures err { IfErr result (Because ⊥ (knows names.now (statement_tree statement.now) ≡ false) ⊥ ⊥) }
+    ensures err { IfFault result (IsBreach (record no_breach { unknown = knows names.now (statement_tree statement.now) ≡ false })) }
 {
     match statement {
         Stmt::Empty => Ok(()),
@@ -105,11 +110,11 @@ fn put_all_actions(
     names: &Names<'_>,
     statements: &[Stmt<'_>],
     into: &mut Vec<Statement>,
-) -> Result<(), ElabFault>
+) -> Result<(), OrMemory<ElabFault>>
     requires { length names.now ≤ 1024 }
     ensures ok { OnOk result (actions into.new.items ≡ join (actions into.old.items) (all_actions_of names.now (statement_trees statements.now))) }
     ensures known { OnOk result (knows_all names.now (statement_trees statements.now) ≡ true) }
-    ensures err { IfErr result (Because ⊥ (knows_all names.now (statement_trees statements.now) ≡ false) ⊥ ⊥) }
+    ensures err { IfFault result (IsBreach (record no_breach { unknown = knows_all names.now (statement_trees statements.now) ≡ false })) }
 {
     for statement in statements {
         put_actions(alloc, names, statement, into)?;
@@ -123,19 +128,19 @@ fn put_process(
     names: &Names<'_>,
     item: &Item<'_>,
     into: &mut Vec<Process>,
-) -> Result<(), ElabFault>
+) -> Result<(), OrMemory<ElabFault>>
     requires names { length names.now ≤ 1024 }
     requires few { length into.old.items ≤ 256 }
     ensures ok { OnOk result (map process_actions into.new.items ≡ map process_actions into.old.items ++ map (actions_of names.now) (initials_of (item_tree item.now))) }
     ensures few { OnOk result (length into.new.items ≤ 256) }
     ensures known { OnOk result (list_all (knows names.now) (initials_of (item_tree item.now)) ≡ true) }
-    ensures err { IfErr result (Because ⊥ (list_all (knows names.now) (initials_of (item_tree item.now)) ≡ false) ⊥ (256 < length into.old.items + length (initials_of (item_tree item.now)))) }
+    ensures err { IfFault result (IsBreach (record no_breach { unknown = list_all (knows names.now) (initials_of (item_tree item.now)) ≡ false; many = 256 < length into.old.items + length (initials_of (item_tree item.now)) })) }
 {
     match item {
         Item::Registers { .. } => Ok(()),
         Item::Initial(statement) => {
             if into.len() >= MOST_PROCESSES {
-                return Err(ElabFault::TooMany { at: None });
+                return Err(OrMemory::Fault(ElabFault::TooMany { at: None }));
             }
             let mut body = Vec::new(alloc);
             put_actions(alloc, names, statement, &mut body)?;
@@ -150,12 +155,12 @@ pub fn processes(
     alloc: Global,
     names: &Names<'_>,
     items: &[Item<'_>],
-) -> Result<Vec<Process>, ElabFault>
+) -> Result<Vec<Process>, OrMemory<ElabFault>>
     requires { length names.now ≤ 1024 }
     ensures ok { IfOk result (λ ps. map process_actions ps.items ≡ map (actions_of names.now) (filter_map statement_of (map item_tree items.now))) }
     ensures few { IfOk result (λ ps. length ps.items ≤ 256) }
     ensures known { OnOk result (list_all (knows names.now) (filter_map statement_of (map item_tree items.now)) ≡ true) }
-    ensures err { IfErr result (Because ⊥ (list_all (knows names.now) (filter_map statement_of (map item_tree items.now)) ≡ false) ⊥ (256 < length (filter_map statement_of (map item_tree items.now)))) }
+    ensures err { IfFault result (IsBreach (record no_breach { unknown = list_all (knows names.now) (filter_map statement_of (map item_tree items.now)) ≡ false; many = 256 < length (filter_map statement_of (map item_tree items.now)) })) }
 {
     let mut processes = Vec::new(alloc);
     for item in items {

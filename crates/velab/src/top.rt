@@ -1,21 +1,23 @@
 // The modules of a text, and which of them is the top (12.1.1).
-ghost use Rattle.std.specs.Prelude.{◌≡◌, true, false, map, option_map, IfErr, OnOk};
+ghost use Rattle.std.specs.Prelude.{◌≡◌, true, false, map, option_map, OnOk};
 ghost use Rattle.std.specs.List.{find};
 ghost use Rattle.std.specs.Str.{bytes_eq};
+ghost use Rattle.basis.specs.Reasons.{IfFault};
 ghost use Rattle.vast.specs.Trees.{module_tree};
 ghost use Rattle.velab.specs.Elaborate as spec;
 ghost use Rattle.velab.specs.Elaborate.{has_double, module_names};
-ghost use Rattle.velab.specs.Reasons.{Because};
+ghost use Rattle.velab.specs.Reasons.{IsBreach, no_breach};
 
 use crate::fault::ElabFault;
 use crate::names::Names;
+use basis::OrMemory;
 use std::alloc::Global;
 use vast::syntax::Module;
 
 /// E302 where two modules have one name.
-pub fn check_names(alloc: Global, modules: &[Module<'_>]) -> Result<(), ElabFault>
+pub fn check_names(alloc: Global, modules: &[Module<'_>]) -> Result<(), OrMemory<ElabFault>>
     ensures ok { OnOk result (has_double (module_names (map module_tree modules.now)) ≡ false) }
-    ensures err { IfErr result (Because (has_double (module_names (map module_tree modules.now)) ≡ true) ⊥ ⊥ ⊥) }
+    ensures err { IfFault result (IsBreach (record no_breach { doubled = has_double (module_names (map module_tree modules.now)) ≡ true })) }
 {
     let mut names = Names::new(alloc);
     for unit in modules {

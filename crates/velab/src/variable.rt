@@ -1,17 +1,19 @@
 // Variables: what a module declares by `reg` (4.2, 4.3).
-ghost use Rattle.std.specs.Prelude.{◌≡◌, ◌<◌, ◌≤◌, [], ◌++◌, ◌∷◌, ℕ, Some, None, true, false, length, map, option_map, IfOk, IfErr, IfSome, OnOk};
+ghost use Rattle.std.specs.Prelude.{◌≡◌, ◌<◌, ◌≤◌, [], ◌++◌, ◌∷◌, ℕ, Some, None, true, false, length, map, option_map, IfOk, IfSome, OnOk};
 ghost use Rattle.std.specs.List.{list_all, flat_map};
+ghost use Rattle.basis.specs.Reasons.{IfFault};
 ghost use Rattle.vbits.specs.Letters as letters;
 ghost use Rattle.vast.specs.DesignViews.{variable_view};
 ghost use Rattle.vast.specs.Trees.{word_text, range_tree, item_tree, module_tree};
 ghost use Rattle.velab.specs.Elaborate as spec;
 ghost use Rattle.velab.specs.Elaborate.{has_double, has_range, is_declared, is_range, variable_by, variable_of, declarations_of, declarations, declared_names, length_of};
-ghost use Rattle.velab.specs.Reasons.{Because};
+ghost use Rattle.velab.specs.Reasons.{IsBreach, no_breach};
 ghost use Rattle.velab.specs.Parts.{names_in, names_of};
 
 use crate::fault::ElabFault;
 use crate::names::Names;
 use crate::number::{WIDEST, constant_of};
+use basis::{NoMemory, OrMemory};
 use std::alloc::Global;
 use vast::design::{Bounds, Kind, Variable};
 use vast::syntax::{Item, Range, Word};
@@ -66,14 +68,14 @@ fn bound_in(value: Vec4) -> Option<u32>
 }
 
 // E306 where it isn't 0 to 65,535.
-fn bound_of(word: &Word<'_>) -> Result<u32, ElabFault>
+fn bound_of(word: &Word<'_>) -> Result<u32, OrMemory<ElabFault>>
     ensures ok { IfOk result (λ n. spec.bound_of (word_text word.now) ≡ Some n) }
     ensures within { IfOk result (λ n. n ≤ 65535) }
-    ensures err { IfErr result (Because ⊥ ⊥ (spec.bound_of (word_text word.now) ≡ None) ⊥) }
+    ensures err { IfFault result (IsBreach (record no_breach { width = spec.bound_of (word_text word.now) ≡ None })) }
 {
     match bound_in(constant_of(word.text).value) {
         Some(bound) => Ok(bound),
-        None => Err(ElabFault::Width { at: Some(word.at) }),
+        None => Err(OrMemory::Fault(ElabFault::Width { at: Some(word.at) })),
     }
 }
 
@@ -86,29 +88,29 @@ fn span(bounds: Bounds) -> u32
 }
 
 // E306 where a bound is none, or where they are more than 64 bits apart.
-fn bounds_of(range: &Range<'_>) -> Result<Bounds, ElabFault>
+fn bounds_of(range: &Range<'_>) -> Result<Bounds, OrMemory<ElabFault>>
     ensures ok { IfOk result (λ bounds. bounds ≡ spec.bounds_of (range_tree range.now)) }
     ensures range { OnOk result (is_range (Some (range_tree range.now)) ≡ true) }
     ensures few { IfOk result (λ bounds. spec.span bounds ≤ 64) }
-    ensures err { IfErr result (Because ⊥ ⊥ (is_range (Some (range_tree range.now)) ≡ false) ⊥) }
+    ensures err { IfFault result (IsBreach (record no_breach { width = is_range (Some (range_tree range.now)) ≡ false })) }
 {
     let left = bound_of(&range.left)?;
     let right = bound_of(&range.right)?;
     let bounds = Bounds { left, right };
     if span(bounds) > WIDEST {
-        return Err(ElabFault::Width {
+        return Err(OrMemory::Fault(ElabFault::Width {
             at: Some(range.left.at),
-        });
+        }));
     }
     Ok(bounds)
 }
 
 // The bounds of a declaration's range, where it has one.
-fn range_bounds(range: &Option<Range<'_>>) -> Result<Option<Bounds>, ElabFault>
+fn range_bounds(range: &Option<Range<'_>>) -> Result<Option<Bounds>, OrMemory<ElabFault>>
     ensures ok { IfOk result (λ bounds. bounds ≡ option_map spec.bounds_of (option_map range_tree range.now)) }
     ensures range { OnOk result (is_range (option_map range_tree range.now) ≡ true) }
     ensures few { IfOk result (λ bounds. length_of bounds ≤ 64) }
-    ensures err { IfErr result (Because ⊥ ⊥ (is_range (option_map range_tree range.now) ≡ false) ⊥) }
+    ensures err { IfFault result (IsBreach (record no_breach { width = is_range (option_map range_tree range.now) ≡ false })) }
 {
     match range {
         None => Ok(None),
@@ -130,9 +132,8 @@ fn length_of(bounds: Option<Bounds>) -> u32
 }
 
 // A scope's name, a dot and a variable's own.
-fn dotted(alloc: Global, scope: &[u8], name: &[u8]) -> Result<Vec<u8>, ElabFault>
-    ensures ok { IfOk result (λ text. text.items ≡ scope.now ++ 46 ∷ name.now) }
-    ensures err { IfErr result (Because ⊥ ⊥ ⊥ ⊥) }
+fn dotted(alloc: Global, scope: &[u8], name: &[u8]) -> Result<Vec<u8>, NoMemory>
+    ensures { IfOk result (λ text. text.items ≡ scope.now ++ 46 ∷ name.now) }
 {
     let mut text = Vec::from_slice(alloc, scope)?;
     text.push(b'.')?;
@@ -145,10 +146,9 @@ fn variable(
     scope: &[u8],
     bounds: Option<Bounds>,
     name: &[u8],
-) -> Result<Variable, ElabFault>
+) -> Result<Variable, NoMemory>
     requires { spec.length_of bounds ≤ 64 }
-    ensures ok { IfOk result (λ v. variable_view v ≡ variable_by scope.now bounds name.now) }
-    ensures err { IfErr result (Because ⊥ ⊥ ⊥ ⊥) }
+    ensures { IfOk result (λ v. variable_view v ≡ variable_by scope.now bounds name.now) }
 {
     let name = dotted(alloc, scope, name)?;
     Ok(Variable {
@@ -167,15 +167,15 @@ fn declare<'t>(
     bounds: Option<Bounds>,
     word: &Word<'t>,
     into: &mut Declarations<'t>,
-) -> Result<(), ElabFault>
+) -> Result<(), OrMemory<ElabFault>>
     requires { spec.length_of bounds ≤ 64 }
     ensures names { OnOk result (into.new.names ≡ into.old.names ++ word_text word.now ∷ []) }
     ensures variables { OnOk result (map variable_view into.new.variables.items ≡ map variable_view into.old.variables.items ++ variable_by scope.now bounds (word_text word.now) ∷ []) }
     ensures few { OnOk result (length into.new.names ≤ 1024) }
-    ensures err { IfErr result (Because (is_declared into.old.names (word_text word.now) ≡ true) ⊥ ⊥ (1024 ≤ length into.old.names)) }
+    ensures err { IfFault result (IsBreach (record no_breach { doubled = is_declared into.old.names (word_text word.now) ≡ true; many = 1024 ≤ length into.old.names })) }
 {
     if into.names.len() >= MOST_VARIABLES {
-        return Err(ElabFault::TooMany { at: Some(word.at) });
+        return Err(OrMemory::Fault(ElabFault::TooMany { at: Some(word.at) }));
     }
     into.names.add(word)?;
     let variable = variable(alloc, scope, bounds, word.text)?;
@@ -190,13 +190,13 @@ fn declare_all<'t>(
     bounds: Option<Bounds>,
     words: &[Word<'t>],
     into: &mut Declarations<'t>,
-) -> Result<(), ElabFault>
+) -> Result<(), OrMemory<ElabFault>>
     requires bits { spec.length_of bounds ≤ 64 }
     requires few { length into.old.names ≤ 1024 }
     ensures names { OnOk result (into.new.names ≡ into.old.names ++ map word_text words.now) }
     ensures variables { OnOk result (map variable_view into.new.variables.items ≡ map variable_view into.old.variables.items ++ map (variable_by scope.now bounds) (map word_text words.now)) }
     ensures few { OnOk result (length into.new.names ≤ 1024) }
-    ensures err { IfErr result (Because (has_double (into.old.names ++ map word_text words.now) ≡ true) ⊥ ⊥ (1024 < length (into.old.names ++ map word_text words.now))) }
+    ensures err { IfFault result (IsBreach (record no_breach { doubled = has_double (into.old.names ++ map word_text words.now) ≡ true; many = 1024 < length (into.old.names ++ map word_text words.now) })) }
 {
     for word in words {
         declare(alloc, scope, bounds, word, into)?;
@@ -210,13 +210,13 @@ fn declare_item<'t>(
     scope: &[u8],
     item: &Item<'t>,
     into: &mut Declarations<'t>,
-) -> Result<(), ElabFault>
+) -> Result<(), OrMemory<ElabFault>>
     requires { length into.old.names ≤ 1024 }
     ensures names { OnOk result (into.new.names ≡ into.old.names ++ names_of (item_tree item.now)) }
     ensures variables { OnOk result (map variable_view into.new.variables.items ≡ map variable_view into.old.variables.items ++ map (variable_of scope.now) (declarations_of (item_tree item.now))) }
     ensures few { OnOk result (length into.new.names ≤ 1024) }
     ensures range { OnOk result (has_range (item_tree item.now) ≡ true) }
-    ensures err { IfErr result (Because (has_double (into.old.names ++ names_of (item_tree item.now)) ≡ true) ⊥ (has_range (item_tree item.now) ≡ false) (1024 < length (into.old.names ++ names_of (item_tree item.now)))) }
+    ensures err { IfFault result (IsBreach (record no_breach { doubled = has_double (into.old.names ++ names_of (item_tree item.now)) ≡ true; width = has_range (item_tree item.now) ≡ false; many = 1024 < length (into.old.names ++ names_of (item_tree item.now)) })) }
 {
     match item {
         Item::Registers { range, names } => {
@@ -232,12 +232,12 @@ pub fn declare_items<'t>(
     alloc: Global,
     scope: &[u8],
     items: &[Item<'t>],
-) -> Result<Declarations<'t>, ElabFault>
+) -> Result<Declarations<'t>, OrMemory<ElabFault>>
     ensures names { IfOk result (λ d. d.names ≡ names_in (map item_tree items.now)) }
     ensures variables { IfOk result (λ d. map variable_view d.variables.items ≡ map (variable_of scope.now) (flat_map declarations_of (map item_tree items.now))) }
     ensures few { IfOk result (λ d. length d.names ≤ 1024) }
     ensures ranges { OnOk result (list_all has_range (map item_tree items.now) ≡ true) }
-    ensures err { IfErr result (Because (has_double (names_in (map item_tree items.now)) ≡ true) ⊥ (list_all has_range (map item_tree items.now) ≡ false) (1024 < length (names_in (map item_tree items.now)))) }
+    ensures err { IfFault result (IsBreach (record no_breach { doubled = has_double (names_in (map item_tree items.now)) ≡ true; width = list_all has_range (map item_tree items.now) ≡ false; many = 1024 < length (names_in (map item_tree items.now)) })) }
 {
     let mut declarations = Declarations {
         names: Names::new(alloc),

@@ -1,6 +1,6 @@
 -- One piece off the head of a text.
 use Rattle.std.proofs.Common.{◌≡◌, ℕ, zero, suc, ◌+◌, ◌<◌, ◌≤◌, ◌⊎◌, List, [], ◌∷◌, ◌++◌, None, Some, length, take, drop, map, refl, sym, ◌∙◌, ap, subst, arith, inl, inr, append_assoc, All}
-use Rattle.std.proofs.lemmas.List.{drop-drop, length-drop, append-nil, map-append}
+use Rattle.std.proofs.lemmas.List.{drop-drop, length-drop, length-append, append-nil, map-append}
 use Rattle.std.proofs.Math.ListN.{drop_of_length-le}
 use Rattle.std.proofs.lemmas.List.Elements.{All-nil, All-cons, All-push}
 use Rattle.vlex.specs.declared.form.Form.{Form}
@@ -75,6 +75,12 @@ pieces_grow : (text : List ℕ) (spans : List Span) (form : Form) (at len : ℕ)
 pieces_grow text spans Blank at len = map-append (piece_at text) spans []
 pieces_grow text spans Comment at len = map-append (piece_at text) spans []
 pieces_grow text spans (Token kind) at len = map-append (piece_at text) spans (record { start = at; len = len; kind = kind } ∷ [])
+
+-- a piece adds one span at most, and has a byte at least
+pub spans_grow : (spans : List Span) (form : Form) (at len : ℕ) → 0 < len → length (spans ++ spans_of form at len) ≤ length spans + len
+spans_grow spans Blank at len some = simp append-nil (omega arith)
+spans_grow spans Comment at len some = simp append-nil (omega arith)
+spans_grow spans (Token kind) at len some = simp length-append (omega arith)
 
 -- spans that end by one place end by a later one
 pub in_order_more : (from : ℕ) (spans : List Span) (at to : ℕ) → at ≤ to → AreInOrder from spans at → AreInOrder from spans to

@@ -7,7 +7,7 @@ use Rattle.vlex.specs.declared.form.Form.TheVariants.{Blank, Comment, Token}
 use Rattle.vlex.specs.declared.kind.Kind.{Kind}
 use Rattle.vlex.specs.declared.kind.Kind.TheVariants.{Name, System, Plain, Based, Text, Symbol}
 use Rattle.vlex.specs.declared.fault.LexFault.{LexFault}
-use Rattle.vlex.specs.declared.fault.LexFault.TheVariants.{NotEnded, BadToken, Memory}
+use Rattle.vlex.specs.declared.fault.LexFault.TheVariants.{NotEnded, BadToken}
 use Rattle.vlex.specs.Bytes.{is_in}
 use Rattle.vlex.specs.Forms.{form_of, ends_block, ends_string}
 
@@ -64,11 +64,9 @@ IsOpen (c ∷ d ∷ cs) =
 abbrev pub IsOnlyLexed : List ℕ → List Piece → Type 0
 IsOnlyLexed text pieces = (others : List Piece) → Lexed text others → others ≡ pieces
 
--- save for want of memory a fault says that no list of tokens is the text's
-abbrev pub HasNoTokens : List ℕ → LexFault → Type 0
-HasNoTokens text (NotEnded place) = (pieces : List Piece) → Lexed text pieces → ⊥
-HasNoTokens text (BadToken place) = (pieces : List Piece) → Lexed text pieces → ⊥
-HasNoTokens text Memory = Unit {0}
+-- no list of tokens is the text's
+abbrev pub HasNoTokens : List ℕ → Type 0
+HasNoTokens text = (pieces : List Piece) → Lexed text pieces → ⊥
 
 -- the pieces from the head of the text on go up to this place
 pub data Reaches (text : List ℕ) : ℕ → Type 0 where
@@ -82,7 +80,6 @@ pub record StopsAt (text : List ℕ) (at : ℕ) : Type 0 where
   pub stuck : IsStuck (drop at text)
 
 -- what each fault says of the text: where its pieces stop a comment or a string is open, or not
-abbrev pub IsReason : Source → LexFault → Type 0
-IsReason source (NotEnded place) = (at : ℕ) × (StopsAt source.text at × (place ≡ place_of source at) × IsOpen (drop at source.text))
-IsReason source (BadToken place) = (at : ℕ) × (StopsAt source.text at × (place ≡ place_of source at) × ¬ IsOpen (drop at source.text))
-IsReason source Memory = Unit {0}
+abbrev pub IsTokenReason : Source → LexFault → Type 0
+IsTokenReason source (NotEnded place) = (at : ℕ) × (StopsAt source.text at × (place ≡ place_of source at) × IsOpen (drop at source.text))
+IsTokenReason source (BadToken place) = (at : ℕ) × (StopsAt source.text at × (place ≡ place_of source at) × ¬ IsOpen (drop at source.text))

@@ -1,7 +1,7 @@
 -- A text with where its tokens stand in it.
 use Rattle.std.specs.Prelude.{ℕ, ◌+◌, ◌≤◌, List, [], ◌∷◌, length, take, drop, map, slice_get, unwrap_or, All}
 use Rattle.std.specs.Option.{option_map}
-use Rattle.vsrc.specs.Source.{Source}
+use Rattle.vsrc.specs.Source.{Source, text_limit}
 use Rattle.vlex.specs.declared.list.Span.{Span}
 use Rattle.vlex.specs.declared.form.Form.{Form}
 use Rattle.vlex.specs.declared.form.Form.TheVariants.{Blank, Comment, Token}
@@ -26,6 +26,11 @@ start_of t index = unwrap_or (option_map (λ span. span.start) (slice_get t.span
 -- each token ends within the text
 abbrev pub AreWithin : List ℕ → List Span → Type 0
 AreWithin text spans = All (λ span. span.start + span.len ≤ length text) spans
+
+-- what the tokens of a text keep: they stand within it, and are no more than a text may have bytes
+pub record AreKept (text : List ℕ) (spans : List Span) : Type 0 where
+  pub within : AreWithin text spans
+  pub few : length spans ≤ text_limit
 
 -- where the pieces before it end, the token of the span is the next piece
 pub record IsTokenAt (text : List ℕ) (span : Span) : Type 0 where

@@ -1,3 +1,5 @@
+// Sets of bytes, and how far a run of them goes.
+
 ghost use Rattle.std.specs.Prelude.{◌≡◌, ◌≤◌, true, length, slice_index};
 ghost use Rattle.std.specs.List.{prefix_len};
 ghost use Rattle.vlex.specs.Bytes.{is_digit, is_letter, is_unknown, is_mark, is_in, lead_of};

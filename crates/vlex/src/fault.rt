@@ -1,7 +1,5 @@
-ghost use Rattle.std.specs.Prelude.{◌≡◌};
-ghost use Rattle.vlex.specs.declared.fault.LexFault.TheVariants.{Memory};
+// What a text is refused for, as it is cut into tokens.
 
-use std::alloc::{AllocError, AllocFailed};
 use vsrc::Place;
 
 /// Why a text has no tokens. The place is that of the first byte at which no token stands.
@@ -11,22 +9,4 @@ pub enum LexFault {
     NotEnded { place: Place },
     /// E102: a bad character, number or escape.
     BadToken { place: Place },
-    /// E901: a growth was refused.
-    Memory,
-}
-
-impl From<AllocError> for LexFault {
-    ghost from_gives = { λ _ e. e ≡ Memory };
-
-    fn from(_error: AllocError) -> LexFault {
-        LexFault::Memory
-    }
-}
-
-impl<T: Drop> From<AllocFailed<T>> for LexFault {
-    ghost from_gives = { λ _ e. e ≡ Memory };
-
-    fn from(_error: AllocFailed<T>) -> LexFault {
-        LexFault::Memory
-    }
 }

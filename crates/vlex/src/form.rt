@@ -1,3 +1,5 @@
+// The forms of pieces, and what stands at the head of a text.
+
 use crate::kind::Kind;
 
 /// What the bytes of a piece of the text are.

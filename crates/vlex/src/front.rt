@@ -1,3 +1,5 @@
+// The piece at the head of a text, told by its first byte.
+
 ghost use Rattle.std.specs.Prelude.{◌≡◌, ◌∷◌, ◌<◌, length};
 ghost use Rattle.vlex.specs.Bytes.{lead_of};
 ghost use Rattle.vlex.specs.Forms.{is_double, is_triple};

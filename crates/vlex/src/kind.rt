@@ -1,3 +1,5 @@
+// The kinds of tokens.
+
 /// The kinds of tokens, IEEE 1364-2005, clause 3. A reserved word is a `Name` here.
 #[derive(Clone, Copy, Debug, PartialEq, Eq)]
 pub enum Kind {

@@ -1,25 +1,30 @@
-ghost use Rattle.std.specs.Prelude.{◌≡◌, ◌+◌, ◌++◌, ◌≤◌, length, All, IfOk, IfErr, OnOk};
-ghost use Rattle.vlex.specs.Lexed.{Lexed, IsOnlyLexed, IsReason, HasNoTokens};
+// Text to tokens, piece by piece.
+
+ghost use Rattle.std.specs.Prelude.{◌≡◌, ◌+◌, ◌++◌, ◌≤◌, length, All, IfOk, OnOk};
+ghost use Rattle.basis.specs.Reasons.{IfFault};
+ghost use Rattle.vsrc.specs.Source.{text_limit};
+ghost use Rattle.vlex.specs.Lexed.{Lexed, IsOnlyLexed, IsTokenReason, HasNoTokens};
 ghost use Rattle.vlex.specs.Tokenized.{pieces_of, spans_of, AreInOrder, IsTokenAt};
 
 use crate::fault::LexFault;
 use crate::form::{Form, Front};
 use crate::front::front;
 use crate::list::{Span, Tokens};
-use std::alloc::{AllocError, Global};
+use basis::{NoMemory, OrMemory};
+use std::alloc::Global;
 use vsrc::Expanded;
 
 /// The tokens of the text: the one list that meets `Lexed`. E101 where a comment or a string isn't
 /// ended and E102 where no token stands, each only where no list meets it; E901 where a growth was
 /// refused.
-pub fn tokens<'a>(alloc: Global, source: &'a Expanded) -> Result<Tokens<'a>, LexFault>
+pub fn tokens<'a>(alloc: Global, source: &'a Expanded) -> Result<Tokens<'a>, OrMemory<LexFault>>
     ensures source { IfOk result (λ tokens. tokens.source ≡ source.now) }
     ensures lexed { IfOk result (λ tokens. Lexed source.now.text (pieces_of tokens)) }
     ensures stands { IfOk result (λ tokens. All (IsTokenAt source.now.text) tokens.spans) }
     ensures order { IfOk result (λ tokens. AreInOrder 0 tokens.spans (length source.now.text)) }
     ensures only { IfOk result (λ tokens. IsOnlyLexed source.now.text (pieces_of tokens)) }
-    ensures none { IfErr result (λ fault. HasNoTokens source.now.text fault) }
-    ensures reason { IfErr result (λ fault. IsReason source.now fault) }
+    ensures none { IfFault result (λ fault. HasNoTokens source.now.text) }
+    ensures reason { IfFault result (λ fault. IsTokenReason source.now fault) }
 {
     let text = source.text();
     let mut spans = Vec::new(alloc);
@@ -31,14 +36,14 @@ pub fn tokens<'a>(alloc: Global, source: &'a Expanded) -> Result<Tokens<'a>, Lex
                 at += len;
             }
             Front::NotEnded => {
-                return Err(LexFault::NotEnded {
+                return Err(OrMemory::Fault(LexFault::NotEnded {
                     place: source.place(at),
-                });
+                }));
             }
             Front::Bad => {
-                return Err(LexFault::BadToken {
+                return Err(OrMemory::Fault(LexFault::BadToken {
                     place: source.place(at),
-                });
+                }));
             }
         }
     }
@@ -46,8 +51,8 @@ pub fn tokens<'a>(alloc: Global, source: &'a Expanded) -> Result<Tokens<'a>, Lex
 }
 
 // Adds the piece, if it is a token.
-fn push_piece(spans: &mut Vec<Span>, form: Form, at: usize, len: usize) -> Result<(), AllocError>
-    requires { at + len ≤ 33554432 }
+fn push_piece(spans: &mut Vec<Span>, form: Form, at: usize, len: usize) -> Result<(), NoMemory>
+    requires { at + len ≤ text_limit }
     ensures { OnOk result (spans.new.items ≡ spans.old.items ++ spans_of form at len) }
 {
     match form {

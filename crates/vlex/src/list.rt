@@ -1,3 +1,5 @@
+// The tokens of a text: where each stands in it.
+
 ghost use Rattle.std.specs.Prelude.{◌≡◌, ◌<◌, ◌≤◌, length, slice_get, Some};
 ghost use Rattle.std.specs.Option.{option_map};
 
@@ -21,29 +23,30 @@ pub struct Tokens<'a> {
 }
 
 impl<'a> Model for Tokens<'a> {
-    ghost use Rattle.vlex.specs.Tokenized.{Tokenized, AreWithin};
+    ghost use Rattle.vlex.specs.Tokenized.{Tokenized, AreKept};
 
     ghost Value = { Tokenized };
 
     ghost view = { λ t. record { source = t.source.now; spans = t.spans.items } };
 
-    ghost invariant = { λ t. AreWithin t.source.now.text t.spans.items };
+    ghost invariant = { λ t. AreKept t.source.now.text t.spans.items };
 }
 
 impl<'a> Tokens<'a> {
-    ghost use Rattle.vlex.specs.Tokenized.{pieces_of, start_of, AreWithin};
-    ghost use Rattle.vsrc.specs.Source.{place_of};
+    ghost use Rattle.vlex.specs.Tokenized.{pieces_of, start_of, AreKept};
+    ghost use Rattle.vsrc.specs.Source.{place_of, text_limit};
 
     pub(crate) fn new(source: &'a Expanded, spans: Vec<Span>) -> Tokens<'a>
-        requires { AreWithin source.now.text spans.items }
+        requires { AreKept source.now.text spans.items }
         ensures { result ≡ record { source = source.now; spans = spans.items } }
     {
         Tokens { source, spans }
     }
 
-    /// How many tokens there are.
+    /// How many tokens there are, at most as many as a text may have bytes.
     pub fn len(&self) -> usize
-        ensures { result ≡ length (pieces_of self.now) }
+        ensures value { result ≡ length (pieces_of self.now) }
+        ensures few { result ≤ text_limit }
     {
         self.spans.len()
     }

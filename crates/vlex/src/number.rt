@@ -1,3 +1,5 @@
+// Numbers (IEEE 1364-2005, 3.5.1).
+
 ghost use Rattle.std.specs.Prelude.{◌≡◌, ◌∷◌, ◌++◌, ◌≤◌, ◌==◌, ◌||◌, ◌+◌, ◌*◌, true, not, min, length, slice_index, ◌<◌, ◌^◌};
 ghost use Rattle.std.specs.List.{list_all};
 ghost use Rattle.vlex.specs.Bytes.{is_digit, is_in, lead_of};

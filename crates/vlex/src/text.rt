@@ -1,3 +1,5 @@
+// Strings (IEEE 1364-2005, 3.6) and comments (3.3).
+
 ghost use Rattle.std.specs.Prelude.{◌≡◌, ◌∷◌, ◌≤◌, ◌<◌, ◌==◌, ◌&&◌, ◌||◌, not, ◌-◌, length, drop, take, slice_index, ℕ};
 ghost use Rattle.vlex.specs.Forms.{ends_block, ends_string, has_good_escapes};
 ghost use Rattle.vlex.specs.Fronts.{FindsOnly, IsAnswer};

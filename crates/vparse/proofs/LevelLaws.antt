@@ -8,12 +8,15 @@ use Rattle.vast.specs.Derives.{spell_statement, spell_item, spell_module, fits_i
 use Rattle.vast.specs.Depth.{fits_within}
 use Rattle.vparse.specs.declared.lead.Lead.{Lead}
 use Rattle.vparse.specs.declared.lead.Lead.TheVariants as lead
+use Rattle.basis.specs.declared.memory.OrMemory.{OrMemory}
+use Rattle.basis.specs.Reasons.{Because}
 use Rattle.vparse.specs.declared.stop.Stop.{Stop}
+use Rattle.vparse.specs.declared.stop.Stop.TheVariants.{TooDeep}
 use Rattle.vparse.specs.Answers.{Deepens}
 use Rattle.vparse.specs.Levels.{opens, openings, Opens}
 use Rattle.vparse.specs.Readers.{Reader, Reads, take_word}
 use Rattle.vparse.specs.Reading.{lead_of, statement, item, unit}
-use Rattle.vparse.proofs.ReaderLaws.{word_taken}
+use Rattle.vparse.proofs.ReaderLaws.{because, word_taken}
 use Rattle.vparse.proofs.ReadingLaws.{statement_reads}
 use Rattle.vparse.proofs.SourceLaws.{item_reads, unit_reads}
 
@@ -108,11 +111,15 @@ lead_opens word e =
     round_opens (is_name word) (bytes_eq (codes ";") word) (bytes_eq (codes "begin") word) (bytes_eq (codes "#") word) (bytes_eq (codes "$dumpvars") word) (bytes_eq (codes "$finish") word) e
 
 -- the same of a reader that stops
-pub deepens_on : {T : Type 0} (levels : ℕ) (words middle left : List Text) (r : Result T Stop) → Opens 0 words middle → Deepens levels middle left r → Deepens levels words left r
-deepens_on levels words middle left (Ok value) o d = tt
-deepens_on levels words middle left (Err stop) o d = λ e. opens_on levels words middle left o (d e)
+pub stop_on : (levels : ℕ) (words middle left : List Text) (e : OrMemory Stop) → Opens 0 words middle →
+    Because (λ stop. stop ≡ TooDeep → Opens levels middle left) e → Because (λ stop. stop ≡ TooDeep → Opens levels words left) e
+stop_on levels words middle left e o d = because (λ stop deep h. opens_on levels words middle left o (deep h)) e d
 
-pub deepens_more : {T : Type 0} (below : ℕ) (words : List Text) (word : Text) (left : List Text) (r : Result T Stop) → opens word ≡ true → words ≡ word ∷ drop 1 words →
+pub deepens_on : {T : Type 0} (levels : ℕ) (words middle left : List Text) (r : Result T (OrMemory Stop)) → Opens 0 words middle → Deepens levels middle left r → Deepens levels words left r
+deepens_on levels words middle left (Ok value) o d = tt
+deepens_on levels words middle left (Err e) o d = stop_on levels words middle left e o d
+
+pub deepens_more : {T : Type 0} (below : ℕ) (words : List Text) (word : Text) (left : List Text) (r : Result T (OrMemory Stop)) → opens word ≡ true → words ≡ word ∷ drop 1 words →
     Deepens (below - 1) (drop 1 words) left r → Deepens below words left r
 deepens_more below words word left (Ok value) opened e d = tt
-deepens_more below words word left (Err stop) opened e d = λ deep. opens_more below words word left opened e (d deep)
+deepens_more below words word left (Err f) opened e d = because (λ stop deep h. opens_more below words word left opened e (deep h)) f d

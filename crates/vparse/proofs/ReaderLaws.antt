@@ -4,6 +4,9 @@ use Rattle.std.specs.List.{list_all}
 use Rattle.std.specs.Str.{bytes_eq}
 use Rattle.std.proofs.lemmas.Bool.{cases_Bool}
 use Rattle.std.proofs.lemmas.Slice.Eq.{bytes_eq-Decides}
+use Rattle.basis.specs.declared.memory.OrMemory.{OrMemory}
+use Rattle.basis.specs.declared.memory.OrMemory.TheVariants.{Fault, Memory}
+use Rattle.basis.specs.Reasons.{Because}
 use Rattle.vast.specs.Syntax.{Text}
 use Rattle.vparse.specs.Readers.{Reader, Reads, and_then, take_word, symbol, many}
 
@@ -81,6 +84,11 @@ symbol_taken text words word rest e =
 
 pub symbol_takes : (text : Text) (rest : List Text) → symbol text (text ∷ rest) ≡ Some (text, rest)
 symbol_takes text rest = word_takes (bytes_eq text) text rest (text_same text)
+
+-- a fault has a reason where it has one that is enough for it
+pub because : {F : Type 0} {P Q : F → Type 0} → ((f : F) → P f → Q f) → (e : OrMemory F) → Because P e → Because Q e
+because enough (Fault f) p = enough f p
+because enough (Memory m) p = tt
 
 -- one after another
 

@@ -1,15 +1,17 @@
 -- How a statement is read, level by level, and the tree of a block that was read.
-use Rattle.std.proofs.Common.{◌≡◌, ◌≢◌, ℕ, zero, suc, ◌-◌, List, [], ◌∷◌, Some, None, Result, Ok, Err, Vec, Global, map, codes, refl, sym, ap, ◌∙◌, arith}
-use Rattle.vast.specs.Syntax.{Text, StatementTree, first, block}
+use Rattle.std.proofs.Common.{◌≡◌, ◌≢◌, ℕ, zero, suc, ◌-◌, true, false, List, [], ◌∷◌, Some, None, Result, Ok, Err, Vec, Global, map, codes, refl, sym, ap, ◌∙◌, arith}
+use Rattle.std.specs.Str.{bytes_eq}
+use Rattle.vast.specs.Syntax.{Text, StatementTree, first, block, assign, nonblocking}
 use Rattle.vast.specs.declared.syntax.Stmt.{Stmt, Block}
 use Rattle.vast.specs.Trees.{statement_tree, statement_trees}
 use Rattle.vast.proofs.TreeLemmas.{tree_of_block}
+use Rattle.basis.specs.declared.memory.OrMemory.{OrMemory}
 use Rattle.vparse.specs.declared.stop.Stop.{Stop}
 use Rattle.vparse.specs.Readers.{Reader, symbol, begins, until, and_then}
-use Rattle.vparse.specs.Reading.{block_of, led, statement}
+use Rattle.vparse.specs.Reading.{assignment, block_of, led, statement, value}
 use Rattle.vparse.specs.Trees.{trees_of}
 use Rattle.vparse.specs.Answers.{Answers}
-use Rattle.vparse.proofs.ReaderLaws.{then_is}
+use Rattle.vparse.proofs.ReaderLaws.{because, chosen, passed_over, then_is}
 
 -- no statement stands within no level
 pub none_at_zero : (levels : ℕ) (words : List Text) → levels ≡ 0 → statement levels words ≡ None
@@ -26,10 +28,20 @@ level_lower (suc below) words positive = ap (λ n. led n (statement n) words) (l
     lower n = omega arith
 
 -- readers that read the same of the words are answered alike
-pub answers_alike : {A T : Type 0} (read other : Reader A) (view : T → A) (words left : List Text) (r : Result T Stop) → read words ≡ other words →
+pub answers_alike : {A T : Type 0} (read other : Reader A) (view : T → A) (words left : List Text) (r : Result T (OrMemory Stop)) → read words ≡ other words →
     Answers read view words left r → Answers other view words left r
 answers_alike read other view words left (Ok value) same a = sym same ∙ a
-answers_alike read other view words left (Err stop) same a = λ kept. sym same ∙ a kept
+answers_alike read other view words left (Err e) same a = because (λ stop none. sym same ∙ none) e a
+
+-- what doesn't give an assignment its value leaves it unread
+pub blocking_none : (target sign : Text) (words left : List Text) → words ≡ sign ∷ left → bytes_eq (codes "=") sign ≡ true →
+    value (assign target) left ≡ None → assignment target words ≡ None
+blocking_none target sign words left e is none = ap (assignment target) e ∙ chosen (bytes_eq (codes "=") sign) _ _ is ∙ none
+
+pub nonblocking_none : (target sign : Text) (words left : List Text) → words ≡ sign ∷ left → bytes_eq (codes "=") sign ≡ false →
+    bytes_eq (codes "<=") sign ≡ true → value (nonblocking target) left ≡ None → assignment target words ≡ None
+nonblocking_none target sign words left e other is none =
+    ap (assignment target) e ∙ passed_over (bytes_eq (codes "=") sign) _ _ other ∙ chosen (bytes_eq (codes "<=") sign) _ _ is ∙ none
 
 trees_same : (statements : List Stmt) → trees_of (map statement_tree statements) ≡ statement_trees statements
 trees_same [] = refl

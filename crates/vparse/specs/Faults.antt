@@ -6,7 +6,7 @@ use Rattle.vlex.specs.Tokenized.{Tokenized, start_of}
 use Rattle.vast.specs.Syntax.{Text, SourceTree}
 use Rattle.vast.specs.Derives.{Derives}
 use Rattle.vparse.specs.declared.fault.SyntaxFault.{SyntaxFault}
-use Rattle.vparse.specs.declared.fault.SyntaxFault.TheVariants.{NoTree, Outside, TooDeep, Memory}
+use Rattle.vparse.specs.declared.fault.SyntaxFault.TheVariants.{NoTree, Outside, TooDeep}
 use Rattle.vparse.specs.Levels.{openings}
 use Rattle.vparse.specs.Profile.{is_outside}
 use Rattle.vparse.specs.Words.{words_of}
@@ -14,13 +14,6 @@ use Rattle.vparse.specs.Words.{words_of}
 -- a tree is the words' only one
 abbrev pub IsOnlyTree : List Text → SourceTree → Type 0
 IsOnlyTree words tree = (other : SourceTree) → Derives words other → other ≡ tree
-
--- save for want of memory a fault says that no tree derives the words
-abbrev pub HasNoTree : List Text → SyntaxFault → Type 0
-HasNoTree words (NoTree place) = (tree : SourceTree) → Derives words tree → ⊥
-HasNoTree words (Outside place) = (tree : SourceTree) → Derives words tree → ⊥
-HasNoTree words (TooDeep place) = (tree : SourceTree) → Derives words tree → ⊥
-HasNoTree words Memory = Unit {0}
 
 -- whether a word stands outside the profile, where there is one
 abbrev pub is_any_outside : Option Text → Bool
@@ -35,14 +28,13 @@ pub record StandsAt (tokens : Tokenized) (place : Place) (outside : Bool) : Type
   pub placed : place ≡ place_of tokens.source (start_of tokens index)
   pub judged : is_any_outside (slice_get (words_of tokens) index) ≡ outside
 
--- It stands inside the profile, and behind words that open 63 levels at least (docs/LANGUAGE.md, "Depth").
+-- It stands inside the profile, and behind 63 words `begin` or `#` at least (docs/LANGUAGE.md, "Depth").
 pub record StandsDeep (tokens : Tokenized) (place : Place) : Type 0 where
   pub stands : StandsAt tokens place false
   pub deep : 63 ≤ openings (take stands.index (words_of tokens))
 
 -- E202 comes at a token whose word stands outside the profile, the others only elsewhere, and E203 only so deep
-abbrev pub IsReason : Tokenized → SyntaxFault → Type 0
-IsReason tokens (NoTree place) = StandsAt tokens place false
-IsReason tokens (Outside place) = StandsAt tokens place true
-IsReason tokens (TooDeep place) = StandsDeep tokens place
-IsReason tokens Memory = Unit {0}
+abbrev pub IsSyntaxReason : Tokenized → SyntaxFault → Type 0
+IsSyntaxReason tokens (NoTree place) = StandsAt tokens place false
+IsSyntaxReason tokens (Outside place) = StandsAt tokens place true
+IsSyntaxReason tokens (TooDeep place) = StandsDeep tokens place

@@ -11,6 +11,7 @@ ghost use Rattle.vparse.specs.Answers.{Answers, IsFlat};
 
 use crate::lead::is;
 use crate::stop::Stop;
+use basis::OrMemory;
 use std::marker::Model;
 use vast::syntax::Word;
 use vast::words::{is_name, is_number};
@@ -21,10 +22,11 @@ use vlex::Tokens;
 pub struct Cursor<'c, 'a> {
     tokens: &'c Tokens<'a>,
     at: u32,
+    end: u32,
 }
 
 impl<'c, 'a> Model for Cursor<'c, 'a> {
-    ghost use Rattle.std.specs.Prelude.{List, ◌<◌, ◌^◌, length, drop};
+    ghost use Rattle.std.specs.Prelude.{◌≡◌, List, length, drop};
     ghost use Rattle.vast.specs.Syntax.{Text};
     ghost use Rattle.vlex.specs.Tokenized.{pieces_of};
     ghost use Rattle.vparse.specs.Words.{words_of};
@@ -33,33 +35,35 @@ impl<'c, 'a> Model for Cursor<'c, 'a> {
 
     ghost view = { λ c. drop c.at (words_of c.tokens.now) };
 
-    ghost invariant = { λ c. length (pieces_of c.tokens.now) < 2 ^ 32 };
+    ghost invariant = { λ c. c.end ≡ length (pieces_of c.tokens.now) };
 }
 
 impl<'c, 'a> Cursor<'c, 'a> {
     /// The place before the first token.
     pub fn new(tokens: &'c Tokens<'a>) -> Cursor<'c, 'a>
-        requires { length (pieces_of tokens.now) < 2 ^ 32 }
         ensures { result ≡ words_of tokens.now }
     {
-        Cursor { tokens, at: 0 }
+        Cursor {
+            tokens,
+            at: 0,
+            end: tokens.len() as u32,
+        }
     }
 
     /// How many words are left.
     pub fn left(&self) -> usize
         ensures { result ≡ length self.now }
     {
-        self.tokens.len().saturating_sub(self.at as usize)
+        self.end.saturating_sub(self.at) as usize
     }
 
     /// The word here, if there is one.
     pub fn word(&self) -> Option<Word<'a>>
         ensures { MatchOption result (self.now ≡ []) (λ word. self.now ≡ word_text word ∷ drop 1 self.now) }
     {
-        let at = self.at as usize;
-        if at < self.tokens.len() {
+        if self.at < self.end {
             Some(Word {
-                text: self.tokens.text(at),
+                text: self.tokens.text(self.at as usize),
                 at: self.at,
             })
         } else {
@@ -96,54 +100,54 @@ impl<'c, 'a> Cursor<'c, 'a> {
     }
 
     /// Reads this very word.
-    pub fn symbol(&mut self, text: &[u8]) -> Result<Word<'a>, Stop>
+    pub fn symbol(&mut self, text: &[u8]) -> Result<Word<'a>, OrMemory<Stop>>
         ensures reads { Answers (symbol text.now) word_text self.old self.new result }
         ensures flat { IsFlat result }
     {
         match self.word() {
-            None => Err(Stop::NoTree),
+            None => Err(OrMemory::Fault(Stop::NoTree)),
             Some(word) => {
                 if is(word.text, text) {
                     self.pass();
                     Ok(word)
                 } else {
-                    Err(Stop::NoTree)
+                    Err(OrMemory::Fault(Stop::NoTree))
                 }
             }
         }
     }
 
     /// Reads a name (3.7).
-    pub fn name(&mut self) -> Result<Word<'a>, Stop>
+    pub fn name(&mut self) -> Result<Word<'a>, OrMemory<Stop>>
         ensures reads { Answers (take_word is_name_text) word_text self.old self.new result }
         ensures flat { IsFlat result }
     {
         match self.word() {
-            None => Err(Stop::NoTree),
+            None => Err(OrMemory::Fault(Stop::NoTree)),
             Some(word) => {
                 if is_name(word.text) {
                     self.pass();
                     Ok(word)
                 } else {
-                    Err(Stop::NoTree)
+                    Err(OrMemory::Fault(Stop::NoTree))
                 }
             }
         }
     }
 
     /// Reads a number (3.5.1).
-    pub fn number(&mut self) -> Result<Word<'a>, Stop>
+    pub fn number(&mut self) -> Result<Word<'a>, OrMemory<Stop>>
         ensures reads { Answers (take_word is_number_text) word_text self.old self.new result }
         ensures flat { IsFlat result }
     {
         match self.word() {
-            None => Err(Stop::NoTree),
+            None => Err(OrMemory::Fault(Stop::NoTree)),
             Some(word) => {
                 if is_number(word.text) {
                     self.pass();
                     Ok(word)
                 } else {
-                    Err(Stop::NoTree)
+                    Err(OrMemory::Fault(Stop::NoTree))
                 }
             }
         }

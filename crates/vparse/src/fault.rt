@@ -1,9 +1,5 @@
-// Why a text has no tree, and why a reader of it stops.
+// Why a text has no tree.
 
-ghost use Rattle.std.specs.Prelude.{◌≡◌};
-ghost use Rattle.vparse.specs.declared.fault.SyntaxFault.TheVariants.{Memory};
-
-use std::alloc::{AllocError, AllocFailed};
 use vsrc::Place;
 
 /// Why there is no tree. The place is that of the first token at which reading stops, or of the text's end.
@@ -15,22 +11,4 @@ pub enum SyntaxFault {
     Outside { place: Place },
     /// E203: statements and expressions nest deeper than 64.
     TooDeep { place: Place },
-    /// E901: a growth was refused.
-    Memory,
-}
-
-impl From<AllocError> for SyntaxFault {
-    ghost from_gives = { λ _ e. e ≡ Memory };
-
-    fn from(_error: AllocError) -> SyntaxFault {
-        SyntaxFault::Memory
-    }
-}
-
-impl<T: Drop> From<AllocFailed<T>> for SyntaxFault {
-    ghost from_gives = { λ _ e. e ≡ Memory };
-
-    fn from(_error: AllocFailed<T>) -> SyntaxFault {
-        SyntaxFault::Memory
-    }
 }

@@ -10,12 +10,13 @@ use crate::cursor::Cursor;
 use crate::lead::is;
 use crate::statements::statement;
 use crate::stop::Stop;
+use basis::OrMemory;
 use std::alloc::Global;
 use vast::fitting::DEPTH;
 use vast::syntax::{Item, Range, Word};
 
 // `[left:right]` (4.3.1)
-fn bounds<'a>(cursor: &mut Cursor<'_, 'a>) -> Result<Range<'a>, Stop>
+fn bounds<'a>(cursor: &mut Cursor<'_, 'a>) -> Result<Range<'a>, OrMemory<Stop>>
     ensures reads { Answers bounds (λ range. Some (range_tree range)) cursor.old cursor.new result }
     ensures flat { IsFlat result }
 {
@@ -28,7 +29,7 @@ fn bounds<'a>(cursor: &mut Cursor<'_, 'a>) -> Result<Range<'a>, Stop>
 }
 
 // The range, where one stands.
-fn range<'a>(cursor: &mut Cursor<'_, 'a>) -> Result<Option<Range<'a>>, Stop>
+fn range<'a>(cursor: &mut Cursor<'_, 'a>) -> Result<Option<Range<'a>>, OrMemory<Stop>>
     ensures reads { Answers range (λ range. option_map range_tree range) cursor.old cursor.new result }
     ensures flat { IsFlat result }
 {
@@ -41,7 +42,7 @@ fn range<'a>(cursor: &mut Cursor<'_, 'a>) -> Result<Option<Range<'a>>, Stop>
 }
 
 // A comma and a name.
-fn more_name<'a>(cursor: &mut Cursor<'_, 'a>) -> Result<Word<'a>, Stop>
+fn more_name<'a>(cursor: &mut Cursor<'_, 'a>) -> Result<Word<'a>, OrMemory<Stop>>
     ensures reads { Answers more_name word_text cursor.old cursor.new result }
     ensures flat { IsFlat result }
 {
@@ -50,7 +51,7 @@ fn more_name<'a>(cursor: &mut Cursor<'_, 'a>) -> Result<Word<'a>, Stop>
 }
 
 // Names with commas between them, at least one.
-fn names<'a>(alloc: Global, cursor: &mut Cursor<'_, 'a>) -> Result<Vec<Word<'a>>, Stop>
+fn names<'a>(alloc: Global, cursor: &mut Cursor<'_, 'a>) -> Result<Vec<Word<'a>>, OrMemory<Stop>>
     ensures reads { Answers names (λ names. map word_text names.items) cursor.old cursor.new result }
     ensures flat { IsFlat result }
 {
@@ -65,7 +66,7 @@ fn names<'a>(alloc: Global, cursor: &mut Cursor<'_, 'a>) -> Result<Vec<Word<'a>>
 }
 
 // What follows `reg` (4.2).
-fn registers<'a>(alloc: Global, cursor: &mut Cursor<'_, 'a>) -> Result<Item<'a>, Stop>
+fn registers<'a>(alloc: Global, cursor: &mut Cursor<'_, 'a>) -> Result<Item<'a>, OrMemory<Stop>>
     ensures reads { Answers registers_of item_tree cursor.old cursor.new result }
     ensures flat { IsFlat result }
 {
@@ -76,7 +77,7 @@ fn registers<'a>(alloc: Global, cursor: &mut Cursor<'_, 'a>) -> Result<Item<'a>,
 }
 
 // What follows `initial` (9.9.1).
-fn initial<'a>(alloc: Global, cursor: &mut Cursor<'_, 'a>) -> Result<Item<'a>, Stop>
+fn initial<'a>(alloc: Global, cursor: &mut Cursor<'_, 'a>) -> Result<Item<'a>, OrMemory<Stop>>
     ensures reads { Answers initial_of item_tree cursor.old cursor.new result }
     ensures deepens { Deepens 63 cursor.old cursor.new result }
 {
@@ -85,12 +86,12 @@ fn initial<'a>(alloc: Global, cursor: &mut Cursor<'_, 'a>) -> Result<Item<'a>, S
 }
 
 // An item, by its first word.
-fn item<'a>(alloc: Global, cursor: &mut Cursor<'_, 'a>) -> Result<Item<'a>, Stop>
+fn item<'a>(alloc: Global, cursor: &mut Cursor<'_, 'a>) -> Result<Item<'a>, OrMemory<Stop>>
     ensures reads { Answers item item_tree cursor.old cursor.new result }
     ensures deepens { Deepens 63 cursor.old cursor.new result }
 {
     match cursor.word() {
-        None => Err(Stop::NoTree),
+        None => Err(OrMemory::Fault(Stop::NoTree)),
         Some(word) => {
             if is(word.text, b"reg") {
                 cursor.pass();
@@ -99,14 +100,17 @@ fn item<'a>(alloc: Global, cursor: &mut Cursor<'_, 'a>) -> Result<Item<'a>, Stop
                 cursor.pass();
                 initial(alloc, cursor)
             } else {
-                Err(Stop::NoTree)
+                Err(OrMemory::Fault(Stop::NoTree))
             }
         }
     }
 }
 
 /// Items up to `endmodule` (A.1.4).
-pub fn items<'a>(alloc: Global, cursor: &mut Cursor<'_, 'a>) -> Result<Vec<Item<'a>>, Stop>
+pub fn items<'a>(
+    alloc: Global,
+    cursor: &mut Cursor<'_, 'a>,
+) -> Result<Vec<Item<'a>>, OrMemory<Stop>>
     ensures reads { Answers (until item (begins (codes "endmodule"))) (λ found. map item_tree found.items) cursor.old cursor.new result }
     ensures deepens { Deepens 63 cursor.old cursor.new result }
 {

@@ -8,11 +8,12 @@ ghost use Rattle.vparse.specs.Answers.{Answers, Deepens};
 use crate::cursor::Cursor;
 use crate::items::items;
 use crate::stop::Stop;
+use basis::OrMemory;
 use std::alloc::Global;
 use vast::syntax::Module;
 
 // `module name; .. endmodule` (12.1)
-fn unit<'a>(alloc: Global, cursor: &mut Cursor<'_, 'a>) -> Result<Module<'a>, Stop>
+fn unit<'a>(alloc: Global, cursor: &mut Cursor<'_, 'a>) -> Result<Module<'a>, OrMemory<Stop>>
     ensures reads { Answers unit module_tree cursor.old cursor.new result }
     ensures deepens { Deepens 63 cursor.old cursor.new result }
 {
@@ -25,7 +26,10 @@ fn unit<'a>(alloc: Global, cursor: &mut Cursor<'_, 'a>) -> Result<Module<'a>, St
 }
 
 /// Modules up to the end of the text.
-pub fn source<'a>(alloc: Global, cursor: &mut Cursor<'_, 'a>) -> Result<Vec<Module<'a>>, Stop>
+pub fn source<'a>(
+    alloc: Global,
+    cursor: &mut Cursor<'_, 'a>,
+) -> Result<Vec<Module<'a>>, OrMemory<Stop>>
     ensures reads { Answers source (λ found. map module_tree found.items) cursor.old cursor.new result }
     ensures deepens { Deepens 63 cursor.old cursor.new result }
 {

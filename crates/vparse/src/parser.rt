@@ -1,9 +1,10 @@
 // Tokens to the tree of a text.
 
-ghost use Rattle.std.specs.Prelude.{◌≡◌, slice_get, IfErr, IfOk};
-ghost use Rattle.vast.specs.Derives.{Derives};
+ghost use Rattle.std.specs.Prelude.{◌≡◌, slice_get, IfOk};
+ghost use Rattle.basis.specs.Reasons.{IfFault};
+ghost use Rattle.vast.specs.Derives.{Derives, HasNoTree};
 ghost use Rattle.vast.specs.Trees.{source_tree};
-ghost use Rattle.vparse.specs.Faults.{HasNoTree, IsOnlyTree, IsReason, is_any_outside};
+ghost use Rattle.vparse.specs.Faults.{IsOnlyTree, IsSyntaxReason, is_any_outside};
 ghost use Rattle.vparse.specs.Levels.{Opens};
 ghost use Rattle.vparse.specs.Words.{words_of};
 
@@ -12,6 +13,7 @@ use crate::fault::SyntaxFault;
 use crate::modules::source;
 use crate::profile::is_outside;
 use crate::stop::Stop;
+use basis::OrMemory;
 use std::alloc::Global;
 use vast::syntax::Ast;
 use vlex::Tokens;
@@ -19,49 +21,34 @@ use vlex::Tokens;
 /// The tree of the tokens: the one that derives their words (IEEE 1364-2005, annex A; docs/LANGUAGE.md, "Grammar").
 /// The first token that no rule takes decides of the fault: E202 where its word stands outside the profile, else
 /// E203 where something more would have to stand inside 64 levels, else E201. Each of the three comes only where
-/// no tree derives the words, and E203 only behind words that open 63 levels. E901 where a growth was refused, or
-/// there are more than 4,294,967,295 tokens.
-pub fn parse<'a>(alloc: Global, tokens: &Tokens<'a>) -> Result<Ast<'a>, SyntaxFault>
+/// no tree derives the words, and E203 only behind 63 words `begin` or `#` at least. E901 where a growth was refused.
+pub fn parse<'a>(alloc: Global, tokens: &Tokens<'a>) -> Result<Ast<'a>, OrMemory<SyntaxFault>>
     ensures derives { IfOk result (λ ast. Derives (words_of tokens.now) (source_tree ast)) }
     ensures only { IfOk result (λ ast. IsOnlyTree (words_of tokens.now) (source_tree ast)) }
-    ensures none { IfErr result (λ fault. HasNoTree (words_of tokens.now) fault) }
-    ensures reason { IfErr result (λ fault. IsReason tokens.now fault) }
+    ensures none { IfFault result (λ fault. HasNoTree (words_of tokens.now)) }
+    ensures reason { IfFault result (λ fault. IsSyntaxReason tokens.now fault) }
 {
-    if tokens.len() > u32::MAX as usize {
-        return Err(SyntaxFault::Memory);
-    }
     let mut cursor = Cursor::new(tokens);
     match source(alloc, &mut cursor) {
         Ok(modules) => Ok(Ast { modules }),
-        Err(stop) => Err(fault(tokens, &cursor, stop)),
+        Err(OrMemory::Fault(stop)) => Err(OrMemory::Fault(fault(tokens, &cursor, stop))),
+        Err(OrMemory::Memory(refused)) => Err(OrMemory::Memory(refused)),
     }
 }
 
 // The fault where reading stopped.
 fn fault(tokens: &Tokens<'_>, cursor: &Cursor<'_, '_>, stop: Stop) -> SyntaxFault
     requires { stop ≡ Stop.TooDeep → Opens 63 (words_of tokens.now) cursor.now }
-    ensures memory { stop ≡ Stop.Memory → result ≡ SyntaxFault.Memory }
-    ensures reason { IsReason tokens.now result }
+    ensures { IsSyntaxReason tokens.now result }
 {
     let at = tokens.len().saturating_sub(cursor.left());
     let place = tokens.place(at);
-    let outside = stands_outside(tokens, at);
+    if stands_outside(tokens, at) {
+        return SyntaxFault::Outside { place };
+    }
     match stop {
-        Stop::Memory => SyntaxFault::Memory,
-        Stop::TooDeep => {
-            if outside {
-                SyntaxFault::Outside { place }
-            } else {
-                SyntaxFault::TooDeep { place }
-            }
-        }
-        Stop::NoTree => {
-            if outside {
-                SyntaxFault::Outside { place }
-            } else {
-                SyntaxFault::NoTree { place }
-            }
-        }
+        Stop::TooDeep => SyntaxFault::TooDeep { place },
+        Stop::NoTree => SyntaxFault::NoTree { place },
     }
 }
 

@@ -10,16 +10,17 @@ ghost use Rattle.vparse.specs.Answers.{Answers, Deepens, IsFlat};
 use crate::cursor::Cursor;
 use crate::lead::{Lead, is, lead_of_word};
 use crate::stop::Stop;
+use basis::OrMemory;
 use std::alloc::Global;
 use vast::syntax::{Expr, Stmt, Word};
 use vast::words::{is_name, is_number};
 
-fn expression<'a>(cursor: &mut Cursor<'_, 'a>) -> Result<Expr<'a>, Stop>
+fn expression<'a>(cursor: &mut Cursor<'_, 'a>) -> Result<Expr<'a>, OrMemory<Stop>>
     ensures reads { Answers expression expression_tree cursor.old cursor.new result }
     ensures flat { IsFlat result }
 {
     match cursor.word() {
-        None => Err(Stop::NoTree),
+        None => Err(OrMemory::Fault(Stop::NoTree)),
         Some(word) => {
             if is_number(word.text) {
                 cursor.pass();
@@ -28,14 +29,14 @@ fn expression<'a>(cursor: &mut Cursor<'_, 'a>) -> Result<Expr<'a>, Stop>
                 cursor.pass();
                 Ok(Expr::Name(word))
             } else {
-                Err(Stop::NoTree)
+                Err(OrMemory::Fault(Stop::NoTree))
             }
         }
     }
 }
 
 // What an assignment gives its target, and the semicolon.
-fn value<'a>(cursor: &mut Cursor<'_, 'a>) -> Result<Expr<'a>, Stop>
+fn value<'a>(cursor: &mut Cursor<'_, 'a>) -> Result<Expr<'a>, OrMemory<Stop>>
     ensures reads { (make : ExpressionTree → StatementTree) → Answers (value make) (λ held. make (expression_tree held)) cursor.old cursor.new result }
     ensures flat { IsFlat result }
 {
@@ -45,12 +46,12 @@ fn value<'a>(cursor: &mut Cursor<'_, 'a>) -> Result<Expr<'a>, Stop>
 }
 
 // What follows the name that begins an assignment.
-fn assignment<'a>(cursor: &mut Cursor<'_, 'a>, target: Word<'a>) -> Result<Stmt<'a>, Stop>
+fn assignment<'a>(cursor: &mut Cursor<'_, 'a>, target: Word<'a>) -> Result<Stmt<'a>, OrMemory<Stop>>
     ensures reads { Answers (assignment (word_text target.entry)) statement_tree cursor.old cursor.new result }
     ensures flat { IsFlat result }
 {
     match cursor.word() {
-        None => Err(Stop::NoTree),
+        None => Err(OrMemory::Fault(Stop::NoTree)),
         Some(sign) => {
             if is(sign.text, b"=") {
                 cursor.pass();
@@ -61,14 +62,14 @@ fn assignment<'a>(cursor: &mut Cursor<'_, 'a>, target: Word<'a>) -> Result<Stmt<
                 let value = value(cursor)?;
                 Ok(Stmt::Nonblocking { target, value })
             } else {
-                Err(Stop::NoTree)
+                Err(OrMemory::Fault(Stop::NoTree))
             }
         }
     }
 }
 
 // The semicolon behind `$dumpvars` (18.1.2).
-fn dump_vars<'a>(cursor: &mut Cursor<'_, 'a>) -> Result<Stmt<'a>, Stop>
+fn dump_vars<'a>(cursor: &mut Cursor<'_, 'a>) -> Result<Stmt<'a>, OrMemory<Stop>>
     ensures reads { Answers (task dump_vars) statement_tree cursor.old cursor.new result }
     ensures flat { IsFlat result }
 {
@@ -77,7 +78,7 @@ fn dump_vars<'a>(cursor: &mut Cursor<'_, 'a>) -> Result<Stmt<'a>, Stop>
 }
 
 // The semicolon behind `$finish` (17.4.1).
-fn finish<'a>(cursor: &mut Cursor<'_, 'a>) -> Result<Stmt<'a>, Stop>
+fn finish<'a>(cursor: &mut Cursor<'_, 'a>) -> Result<Stmt<'a>, OrMemory<Stop>>
     ensures reads { Answers (task finish) statement_tree cursor.old cursor.new result }
     ensures flat { IsFlat result }
 {
@@ -91,15 +92,15 @@ pub fn statement<'a>(
     alloc: Global,
     cursor: &mut Cursor<'_, 'a>,
     levels: u32,
-) -> Result<Stmt<'a>, Stop>
+) -> Result<Stmt<'a>, OrMemory<Stop>>
     ensures reads { Answers (statement levels) statement_tree cursor.old cursor.new result }
     ensures deepens { Deepens (levels - 1) cursor.old cursor.new result }
 {
     if levels == 0 {
-        return Err(Stop::TooDeep);
+        return Err(OrMemory::Fault(Stop::TooDeep));
     }
     match cursor.word() {
-        None => Err(Stop::NoTree),
+        None => Err(OrMemory::Fault(Stop::NoTree)),
         Some(word) => led(alloc, cursor, word, levels - 1),
     }
 }
@@ -111,7 +112,7 @@ fn led<'a>(
     cursor: &mut Cursor<'_, 'a>,
     word: Word<'a>,
     below: u32,
-) -> Result<Stmt<'a>, Stop>
+) -> Result<Stmt<'a>, OrMemory<Stop>>
     requires { cursor.old ≡ word_text word ∷ drop 1 cursor.old }
     ensures reads { Answers (led below (statement below)) statement_tree cursor.old cursor.new result }
     ensures deepens { Deepens below cursor.old cursor.new result }
@@ -119,7 +120,7 @@ fn led<'a>(
     match lead_of_word(word.text) {
         Lead::Name => {
             if below == 0 {
-                return Err(Stop::TooDeep);
+                return Err(OrMemory::Fault(Stop::TooDeep));
             }
             cursor.pass();
             assignment(cursor, word)
@@ -144,13 +145,17 @@ fn led<'a>(
             cursor.pass();
             finish(cursor)
         }
-        Lead::Other => Err(Stop::NoTree),
+        Lead::Other => Err(OrMemory::Fault(Stop::NoTree)),
     }
 }
 
 // The statements behind `begin`, and `end` (9.8.1).
 #[cycle(statements)]
-fn block<'a>(alloc: Global, cursor: &mut Cursor<'_, 'a>, levels: u32) -> Result<Stmt<'a>, Stop>
+fn block<'a>(
+    alloc: Global,
+    cursor: &mut Cursor<'_, 'a>,
+    levels: u32,
+) -> Result<Stmt<'a>, OrMemory<Stop>>
     ensures reads { Answers (block_of (statement levels)) statement_tree cursor.old cursor.new result }
     ensures deepens { Deepens (levels - 1) cursor.old cursor.new result }
 {
@@ -165,7 +170,7 @@ fn statements<'a>(
     alloc: Global,
     cursor: &mut Cursor<'_, 'a>,
     levels: u32,
-) -> Result<Vec<Stmt<'a>>, Stop>
+) -> Result<Vec<Stmt<'a>>, OrMemory<Stop>>
     ensures reads { Answers (until (statement levels) (begins (codes "end"))) (λ found. map statement_tree found.items) cursor.old cursor.new result }
     ensures deepens { Deepens (levels - 1) cursor.old cursor.new result }
 {
@@ -179,7 +184,11 @@ fn statements<'a>(
 
 // The number and the statement behind `#` (9.7.1).
 #[cycle(statements)]
-fn delay<'a>(alloc: Global, cursor: &mut Cursor<'_, 'a>, levels: u32) -> Result<Stmt<'a>, Stop>
+fn delay<'a>(
+    alloc: Global,
+    cursor: &mut Cursor<'_, 'a>,
+    levels: u32,
+) -> Result<Stmt<'a>, OrMemory<Stop>>
     ensures reads { Answers (delay_of (statement levels)) statement_tree cursor.old cursor.new result }
     ensures deepens { Deepens (levels - 1) cursor.old cursor.new result }
 {

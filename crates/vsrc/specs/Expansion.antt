@@ -4,7 +4,7 @@ use Rattle.vsrc.specs.Source.{joined, source_of, place_of, text_limit}
 use Rattle.vsrc.specs.declared.expanded.Place.{Place}
 use Rattle.vsrc.specs.Outside.{IsFirstTick}
 use Rattle.vsrc.specs.declared.fault.SrcFault.{SrcFault}
-use Rattle.vsrc.specs.declared.fault.SrcFault.TheVariants.{NotYet, Growth, Memory}
+use Rattle.vsrc.specs.declared.fault.SrcFault.TheVariants.{NotYet, Growth}
 
 -- no backtick stands outside comments and strings
 abbrev pub HasNoTick : List ℕ → Type 0
@@ -17,19 +17,16 @@ pub record Overflows (files : List (List ℕ)) (place : Place) (n : ℕ) : Type 
   pub behind : text_limit < length (joined (take (n + 1) files))
 
 -- what each fault says of the files
-abbrev pub IsReason : List (List ℕ) → SrcFault → Type 0
-IsReason files (NotYet place) = (at : ℕ) × IsFirstTick (joined files) at × (place ≡ place_of (source_of files) at)
-IsReason files (Growth place) = (n : ℕ) × Overflows files place n
-IsReason files Memory = Unit {0}
+abbrev pub IsSourceReason : List (List ℕ) → SrcFault → Type 0
+IsSourceReason files (NotYet place) = (at : ℕ) × IsFirstTick (joined files) at × (place ≡ place_of (source_of files) at)
+IsSourceReason files (Growth place) = (n : ℕ) × Overflows files place n
 
 -- what joining the files may answer
 abbrev pub IsJoinReason : List (List ℕ) → SrcFault → Type 0
 IsJoinReason files (NotYet place) = ⊥
 IsJoinReason files (Growth place) = (n : ℕ) × Overflows files place n
-IsJoinReason files Memory = Unit {0}
 
--- a text of this length is too long with this file, or memory ran out
+-- a text of this length is too long with this file
 abbrev pub IsGrowth : ℕ → ℕ → SrcFault → Type 0
 IsGrowth len file (NotYet place) = ⊥
 IsGrowth len file (Growth place) = (text_limit < len) × (place ≡ record { file = file; line = 1 })
-IsGrowth len file Memory = Unit {0}

@@ -1,3 +1,5 @@
+// Text with the place of each of its bytes in the files.
+
 ghost use Rattle.std.specs.Prelude.{◌≡◌, ℕ, ◌≤◌, length, codes};
 ghost use Rattle.std.specs.List.Sorted.{IsNonDecreasing};
 ghost use Rattle.vsrc.specs.Source.{count_below, text_limit};

@@ -1,13 +1,17 @@
-ghost use Rattle.std.specs.Prelude.{◌≡◌, ◌≤◌, ◌+◌, ◌++◌, ◌∷◌, ℕ, length, map, IfOk, IfErr, OnOk, OnErr};
+// Files to one text: joining them, and finding the first backtick.
+
+ghost use Rattle.std.specs.Prelude.{◌≡◌, ◌≤◌, ◌+◌, ◌++◌, length, map, IfOk, OnOk};
 ghost use Rattle.memchr.specs.Find.{is_byte, places};
-ghost use Rattle.vsrc.specs.Expansion.{HasNoTick, IsReason, IsJoinReason, IsGrowth};
+ghost use Rattle.basis.specs.Reasons.{IfFault};
+ghost use Rattle.vsrc.specs.Expansion.{HasNoTick, IsSourceReason, IsJoinReason, IsGrowth};
 ghost use Rattle.vsrc.specs.Source.{joined, borders_of, source_of, text_limit};
 
 use crate::expanded::{Expanded, Place, Scale, Unit};
 use crate::fault::SrcFault;
 use crate::outside::first_tick;
+use basis::{NoMemory, OrMemory};
 use memchr::memchr_iter;
-use std::alloc::{AllocError, Global};
+use std::alloc::Global;
 
 // The most bytes that a text may have.
 const LIMIT: usize = 33_554_432;
@@ -15,11 +19,11 @@ const LIMIT: usize = 33_554_432;
 /// The text of the files in order, with a line feed between each two; no file gives the empty text.
 /// E299 at the first backtick outside comments and strings, E112 where the text would have over
 /// 33,554,432 bytes, E901 where a growth was refused.
-pub fn expand(alloc: Global, files: &[Vec<u8>]) -> Result<Expanded, SrcFault>
+pub fn expand(alloc: Global, files: &[Vec<u8>]) -> Result<Expanded, OrMemory<SrcFault>>
     ensures ok { IfOk result (λ expanded. expanded ≡ source_of (map (λ file. file.items) files.now)) }
     ensures short { OnOk result (length (joined (map (λ file. file.items) files.now)) ≤ text_limit) }
     ensures clean { OnOk result (HasNoTick (joined (map (λ file. file.items) files.now))) }
-    ensures err { IfErr result (λ fault. IsReason (map (λ file. file.items) files.now) fault) }
+    ensures err { IfFault result (λ fault. IsSourceReason (map (λ file. file.items) files.now) fault) }
 {
     let (text, borders) = join(alloc, files)?;
     let feeds = feeds_of(alloc, &text)?;
@@ -30,19 +34,19 @@ pub fn expand(alloc: Global, files: &[Vec<u8>]) -> Result<Expanded, SrcFault>
     };
     let expanded = Expanded::new(text, borders, feeds, scale);
     match tick {
-        Some(at) => Err(SrcFault::NotYet {
+        Some(at) => Err(OrMemory::Fault(SrcFault::NotYet {
             place: expanded.place(at),
-        }),
+        })),
         None => Ok(expanded),
     }
 }
 
 // The text of the files, and where a line feed was put between two.
-fn join(alloc: Global, files: &[Vec<u8>]) -> Result<(Vec<u8>, Vec<usize>), SrcFault>
+fn join(alloc: Global, files: &[Vec<u8>]) -> Result<(Vec<u8>, Vec<usize>), OrMemory<SrcFault>>
     ensures text { IfOk result (λ made. made.0.items ≡ joined (map (λ file. file.items) files.now)) }
     ensures borders { IfOk result (λ made. made.1.items ≡ borders_of (map (λ file. file.items) files.now)) }
     ensures short { IfOk result (λ made. length made.0.items ≤ text_limit) }
-    ensures err { IfErr result (λ fault. IsJoinReason (map (λ file. file.items) files.now) fault) }
+    ensures err { IfFault result (λ fault. IsJoinReason (map (λ file. file.items) files.now) fault) }
 {
     let mut text = Vec::new(alloc);
     let mut borders = Vec::new(alloc);
@@ -58,17 +62,22 @@ fn join(alloc: Global, files: &[Vec<u8>]) -> Result<(Vec<u8>, Vec<usize>), SrcFa
 }
 
 // Adds a file at the end, with what leads it.
-fn append(text: &mut Vec<u8>, lead: &[u8], bytes: &[u8], file: usize) -> Result<(), SrcFault>
+fn append(
+    text: &mut Vec<u8>,
+    lead: &[u8],
+    bytes: &[u8],
+    file: usize,
+) -> Result<(), OrMemory<SrcFault>>
     requires old { length text.old.items ≤ text_limit }
     requires lead { length lead.now ≤ 1 }
     ensures ok { OnOk result (text.new.items ≡ (text.old.items ++ lead.now) ++ bytes.now) }
     ensures short { OnOk result (length text.new.items ≤ text_limit) }
-    ensures err { IfErr result (λ fault. IsGrowth (length text.old.items + length lead.now + length bytes.now) file fault) }
+    ensures err { IfFault result (λ fault. IsGrowth (length text.old.items + length lead.now + length bytes.now) file fault) }
 {
     if bytes.len() > LIMIT || text.len() + lead.len() > LIMIT - bytes.len() {
-        return Err(SrcFault::Growth {
+        return Err(OrMemory::Fault(SrcFault::Growth {
             place: Place { file, line: 1 },
-        });
+        }));
     }
     text.extend_from_slice(lead)?;
     text.extend_from_slice(bytes)?;
@@ -76,8 +85,8 @@ fn append(text: &mut Vec<u8>, lead: &[u8], bytes: &[u8], file: usize) -> Result<
 }
 
 // The places of the line feeds.
-fn feeds_of(alloc: Global, text: &[u8]) -> Result<Vec<usize>, AllocError>
+fn feeds_of(alloc: Global, text: &[u8]) -> Result<Vec<usize>, NoMemory>
     ensures { IfOk result (λ feeds. feeds.items ≡ places (is_byte 10) text.now) }
 {
-    memchr_iter(b'\n', text).collect(alloc)
+    Ok(memchr_iter(b'\n', text).collect(alloc)?)
 }

@@ -1,3 +1,5 @@
+// Where comments and strings end, and the first backtick outside them.
+
 ghost use Rattle.std.specs.Prelude.{◌≡◌, ◌+◌, ◌==◌, ◌&&◌, ◌<◌, ◌≤◌, ℕ, length, drop, slice_index, MatchOption};
 ghost use Rattle.vsrc.specs.Expansion.{HasNoTick};
 ghost use Rattle.vsrc.specs.Outside.{block_len, string_len, slash_len, stretch_len, IsFirstTick};

@@ -1,11 +1,12 @@
-use Rattle.std.proofs.Common.{◌≡◌, true, false, OnOk, IfErr, arith, sym, ap, subst, ◌∙◌}
+use Rattle.std.proofs.Common.{◌≡◌, true, false, OnOk, arith, sym, ap, subst, ◌∙◌}
 use Rattle.vast.specs.Design.{assign, nonblocking, delay, done, then, join}
 use Rattle.vast.specs.DesignViews.{actions}
 use Rattle.vast.specs.Trees.{statement_tree}
 use Rattle.vast.specs.declared.design.Expression.TheVariants.{Constant}
 use Rattle.vast.specs.declared.design.Statement.{Assign, Nonblocking, Delay, DumpVars, Finish}
+use Rattle.basis.specs.Reasons.{IfFault}
 use Rattle.velab.specs.Elaborate.{actions_of}
-use Rattle.velab.specs.Reasons.{Because}
+use Rattle.velab.specs.Reasons.{IsBreach, no_breach}
 use Rattle.vast.proofs.ActionLemmas.{join_done, action_of_delay}
 use Rattle.velab.proofs.StatementLemmas.{put_gives, block_actions, block_knows, actions_step, knows_step, actions_end}
 use Rattle.velab.proofs.statement.+statements.Goals as goal
@@ -26,7 +27,7 @@ put_actions-returns-in-Block-clause-known t c =
 
 pub put_actions-returns-in-Block-clause-err : goal.put_actions-returns-in-Block-clause-err
 put_actions-returns-in-Block-clause-err t c =
-    subst (λ b. IfErr c.put_all_actions.result (Because ⊥ (b ≡ false) ⊥ ⊥))
+    subst (λ b. IfFault c.put_all_actions.result (IsBreach (record no_breach { unknown = b ≡ false })))
     (block_knows c.args.names.now c.args.statement.now c.in-Block.statements c.deref.result.now c.in-Block.is c.deref.ensures.value) c.put_all_actions.ensures.err
 
 pub put_actions-returns-in_ok-value-in-Assign-clause-ok : goal.put_actions-returns-in_ok-value-in-Assign-clause-ok

@@ -5,11 +5,11 @@ use Rattle.vlex.specs.declared.list.Span.{Span}
 use Rattle.vlex.specs.Lexed.Reaches.{start, next}
 use Rattle.vlex.specs.Lexed.{Lexed, Piece, IsFront}
 use Rattle.vlex.specs.Tokenized.{Tokenized, piece_at, pieces_of, spans_of, AreWithin, AreInOrder, IsTokenAt}
-use Rattle.vlex.proofs.Cuts.{order_grows, stands_grows, in_order_more, all_within, goes_onward, goes_back, all_lexed, only_lexed, none_lexed}
+use Rattle.vlex.proofs.Cuts.{some_front, spans_grow, order_grows, stands_grows, in_order_more, all_within, goes_onward, goes_back, all_lexed, only_lexed, none_lexed}
 use Rattle.vlex.proofs.lexer.tokens.Goals as goal
 
 pub loop-at-init : goal.loop-at-init
-loop-at-init c = record { within = search rules; reached = start; stands = search rules; order = search rules; onward = search rules; back = search rules }
+loop-at-init c = record { within = search rules; reached = start; stands = search rules; order = search rules; few = search rules; onward = search rules; back = search rules }
 
 pub loop-at-preserved : goal.loop-at-preserved
 loop-at-preserved c =
@@ -28,6 +28,7 @@ loop-at-preserved c =
       reached = next at form len c.loop-at.invariant.reached front;
       stands = subst (All (IsTokenAt text)) (sym pushed) (stands_grows text spans form at len c.loop-at.invariant.reached front c.loop-at.invariant.stands);
       order = subst Order (sym pushed) (order_grows spans form at len c.loop-at.invariant.order);
+      few = omega (arith, ap length pushed, spans_grow spans form at len (some_front _ form len front), c.loop-at.invariant.few);
       onward = λ pieces l.
           let P : List Span → Type 0 = λ ss. Lexed text (map (piece_at text) ss ++ pieces) in
           subst P (sym pushed) (goes_onward text spans form at len pieces front c.loop-at.invariant.onward l);
@@ -66,9 +67,12 @@ returns-clause-only c = λ others l.
 pub new-requires : goal.new-requires
 new-requires c =
     let P : List ℕ → Type 0 = λ t. AreWithin t c.loop-at.spans.items in
-    subst P c.text-text.ensures.value
-    (all_within 0 c.loop-at.spans.items (length c.text-text.result.now)
-    (in_order_more 0 c.loop-at.spans.items c.loop-at.at (length c.text-text.result.now) c.loop-at.invariant.within c.loop-at.invariant.order))
+    record {
+      within = subst P c.text-text.ensures.value
+          (all_within 0 c.loop-at.spans.items (length c.text-text.result.now)
+          (in_order_more 0 c.loop-at.spans.items c.loop-at.at (length c.text-text.result.now) c.loop-at.invariant.within c.loop-at.invariant.order));
+      few = omega (arith, c.loop-at.invariant.few, c.loop-at.invariant.within, c.text-text.ensures.short);
+    }
 
 pub returns-clause-order : goal.returns-clause-order
 returns-clause-order c =

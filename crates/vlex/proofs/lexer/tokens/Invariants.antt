@@ -10,6 +10,7 @@ invariant-loop-at l = record {
   reached : Reaches l.text l.at;
   stands : All (IsTokenAt l.text) l.spans.items;
   order : AreInOrder 0 l.spans.items l.at;
+  few : length l.spans.items ≤ l.at;
   onward : (pieces : List Piece) → Lexed (drop l.at l.text) pieces → Lexed l.text (map (piece_at l.text) l.spans.items ++ pieces);
   back : (pieces : List Piece) → Lexed l.text pieces → (left : List Piece) × ((pieces ≡ map (piece_at l.text) l.spans.items ++ left) × Lexed (drop l.at l.text) left);
 }

@@ -3,7 +3,7 @@ use Rattle.std.proofs.lemmas.Result.{err_from_is_err_and}
 use Rattle.vast.specs.Trees.{module_tree}
 use Rattle.vparse.specs.Reading.{unit, source, at_end}
 use Rattle.vparse.proofs.Fewer.{unit_fewer}
-use Rattle.vparse.proofs.LevelLaws.{opens_on, opens_unit}
+use Rattle.vparse.proofs.LevelLaws.{stop_on, opens_on, opens_unit}
 use Rattle.vparse.proofs.Turns.{turns_push}
 use Rattle.vparse.proofs.modules.source.Goals as goal
 
@@ -21,4 +21,4 @@ turns-preserved c = record {
 pub returns-in_err-one-clause-deepens : goal.returns-in_err-one-clause-deepens
 returns-in_err-one-clause-deepens c =
     let p = err_from_is_err_and c.from_residual.result c.from_residual.ensures.1 in
-    rw (p.1, p.2) (λ e. opens_on 63 c.args.cursor.now c.turns.cursor c.unit.new.cursor c.turns.invariant.passed (c.in_err-one.ensures.deepens e))
+    rw (p.1, p.2) (stop_on 63 c.args.cursor.now c.turns.cursor c.unit.new.cursor _ c.turns.invariant.passed c.in_err-one.ensures.deepens)

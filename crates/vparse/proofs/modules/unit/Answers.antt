@@ -4,7 +4,7 @@ use Rattle.std.proofs.lemmas.Result.{err_from_is_err_and}
 use Rattle.vast.specs.Words.{is_name}
 use Rattle.vast.specs.Trees.{word_text}
 use Rattle.vparse.specs.Levels.{Opens}
-use Rattle.vparse.proofs.LevelLaws.{opens_on, opens_word}
+use Rattle.vparse.proofs.LevelLaws.{stop_on, opens_on, opens_word}
 use Rattle.vparse.proofs.modules.unit.Goals as goal
 
 pub returns-in_err-items-clause-deepens : goal.returns-in_err-items-clause-deepens
@@ -17,4 +17,4 @@ returns-in_err-items-clause-deepens c =
     opens_word (bytes_eq (codes ";")) c.name.new.self (word_text c.in_ok-symbol-2.field-0) c.symbol-2.new.self c.in_ok-symbol-2.ensures.reads in
     let named : Opens 0 c.args.cursor.now c.name.new.self = opens_on 0 c.args.cursor.now c.symbol.new.self c.name.new.self head name in
     let whole : Opens 0 c.args.cursor.now c.symbol-2.new.self = opens_on 0 c.args.cursor.now c.name.new.self c.symbol-2.new.self named sign in
-    rw (p.1, p.2) (λ e. opens_on 63 c.args.cursor.now c.symbol-2.new.self c.items.new.cursor whole (c.in_err-items.ensures.deepens e))
+    rw (p.1, p.2) (stop_on 63 c.args.cursor.now c.symbol-2.new.self c.items.new.cursor _ whole c.in_err-items.ensures.deepens)

@@ -3,7 +3,7 @@ use Rattle.vast.specs.Trees.{source_tree}
 use Rattle.vparse.specs.Reading.{source}
 use Rattle.vparse.specs.Words.{words_of}
 use Rattle.vparse.proofs.SourceLaws.{source_derives}
-use Rattle.vparse.proofs.ParseLaws.{only_read, no_tree}
+use Rattle.vparse.proofs.ParseLaws.{only_read, none_derives}
 use Rattle.vparse.proofs.parser.parse.Goals as goal
 
 pub returns-in-Ok-clause-derives : goal.returns-in-Ok-clause-derives
@@ -14,6 +14,5 @@ pub returns-in-Ok-clause-only : goal.returns-in-Ok-clause-only
 returns-in-Ok-clause-only c =
     only_read (words_of c.args.tokens.now) (source_tree (record { modules = c.in-Ok.modules })) c.source.new.cursor (ap source (sym c.new-cursor.ensures) ∙ c.in-Ok.ensures.reads)
 
-pub returns-in-Err-clause-none : goal.returns-in-Err-clause-none
-returns-in-Err-clause-none c =
-    no_tree (words_of c.args.tokens.now) c.in-Err.stop c.fault.result c.fault.ensures.memory (λ kept. ap source (sym c.new-cursor.ensures) ∙ c.in-Err.ensures.reads kept)
+pub returns-in-Err-Fault-clause-none : goal.returns-in-Err-Fault-clause-none
+returns-in-Err-Fault-clause-none c = none_derives (words_of c.args.tokens.now) (ap source (sym c.new-cursor.ensures) ∙ (rw c.in-Err-Fault.field-0-is at c.in-Err-Fault.ensures.reads))

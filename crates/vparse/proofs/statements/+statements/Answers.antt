@@ -8,7 +8,7 @@ use Rattle.vparse.specs.Readers.{begins, until}
 use Rattle.vparse.specs.Reading.{led, statement}
 use Rattle.vparse.proofs.Fewer.{statement_fewer}
 use Rattle.vparse.proofs.StatementLaws.{none_at_zero, level_lower, answers_alike, block_read}
-use Rattle.vparse.proofs.LevelLaws.{is_round, lead_opens, opens_on, opens_word, opens_statement, deepens_more}
+use Rattle.vparse.proofs.LevelLaws.{stop_on, is_round, lead_opens, opens_on, opens_word, opens_statement, deepens_more}
 use Rattle.vparse.proofs.Turns.{turns_push}
 use Rattle.vparse.proofs.statements.+statements.Goals as goal
 
@@ -18,10 +18,10 @@ block-returns-clause-reads t c =
     c.in_ok-statements.ensures.reads c.in_ok-symbol.ensures.reads
 
 pub statement-returns-then-levels-eq0-clause-reads : goal.statement-returns-then-levels-eq0-clause-reads
-statement-returns-then-levels-eq0-clause-reads t c = λ _. none_at_zero c.args.levels c.args.cursor.now c.if-levels-eq0.true
+statement-returns-then-levels-eq0-clause-reads t c = none_at_zero c.args.levels c.args.cursor.now c.if-levels-eq0.true
 
 pub statement-returns-in-None-clause-reads : goal.statement-returns-in-None-clause-reads
-statement-returns-in-None-clause-reads t c = λ _.
+statement-returns-in-None-clause-reads t c =
     sym (level_lower c.args.levels c.args.cursor.now c.if-levels-eq0.false)
     ∙ ap (led (c.args.levels - 1) (statement (c.args.levels - 1))) c.in-None.ensures
 
@@ -58,9 +58,9 @@ pub delay-returns-in_err-body-clause-deepens : goal.delay-returns-in_err-body-cl
 delay-returns-in_err-body-clause-deepens t c =
     let p = err_from_is_err_and c.from_residual-in_err-body.result c.from_residual-in_err-body.ensures.1 in
     let number : Opens 0 c.args.cursor.now c.number.new.self = opens_word is_number c.args.cursor.now (word_text c.in_ok-amount.amount) c.number.new.self c.in_ok-amount.ensures.reads in
-    rw (p.1, p.2) (λ e. opens_on (c.args.levels - 1) c.args.cursor.now c.number.new.self c.statement.new.cursor number (c.in_err-body.ensures.deepens e))
+    rw (p.1, p.2) (stop_on (c.args.levels - 1) c.args.cursor.now c.number.new.self c.statement.new.cursor _ number c.in_err-body.ensures.deepens)
 
 pub statements-returns-in_err-one-clause-deepens : goal.statements-returns-in_err-one-clause-deepens
 statements-returns-in_err-one-clause-deepens t c =
     let p = err_from_is_err_and c.from_residual.result c.from_residual.ensures.1 in
-    rw (p.1, p.2) (λ e. opens_on (c.args.levels - 1) c.args.cursor.now c.turns.cursor c.statement.new.cursor c.turns.invariant.passed (c.in_err-one.ensures.deepens e))
+    rw (p.1, p.2) (stop_on (c.args.levels - 1) c.args.cursor.now c.turns.cursor c.statement.new.cursor _ c.turns.invariant.passed c.in_err-one.ensures.deepens)

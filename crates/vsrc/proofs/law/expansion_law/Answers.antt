@@ -1,5 +1,5 @@
 use Rattle.std.proofs.Common.{ℕ, zero, suc, ◌+◌, ◌<◌, ◌≤◌, List, [], ◌∷◌, ◌++◌, length, take, flat_map, length-append, arith}
-use Rattle.vsrc.specs.Expansion.{IsReason}
+use Rattle.vsrc.specs.Expansion.{IsSourceReason}
 use Rattle.vsrc.specs.Source.{joined, text_limit}
 use Rattle.vsrc.specs.declared.expanded.Place.{Place}
 use Rattle.vsrc.specs.declared.fault.SrcFault.TheVariants.{Growth}
@@ -21,7 +21,7 @@ fewer_joined (suc n) (file ∷ files) =
     let whole = length-append file (flat_map (λ f. (10 ∷ []) ++ f) files) in
     omega (arith, before, whole, fewer_files n files)
 
-grown : (files : List (List ℕ)) (place : Place) → IsReason files (Growth place) → text_limit < length (joined files)
+grown : (files : List (List ℕ)) (place : Place) → IsSourceReason files (Growth place) → text_limit < length (joined files)
 grown files place (n, over) = omega (arith, over.behind, fewer_joined (n + 1) files)
 
 pub returns : goal.returns

@@ -4,7 +4,7 @@ use Rattle.vast.specs.Syntax.{Text}
 use Rattle.vparse.proofs.Cursors.{text_here}
 use Rattle.vparse.proofs.cursor.Cursor.word.Goals as goal
 
-pub returns-then-at-len : goal.returns-then-at-len
-returns-then-at-len c =
+pub returns-then-self : goal.returns-then-self
+returns-then-self c =
     let P : List Text → Type 0 = λ words. words ≡ c.text.result.now ∷ drop 1 words in
     subst P c.self.view_is (text_here (pieces_of c.self.inside.tokens.now) c.self.inside.at c.text.result.now c.text.ensures)
