@@ -19,8 +19,6 @@ pub mod run;
 pub mod sink;
 pub mod state;
 mod step;
-#[cfg(test)]
-mod tests;
 mod value;
 
 pub use law::run_law;

@@ -1,3 +1,5 @@
+// A toy space that loops, for searches.
+
 ghost use Rattle.std.specs.Prelude.{◌≡◌};
 
 use sched_core::Space;
@@ -14,9 +16,9 @@ pub struct Wheel {
 }
 
 impl Space for Wheel {
-    ghost use Rattle.explore.specs.Wheels.{wheel_rules};
+    ghost use Rattle.tests.specs.Wheels.{wheel_rules};
     ghost use Rattle.std.proofs.Common.{rules as std_rules};
-    ghost use Rattle.explore.specs.WheelLaws.{wheel_is_lawful};
+    ghost use Rattle.tests.specs.WheelLaws.{wheel_is_lawful};
 
     type State = u32;
 

@@ -1,7 +1,9 @@
+// Searches of a board, and of places in a ring.
+
 ghost use Rattle.std.specs.Prelude.{◌≤◌};
 
 use crate::wheel::Wheel;
-use crate::{Findings, Reason, Status, explore_alone};
+use explore::{Findings, Reason, Status, explore_alone};
 use sched_core::{Grid, Square};
 use statebook::Limits;
 use std::test::Fail;

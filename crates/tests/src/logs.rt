@@ -1,5 +1,7 @@
-use crate::{
-    Grid, Log, LogFault, LogHead, ReplayFault, Square, read_log, read_named_log, replay, write_log,
+// Texts of logs, and replays on a board.
+
+use sched_core::{
+    Grid, Log, LogHead, ReplayFault, Square, read_log, read_named_log, replay, write_log,
     write_named_log,
 };
 use std::test::Fail;
@@ -24,22 +26,6 @@ fn empty_log_is_a_dash(rt: HostRuntime) -> Result<(), Fail> {
     assert_eq!(rt; text.as_slice(), b"-".as_slice());
     assert_eq!(rt; read_log(rt.alloc(), b"-")?.members().len(), 0);
     Ok(())
-}
-
-#[test]
-fn ill_formed_logs_are_refused(rt: HostRuntime) {
-    assert!(rt; is_ill_formed(rt, b""));
-    assert!(rt; is_ill_formed(rt, b"5:0"));
-    assert!(rt; is_ill_formed(rt, b"05:1"));
-    assert!(rt; is_ill_formed(rt, b"1000000:1"));
-    assert!(rt; is_ill_formed(rt, b"5:4294967296"));
-    assert!(rt; is_ill_formed(rt, b"5:1,5:1"));
-    assert!(rt; is_ill_formed(rt, b"5:1,"));
-    assert!(rt; is_ill_formed(rt, b"module/-"));
-}
-
-fn is_ill_formed(rt: HostRuntime, text: &[u8]) -> bool {
-    matches!(read_named_log(rt.alloc(), text), Err(LogFault::IllFormed))
 }
 
 #[test]

@@ -1,6 +1,8 @@
-use crate::{At, Fault};
+// What a refusal prints.
+
 use std::alloc::Global;
 use std::test::Fail;
+use vrace::{At, Fault};
 use vsrc::Place;
 
 // Each refusal, with the number that docs/FAULTS.md gives it.

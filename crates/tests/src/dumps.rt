@@ -1,12 +1,14 @@
+// Dumps of a small design with three scopes, and writers that fail.
+
 ghost use Rattle.std.specs.Prelude.{◌≤◌};
 
-use crate::{DumpSink, Header, Metered, WriteFault, write_vcd};
 use std::alloc::Global;
 use std::io;
 use std::io::{Read, Write};
 use std::test::Fail;
 use vast::design::{Bounds, Design, Kind, Scope, Variable};
 use vbits::Vec4;
+use vcd_text::{DumpSink, Header, Metered, WriteFault, write_vcd};
 use vmodel::history::{Cause, DumpCommand, End, History, Item};
 use vmodel::sink::Sink;
 

@@ -1,5 +1,7 @@
-use crate::{Done, Entry, Limits, Met, PlainBook};
+// The book of an exploration, and its limits.
+
 use sched_core::{Log, Square};
+use statebook::{Done, Entry, Limits, Met, PlainBook};
 use std::alloc::Global;
 use std::test::Fail;
 
