@@ -21,7 +21,7 @@ LIMITS.update({"mul": 150, "div": 150, "rem": 150})
 
 
 def per_turn(program, operator):
-    many, few = (counted(program, [operator, str(turns)])[0] for turns in (MANY, FEW))
+    many, few = (counted(program, ["repeat", operator, str(turns)])[0] for turns in (MANY, FEW))
     return (many - few) / (MANY - FEW)
 
 

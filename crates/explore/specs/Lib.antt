@@ -1,5 +1,3 @@
 pub mod Found
 pub mod Exploring
 pub mod Ways
-pub mod Wheels
-pub mod WheelLaws

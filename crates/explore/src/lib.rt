@@ -9,13 +9,9 @@ mod findings;
 mod marks;
 mod next;
 mod search;
-#[cfg(test)]
-mod tests;
 mod visit;
 mod way;
 mod ways;
-#[cfg(test)]
-mod wheel;
 
 pub use alone::explore_alone;
 pub use findings::{Findings, Reason, Status};

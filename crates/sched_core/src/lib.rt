@@ -9,8 +9,6 @@ mod log;
 mod log_text;
 mod run;
 mod space;
-#[cfg(test)]
-mod tests;
 
 pub use grid::{Grid, Square};
 pub use log::{Log, LogFault, LogHead, Member};

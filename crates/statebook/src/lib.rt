@@ -7,8 +7,6 @@ mod book;
 mod entry;
 mod law;
 mod limits;
-#[cfg(test)]
-mod tests;
 
 pub use book::{Done, Met, PlainBook};
 pub use entry::Entry;

@@ -7,8 +7,6 @@ pub mod design;
 pub mod fitting;
 pub mod spelling;
 pub mod syntax;
-#[cfg(test)]
-mod tests;
 pub mod words;
 
 pub use fitting::fits;

@@ -12,6 +12,3 @@ mod vec4;
 pub use bit4::Bit4;
 pub use red::Red;
 pub use vec4::Vec4;
-
-#[cfg(test)]
-mod tests;

@@ -1,276 +1,16 @@
-//! Runs one operator of `vbits`: as often as it is told, so that its instructions can be counted, or once, so that its
-//! result can be compared. In go the operator's name and the number of turns, as two words, and out comes a sum of the
-//! results; or the name and two operands, each its letters from the left, behind an `s` where it is signed, and out come
-//! the letters of the result, or a `?` for operands that don't go together. Without words nothing is run. No law is
-//! claimed.
+//! Runs one call of `vbits`: an operator as often as it is told, so that its instructions can be counted, or any call once, so
+//! that its result can be compared. In go `repeat`, the operator's name and the number of turns, and out comes a sum of
+//! the results; or a call's name and what it takes (`words.rt`), and out come the letters of the result from the left, behind an
+//! `s` where it is signed, or a `?` for words that don't go together. Without words nothing is run. No law is claimed.
 #![tactic(auto)]
 
-ghost use Rattle.std.specs.Prelude.{◌≡◌, ◌≤◌, length};
+mod operators;
+mod words;
 
+use operators::{named, run};
 use std::{env, io};
-use vbits::{Bit4, Red, Vec4};
-
-#[derive(Clone, Copy)]
-enum Operator {
-    Copy,
-    CopyFree,
-    Add,
-    Sub,
-    Mul,
-    Div,
-    Rem,
-    Neg,
-    And,
-    Or,
-    Xor,
-    Xnor,
-    Not,
-    Join,
-    Eq,
-    Ne,
-    CaseEq,
-    CaseNe,
-    Lt,
-    Le,
-    Gt,
-    Ge,
-    ReduceAnd,
-    ReduceNand,
-    ReduceOr,
-    ReduceNor,
-    ReduceXor,
-    ReduceXnor,
-    Truth,
-    Shl,
-    Shr,
-    Ashr,
-    Select,
-    Put,
-    Concat,
-    Resize,
-    ToU64,
-}
-
-fn named(name: &str) -> Operator {
-    match name {
-        "copy_free" => Operator::CopyFree,
-        "add" => Operator::Add,
-        "sub" => Operator::Sub,
-        "mul" => Operator::Mul,
-        "div" => Operator::Div,
-        "rem" => Operator::Rem,
-        "neg" => Operator::Neg,
-        "and" => Operator::And,
-        "or" => Operator::Or,
-        "xor" => Operator::Xor,
-        "xnor" => Operator::Xnor,
-        "not" => Operator::Not,
-        "join" => Operator::Join,
-        "eq" => Operator::Eq,
-        "ne" => Operator::Ne,
-        "case_eq" => Operator::CaseEq,
-        "case_ne" => Operator::CaseNe,
-        "lt" => Operator::Lt,
-        "le" => Operator::Le,
-        "gt" => Operator::Gt,
-        "ge" => Operator::Ge,
-        "reduce_and" => Operator::ReduceAnd,
-        "reduce_nand" => Operator::ReduceNand,
-        "reduce_or" => Operator::ReduceOr,
-        "reduce_nor" => Operator::ReduceNor,
-        "reduce_xor" => Operator::ReduceXor,
-        "reduce_xnor" => Operator::ReduceXnor,
-        "truth" => Operator::Truth,
-        "shl" => Operator::Shl,
-        "shr" => Operator::Shr,
-        "ashr" => Operator::Ashr,
-        "select" => Operator::Select,
-        "put" => Operator::Put,
-        "concat" => Operator::Concat,
-        "resize" => Operator::Resize,
-        "to_u64" => Operator::ToU64,
-        _ => Operator::Copy,
-    }
-}
-
-fn applied(operator: Operator, left: Vec4, right: Vec4) -> Vec4
-    requires { length left.letters ≡ length right.letters }
-{
-    match operator {
-        Operator::Add => left.add(right),
-        Operator::Sub => left.sub(right),
-        Operator::Mul => left.mul(right),
-        Operator::Div => left.div(right),
-        Operator::Rem => left.rem(right),
-        Operator::Neg => left.neg(),
-        Operator::And => left.and(right),
-        Operator::Or => left.or(right),
-        Operator::Xor => left.xor(right),
-        Operator::Xnor => left.xnor(right),
-        Operator::Not => left.not(),
-        Operator::Join => left.join(right),
-        Operator::Eq => left.eq(right),
-        Operator::Ne => left.ne(right),
-        Operator::CaseEq => left.case_eq(right),
-        Operator::CaseNe => left.case_ne(right),
-        Operator::Lt => left.lt(right),
-        Operator::Le => left.le(right),
-        Operator::Gt => left.gt(right),
-        Operator::Ge => left.ge(right),
-        Operator::ReduceAnd => left.reduce(Red::And),
-        Operator::ReduceNand => left.reduce(Red::Nand),
-        Operator::ReduceOr => left.reduce(Red::Or),
-        Operator::ReduceNor => left.reduce(Red::Nor),
-        Operator::ReduceXor => left.reduce(Red::Xor),
-        Operator::ReduceXnor => left.reduce(Red::Xnor),
-        Operator::Truth => Vec4::of_bit(left.truth()),
-        Operator::Select => left.select(left.len() - 1, left.len() / 2),
-        Operator::Resize => left.resize(right.len() / 2 + 30),
-        Operator::ToU64 => Vec4::from_u64(64, left.to_u64().unwrap_or(7)),
-        _ => left,
-    }
-}
-
-// The operand whose length is free: a shift's amount, or what is written or joined.
-fn applied_to_free(operator: Operator, left: Vec4, free: Vec4) -> Vec4 {
-    match operator {
-        Operator::Shl => left.shl(free),
-        Operator::Shr => left.shr(free),
-        Operator::Ashr => left.ashr(free),
-        Operator::CopyFree => left,
-        Operator::Put => {
-            if free.len() <= left.len() {
-                left.put(free.len() - 1, 0, free)
-            } else {
-                left
-            }
-        }
-        _ => {
-            if left.len() + free.len() <= 64 {
-                left.concat(free)
-            } else {
-                left
-            }
-        }
-    }
-}
-
-fn takes_free(operator: Operator) -> bool {
-    match operator {
-        Operator::Shl => true,
-        Operator::Shr => true,
-        Operator::Ashr => true,
-        Operator::Put => true,
-        Operator::Concat => true,
-        Operator::CopyFree => true,
-        _ => false,
-    }
-}
-
-fn operand(len: u32, n: u64) -> Vec4
-    requires some { 1 ≤ len }
-    requires few { len ≤ 64 }
-{
-    Vec4::from_u64(len, n).with_sign(n % 2 == 0)
-}
-
-// Runs the operator and adds the numbers of what it gave.
-fn run(operator: Operator, turns: u64) -> u64 {
-    let odd = turns | 1;
-    let lefts = [
-        operand(1, odd),
-        operand(4, odd.wrapping_mul(3)),
-        operand(8, odd.wrapping_mul(0x9E37_79B9)),
-        operand(31, odd.wrapping_mul(0x85EB_CA6B_1234_5678)),
-        operand(32, odd.wrapping_mul(0xC2B2_AE35_FFFF_0001)),
-        operand(33, odd.wrapping_mul(0x27D4_EB2F_8765_4321)),
-        operand(63, odd.wrapping_mul(0x1656_67B1_9E37_79F9)),
-        operand(64, odd.wrapping_mul(0x9E37_79B9_7F4A_7C15)),
-    ];
-    let rights = [
-        operand(1, odd),
-        operand(4, odd.wrapping_mul(5)),
-        operand(8, odd.wrapping_mul(0x7F4A_7C15)),
-        operand(31, odd.wrapping_mul(0x94D0_49BB_1331_11EB)),
-        operand(32, odd.wrapping_mul(0xBF58_476D_1CE4_E5B9)),
-        operand(33, odd.wrapping_mul(0xD6E8_FEB8_6659_FD93)),
-        operand(63, odd.wrapping_mul(0xA076_1D64_78BD_642F)),
-        operand(64, odd.wrapping_mul(0xE703_7ED1_A0B4_28DB)),
-    ];
-    let frees = [
-        operand(1, 0),
-        operand(2, 1),
-        operand(3, 5),
-        operand(5, 17),
-        operand(5, 9),
-        operand(6, 32),
-        operand(6, 62),
-        operand(6, 3),
-    ];
-    let free = takes_free(operator);
-    let mut results = [Vec4::zeros(1); 8];
-    for turn in 0..turns {
-        let i = (turn % 8) as usize;
-        let left = lefts[i];
-        let right = rights[i];
-        if free {
-            results[i] = applied_to_free(operator, left, frees[i]);
-        } else if left.len() == right.len() {
-            results[i] = applied(operator, left, right);
-        }
-    }
-    let mut sum = 0u64;
-    for result in results {
-        sum = sum.wrapping_add(result.to_u64().unwrap_or(result.len() as u64));
-    }
-    sum
-}
-
-fn letter_of(byte: u8) -> Option<Bit4> {
-    match byte {
-        b'0' => Some(Bit4::Zero),
-        b'1' => Some(Bit4::One),
-        b'x' => Some(Bit4::X),
-        b'z' => Some(Bit4::Z),
-        _ => None,
-    }
-}
-
-// The vector of these letters, leftmost first; none where there are none, too many, or others.
-fn vector_of(letters: &[u8]) -> Option<Vec4> {
-    let (first, rest) = letters.split_first()?;
-    let mut vector = Vec4::of_bit(letter_of(*first)?);
-    for byte in rest {
-        let letter = Vec4::of_bit(letter_of(*byte)?);
-        if vector.len() + letter.len() > 64 {
-            return None;
-        }
-        vector = vector.concat(letter);
-    }
-    Some(vector)
-}
-
-// An operand: its letters, behind an `s` where it is signed.
-fn operand_of(word: &[u8]) -> Option<Vec4> {
-    match word.split_first() {
-        Some((b's', letters)) => Some(vector_of(letters)?.with_sign(true)),
-        _ => vector_of(word),
-    }
-}
-
-// What the operator makes of the operands, where they go together.
-fn result_of(operator: Operator, left: &[u8], right: &[u8]) -> Option<Vec4> {
-    let left = operand_of(left)?;
-    let right = operand_of(right)?;
-    if takes_free(operator) {
-        return Some(applied_to_free(operator, left, right));
-    }
-    if left.len() == right.len() {
-        Some(applied(operator, left, right))
-    } else {
-        None
-    }
-}
+use vbits::{Bit4, Vec4};
+use words::called;
 
 fn print_letters(rt: &impl Print, vector: Vec4) -> io::Result<()> {
     for i in 0..vector.len() {
@@ -285,33 +25,32 @@ fn print_letters(rt: &impl Print, vector: Vec4) -> io::Result<()> {
     Ok(())
 }
 
-fn show(rt: &impl Print, operator: Operator, left: &[u8], right: &[u8]) -> io::Result<()> {
-    match result_of(operator, left, right) {
-        Some(result) => print_letters(rt, result)?,
+fn show(rt: &impl Print, answer: Option<Vec4>) -> io::Result<()> {
+    match answer {
+        Some(vector) => {
+            if vector.signed() {
+                rt.print("s")?;
+            }
+            print_letters(rt, vector)?;
+        }
         None => rt.print("?")?,
     }
     rt.println("")
 }
 
 fn main(rt: HostRuntime) -> io::Result<()> {
-    let mut words = env::args(&rt)?;
-    let _program = words.next();
-    let Some(name) = words.next() else {
-        return Ok(());
-    };
-    let operator = named(name.as_str());
-    let Some(second) = words.next() else {
-        return Ok(());
-    };
-    if let Some(right) = words.next() {
-        return show(
-            &rt,
-            operator,
-            second.as_str().as_bytes(),
-            right.as_str().as_bytes(),
-        );
+    let given = env::args(&rt)?.collect::<Vec<String>>(rt.alloc())?;
+    let mut words = Vec::new(rt.alloc());
+    for word in &given {
+        words.push(word.as_str())?;
     }
-    let turns = second.as_str().parse::<u64>().unwrap_or(0);
-    let sum = run(operator, turns);
-    println!(rt; "{name} {turns} {sum}")
+    match words.as_slice() {
+        [_, "repeat", name, turns] => {
+            let turns = turns.parse::<u64>().unwrap_or(0);
+            let sum = run(named(name), turns);
+            println!(rt; "{name} {turns} {sum}")
+        }
+        [] | [_] => Ok(()),
+        [_, call @ ..] => show(&rt, called(call)),
+    }
 }

@@ -10,8 +10,6 @@ mod metered;
 mod progress;
 mod put;
 mod sink;
-#[cfg(test)]
-mod tests;
 mod values;
 mod write;
 

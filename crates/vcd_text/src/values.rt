@@ -156,30 +156,3 @@ pub(crate) fn put_changes(
     }
     Ok(())
 }
-
-#[cfg(test)]
-mod tests {
-    use super::*;
-    use std::test::Fail;
-
-    // What the standard's rule makes of some values: leftmost digits go while extension gives them back.
-    #[test]
-    fn lines_of_values(rt: HostRuntime) -> Result<(), Fail> {
-        let alloc = rt.alloc();
-        let mut text = Vec::new(alloc);
-        let unknown = Vec4::all_x(8);
-        let two = Vec4::from_u64(8, 2);
-        put_values(
-            alloc,
-            &mut text,
-            &[Vec4::zeros(1), two, unknown, Vec4::all_z(3)],
-        )?;
-        assert_eq!(rt; text.as_slice(), b"0!\nb10 \"\nbx #\nbz $\n".as_slice());
-        put_changes(alloc, &mut text, &[two, unknown], &[two, two])?;
-        assert_eq!(rt;
-            text.as_slice(),
-            b"0!\nb10 \"\nbx #\nbz $\nb10 \"\n".as_slice()
-        );
-        Ok(())
-    }
-}

@@ -15,5 +15,3 @@ mod variable;
 pub use design::elaborate;
 pub use fault::ElabFault;
 
-#[cfg(test)]
-mod tests;

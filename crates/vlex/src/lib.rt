@@ -12,8 +12,6 @@ pub mod law;
 mod lexer;
 mod list;
 mod number;
-#[cfg(test)]
-mod tests;
 mod text;
 
 pub use fault::LexFault;

@@ -13,8 +13,6 @@ mod parser;
 pub mod profile;
 mod statements;
 mod stop;
-#[cfg(test)]
-mod tests;
 
 pub use fault::SyntaxFault;
 pub use parser::parse;

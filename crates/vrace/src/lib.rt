@@ -10,8 +10,6 @@ pub mod law;
 mod options;
 mod read;
 mod replay;
-#[cfg(test)]
-mod tests;
 mod unwatched;
 
 pub use fault::{At, Fault};

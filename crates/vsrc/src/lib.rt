@@ -8,8 +8,6 @@ mod fault;
 mod files;
 pub mod law;
 mod outside;
-#[cfg(test)]
-mod tests;
 
 pub use expanded::{Expanded, Place, Scale, Unit};
 pub use fault::SrcFault;

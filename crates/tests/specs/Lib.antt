@@ -1,0 +1,2 @@
+pub mod Wheels
+pub mod WheelLaws

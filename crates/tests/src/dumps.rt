@@ -1,0 +1,194 @@
+// Dumps of a small design with three scopes, and writers that fail.
+
+ghost use Rattle.std.specs.Prelude.{◌≤◌};
+
+use std::alloc::Global;
+use std::io;
+use std::io::{Read, Write};
+use std::test::Fail;
+use vast::design::{Bounds, Design, Kind, Scope, Variable};
+use vbits::Vec4;
+use vcd_text::{DumpSink, Header, Metered, WriteFault, write_vcd};
+use vmodel::history::{Cause, DumpCommand, End, History, Item};
+use vmodel::sink::Sink;
+
+// Takes at most so many bytes a call, and fails at a call.
+#[derive(Drop)]
+struct Slow {
+    held: Vec<u8>,
+    most: usize,
+    calls: u32,
+    failing: u32,
+}
+
+impl Write for Slow {
+    fn write(&mut self, buf: &[u8]) -> io::Result<usize> {
+        self.calls = self.calls.wrapping_add(1);
+        if self.calls == self.failing {
+            return Err(io::Error::from(io::ErrorKind::BrokenPipe));
+        }
+        let taken = buf.len().min(self.most);
+        self.held.extend_from_slice(&buf[..taken])?;
+        Ok(taken)
+    }
+
+    fn flush(&mut self) -> io::Result<()> {
+        Ok(())
+    }
+}
+
+impl Read for Slow {
+    fn read(&mut self, _buf: &mut [u8]) -> io::Result<usize> {
+        Err(io::Error::from(io::ErrorKind::BrokenPipe))
+    }
+}
+
+fn slow_writer(alloc: Global, most: usize, failing: u32) -> Metered<Slow> {
+    Metered::new(Slow {
+        held: Vec::new(alloc),
+        most,
+        calls: 0,
+        failing,
+    })
+}
+
+fn variable(
+    alloc: Global,
+    name: &[u8],
+    bounds: Option<Bounds>,
+    length: u32,
+) -> Result<Variable, Fail>
+    requires some { 1 ≤ length }
+    requires few { length ≤ 64 }
+{
+    Ok(Variable {
+        name: Vec::from_slice(alloc, name)?,
+        kind: Kind::Reg,
+        length,
+        signed: false,
+        bounds,
+    })
+}
+
+fn scope(alloc: Global, name: &[u8], depth: u32, variables: u32) -> Result<Scope, Fail> {
+    Ok(Scope {
+        name: Vec::from_slice(alloc, name)?,
+        depth,
+        variables,
+    })
+}
+
+// Two modules, one in the other, and a third beside it.
+fn design(alloc: Global) -> Result<Design, Fail> {
+    let byte = Some(Bounds { left: 7, right: 0 });
+    let mut variables = Vec::new(alloc);
+    variables.push(variable(alloc, b"top.go", None, 1)?)?;
+    variables.push(variable(alloc, b"top.sum", byte, 8)?)?;
+    variables.push(variable(alloc, b"top.left.n", None, 4)?)?;
+    let mut scopes = Vec::new(alloc);
+    scopes.push(scope(alloc, b"top", 0, 2)?)?;
+    scopes.push(scope(alloc, b"left", 1, 1)?)?;
+    scopes.push(scope(alloc, b"right", 1, 0)?)?;
+    Ok(Design {
+        variables,
+        processes: Vec::new(alloc),
+        scopes,
+    })
+}
+
+fn slot(alloc: Global, time: u64, go: u64, n: Vec4) -> Result<Item, Fail> {
+    let values = Vec::from_slice(alloc, &[Vec4::from_u64(1, go), Vec4::from_u64(8, 5), n])?;
+    Ok(Item::SlotEnd { time, values })
+}
+
+// The dump is asked for in the second slot. In the third nothing changes.
+fn history(alloc: Global, end: u64) -> Result<History, Fail> {
+    let mut items = Vec::new(alloc);
+    items.push(slot(alloc, 0, 1, Vec4::all_z(4))?)?;
+    items.push(Item::Dump(DumpCommand::Vars))?;
+    items.push(slot(alloc, 3, 0, Vec4::all_x(4))?)?;
+    items.push(slot(alloc, 4, 0, Vec4::all_x(4))?)?;
+    items.push(slot(alloc, 7, 1, Vec4::all_z(4))?)?;
+    Ok(History {
+        items,
+        end: End {
+            time: end,
+            cause: Cause::Finish,
+        },
+        values: Vec::new(alloc),
+    })
+}
+
+// By hand, after 18.2.1 to 18.2.3.
+const TEXT: &str =
+    "$version vrace $end\n$timescale 1 ns $end\n$scope module top $end\n$var reg 1 ! go $end\n\
+$var reg 8 \" sum [7:0] $end\n$scope module left $end\n$var reg 4 # n $end\n$upscope $end\n\
+$scope module right $end\n$upscope $end\n$upscope $end\n$enddefinitions $end\n\
+#3\n$dumpvars\n0!\nb101 \"\nbx #\n$end\n#7\n1!\nbz #\n";
+
+#[test]
+fn whole_dump(rt: HostRuntime) -> Result<(), Fail> {
+    let alloc = rt.alloc();
+    let header = Header::new(alloc, &design(alloc)?)?;
+    let mut writer = slow_writer(alloc, 3, 0);
+    let result = write_vcd(alloc, &header, &history(alloc, 7)?, &mut writer);
+    assert_eq!(rt; result, Ok(()));
+    assert_eq!(rt; writer.failures(), 0);
+    assert_eq!(rt; writer.into_inner().held.as_slice(), TEXT.as_bytes());
+    Ok(())
+}
+
+#[test]
+fn dump_slot_by_slot(rt: HostRuntime) -> Result<(), Fail> {
+    let alloc = rt.alloc();
+    let header = Header::new(alloc, &design(alloc)?)?;
+    let history = history(alloc, 9)?;
+    let mut writer = slow_writer(alloc, 1000, 0);
+    let mut sink = DumpSink::new(alloc, &header, &mut writer);
+    for item in &history.items {
+        assert_eq!(rt; sink.take(std::slice::from_ref(item)), Ok(()));
+    }
+    assert_eq!(rt; sink.finish(&history.end), Ok(()));
+    // The same end again adds nothing.
+    assert_eq!(rt; sink.finish(&history.end), Ok(()));
+    assert_eq!(rt; sink.into_writer().failures(), 0);
+    let mut text = Vec::from_slice(alloc, TEXT.as_bytes())?;
+    text.extend_from_slice(b"#9\n")?;
+    assert_eq!(rt; writer.into_inner().held.as_slice(), text.as_slice());
+    Ok(())
+}
+
+#[test]
+fn a_failed_write_ends_the_dump(rt: HostRuntime) -> Result<(), Fail> {
+    let alloc = rt.alloc();
+    let header = Header::new(alloc, &design(alloc)?)?;
+    let mut writer = slow_writer(alloc, 10, 5);
+    let result = write_vcd(alloc, &header, &history(alloc, 7)?, &mut writer);
+    assert_eq!(rt; result, Err(WriteFault::Write));
+    assert_eq!(rt; writer.failures(), 1);
+    assert_eq!(rt; writer.into_inner().held.as_slice(), &TEXT.as_bytes()[..40]);
+    Ok(())
+}
+
+#[test]
+fn to_take_no_byte_is_a_failure(rt: HostRuntime) -> Result<(), Fail> {
+    let alloc = rt.alloc();
+    let header = Header::new(alloc, &design(alloc)?)?;
+    let mut writer = slow_writer(alloc, 0, 0);
+    let result = write_vcd(alloc, &header, &history(alloc, 7)?, &mut writer);
+    assert_eq!(rt; result, Err(WriteFault::Write));
+    assert_eq!(rt; writer.failures(), 1);
+    Ok(())
+}
+
+#[test]
+fn failures_of_reads(rt: HostRuntime) -> Result<(), Fail> {
+    let mut room = [0; 4];
+    let mut failing = slow_writer(rt.alloc(), 0, 0);
+    assert!(rt; failing.read(&mut room).is_err());
+    assert_eq!(rt; failing.failures(), 1);
+    let mut reader = Metered::new(&b"abc"[..]);
+    assert_eq!(rt; reader.read(&mut room).ok(), Some(3));
+    assert_eq!(rt; reader.failures(), 0);
+    Ok(())
+}

@@ -1,0 +1,47 @@
+// What a refusal prints.
+
+use std::alloc::Global;
+use std::test::Fail;
+use vrace::{At, Fault};
+use vsrc::Place;
+
+// Each refusal, with the number that docs/FAULTS.md gives it.
+const NUMBERS: [(Fault, &str); 20] = [
+    (Fault::NotEnded(At(None)), "E101"),
+    (Fault::BadToken(At(None)), "E102"),
+    (Fault::Growth(At(None)), "E112"),
+    (Fault::NoTree(At(None)), "E201"),
+    (Fault::Outside(At(None)), "E202"),
+    (Fault::TooDeep(At(None)), "E203"),
+    (Fault::NotYet(At(None)), "E299"),
+    (Fault::NoTop(At(None)), "E301"),
+    (Fault::Doubled(At(None)), "E302"),
+    (Fault::Unknown(At(None)), "E303"),
+    (Fault::Width(At(None)), "E306"),
+    (Fault::TooMany(At(None)), "E309"),
+    (Fault::BadLog, "E401"),
+    (Fault::NoSuchChoice, "E402"),
+    (Fault::TooManySteps, "E403"),
+    (Fault::OutOfLimit, "E404"),
+    (Fault::Memory, "E901"),
+    (Fault::Write, "E902"),
+    (Fault::Read, "E903"),
+    (Fault::TooLong, "E904"),
+];
+
+#[test]
+fn faults_print_their_numbers(rt: HostRuntime) -> Result<(), Fail> {
+    for (fault, number) in NUMBERS {
+        let text = format!(in rt.alloc(); "{fault}")?;
+        assert!(rt; text.as_str() == number);
+    }
+    Ok(())
+}
+
+#[test]
+fn faults_print_their_places(rt: HostRuntime) -> Result<(), Fail> {
+    let place = Place { file: 2, line: 31 };
+    let text = format!(in rt.alloc(); "{}", Fault::Unknown(At(Some(place))))?;
+    assert!(rt; text.as_str() == "E303 at 2:31");
+    Ok(())
+}

@@ -1,0 +1,18 @@
+// Every test of the crates below, against their public calls: values from outside, what no clause says, and that calls succeed.
+// It stands apart so that a crate is proved once; the crate itself has nothing.
+#![tactic(auto)]
+
+#[cfg(test)]
+mod books;
+#[cfg(test)]
+mod dumps;
+#[cfg(test)]
+mod faults;
+#[cfg(test)]
+mod logs;
+#[cfg(test)]
+mod searches;
+#[cfg(test)]
+mod texts;
+#[cfg(test)]
+mod wheel;

@@ -1,0 +1,201 @@
+// From the bytes of files to places, tokens, trees and steps.
+
+use std::alloc::Global;
+use std::test::Fail;
+use vast::design::Design;
+use vast::syntax::{self, Ast, Module, Stmt, Word};
+use vast::{fits, spell};
+use vbits::Vec4;
+use velab::elaborate;
+use vlex::{Kind, Tokens, tokens};
+use vmodel::history::{Grain, Item};
+use vmodel::{opening, slow_step, slow_width};
+use vparse::parse;
+use vsrc::{Expanded, Place, expand};
+
+fn source(alloc: Global, texts: &[&[u8]]) -> Result<Expanded, Fail> {
+    let mut files = Vec::new(alloc);
+    for text in texts {
+        files.push(Vec::from_slice(alloc, text)?)?;
+    }
+    Ok(expand(alloc, &files)?)
+}
+
+#[test]
+fn joins_files(rt: HostRuntime) -> Result<(), Fail> {
+    let none = source(rt.alloc(), &[])?;
+    assert_eq!(rt; none.text(), b"".as_slice());
+    assert_eq!(rt; none.place(0), Place { file: 1, line: 1 });
+
+    let source = source(rt.alloc(), &[b"a\nb", b"", b"\nc"])?;
+    assert_eq!(rt; source.text(), b"a\nb\n\n\nc".as_slice());
+    // the bytes of the text, line feeds between the files included, and its end
+    let places = [
+        (1, 1),
+        (1, 1),
+        (1, 2),
+        (1, 2),
+        (2, 1),
+        (3, 1),
+        (3, 2),
+        (3, 2),
+    ];
+    for (at, (file, line)) in places.into_iter().enumerate() {
+        assert!(rt; at <= source.text().len());
+        assert_eq!(rt; source.place(at), Place { file, line }, "at {at}");
+    }
+    assert_eq!(rt; source.scale().count, 1);
+    assert_eq!(rt; source.scale().unit.name(), "ns");
+    Ok(())
+}
+
+// A text of tokens, and the same with a blank between each two.
+const TEXT: &[u8] = b"#1a = 0; 1'h1?a:b (c == 2'b01 ?a:b)
+8'dx_ 04'b1 1_6'b0 64'b1 4'b1_ 8'bX 4'SHf 'bz 'sbx 'D9 8 'b1
+a-->b a**b[i+:2] a?b-:c a===b!==c<<<d>>>e<=f a&&&b~|^~~^c~&|d||e a=!b!=c==d>=e>>f<<g
+x$1_ _y $time $$ a.b(c)@{d,e};f:g%h+i*j<k>l|m^n
+a/b a//b
+c a/**/b/***/c/*//*/d a / \"a\\n\\t\\\\\\\"b\" \"\" // \x00\xff
+\"\x00\xff\"";
+
+const WORDS: &[u8] = b"# 1 a = 0 ; 1'h1?a : b ( c == 2'b01 ? a : b ) \
+8'dx_ 04'b1 1_6'b0 64'b1 4'b1_ 8'bX 4'SHf 'bz 'sbx 'D9 8 'b1 \
+a - -> b a ** b [ i +: 2 ] a ? b -: c a === b !== c <<< d >>> e <= f \
+a && & b ~| ^~ ~^ c ~& | d || e a = ! b != c == d >= e >> f << g \
+x$1_ _y $time $$ a . b ( c ) @ { d , e } ; f : g % h + i * j < k > l | m ^ n \
+a / b a c a b c d a / \"a\\n\\t\\\\\\\"b\" \"\" \"\x00\xff\"";
+
+fn joined(alloc: Global, tokens: &Tokens<'_>) -> Result<Vec<u8>, Fail> {
+    let mut line = Vec::new(alloc);
+    for index in 0..tokens.len() {
+        if index > 0 {
+            line.push(b' ')?;
+        }
+        line.extend_from_slice(tokens.text(index))?;
+    }
+    Ok(line)
+}
+
+#[test]
+fn cuts_a_text(rt: HostRuntime) -> Result<(), Fail> {
+    let source = source(rt.alloc(), &[TEXT])?;
+    let found = joined(rt.alloc(), &tokens(rt.alloc(), &source)?)?;
+    assert_eq!(rt; found.as_slice(), WORDS);
+    Ok(())
+}
+
+#[test]
+fn names_kinds_and_places(rt: HostRuntime) -> Result<(), Fail> {
+    let kinds = [
+        Kind::Name,
+        Kind::System,
+        Kind::Plain,
+        Kind::Based,
+        Kind::Text,
+        Kind::Symbol,
+    ];
+    let source = source(rt.alloc(), &[b"a\n$b 1\n", b"1'b1\n\"c\" +"])?;
+    let found = tokens(rt.alloc(), &source)?;
+    assert_eq!(rt; found.len(), 6);
+    for (index, kind) in kinds.into_iter().enumerate() {
+        assert_eq!(rt; found.kind(index), kind);
+    }
+    assert_eq!(rt; found.place(2), Place { file: 1, line: 2 });
+    assert_eq!(rt; found.place(5), Place { file: 2, line: 2 });
+    Ok(())
+}
+
+const EACH_STATEMENT: &[u8] = b"module top;
+  reg [7:0] a, b_1;
+  reg c;
+  initial begin
+    $dumpvars;
+    ;
+    a = 8'hF0;
+    b_1 <= a;
+    #10 c <= 1'bx;
+    begin end
+    # 0 begin c = c; end
+    $finish;
+  end
+  initial ;
+endmodule
+module second; endmodule
+";
+
+#[test]
+fn reads_each_statement(rt: HostRuntime) -> Result<(), Fail> {
+    let source = source(rt.alloc(), &[EACH_STATEMENT])?;
+    let found = tokens(rt.alloc(), &source)?;
+    let ast = parse(rt.alloc(), &found)?;
+    assert_eq!(rt; ast.modules.len(), 2);
+    assert_eq!(rt; ast.modules[0].items.len(), 4);
+    assert!(rt; fits(&ast));
+    let words = spell(rt.alloc(), &ast)?;
+    assert_eq!(rt; words.len(), found.len());
+    for (index, word) in words.iter().enumerate() {
+        assert_eq!(rt; word.text, found.text(index));
+    }
+    Ok(())
+}
+
+fn design(alloc: Global, text: &[u8]) -> Result<Design, Fail> {
+    let source = source(alloc, &[text])?;
+    let found = tokens(alloc, &source)?;
+    let ast = parse(alloc, &found)?;
+    Ok(elaborate(alloc, &ast, None)?)
+}
+
+// The values of the slot that the last step ended.
+fn slot_end(items: &[Item]) -> Option<&[Vec4]> {
+    match items.last() {
+        Some(Item::SlotEnd { time: _, values }) => Some(values.as_slice()),
+        _ => None,
+    }
+}
+
+// `a = 1` is a step, and `#5` another, which ends the slot.
+#[test]
+fn plain_steps_leave_their_state(rt: HostRuntime) -> Result<(), Fail> {
+    let alloc = rt.alloc();
+    let design = design(
+        alloc,
+        b"module tb; reg a; initial begin a = 1; #5 a = 0; end endmodule",
+    )?;
+    let first = opening(alloc, &design, 100, Grain::Process)?;
+    for _ in 0..2 {
+        assert_eq!(rt; slow_width(&first), 1);
+        let (second, items) = slow_step(alloc, &first, 0)?;
+        assert!(rt; items.is_empty());
+        assert_eq!(rt; slow_width(&second), 1);
+        let (_third, items) = slow_step(alloc, &second, 0)?;
+        assert!(rt; slot_end(&items) == Some([Vec4::from_u64(1, 1)].as_slice()));
+    }
+    Ok(())
+}
+
+fn delayed(alloc: Global, delays: u32) -> Result<Ast<'static>, Fail> {
+    let mut statement = Stmt::Empty;
+    for _ in 0..delays {
+        statement = Stmt::Delay {
+            amount: Word { text: b"1", at: 0 },
+            body: Box::new(alloc, statement)?,
+        };
+    }
+    let mut items = Vec::new(alloc);
+    items.push(syntax::Item::Initial(statement))?;
+    let mut modules = Vec::new(alloc);
+    modules.push(Module {
+        name: Word { text: b"tb", at: 0 },
+        items,
+    })?;
+    Ok(Ast { modules })
+}
+
+// An empty statement is one level deep, and each delay round it one more: 64 levels fit, 65 don't.
+#[test]
+fn deepest_tree(rt: HostRuntime) -> Result<(), Fail> {
+    assert!(rt; fits(&delayed(rt.alloc(), 63)?));
+    assert!(rt; !fits(&delayed(rt.alloc(), 64)?));
+    Ok(())
+}
