@@ -49,8 +49,6 @@ pub struct Design {
     pub actions: Vec<Action>,
     /// For each process where it begins: the places that it comes to first, in order. 256 processes at most.
     pub processes: Vec<Places>,
-    /// For each action the number of the token at which its statement begins. No clause speaks of it.
-    pub origins: Vec<u32>,
 }
 
 impl Model for Design {

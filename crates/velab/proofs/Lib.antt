@@ -5,3 +5,4 @@ pub mod ListLemmas
 pub mod FaultLemmas
 pub mod StatementLemmas
 pub mod TopLemmas
+mod ProcessLemmas

@@ -1,24 +1,33 @@
--- Lists of actions, and what a statement puts behind one.
-use Rattle.std.proofs.Common.{◌≡◌, ◌<◌, ◌≤◌, ℕ, ◌+◌, Bool, true, ◌&&◌, List, [], ◌∷◌, ◌++◌, length, drop, get_or, Vec, Global, Result, Ok, Err, OnOk, sym, ap, ◌∙◌}
+-- What a statement lays on the table, statement by statement of a block.
+use Rattle.std.proofs.Common.{◌≡◌, ◌<◌, ◌≤◌, ℕ, ◌+◌, Bool, true, ◌&&◌, List, [], ◌∷◌, ◌++◌, length, drop, get_or, Vec, Global, Result, Ok, Err, OnOk, sym, ap, subst, ◌∙◌, append_assoc, append-nil}
 use Rattle.std.proofs.Math.ListN.{drop_of_length-le}
-use Rattle.vast.specs.Syntax.{block, first}
+use Rattle.vast.specs.Syntax.{StatementTree, StatementTrees, block, first, none}
 use Rattle.vast.specs.Trees.{statement_tree, statement_trees}
 use Rattle.vast.specs.declared.syntax.Stmt.{Stmt, Block}
 use Rattle.vast.proofs.TreeLemmas.{tree_of_block}
-use Rattle.vast.proofs.ActionLemmas.{join_done, join_assoc, actions-append}
-use Rattle.vast.specs.Design.{Actions, done, then, join}
-use Rattle.vast.specs.DesignViews.{action, actions}
-use Rattle.vast.specs.declared.design.Statement.{Statement}
+use Rattle.vast.specs.declared.design.Action.{Action}
 use Rattle.basis.specs.declared.memory.OrMemory.{OrMemory}
 use Rattle.velab.specs.declared.fault.ElabFault.{ElabFault}
-use Rattle.velab.specs.Elaborate.{actions_of, all_actions_of, knows, knows_all}
+use Rattle.velab.specs.Elaborate.{Laid, placed, nothing_laid, laid, all_laid, knows, knows_all}
+use Rattle.velab.specs.Parts.{IsLaid}
 use Rattle.velab.proofs.ListLemmas.{drop_at}
 
--- one statement was put behind the others
-pub put_gives : (result : Result (Unit {0}) (OrMemory ElabFault)) (old new : List Statement) (s : Statement) (wanted : Actions) → OnOk result (new ≡ old ++ s ∷ []) →
-    wanted ≡ then (action s) done → OnOk result (actions new ≡ join (actions old) wanted)
-put_gives (Ok u) old new s wanted is gives = ap actions is ∙ actions-append old (s ∷ []) ∙ ap (join (actions old)) (sym gives)
-put_gives (Err e) old new s wanted is gives = tt
+-- one action was put at the next place
+pub put_gives : (result : Result (Unit {0}) (OrMemory ElabFault)) (table after : List Action) (places more : List ℕ) (a : Action) (wanted : Laid) →
+    OnOk result (after ≡ table ++ a ∷ []) → OnOk result (more ≡ places ++ length table ∷ []) → wanted ≡ placed table a →
+    OnOk result (IsLaid wanted places after more)
+put_gives (Ok u) table after places more a wanted is at gives = record {
+  table = is ∙ sym (ap (λ (x : Laid). x.table) gives);
+  places = at ∙ sym (ap (λ (x : Laid). places ++ x.places) gives);
+}
+put_gives (Err e) table after places more a wanted is at gives = tt
+
+-- nothing was put
+pub nothing_gives : (table : List Action) (places : List ℕ) (wanted : Laid) → wanted ≡ nothing_laid table → IsLaid wanted places table places
+nothing_gives table places wanted gives = record {
+  table = sym (ap (λ (x : Laid). x.table) gives);
+  places = sym (ap (λ (x : Laid). places ++ x.places) gives ∙ append-nil places);
+}
 
 -- ---- the statements of a block
 
@@ -26,29 +35,45 @@ module _ (names : List (List ℕ)) (statement : Stmt) (statements : Vec Stmt Glo
   trees : statement_tree statement ≡ block (statement_trees items)
   trees = ap statement_tree is ∙ tree_of_block statements ∙ ap (λ (xs : List Stmt). block (statement_trees xs)) (sym same)
 
-  pub block_actions : all_actions_of names (statement_trees items) ≡ actions_of names (statement_tree statement)
-  block_actions = sym (ap (actions_of names) trees)
+  pub block_laid : (table : List Action) → all_laid names table (statement_trees items) ≡ laid names table (statement_tree statement)
+  block_laid table = sym (ap (laid names table) trees)
 
   pub block_knows : knows_all names (statement_trees items) ≡ knows names (statement_tree statement)
   block_knows = sym (ap (knows names) trees)
+
+-- so much of a block is laid: what is left leads to the same as all of it from the start
+pub record Leads (names : List (List ℕ)) (now : List Action) (before : List ℕ) (left : StatementTrees) (all : Laid) (begun : List ℕ) : Type 0 where
+  pub table : (all_laid names now left).table ≡ all.table
+  pub places : before ++ (all_laid names now left).places ≡ begun ++ all.places
 
 module _ (names : List (List ℕ)) (xs : List Stmt) (i : ℕ) where
   module _ (x : Stmt) (within : i < length xs) (is : x ≡ get_or xs i x) where
     opened : statement_trees (drop i xs) ≡ first (statement_tree x) (statement_trees (drop (i + 1) xs))
     opened = ap statement_trees (drop_at xs i x within is)
 
-    pub actions_step : (old new : List Statement) (all : Actions) → actions new ≡ join (actions old) (actions_of names (statement_tree x)) →
-        join (actions old) (all_actions_of names (statement_trees (drop i xs))) ≡ all → join (actions new) (all_actions_of names (statement_trees (drop (i + 1) xs))) ≡ all
-    actions_step old new all put same =
-        ap (λ a. join a (all_actions_of names (statement_trees (drop (i + 1) xs)))) put
-        ∙ join_assoc (actions old) (actions_of names (statement_tree x)) (all_actions_of names (statement_trees (drop (i + 1) xs)))
-        ∙ ap (λ ts. join (actions old) (all_actions_of names ts)) (sym opened)
-        ∙ same
+    pub laid_step : (table table_after : List Action) (places places_after : List ℕ) (all : Laid) (begun : List ℕ) →
+        IsLaid (laid names table (statement_tree x)) places table_after places_after →
+        Leads names table places (statement_trees (drop i xs)) all begun →
+        Leads names table_after places_after (statement_trees (drop (i + 1) xs)) all begun
+    laid_step table table_after places places_after all begun put leads =
+        let rest : StatementTrees = statement_trees (drop (i + 1) xs) in
+        let front : Laid = laid names table (statement_tree x) in
+        let here : Leads names table places (first (statement_tree x) rest) all begun = subst (λ (t : StatementTrees). Leads names table places t all begun) opened leads in
+        record {
+          table = ap (λ (t : List Action). (all_laid names t rest).table) put.table ∙ here.table;
+          places = ap (λ (t : List Action). places_after ++ (all_laid names t rest).places) put.table
+              ∙ ap (λ (p : List ℕ). p ++ (all_laid names front.table rest).places) put.places
+              ∙ append_assoc places front.places (all_laid names front.table rest).places
+              ∙ here.places;
+        }
 
     pub knows_step : (all : Bool) → knows names (statement_tree x) ≡ true → knows_all names (statement_trees (drop i xs)) ≡ all → knows_all names (statement_trees (drop (i + 1) xs)) ≡ all
     knows_step all known same =
         sym (ap (λ b. b && knows_all names (statement_trees (drop (i + 1) xs))) known) ∙ sym (ap (knows_all names) opened) ∙ same
 
-  pub actions_end : (now : List Statement) (all : Actions) → length xs ≤ i → join (actions now) (all_actions_of names (statement_trees (drop i xs))) ≡ all → actions now ≡ all
-  actions_end now all end same =
-      sym (join_done (actions now)) ∙ ap (λ (l : List Stmt). join (actions now) (all_actions_of names (statement_trees l))) (sym (drop_of_length-le xs end)) ∙ same
+  pub laid_end : (table : List Action) (places : List ℕ) (all : Laid) (begun : List ℕ) → length xs ≤ i →
+      Leads names table places (statement_trees (drop i xs)) all begun → IsLaid all begun table places
+  laid_end table places all begun end leads =
+      let here : Leads names table places none all begun =
+      subst (λ (l : List Stmt). Leads names table places (statement_trees l) all begun) (drop_of_length-le xs end) leads in
+      record { table = here.table; places = sym (append-nil places) ∙ here.places }

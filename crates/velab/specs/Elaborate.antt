@@ -7,7 +7,11 @@ use Rattle.vbits.specs.Numbers as numbers
 use Rattle.vbits.specs.Vectors.{Vector, sign_letter}
 use Rattle.vast.specs.Syntax.{Text, ExpressionTree, number, name, StatementTree, empty, block, assign, nonblocking, delay, dump_vars, finish, StatementTrees, none, first, RangeTree, ItemTree, registers, initial, ModuleTree, SourceTree}
 use Rattle.vast.specs.Design as design
-use Rattle.vast.specs.Design.{VariableView, ScopeView, Actions, done, then, join, DesignView}
+use Rattle.vast.specs.declared.design.Action.{Action}
+use Rattle.vast.specs.declared.design.Action.TheVariants.{Assign, Nonblocking, Delay, DumpVars, Finish}
+use Rattle.vast.specs.declared.design.Target.TheVariants.{Whole}
+use Rattle.basis.specs.declared.timescale.Span.{Span}
+use Rattle.basis.specs.declared.timescale.Unit.TheVariants.{Nanosecond}
 use Rattle.vast.specs.declared.design.Kind.TheVariants.{Reg}
 use Rattle.vast.specs.declared.design.Bounds.{Bounds}
 use Rattle.vast.specs.declared.design.Expression.{Expression}
@@ -87,7 +91,7 @@ length_of None = 1
 length_of (Some bounds) = span bounds
 
 -- its name stands behind its module's and a dot
-abbrev pub variable_by : Text → Option Bounds → Text → VariableView
+abbrev pub variable_by : Text → Option Bounds → Text → design.Variable
 variable_by top bounds text = record {
   name = top ++ 46 ∷ text;
   kind = Reg;
@@ -96,7 +100,7 @@ variable_by top bounds text = record {
   bounds = bounds;
 }
 
-abbrev pub variable_of : Text → Declaration → VariableView
+abbrev pub variable_of : Text → Declaration → design.Variable
 variable_of top d = variable_by top (option_map bounds_of d.range) d.name
 
 -- ---- processes (9.9.1): a variable goes by its place among the declared names
@@ -111,20 +115,48 @@ abbrev pub expression_of : List Text → ExpressionTree → Expression
 expression_of names (number digits) = Constant (constant_of digits)
 expression_of names (name text) = Variable (place_of names text)
 
--- the actions of a statement in order; `begin`, `end` and `;` are none
-abbrev mutual
-  pub actions_of : List Text → StatementTree → Actions
-  actions_of names empty = done
-  actions_of names (block statements) = all_actions_of names statements
-  actions_of names (assign target value) = then (design.assign (place_of names target) (expression_of names value)) done
-  actions_of names (nonblocking target value) = then (design.nonblocking (place_of names target) (expression_of names value)) done
-  actions_of names (delay amount body) = then (design.delay (Constant (constant_of amount)) (actions_of names body)) done
-  actions_of names dump_vars = then design.dump_vars done
-  actions_of names finish = then design.finish done
+-- the table of actions so far, with what a statement adds to it, and the places at which the statement begins
+pub record Laid : Type 0 where
+  pub table : List Action
+  pub places : List ℕ
 
-  pub all_actions_of : List Text → StatementTrees → Actions
-  all_actions_of names none = done
-  all_actions_of names (first statement rest) = join (actions_of names statement) (all_actions_of names rest)
+-- an action goes by the next place
+abbrev pub placed : List Action → Action → Laid
+placed table action = record { table = table ++ action ∷ []; places = length table ∷ [] }
+
+abbrev pub nothing_laid : List Action → Laid
+nothing_laid table = record { table = table; places = [] }
+
+-- a statement behind what the table has: `begin`, `end` and `;` are no action, and what stands inside is laid first
+abbrev mutual
+  pub laid : List Text → List Action → StatementTree → Laid
+  laid names table empty = nothing_laid table
+  laid names table (block statements) = all_laid names table statements
+  laid names table (assign target value) = placed table (Assign (Whole (place_of names target)) (expression_of names value))
+  laid names table (nonblocking target value) = placed table (Nonblocking (Whole (place_of names target)) (expression_of names value))
+  laid names table (delay amount body) =
+      let inner = laid names table body in placed inner.table (Delay (Constant (constant_of amount)) inner.places)
+  laid names table dump_vars = placed table DumpVars
+  laid names table finish = placed table Finish
+
+  pub all_laid : List Text → List Action → StatementTrees → Laid
+  all_laid names table none = nothing_laid table
+  all_laid names table (first statement rest) =
+      let front = laid names table statement in
+      let behind = all_laid names front.table rest in
+      record { table = behind.table; places = front.places ++ behind.places }
+
+-- the table of several processes, and where each of them begins
+pub record Processes : Type 0 where
+  pub table : List Action
+  pub begins : List (List ℕ)
+
+abbrev pub laid_processes : List Text → List Action → List StatementTree → Processes
+laid_processes names table [] = record { table = table; begins = [] }
+laid_processes names table (statement ∷ rest) =
+    let front = laid names table statement in
+    let behind = laid_processes names front.table rest in
+    record { table = behind.table; begins = front.places ∷ behind.begins }
 
 abbrev pub knows_expression : List Text → ExpressionTree → Bool
 knows_expression names (number digits) = true
@@ -155,15 +187,24 @@ initials m = filter_map statement_of m.items
 
 -- ---- the design (12.1)
 
-abbrev pub scope_by : Text → ℕ → ScopeView
+abbrev pub scope_by : Text → ℕ → design.Scope
 scope_by top variables = record { name = top; depth = 0; variables = variables }
 
-abbrev pub design_of : ModuleTree → DesignView
-design_of m = record {
-  variables = map (variable_of m.name) (declarations m);
-  processes = map (actions_of (declared_names m)) (initials m);
-  scopes = scope_by m.name (length (declarations m)) ∷ [];
-}
+-- 19.8: time is counted in nanoseconds where no timescale is set (own)
+abbrev pub nanosecond : Span
+nanosecond = record { count = 1; unit = Nanosecond }
+
+abbrev pub design_of : ModuleTree → design.Design
+design_of m =
+    let processes = laid_processes (declared_names m) [] (initials m) in
+    record {
+      top = m.name;
+      precision = nanosecond;
+      variables = map (variable_of m.name) (declarations m);
+      scopes = scope_by m.name (length (declarations m)) ∷ [];
+      actions = processes.table;
+      processes = processes.begins;
+    }
 
 -- what the rules ask of a module
 pub record IsRight (m : ModuleTree) : Type 0 where
@@ -174,7 +215,7 @@ pub record IsRight (m : ModuleTree) : Type 0 where
   pub few_processes : length (initials m) ≤ 256
 
 -- The text has a top, its modules have names of their own, the top is right, and the design is the one that it describes.
-pub record Elaborates (tree : SourceTree) (top : Option Text) (design : DesignView) : Type 0 where
+pub record Elaborates (tree : SourceTree) (top : Option Text) (design : design.Design) : Type 0 where
   pub unit : ModuleTree
   pub is_top : top_of tree top ≡ Some unit
   pub modules_differ : has_double (module_names tree) ≡ false

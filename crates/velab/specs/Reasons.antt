@@ -2,7 +2,7 @@
 use Rattle.std.specs.Prelude.{◌≡◌, ◌<◌, ◌⊎◌, true, false, length, Option, None, Some}
 use Rattle.std.specs.List.{list_all}
 use Rattle.vast.specs.Syntax.{Text, ModuleTree, SourceTree}
-use Rattle.vast.specs.Design.{DesignView}
+use Rattle.vast.specs.Design.{Design}
 use Rattle.velab.specs.declared.fault.ElabFault.{ElabFault}
 use Rattle.velab.specs.declared.fault.ElabFault.TheVariants.{Module, Doubled, Unknown, Width, TooMany}
 use Rattle.velab.specs.Elaborate.{top_of, has_double, module_names, declared_names, declarations, initials, has_range, knows, Elaborates}
@@ -21,7 +21,7 @@ IsDesignReason tree top (TooMany at) = OfTop tree top (λ m. (1024 < length (dec
 
 -- no design is the text's
 abbrev pub HasNoDesign : SourceTree → Option Text → Type 0
-HasNoDesign tree top = (design : DesignView) → Elaborates tree top design → ⊥
+HasNoDesign tree top = (design : Design) → Elaborates tree top design → ⊥
 
 -- what breaks each of the rules that a part of the text can break: names differ, names are declared, ranges are wide
 -- as they may be, and there are not too many variables and processes

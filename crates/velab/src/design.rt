@@ -2,25 +2,30 @@
 
 ghost use Rattle.std.specs.Prelude.{◌≡◌, ◌≤◌, ◌∷◌, [], ℕ, map, IfOk, OnOk, option_map};
 ghost use Rattle.basis.specs.Reasons.{IfFault};
-ghost use Rattle.vast.specs.Design.{DesignView};
-ghost use Rattle.vast.specs.DesignViews.{design_view, scope_view};
+ghost use Rattle.vast.specs.Design.{Design};
 ghost use Rattle.vast.specs.Trees.{source_tree, module_tree};
 ghost use Rattle.velab.specs.Elaborate as spec;
 ghost use Rattle.velab.specs.Elaborate.{Elaborates, IsRight};
 ghost use Rattle.velab.specs.Reasons.{IsDesignReason, HasNoDesign, IsBreach, breaches_of};
 
 use crate::fault::ElabFault;
-use crate::statement::processes;
+use crate::statement::{ProcessTable, processes};
 use crate::top::{check_names, top_of};
 use crate::variable::{Declarations, declare_items};
-use basis::{NoMemory, OrMemory};
+use basis::{NoMemory, OrMemory, Span, Unit};
 use std::alloc::Global;
 use vast::design::{Design, Scope};
 use vast::syntax::{Ast, Module};
 
+/// The precision of a text that sets no timescale.
+const NANOSECOND: Span = Span {
+    count: 1,
+    unit: Unit::Nanosecond,
+};
+
 // The only scope: the top's.
 fn scopes(alloc: Global, name: &[u8], variables: u32) -> Result<Vec<Scope>, NoMemory>
-    ensures { IfOk result (λ scopes. map scope_view scopes.items ≡ spec.scope_by name.now variables ∷ []) }
+    ensures { IfOk result (λ scopes. scopes.items ≡ spec.scope_by name.now variables ∷ []) }
 {
     let name = Vec::from_slice(alloc, name)?;
     let mut scopes = Vec::new(alloc);
@@ -34,17 +39,19 @@ fn scopes(alloc: Global, name: &[u8], variables: u32) -> Result<Vec<Scope>, NoMe
 
 // The design that a module describes, where it is right.
 fn design_of(alloc: Global, unit: &Module<'_>) -> Result<Design, OrMemory<ElabFault>>
-    ensures ok { IfOk result (λ design. design_view design ≡ spec.design_of (module_tree unit.now)) }
+    ensures ok { IfOk result (λ design. design ≡ spec.design_of (module_tree unit.now)) }
     ensures right { OnOk result (IsRight (module_tree unit.now)) }
     ensures err { IfFault result (IsBreach (breaches_of (module_tree unit.now))) }
 {
     let Declarations { names, variables } = declare_items(alloc, unit.name.text, &unit.items)?;
-    let processes = processes(alloc, &names, &unit.items)?;
-    let scopes = scopes(alloc, unit.name.text, names.len() as u32)?;
+    let ProcessTable { actions, begins } = processes(alloc, &names, &unit.items)?;
     Ok(Design {
+        top: Vec::from_slice(alloc, unit.name.text)?,
+        precision: NANOSECOND,
         variables,
-        processes,
-        scopes,
+        scopes: scopes(alloc, unit.name.text, names.len() as u32)?,
+        actions,
+        processes: begins,
     })
 }
 
@@ -56,8 +63,8 @@ pub fn elaborate(
     ast: &Ast<'_>,
     top: Option<&[u8]>,
 ) -> Result<Design, OrMemory<ElabFault>>
-    ensures design { IfOk result (λ design. Elaborates (source_tree ast.now) (option_map (λ t. t.now) top.entry) (design_view design)) }
-    ensures only { IfOk result (λ design. (other : DesignView) → Elaborates (source_tree ast.now) (option_map (λ t. t.now) top.entry) other → other ≡ design_view design) }
+    ensures design { IfOk result (λ design. Elaborates (source_tree ast.now) (option_map (λ t. t.now) top.entry) design) }
+    ensures only { IfOk result (λ design. (other : Design) → Elaborates (source_tree ast.now) (option_map (λ t. t.now) top.entry) other → other ≡ design) }
     ensures reason { IfFault result (IsDesignReason (source_tree ast.now) (option_map (λ t. t.now) top.entry)) }
     ensures none { IfFault result (λ fault. HasNoDesign (source_tree ast.now) (option_map (λ t. t.now) top.entry)) }
 {

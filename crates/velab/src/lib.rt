@@ -14,4 +14,3 @@ mod variable;
 
 pub use design::elaborate;
 pub use fault::ElabFault;
-

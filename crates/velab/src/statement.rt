@@ -2,12 +2,10 @@
 ghost use Rattle.std.specs.Prelude.{◌≡◌, ◌<◌, ◌≤◌, ◌+◌, [], ◌++◌, ◌∷◌, true, false, length, map, IfOk, OnOk};
 ghost use Rattle.std.specs.List.{list_all, filter_map};
 ghost use Rattle.basis.specs.Reasons.{IfFault};
-ghost use Rattle.vast.specs.Design.{join};
-ghost use Rattle.vast.specs.DesignViews.{actions, process_actions};
 ghost use Rattle.vast.specs.Trees.{word_text, expression_tree, statement_tree, statement_trees, item_tree};
 ghost use Rattle.velab.specs.Elaborate as spec;
-ghost use Rattle.velab.specs.Elaborate.{actions_of, all_actions_of, is_declared, knows, knows_all, knows_expression, place_of, statement_of};
-ghost use Rattle.velab.specs.Parts.{initials_of};
+ghost use Rattle.velab.specs.Elaborate.{laid, all_laid, laid_processes, is_declared, knows, knows_all, knows_expression, place_of, statement_of};
+ghost use Rattle.velab.specs.Parts.{initials_of, IsLaid, AreLaid};
 ghost use Rattle.velab.specs.Reasons.{IsBreach, no_breach};
 
 use crate::fault::ElabFault;
@@ -15,7 +13,7 @@ use crate::names::Names;
 use crate::number::constant_of;
 use basis::OrMemory;
 use std::alloc::Global;
-use vast::design::{Expression, Process, Statement};
+use vast::design::{Action, Expression, Places, Target};
 use vast::syntax::{Expr, Item, Stmt, Word};
 
 /// The most processes of a design.
@@ -52,86 +50,90 @@ fn expression_of(
     }
 }
 
-// One statement more.
-fn put(into: &mut Vec<Statement>, statement: Statement) -> Result<(), OrMemory<ElabFault>>
-    ensures ok { OnOk result (into.new.items ≡ into.old.items ++ statement ∷ []) }
+// One action more, at the next place.
+fn put(
+    table: &mut Vec<Action>,
+    into: &mut Vec<usize>,
+    action: Action,
+) -> Result<(), OrMemory<ElabFault>>
+    ensures table { OnOk result (table.new.items ≡ table.old.items ++ action ∷ []) }
+    ensures place { OnOk result (into.new.items ≡ into.old.items ++ length table.old.items ∷ []) }
     ensures err { IfFault result (IsBreach no_breach) }
 {
-    into.push(statement)?;
+    into.push(table.len())?;
+    table.push(action)?;
     Ok(())
 }
 
-// What a statement has to do comes behind what there is.
+// Lays a statement on the table, and puts the places at which it begins behind others.
 #[cycle(statements)]
-fn put_actions(
+fn lay(
     alloc: Global,
     names: &Names<'_>,
     statement: &Stmt<'_>,
-    into: &mut Vec<Statement>,
+    table: &mut Vec<Action>,
+    into: &mut Vec<usize>,
 ) -> Result<(), OrMemory<ElabFault>>
     requires { length names.now ≤ 1024 }
-    ensures ok { OnOk result (actions into.new.items ≡ join (actions into.old.items) (actions_of names.now (statement_tree statement.now))) }
+    ensures ok { OnOk result (IsLaid (laid names.now table.old.items (statement_tree statement.now)) into.old.items table.new.items into.new.items) }
     ensures known { OnOk result (knows names.now (statement_tree statement.now) ≡ true) }
     ensures err { IfFault result (IsBreach (record no_breach { unknown = knows names.now (statement_tree statement.now) ≡ false })) }
 {
     match statement {
         Stmt::Empty => Ok(()),
-        Stmt::Block(statements) => put_all_actions(alloc, names, statements, into),
+        Stmt::Block(statements) => lay_all(alloc, names, statements, table, into),
         Stmt::Assign { target, value } => {
-            let target = number_of(names, target)?;
+            let target = Target::Whole(number_of(names, target)?);
             let value = expression_of(names, value)?;
-            put(into, Statement::Assign { target, value })
+            put(table, into, Action::Assign { target, value })
         }
         Stmt::Nonblocking { target, value } => {
-            let target = number_of(names, target)?;
+            let target = Target::Whole(number_of(names, target)?);
             let value = expression_of(names, value)?;
-            put(into, Statement::Nonblocking { target, value })
+            put(table, into, Action::Nonblocking { target, value })
         }
         Stmt::Delay { amount, body } => {
             let amount = Expression::Constant(constant_of(amount.text));
-            let mut behind = Vec::new(alloc);
-            put_actions(alloc, names, body, &mut behind)?;
-            put(
-                into,
-                Statement::Delay {
-                    amount,
-                    body: behind,
-                },
-            )
+            let mut inner = Vec::new(alloc);
+            lay(alloc, names, body, table, &mut inner)?;
+            let body = Places::new(inner);
+            put(table, into, Action::Delay { amount, body })
         }
-        Stmt::DumpVars => put(into, Statement::DumpVars),
-        Stmt::Finish => put(into, Statement::Finish),
+        Stmt::DumpVars => put(table, into, Action::DumpVars),
+        Stmt::Finish => put(table, into, Action::Finish),
     }
 }
 
 #[cycle(statements)]
-fn put_all_actions(
+fn lay_all(
     alloc: Global,
     names: &Names<'_>,
     statements: &[Stmt<'_>],
-    into: &mut Vec<Statement>,
+    table: &mut Vec<Action>,
+    into: &mut Vec<usize>,
 ) -> Result<(), OrMemory<ElabFault>>
     requires { length names.now ≤ 1024 }
-    ensures ok { OnOk result (actions into.new.items ≡ join (actions into.old.items) (all_actions_of names.now (statement_trees statements.now))) }
+    ensures ok { OnOk result (IsLaid (all_laid names.now table.old.items (statement_trees statements.now)) into.old.items table.new.items into.new.items) }
     ensures known { OnOk result (knows_all names.now (statement_trees statements.now) ≡ true) }
     ensures err { IfFault result (IsBreach (record no_breach { unknown = knows_all names.now (statement_trees statements.now) ≡ false })) }
 {
     for statement in statements {
-        put_actions(alloc, names, statement, into)?;
+        lay(alloc, names, statement, table, into)?;
     }
     Ok(())
 }
 
 // E309 where there are enough processes.
-fn put_process(
+fn lay_process(
     alloc: Global,
     names: &Names<'_>,
     item: &Item<'_>,
-    into: &mut Vec<Process>,
+    table: &mut Vec<Action>,
+    into: &mut Vec<Places>,
 ) -> Result<(), OrMemory<ElabFault>>
     requires names { length names.now ≤ 1024 }
     requires few { length into.old.items ≤ 256 }
-    ensures ok { OnOk result (map process_actions into.new.items ≡ map process_actions into.old.items ++ map (actions_of names.now) (initials_of (item_tree item.now))) }
+    ensures ok { OnOk result (AreLaid (laid_processes names.now table.old.items (initials_of (item_tree item.now))) into.old.items table.new.items into.new.items) }
     ensures few { OnOk result (length into.new.items ≤ 256) }
     ensures known { OnOk result (list_all (knows names.now) (initials_of (item_tree item.now)) ≡ true) }
     ensures err { IfFault result (IsBreach (record no_breach { unknown = list_all (knows names.now) (initials_of (item_tree item.now)) ≡ false; many = 256 < length into.old.items + length (initials_of (item_tree item.now)) })) }
@@ -142,12 +144,19 @@ fn put_process(
             if into.len() >= MOST_PROCESSES {
                 return Err(OrMemory::Fault(ElabFault::TooMany { at: None }));
             }
-            let mut body = Vec::new(alloc);
-            put_actions(alloc, names, statement, &mut body)?;
-            into.push(Process { body })?;
+            let mut begins = Vec::new(alloc);
+            lay(alloc, names, statement, table, &mut begins)?;
+            into.push(Places::new(begins))?;
             Ok(())
         }
     }
+}
+
+/// The actions of all processes, and where each process begins.
+#[derive(Drop)]
+pub struct ProcessTable {
+    pub actions: Vec<Action>,
+    pub begins: Vec<Places>,
 }
 
 /// A process for each `initial`, in the order of the text. Errors: E303, E309, E901.
@@ -155,16 +164,18 @@ pub fn processes(
     alloc: Global,
     names: &Names<'_>,
     items: &[Item<'_>],
-) -> Result<Vec<Process>, OrMemory<ElabFault>>
+) -> Result<ProcessTable, OrMemory<ElabFault>>
     requires { length names.now ≤ 1024 }
-    ensures ok { IfOk result (λ ps. map process_actions ps.items ≡ map (actions_of names.now) (filter_map statement_of (map item_tree items.now))) }
-    ensures few { IfOk result (λ ps. length ps.items ≤ 256) }
+    ensures ok { IfOk result (λ ps. AreLaid (laid_processes names.now [] (filter_map statement_of (map item_tree items.now))) [] ps.actions.items ps.begins.items) }
+    ensures few { IfOk result (λ ps. length ps.begins.items ≤ 256) }
+    ensures count { OnOk result (length (filter_map statement_of (map item_tree items.now)) ≤ 256) }
     ensures known { OnOk result (list_all (knows names.now) (filter_map statement_of (map item_tree items.now)) ≡ true) }
     ensures err { IfFault result (IsBreach (record no_breach { unknown = list_all (knows names.now) (filter_map statement_of (map item_tree items.now)) ≡ false; many = 256 < length (filter_map statement_of (map item_tree items.now)) })) }
 {
-    let mut processes = Vec::new(alloc);
+    let mut actions = Vec::new(alloc);
+    let mut begins = Vec::new(alloc);
     for item in items {
-        put_process(alloc, names, item, &mut processes)?;
+        lay_process(alloc, names, item, &mut actions, &mut begins)?;
     }
-    Ok(processes)
+    Ok(ProcessTable { actions, begins })
 }

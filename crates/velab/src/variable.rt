@@ -3,7 +3,6 @@ ghost use Rattle.std.specs.Prelude.{◌≡◌, ◌<◌, ◌≤◌, [], ◌++◌,
 ghost use Rattle.std.specs.List.{list_all, flat_map};
 ghost use Rattle.basis.specs.Reasons.{IfFault};
 ghost use Rattle.vbits.specs.Letters as letters;
-ghost use Rattle.vast.specs.DesignViews.{variable_view};
 ghost use Rattle.vast.specs.Trees.{word_text, range_tree, item_tree, module_tree};
 ghost use Rattle.velab.specs.Elaborate as spec;
 ghost use Rattle.velab.specs.Elaborate.{has_double, has_range, is_declared, is_range, variable_by, variable_of, declarations_of, declarations, declared_names, length_of};
@@ -148,7 +147,7 @@ fn variable(
     name: &[u8],
 ) -> Result<Variable, NoMemory>
     requires { spec.length_of bounds ≤ 64 }
-    ensures { IfOk result (λ v. variable_view v ≡ variable_by scope.now bounds name.now) }
+    ensures { IfOk result (λ v. v ≡ variable_by scope.now bounds name.now) }
 {
     let name = dotted(alloc, scope, name)?;
     Ok(Variable {
@@ -170,7 +169,7 @@ fn declare<'t>(
 ) -> Result<(), OrMemory<ElabFault>>
     requires { spec.length_of bounds ≤ 64 }
     ensures names { OnOk result (into.new.names ≡ into.old.names ++ word_text word.now ∷ []) }
-    ensures variables { OnOk result (map variable_view into.new.variables.items ≡ map variable_view into.old.variables.items ++ variable_by scope.now bounds (word_text word.now) ∷ []) }
+    ensures variables { OnOk result (into.new.variables.items ≡ into.old.variables.items ++ variable_by scope.now bounds (word_text word.now) ∷ []) }
     ensures few { OnOk result (length into.new.names ≤ 1024) }
     ensures err { IfFault result (IsBreach (record no_breach { doubled = is_declared into.old.names (word_text word.now) ≡ true; many = 1024 ≤ length into.old.names })) }
 {
@@ -194,7 +193,7 @@ fn declare_all<'t>(
     requires bits { spec.length_of bounds ≤ 64 }
     requires few { length into.old.names ≤ 1024 }
     ensures names { OnOk result (into.new.names ≡ into.old.names ++ map word_text words.now) }
-    ensures variables { OnOk result (map variable_view into.new.variables.items ≡ map variable_view into.old.variables.items ++ map (variable_by scope.now bounds) (map word_text words.now)) }
+    ensures variables { OnOk result (into.new.variables.items ≡ into.old.variables.items ++ map (variable_by scope.now bounds) (map word_text words.now)) }
     ensures few { OnOk result (length into.new.names ≤ 1024) }
     ensures err { IfFault result (IsBreach (record no_breach { doubled = has_double (into.old.names ++ map word_text words.now) ≡ true; many = 1024 < length (into.old.names ++ map word_text words.now) })) }
 {
@@ -213,7 +212,7 @@ fn declare_item<'t>(
 ) -> Result<(), OrMemory<ElabFault>>
     requires { length into.old.names ≤ 1024 }
     ensures names { OnOk result (into.new.names ≡ into.old.names ++ names_of (item_tree item.now)) }
-    ensures variables { OnOk result (map variable_view into.new.variables.items ≡ map variable_view into.old.variables.items ++ map (variable_of scope.now) (declarations_of (item_tree item.now))) }
+    ensures variables { OnOk result (into.new.variables.items ≡ into.old.variables.items ++ map (variable_of scope.now) (declarations_of (item_tree item.now))) }
     ensures few { OnOk result (length into.new.names ≤ 1024) }
     ensures range { OnOk result (has_range (item_tree item.now) ≡ true) }
     ensures err { IfFault result (IsBreach (record no_breach { doubled = has_double (into.old.names ++ names_of (item_tree item.now)) ≡ true; width = has_range (item_tree item.now) ≡ false; many = 1024 < length (into.old.names ++ names_of (item_tree item.now)) })) }
@@ -234,7 +233,7 @@ pub fn declare_items<'t>(
     items: &[Item<'t>],
 ) -> Result<Declarations<'t>, OrMemory<ElabFault>>
     ensures names { IfOk result (λ d. d.names ≡ names_in (map item_tree items.now)) }
-    ensures variables { IfOk result (λ d. map variable_view d.variables.items ≡ map (variable_of scope.now) (flat_map declarations_of (map item_tree items.now))) }
+    ensures variables { IfOk result (λ d. d.variables.items ≡ map (variable_of scope.now) (flat_map declarations_of (map item_tree items.now))) }
     ensures few { IfOk result (λ d. length d.names ≤ 1024) }
     ensures ranges { OnOk result (list_all has_range (map item_tree items.now) ≡ true) }
     ensures err { IfFault result (IsBreach (record no_breach { doubled = has_double (names_in (map item_tree items.now)) ≡ true; width = list_all has_range (map item_tree items.now) ≡ false; many = 1024 < length (names_in (map item_tree items.now)) })) }

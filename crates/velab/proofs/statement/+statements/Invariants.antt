@@ -1,13 +1,12 @@
 use Rattle.std.proofs.Common.{◌≡◌, drop}
-use Rattle.vast.specs.Design.{join}
-use Rattle.vast.specs.DesignViews.{actions}
 use Rattle.vast.specs.Trees.{statement_trees}
-use Rattle.velab.specs.Elaborate.{all_actions_of, knows_all}
+use Rattle.velab.specs.Elaborate.{all_laid, knows_all}
+use Rattle.velab.proofs.StatementLemmas.{Leads}
 use Rattle.velab.proofs.statement.+statements.Given as goal
 
-abbrev pub invariant-put_all_actions-loop-statement : goal.invariant-put_all_actions-loop-statement
-invariant-put_all_actions-loop-statement l = record {
-  ok : join (actions l.into.items) (all_actions_of l.names (statement_trees (drop l.statement-index l.statements)))
-      ≡ join (actions l.initial.into.items) (all_actions_of l.names (statement_trees l.statements));
+abbrev pub invariant-lay_all-loop-statement : goal.invariant-lay_all-loop-statement
+invariant-lay_all-loop-statement l = record {
+  ok : Leads l.names l.table.items l.into.items (statement_trees (drop l.statement-index l.statements))
+      (all_laid l.names l.initial.table.items (statement_trees l.statements)) l.initial.into.items;
   known : knows_all l.names (statement_trees (drop l.statement-index l.statements)) ≡ knows_all l.names (statement_trees l.statements);
 }

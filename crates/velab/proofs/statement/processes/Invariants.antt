@@ -1,15 +1,15 @@
-use Rattle.std.proofs.Common.{◌≡◌, ◌≤◌, ◌++◌, drop, length, map}
+use Rattle.std.proofs.Common.{◌≡◌, ◌≤◌, [], drop, length, map}
 use Rattle.std.specs.List.{list_all, filter_map}
-use Rattle.vast.specs.DesignViews.{process_actions}
 use Rattle.vast.specs.Trees.{item_tree}
-use Rattle.velab.specs.Elaborate.{actions_of, knows, statement_of}
+use Rattle.velab.specs.Elaborate.{laid_processes, knows, statement_of}
+use Rattle.velab.proofs.ProcessLemmas.{LeadTo}
 use Rattle.velab.proofs.statement.processes.Given as goal
 
 abbrev pub invariant-loop-item : goal.invariant-loop-item
 invariant-loop-item l = record {
-  ok : map process_actions l.processes.items ++ map (actions_of l.names) (filter_map statement_of (map item_tree (drop l.item-index l.items)))
-      ≡ map (actions_of l.names) (filter_map statement_of (map item_tree l.items));
+  ok : LeadTo l.names l.actions.items l.begins.items (filter_map statement_of (map item_tree (drop l.item-index l.items)))
+      (laid_processes l.names [] (filter_map statement_of (map item_tree l.items)));
   known : list_all (knows l.names) (filter_map statement_of (map item_tree (drop l.item-index l.items)))
       ≡ list_all (knows l.names) (filter_map statement_of (map item_tree l.items));
-  few : length l.processes.items ≤ 256;
+  few : length l.begins.items ≤ 256;
 }

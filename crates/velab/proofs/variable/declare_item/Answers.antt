@@ -1,5 +1,4 @@
 use Rattle.std.proofs.Common.{◌≡◌, ◌++◌, map, subst, OnOk}
-use Rattle.vast.specs.DesignViews.{variable_view}
 use Rattle.velab.proofs.VariableLemmas.{item_names, item_variables, item_err}
 use Rattle.velab.proofs.variable.declare_item.Goals as goal
 
@@ -10,7 +9,7 @@ returns-in_ok-bounds-in-Registers-clause-names c =
 
 pub returns-in_ok-bounds-in-Registers-clause-variables : goal.returns-in_ok-bounds-in-Registers-clause-variables
 returns-in_ok-bounds-in-Registers-clause-variables c =
-    subst (λ l. OnOk c.declare_all.result (map variable_view c.declare_all.new.into.variables.items ≡ map variable_view c.args.into.now.variables.items ++ l))
+    subst (λ l. OnOk c.declare_all.result (c.declare_all.new.into.variables.items ≡ c.args.into.now.variables.items ++ l))
     (item_variables c.args.item.now c.in-Registers.range c.in-Registers.names c.deref.result.now c.in-Registers.is c.deref.ensures.value
     c.args.scope.now c.in_ok-bounds-in-Registers.bounds c.in_ok-bounds-in-Registers.ensures.ok) c.declare_all.ensures.variables
 
