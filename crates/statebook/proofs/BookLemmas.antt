@@ -8,7 +8,8 @@ use Rattle.std.specs.Cmp.{IsEquivalence}
 use Rattle.basis.proofs.Bools.{and_left, and_right, or_left, or_right}
 use Rattle.basis.proofs.Lists.{last_or_before}
 use Rattle.indexmap.specs.IndexSet.{insert_key}
-use Rattle.statebook.specs.Books.{Book, Dominates, IsKept, IsUndominated, add, alike, places_of}
+use Rattle.statebook.specs.Books.{Book, Dominates, IsFoundAt, IsUndominated, add, places_of}
+use Rattle.statebook.specs.Inner.Kept.{IsKept, alike}
 use Rattle.statebook.specs.declared.entry.Entry.{Entry}
 use Rattle.std.proofs.lemmas.Option.{slice_get-get_or, slice_get_within}
 
@@ -45,22 +46,23 @@ pub record Probes {S : Type 0} (same : S → S → Bool) (keys : List (Entry S))
   pub log : now.log ≡ start.log
   pub steps : now.steps ≡ start.steps
   pub from : start.budget ≤ now.budget
-  pub dominates : IfSome found (λ i. (f : Entry S) × (slice_get keys i ≡ Some f) × Dominates same f start.state start.budget)
+  pub dominates : IfSome found (IsFoundAt same keys start)
   pub none : IfNone found (NoneBelow same keys start (now.budget + 1))
 
-found_dominates : {S : Type 0} (same : S → S → Bool) → IsEquivalence same → (keys : List (Entry S)) (start now : Entry S) (found : Option ℕ) → now.state ≡ start.state → start.budget ≤ now.budget → IfSome found (λ i. (f : Entry S) × (slice_get keys i ≡ Some f) × (alike same now f ≡ true)) → IfSome found (λ i. (f : Entry S) × (slice_get keys i ≡ Some f) × Dominates same f start.state start.budget)
+found_dominates : {S : Type 0} (same : S → S → Bool) → IsEquivalence same → (keys : List (Entry S)) (start now : Entry S) (found : Option ℕ) → now.state ≡ start.state → start.budget ≤ now.budget → IfSome found (λ i. (f : Entry S) × (slice_get keys i ≡ Some f) × (alike same now f ≡ true)) → IfSome found (IsFoundAt same keys start)
 found_dominates same eq keys start now None e le h = tt
 found_dominates {S} same eq keys start now (Some i) e le h =
     let state : same now.state h.0.state ≡ true = and_left (same now.state h.0.state) (now.budget == h.0.budget) h.2 in
     let budget : (now.budget == h.0.budget) ≡ true = and_right (same now.state h.0.state) (now.budget == h.0.budget) h.2 in
-    let P : S → Type 0 = λ s. same h.0.state s ≡ true in (
-      h.0,
-      h.1,
-      record {
+    let P : S → Type 0 = λ s. same h.0.state s ≡ true in
+    record {
+      entry = h.0;
+      at = h.1;
+      dominates = record {
         state = subst P e (eq.symm h.0.state now.state ∙ state);
         budget = grind (arith, nat_tests);
-      },
-    )
+      };
+    }
 
 none_dominates : {S : Type 0} (same : S → S → Bool) → IsEquivalence same → (keys : List (Entry S)) (start now : Entry S) (found : Option ℕ) → now.state ≡ start.state → NoneBelow same keys start now.budget → IfNone found ((i : ℕ) (f : Entry S) → slice_get keys i ≡ Some f → alike same now f ≡ false) → IfNone found (NoneBelow same keys start (now.budget + 1))
 none_dominates {S} same eq keys start now None e below h = λ i f at lt d. elim (cases_lt f.budget now.budget) [

@@ -58,7 +58,7 @@ sound_meets {S} r k limit same old e (New place) new s h m =
     subst P (sym m.1) (sound_add r k limit old e s h)
 sound_meets {S} r k limit same old e (Known place) new s h m =
     let P : Book S → Type 0 = λ b. IsSound r k limit b in
-    subst P (sym m.3) s
+    subst P (sym m.1) s
 
 pub sound_finish : {S : Type 0} (r : Rules S) (k limit : ℕ) (b : Book S) (i : ℕ) (places : List ℕ) → IsSound r k limit b → AllMet r b.entries i places → IsSound r k limit (finish b i places)
 sound_finish r k limit b i places s h = record {

@@ -1,3 +1,4 @@
 pub mod RunLemmas
 pub mod CoreLemmas
 pub mod BookLemmas
+pub mod ReachLemmas

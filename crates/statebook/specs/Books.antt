@@ -1,5 +1,5 @@
 -- The book that an explorer keeps: its entries, and what each of them has met.
-use Rattle.std.specs.Prelude.{◌≡◌, ◌<◌, ◌≤◌, ◌==◌, ◌&&◌, Vec, ℕ, Bool, true, List, [], ◌∷◌, ◌++◌, slice_get, slice_set, length, Contains, Option, Some, None}
+use Rattle.std.specs.Prelude.{◌≡◌, ◌<◌, ◌≤◌, Vec, ℕ, Bool, true, List, [], ◌∷◌, ◌++◌, slice_get, slice_set, length, Contains, Option, Some, None}
 use Rattle.statebook.specs.declared.entry.Entry.{Entry}
 use Rattle.statebook.specs.declared.book.Met.{Met}
 use Rattle.statebook.specs.declared.book.Met.TheVariants.{New, Known}
@@ -21,6 +21,13 @@ add b e = record { entries = b.entries ++ e ∷ []; finished = b.finished ++ Non
 abbrev pub finish : {S : Type 0} → Book S → ℕ → List ℕ → Book S
 finish b place places = record { entries = b.entries; finished = slice_set b.finished place (Some places) }
 
+-- the entry at the place is finished, or is not
+abbrev pub IsFinished : {S : Type 0} → Book S → ℕ → Type 0
+IsFinished b place = (places : List ℕ) × (slice_get b.finished place ≡ Some (Some places))
+
+abbrev pub IsUnfinished : {S : Type 0} → Book S → ℕ → Type 0
+IsUnfinished b place = slice_get b.finished place ≡ Some None
+
 -- The entry dominates (s, b): its state is equal, and its budget at least b.
 pub record Dominates {S : Type 0} (same : S → S → Bool) (e : Entry S) (s : S) (b : ℕ) : Type 0 where
   pub state : same e.state s ≡ true
@@ -32,6 +39,12 @@ pub record IsRootAt {S : Type 0} (entries : List (Entry S)) (place : ℕ) : Type
   pub at : slice_get entries place ≡ Some entry
   pub log : entry.log ≡ []
   pub steps : entry.steps ≡ 0
+
+-- An entry at the place dominates this one.
+pub record IsFoundAt {S : Type 0} (same : S → S → Bool) (entries : List (Entry S)) (e : Entry S) (place : ℕ) : Type 0 where
+  pub entry : Entry S
+  pub at : slice_get entries place ≡ Some entry
+  pub dominates : Dominates same entry e.state e.budget
 
 -- each of the places is in the list
 abbrev pub AllIn : List ℕ → List ℕ → Type 0
@@ -57,21 +70,11 @@ pub record IsClosed {S : Type 0} (b : Book S) (root : ℕ) (all : List ℕ) : Ty
 -- it, and then it stands there; Known with the place of one that does, and the book stays.
 abbrev pub Meets : {S : Type 0} → (S → S → Bool) → Book S → Entry S → Met → Book S → Type 0
 Meets {S} same old e (New place) new = (place ≡ length old.entries) × (new ≡ add old e) × ((i : ℕ) (f : Entry S) → slice_get old.entries i ≡ Some f → ¬ Dominates same f e.state e.budget)
-Meets {S} same old e (Known place) new = (f : Entry S) × (slice_get old.entries place ≡ Some f) × Dominates same f e.state e.budget × (new ≡ old)
-
--- The two entries are equal in state and budget.
-abbrev pub alike : {S : Type 0} → (S → S → Bool) → Entry S → Entry S → Bool
-alike same e f = same e.state f.state && (e.budget == f.budget)
+Meets same old e (Known place) new = IsFoundAt same old.entries e place × (new ≡ old)
 
 -- No entry comes behind one that dominates it: met in this order, each of them would be new.
 pub record IsUndominated {S : Type 0} (same : S → S → Bool) (entries : List (Entry S)) : Type 0 where
   pub later : (i j : ℕ) (e f : Entry S) → i < j → slice_get entries i ≡ Some e → slice_get entries j ≡ Some f → ¬ Dominates same e f.state f.budget
-
--- What a one-owner book keeps: a list of successors or none for each entry, and no budget over the top.
-pub record IsKept {S : Type 0} (same : S → S → Bool) (b : Book S) (top : ℕ) : Type 0 where
-  pub paired : length b.finished ≡ length b.entries
-  pub undominated : IsUndominated same b.entries
-  pub budgets : (i : ℕ) (e : Entry S) → slice_get b.entries i ≡ Some e → e.budget ≤ top
 
 -- the list of an entry's successors, once it is finished
 abbrev pub places_of : {A : Type 0} → Option (Vec ℕ A) → Option (List ℕ)

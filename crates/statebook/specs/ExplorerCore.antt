@@ -107,6 +107,14 @@ empty workers seats = record {
   stopped = false;
 }
 
+-- Some list of events, allowed from the empty core on, leads to the book.
+pub record IsReached {S : Type 0} (r : Rules S) (k limit : ℕ) (b : Book S) : Type 0 where
+  pub workers : ℕ
+  pub seats : ℕ
+  pub events : List (Event S)
+  pub allowed : AreAllowed r k limit (empty workers seats) events
+  pub leads : (after_all (empty workers seats) events).book ≡ b
+
 -- The entries list the state, or one equal to it, under a log of at most d departures.
 pub record IsListed {S : Type 0} (r : Rules S) (entries : List (Entry S)) (s : S) (d : ℕ) : Type 0 where
   pub place : ℕ

@@ -2,3 +2,6 @@ pub mod Stations
 pub mod Books
 pub mod ExplorerCore
 pub mod Covered
+pub mod Limits
+pub mod Laws
+pub mod Inner

@@ -1,8 +1,8 @@
 // The book of one owner: its entries, each with the places of its successors once it is finished.
 
 ghost use Rattle.std.specs.Prelude.{◌≡◌, ℕ, List, ◌<◌, ◌≤◌, ◌↔◌, true, false, length, slice_get, map, Contains, Some, None, IsTrue, IsSome, IfSome, IfNone, IfOk, IfErr, OnOk, OnErr, option_copied};
-ghost use Rattle.statebook.specs.Books.{AllClosed, AllIn, Book, Dominates, IsClosed, IsClosedAt, IsRootAt, IsUndominated, Meets, alike, finish, no_entries, places_of};
-ghost use Rattle.statebook.specs.declared.entry.Entry.{Entry};
+ghost use Rattle.statebook.specs.Books.{AllClosed, AllIn, Book, IsClosed, IsClosedAt, IsFinished, IsFoundAt, IsRootAt, IsUndominated, IsUnfinished, Meets, finish, no_entries, places_of};
+ghost use Rattle.statebook.specs.Inner.Kept.{HasNoDominator, HasNoEqual, IsEqualAt};
 
 use crate::entry::Entry;
 use basis::NoMemory;
@@ -42,7 +42,8 @@ pub struct PlainBook<S: Eq + Hash> {
 
 impl<S: Eq + Hash> Model for PlainBook<S> {
     ghost use Rattle.std.specs.Prelude.{map};
-    ghost use Rattle.statebook.specs.Books.{Book, IsKept, places_of};
+    ghost use Rattle.statebook.specs.Books.{Book, places_of};
+    ghost use Rattle.statebook.specs.Inner.Kept.{IsKept};
 
     ghost Value = { Book S };
 
@@ -53,8 +54,8 @@ impl<S: Eq + Hash> Model for PlainBook<S> {
 
 // The place of the entry that is equal in state and budget.
 fn place_of_equal<S: Eq + Hash>(entries: &IndexSet<Entry<S>>, probe: &Entry<S>) -> Option<usize>
-    ensures found { IfSome result (λ i. (f : Entry S) × (slice_get entries.now.keys i ≡ Some f) × (alike S.eq probe.now f ≡ true)) }
-    ensures none { IfNone result ((i : ℕ) (f : Entry S) → slice_get entries.now.keys i ≡ Some f → alike S.eq probe.now f ≡ false) }
+    ensures found { IfSome result (IsEqualAt S.eq entries.now.keys probe.now) }
+    ensures none { IfNone result (HasNoEqual S.eq entries.now.keys probe.now) }
 {
     entries.get_index_of(probe)
 }
@@ -67,8 +68,8 @@ fn dominator<S: Eq + Hash>(
     top: u32,
 ) -> Option<usize>
     ensures same { entry.new ≡ entry.old }
-    ensures found { IfSome result (λ i. (f : Entry S) × (slice_get entries.now.keys i ≡ Some f) × Dominates S.eq f entry.old.state entry.old.budget) }
-    ensures none { IfNone result ((i : ℕ) (f : Entry S) → slice_get entries.now.keys i ≡ Some f → f.budget ≤ top → Dominates S.eq f entry.old.state entry.old.budget → ⊥) }
+    ensures found { IfSome result (IsFoundAt S.eq entries.now.keys entry.old) }
+    ensures none { IfNone result (HasNoDominator S.eq entries.now.keys top entry.old) }
 {
     let budget = entry.budget;
     let mut found = place_of_equal(entries, entry);
@@ -189,9 +190,10 @@ impl<S: Eq + Hash + Drop> PlainBook<S> {
     /// already they are handed back.
     pub fn finish(&mut self, done: Done) -> Result<(), Done>
         requires { done.entry < length self.old.entries }
-        ensures ok { OnOk result ((slice_get self.old.finished done.entry ≡ Some None) × (self.new ≡ finish self.old done.entry done.next.items)) }
+        ensures ok { OnOk result (self.new ≡ finish self.old done.entry done.next.items) }
+        ensures once { OnOk result (IsUnfinished self.old done.entry) }
         ensures handed_back { IfErr result (λ back. back ≡ done) }
-        ensures twice { OnErr result ((places : List ℕ) × (slice_get self.old.finished done.entry ≡ Some (Some places))) }
+        ensures twice { OnErr result (IsFinished self.old done.entry) }
         ensures err { OnErr result (self.new ≡ self.old) }
     {
         if self.finished[done.entry].is_some() {

@@ -1,6 +1,7 @@
 // How far an explorer goes.
 
-ghost use Rattle.std.specs.Prelude.{◌≡◌, ◌≤◌, ◌↔◌, IsSome, IfSome};
+ghost use Rattle.std.specs.Prelude.{◌≡◌, ◌↔◌, IsSome, IfSome};
+ghost use Rattle.statebook.specs.Limits.{AreLimits};
 
 /// How far an explorer goes: at most `depart` departures, 0 to 4; at most `steps` steps of one
 /// run, and no further job from `entries` entries on, both 1 to 1,000,000.
@@ -9,11 +10,7 @@ pub struct Limits {
     pub depart: u32,
     pub steps: u32,
     pub entries: u32,
-    ghost depart_limit: { depart ≤ 4 },
-    ghost some_steps: { 1 ≤ steps },
-    ghost steps_limit: { steps ≤ 1000000 },
-    ghost some_entries: { 1 ≤ entries },
-    ghost entries_limit: { entries ≤ 1000000 },
+    ghost within: { AreLimits depart steps entries },
 }
 
 const DEPART_MAX: u32 = 4;
@@ -25,7 +22,7 @@ const ENTRIES_MAX: u32 = 1_000_000;
 impl Limits {
     /// The limits, if each number is within its own.
     pub fn new(depart: u32, steps: u32, entries: u32) -> Option<Limits>
-        ensures within { IsSome result ↔ ((depart ≤ 4) × (1 ≤ steps) × (steps ≤ 1000000) × (1 ≤ entries) × (entries ≤ 1000000)) }
+        ensures within { IsSome result ↔ AreLimits depart steps entries }
         ensures depart { IfSome result (λ limits. limits.depart ≡ depart) }
         ensures steps { IfSome result (λ limits. limits.steps ≡ steps) }
         ensures entries { IfSome result (λ limits. limits.entries ≡ entries) }

@@ -1,7 +1,8 @@
 use Rattle.std.proofs.Common.{◌≡◌, ◌∙◌, ap, sym, refl, slice_get, subst, max, length, ℕ, Some, None, ◌++◌, ◌∷◌, [], is_ok, if◌then◌else◌, false}
 use Rattle.std.specs.List.{position_or_len}
 use Rattle.indexmap.specs.IndexSet.{insert_key}
-use Rattle.statebook.specs.Books.{Book, Dominates, IsKept, add, alike}
+use Rattle.statebook.specs.Books.{Book, Dominates, add}
+use Rattle.statebook.specs.Inner.Kept.{IsKept, alike}
 use Rattle.statebook.specs.declared.entry.Entry.{Entry}
 use Rattle.statebook.proofs.BookLemmas.{key_added, kept-add, shown, shown-add, not_alike, position_last}
 use Rattle.statebook.proofs.book.PlainBook.meet.Given.{Over}
@@ -10,7 +11,7 @@ use Rattle.statebook.proofs.book.PlainBook.meet.Goals as goal
 pub returns-in-Some-clause-ok : goal.returns-in-Some-clause-ok
 returns-in-Some-clause-ok g c =
     let f = c.in-Some.ensures.found in
-    (f.0, ap (λ b. slice_get b.entries c.in-Some.place) (sym c.self.view_is) ∙ f.1, f.2, refl)
+    (record { entry = f.entry; at = ap (λ b. slice_get b.entries c.in-Some.place) (sym c.self.view_is) ∙ f.at; dominates = f.dominates }, refl)
 
 -- no entry is equal to the one that was met
 fresh : (g : Over) (c : goal.After-unwrap g) → (i : ℕ) (f : Entry g.row.S.Denot) → slice_get c.self.inside.entries.keys i ≡ Some f → alike g.S.PartialEq.eq c.dominator.new.entry f ≡ false

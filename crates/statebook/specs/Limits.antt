@@ -1,0 +1,10 @@
+-- How far an explorer may be asked to go.
+use Rattle.std.specs.Prelude.{ℕ, ◌≤◌}
+
+-- departures, steps of one run, and entries, each within its limit
+pub record AreLimits (depart steps entries : ℕ) : Type 0 where
+  pub few_departures : depart ≤ 4
+  pub some_steps : 1 ≤ steps
+  pub few_steps : steps ≤ 1000000
+  pub some_entries : 1 ≤ entries
+  pub few_entries : entries ≤ 1000000
