@@ -14,3 +14,4 @@ mod tests;
 pub use expanded::{Expanded, Place, Scale, Unit};
 pub use fault::SrcFault;
 pub use files::expand;
+pub use outside::{block_end, string_end};
