@@ -11,8 +11,8 @@ use Rattle.basis.specs.declared.memory.OrMemory.TheVariants.{Fault, Memory}
 use Rattle.basis.specs.Reasons.{Because}
 use Rattle.vsrc.specs.declared.fault.SrcFault.{SrcFault}
 use Rattle.vsrc.specs.declared.fault.SrcFault.TheVariants.{NotYet, Growth}
-use Rattle.vsrc.specs.Expansion.{IsGrowth, IsJoinReason}
-use Rattle.vsrc.specs.Source.{joined, borders_of, borders_from, IsIndexed, text_limit}
+use Rattle.vsrc.specs.Inner.{IsGrowth, IsIndexed, IsJoinReason}
+use Rattle.vsrc.specs.Source.{joined, borders_of, borders_from, text_limit}
 use Rattle.vsrc.proofs.Counting.{rises-cons, places_sorted}
 
 -- a file and the line feed before it
@@ -67,10 +67,11 @@ joined_next all first file files later text i whole here sofar =
     ∙ ap (λ l. (l ++ 10 ∷ []) ++ file) (ap (λ fs. joined (take (i + 1) fs)) (sym whole) ∙ sym sofar)
 
 -- why a file isn't joined, told of all the files
-pub overflows_at : (files : List (List ℕ)) (text : List ℕ) (n len file : ℕ) (e : OrMemory SrcFault) → text ≡ joined (take n files) → length text ≤ text_limit
-    → len ≡ length (joined (take (n + 1) files)) → file ≡ n + 1 → Because (IsGrowth len file) e → Because (IsJoinReason files) e
-overflows_at files text n len file (Fault (NotYet place)) made short sum number h = h
-overflows_at files text n len file (Fault (Growth place)) made short sum number h = (
+pub overflows_at : (files : List (List ℕ)) (text lead bytes : List ℕ) (n file : ℕ) (e : OrMemory SrcFault) → text ≡ joined (take n files) → length text ≤ text_limit
+    → length text + length lead + length bytes ≡ length (joined (take (n + 1) files)) → file ≡ n + 1
+    → Because (IsGrowth text lead bytes file) e → Because (IsJoinReason files) e
+overflows_at files text lead bytes n file (Fault (NotYet place)) made short sum number h = h
+overflows_at files text lead bytes n file (Fault (Growth place)) made short sum number h = (
   n,
   record {
     place_is = h.1 ∙ ap (λ k. record { file = k; line = 1 }) number;
@@ -78,7 +79,7 @@ overflows_at files text n len file (Fault (Growth place)) made short sum number 
     behind = omega (arith, h.0);
   },
 )
-overflows_at files text n len file (Memory m) made short sum number h = tt
+overflows_at files text lead bytes n file (Memory m) made short sum number h = tt
 
 borders_low : (end : ℕ) (files : List (List ℕ)) (least : ℕ) → least ≤ end → All (λ b. least ≤ b) (borders_from end files)
 borders_low end [] least le = All-nil (λ b. least ≤ b)

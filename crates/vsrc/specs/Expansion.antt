@@ -6,7 +6,7 @@ use Rattle.vsrc.specs.Outside.{IsFirstTick}
 use Rattle.vsrc.specs.declared.fault.SrcFault.{SrcFault}
 use Rattle.vsrc.specs.declared.fault.SrcFault.TheVariants.{NotYet, Growth}
 
--- no backtick stands outside comments and strings
+-- no backtick stands outside comments and strings, so that no directive or macro is used (clause 19)
 abbrev pub HasNoTick : List ℕ → Type 0
 HasNoTick text = (at : ℕ) → IsFirstTick text at → ⊥
 
@@ -20,13 +20,3 @@ pub record Overflows (files : List (List ℕ)) (place : Place) (n : ℕ) : Type 
 abbrev pub IsSourceReason : List (List ℕ) → SrcFault → Type 0
 IsSourceReason files (NotYet place) = (at : ℕ) × IsFirstTick (joined files) at × (place ≡ place_of (source_of files) at)
 IsSourceReason files (Growth place) = (n : ℕ) × Overflows files place n
-
--- what joining the files may answer
-abbrev pub IsJoinReason : List (List ℕ) → SrcFault → Type 0
-IsJoinReason files (NotYet place) = ⊥
-IsJoinReason files (Growth place) = (n : ℕ) × Overflows files place n
-
--- a text of this length is too long with this file
-abbrev pub IsGrowth : ℕ → ℕ → SrcFault → Type 0
-IsGrowth len file (NotYet place) = ⊥
-IsGrowth len file (Growth place) = (text_limit < len) × (place ≡ record { file = file; line = 1 })

@@ -1,8 +1,7 @@
 -- The text that files make, and the file and line of each place in it.
-use Rattle.std.specs.Prelude.{◌≡◌, ℕ, ◌+◌, ◌≤◌, ◌<◌, List, [], ◌∷◌, length, take, drop, count_by, nat_lt, slice_index, if◌then◌else◌}
+use Rattle.std.specs.Prelude.{ℕ, ◌+◌, List, [], ◌∷◌, Vec, length, map, take, drop, count_by, nat_lt, if◌then◌else◌}
 use Rattle.std.specs.List.{join_by}
-use Rattle.std.specs.List.Sorted.{IsNonDecreasing}
-use Rattle.memchr.specs.Find.{is_byte, places}
+use Rattle.memchr.specs.Find.{is_byte}
 use Rattle.vsrc.specs.declared.expanded.Place.{Place}
 use Rattle.vsrc.specs.declared.expanded.Scale.{Scale}
 use Rattle.vsrc.specs.declared.expanded.Unit.TheVariants.{Nanosecond}
@@ -16,6 +15,10 @@ pub record Source : Type 0 where
   pub text : List ℕ
   pub borders : List ℕ
   pub scale : Scale
+
+-- the bytes of files that the program was given
+abbrev pub file_bytes : {A : Type 0} → List (Vec ℕ A) → List (List ℕ)
+file_bytes = map (λ file. file.items)
 
 -- the files in order, with a line feed between each two; no file gives the empty text
 abbrev pub joined : List (List ℕ) → List ℕ
@@ -50,11 +53,3 @@ place_of source at = record {
   file = 1 + count_below source.borders at;
   line = 1 + count_by (is_byte 10) (drop (file_start 0 source.borders at) (take at source.text));
 }
-
--- borders rise and stand in the text; feeds are the places of all its line feeds; the text is not too long
-pub record IsIndexed (text borders feeds : List ℕ) : Type 0 where
-  pub rising : IsNonDecreasing borders
-  pub within : (k : ℕ) → k < length borders → slice_index borders k < length text
-  pub feeds_rising : IsNonDecreasing feeds
-  pub all : feeds ≡ places (is_byte 10) text
-  pub short : length text ≤ text_limit

@@ -50,7 +50,8 @@ pub struct Expanded {
 }
 
 impl Model for Expanded {
-    ghost use Rattle.vsrc.specs.Source.{Source, IsIndexed};
+    ghost use Rattle.vsrc.specs.Source.{Source};
+    ghost use Rattle.vsrc.specs.Inner.{IsIndexed};
 
     ghost Value = { Source };
 
@@ -60,7 +61,8 @@ impl Model for Expanded {
 }
 
 impl Expanded {
-    ghost use Rattle.vsrc.specs.Source.{IsIndexed, place_of};
+    ghost use Rattle.vsrc.specs.Source.{place_of};
+    ghost use Rattle.vsrc.specs.Inner.{IsIndexed};
 
     pub(crate) fn new(
         text: Vec<u8>,

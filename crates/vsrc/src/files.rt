@@ -1,10 +1,11 @@
 // Files to one text: joining them, and finding the first backtick.
 
-ghost use Rattle.std.specs.Prelude.{◌≡◌, ◌≤◌, ◌+◌, ◌++◌, length, map, IfOk, OnOk};
+ghost use Rattle.std.specs.Prelude.{◌≡◌, ◌≤◌, ◌++◌, length, IfOk, OnOk};
 ghost use Rattle.memchr.specs.Find.{is_byte, places};
 ghost use Rattle.basis.specs.Reasons.{IfFault};
-ghost use Rattle.vsrc.specs.Expansion.{HasNoTick, IsSourceReason, IsJoinReason, IsGrowth};
-ghost use Rattle.vsrc.specs.Source.{joined, borders_of, source_of, text_limit};
+ghost use Rattle.vsrc.specs.Expansion.{HasNoTick, IsSourceReason};
+ghost use Rattle.vsrc.specs.Inner.{IsJoinReason, IsGrowth};
+ghost use Rattle.vsrc.specs.Source.{file_bytes, joined, borders_of, source_of, text_limit};
 
 use crate::expanded::{Expanded, Place, Scale, Unit};
 use crate::fault::SrcFault;
@@ -20,10 +21,10 @@ const LIMIT: usize = 33_554_432;
 /// E299 at the first backtick outside comments and strings, E112 where the text would have over
 /// 33,554,432 bytes, E901 where a growth was refused.
 pub fn expand(alloc: Global, files: &[Vec<u8>]) -> Result<Expanded, OrMemory<SrcFault>>
-    ensures ok { IfOk result (λ expanded. expanded ≡ source_of (map (λ file. file.items) files.now)) }
-    ensures short { OnOk result (length (joined (map (λ file. file.items) files.now)) ≤ text_limit) }
-    ensures clean { OnOk result (HasNoTick (joined (map (λ file. file.items) files.now))) }
-    ensures err { IfFault result (λ fault. IsSourceReason (map (λ file. file.items) files.now) fault) }
+    ensures ok { IfOk result (λ expanded. expanded ≡ source_of (file_bytes files.now)) }
+    ensures short { OnOk result (length (joined (file_bytes files.now)) ≤ text_limit) }
+    ensures clean { OnOk result (HasNoTick (joined (file_bytes files.now))) }
+    ensures err { IfFault result (λ fault. IsSourceReason (file_bytes files.now) fault) }
 {
     let (text, borders) = join(alloc, files)?;
     let feeds = feeds_of(alloc, &text)?;
@@ -43,10 +44,10 @@ pub fn expand(alloc: Global, files: &[Vec<u8>]) -> Result<Expanded, OrMemory<Src
 
 // The text of the files, and where a line feed was put between two.
 fn join(alloc: Global, files: &[Vec<u8>]) -> Result<(Vec<u8>, Vec<usize>), OrMemory<SrcFault>>
-    ensures text { IfOk result (λ made. made.0.items ≡ joined (map (λ file. file.items) files.now)) }
-    ensures borders { IfOk result (λ made. made.1.items ≡ borders_of (map (λ file. file.items) files.now)) }
+    ensures text { IfOk result (λ made. made.0.items ≡ joined (file_bytes files.now)) }
+    ensures borders { IfOk result (λ made. made.1.items ≡ borders_of (file_bytes files.now)) }
     ensures short { IfOk result (λ made. length made.0.items ≤ text_limit) }
-    ensures err { IfFault result (λ fault. IsJoinReason (map (λ file. file.items) files.now) fault) }
+    ensures err { IfFault result (λ fault. IsJoinReason (file_bytes files.now) fault) }
 {
     let mut text = Vec::new(alloc);
     let mut borders = Vec::new(alloc);
@@ -72,7 +73,7 @@ fn append(
     requires lead { length lead.now ≤ 1 }
     ensures ok { OnOk result (text.new.items ≡ (text.old.items ++ lead.now) ++ bytes.now) }
     ensures short { OnOk result (length text.new.items ≤ text_limit) }
-    ensures err { IfFault result (λ fault. IsGrowth (length text.old.items + length lead.now + length bytes.now) file fault) }
+    ensures err { IfFault result (IsGrowth text.old.items lead.now bytes.now file) }
 {
     if bytes.len() > LIMIT || text.len() + lead.len() > LIMIT - bytes.len() {
         return Err(OrMemory::Fault(SrcFault::Growth {

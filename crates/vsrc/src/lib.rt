@@ -12,3 +12,4 @@ mod outside;
 pub use expanded::{Expanded, Place, Scale, Unit};
 pub use fault::SrcFault;
 pub use files::expand;
+pub use outside::{block_end, string_end};

@@ -1,16 +1,16 @@
 // Where comments and strings end, and the first backtick outside them.
 
-ghost use Rattle.std.specs.Prelude.{◌≡◌, ◌+◌, ◌==◌, ◌&&◌, ◌<◌, ◌≤◌, ℕ, length, drop, slice_index, MatchOption};
+ghost use Rattle.std.specs.Prelude.{◌≡◌, ◌+◌, ◌==◌, ◌&&◌, ◌<◌, ◌≤◌, ℕ, length, drop, slice_index, IfSome, MatchOption};
 ghost use Rattle.vsrc.specs.Expansion.{HasNoTick};
-ghost use Rattle.vsrc.specs.Outside.{block_len, string_len, slash_len, stretch_len, IsFirstTick};
-ghost use Rattle.std.specs.List.{position_or_len};
-ghost use Rattle.memchr.specs.Find.{is_byte};
+ghost use Rattle.vsrc.specs.Inner.{string_end_from};
+ghost use Rattle.vsrc.specs.Outside.{block_end, string_end, line_len, block_len, string_len, slash_len, stretch_len, IsFirstTick};
 
 use memchr::memchr;
 
 /// The place of the first backtick that stands outside comments and strings.
 pub fn first_tick(text: &[u8]) -> Option<usize>
-    ensures { MatchOption result (HasNoTick text.now) (λ at. IsFirstTick text.now at × at < length text.now) }
+    ensures tick { MatchOption result (HasNoTick text.now) (IsFirstTick text.now) }
+    ensures within { IfSome result (λ at. at < length text.now) }
 {
     let Some(_) = memchr(b'`', text) else {
         return None;
@@ -40,6 +40,7 @@ fn stretch_len(text: &[u8]) -> usize
     }
 }
 
+// How many bytes belong together from a slash on, told from those behind it.
 fn slash_len(text: &[u8]) -> usize
     ensures value { result ≡ slash_len text.now }
     ensures some { 0 < result }
@@ -55,8 +56,9 @@ fn slash_len(text: &[u8]) -> usize
     }
 }
 
+// How far it is to the end of the line.
 fn line_len(text: &[u8]) -> usize
-    ensures value { result ≡ position_or_len (is_byte 10) text.now }
+    ensures value { result ≡ line_len text.now }
     ensures within { result ≤ length text.now }
 {
     memchr(b'\n', text).unwrap_or(text.len())
@@ -66,14 +68,35 @@ fn block_len(text: &[u8]) -> usize
     ensures value { result ≡ block_len text.now }
     ensures within { result ≤ length text.now }
 {
+    match block_end(text) {
+        Some(len) => len,
+        None => text.len(),
+    }
+}
+
+fn string_len(text: &[u8]) -> usize
+    ensures value { result ≡ string_len text.now }
+    ensures within { result ≤ length text.now }
+{
+    match string_end(text) {
+        Some(len) => len,
+        None => line_len(text),
+    }
+}
+
+/// How far it is to the end of the first `*/`, where there is one.
+pub fn block_end(text: &[u8]) -> Option<usize>
+    ensures value { result ≡ block_end text.now }
+    ensures within { IfSome result (λ len. len ≤ length text.now) }
+{
     let mut at = 1;
     while at < text.len() {
         if ends_block(text[at - 1], text[at]) {
-            return at + 1;
+            return Some(at + 1);
         }
         at += 1;
     }
-    text.len()
+    None
 }
 
 fn ends_block(star: u8, slash: u8) -> bool
@@ -82,21 +105,22 @@ fn ends_block(star: u8, slash: u8) -> bool
     star == b'*' && slash == b'/'
 }
 
-#[tactic(auto, using(crate::proofs::Stretches::string_at_quote, crate::proofs::Stretches::string_at_feed, crate::proofs::Stretches::string_at_plain))]
-fn string_len(text: &[u8]) -> usize
-    ensures value { result ≡ string_len text.now }
-    ensures within { result ≤ length text.now }
+/// How far it is to the end of the string that is open, its closing quote included, where it is closed on its line.
+#[tactic(auto, using(crate::proofs::Stretches::string_at_quote, crate::proofs::Stretches::string_at_feed, crate::proofs::Stretches::string_at_plain, crate::proofs::Stretches::string_at_end))]
+pub fn string_end(text: &[u8]) -> Option<usize>
+    ensures value { result ≡ string_end text.now }
+    ensures within { IfSome result (λ len. len ≤ length text.now) }
 {
     let mut at = 0;
     while at < text.len() {
         match text[at] {
-            b'"' => return at + 1,
-            b'\n' => return at,
+            b'"' => return Some(at + 1),
+            b'\n' => return None,
             b'\\' => at = skipped(text, at),
             _ => at += 1,
         }
     }
-    at
+    None
 }
 
 // Behind the backslash at `at` and the byte that it takes along.
@@ -106,7 +130,7 @@ fn skipped(text: &[u8], at: usize) -> usize
     requires backslash { slice_index text.now at ≡ 92 }
     ensures some { at < result }
     ensures within { result ≤ length text.now }
-    ensures rest { result + string_len (drop result text.now) ≡ at + string_len (drop at text.now) }
+    ensures rest { string_end_from text.now result ≡ string_end_from text.now at }
 {
     let next = at + 1;
     if next < text.len() && text[next] != b'\n' {

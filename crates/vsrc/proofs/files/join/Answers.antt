@@ -21,7 +21,7 @@ returns-in_err-append-2-clause-err c =
     omega (arith, ap length c.deref-in-loop-number.ensures.value, simp length-append at (ap length more)) in
     let next : number + 2 ≡ number + 1 + 1 = omega arith in
     let p = err_from_is_err_and c.from_residual-in_err-append-2.result c.from_residual-in_err-append-2.ensures.1 in
-    rw (p.1, p.2) (overflows_at all c.loop-number.text.items (number + 1) (length c.loop-number.text.items + 1 + length c.deref-in-loop-number.result.now) (number + 2)
+    rw (p.1, p.2) (overflows_at all c.loop-number.text.items (10 ∷ []) c.deref-in-loop-number.result.now (number + 1) (number + 2)
     c.in_err-append-2.field-0.0 c.loop-number.invariant.sofar c.loop-number.invariant.short sum next c.in_err-append-2.ensures.err)
 
 pub loop-number-preserved : goal.loop-number-preserved
