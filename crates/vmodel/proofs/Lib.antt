@@ -1,3 +1,11 @@
 mod ProcessLemmas
 mod FutureLemmas
 mod OpeningLemmas
+mod SameLemmas
+mod RulesLemmas
+mod PlaceLemmas
+mod MovedLemmas
+mod KeptLemmas
+mod ValuesLemmas
+mod TimesLemmas
+mod EndsLemmas

@@ -5,6 +5,8 @@ use Rattle.vmodel.specs.declared.process.Spot.{Spot}
 use Rattle.vmodel.specs.Queue.{Slot, Queue}
 use Rattle.vmodel.specs.State.{Process, State}
 use Rattle.vmodel.specs.Step.{left_of}
+use Rattle.vmodel.specs.Run.{Setting, state_after}
+use Rattle.vbits.specs.Vectors.{Vector}
 use Rattle.vmodel.specs.declared.history.Item.{Item}
 use Rattle.vmodel.specs.declared.history.Item.TheVariants.{SlotEnd, Dump}
 
@@ -67,3 +69,14 @@ slot_times (Dump command ∷ items) = slot_times items
 abbrev pub HasValues : ℕ → Item → Type 0
 HasValues count (SlotEnd time values) = length values ≡ count
 HasValues count (Dump command) = Unit {0}
+
+-- 11.4: the state is a slot end: nothing is active and the run goes on, at this time and with these values
+pub record IsSlotEnd (time : ℕ) (values : List Vector) (s : State) : Type 0 where
+  pub goes_on : s.cause ≡ None
+  pub idle : IsIdle s.queue
+  pub time_is : s.queue.time ≡ time
+  pub values_are : s.values ≡ values
+
+-- the run was at such a slot end after n steps or before
+abbrev pub HasSlotEnd : Setting → List (ℕ × ℕ) → ℕ → ℕ → List Vector → Type 0
+HasSlotEnd setting log n time values = (k : ℕ) × (k ≤ n) × IsSlotEnd time values (state_after setting log k)

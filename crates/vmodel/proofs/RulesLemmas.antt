@@ -1,0 +1,66 @@
+-- The rules of a run are lawful.
+use Rattle.std.proofs.Common.{◌≡◌, ℕ, ◌==◌, Bool, true, cond, ◌&&◌, ◌||◌, is_some, List, [], ◌∷◌, ◌++◌, map, Option, Some, None, length, refl, ap, subst, arith}
+use Rattle.sched_core.specs.Rules.{IsLawful}
+use Rattle.vmodel.specs.declared.choice.Choice.{Choice}
+use Rattle.vmodel.specs.declared.choice.Choice.TheVariants.{Run}
+use Rattle.vmodel.specs.declared.history.Cause.{Cause}
+use Rattle.vmodel.specs.declared.history.Grain.{Grain}
+use Rattle.vmodel.specs.declared.history.Grain.TheVariants.{Process, Statement}
+use Rattle.vmodel.specs.declared.part.Part.{Part}
+use Rattle.vmodel.specs.Queue.{Slot, Queue}
+use Rattle.vmodel.specs.State.{State}
+use Rattle.vmodel.specs.Choices.{in_order, first_update, or_advance, active_choices, offered, queue_choices, choices}
+use Rattle.vmodel.specs.Step.{next}
+use Rattle.vmodel.specs.Same.{state_same}
+use Rattle.vmodel.specs.Run.{Setting, rules_of, is_mark}
+use Rattle.vmodel.specs.Kept.{IsIdle}
+use Rattle.vmodel.proofs.SameLemmas.{state_tells}
+
+-- where nothing is offered nothing is active
+nothing_active : (last : Option ℕ) (active : List ℕ) (us : List (List Part)) → length (map Run (in_order last active) ++ first_update us) ≡ 0 →
+    (active ≡ []) × (us ≡ [])
+nothing_active None [] [] h = (refl, refl)
+nothing_active None [] (u ∷ us) h = absurd (omega arith)
+nothing_active None (p ∷ ps) us h = absurd (omega arith)
+nothing_active (Some p) active us h = absurd (omega arith)
+
+nothing_offered : (q : Queue) (grain : Grain) (last : Option ℕ) → length (offered q grain last) ≡ 0 → length (active_choices q) ≡ 0
+nothing_offered q Process (Some p) h = absurd (omega arith)
+nothing_offered q Process None h = h
+nothing_offered q Statement last h = h
+
+pub idle_when : (q : Queue) → length (offered q q.grain q.last) ≡ 0 → IsIdle q
+idle_when q h = nothing_active q.last q.active q.activated (nothing_offered q q.grain q.last h)
+
+no_advance : (cs : List Choice) (future : List (ℕ × Slot)) → length (or_advance cs future) ≡ 0 → length cs ≡ 0
+no_advance [] future h = refl
+no_advance (c ∷ cs) future h = h
+
+ended_or : (cause : Option Cause) (cs : List Choice) (b : Bool) → length (cond (is_some cause) [] cs) ≡ 0 → (length cs ≡ 0 → b ≡ true) →
+    (is_some cause || b) ≡ true
+ended_or None cs b h else = else h
+ended_or (Some cause) cs b h else = refl
+
+end_is_mark : (s : State) → length (choices s) ≡ 0 → is_mark s ≡ true
+end_is_mark s h =
+    let q = s.queue in
+    ended_or s.cause (queue_choices q) (length q.active == 0 && length q.activated == 0) h
+    (λ none. let idle = idle_when q (no_advance (offered q q.grain q.last) q.future none) in rw (idle.0, idle.1) refl)
+
+pub lawful : (setting : Setting) → IsLawful (rules_of setting)
+unfolding rules_of
+lawful setting = record {
+  reflexive = itself;
+  symmetric = λ s t h. subst (λ (u : State). state_same u s ≡ true) (is s t h) (itself s);
+  transitive = λ s t u h k. subst (λ (v : State). state_same s v ≡ true) (is t u k) h;
+  width_same = λ s t h. ap (λ (u : State). length (choices u)) (is s t h);
+  mark_same = λ s t h. ap is_mark (is s t h);
+  after_same = λ s t i h lt. subst (λ (u : State). state_same (next setting.design s i).state (next setting.design u i).state ≡ true) (is s t h) (itself (next setting.design s i).state);
+  end_is_mark = end_is_mark;
+}
+  where
+    is : (s t : State) → state_same s t ≡ true → s ≡ t
+    is s t = (state_tells s t).0
+
+    itself : (s : State) → state_same s s ≡ true
+    itself s = (state_tells s s).1 refl

@@ -1,0 +1,191 @@
+-- The times of the slot ends that a run gives rise strictly.
+use Rattle.std.proofs.Common.{◌≡◌, ℕ, zero, suc, ◌<◌, ◌≤◌, List, [], ◌∷◌, ◌++◌, length, Option, Some, None, refl, sym, ap, subst, ◌∙◌, arith}
+use Rattle.std.specs.Prelude.{slice_get}
+use Rattle.basis.proofs.Lists.{listed_place}
+use Rattle.sched_core.specs.Rules.{choice_at, IsRun}
+use Rattle.vbits.specs.Vectors.{Vector}
+use Rattle.vast.specs.Design.{Design}
+use Rattle.vast.specs.declared.design.Action.{Action}
+use Rattle.vmodel.specs.declared.history.Cause.{Cause}
+use Rattle.vmodel.specs.declared.history.DumpCommand.{DumpCommand}
+use Rattle.vmodel.specs.declared.history.Item.{Item}
+use Rattle.vmodel.specs.declared.history.Item.TheVariants.{SlotEnd, Dump}
+use Rattle.vmodel.specs.declared.part.Part.{Part}
+use Rattle.vmodel.specs.declared.deed.Fate.{Fate}
+use Rattle.vmodel.specs.declared.deed.Fate.TheVariants.{GoesOn, Sleeps}
+use Rattle.vmodel.specs.declared.process.Spot.{Spot}
+use Rattle.vmodel.specs.declared.process.Spot.TheVariants.{Doing}
+use Rattle.vmodel.specs.declared.choice.Choice.{Choice}
+use Rattle.vmodel.specs.declared.choice.Choice.TheVariants.{Run, Update, Advance}
+use Rattle.vmodel.specs.Queue.{Slot, Queue}
+use Rattle.vmodel.specs.State.{State}
+use Rattle.vmodel.specs.Choices.{choices}
+use Rattle.vmodel.specs.Step.{Turn, Did, does, going, goes_on, sleeps, fares, posts, settled, closed_by, closed, acted, turned, takes, goes_from, left_of, without_update, updated, advanced_to, turn_of, turn_by, next, command_items, idle_items, slot_end_by, slot_end_of, items_of}
+use Rattle.vmodel.specs.Run.{Setting, rules_of, opening_of, state_after, given_by}
+use Rattle.vmodel.specs.Played.{opening_is, after_is, width_is}
+use Rattle.vmodel.specs.Kept.{RisesFrom, IsIdle, IsKept, slot_times, count_in}
+use Rattle.vmodel.proofs.MovedLemmas.{sleeps_by, settled_by}
+use Rattle.vmodel.proofs.KeptLemmas.{IsOpen, open_choice, kept}
+
+-- ---- times one after another
+
+-- from where on a rising list may go on
+abbrev free_from : ℕ → List ℕ → ℕ
+free_from low [] = low
+free_from low (t ∷ ts) = free_from (suc t) ts
+
+rises_on : (low t : ℕ) (ts : List ℕ) → RisesFrom low ts → free_from low ts ≤ t → RisesFrom low (ts ++ t ∷ [])
+rises_on low t [] h le = (le, tt)
+rises_on low t (n ∷ ns) h le = (h.0, rises_on (suc n) t ns h.1 le)
+
+free_last : (low t : ℕ) (ts : List ℕ) → free_from low (ts ++ t ∷ []) ≡ suc t
+free_last low t [] = refl
+free_last low t (n ∷ ns) = free_last (suc n) t ns
+
+slot_times-append : (xs ys : List Item) → slot_times (xs ++ ys) ≡ slot_times xs ++ slot_times ys
+slot_times-append [] ys = refl
+slot_times-append (SlotEnd time values ∷ xs) ys = ap (λ (ts : List ℕ). time ∷ ts) (slot_times-append xs ys)
+slot_times-append (Dump command ∷ xs) ys = slot_times-append xs ys
+
+append-none : (ts : List ℕ) → ts ++ [] ≡ ts
+append-none [] = refl
+append-none (t ∷ ts) = ap (λ (rest : List ℕ). t ∷ rest) (append-none ts)
+
+-- ---- what a run has given when it stands at a state
+
+-- a slot at the current time has ended only where nothing is active
+record IsTimed (times : List ℕ) (s : State) : Type 0 where
+  rises : RisesFrom 0 times
+  within : free_from 0 times ≤ suc s.queue.time
+  before : s.cause ≡ None → ¬ IsIdle s.queue → free_from 0 times ≤ s.queue.time
+
+-- a state after times before its own, with its slot end
+timed_end : (times : List ℕ) (s : State) → RisesFrom 0 times → free_from 0 times ≤ s.queue.time → IsTimed (times ++ slot_times (slot_end_of s)) s
+timed_end times s rises le = by_cause s.cause refl
+  where
+    none_more : IsTimed (times ++ []) s
+    none_more = subst (λ (ts : List ℕ). IsTimed ts s) (sym (append-none times))
+        (record { rises = rises; within = omega (arith, le); before = λ none busy. le })
+
+    by_idle : (active : List ℕ) (activated : List (List Part)) → s.queue.active ≡ active → s.queue.activated ≡ activated →
+        IsTimed (times ++ slot_times (idle_items active activated s.queue.time s.values)) s
+    by_idle [] [] a b = record {
+      rises = rises_on 0 s.queue.time times rises le;
+      within = omega (arith, free_last 0 s.queue.time times);
+      before = λ none busy. absurd (busy (a, b));
+    }
+    by_idle [] (u ∷ us) a b = none_more
+    by_idle (p ∷ ps) us a b = none_more
+
+    by_cause : (cause : Option Cause) → s.cause ≡ cause → IsTimed (times ++ slot_times (slot_end_by cause s)) s
+    by_cause (Some cause) is = none_more
+    by_cause None is = by_idle s.queue.active s.queue.activated refl refl
+
+no_slot_end : (command : Option DumpCommand) → slot_times (command_items command) ≡ []
+no_slot_end None = refl
+no_slot_end (Some command) = refl
+
+-- the same after a turn, with all that it gives
+timed_turn : (times : List ℕ) (turn : Turn) → RisesFrom 0 times → free_from 0 times ≤ turn.state.queue.time →
+    IsTimed (times ++ slot_times (items_of turn)) turn.state
+timed_turn times turn rises le =
+    subst (λ (ts : List ℕ). IsTimed (times ++ ts) turn.state)
+    (sym (slot_times-append (command_items turn.deed.command) (slot_end_of turn.state)
+    ∙ ap (λ (ts : List ℕ). ts ++ slot_times (slot_end_of turn.state)) (no_slot_end turn.deed.command)))
+    (timed_end times turn.state rises le)
+
+-- ---- the time after a step
+
+time-settled : (q : Queue) → (settled q).time ≡ q.time
+time-settled q = settled_by (λ (r : Queue). r.time ≡ q.time) q (λ moves. refl) (λ i is a b. refl) (λ u us. refl)
+
+time-closed : (s : State) → (closed s).queue.time ≡ s.queue.time
+time-closed s = by_cause s.cause
+  where
+    by_cause : (cause : Option Cause) → (closed_by cause s).queue.time ≡ s.queue.time
+    by_cause (Some cause) = refl
+    by_cause None = time-settled s.queue
+
+time-goes_on : (p : ℕ) (left : Option ℕ) (q : Queue) → (goes_on p left q).time ≡ q.time
+time-goes_on p None q = refl
+time-goes_on p (Some same) q = refl
+
+time-fares : (p : ℕ) (fate : Fate) (left : Option ℕ) (q : Queue) → (fares p fate left q).time ≡ q.time
+time-fares p GoesOn left q = time-goes_on p left q
+time-fares p (Sleeps d) left q = sleeps_by (λ (r : Queue). r.time ≡ q.time) d left q refl (λ r is. refl) refl (λ t lt within. refl)
+
+time-posts : (posted : Option (List Part)) (q : Queue) → (posts posted q).time ≡ q.time
+time-posts None q = refl
+time-posts (Some u) q = refl
+
+time-turned : (p : ℕ) (did : Did) (s : State) → (turned p did s).state.queue.time ≡ s.queue.time
+time-turned p did s =
+    time-closed (acted p did s)
+    ∙ time-fares p did.deed.fate (going p did.left) (posts did.deed.posted s.queue)
+    ∙ time-posts did.deed.posted s.queue
+
+time-takes : (p : ℕ) (action : Option Action) (after : List Spot) (s : State) → (takes p action after s).state.queue.time ≡ s.queue.time
+time-takes p None after s = refl
+time-takes p (Some action) after s = time-turned p (does action after (record { values = s.values })) s
+
+time-process : (actions : List Action) (p : ℕ) (left : List Spot) (s : State) → (goes_from actions p left s).state.queue.time ≡ s.queue.time
+time-process actions p [] s = refl
+time-process actions p (Doing place ∷ after) s = time-takes p (slice_get actions place) after s
+
+time-updated : (us : List (List Part)) (q : Queue) → (without_update us q).time ≡ q.time
+time-updated [] q = refl
+time-updated (u ∷ us) q = refl
+
+time-advanced : (times : List ℕ) (s : State) (future : List (ℕ × Slot)) → s.queue.future ≡ future → IsKept s → ¬ (future ≡ []) →
+    free_from 0 times ≤ suc s.queue.time → free_from 0 times ≤ (advanced_to future s.queue).time
+time-advanced times s [] is kept some le = absurd (some refl)
+time-advanced times s (e ∷ es) is kept some le =
+    let h = rw is at kept.order.future in omega (arith, h.0, le)
+
+turn-timed : (design : Design) (times : List ℕ) (c : Choice) (s : State) → IsKept s → s.cause ≡ None → IsOpen c s.queue → IsTimed times s →
+    IsTimed (times ++ slot_times (items_of (turn_of design c s))) (turn_of design c s).state
+turn-timed design times (Run p) s kept none active timed =
+    timed_turn times (turn_of design (Run p) s) timed.rises
+    (omega (
+      arith,
+      timed.before none (λ idle. absurd (omega (arith, active, ap (count_in p) idle.0))),
+      time-process design.actions p (left_of (slice_get s.processes p)) s,
+    ))
+turn-timed design times Update s kept none some timed =
+    timed_turn times (turn_of design Update s) timed.rises
+    (omega (arith, timed.before none (λ idle. some idle.1), time-closed (updated s), time-updated s.queue.activated s.queue))
+turn-timed design times Advance s kept none allowed timed =
+    timed_turn times (turn_of design Advance s) timed.rises
+    (omega (
+      arith,
+      time-advanced times s s.queue.future refl kept allowed.1 timed.within,
+      time-closed (record s { queue = advanced_to s.queue.future s.queue }),
+    ))
+
+next-timed : (design : Design) (times : List ℕ) (s : State) (i : ℕ) → IsKept s → IsTimed times s → i < length (choices s) →
+    IsTimed (times ++ slot_times (items_of (next design s i))) (next design s i).state
+next-timed design times s i kept timed lt =
+    let there = listed_place (choices s) i lt in
+    let allowed = open_choice s i there.0 kept.place.last there.1 in
+    subst (λ (o : Option Choice). IsTimed (times ++ slot_times (items_of (turn_by design o s))) (turn_by design o s).state) (sym there.1)
+    (turn-timed design times there.0 s kept allowed.0 allowed.1 timed)
+
+-- ---- the run
+
+shorter : (setting : Setting) (log : List (ℕ × ℕ)) (n : ℕ) → IsRun (rules_of setting) log (suc n) → IsRun (rules_of setting) log n
+shorter setting log n run = λ k lt. run k (omega (arith, lt))
+
+timed : (setting : Setting) (log : List (ℕ × ℕ)) (n : ℕ) → IsRun (rules_of setting) log n → IsTimed (slot_times (given_by setting log n)) (state_after setting log n)
+timed setting log zero run =
+    subst (IsTimed (slot_times (given_by setting log 0))) (sym (opening_is setting)) (timed_end [] (opening_of setting) tt (omega arith))
+timed setting log (suc n) run =
+    let s = state_after setting log n in
+    let i = choice_at log n in
+    let turn = next setting.design s i in
+    subst (λ (ts : List ℕ). IsTimed ts (state_after setting log (suc n))) (sym (slot_times-append (given_by setting log n) (items_of turn)))
+    (subst (IsTimed (slot_times (given_by setting log n) ++ slot_times (items_of turn))) (sym (after_is setting s i))
+    (next-timed setting.design (slot_times (given_by setting log n)) s i (kept setting log n) (timed setting log n (shorter setting log n run))
+    (omega (arith, run n (omega arith), width_is setting s))))
+
+pub times_rise : (setting : Setting) (log : List (ℕ × ℕ)) (n : ℕ) → IsRun (rules_of setting) log n → RisesFrom 0 (slot_times (given_by setting log n))
+times_rise setting log n run = (timed setting log n run).rises

@@ -1,0 +1,108 @@
+-- The states and the slot ends of a run have as many values as the design has variables.
+use Rattle.std.proofs.Common.{◌≡◌, ℕ, zero, suc, List, [], ◌∷◌, length, Option, Some, None, All, refl, ap, ◌∙◌}
+use Rattle.std.specs.Prelude.{slice_get, slice_set}
+use Rattle.std.proofs.lemmas.List.{length-map, length-set}
+use Rattle.std.proofs.lemmas.List.Elements.{All-nil, All-cons, All-append}
+use Rattle.sched_core.specs.Rules.{choice_at}
+use Rattle.vbits.specs.Vectors.{Vector}
+use Rattle.vast.specs.Design.{Design}
+use Rattle.vast.specs.declared.design.Action.{Action}
+use Rattle.vmodel.specs.declared.history.Cause.{Cause}
+use Rattle.vmodel.specs.declared.history.DumpCommand.{DumpCommand}
+use Rattle.vmodel.specs.declared.history.Item.TheVariants.{SlotEnd, Dump}
+use Rattle.vmodel.specs.declared.part.Part.{Part}
+use Rattle.vmodel.specs.declared.part.Part.TheVariants.{Whole}
+use Rattle.vmodel.specs.declared.process.Spot.{Spot}
+use Rattle.vmodel.specs.declared.process.Spot.TheVariants.{Doing}
+use Rattle.vmodel.specs.declared.choice.Choice.{Choice}
+use Rattle.vmodel.specs.declared.choice.Choice.TheVariants.{Run, Update, Advance}
+use Rattle.vmodel.specs.State.{State}
+use Rattle.vmodel.specs.Choices.{choices}
+use Rattle.vmodel.specs.Parts.{written}
+use Rattle.vmodel.specs.Step.{Turn, does, closed_by, closed, acted, takes, goes_from, left_of, process_turn, first_of, updated, advanced_to, turn_of, turn_by, next, command_items, idle_items, slot_end_by, slot_end_of, items_of}
+use Rattle.vmodel.specs.Run.{Setting, opening_value, opening_of, state_after, given_by}
+use Rattle.vmodel.specs.Played.{opening_is, after_is}
+use Rattle.vmodel.specs.Kept.{HasValues}
+
+-- ---- a step
+
+length-written : (parts : List Part) (values : List Vector) → length (written parts values) ≡ length values
+length-written [] values = refl
+length-written (Whole variable value ∷ parts) values =
+    length-written parts (slice_set values variable value) ∙ length-set values variable value
+
+length-closed : (s : State) → length (closed s).values ≡ length s.values
+length-closed s = by_cause s.cause
+  where
+    by_cause : (cause : Option Cause) → length (closed_by cause s).values ≡ length s.values
+    by_cause (Some cause) = refl
+    by_cause None = refl
+
+takes-full : (p : ℕ) (action : Option Action) (after : List Spot) (s : State) → length (takes p action after s).state.values ≡ length s.values
+takes-full p None after s = refl
+takes-full p (Some action) after s =
+    let did = does action after (record { values = s.values }) in
+    length-closed (acted p did s) ∙ length-written did.deed.wrote s.values
+
+process-full : (actions : List Action) (p : ℕ) (left : List Spot) (s : State) → length (goes_from actions p left s).state.values ≡ length s.values
+process-full actions p [] s = refl
+process-full actions p (Doing place ∷ after) s = takes-full p (slice_get actions place) after s
+
+turn-full : (design : Design) (c : Choice) (s : State) → length (turn_of design c s).state.values ≡ length s.values
+turn-full design (Run p) s = process-full design.actions p (left_of (slice_get s.processes p)) s
+turn-full design Update s = length-closed (updated s) ∙ length-written (first_of s.queue.activated) s.values
+turn-full design Advance s = length-closed (record s { queue = advanced_to s.queue.future s.queue })
+
+next-full : (design : Design) (s : State) (i : ℕ) → length (next design s i).state.values ≡ length s.values
+next-full design s i = by_choice (slice_get (choices s) i)
+  where
+    by_choice : (o : Option Choice) → length (turn_by design o s).state.values ≡ length s.values
+    by_choice None = refl
+    by_choice (Some c) = turn-full design c s
+
+-- ---- what is shown
+
+shown-idle : (count : ℕ) (active : List ℕ) (activated : List (List Part)) (time : ℕ) (values : List Vector) → length values ≡ count →
+    All (HasValues count) (idle_items active activated time values)
+shown-idle count [] [] time values full = All-cons (HasValues count) (SlotEnd time values) [] full (All-nil (HasValues count))
+shown-idle count [] (u ∷ us) time values full = All-nil (HasValues count)
+shown-idle count (p ∷ ps) us time values full = All-nil (HasValues count)
+
+shown-end : (count : ℕ) (s : State) → length s.values ≡ count → All (HasValues count) (slot_end_of s)
+shown-end count s full = by_cause s.cause
+  where
+    by_cause : (cause : Option Cause) → All (HasValues count) (slot_end_by cause s)
+    by_cause (Some cause) = All-nil (HasValues count)
+    by_cause None = shown-idle count s.queue.active s.queue.activated s.queue.time s.values full
+
+shown-command : (count : ℕ) (command : Option DumpCommand) → All (HasValues count) (command_items command)
+shown-command count None = All-nil (HasValues count)
+shown-command count (Some command) = All-cons (HasValues count) (Dump command) [] tt (All-nil (HasValues count))
+
+shown-turn : (count : ℕ) (turn : Turn) → length turn.state.values ≡ count → All (HasValues count) (items_of turn)
+shown-turn count turn full =
+    All-append (HasValues count) (command_items turn.deed.command) (slot_end_of turn.state) (shown-command count turn.deed.command)
+    (shown-end count turn.state full)
+
+-- ---- the run
+
+pub as_many : (setting : Setting) (log : List (ℕ × ℕ)) (n : ℕ) → length (state_after setting log n).values ≡ length setting.design.variables
+as_many setting log zero =
+    ap (λ (s : State). length s.values) (opening_is setting) ∙ length-map setting.design.variables opening_value
+as_many setting log (suc n) =
+    let s = state_after setting log n in
+    let i = choice_at log n in
+    ap (λ (after : State). length after.values) (after_is setting s i)
+    ∙ next-full setting.design s i
+    ∙ as_many setting log n
+
+pub as_many_shown : (setting : Setting) (log : List (ℕ × ℕ)) (n : ℕ) → All (HasValues (length setting.design.variables)) (given_by setting log n)
+as_many_shown setting log zero =
+    shown-end (length setting.design.variables) (opening_of setting) (length-map setting.design.variables opening_value)
+as_many_shown setting log (suc n) =
+    let s = state_after setting log n in
+    let i = choice_at log n in
+    let count = length setting.design.variables in
+    let turn = next setting.design s i in
+    All-append (HasValues count) (given_by setting log n) (items_of turn) (as_many_shown setting log n)
+    (shown-turn count turn (next-full setting.design s i ∙ as_many setting log n))

@@ -1,0 +1,19 @@
+use Rattle.vmodel.proofs.SameLemmas.{state_tells}
+use Rattle.vmodel.proofs.RulesLemmas.{lawful}
+use Rattle.vmodel.proofs.KeptLemmas.{kept}
+use Rattle.vmodel.proofs.TimesLemmas.{times_rise}
+use Rattle.vmodel.proofs.ValuesLemmas.{as_many, as_many_shown}
+use Rattle.vmodel.proofs.EndsLemmas.{shown_end, end_shown}
+use Rattle.vmodel.proofs.law.run_law.Goals as goal
+
+pub returns : goal.returns
+returns c = record {
+  equal = state_tells;
+  lawful = lawful;
+  kept = kept;
+  times = times_rise;
+  values = as_many;
+  shown = as_many_shown;
+  ended = shown_end;
+  ends = end_shown;
+}
