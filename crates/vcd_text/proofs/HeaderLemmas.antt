@@ -5,7 +5,7 @@ use Rattle.std.specs.List.{after_last}
 use Rattle.std.proofs.lemmas.List.{take_min, drop_all, append-nil}
 use Rattle.std.proofs.lemmas.Bool.{cases_lt}
 use Rattle.std.proofs.Math.Seq.{take-nil, drop-nil}
-use Rattle.vast.specs.Design.{VariableView, ScopeView}
+use Rattle.vast.specs.Design.{Variable, Scope}
 use Rattle.vcd_text.specs.DumpText.{bounds_text, closings, code, kind_word, line, following, named_variable_line, scope_line, scope_lines, variable_lines}
 
 -- what stands in a name's last part
@@ -13,14 +13,14 @@ abbrev pub is_no_dot : ℕ → Bool
 is_no_dot c = not (c == 46)
 
 -- where no variable is left, their numbers don't matter
-lines_of_none : (before : List ℕ) (around n k : ℕ) (scopes : List ScopeView) →
+lines_of_none : (before : List ℕ) (around n k : ℕ) (scopes : List Scope) →
     before ++ variable_lines n (take k []) ++ scope_lines around (n + k) scopes (drop k []) ≡ before ++ scope_lines around (n + k) scopes []
 lines_of_none before around n k scopes =
-    ap (λ (vs : List VariableView). before ++ variable_lines n vs ++ scope_lines around (n + k) scopes (drop k [])) (take-nil k)
+    ap (λ (vs : List Variable). before ++ variable_lines n vs ++ scope_lines around (n + k) scopes (drop k [])) (take-nil k)
     ∙ ap (λ (text : List ℕ). text ++ scope_lines around (n + k) scopes (drop k [])) (append-nil before)
-    ∙ ap (λ (vs : List VariableView). before ++ scope_lines around (n + k) scopes vs) (drop-nil k)
+    ∙ ap (λ (vs : List Variable). before ++ scope_lines around (n + k) scopes vs) (drop-nil k)
 
-no_variables : (around n m : ℕ) (scopes : List ScopeView) → scope_lines around n scopes [] ≡ scope_lines around m scopes []
+no_variables : (around n m : ℕ) (scopes : List Scope) → scope_lines around n scopes [] ≡ scope_lines around m scopes []
 no_variables around n m [] = refl
 no_variables around n m (s ∷ scopes) =
     let before : List ℕ = closings (around - s.depth) ++ scope_line s.name in
@@ -29,7 +29,7 @@ no_variables around n m (s ∷ scopes) =
     ∙ sym (lines_of_none before (suc s.depth) m s.variables scopes)
 
 -- a scope that says of more variables than there are has those that there are
-same_lines : (around n k j : ℕ) (scopes : List ScopeView) (vs : List VariableView) → j ≡ min k (length vs) →
+same_lines : (around n k j : ℕ) (scopes : List Scope) (vs : List Variable) → j ≡ min k (length vs) →
     scope_lines around (n + j) scopes (drop j vs) ≡ scope_lines around (n + k) scopes (drop k vs)
 same_lines around n k j scopes vs is = elim (cases_lt (length vs) k) [
   | inl lt ↦ (let e : length vs ≤ j = omega (arith, is, lt) in
@@ -59,7 +59,7 @@ scope_put text t1 t2 t3 t4 name s1 s2 s3 s4 =
     piece_more text (codes "$scope module " ++ name ++ codes " $end") t3 t4 (10 ∷ []) p3 s4
 
 -- the pieces of a variable's line
-pub variable_put : (text t1 t2 t3 t4 t5 t6 t7 t8 t9 t10 t11 : List ℕ) (name : List ℕ) (v : VariableView) → t1 ≡ text ++ codes "$var " →
+pub variable_put : (text t1 t2 t3 t4 t5 t6 t7 t8 t9 t10 t11 : List ℕ) (name : List ℕ) (v : Variable) → t1 ≡ text ++ codes "$var " →
     t2 ≡ t1 ++ kind_word v.kind →
     t3 ≡ t2 ++ codes " " →
     t4 ≡ t3 ++ decimal v.length →
@@ -94,7 +94,7 @@ closing_more text more whole count i lt step so_far =
     ∙ so_far
 
 -- one scope's lines, and then the others'
-pub scope_more : (text closed named listed whole : List ℕ) (around n : ℕ) (s : ScopeView) (scopes : List ScopeView) (vs own rest : List VariableView) (j m : ℕ) →
+pub scope_more : (text closed named listed whole : List ℕ) (around n : ℕ) (s : Scope) (scopes : List Scope) (vs own rest : List Variable) (j m : ℕ) →
     j ≡ min s.variables (length vs) → m ≡ j → own ≡ take j vs → rest ≡ drop j vs → closed ≡ text ++ closings (around - s.depth) → named ≡ closed ++ scope_line s.name →
     listed ≡ named ++ variable_lines n own → text ++ scope_lines around n (s ∷ scopes) vs ≡ whole →
     listed ++ scope_lines (s.depth + 1) (n + m) scopes rest ≡ whole
@@ -112,7 +112,7 @@ scope_more text closed named listed whole around n s scopes vs own rest j m is l
     ap (λ (x : List ℕ). x ++ after) listed_all
     ∙ regrouped text (closings (around - s.depth)) (scope_line s.name) (variable_lines n own) after
     ∙ ap (λ (x : List ℕ). text ++ (before ++ variable_lines n own ++ x)) after_same
-    ∙ ap (λ (x : List VariableView). text ++ (before ++ variable_lines n x ++ scope_lines (suc s.depth) (n + s.variables) scopes (drop s.variables vs))) own_same
+    ∙ ap (λ (x : List Variable). text ++ (before ++ variable_lines n x ++ scope_lines (suc s.depth) (n + s.variables) scopes (drop s.variables vs))) own_same
     ∙ so_far
 
 -- one variable's line, and then the others'
@@ -121,7 +121,7 @@ name_more name after n i is step =
     let next : n + (i + 1) ≡ suc (n + i) = omega arith in
     step ∙ ap following is ∙ sym (ap code next)
 
-pub variable_more : (text name more whole : List ℕ) (n i : ℕ) (v : VariableView) (vs : List VariableView) → name ≡ code (n + i) →
+pub variable_more : (text name more whole : List ℕ) (n i : ℕ) (v : Variable) (vs : List Variable) → name ≡ code (n + i) →
     more ≡ text ++ named_variable_line name v → text ++ variable_lines (n + i) (v ∷ vs) ≡ whole → more ++ variable_lines (n + (i + 1)) vs ≡ whole
 variable_more text name more whole n i v vs is step so_far =
     let next : n + (i + 1) ≡ suc (n + i) = omega arith in

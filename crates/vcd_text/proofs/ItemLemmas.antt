@@ -1,8 +1,7 @@
 -- Items that are left to take.
 use Rattle.std.proofs.Common.{◌≡◌, ◌<◌, ◌≤◌, ◌+◌, ℕ, suc, List, [], ◌∷◌, length, drop, get_or, drop-cons, sym, ap, subst, ◌∙◌, add-one, Option}
 use Rattle.std.proofs.lemmas.List.{drop_all}
-use Rattle.vmodel.specs.History.{HistoryItem}
-use Rattle.vmodel.specs.StateViews.{item_view, item_views}
+use Rattle.vmodel.specs.declared.history.Item.{Item}
 use Rattle.vmodel.specs.declared.history.Item.{Item}
 use Rattle.vcd_text.specs.declared.fault.WriteFault.{WriteFault}
 use Rattle.vcd_text.specs.declared.sink.DumpSink.{DumpSink}
@@ -19,21 +18,21 @@ pub takes_on : {W : Type 0} (contents : W → Option (List ℕ)) (s t u : DumpSi
     i < length items → Takes contents s (item_view item ∷ []) t → Takes contents t (item_views (drop (i + 1) items)) u →
     Takes contents s (item_views (drop i items)) u
 takes_on contents s t u items i item is within p q =
-    subst (λ (xs : List HistoryItem). Takes contents s xs u) (left_items items i item is within)
+    subst (λ (xs : List Item). Takes contents s xs u) (left_items items i item is within)
     (takes_joins contents s t u (item_view item ∷ []) (item_views (drop (i + 1) items)) p q)
 
 pub fails_on : {W : Type 0} (contents : W → Option (List ℕ)) (s t u : DumpSink W) (items : List Item) (i : ℕ) (item : Item) (fault : WriteFault) →
     item ≡ get_or items i item → i < length items → Takes contents s (item_view item ∷ []) t → Fails contents t (item_views (drop (i + 1) items)) fault u →
     Fails contents s (item_views (drop i items)) fault u
 fails_on contents s t u items i item fault is within p q =
-    subst (λ (xs : List HistoryItem). Fails contents s xs fault u) (left_items items i item is within)
+    subst (λ (xs : List Item). Fails contents s xs fault u) (left_items items i item is within)
     (fails_after contents s t u (item_view item ∷ []) (item_views (drop (i + 1) items)) fault p q)
 
 -- the fault comes in an item
 pub fails_here : {W : Type 0} (contents : W → Option (List ℕ)) (s u : DumpSink W) (items : List Item) (i : ℕ) (item : Item) (fault : WriteFault) →
     item ≡ get_or items i item → i < length items → Fails contents s (item_view item ∷ []) fault u → Fails contents s (item_views (drop i items)) fault u
 fails_here contents s u items i item fault is within p =
-    subst (λ (xs : List HistoryItem). Fails contents s xs fault u) (left_items items i item is within)
+    subst (λ (xs : List Item). Fails contents s xs fault u) (left_items items i item is within)
     (fails_before contents s u (item_view item ∷ []) (item_views (drop (i + 1) items)) fault p)
 
 -- nothing is left

@@ -7,10 +7,12 @@ use Rattle.vbits.specs.Vectors.{Vector, same_letters}
 use Rattle.vast.specs.declared.design.Bounds.{Bounds}
 use Rattle.vast.specs.declared.design.Kind.{Kind}
 use Rattle.vast.specs.declared.design.Kind.TheVariants.{Reg}
-use Rattle.vast.specs.Design.{VariableView, ScopeView, DesignView}
+use Rattle.vast.specs.Design.{Variable, Scope, Design}
 use Rattle.vmodel.specs.declared.history.DumpCommand.{DumpCommand}
 use Rattle.vmodel.specs.declared.history.DumpCommand.TheVariants.{Vars}
-use Rattle.vmodel.specs.History.{HistoryItem, slot_end, dump, HistoryView}
+use Rattle.vmodel.specs.History.{History}
+use Rattle.vmodel.specs.declared.history.Item.{Item}
+use Rattle.vmodel.specs.declared.history.Item.TheVariants.{SlotEnd, Dump}
 
 abbrev pub line : List ℕ → List ℕ
 line text = text ++ 10 ∷ []
@@ -86,15 +88,15 @@ bounds_text None = []
 bounds_text (Some bounds) = codes " [" ++ decimal bounds.left ++ codes ":" ++ decimal bounds.right ++ codes "]"
 
 -- $var KIND WIDTH CODE NAME $end, with the name without its scopes
-abbrev pub named_variable_line : List ℕ → VariableView → List ℕ
+abbrev pub named_variable_line : List ℕ → Variable → List ℕ
 named_variable_line name variable =
     line (codes "$var " ++ kind_word variable.kind ++ codes " " ++ decimal variable.length ++ codes " " ++ name ++ codes " "
     ++ after_last (λ c. c == 46) variable.name ++ bounds_text variable.bounds ++ codes " $end")
 
-abbrev pub variable_line : ℕ → VariableView → List ℕ
+abbrev pub variable_line : ℕ → Variable → List ℕ
 variable_line n = named_variable_line (code n)
 
-abbrev pub variable_lines : ℕ → List VariableView → List ℕ
+abbrev pub variable_lines : ℕ → List Variable → List ℕ
 variable_lines n [] = []
 variable_lines n (v ∷ vs) = variable_line n v ++ variable_lines (suc n) vs
 
@@ -106,7 +108,7 @@ closings zero = []
 closings (suc n) = line (codes "$upscope $end") ++ closings n
 
 -- scopes depth first: so many are open, the next variable is n, and these are left
-abbrev pub scope_lines : ℕ → ℕ → List ScopeView → List VariableView → List ℕ
+abbrev pub scope_lines : ℕ → ℕ → List Scope → List Variable → List ℕ
 scope_lines around n [] variables = closings around
 scope_lines around n (s ∷ scopes) variables =
     closings (around - s.depth)
@@ -114,7 +116,7 @@ scope_lines around n (s ∷ scopes) variables =
     ++ variable_lines n (take s.variables variables)
     ++ scope_lines (suc s.depth) (n + s.variables) scopes (drop s.variables variables)
 
-abbrev pub header : DesignView → List ℕ
+abbrev pub header : Design → List ℕ
 header design =
     line (codes "$version vrace $end")
     ++ line (codes "$timescale 1 ns $end")
@@ -130,10 +132,10 @@ pub record Slot : Type 0 where
   pub values : List Vector
 
 -- the slots of a history, the first of which was given these commands before; one that $finish cuts short has no end
-abbrev pub slots_after : List DumpCommand → List HistoryItem → List Slot
+abbrev pub slots_after : List DumpCommand → List Item → List Slot
 slots_after commands [] = []
-slots_after commands (dump command ∷ items) = slots_after (commands ++ command ∷ []) items
-slots_after commands (slot_end t values ∷ items) = record { commands = commands; time = t; values = values } ∷ slots_after [] items
+slots_after commands (Dump command ∷ items) = slots_after (commands ++ command ∷ []) items
+slots_after commands (SlotEnd t values ∷ items) = record { commands = commands; time = t; values = values } ∷ slots_after [] items
 
 -- $dumpvars is one (18.1.2)
 abbrev pub is_start : DumpCommand → Bool
@@ -196,9 +198,9 @@ below head [] end = []
 below head (p ∷ ps) end = head ++ body (p ∷ ps) end
 
 -- the dump of a history below a header
-abbrev pub dump_below : List ℕ → HistoryView → List ℕ
+abbrev pub dump_below : List ℕ → History → List ℕ
 dump_below head history = below head (spoken (pieces (dumped (slots_after [] history.items)))) history.end.time
 
 -- the dump of a design and a history (18.2)
-abbrev pub vcd : DesignView → HistoryView → List ℕ
+abbrev pub vcd : Design → History → List ℕ
 vcd design history = dump_below (header design) history

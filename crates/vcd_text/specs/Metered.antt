@@ -3,7 +3,9 @@ use Rattle.std.specs.Prelude.{◌≡◌, ℕ, zero, suc, ◌+◌, ◌%◌, ◌^�
 use Rattle.std.specs.Io.KnownBytes.{Appends}
 use Rattle.vcd_text.specs.declared.metered.Metered.{Metered}
 use Rattle.vcd_text.specs.declared.fault.WriteFault.{WriteFault}
-use Rattle.vcd_text.specs.declared.fault.WriteFault.TheVariants.{Memory, Write}
+use Rattle.vcd_text.specs.declared.fault.WriteFault.TheVariants.{Write}
+use Rattle.basis.specs.declared.memory.OrMemory.{OrMemory}
+use Rattle.basis.specs.declared.memory.OrMemory.TheVariants.{Fault, Memory}
 
 -- a call of `write` failed: an error, or no byte was taken of a piece that isn't empty
 abbrev pub is_failed_write : {E : Type 0} → Result ℕ E → List ℕ → Bool
@@ -21,15 +23,15 @@ abbrev pub counted : Bool → ℕ → ℕ
 counted failed n = cond failed (one_more n) n
 
 -- the count after this fault: want of memory is no failure of the writer
-abbrev pub count_after : WriteFault → ℕ → ℕ
-count_after Memory n = n
-count_after Write n = one_more n
+abbrev pub count_after : OrMemory WriteFault → ℕ → ℕ
+count_after (Memory m) n = n
+count_after (Fault Write) n = one_more n
 
 -- the text was written, and nothing failed; `contents` says what a writer holds, where it tells
 abbrev pub Grows : {W : Type 0} → (W → Option (List ℕ)) → Metered W → Metered W → List ℕ → Type 0
 Grows contents old new text = Appends (contents old.inner) (contents new.inner) text × (new.failures ≡ old.failures)
 
 -- this fault came somewhere in the text, and what stands before that place was written
-abbrev pub Stops : {W : Type 0} → (W → Option (List ℕ)) → Metered W → Metered W → List ℕ → WriteFault → Type 0
+abbrev pub Stops : {W : Type 0} → (W → Option (List ℕ)) → Metered W → Metered W → List ℕ → OrMemory WriteFault → Type 0
 Stops contents old new text fault =
     ((n : ℕ) × Appends (contents old.inner) (contents new.inner) (take n text)) × (new.failures ≡ count_after fault old.failures)

@@ -2,8 +2,9 @@
 use Rattle.std.specs.Prelude.{◌≡◌, ℕ, ◌==◌, cond, List, [], ◌∷◌, ◌++◌, Option, codes}
 use Rattle.std.specs.List.{enumerate_from}
 use Rattle.vbits.specs.Vectors.{Vector}
-use Rattle.vmodel.specs.History.{HistoryItem, slot_end, dump, HistoryView}
-use Rattle.vmodel.specs.StateViews.{item_views}
+use Rattle.vmodel.specs.History.{History}
+use Rattle.vmodel.specs.declared.history.Item.{Item}
+use Rattle.vmodel.specs.declared.history.Item.TheVariants.{SlotEnd, Dump}
 use Rattle.vmodel.specs.declared.history.History.{History}
 use Rattle.vcd_text.specs.DumpText.{changes, framed, time_line, value_lines}
 use Rattle.vcd_text.specs.Metered.{Grows, Stops}
@@ -38,27 +39,27 @@ abbrev pub changed_lines : List Vector → List Vector → List ℕ
 changed_lines old new = value_lines (changes 0 old new)
 
 -- what an item adds to the dump, below this header
-abbrev pub item_text : List ℕ → Progress → HistoryItem → List ℕ
+abbrev pub item_text : List ℕ → Progress → Item → List ℕ
 item_text head idle item = []
-item_text head asked (dump command) = []
-item_text head asked (slot_end t values) = start_text head t values
-item_text head (started last old) (dump command) = []
-item_text head (started last old) (slot_end t values) = timed t (changed_lines old values)
+item_text head asked (Dump command) = []
+item_text head asked (SlotEnd t values) = start_text head t values
+item_text head (started last old) (Dump command) = []
+item_text head (started last old) (SlotEnd t values) = timed t (changed_lines old values)
 
-abbrev pub progress_after : Progress → HistoryItem → Progress
-progress_after idle (dump command) = asked
-progress_after idle (slot_end t values) = idle
-progress_after asked (dump command) = asked
-progress_after asked (slot_end t values) = started t values
-progress_after (started last old) (dump command) = started last old
-progress_after (started last old) (slot_end t values) = started (last_line last t (changed_lines old values)) values
+abbrev pub progress_after : Progress → Item → Progress
+progress_after idle (Dump command) = asked
+progress_after idle (SlotEnd t values) = idle
+progress_after asked (Dump command) = asked
+progress_after asked (SlotEnd t values) = started t values
+progress_after (started last old) (Dump command) = started last old
+progress_after (started last old) (SlotEnd t values) = started (last_line last t (changed_lines old values)) values
 
 -- what items add, one after another
-abbrev pub items_text : List ℕ → Progress → List HistoryItem → List ℕ
+abbrev pub items_text : List ℕ → Progress → List Item → List ℕ
 items_text head p [] = []
 items_text head p (item ∷ items) = item_text head p item ++ items_text head (progress_after p item) items
 
-abbrev pub progress_over : Progress → List HistoryItem → Progress
+abbrev pub progress_over : Progress → List Item → Progress
 progress_over p [] = p
 progress_over p (item ∷ items) = progress_over (progress_after p item) items
 
@@ -76,7 +77,7 @@ progress_at_end (started last old) t = started t old
 
 -- ---- what the program keeps
 
-abbrev pub history_view : History → HistoryView
+abbrev pub history_view : History → History
 history_view history = record {
   items = item_views history.items.items;
   end = history.end;
@@ -89,7 +90,7 @@ progress_view Asked = asked
 progress_view (Started last values) = started last values.items
 
 -- what these items add to the dump
-abbrev pub text_of : {W : Type 0} → DumpSink W → List HistoryItem → List ℕ
+abbrev pub text_of : {W : Type 0} → DumpSink W → List Item → List ℕ
 text_of sink items = items_text sink.header.now (progress_view sink.progress) items
 
 -- it is the same borrowed writer and the same header
@@ -97,13 +98,13 @@ abbrev pub IsSameDump : {W : Type 0} → DumpSink W → DumpSink W → Type 0
 IsSameDump old new = (new.writer.ghost_name ≡ old.writer.ghost_name) × (new.header.now ≡ old.header.now)
 
 -- the writer grew by what the items add, and the dump has come as far as they lead
-abbrev pub Takes : {W : Type 0} → (W → Option (List ℕ)) → DumpSink W → List HistoryItem → DumpSink W → Type 0
+abbrev pub Takes : {W : Type 0} → (W → Option (List ℕ)) → DumpSink W → List Item → DumpSink W → Type 0
 Takes contents old items new =
     IsSameDump old new
     × (progress_view new.progress ≡ progress_over (progress_view old.progress) items)
     × Grows contents old.writer.now new.writer.now (text_of old items)
 
 -- the fault came somewhere in what the items add
-abbrev pub Fails : {W : Type 0} → (W → Option (List ℕ)) → DumpSink W → List HistoryItem → WriteFault → DumpSink W → Type 0
+abbrev pub Fails : {W : Type 0} → (W → Option (List ℕ)) → DumpSink W → List Item → WriteFault → DumpSink W → Type 0
 Fails contents old items fault new =
     IsSameDump old new × Stops contents old.writer.now new.writer.now (text_of old items) fault

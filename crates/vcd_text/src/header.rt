@@ -2,12 +2,12 @@
 
 ghost use Rattle.std.specs.Prelude.{◌≡◌, ◌++◌, ◌+◌, ◌==◌, ℕ, IfOk, OnOk, decimal, length, map};
 ghost use Rattle.std.specs.List.{after_last};
-ghost use Rattle.vast.specs.DesignViews.{design_view, scope_view, variable_view};
 ghost use Rattle.vcd_text.specs.DumpText.{bounds_text, closings, code, header as header_text, kind_word, named_variable_line, scope_line, scope_lines, variable_lines};
 
 use crate::values::follow;
 use itoa::Buffer;
-use std::alloc::{AllocError, Global};
+use basis::NoMemory;
+use std::alloc::Global;
 use std::marker::Model;
 use vast::design::{Bounds, Design, Kind, Scope, Variable};
 
@@ -28,8 +28,8 @@ impl Model for Header {
 
 impl Header {
     /// The header of a design. E901 is the only refusal.
-    pub fn new(alloc: Global, design: &Design) -> Result<Header, AllocError>
-        ensures { IfOk result (λ header. header ≡ header_text (design_view design.now)) }
+    pub fn new(alloc: Global, design: &Design) -> Result<Header, NoMemory>
+        ensures { IfOk result (λ header. header ≡ header_text design.now) }
     {
         let mut text = Vec::from_slice(alloc, b"$version vrace $end\n")?;
         text.extend_from_slice(b"$timescale 1 ns $end\n")?;
@@ -46,14 +46,14 @@ impl Header {
     }
 }
 
-fn put_number(text: &mut Vec<u8>, number: u32) -> Result<(), AllocError>
+fn put_number(text: &mut Vec<u8>, number: u32) -> Result<(), NoMemory>
     ensures { OnOk result (text.new.items ≡ text.old.items ++ decimal number) }
 {
     let mut digits = Buffer::new();
     text.extend_from_slice(digits.format(number).as_bytes())
 }
 
-fn put_kind(text: &mut Vec<u8>, kind: Kind) -> Result<(), AllocError>
+fn put_kind(text: &mut Vec<u8>, kind: Kind) -> Result<(), NoMemory>
     ensures { OnOk result (text.new.items ≡ text.old.items ++ kind_word kind) }
 {
     match kind {
@@ -62,7 +62,7 @@ fn put_kind(text: &mut Vec<u8>, kind: Kind) -> Result<(), AllocError>
 }
 
 // The range of what was declared with one.
-fn put_bounds(text: &mut Vec<u8>, bounds: Option<Bounds>) -> Result<(), AllocError>
+fn put_bounds(text: &mut Vec<u8>, bounds: Option<Bounds>) -> Result<(), NoMemory>
     ensures { OnOk result (text.new.items ≡ text.old.items ++ bounds_text bounds) }
 {
     match bounds {
@@ -92,8 +92,8 @@ fn own_name(name: &[u8]) -> &[u8]
 }
 
 // The line of a variable with this code.
-fn put_variable(text: &mut Vec<u8>, name: &[u8], variable: &Variable) -> Result<(), AllocError>
-    ensures { OnOk result (text.new.items ≡ text.old.items ++ named_variable_line name.now (variable_view variable.now)) }
+fn put_variable(text: &mut Vec<u8>, name: &[u8], variable: &Variable) -> Result<(), NoMemory>
+    ensures { OnOk result (text.new.items ≡ text.old.items ++ named_variable_line name.now variable.now) }
 {
     text.extend_from_slice(b"$var ")?;
     put_kind(text, variable.kind)?;
@@ -114,9 +114,9 @@ fn put_variables(
     text: &mut Vec<u8>,
     name: &mut Vec<u8>,
     variables: &[Variable],
-) -> Result<(), AllocError>
+) -> Result<(), NoMemory>
     ensures names { (n : ℕ) → name.old.items ≡ code n → OnOk result (name.new.items ≡ code (n + length variables.now)) }
-    ensures lines { (n : ℕ) → name.old.items ≡ code n → OnOk result (text.new.items ≡ text.old.items ++ variable_lines n (map variable_view variables.now)) }
+    ensures lines { (n : ℕ) → name.old.items ≡ code n → OnOk result (text.new.items ≡ text.old.items ++ variable_lines n variables.now) }
 {
     for variable in variables {
         put_variable(text, name, variable)?;
@@ -125,7 +125,7 @@ fn put_variables(
     Ok(())
 }
 
-fn put_closings(text: &mut Vec<u8>, count: u64) -> Result<(), AllocError>
+fn put_closings(text: &mut Vec<u8>, count: u64) -> Result<(), NoMemory>
     ensures { OnOk result (text.new.items ≡ text.old.items ++ closings count) }
 {
     for _ in 0..count {
@@ -134,7 +134,7 @@ fn put_closings(text: &mut Vec<u8>, count: u64) -> Result<(), AllocError>
     Ok(())
 }
 
-fn put_scope(text: &mut Vec<u8>, name: &[u8]) -> Result<(), AllocError>
+fn put_scope(text: &mut Vec<u8>, name: &[u8]) -> Result<(), NoMemory>
     ensures { OnOk result (text.new.items ≡ text.old.items ++ scope_line name.now) }
 {
     text.extend_from_slice(b"$scope module ")?;
@@ -150,8 +150,8 @@ fn put_scopes(
     text: &mut Vec<u8>,
     scopes: &[Scope],
     variables: &[Variable],
-) -> Result<(), AllocError>
-    ensures { OnOk result (text.new.items ≡ text.old.items ++ scope_lines 0 0 (map scope_view scopes.now) (map variable_view variables.now)) }
+) -> Result<(), NoMemory>
+    ensures { OnOk result (text.new.items ≡ text.old.items ++ scope_lines 0 0 scopes.now variables.now) }
 {
     let mut name = Vec::from_slice(alloc, b"!")?;
     let mut around = 0u64;

@@ -1,14 +1,15 @@
 // How far a dump has come, and what a slot end adds to it (18.2.1).
 
 ghost use Rattle.std.specs.Prelude.{◌≡◌, ◌++◌, List, ℕ, IfOk, OnOk};
-ghost use Rattle.vmodel.specs.History.{dump};
+ghost use Rattle.vmodel.specs.declared.history.Item.TheVariants.{Dump};
 ghost use Rattle.vmodel.specs.declared.history.DumpCommand.{DumpCommand};
 ghost use Rattle.vcd_text.specs.DumpText.{time_line};
 ghost use Rattle.vcd_text.specs.Sinks.{changed_lines, last_line, progress_after, progress_view, start_text, timed};
 
 use crate::values::{put_changes, put_values};
 use itoa::Buffer;
-use std::alloc::{AllocError, Global};
+use basis::NoMemory;
+use std::alloc::Global;
 use vbits::Vec4;
 
 /// How far a dump has come: no `$dumpvars` yet, one in the slot that runs, or started.
@@ -22,7 +23,7 @@ pub(crate) enum Progress {
 
 // After a dump command.
 pub(crate) fn ask(progress: &mut Progress)
-    ensures { (command : DumpCommand) → progress_view progress.new ≡ progress_after (progress_view progress.old) (dump command) }
+    ensures { (command : DumpCommand) → progress_view progress.new ≡ progress_after (progress_view progress.old) (Dump command) }
 {
     match progress {
         Progress::Idle => *progress = Progress::Asked,
@@ -35,7 +36,7 @@ pub(crate) fn ask(progress: &mut Progress)
 const ROOM: usize = 64;
 
 // The line of a time.
-pub(crate) fn line_of(alloc: Global, time: u64) -> Result<Vec<u8>, AllocError>
+pub(crate) fn line_of(alloc: Global, time: u64) -> Result<Vec<u8>, NoMemory>
     ensures { IfOk result (λ text. text.items ≡ time_line time) }
 {
     let mut number = Buffer::new();
@@ -47,7 +48,7 @@ pub(crate) fn line_of(alloc: Global, time: u64) -> Result<Vec<u8>, AllocError>
 }
 
 // What the first slot end adds below the header.
-pub(crate) fn first_text(alloc: Global, time: u64, values: &[Vec4]) -> Result<Vec<u8>, AllocError>
+pub(crate) fn first_text(alloc: Global, time: u64, values: &[Vec4]) -> Result<Vec<u8>, NoMemory>
     ensures { IfOk result (λ text. (head : List ℕ) → head ++ text.items ≡ start_text head time values.now) }
 {
     let mut text = line_of(alloc, time)?;
@@ -63,7 +64,7 @@ pub(crate) fn later_text(
     time: u64,
     old: &[Vec4],
     new: &[Vec4],
-) -> Result<Vec<u8>, AllocError>
+) -> Result<Vec<u8>, NoMemory>
     ensures { IfOk result (λ text. text.items ≡ timed time (changed_lines old.now new.now)) }
 {
     let mut text = line_of(alloc, time)?;
@@ -76,7 +77,7 @@ pub(crate) fn later_text(
 }
 
 // The values at a slot end in place of those at the one before. It takes memory only where they are more.
-pub(crate) fn keep(kept: &mut Vec<Vec4>, values: &[Vec4]) -> Result<(), AllocError>
+pub(crate) fn keep(kept: &mut Vec<Vec4>, values: &[Vec4]) -> Result<(), NoMemory>
     ensures { OnOk result (kept.new.items ≡ values.now) }
 {
     kept.clear();

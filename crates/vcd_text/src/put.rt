@@ -9,7 +9,7 @@ use crate::metered::Metered;
 use std::io::Write;
 
 // Writes the whole text. The first failure ends it.
-pub(crate) fn put<W: Write>(writer: &mut Metered<W>, text: &[u8]) -> Result<(), WriteFault>
+pub(crate) fn put<W: Write>(writer: &mut Metered<W>, text: &[u8]) -> Result<(), OrMemory<WriteFault>>
     ensures ok { OnOk result (Grows W.contents writer.old writer.new text.now) }
     ensures fault { IfErr result (λ fault. fault ≡ WriteFailed) }
     ensures err { IfErr result (Stops W.contents writer.old writer.new text.now) }
@@ -19,11 +19,11 @@ pub(crate) fn put<W: Write>(writer: &mut Metered<W>, text: &[u8]) -> Result<(), 
         match writer.write(rest) {
             Ok(taken) => {
                 if taken == 0 {
-                    return Err(WriteFault::Write);
+                    return Err(OrMemory::Fault(WriteFault::Write));
                 }
                 rest = rest.split_at(taken).1;
             }
-            Err(_) => return Err(WriteFault::Write),
+            Err(_) => return Err(OrMemory::Fault(WriteFault::Write)),
         }
     }
     Ok(())

@@ -1,8 +1,7 @@
 // The dump of a run, written slot by slot as the run goes.
 
 ghost use Rattle.std.specs.Prelude.{◌≡◌, [], ◌∷◌, OnOk, OnErr, IfErr, cond, ◌==◌};
-ghost use Rattle.vmodel.specs.History.{slot_end, dump};
-ghost use Rattle.vmodel.specs.StateViews.{item_view};
+ghost use Rattle.vmodel.specs.declared.history.Item.TheVariants.{SlotEnd, Dump};
 ghost use Rattle.vmodel.specs.declared.history.DumpCommand.{DumpCommand};
 ghost use Rattle.vcd_text.specs.DumpText.{time_line};
 ghost use Rattle.vcd_text.specs.Sinks.{idle, asked, changed_lines, end_text, last_line, start_text, timed};
@@ -37,7 +36,7 @@ fn put_start<W: Write>(
     writer: &mut Metered<W>,
     time: u64,
     values: &[Vec4],
-) -> Result<(), WriteFault>
+) -> Result<(), OrMemory<WriteFault>>
     ensures ok { OnOk result (Grows W.contents writer.old writer.new (start_text header.now time values.now)) }
     ensures err { IfErr result (Stops W.contents writer.old writer.new (start_text header.now time values.now)) }
 {
@@ -58,7 +57,7 @@ fn put_slot<W: Write>(
     kept: &mut Vec<Vec4>,
     time: u64,
     values: &[Vec4],
-) -> Result<(), WriteFault>
+) -> Result<(), OrMemory<WriteFault>>
     ensures last { OnOk result (last.new ≡ last_line last.old time (changed_lines kept.old.items values.now)) }
     ensures kept { OnOk result (kept.new.items ≡ values.now) }
     ensures ok { OnOk result (Grows W.contents writer.old writer.new (timed time (changed_lines kept.old.items values.now))) }
@@ -85,7 +84,7 @@ fn put_end<W: Write>(
     writer: &mut Metered<W>,
     last: u64,
     time: u64,
-) -> Result<(), WriteFault>
+) -> Result<(), OrMemory<WriteFault>>
     ensures ok { OnOk result (Grows W.contents writer.old writer.new (cond (last == time) [] (time_line time))) }
     ensures err { IfErr result (Stops W.contents writer.old writer.new (cond (last == time) [] (time_line time))) }
 {
@@ -117,10 +116,10 @@ impl<'a, W: Write> DumpSink<'a, W> {
     }
 
     // The slot that asked for the dump has ended.
-    fn start(&mut self, time: u64, values: &[Vec4]) -> Result<(), WriteFault>
+    fn start(&mut self, time: u64, values: &[Vec4]) -> Result<(), OrMemory<WriteFault>>
         requires { progress_view self.old.progress ≡ asked }
-        ensures ok { OnOk result (Takes W.contents self.old (slot_end time values.now ∷ []) self.new) }
-        ensures err { IfErr result (λ fault. Fails W.contents self.old (slot_end time values.now ∷ []) fault self.new) }
+        ensures ok { OnOk result (Takes W.contents self.old (SlotEnd time values.now ∷ []) self.new) }
+        ensures err { IfErr result (λ fault. Fails W.contents self.old (SlotEnd time values.now ∷ []) fault self.new) }
     {
         let Ok(kept) = Vec::from_slice(self.alloc, values) else {
             return Err(WriteFault::Memory);
@@ -144,9 +143,9 @@ impl<'a, W: Write> DumpSink<'a, W> {
     }
 
     // A slot has ended.
-    fn end_slot(&mut self, time: u64, values: &[Vec4]) -> Result<(), WriteFault>
-        ensures ok { OnOk result (Takes W.contents self.old (slot_end time values.now ∷ []) self.new) }
-        ensures err { IfErr result (λ fault. Fails W.contents self.old (slot_end time values.now ∷ []) fault self.new) }
+    fn end_slot(&mut self, time: u64, values: &[Vec4]) -> Result<(), OrMemory<WriteFault>>
+        ensures ok { OnOk result (Takes W.contents self.old (SlotEnd time values.now ∷ []) self.new) }
+        ensures err { IfErr result (λ fault. Fails W.contents self.old (SlotEnd time values.now ∷ []) fault self.new) }
     {
         match &mut self.progress {
             Progress::Idle => Ok(()),
@@ -159,15 +158,15 @@ impl<'a, W: Write> DumpSink<'a, W> {
 
     // A dump command.
     fn ask(&mut self)
-        ensures { (command : DumpCommand) → Takes W.contents self.old (dump command ∷ []) self.new }
+        ensures { (command : DumpCommand) → Takes W.contents self.old (Dump command ∷ []) self.new }
     {
         ask(&mut self.progress);
     }
 
     // The next item.
-    fn take_item(&mut self, item: &Item) -> Result<(), WriteFault>
-        ensures ok { OnOk result (Takes W.contents self.old (item_view item.now ∷ []) self.new) }
-        ensures err { IfErr result (λ fault. Fails W.contents self.old (item_view item.now ∷ []) fault self.new) }
+    fn take_item(&mut self, item: &Item) -> Result<(), OrMemory<WriteFault>>
+        ensures ok { OnOk result (Takes W.contents self.old (item.now ∷ []) self.new) }
+        ensures err { IfErr result (λ fault. Fails W.contents self.old (item.now ∷ []) fault self.new) }
     {
         match item {
             Item::SlotEnd { time, values } => self.end_slot(*time, values),
@@ -180,7 +179,7 @@ impl<'a, W: Write> DumpSink<'a, W> {
 
     /// Writes what the end of the run adds: its time, unless the last time line is that (E901, E902). After `Ok` a second
     /// call with the same end writes nothing.
-    pub fn finish(&mut self, end: &End) -> Result<(), WriteFault>
+    pub fn finish(&mut self, end: &End) -> Result<(), OrMemory<WriteFault>>
         ensures same { IsSameDump self.old self.new }
         ensures progress { OnOk result (progress_view self.new.progress ≡ progress_at_end (progress_view self.old.progress) end.now.time) }
         ensures kept { OnErr result (progress_view self.new.progress ≡ progress_view self.old.progress) }
@@ -227,7 +226,7 @@ impl<'a, W: Write> Sink for DumpSink<'a, W> {
 
     ghost fails = { Fails W.contents };
 
-    fn take(&mut self, items: &[Item]) -> Result<(), WriteFault> {
+    fn take(&mut self, items: &[Item]) -> Result<(), OrMemory<WriteFault>> {
         for item in items {
             match self.take_item(item) {
                 Ok(()) => {}

@@ -5,11 +5,12 @@ ghost use Rattle.std.specs.List.{enumerate_from};
 ghost use Rattle.vcd_text.specs.DumpText.{following, digit as digit_code, extension as extension_code, shortened, change, named_line, value_lines, is_kept as is_kept_vector};
 ghost use Rattle.vcd_text.specs.Sinks.{changed_lines};
 
-use std::alloc::{AllocError, Global};
+use basis::NoMemory;
+use std::alloc::Global;
 use vbits::{Bit4, Vec4};
 
 // The code of the next variable, in place.
-pub(crate) fn follow(name: &mut Vec<u8>) -> Result<(), AllocError>
+pub(crate) fn follow(name: &mut Vec<u8>) -> Result<(), NoMemory>
     ensures { OnOk result (name.new.items ≡ following name.old.items) }
 {
     for i in 0..name.len() {
@@ -61,7 +62,7 @@ fn kept(digits: &[u8]) -> &[u8]
 }
 
 // The digits of a value, leftmost first.
-fn put_digits(text: &mut Vec<u8>, value: Vec4) -> Result<(), AllocError>
+fn put_digits(text: &mut Vec<u8>, value: Vec4) -> Result<(), NoMemory>
     ensures { OnOk result (text.new.items ≡ text.old.items ++ map digit_code (reverse value.letters)) }
 {
     let mut i = value.len();
@@ -73,7 +74,7 @@ fn put_digits(text: &mut Vec<u8>, value: Vec4) -> Result<(), AllocError>
 }
 
 // One digit and the code, or b, digits, a space and the code.
-fn put_change(text: &mut Vec<u8>, digits: &[u8], name: &[u8]) -> Result<(), AllocError>
+fn put_change(text: &mut Vec<u8>, digits: &[u8], name: &[u8]) -> Result<(), NoMemory>
     ensures { OnOk result (text.new.items ≡ text.old.items ++ change digits.now name.now) }
 {
     if digits.len() > 1 {
@@ -92,7 +93,7 @@ fn put_value(
     scratch: &mut Vec<u8>,
     value: Vec4,
     name: &[u8],
-) -> Result<(), AllocError>
+) -> Result<(), NoMemory>
     ensures { OnOk result (text.new.items ≡ text.old.items ++ named_line name.now value) }
 {
     scratch.clear();
@@ -107,7 +108,7 @@ pub(crate) fn put_values(
     alloc: Global,
     text: &mut Vec<u8>,
     values: &[Vec4],
-) -> Result<(), AllocError>
+) -> Result<(), NoMemory>
     ensures { OnOk result (text.new.items ≡ text.old.items ++ value_lines (enumerate_from 0 values.now)) }
 {
     let mut scratch = Vec::new(alloc);
@@ -138,7 +139,7 @@ pub(crate) fn put_changes(
     text: &mut Vec<u8>,
     old: &[Vec4],
     new: &[Vec4],
-) -> Result<(), AllocError>
+) -> Result<(), NoMemory>
     ensures { OnOk result (text.new.items ≡ text.old.items ++ changed_lines old.now new.now) }
 {
     let mut scratch = Vec::new(alloc);

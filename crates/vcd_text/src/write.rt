@@ -1,7 +1,7 @@
 // The whole dump of a history.
 
 ghost use Rattle.std.specs.Prelude.{◌≡◌, OnOk, IfErr};
-ghost use Rattle.vast.specs.Design.{DesignView};
+ghost use Rattle.vast.specs.Design.{Design};
 ghost use Rattle.vcd_text.specs.DumpText.{dump_below, header as header_text, vcd};
 ghost use Rattle.vcd_text.specs.Metered.{Grows, Stops};
 ghost use Rattle.vcd_text.specs.Sinks.{idle, history_view, progress_view, IsSameDump};
@@ -16,11 +16,11 @@ use vmodel::history::History;
 use vmodel::sink::Sink;
 
 // A whole history into a fresh sink.
-fn fill<W: Write>(sink: &mut DumpSink<'_, W>, history: &History) -> Result<(), WriteFault>
+fn fill<W: Write>(sink: &mut DumpSink<'_, W>, history: &History) -> Result<(), OrMemory<WriteFault>>
     requires { progress_view sink.old.progress ≡ idle }
     ensures same { IsSameDump sink.old sink.new }
-    ensures ok { OnOk result (Grows W.contents sink.old.writer.now sink.new.writer.now (dump_below sink.old.header.now (history_view history.now))) }
-    ensures err { IfErr result (Stops W.contents sink.old.writer.now sink.new.writer.now (dump_below sink.old.header.now (history_view history.now))) }
+    ensures ok { OnOk result (Grows W.contents sink.old.writer.now sink.new.writer.now (dump_below sink.old.header.now history.now)) }
+    ensures err { IfErr result (Stops W.contents sink.old.writer.now sink.new.writer.now (dump_below sink.old.header.now history.now)) }
 {
     match sink.take(&history.items) {
         Ok(()) => sink.finish(&history.end),
@@ -35,9 +35,9 @@ pub fn write_vcd<W: Write>(
     header: &Header,
     history: &History,
     writer: &mut Metered<W>,
-) -> Result<(), WriteFault>
-    ensures ok { (design : DesignView) → header.now ≡ header_text design → OnOk result (Grows W.contents writer.old writer.new (vcd design (history_view history.now))) }
-    ensures err { (design : DesignView) → header.now ≡ header_text design → IfErr result (Stops W.contents writer.old writer.new (vcd design (history_view history.now))) }
+) -> Result<(), OrMemory<WriteFault>>
+    ensures ok { (design : Design) → header.now ≡ header_text design → OnOk result (Grows W.contents writer.old writer.new (vcd design history.now)) }
+    ensures err { (design : Design) → header.now ≡ header_text design → IfErr result (Stops W.contents writer.old writer.new (vcd design history.now)) }
 {
     let mut sink = DumpSink::new(alloc, header, writer);
     let result = fill(&mut sink, history);

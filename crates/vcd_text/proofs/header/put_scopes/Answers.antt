@@ -1,7 +1,6 @@
 use Rattle.std.proofs.Common.{◌++◌, ◌+◌, ◌-◌, min, length, map, drop, ap, sym, ◌∙◌, List, ℕ}
 use Rattle.std.proofs.lemmas.List.{take-map, drop-map, length-map}
-use Rattle.vast.specs.Design.{ScopeView}
-use Rattle.vast.specs.DesignViews.{scope_view, variable_view}
+use Rattle.vast.specs.Design.{Scope}
 use Rattle.vast.specs.declared.design.Scope.{Scope}
 use Rattle.vast.specs.declared.design.Variable.{Variable}
 use Rattle.vcd_text.specs.DumpText.{closings, scope_line, scope_lines}
@@ -12,7 +11,7 @@ pub loop-scope-preserved : goal.loop-scope-preserved
 loop-scope-preserved c =
     let n : ℕ = c.loop-scope.invariant.0 in
     let scope : Scope = c.scope-item.result in
-    let later : List ScopeView = map scope_view (drop (c.loop-scope.scope-index + 1) c.args.scopes.now) in
+    let later : List Scope = map scope_view (drop (c.loop-scope.scope-index + 1) c.args.scopes.now) in
     let whole : List ℕ = c.args.text.now.items ++ scope_lines 0 0 (map scope_view c.args.scopes.now) (map variable_view c.args.variables.now) in
     let rest : List Variable = c.loop-scope.rest.now in (
       n + length c.split_at.result.0.now,

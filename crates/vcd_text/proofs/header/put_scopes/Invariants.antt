@@ -1,5 +1,4 @@
 use Rattle.std.proofs.Common.{◌≡◌, ◌++◌, ℕ, drop, map}
-use Rattle.vast.specs.DesignViews.{scope_view, variable_view}
 use Rattle.vcd_text.specs.DumpText.{code, scope_lines}
 use Rattle.vcd_text.proofs.header.put_scopes.Given as goal
 

@@ -1,6 +1,5 @@
 use Rattle.std.proofs.Common.{◌++◌, ◌==◌, ap, ◌∙◌, List, ℕ}
 use Rattle.std.specs.List.{after_last}
-use Rattle.vast.specs.DesignViews.{variable_view}
 use Rattle.vcd_text.proofs.HeaderLemmas.{variable_put}
 use Rattle.vcd_text.proofs.header.put_variable.Goals as goal
 

@@ -1,5 +1,4 @@
 use Rattle.std.proofs.Common.{◌++◌, ◌+◌, map, drop, ap, ◌∙◌, List, ℕ}
-use Rattle.vast.specs.DesignViews.{variable_view}
 use Rattle.vast.specs.declared.design.Variable.{Variable}
 use Rattle.vcd_text.specs.DumpText.{named_variable_line, variable_lines}
 use Rattle.vcd_text.proofs.HeaderLemmas.{name_more, variable_more, left_from}

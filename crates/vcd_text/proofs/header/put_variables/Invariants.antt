@@ -1,5 +1,4 @@
 use Rattle.std.proofs.Common.{◌≡◌, ◌+◌, ◌++◌, ℕ, drop, map}
-use Rattle.vast.specs.DesignViews.{variable_view}
 use Rattle.vcd_text.specs.DumpText.{code, variable_lines}
 use Rattle.vcd_text.proofs.header.put_variables.Given as goal
 

@@ -1,10 +1,9 @@
 use Rattle.std.proofs.Common.{[], ◌∷◌, ap, subst, sym}
-use Rattle.vmodel.specs.History.{HistoryItem}
-use Rattle.vmodel.specs.StateViews.{item_view}
+use Rattle.vmodel.specs.declared.history.Item.{Item}
 use Rattle.vcd_text.specs.Sinks.{Takes}
 use Rattle.vcd_text.proofs.sink.DumpSink.take_item.Goals as goal
 
 pub returns-in-Dump-clause-ok : goal.returns-in-Dump-clause-ok
 returns-in-Dump-clause-ok g c =
-    subst (λ (item : HistoryItem). Takes g.W.Write.contents c.args.self.now (item ∷ []) c.ask.new.self) (sym (ap item_view c.in-Dump.is))
+    subst (λ (item : Item). Takes g.W.Write.contents c.args.self.now (item ∷ []) c.ask.new.self) (sym (ap item_view c.in-Dump.is))
     (c.ask.ensures c.in-Dump.field-0)

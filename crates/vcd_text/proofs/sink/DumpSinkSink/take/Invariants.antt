@@ -1,5 +1,4 @@
 use Rattle.std.proofs.Common.{drop}
-use Rattle.vmodel.specs.StateViews.{item_views}
 use Rattle.vcd_text.specs.declared.fault.WriteFault.{WriteFault}
 use Rattle.vcd_text.specs.declared.sink.DumpSink.{DumpSink}
 use Rattle.vcd_text.specs.Sinks.{Takes, Fails}
