@@ -3,3 +3,4 @@ pub mod Numbers
 pub mod Vectors
 pub mod Planes
 pub mod PlanesBack
+pub mod Equal

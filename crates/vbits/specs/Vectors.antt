@@ -1,5 +1,6 @@
 -- Four-state vectors and their operators (IEEE 1364-2005, clauses 4 and 5). Letters stand lowest first.
-use Rattle.std.specs.Prelude.{Bool, false, cond, ◌&&◌, ◌||◌, ℕ, zero, ◌+◌, ◌-◌, ℤ, pos, ◌+ℤ◌, ◌-ℤ◌, ◌*ℤ◌, neg_ℤ, int_div, int_rem, int_lt, int_le, List, [], ◌∷◌, ◌++◌, map, fold, zip, length, take, drop, replicate, get_or, Option, Some, None, option_map}
+use Rattle.std.specs.Prelude.{Bool, true, false, cond, ◌&&◌, ◌||◌, ℕ, zero, ◌+◌, ◌-◌, ℤ, pos, ◌+ℤ◌, ◌-ℤ◌, ◌*ℤ◌, neg_ℤ, int_div, int_rem, int_lt, int_le, List, [], ◌∷◌, ◌++◌, map, fold, zip, length, take, drop, replicate, get_or, Option, Some, None, option_map}
+use Rattle.std.specs.Bool.{beq}
 use Rattle.std.specs.List.{list_any, list_all}
 use Rattle.vbits.specs.declared.bit4.Bit4.{Bit4}
 use Rattle.vbits.specs.declared.bit4.Bit4.TheVariants.{Zero, One, X}
@@ -99,6 +100,16 @@ ne v w = single (not_letter (eq_letter v.letters w.letters))
 -- every letter is the same, x and z too
 unfoldable pub same_letters : List Bit4 → List Bit4 → Bool
 same_letters xs ys = list_all (λ pair. is_same pair.0 pair.1) (zip xs ys)
+
+-- letter by letter, and as many
+abbrev pub letters_alike : List Bit4 → List Bit4 → Bool
+letters_alike [] [] = true
+letters_alike (x ∷ xs) (y ∷ ys) = is_same x y && letters_alike xs ys
+letters_alike _ _ = false
+
+-- two vectors are the same: all letters, and the sign mark
+abbrev pub vector_same : Vector → Vector → Bool
+vector_same v w = letters_alike v.letters w.letters && beq v.signed w.signed
 
 unfoldable pub case_eq : Vector → Vector → Vector
 case_eq v w = single (cond (same_letters v.letters w.letters) One Zero)

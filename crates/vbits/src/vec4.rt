@@ -1,9 +1,10 @@
-ghost use Rattle.std.specs.Prelude.{◌≡◌, ◌<◌, ◌≤◌, length, slice_get};
+ghost use Rattle.std.specs.Prelude.{◌≡◌, ◌++◌, ◌<◌, ◌≤◌, length, slice_get};
 ghost use Rattle.vbits.specs.Numbers as numbers;
 ghost use Rattle.vbits.specs.Vectors as vectors;
 
 use super::bit4::Bit4;
 use super::planes;
+use std::hash::{Hash, Hasher};
 use std::marker::Model;
 
 mod arith;
@@ -17,7 +18,7 @@ mod sums;
 
 /// A value: 1 to 64 letters, numbered from the right by 0, and a sign mark (4.1, 4.3).
 /// Kept as two words: the letter at place i is bit i of each (`specs/Planes.antt`).
-#[derive(Clone, Copy, Debug, PartialEq, Eq, Hash)]
+#[derive(Clone, Copy, Debug)]
 pub struct Vec4 {
     value: u64,
     unknown: u64,
@@ -50,6 +51,43 @@ impl Model for Vec4 {
       len = length-letters_of a.len a.value a.unknown i;
       signed = a.signed;
     } };
+}
+
+/// Two are equal where they have the same letters and the same sign mark.
+impl PartialEq for Vec4 {
+    ghost use Rattle.std.specs.Cmp.{partial_equiv_from_equiv};
+    ghost use Rattle.vbits.specs.Equal.{vectors_equivalent};
+
+    ghost eq = { vectors.vector_same };
+
+    ghost laws = { partial_equiv_from_equiv vectors_equivalent };
+
+    fn eq(&self, other: &Vec4) -> bool {
+        let planes = (self.value, self.unknown, self.len, self.signed);
+        planes == (other.value, other.unknown, other.len, other.signed)
+    }
+}
+
+impl Eq for Vec4 {
+    ghost use Rattle.vbits.specs.Equal.{vectors_equivalent};
+
+    ghost laws = { vectors_equivalent };
+}
+
+/// A hash is fed the two words of letters.
+impl Hash for Vec4 {
+    ghost use Rattle.std.specs.Hash as fed;
+    ghost use Rattle.vbits.specs.Planes.{values_of, unknowns_of};
+    ghost use Rattle.vbits.specs.Equal.{fed_alike};
+
+    ghost hash_input = { λ v. fed.u64 (values_of v.letters) ++ fed.u64 (unknowns_of v.letters) };
+
+    ghost respects_eq = { fed_alike };
+
+    fn hash<H: Hasher>(&self, state: &mut H) {
+        state.write_u64(self.value);
+        state.write_u64(self.unknown);
+    }
 }
 
 impl Vec4 {
