@@ -1,5 +1,6 @@
 ghost use Rattle.std.specs.Prelude.{◌≡◌, ◌++◌, ◌<◌, ◌≤◌, length, slice_get};
 ghost use Rattle.vbits.specs.Numbers as numbers;
+ghost use Rattle.vbits.specs.Planes as planes_back;
 ghost use Rattle.vbits.specs.Vectors as vectors;
 
 use super::bit4::Bit4;
@@ -173,6 +174,15 @@ impl Vec4 {
             len,
             signed,
         }
+    }
+
+    /// The two words of letters, for a digest: bit i of the first is 1 where letter i is 1 or x, of the second where it is
+    /// x or z.
+    pub fn planes(self) -> (u64, u64)
+        ensures value { result.0 ≡ planes_back.values_of self.letters }
+        ensures unknown { result.1 ≡ planes_back.unknowns_of self.letters }
+    {
+        (self.value, self.unknown)
     }
 
     /// How many letters it has.

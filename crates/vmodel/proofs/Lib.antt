@@ -1,7 +1,7 @@
 mod ProcessLemmas
+mod SpotLemmas
 mod FutureLemmas
 mod OpeningLemmas
-mod SameLemmas
 mod RulesLemmas
 mod PlaceLemmas
 mod MovedLemmas

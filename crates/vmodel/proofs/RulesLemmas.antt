@@ -14,7 +14,7 @@ use Rattle.vmodel.specs.Step.{next}
 use Rattle.vmodel.specs.Same.{state_same}
 use Rattle.vmodel.specs.Run.{Setting, rules_of, is_mark}
 use Rattle.vmodel.specs.Kept.{IsIdle}
-use Rattle.vmodel.proofs.SameLemmas.{state_tells}
+use Rattle.vmodel.specs.SameLaws.{states_tell}
 
 -- where nothing is offered nothing is active
 nothing_active : (last : Option ℕ) (active : List ℕ) (us : List (List Part)) → length (map Run (in_order last active) ++ first_update us) ≡ 0 →
@@ -60,7 +60,7 @@ lawful setting = record {
 }
   where
     is : (s t : State) → state_same s t ≡ true → s ≡ t
-    is s t = (state_tells s t).0
+    is s t = (states_tell s t).0
 
     itself : (s : State) → state_same s s ≡ true
-    itself s = (state_tells s s).1 refl
+    itself s = (states_tell s s).1 refl

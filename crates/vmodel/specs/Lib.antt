@@ -7,6 +7,8 @@ pub mod Choices
 pub mod History
 pub mod Step
 pub mod Same
+pub mod SameLaws
+pub mod Digest
 pub mod Run
 pub mod Played
 pub mod Kept

@@ -5,14 +5,40 @@ use std::marker::Model;
 
 /// How finely processes take turns (11.4.2): in grain process one that can go on does so alone, in grain
 /// statement any other may come before it.
-#[derive(Clone, Copy, Debug, PartialEq, Eq, Hash)]
+#[derive(Clone, Copy, Debug)]
 pub enum Grain {
     Process,
     Statement,
 }
 
+/// Two are equal where they hold the same.
+impl PartialEq for Grain {
+    ghost use Rattle.std.specs.Cmp.{partial_equiv_from_equiv};
+    ghost use Rattle.vmodel.specs.Same.{grain_same};
+    ghost use Rattle.vmodel.specs.SameLaws.{grains_equivalent};
+
+    ghost eq = { grain_same };
+
+    ghost laws = { partial_equiv_from_equiv grains_equivalent };
+
+    fn eq(&self, other: &Grain) -> bool {
+        match (self, other) {
+            (Grain::Process, Grain::Process) => true,
+            (Grain::Statement, Grain::Statement) => true,
+            (Grain::Process, Grain::Statement) => false,
+            (Grain::Statement, Grain::Process) => false,
+        }
+    }
+}
+
+impl Eq for Grain {
+    ghost use Rattle.vmodel.specs.SameLaws.{grains_equivalent};
+
+    ghost laws = { grains_equivalent };
+}
+
 /// Why a run ended.
-#[derive(Clone, Copy, Debug, PartialEq, Eq, Hash)]
+#[derive(Clone, Copy, Debug)]
 pub enum Cause {
     /// `$finish` was taken (17.4.1).
     Finish,
@@ -22,8 +48,39 @@ pub enum Cause {
     Limit,
 }
 
+/// Two are equal where they hold the same.
+impl PartialEq for Cause {
+    ghost use Rattle.std.specs.Cmp.{partial_equiv_from_equiv};
+    ghost use Rattle.vmodel.specs.Same.{cause_same};
+    ghost use Rattle.vmodel.specs.SameLaws.{causes_equivalent};
+
+    ghost eq = { cause_same };
+
+    ghost laws = { partial_equiv_from_equiv causes_equivalent };
+
+    fn eq(&self, other: &Cause) -> bool {
+        match (self, other) {
+            (Cause::Finish, Cause::Finish) => true,
+            (Cause::Quiet, Cause::Quiet) => true,
+            (Cause::Limit, Cause::Limit) => true,
+            (Cause::Finish, Cause::Quiet) => false,
+            (Cause::Finish, Cause::Limit) => false,
+            (Cause::Quiet, Cause::Finish) => false,
+            (Cause::Quiet, Cause::Limit) => false,
+            (Cause::Limit, Cause::Finish) => false,
+            (Cause::Limit, Cause::Quiet) => false,
+        }
+    }
+}
+
+impl Eq for Cause {
+    ghost use Rattle.vmodel.specs.SameLaws.{causes_equivalent};
+
+    ghost laws = { causes_equivalent };
+}
+
 /// Where a run ended: the time, in units of the precision, and why.
-#[derive(Clone, Copy, Debug, PartialEq, Eq)]
+#[derive(Clone, Copy, Debug)]
 pub struct End {
     pub time: u64,
     pub cause: Cause,

@@ -6,6 +6,7 @@
 pub mod choice;
 mod choices;
 pub mod deed;
+mod digest;
 mod future;
 pub mod history;
 mod law;

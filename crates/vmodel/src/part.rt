@@ -7,14 +7,42 @@ use std::marker::Model;
 use vbits::Vec4;
 
 /// A written part, with its new letters.
-#[derive(Clone, Copy, Debug, PartialEq, Eq, Hash)]
+#[derive(Clone, Copy, Debug)]
 pub enum Part {
     /// The whole variable of this number.
     Whole { variable: u32, value: Vec4 },
 }
 
+/// Two are equal where they hold the same.
+impl PartialEq for Part {
+    ghost use Rattle.std.specs.Cmp.{partial_equiv_from_equiv};
+    ghost use Rattle.vmodel.specs.Same.{part_same};
+    ghost use Rattle.vmodel.specs.SameLaws.{part_equivalent};
+
+    ghost eq = { part_same };
+
+    ghost laws = { partial_equiv_from_equiv part_equivalent };
+
+    fn eq(&self, other: &Part) -> bool {
+        let (
+            Part::Whole { variable, value },
+            Part::Whole {
+                variable: same,
+                value: equal,
+            },
+        ) = (self, other);
+        (variable, value) == (same, equal)
+    }
+}
+
+impl Eq for Part {
+    ghost use Rattle.vmodel.specs.SameLaws.{part_equivalent};
+
+    ghost laws = { part_equivalent };
+}
+
 /// The parts that an assignment or an update writes, from left to right. A clause sees them as their list.
-#[derive(Clone, Copy, Debug, PartialEq, Eq, Hash)]
+#[derive(Clone, Copy, Debug)]
 pub struct Parts {
     first: Option<Part>,
 }
@@ -32,6 +60,27 @@ impl Model for Parts {
     ghost inverse = { λ list. record { first = first_part list } };
 
     ghost inverse_ok = { λ a h. λ i. record { first = first_of_listed a.first i } };
+}
+
+/// Two are equal where they hold the same.
+impl PartialEq for Parts {
+    ghost use Rattle.std.specs.Cmp.{partial_equiv_from_equiv};
+    ghost use Rattle.vmodel.specs.Same.{parts_same};
+    ghost use Rattle.vmodel.specs.SameLaws.{parts_equivalent};
+
+    ghost eq = { parts_same };
+
+    ghost laws = { partial_equiv_from_equiv parts_equivalent };
+
+    fn eq(&self, other: &Parts) -> bool {
+        self.first == other.first
+    }
+}
+
+impl Eq for Parts {
+    ghost use Rattle.vmodel.specs.SameLaws.{parts_equivalent};
+
+    ghost laws = { parts_equivalent };
 }
 
 impl Parts {

@@ -10,10 +10,32 @@ use std::marker::Model;
 use vbits::Vec4;
 
 /// One thing that a process has left.
-#[derive(Clone, Copy, Debug, PartialEq, Eq, Hash)]
+#[derive(Clone, Copy, Debug)]
 pub enum Spot {
     /// The action at this place of the design's table.
     Doing(usize),
+}
+
+/// Two are equal where they hold the same.
+impl PartialEq for Spot {
+    ghost use Rattle.std.specs.Cmp.{partial_equiv_from_equiv};
+    ghost use Rattle.vmodel.specs.Same.{spot_same};
+    ghost use Rattle.vmodel.specs.SameLaws.{spots_equivalent};
+
+    ghost eq = { spot_same };
+
+    ghost laws = { partial_equiv_from_equiv spots_equivalent };
+
+    fn eq(&self, other: &Spot) -> bool {
+        let (Spot::Doing(place), Spot::Doing(same)) = (self, other);
+        place == same
+    }
+}
+
+impl Eq for Spot {
+    ghost use Rattle.vmodel.specs.SameLaws.{spots_equivalent};
+
+    ghost laws = { spots_equivalent };
 }
 
 /// What a process stands at. A clause sees the spots that are left first one first.
@@ -32,6 +54,28 @@ impl Model for Process {
     ghost Value = { state.Process };
 
     ghost view = { λ p. record { left = reverse p.left.items; held = p.held; waits = p.waits } };
+}
+
+/// Two are equal where they hold the same.
+impl PartialEq for Process {
+    ghost use Rattle.std.specs.Cmp.{partial_equiv_from_equiv};
+    ghost use Rattle.vmodel.specs.Same.{process_same};
+    ghost use Rattle.vmodel.specs.SameLaws.{processes_equivalent};
+
+    ghost eq = { process_same };
+
+    ghost laws = { partial_equiv_from_equiv processes_equivalent };
+
+    fn eq(&self, other: &Process) -> bool {
+        let held = (&self.left, &self.held, &self.waits);
+        held == (&other.left, &other.held, &other.waits)
+    }
+}
+
+impl Eq for Process {
+    ghost use Rattle.vmodel.specs.SameLaws.{processes_equivalent};
+
+    ghost laws = { processes_equivalent };
 }
 
 impl Process {

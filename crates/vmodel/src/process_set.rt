@@ -23,6 +23,28 @@ impl Model for ProcessSet {
     ghost invariant = { λ set. IsTrue (rises 0 set.members.items) };
 }
 
+/// Two are equal where they have the same members.
+impl PartialEq for ProcessSet {
+    ghost use Rattle.std.specs.Prelude.{nat_eq};
+    ghost use Rattle.std.specs.Cmp.{partial_equiv_from_equiv};
+    ghost use Rattle.std.specs.Cmp.Lexicographic.{pointwise};
+    ghost use Rattle.std.proofs.lemmas.Cmp.{nat_list_eq_equiv};
+
+    ghost eq = { pointwise nat_eq };
+
+    ghost laws = { partial_equiv_from_equiv nat_list_eq_equiv };
+
+    fn eq(&self, other: &ProcessSet) -> bool {
+        self.members == other.members
+    }
+}
+
+impl Eq for ProcessSet {
+    ghost use Rattle.std.proofs.lemmas.Cmp.{nat_list_eq_equiv};
+
+    ghost laws = { nat_list_eq_equiv };
+}
+
 impl ProcessSet {
     /// The empty set.
     pub fn new(alloc: Global) -> ProcessSet

@@ -2,6 +2,7 @@
 
 ghost use Rattle.std.specs.Prelude.{◌≡◌, ◌<◌, IfOk};
 ghost use Rattle.std.specs.Option.{ForSome};
+ghost use Rattle.vmodel.specs.Same.{stand_same, regions_same};
 
 use crate::history::Grain;
 use crate::part::Parts;
@@ -26,6 +27,28 @@ impl Model for Future {
     ghost Value = { ℕ × Slot };
 
     ghost view = { λ f. (f.time, record { processes = f.processes; updates = f.updates.items }) };
+}
+
+/// Two are equal where they hold the same.
+impl PartialEq for Future {
+    ghost use Rattle.std.specs.Cmp.{partial_equiv_from_equiv};
+    ghost use Rattle.vmodel.specs.Same.{slot_same};
+    ghost use Rattle.vmodel.specs.SameLaws.{slots_equivalent};
+
+    ghost eq = { slot_same };
+
+    ghost laws = { partial_equiv_from_equiv slots_equivalent };
+
+    fn eq(&self, other: &Future) -> bool {
+        let held = (&self.time, &self.processes, &self.updates);
+        held == (&other.time, &other.processes, &other.updates)
+    }
+}
+
+impl Eq for Future {
+    ghost use Rattle.vmodel.specs.SameLaws.{slots_equivalent};
+
+    ghost laws = { slots_equivalent };
 }
 
 /// The regions of the current time, and the future in order of time. A clause sees it as the record `Queue` of
@@ -65,6 +88,73 @@ impl Model for Queue {
     } };
 
     ghost invariant = { λ q. ForSome q.last (λ p. p < 256) };
+}
+
+/// Two are equal where they hold the same.
+impl PartialEq for Queue {
+    ghost use Rattle.std.specs.Cmp.{partial_equiv_from_equiv};
+    ghost use Rattle.vmodel.specs.Same.{queue_same};
+    ghost use Rattle.vmodel.specs.SameLaws.{queues_equivalent};
+
+    ghost eq = { queue_same };
+
+    ghost laws = { partial_equiv_from_equiv queues_equivalent };
+
+    fn eq(&self, other: &Queue) -> bool {
+        let alike = self.stands_alike(other);
+        let same = self.holds_alike(other);
+        alike & same
+    }
+}
+
+impl Eq for Queue {
+    ghost use Rattle.vmodel.specs.SameLaws.{queues_equivalent};
+
+    ghost laws = { queues_equivalent };
+}
+
+impl Queue {
+    // Whether both have the same limits and stand at the same.
+    fn stands_alike(&self, other: &Queue) -> bool
+        ensures { result ≡ stand_same self.now other.now }
+    {
+        let stand = (
+            &self.grain,
+            &self.until,
+            &self.time,
+            &self.last,
+            &self.beyond,
+        );
+        stand
+            == (
+                &other.grain,
+                &other.until,
+                &other.time,
+                &other.last,
+                &other.beyond,
+            )
+    }
+
+    // Whether the regions of both hold the same.
+    fn holds_alike(&self, other: &Queue) -> bool
+        ensures { result ≡ regions_same self.now other.now }
+    {
+        let regions = (
+            &self.active,
+            &self.inactive,
+            &self.activated,
+            &self.posted,
+            &self.future,
+        );
+        regions
+            == (
+                &other.active,
+                &other.inactive,
+                &other.activated,
+                &other.posted,
+                &other.future,
+            )
+    }
 }
 
 /// The same updates in the same order.

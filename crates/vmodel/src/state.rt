@@ -35,6 +35,28 @@ impl Model for SlowState {
     ghost view = { λ s. record { values = s.values; processes = s.processes.items; queue = s.queue; cause = s.cause } };
 }
 
+/// Two are equal where they hold the same.
+impl PartialEq for SlowState {
+    ghost use Rattle.std.specs.Cmp.{partial_equiv_from_equiv};
+    ghost use Rattle.vmodel.specs.Same.{state_same};
+    ghost use Rattle.vmodel.specs.SameLaws.{states_equivalent};
+
+    ghost eq = { state_same };
+
+    ghost laws = { partial_equiv_from_equiv states_equivalent };
+
+    fn eq(&self, other: &SlowState) -> bool {
+        let held = (&self.values, &self.processes, &self.queue, &self.cause);
+        held == (&other.values, &other.processes, &other.queue, &other.cause)
+    }
+}
+
+impl Eq for SlowState {
+    ghost use Rattle.vmodel.specs.SameLaws.{states_equivalent};
+
+    ghost laws = { states_equivalent };
+}
+
 impl SlowState {
     /// A state that is the same.
     pub fn copy(&self, alloc: Global) -> Result<SlowState, NoMemory>

@@ -27,6 +27,27 @@ impl Model for Values {
     ghost view = { λ values. values.list.items };
 }
 
+/// Two are equal where they hold the same.
+impl PartialEq for Values {
+    ghost use Rattle.std.specs.Cmp.{partial_equiv_from_equiv};
+    ghost use Rattle.vmodel.specs.Same.{values_same};
+    ghost use Rattle.vmodel.specs.SameLaws.{values_equivalent};
+
+    ghost eq = { values_same };
+
+    ghost laws = { partial_equiv_from_equiv values_equivalent };
+
+    fn eq(&self, other: &Values) -> bool {
+        self.list == other.list
+    }
+}
+
+impl Eq for Values {
+    ghost use Rattle.vmodel.specs.SameLaws.{values_equivalent};
+
+    ghost laws = { values_equivalent };
+}
+
 impl Values {
     /// Every variable starts at x (4.2.2).
     pub fn opening(alloc: Global, variables: &[Variable]) -> Result<Values, NoMemory>

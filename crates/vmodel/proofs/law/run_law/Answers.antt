@@ -1,4 +1,4 @@
-use Rattle.vmodel.proofs.SameLemmas.{state_tells}
+use Rattle.vmodel.specs.SameLaws.{states_tell}
 use Rattle.vmodel.proofs.RulesLemmas.{lawful}
 use Rattle.vmodel.proofs.KeptLemmas.{kept}
 use Rattle.vmodel.proofs.TimesLemmas.{times_rise}
@@ -8,7 +8,7 @@ use Rattle.vmodel.proofs.law.run_law.Goals as goal
 
 pub returns : goal.returns
 returns c = record {
-  equal = state_tells;
+  equal = states_tell;
   lawful = lawful;
   kept = kept;
   times = times_rise;
