@@ -21,7 +21,7 @@ use Rattle.vmodel.specs.Played.{opening_is, after_is}
 use Rattle.vmodel.specs.Kept.{RisesFrom, IsInOrder, count_in, asleep, most_places, IsInPlace, IsIdle, IsKept}
 use Rattle.vmodel.proofs.PlaceLemmas.{count-other, count-self, count-cons, count-without, rises_below}
 use Rattle.vmodel.proofs.MovedLemmas.{LastIsActive, nobody_last, settled_by, order-moved, is_there, place-moved, left_at}
-use Rattle.vmodel.proofs.RulesLemmas.{idle_when}
+use Rattle.vmodel.specs.RulesLaws.{idle_when}
 
 -- ---- the region moves
 

@@ -2,7 +2,6 @@ mod ProcessLemmas
 mod SpotLemmas
 mod FutureLemmas
 mod OpeningLemmas
-mod RulesLemmas
 mod PlaceLemmas
 mod MovedLemmas
 mod KeptLemmas

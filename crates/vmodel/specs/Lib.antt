@@ -12,4 +12,5 @@ pub mod Digest
 pub mod Run
 pub mod Played
 pub mod Kept
+pub mod RulesLaws
 pub mod Inner

@@ -142,6 +142,17 @@ impl SlowState {
         }
     }
 
+    /// The same, where nobody asks what the step did.
+    pub fn go(&mut self, design: &Design, i: u32) -> Result<(), NoMemory>
+        ensures ok { OnOk result (self.new ≡ (next design.now self.old i).state) }
+        ensures err { OnErr result (self.new ≡ self.old) }
+    {
+        match self.step(design, i) {
+            Ok(_) => Ok(()),
+            Err(refused) => Err(refused),
+        }
+    }
+
     /// The end of the slot, where nothing is active and the run goes on.
     pub fn slot_end(&self, alloc: Global) -> Result<Option<Item>, NoMemory>
         ensures { IfOk result (λ item. option_to_list item ≡ slot_end_of self.now) }

@@ -1,5 +1,5 @@
 use Rattle.vmodel.specs.SameLaws.{states_tell}
-use Rattle.vmodel.proofs.RulesLemmas.{lawful}
+use Rattle.vmodel.specs.RulesLaws.{lawful}
 use Rattle.vmodel.proofs.KeptLemmas.{kept}
 use Rattle.vmodel.proofs.TimesLemmas.{times_rise}
 use Rattle.vmodel.proofs.ValuesLemmas.{as_many, as_many_shown}

@@ -1,0 +1,16 @@
+use Rattle.vmachine.proofs.StandLemmas.{first_stands, width_stands, mark_stands, after_stands, same_stands, one_stands, only_stands, runs_there, runs_here, all_stand}
+use Rattle.vmachine.proofs.law.machine_law.Goals as goal
+
+pub returns : goal.returns
+returns c = record {
+  first = first_stands;
+  width = width_stands;
+  mark = mark_stands;
+  after = after_stands;
+  same = same_stands;
+  one = one_stands;
+  only = only_stands;
+  runs = runs_there;
+  runs_back = runs_here;
+  stands = all_stand;
+}

@@ -1,0 +1,4 @@
+use Rattle.vmachine.proofs.machine.MachineSpace.root.Goals as goal
+
+pub returns : goal.returns
+returns c = ?

@@ -1,0 +1,4 @@
+use Rattle.vmachine.proofs.machine.MachineSpace.width.Goals as goal
+
+pub returns : goal.returns
+returns c = ?

@@ -1,0 +1,42 @@
+// What a state of a machine tells of the run that stands there.
+
+ghost use Rattle.std.specs.Prelude.{◌≡◌};
+ghost use Rattle.vmodel.specs.State.{State};
+ghost use Rattle.vmachine.specs.Machines.{Stands};
+ghost use Rattle.vmachine.specs.Reads.{end_in, slot_in};
+
+use crate::machine::Machine;
+use crate::standing::Standing;
+use vbits::Vec4;
+use vmodel::history::End;
+
+impl Machine {
+    /// The end of the run, where it has ended: its time and why.
+    pub fn end_of(&self, s: &Standing) -> Option<End>
+        ensures { (t : State) → Stands self.now s.now t → result ≡ end_in t }
+    {
+        if s.state.width() == 0 {
+            Some(s.state.end())
+        } else {
+            None
+        }
+    }
+
+    /// The time of the slot, where it has ended here and the run wasn't finished in it.
+    pub fn slot_of(&self, s: &Standing) -> Option<u64>
+        ensures { (t : State) → Stands self.now s.now t → result ≡ slot_in t }
+    {
+        if s.state.is_mark() && s.state.cause().is_none() {
+            Some(s.state.time())
+        } else {
+            None
+        }
+    }
+
+    /// The value of each variable, by its number.
+    pub fn values<'s>(&self, s: &'s Standing) -> &'s [Vec4]
+        ensures { (t : State) → Stands self.now s.now t → result.now ≡ t.values }
+    {
+        s.state.values()
+    }
+}
