@@ -8,29 +8,42 @@ ghost use Rattle.vmachine.specs.Reads.{end_in, slot_in};
 use crate::machine::Machine;
 use crate::standing::Standing;
 use vbits::Vec4;
+use vmodel::SlowState;
 use vmodel::history::End;
+
+fn end_at(state: &SlowState) -> Option<End>
+    ensures { result ≡ end_in state.now }
+{
+    if state.width() == 0 {
+        Some(state.end())
+    } else {
+        None
+    }
+}
+
+fn slot_at(state: &SlowState) -> Option<u64>
+    ensures { result ≡ slot_in state.now }
+{
+    if state.is_mark() && state.cause().is_none() {
+        Some(state.time())
+    } else {
+        None
+    }
+}
 
 impl Machine {
     /// The end of the run, where it has ended: its time and why.
     pub fn end_of(&self, s: &Standing) -> Option<End>
         ensures { (t : State) → Stands self.now s.now t → result ≡ end_in t }
     {
-        if s.state.width() == 0 {
-            Some(s.state.end())
-        } else {
-            None
-        }
+        end_at(&s.state)
     }
 
     /// The time of the slot, where it has ended here and the run wasn't finished in it.
     pub fn slot_of(&self, s: &Standing) -> Option<u64>
         ensures { (t : State) → Stands self.now s.now t → result ≡ slot_in t }
     {
-        if s.state.is_mark() && s.state.cause().is_none() {
-            Some(s.state.time())
-        } else {
-            None
-        }
+        slot_at(&s.state)
     }
 
     /// The value of each variable, by its number.

@@ -1,7 +1,8 @@
+use Rattle.std.proofs.Common.{◌∙◌, ap}
+use Rattle.vmachine.specs.Reads.{end_in}
+use Rattle.vmachine.proofs.StandLemmas.{seen}
 use Rattle.vmachine.proofs.machine.Machine.end_of.Goals as goal
 
-pub returns-then-width-eq0 : goal.returns-then-width-eq0
-returns-then-width-eq0 c = ?
-
-pub returns-else-width-eq0 : goal.returns-else-width-eq0
-returns-else-width-eq0 c = ?
+pub returns : goal.returns
+returns c =
+    λ t h. c.end_at.ensures ∙ ap end_in (c.s.view_is ∙ seen c.args.self.now c.args.s.now t h)

@@ -1,4 +1,8 @@
+use Rattle.std.proofs.Common.{◌∙◌, ap}
+use Rattle.vmodel.specs.State.{State}
+use Rattle.vmachine.proofs.StandLemmas.{seen}
 use Rattle.vmachine.proofs.machine.Machine.values.Goals as goal
 
 pub returns : goal.returns
-returns c = ?
+returns c =
+    λ t h. c.values.ensures ∙ ap (λ (u : State). u.values) (c.s.view_is ∙ seen c.args.self.now c.args.s.now t h)

@@ -1,4 +1,8 @@
+use Rattle.std.proofs.Common.{◌∙◌, sym, ap}
+use Rattle.vmodel.specs.Run.{is_mark}
+use Rattle.vmachine.proofs.StandLemmas.{marks}
 use Rattle.vmachine.proofs.machine.MachineSpace.is_mark.Goals as goal
 
 pub returns : goal.returns
-returns c = ?
+returns c =
+    c.is_mark.ensures ∙ ap is_mark c.s.view_is ∙ sym (marks c.args.self.now c.args.s.now)

@@ -1,4 +1,9 @@
+use Rattle.std.proofs.Common.{◌∙◌, sym, ap, length}
+use Rattle.vmodel.specs.State.{State}
+use Rattle.vmodel.specs.Choices.{choices}
+use Rattle.vmachine.proofs.StandLemmas.{widths}
 use Rattle.vmachine.proofs.machine.MachineSpace.width.Goals as goal
 
 pub returns : goal.returns
-returns c = ?
+returns c =
+    c.width.ensures ∙ ap (λ (s : State). length (choices s)) c.s.view_is ∙ sym (widths c.args.self.now c.args.s.now)
