@@ -1,1 +1,2 @@
 mod StandLemmas
+mod PlayedLemmas

@@ -1,2 +1,4 @@
 pub mod Machines
 pub mod Reads
+pub mod Handed
+pub mod Inner

@@ -7,8 +7,10 @@
 mod law;
 mod machine;
 mod reads;
+mod run;
 mod standing;
 
 pub use law::machine_law;
 pub use machine::Machine;
+pub use run::RunFault;
 pub use standing::Standing;

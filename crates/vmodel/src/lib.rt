@@ -25,4 +25,4 @@ pub mod values;
 pub use law::run_law;
 pub use open::opening;
 pub use state::SlowState;
-pub use step::{items_after, slow_step, slow_width};
+pub use step::{put_items, put_slot_end, slow_step, slow_width};

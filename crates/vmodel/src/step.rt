@@ -1,6 +1,6 @@
 // The one step of a choice, and the region moves after it (IEEE 1364-2005, 11.3, 11.4, 11.6).
 
-ghost use Rattle.std.specs.Prelude.{◌≡◌, ◌<◌, [], IfOk, OnOk, OnErr, IfSome, IfNone, length, slice_get, slice_set, drop};
+ghost use Rattle.std.specs.Prelude.{◌≡◌, ◌<◌, ◌++◌, [], IfOk, OnOk, OnErr, IfSome, IfNone, length, slice_get, slice_set, drop};
 ghost use Rattle.std.specs.Option.{option_to_list};
 ghost use Rattle.vmodel.specs.Step.{spots, going, process_by, fares, posts, closed, left_of, process_turn, turn_of, next, slot_end_of, items_of};
 ghost use Rattle.vast.specs.Design.{Design};
@@ -167,18 +167,30 @@ impl SlowState {
     }
 }
 
-/// What a step gives to the history, in order: what it showed, and the slot end where the state after it is one.
-pub fn items_after(alloc: Global, state: &SlowState, deed: &Deed) -> Result<Vec<Item>, NoMemory>
-    ensures { IfOk result (λ items. items.items ≡ items_of (record { state = state.now; deed = deed.now })) }
+/// Puts behind others what a step gives to the history, in order: what it showed, and the slot end where the state after
+/// it is one.
+pub fn put_items(
+    items: &mut Vec<Item>,
+    state: &SlowState,
+    deed: &Deed,
+) -> Result<(), NoMemory>
+    ensures { OnOk result (items.new.items ≡ items.old.items ++ items_of (record { state = state.now; deed = deed.now })) }
 {
-    let mut items = Vec::new(alloc);
     if let Some(command) = deed.command {
         items.push(Item::Dump(command))?;
     }
+    put_slot_end(items, state)
+}
+
+/// Puts behind others the slot end of a state, where it is one.
+pub fn put_slot_end(items: &mut Vec<Item>, state: &SlowState) -> Result<(), NoMemory>
+    ensures { OnOk result (items.new.items ≡ items.old.items ++ slot_end_of state.now) }
+{
+    let alloc = *items.allocator();
     if let Some(item) = state.slot_end(alloc)? {
         items.push(item)?;
     }
-    Ok(items)
+    Ok(())
 }
 
 /// How many choices the state has: 0 where the run has ended.
@@ -201,6 +213,7 @@ pub fn slow_step(
 {
     let mut after = state.copy(alloc)?;
     let deed = after.step(design, i)?;
-    let items = items_after(alloc, &after, &deed)?;
+    let mut items = Vec::new(alloc);
+    put_items(&mut items, &after, &deed)?;
     Ok((after, items))
 }

@@ -1,0 +1,91 @@
+-- A run under a log on its way.
+use Rattle.std.proofs.Common.{◌≡◌, ◌≢◌, ℕ, ◌+◌, ◌<◌, ◌≤◌, ◌==◌, true, false, List, [], ◌∷◌, ◌++◌, length, inl, inr, le_refl, sym, ap, subst, ◌∙◌, add-one, arith}
+use Rattle.std.proofs.lemmas.Bool.Decides.{nat_tests}
+use Rattle.sched_core.specs.Rules.{stands, choice_at, IsRun, NamesBelow}
+use Rattle.sched_core.specs.Logs.{IsLogFrom}
+use Rattle.sched_core.specs.Replay.{IsNextChoice, IsMissing, TakesMore}
+use Rattle.sched_core.proofs.RunLemmas.{IsLeft, left_whole, left_next, run_more, ends_too_early}
+use Rattle.vmodel.specs.State.{State}
+use Rattle.vmodel.specs.Choices.{choices}
+use Rattle.vmodel.specs.declared.history.Item.{Item}
+use Rattle.vmodel.specs.declared.history.End.{End}
+use Rattle.vmodel.specs.declared.deed.Deed.{Deed}
+use Rattle.vmodel.specs.Step.{Turn, next, items_of}
+use Rattle.vmodel.specs.Run.{Setting, rules_of, opening_of, state_after, given_by, end_of}
+use Rattle.vmodel.specs.Played.{Finishes, IsUnderway, opening_is, width_is, after_is}
+
+-- after n steps the run stands at the state, this is left of the log, and what was given was taken
+pub record IsAt (setting : Setting) (log rest : List (ℕ × ℕ)) (steps n : ℕ) (state : State) : Type 0 where
+  pub within : n ≤ steps
+  pub left : IsLeft log rest n
+  pub run : IsRun (rules_of setting) log n
+  pub at : state ≡ state_after setting log n
+
+pub at_opening : (setting : Setting) (log : List (ℕ × ℕ)) (steps : ℕ) (state : State) → IsLogFrom 0 log → state ≡ opening_of setting →
+    IsAt setting log log steps 0 state
+at_opening setting log steps state lawful is = record {
+  within = omega arith;
+  left = left_whole log lawful;
+  run = λ k lt. absurd (omega arith);
+  at = is ∙ sym (opening_is setting);
+}
+
+module _ (setting : Setting) (log rest : List (ℕ × ℕ)) (steps n : ℕ) (state : State) (here : IsAt setting log rest steps n state) where
+  width_here : (rules_of setting).width (stands (rules_of setting) log n) ≡ length (choices state)
+  width_here = width_is setting (state_after setting log n) ∙ sym (ap (λ (s : State). length (choices s)) here.at)
+
+  pub finishes : (end : End) → length (choices state) ≡ 0 → (length rest == 0) ≡ true → end ≡ end_of state → Finishes setting log steps n end
+  finishes end none nothing is = record {
+    within = here.within;
+    ends = record {
+      run = here.run;
+      end = width_here ∙ none;
+      names = here.left.names n (le_refl n) (empty_below rest nothing);
+    };
+    end_is = is ∙ ap end_of here.at;
+  }
+    where
+      empty_below : (members : List (ℕ × ℕ)) → (length members == 0) ≡ true → NamesBelow members n
+      empty_below [] e = tt
+      empty_below (m ∷ ms) e = absurd (grind (arith, nat_tests))
+
+  pub too_early : length (choices state) ≡ 0 → (length rest == 0) ≡ false → IsMissing (rules_of setting) log steps
+  too_early none some = (n, here.within, inl (ends_too_early (rules_of setting) log rest n here.left here.run (width_here ∙ none) some))
+
+  pub takes_more : length (choices state) ≢ 0 → n ≡ steps → TakesMore (rules_of setting) log steps
+  takes_more some last = subst (λ (m : ℕ). TakesMore (rules_of setting) log m) last
+      (record { run = here.run; goes_on = omega (arith, width_here) })
+
+  module _ (choice : ℕ) (later : List (ℕ × ℕ)) (taken : IsNextChoice rest n choice later) where
+    choice_is : choice ≡ choice_at log n
+    choice_is = taken.taken ∙ sym (here.left.same n (le_refl n))
+
+    pub no_choice : length (choices state) ≢ 0 → n ≢ steps → length (choices state) ≤ choice → IsMissing (rules_of setting) log steps
+    no_choice some more none =
+        let within : n ≤ steps = here.within in
+        (n, here.within, inr (omega arith, record { run = here.run; goes_on = omega (arith, width_here); missing = omega (arith, width_here, choice_is) }))
+
+    next_is : next setting.design state choice ≡ next setting.design (state_after setting log n) (choice_at log n)
+    next_is = ap (λ (s : State). next setting.design s choice) here.at ∙ ap (next setting.design (state_after setting log n)) choice_is
+
+    pub at_next : (after : State) → n ≢ steps → choice < length (choices state) → IsLogFrom (n + 1) later → (next setting.design state choice).state ≡ after →
+        IsAt setting log later steps (n + 1) after
+    at_next after more lt lawful is = record {
+      within = let within : n ≤ steps = here.within in omega arith;
+      left = left_next log rest later n choice here.left taken lawful;
+      run = run_more (rules_of setting) log n here.run (omega (arith, width_here, choice_is));
+      at = sym is ∙ ap (λ (turn : Turn). turn.state) next_is ∙ sym (after_is setting (state_after setting log n) (choice_at log n))
+          ∙ ap (stands (rules_of setting) log) (sym (add-one n));
+    }
+
+    pub given_next : (turn : Turn) → next setting.design state choice ≡ turn → given_by setting log n ++ items_of turn ≡ given_by setting log (n + 1)
+    given_next turn is =
+        ap (λ (t : Turn). given_by setting log n ++ items_of t) (sym is ∙ next_is)
+        ∙ ap (given_by setting log) (sym (add-one n))
+
+pub underway : (setting : Setting) (log rest : List (ℕ × ℕ)) (steps n : ℕ) (state : State) → IsAt setting log rest steps n state → IsUnderway setting log steps n
+underway setting log rest steps n state here = record { within = here.within; run = here.run }
+
+pub underway_first : (setting : Setting) (log : List (ℕ × ℕ)) (steps : ℕ) → IsUnderway setting log steps 0
+underway_first setting log steps = record { within = omega arith; run = λ k lt. absurd (omega arith) }
+

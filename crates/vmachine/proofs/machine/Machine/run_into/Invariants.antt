@@ -1,0 +1,15 @@
+use Rattle.std.proofs.Common.{◌≡◌, ◌-◌, ◌++◌, List}
+use Rattle.vmodel.specs.declared.history.Item.{Item}
+use Rattle.vmodel.specs.Run.{given_by}
+use Rattle.vmachine.proofs.PlayedLemmas.{IsAt}
+use Rattle.vmachine.proofs.machine.Machine.run_into.Given as goal
+
+abbrev pub invariant-turns : goal.invariant-turns
+invariant-turns g l =
+    IsAt l.self l.log l.rest l.steps l.n l.state
+    × (handed : List Item)
+    × g.S.Sink.takes l.fn.sink handed l.sink
+    × (handed ++ l.pending.items ≡ given_by l.self l.log l.n)
+
+abbrev pub decreases-turns : goal.decreases-turns
+decreases-turns g l = l.steps - l.n
