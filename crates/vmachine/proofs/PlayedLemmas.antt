@@ -1,25 +1,25 @@
 -- A run under a log on its way.
-use Rattle.std.proofs.Common.{◌≡◌, ◌≢◌, ℕ, ◌+◌, ◌<◌, ◌≤◌, ◌==◌, true, false, List, [], ◌∷◌, ◌++◌, length, inl, inr, le_refl, sym, ap, subst, ◌∙◌, add-one, arith}
+use Rattle.std.proofs.Common.{◌≡◌, ◌≢◌, ℕ, ◌+◌, ◌<◌, ◌≤◌, ◌==◌, true, false, List, [], ◌∷◌, ◌++◌, length, take, Result, Ok, Err, IfErr, IsErrAnd, refl, inl, inr, le_refl, sym, ap, subst, ◌∙◌, add-one, arith}
 use Rattle.std.proofs.lemmas.Bool.Decides.{nat_tests}
 use Rattle.sched_core.specs.Rules.{stands, choice_at, IsRun, NamesBelow}
 use Rattle.sched_core.specs.Logs.{IsLogFrom}
 use Rattle.sched_core.specs.Replay.{IsNextChoice, IsMissing, TakesMore}
-use Rattle.sched_core.proofs.RunLemmas.{IsLeft, left_whole, left_next, run_more, ends_too_early}
+use Rattle.sched_core.proofs.RunLemmas.{left_whole, left_next, run_more, ends_too_early}
 use Rattle.vmodel.specs.State.{State}
 use Rattle.vmodel.specs.Choices.{choices}
 use Rattle.vmodel.specs.declared.history.Item.{Item}
 use Rattle.vmodel.specs.declared.history.End.{End}
 use Rattle.vmodel.specs.declared.deed.Deed.{Deed}
 use Rattle.vmodel.specs.Step.{Turn, next, items_of}
-use Rattle.vmodel.specs.Run.{Setting, rules_of, opening_of, state_after, given_by, end_of}
+use Rattle.vmodel.specs.Run.{Setting, rules_of, opening_of, state_after, given_by, end_of, is_mark}
 use Rattle.vmodel.specs.Played.{Finishes, IsUnderway, opening_is, width_is, after_is}
-
--- after n steps the run stands at the state, this is left of the log, and what was given was taken
-pub record IsAt (setting : Setting) (log rest : List (ℕ × ℕ)) (steps n : ℕ) (state : State) : Type 0 where
-  pub within : n ≤ steps
-  pub left : IsLeft log rest n
-  pub run : IsRun (rules_of setting) log n
-  pub at : state ≡ state_after setting log n
+use Rattle.basis.specs.declared.memory.OrMemory.{OrMemory}
+use Rattle.basis.specs.declared.memory.OrMemory.TheVariants.{Fault, Memory}
+use Rattle.vmodel.specs.RulesLaws.{lawful}
+use Rattle.vmachine.specs.declared.run.RunFault.{RunFault}
+use Rattle.vmachine.specs.declared.run.RunFault.TheVariants.{Replay, Sink}
+use Rattle.vmachine.specs.Handed.{IsHanded, IsFailed, Leaves}
+use Rattle.vmachine.specs.Inner.{IsOfSink, IsAt}
 
 pub at_opening : (setting : Setting) (log : List (ℕ × ℕ)) (steps : ℕ) (state : State) → IsLogFrom 0 log → state ≡ opening_of setting →
     IsAt setting log log steps 0 state
@@ -89,3 +89,44 @@ underway setting log rest steps n state here = record { within = here.within; ru
 pub underway_first : (setting : Setting) (log : List (ℕ × ℕ)) (steps : ℕ) → IsUnderway setting log steps 0
 underway_first setting log steps = record { within = omega arith; run = λ k lt. absurd (omega arith) }
 
+-- ---- what was handed on
+
+-- the first of the items of a run
+pub handed_first : {T : Type 0} (takes : T → List Item → T → Type 0) (setting : Setting) (log rest : List (ℕ × ℕ)) (steps n : ℕ) (state : State) (old new : T)
+    (handed waiting : List Item) → IsAt setting log rest steps n state → takes old handed new → handed ++ waiting ≡ given_by setting log n →
+    IsHanded takes setting log steps old new
+handed_first takes setting log rest steps n state old new handed waiting here took is = (
+  n,
+  length handed,
+  underway setting log rest steps n state here,
+  subst (λ (items : List Item). takes old items new) (sym (ap (take (length handed)) (sym is) ∙ take_front handed waiting)) took,
+)
+  where
+    take_front : (xs ys : List Item) → take (length xs) (xs ++ ys) ≡ xs
+    take_front [] ys = refl
+    take_front (x ∷ xs) ys = ap (λ (rest : List Item). x ∷ rest) (take_front xs ys)
+
+-- a fault that `?` hands on, by what it leaves
+pub left_by : {R T F : Type 0} (takes : T → List Item → T → Type 0) (fails : T → List Item → F → T → Type 0) (setting : Setting) (log : List (ℕ × ℕ)) (steps : ℕ) (old new : T)
+    (result : Result R (OrMemory (RunFault F))) (e : OrMemory (RunFault F)) → IsErrAnd result (λ y. y ≡ e) → Leaves takes fails setting log steps old e new →
+    IfErr result (λ fault. Leaves takes fails setting log steps old fault new)
+left_by takes fails setting log steps old new (Ok x) e h left = tt
+left_by takes fails setting log steps old new (Err y) e h left = subst (λ (f : OrMemory _). Leaves takes fails setting log steps old f new) (sym h) left
+
+-- the sink's own fault
+pub sink_left : {T F : Type 0} (takes : T → List Item → T → Type 0) (fails : T → List Item → F → T → Type 0) (setting : Setting) (log : List (ℕ × ℕ)) (steps : ℕ) (old new : T)
+    (P : F → Type 0) (e : OrMemory (RunFault F)) → ((f : F) → P f → IsFailed fails setting log steps old f new) → IsOfSink P e →
+    Leaves takes fails setting log steps old e new
+sink_left takes fails setting log steps old new P (Fault (Replay fault)) step h = absurd h
+sink_left takes fails setting log steps old new P (Fault (Sink fault)) step h = step fault h
+sink_left takes fails setting log steps old new P (Memory m) step h = absurd h
+
+-- at its end a run stands at a mark
+pub ended_at_mark : (setting : Setting) (log rest : List (ℕ × ℕ)) (steps n : ℕ) (state : State) (end : End) → IsAt setting log rest steps n state →
+    Finishes setting log steps n end → is_mark state ≡ true
+unfolding rules_of
+ended_at_mark setting log rest steps n state end here done =
+    ap is_mark here.at ∙ (lawful setting).end_is_mark (state_after setting log n) done.ends.end
+
+pub less_differs : (m n : ℕ) → m < n → m ≢ n
+less_differs m n lt e = absurd (omega (arith, lt, e))

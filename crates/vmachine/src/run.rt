@@ -1,18 +1,20 @@
 // The run of a machine under a log, handed on slot by slot.
 
-ghost use Rattle.std.specs.Prelude.{◌≡◌, [], IfOk, IfErr, OnOk};
+ghost use Rattle.std.specs.Prelude.{◌≡◌, ℕ, List, [], true, IfOk, IfErr, OnOk};
 ghost use Rattle.basis.specs.Reasons.{IfFault};
 ghost use Rattle.basis.specs.declared.memory.OrMemory.TheVariants.{Fault};
 ghost use Rattle.vmachine.specs.declared.run.RunFault.TheVariants.{Replay};
 ghost use Rattle.vmachine.specs.Handed.{RunsInto, IsRunReason, Leaves};
-ghost use Rattle.vmachine.specs.Inner.{IsOfSink};
+ghost use Rattle.vmachine.specs.Inner.{IsOfSink, IsHandedOn, IsAt, IsChosen};
+ghost use Rattle.sched_core.specs.Logs.{IsLogFrom};
+ghost use Rattle.vmodel.specs.Run.{Setting};
 
 use crate::machine::Machine;
 use basis::OrMemory;
-use sched_core::{Log, ReplayFault, next_choice};
+use sched_core::{Log, Member, ReplayFault, next_choice};
 use vmodel::history::{End, Item};
 use vmodel::sink::Sink;
-use vmodel::{opening, put_items, put_slot_end};
+use vmodel::{SlowState, opening, put_items, put_slot_end};
 
 /// Why a run wasn't handed on to its end, but for want of memory.
 #[derive(Drop)]
@@ -30,21 +32,61 @@ fn refused<F>(fault: ReplayFault) -> OrMemory<RunFault<F>>
     OrMemory::Fault(RunFault::Replay(fault))
 }
 
-// Hands on what waits.
+// Hands on what waits where a slot or the run has ended, and else nothing.
 fn hand<S: Sink>(
     sink: &mut S,
     pending: &mut Vec<Item>,
+    is_mark: bool,
 ) -> Result<(), OrMemory<RunFault<S::Fault>>>
-    ensures ok { OnOk result (S.takes sink.old pending.old.items sink.new) }
-    ensures none { OnOk result (pending.new.items ≡ []) }
+    ensures ok { OnOk result (IsHandedOn S.takes sink.old pending.old.items sink.new pending.new.items) }
+    ensures all { is_mark ≡ true → OnOk result (pending.new.items ≡ []) }
     ensures err { IfErr result (IsOfSink (λ fault. S.fails sink.old pending.old.items fault sink.new)) }
 {
+    if !is_mark {
+        return Ok(());
+    }
     match sink.take(pending) {
         Ok(()) => {
             pending.clear();
             Ok(())
         }
         Err(fault) => Err(OrMemory::Fault(RunFault::Sink(fault))),
+    }
+}
+
+/// The choice of a step, and what is left of the log after it.
+#[derive(Clone, Copy)]
+struct Chosen<'l> {
+    choice: u32,
+    later: &'l [Member],
+}
+
+// What comes next after `n` steps: a choice, or none where the run has ended as its log has it.
+fn choose<'l>(
+    state: &SlowState,
+    rest: &'l [Member],
+    n: u32,
+    steps: u32,
+) -> Result<Option<Chosen<'l>>, ReplayFault>
+    requires { IsLogFrom n rest.now }
+    ensures { (setting : Setting) (log : List (ℕ × ℕ)) → IsAt setting log rest.now steps n state.now → IsChosen setting log steps n state.now rest.now result }
+{
+    let width = state.width();
+    if width == 0 {
+        return if rest.is_empty() {
+            Ok(None)
+        } else {
+            Err(ReplayFault::NoSuchChoice)
+        };
+    }
+    if n == steps {
+        return Err(ReplayFault::TooManySteps);
+    }
+    let (choice, later) = next_choice(rest, n);
+    if choice < width {
+        Ok(Some(Chosen { choice, later }))
+    } else {
+        Err(ReplayFault::NoSuchChoice)
     }
 }
 
@@ -71,27 +113,15 @@ impl Machine {
         let mut rest = log.members();
         let mut n = 0;
         'turns: loop {
-            if state.is_mark() {
-                hand(sink, &mut pending)?;
-            }
-            let width = state.width();
-            if width == 0 {
-                return if rest.is_empty() {
-                    Ok(state.end())
-                } else {
-                    Err(refused(ReplayFault::NoSuchChoice))
-                };
-            }
-            if n == steps {
-                return Err(refused(ReplayFault::TooManySteps));
-            }
-            let (choice, later) = next_choice(rest, n);
-            if choice >= width {
-                return Err(refused(ReplayFault::NoSuchChoice));
-            }
-            let deed = state.step(&self.design, choice)?;
+            hand(sink, &mut pending, state.is_mark())?;
+            let chosen = match choose(&state, rest, n, steps) {
+                Ok(Some(chosen)) => chosen,
+                Ok(None) => return Ok(state.end()),
+                Err(fault) => return Err(refused(fault)),
+            };
+            let deed = state.step(&self.design, chosen.choice)?;
             put_items(&mut pending, &state, &deed)?;
-            rest = later;
+            rest = chosen.later;
             n += 1;
         }
     }

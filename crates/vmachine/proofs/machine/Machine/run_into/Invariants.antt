@@ -1,7 +1,7 @@
 use Rattle.std.proofs.Common.{◌≡◌, ◌-◌, ◌++◌, List}
 use Rattle.vmodel.specs.declared.history.Item.{Item}
 use Rattle.vmodel.specs.Run.{given_by}
-use Rattle.vmachine.proofs.PlayedLemmas.{IsAt}
+use Rattle.vmachine.specs.Inner.{IsAt}
 use Rattle.vmachine.proofs.machine.Machine.run_into.Given as goal
 
 abbrev pub invariant-turns : goal.invariant-turns

@@ -1,0 +1,132 @@
+use Rattle.std.proofs.Common.{◌≡◌, ℕ, ◌+◌, List, [], ◌++◌, Option, Some, None, Result, Ok, Err, refl, sym, ap, subst, ◌∙◌, append_assoc, append-nil, arith}
+use Rattle.basis.specs.declared.memory.OrMemory.{OrMemory}
+use Rattle.basis.specs.declared.memory.OrMemory.TheVariants.{Memory}
+use Rattle.sched_core.specs.declared.run.ReplayFault.{ReplayFault}
+use Rattle.vmodel.specs.declared.history.Item.{Item}
+use Rattle.vmodel.specs.Step.{Turn, slot_end_of, next, items_of}
+use Rattle.vast.specs.Design.{Design}
+use Rattle.vmodel.specs.Run.{Setting, opening_of, given_by}
+use Rattle.vmodel.specs.Played.{Finishes}
+use Rattle.vmachine.specs.declared.run.Chosen.{Chosen}
+use Rattle.vmachine.specs.declared.run.RunFault.{RunFault}
+use Rattle.vmachine.specs.Handed.{Leaves}
+use Rattle.vmachine.specs.Inner.{IsAt, IsChosen}
+use Rattle.vmachine.proofs.PlayedLemmas.{at_opening, at_next, given_next, underway, handed_first, left_by, sink_left, ended_at_mark, less_differs}
+use Rattle.vmachine.proofs.machine.Machine.run_into.Goals as goal
+
+pub turns-init : goal.turns-init
+turns-init g c =
+    let setting = c.args.self.now in
+    let opened : c.in_ok-state.state ≡ opening_of setting = c.in_ok-state.ensures ∙ ap opening_of c.self.view_is in (
+      subst (λ (rest : List (ℕ × ℕ)). IsAt setting c.args.log.now rest c.args.steps 0 c.in_ok-state.state) (sym c.members-rest.ensures.list)
+          (at_opening setting c.args.log.now c.args.steps c.in_ok-state.state c.members-rest.ensures.lawful opened),
+      [],
+      g.met.S.Sink.none c.args.sink.now,
+      c.in_ok-put_slot_end.ensures ∙ ap (λ (xs : List Item). xs ++ slot_end_of c.in_ok-state.state) c.new-pending.ensures.items ∙ ap slot_end_of opened,
+    )
+
+pub returns-in_err-hand-clause-left : goal.returns-in_err-hand-clause-left
+returns-in_err-hand-clause-left g c =
+    let setting = c.args.self.now in
+    let log = c.args.log.now in
+    let here = c.turns.invariant.0 in
+    let handed = c.turns.invariant.1 in
+    left_by g.S.Sink.takes g.S.Sink.fails setting log c.args.steps c.args.sink.now c.hand.new.sink c.from_residual-in_err-hand.result c.in_err-hand.field-0.0
+    c.from_residual-in_err-hand.ensures.1
+    (sink_left g.S.Sink.takes g.S.Sink.fails setting log c.args.steps c.args.sink.now c.hand.new.sink _ c.in_err-hand.field-0.0
+    (λ fault failed. (
+      c.turns.n,
+      underway setting log c.turns.rest.now c.args.steps c.turns.n c.turns.state here,
+      subst (λ (xs : List Item). g.S.Sink.fails c.args.sink.now xs fault c.hand.new.sink) c.turns.invariant.3
+          (g.met.S.Sink.fails_later c.args.sink.now c.turns.sink c.hand.new.sink handed c.turns.pending.items fault c.turns.invariant.2 failed),
+    ))
+    c.in_err-hand.ensures.err)
+
+pub returns-in-Ok-None-clause-ends : goal.returns-in-Ok-None-clause-ends
+returns-in-Ok-None-clause-ends g c =
+    let setting = c.args.self.now in
+    let log = c.args.log.now in
+    let here = c.turns.invariant.0 in
+    let handed : List Item = c.turns.invariant.1 in
+    let front : List Item = c.in_ok-hand.ensures.ok.0 in
+    let took = g.met.S.Sink.joins c.args.sink.now c.turns.sink c.hand.new.sink handed front c.turns.invariant.2 c.in_ok-hand.ensures.ok.1 in
+    let all : (handed ++ front) ++ c.hand.new.pending.items ≡ given_by setting log c.turns.n =
+    append_assoc handed front c.hand.new.pending.items ∙ ap (λ (xs : List Item). handed ++ xs) c.in_ok-hand.ensures.ok.2 ∙ c.turns.invariant.3 in
+    let chosen : IsChosen setting log c.args.steps c.turns.n c.turns.state c.turns.rest.now (Ok None) =
+    subst (IsChosen setting log c.args.steps c.turns.n c.turns.state c.turns.rest.now) (c.in-Ok-None.is ∙ ap (λ (o : Option Chosen). Ok o) c.in-Ok-None.field-0-is) (c.choose.ensures setting log here) in
+    let nothing : c.hand.new.pending.items ≡ [] =
+    c.in_ok-hand.ensures.all (c.is_mark.ensures ∙ ended_at_mark setting log c.turns.rest.now c.args.steps c.turns.n c.turns.state _ here chosen) in
+    let whole : handed ++ front ≡ given_by setting log c.turns.n =
+    sym (append-nil (handed ++ front)) ∙ ap (λ (xs : List Item). (handed ++ front) ++ xs) (sym nothing) ∙ all in (
+      c.turns.n,
+      subst (λ end. Finishes setting log c.args.steps c.turns.n end) (sym c.end.ensures) chosen,
+      subst (λ (xs : List Item). g.S.Sink.takes c.args.sink.now xs c.hand.new.sink) whole took,
+    )
+
+pub returns-in-Err-clause-left : goal.returns-in-Err-clause-left
+returns-in-Err-clause-left g c =
+    let setting = c.args.self.now in
+    let log = c.args.log.now in
+    let here = c.turns.invariant.0 in
+    let handed : List Item = c.turns.invariant.1 in
+    let front : List Item = c.in_ok-hand.ensures.ok.0 in
+    let took = g.met.S.Sink.joins c.args.sink.now c.turns.sink c.hand.new.sink handed front c.turns.invariant.2 c.in_ok-hand.ensures.ok.1 in
+    let all : (handed ++ front) ++ c.hand.new.pending.items ≡ given_by setting log c.turns.n =
+    append_assoc handed front c.hand.new.pending.items ∙ ap (λ (xs : List Item). handed ++ xs) c.in_ok-hand.ensures.ok.2 ∙ c.turns.invariant.3 in
+    subst (λ (e : OrMemory (RunFault _)). Leaves g.S.Sink.takes g.S.Sink.fails setting log c.args.steps c.args.sink.now e c.hand.new.sink) (sym c.refused.ensures)
+    (handed_first g.S.Sink.takes setting log c.turns.rest.now c.args.steps c.turns.n c.turns.state c.args.sink.now c.hand.new.sink (handed ++ front) c.hand.new.pending.items here took all)
+
+pub returns-in_err-deed-clause-left : goal.returns-in_err-deed-clause-left
+returns-in_err-deed-clause-left g c =
+    let setting = c.args.self.now in
+    let log = c.args.log.now in
+    let here = c.turns.invariant.0 in
+    let handed : List Item = c.turns.invariant.1 in
+    let front : List Item = c.in_ok-hand.ensures.ok.0 in
+    let took = g.met.S.Sink.joins c.args.sink.now c.turns.sink c.hand.new.sink handed front c.turns.invariant.2 c.in_ok-hand.ensures.ok.1 in
+    let all : (handed ++ front) ++ c.hand.new.pending.items ≡ given_by setting log c.turns.n =
+    append_assoc handed front c.hand.new.pending.items ∙ ap (λ (xs : List Item). handed ++ xs) c.in_ok-hand.ensures.ok.2 ∙ c.turns.invariant.3 in
+    left_by g.S.Sink.takes g.S.Sink.fails setting log c.args.steps c.args.sink.now c.hand.new.sink c.from_residual-in_err-deed.result (Memory c.in_err-deed.field-0.0)
+    c.from_residual-in_err-deed.ensures.1
+    (handed_first g.S.Sink.takes setting log c.turns.rest.now c.args.steps c.turns.n c.turns.state c.args.sink.now c.hand.new.sink (handed ++ front) c.hand.new.pending.items here took all)
+
+pub returns-in_err-put_items-clause-left : goal.returns-in_err-put_items-clause-left
+returns-in_err-put_items-clause-left g c =
+    let setting = c.args.self.now in
+    let log = c.args.log.now in
+    let here = c.turns.invariant.0 in
+    let handed : List Item = c.turns.invariant.1 in
+    let front : List Item = c.in_ok-hand.ensures.ok.0 in
+    let took = g.met.S.Sink.joins c.args.sink.now c.turns.sink c.hand.new.sink handed front c.turns.invariant.2 c.in_ok-hand.ensures.ok.1 in
+    let all : (handed ++ front) ++ c.hand.new.pending.items ≡ given_by setting log c.turns.n =
+    append_assoc handed front c.hand.new.pending.items ∙ ap (λ (xs : List Item). handed ++ xs) c.in_ok-hand.ensures.ok.2 ∙ c.turns.invariant.3 in
+    left_by g.S.Sink.takes g.S.Sink.fails setting log c.args.steps c.args.sink.now c.hand.new.sink c.from_residual-in_err-put_items.result (Memory c.in_err-put_items.field-0.0)
+    c.from_residual-in_err-put_items.ensures.1
+    (handed_first g.S.Sink.takes setting log c.turns.rest.now c.args.steps c.turns.n c.turns.state c.args.sink.now c.hand.new.sink (handed ++ front) c.hand.new.pending.items here took all)
+
+pub turns-preserved : goal.turns-preserved
+turns-preserved g c =
+    let setting = c.args.self.now in
+    let log = c.args.log.now in
+    let here = c.turns.invariant.0 in
+    let handed : List Item = c.turns.invariant.1 in
+    let front : List Item = c.in_ok-hand.ensures.ok.0 in
+    let took = g.met.S.Sink.joins c.args.sink.now c.turns.sink c.hand.new.sink handed front c.turns.invariant.2 c.in_ok-hand.ensures.ok.1 in
+    let all : (handed ++ front) ++ c.hand.new.pending.items ≡ given_by setting log c.turns.n =
+    append_assoc handed front c.hand.new.pending.items ∙ ap (λ (xs : List Item). handed ++ xs) c.in_ok-hand.ensures.ok.2 ∙ c.turns.invariant.3 in
+    let chosen : IsChosen setting log c.args.steps c.turns.n c.turns.state c.turns.rest.now (Ok (Some c.in-Ok-Some.chosen)) =
+    subst (IsChosen setting log c.args.steps c.turns.n c.turns.state c.turns.rest.now) (c.in-Ok-Some.is ∙ ap (λ (o : Option Chosen). Ok o) c.in-Ok-Some.field-0-is) (c.choose.ensures setting log here) in
+    let design = ap (λ (s : Setting). s.design) c.self.view_is in
+    let turn : next setting.design c.turns.state c.in-Ok-Some.chosen.choice ≡ record { state = c.step.new.self; deed = c.in_ok-deed.deed } =
+    ap (λ (d : Design). next d c.turns.state c.in-Ok-Some.chosen.choice) (sym design) ∙ c.in_ok-deed.ensures.ok in
+    let given = given_next setting log c.turns.rest.now c.args.steps c.turns.n c.turns.state here c.in-Ok-Some.chosen.choice c.in-Ok-Some.chosen.later.now chosen.2
+    (record { state = c.step.new.self; deed = c.in_ok-deed.deed }) turn in (
+      at_next setting log c.turns.rest.now c.args.steps c.turns.n c.turns.state here c.in-Ok-Some.chosen.choice c.in-Ok-Some.chosen.later.now chosen.2
+          c.step.new.self (less_differs c.turns.n c.args.steps chosen.0) chosen.1 chosen.3 (ap (λ (t : Turn). t.state) turn),
+      handed ++ front,
+      took,
+      ap (λ (xs : List Item). (handed ++ front) ++ xs) c.in_ok-put_items.ensures
+          ∙ sym (append_assoc (handed ++ front) c.hand.new.pending.items (items_of (record { state = c.step.new.self; deed = c.in_ok-deed.deed })))
+          ∙ ap (λ (xs : List Item). xs ++ items_of (record { state = c.step.new.self; deed = c.in_ok-deed.deed })) all
+          ∙ given,
+    )
