@@ -8,9 +8,12 @@ use Rattle.vmodel.specs.History.{History}
 use Rattle.vmodel.specs.declared.history.Item.{Item}
 use Rattle.vmodel.specs.declared.history.Item.TheVariants.{SlotEnd, Dump}
 use Rattle.vcd_text.specs.DumpText.{Piece, Slot, below, body, changes, dump_below, dumped, is_nothing, is_start, later_pieces, piece_text, pieces, slots_after, spoken, start, time_line}
-use Rattle.vcd_text.specs.Sinks.{Progress, idle, asked, started, end_text, items_text, last_line, progress_over, timed, progress_view, text_of, Takes, Fails}
+use Rattle.vcd_text.specs.declared.progress.Progress.{Progress}
+use Rattle.vcd_text.specs.declared.progress.Progress.TheVariants.{Idle, Asked, Started}
+use Rattle.vcd_text.specs.Sinks.{end_text, items_text, last_line, progress_over, timed, text_of, Takes, Fails}
 use Rattle.vcd_text.specs.Metered.{Grows, Stops}
 use Rattle.vcd_text.specs.MeteredLaws.{grows_joins, stops_after, stops_before}
+use Rattle.basis.specs.declared.memory.OrMemory.{OrMemory}
 use Rattle.vcd_text.specs.declared.fault.WriteFault.{WriteFault}
 use Rattle.vcd_text.specs.declared.metered.Metered.{Metered}
 use Rattle.vcd_text.specs.declared.sink.DumpSink.{DumpSink}
@@ -33,23 +36,23 @@ module _ (head : List ℕ) (end : ℕ) where
   from_piece p slot slots = body (p ∷ spoken (later_pieces slot slots)) end
 
   later_by_text : (p q : Piece) (slot : Slot) (slots : List Slot) (items : List Item) (text : List ℕ) → piece_text q ≡ text →
-      ((r : Piece) → from_piece r slot slots ≡ time_line r.time ++ piece_text r ++ rest (started r.time slot.values) items) →
+      ((r : Piece) → from_piece r slot slots ≡ time_line r.time ++ piece_text r ++ rest (Started r.time slot.values) items) →
       body (p ∷ spoken (q ∷ later_pieces slot slots)) end
-      ≡ time_line p.time ++ piece_text p ++ (timed q.time text ++ items_text head (started (last_line p.time q.time text) slot.values) items
-      ++ end_text (progress_over (started (last_line p.time q.time text) slot.values) items) end)
+      ≡ time_line p.time ++ piece_text p ++ (timed q.time text ++ items_text head (Started (last_line p.time q.time text) slot.values) items
+      ++ end_text (progress_over (Started (last_line p.time q.time text) slot.values) items) end)
   later_by_text p q slot slots items [] is next =
       let later : List Piece = spoken (later_pieces slot slots) in
       ap (λ (xs : List ℕ). body (p ∷ cond (is_nothing xs) later (q ∷ later)) end) is ∙ next p
   later_by_text p q slot slots items (c ∷ cs) is next =
       let later : List Piece = spoken (later_pieces slot slots) in
-      let added : List ℕ = items_text head (started q.time slot.values) items in
-      let last : List ℕ = end_text (progress_over (started q.time slot.values) items) end in
+      let added : List ℕ = items_text head (Started q.time slot.values) items in
+      let last : List ℕ = end_text (progress_over (Started q.time slot.values) items) end in
       ap (λ (xs : List ℕ). body (p ∷ cond (is_nothing xs) later (q ∷ later)) end) is
       ∙ ap (λ (more : List ℕ). time_line p.time ++ piece_text p ++ more)
       (next q ∙ ap (λ (xs : List ℕ). time_line q.time ++ xs ++ (added ++ last)) is ∙ sym (append_assoc (time_line q.time ++ (c ∷ cs)) added last))
 
   later_text : (p : Piece) (slot : Slot) (commands : List DumpCommand) (items : List Item) →
-      from_piece p slot (slots_after commands items) ≡ time_line p.time ++ piece_text p ++ rest (started p.time slot.values) items
+      from_piece p slot (slots_after commands items) ≡ time_line p.time ++ piece_text p ++ rest (Started p.time slot.values) items
   later_text p slot commands [] = refl
   later_text p slot commands (Dump command ∷ items) = later_text p slot (commands ++ command ∷ []) items
   later_text p slot commands (SlotEnd t values ∷ items) =
@@ -58,7 +61,7 @@ module _ (head : List ℕ) (end : ℕ) where
       later_by_text p piece next (slots_after [] items) items (piece_text piece) refl (λ r. later_text r next [] items)
 
   asked_text : (commands : List DumpCommand) (items : List Item) → list_any is_start commands ≡ true →
-      rest asked items ≡ below head (spoken (pieces (dumped (slots_after commands items)))) end
+      rest Asked items ≡ below head (spoken (pieces (dumped (slots_after commands items)))) end
   asked_text commands [] has = refl
   asked_text commands (Dump command ∷ items) has =
       asked_text (commands ++ command ∷ []) items
@@ -66,14 +69,14 @@ module _ (head : List ℕ) (end : ℕ) where
   asked_text commands (SlotEnd t values ∷ items) has =
       let slot : Slot = record { commands = commands; time = t; values = values } in
       let later : List Slot = slots_after [] items in
-      let added : List ℕ = items_text head (started t values) items in
-      let last : List ℕ = end_text (progress_over (started t values) items) end in
+      let added : List ℕ = items_text head (Started t values) items in
+      let last : List ℕ = end_text (progress_over (Started t values) items) end in
       sym (ap (λ (b : Bool). below head (spoken (pieces (cond b (slot ∷ later) (dumped later)))) end) has
       ∙ ap (λ (more : List ℕ). head ++ more) (later_text (start slot) slot [] items)
       ∙ start_parts head (time_line t) (piece_text (start slot)) added last)
 
   idle_text : (commands : List DumpCommand) (items : List Item) → list_any is_start commands ≡ false →
-      rest idle items ≡ below head (spoken (pieces (dumped (slots_after commands items)))) end
+      rest Idle items ≡ below head (spoken (pieces (dumped (slots_after commands items)))) end
   idle_text commands [] none = refl
   idle_text commands (Dump command ∷ items) none =
       asked_text (commands ++ command ∷ []) items
@@ -85,41 +88,41 @@ module _ (head : List ℕ) (end : ℕ) where
       ∙ sym (ap (λ (b : Bool). below head (spoken (pieces (cond b (slot ∷ later) (dumped later)))) end) none)
 
 pub whole_text : (head : List ℕ) (history : History) →
-    items_text head idle history.items ++ end_text (progress_over idle history.items) history.end.time ≡ dump_below head history
+    items_text head Idle history.items ++ end_text (progress_over Idle history.items) history.end.time ≡ dump_below head history
 whole_text head history = idle_text head history.end.time [] history.items refl
 
 -- ---- of a sink with nothing come
 
 -- what a history adds up to its end is its whole dump
-whole_dump : {W : Type 0} (s : DumpSink W) (history : History) → progress_view s.progress ≡ idle →
-    dump_below s.header.now history ≡ text_of s history.items ++ end_text (progress_over (progress_view s.progress) history.items) history.end.time
+whole_dump : {W : Type 0} (s : DumpSink W) (history : History) → s.progress ≡ Idle →
+    dump_below s.header.now history ≡ text_of s history.items ++ end_text (progress_over s.progress history.items) history.end.time
 whole_dump s history fresh =
     sym (whole_text s.header.now history)
     ∙ ap (λ (from : Progress). items_text s.header.now from history.items ++ end_text (progress_over from history.items) history.end.time) (sym fresh)
 
-taken_dump : {W : Type 0} (contents : W → Option (List ℕ)) (s t : DumpSink W) (history : History) → progress_view s.progress ≡ idle →
+taken_dump : {W : Type 0} (contents : W → Option (List ℕ)) (s t : DumpSink W) (history : History) → s.progress ≡ Idle →
     Takes contents s history.items t →
-    dump_below s.header.now history ≡ text_of s history.items ++ end_text (progress_view t.progress) history.end.time
+    dump_below s.header.now history ≡ text_of s history.items ++ end_text t.progress history.end.time
 taken_dump contents s t history fresh p =
     whole_dump s history fresh ∙ ap (λ (after : Progress). text_of s history.items ++ end_text after history.end.time) (sym p.1)
 
-pub completes : {W : Type 0} (contents : W → Option (List ℕ)) (s t : DumpSink W) (history : History) (m : Metered W) → progress_view s.progress ≡ idle →
-    Takes contents s history.items t → Grows contents t.writer.now m (end_text (progress_view t.progress) history.end.time) →
+pub completes : {W : Type 0} (contents : W → Option (List ℕ)) (s t : DumpSink W) (history : History) (m : Metered W) → s.progress ≡ Idle →
+    Takes contents s history.items t → Grows contents t.writer.now m (end_text t.progress history.end.time) →
     Grows contents s.writer.now m (dump_below s.header.now history)
 completes contents s t history m fresh p q =
     subst (Grows contents s.writer.now m) (sym (taken_dump contents s t history fresh p))
-    (grows_joins contents s.writer.now t.writer.now m (text_of s history.items) (end_text (progress_view t.progress) history.end.time) p.2 q)
+    (grows_joins contents s.writer.now t.writer.now m (text_of s history.items) (end_text t.progress history.end.time) p.2 q)
 
-pub stops_completing : {W : Type 0} (contents : W → Option (List ℕ)) (s t : DumpSink W) (history : History) (m : Metered W) (fault : WriteFault) →
-    progress_view s.progress ≡ idle → Takes contents s history.items t →
-    Stops contents t.writer.now m (end_text (progress_view t.progress) history.end.time) fault → Stops contents s.writer.now m (dump_below s.header.now history) fault
+pub stops_completing : {W : Type 0} (contents : W → Option (List ℕ)) (s t : DumpSink W) (history : History) (m : Metered W) (fault : OrMemory WriteFault) →
+    s.progress ≡ Idle → Takes contents s history.items t →
+    Stops contents t.writer.now m (end_text t.progress history.end.time) fault → Stops contents s.writer.now m (dump_below s.header.now history) fault
 stops_completing contents s t history m fault fresh p q =
     subst (λ (text : List ℕ). Stops contents s.writer.now m text fault) (sym (taken_dump contents s t history fresh p))
-    (stops_after contents s.writer.now t.writer.now m (text_of s history.items) (end_text (progress_view t.progress) history.end.time) fault p.2 q)
+    (stops_after contents s.writer.now t.writer.now m (text_of s history.items) (end_text t.progress history.end.time) fault p.2 q)
 
-pub stops_taking : {W : Type 0} (contents : W → Option (List ℕ)) (s t : DumpSink W) (history : History) (fault : WriteFault) →
-    progress_view s.progress ≡ idle → Fails contents s history.items fault t → Stops contents s.writer.now t.writer.now (dump_below s.header.now history) fault
+pub stops_taking : {W : Type 0} (contents : W → Option (List ℕ)) (s t : DumpSink W) (history : History) (fault : OrMemory WriteFault) →
+    s.progress ≡ Idle → Fails contents s history.items fault t → Stops contents s.writer.now t.writer.now (dump_below s.header.now history) fault
 stops_taking contents s t history fault fresh p =
     subst (λ (text : List ℕ). Stops contents s.writer.now t.writer.now text fault) (sym (whole_dump s history fresh))
     (stops_before contents s.writer.now t.writer.now (text_of s history.items)
-    (end_text (progress_over (progress_view s.progress) history.items) history.end.time) fault p.1)
+    (end_text (progress_over s.progress history.items) history.end.time) fault p.1)

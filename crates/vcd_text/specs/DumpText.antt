@@ -4,6 +4,9 @@ use Rattle.std.specs.List.{after_last, enumerate_from, list_any}
 use Rattle.vbits.specs.declared.bit4.Bit4.{Bit4}
 use Rattle.vbits.specs.declared.bit4.Bit4.TheVariants.{Zero, One, X, Z}
 use Rattle.vbits.specs.Vectors.{Vector, same_letters}
+use Rattle.basis.specs.declared.timescale.Span.{Span}
+use Rattle.basis.specs.declared.timescale.Unit.{Unit}
+use Rattle.basis.specs.declared.timescale.Unit.TheVariants.{Nanosecond}
 use Rattle.vast.specs.declared.design.Bounds.{Bounds}
 use Rattle.vast.specs.declared.design.Kind.{Kind}
 use Rattle.vast.specs.declared.design.Kind.TheVariants.{Reg}
@@ -116,10 +119,17 @@ scope_lines around n (s ∷ scopes) variables =
     ++ variable_lines n (take s.variables variables)
     ++ scope_lines (suc s.depth) (n + s.variables) scopes (drop s.variables variables)
 
+abbrev pub unit_word : Unit → List ℕ
+unit_word Nanosecond = codes "ns"
+
+-- the unit in which times are counted (19.8)
+abbrev pub timescale_line : Span → List ℕ
+timescale_line precision = line (codes "$timescale " ++ decimal precision.count ++ codes " " ++ unit_word precision.unit ++ codes " $end")
+
 abbrev pub header : Design → List ℕ
 header design =
     line (codes "$version vrace $end")
-    ++ line (codes "$timescale 1 ns $end")
+    ++ timescale_line design.precision
     ++ scope_lines 0 0 design.scopes design.variables
     ++ line (codes "$enddefinitions $end")
 

@@ -4,6 +4,7 @@ use Rattle.std.specs.Io.KnownBytes.{Appends}
 use Rattle.std.proofs.lemmas.List.{append-nil, take-append-le, take_min}
 use Rattle.std.proofs.Math.Seq.{take-append-add}
 use Rattle.vcd_text.specs.declared.metered.Metered.{Metered}
+use Rattle.basis.specs.declared.memory.OrMemory.{OrMemory}
 use Rattle.vcd_text.specs.declared.fault.WriteFault.{WriteFault}
 use Rattle.vcd_text.specs.Metered.{Grows, Stops, count_after}
 
@@ -28,7 +29,7 @@ take_front : (xs ys : List ℕ) (n : ℕ) → take (min n (length xs)) (xs ++ ys
 take_front xs ys n = take-append-le (min n (length xs)) xs ys (omega arith) ∙ take_min n xs
 
 -- the fault comes after a text that was written
-pub stops_after : {W : Type 0} (contents : W → Option (List ℕ)) (a b c : Metered W) (xs ys : List ℕ) (fault : WriteFault) → Grows contents a b xs →
+pub stops_after : {W : Type 0} (contents : W → Option (List ℕ)) (a b c : Metered W) (xs ys : List ℕ) (fault : OrMemory WriteFault) → Grows contents a b xs →
     Stops contents b c ys fault → Stops contents a c (xs ++ ys) fault
 stops_after contents a b c xs ys fault p q =
     let whole : Appends (contents a.inner) (contents c.inner) (xs ++ take q.0.0 ys) =
@@ -38,7 +39,7 @@ stops_after contents a b c xs ys fault p q =
     ((place, written), q.1 ∙ ap (count_after fault) p.1)
 
 -- the fault comes before a text that wasn't come to
-pub stops_before : {W : Type 0} (contents : W → Option (List ℕ)) (a b : Metered W) (xs ys : List ℕ) (fault : WriteFault) → Stops contents a b xs fault →
+pub stops_before : {W : Type 0} (contents : W → Option (List ℕ)) (a b : Metered W) (xs ys : List ℕ) (fault : OrMemory WriteFault) → Stops contents a b xs fault →
     Stops contents a b (xs ++ ys) fault
 stops_before contents a b xs ys fault p =
     let place : ℕ = min p.0.0 (length xs) in

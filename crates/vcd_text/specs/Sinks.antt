@@ -5,21 +5,15 @@ use Rattle.vbits.specs.Vectors.{Vector}
 use Rattle.vmodel.specs.History.{History}
 use Rattle.vmodel.specs.declared.history.Item.{Item}
 use Rattle.vmodel.specs.declared.history.Item.TheVariants.{SlotEnd, Dump}
-use Rattle.vmodel.specs.declared.history.History.{History}
 use Rattle.vcd_text.specs.DumpText.{changes, framed, time_line, value_lines}
 use Rattle.vcd_text.specs.Metered.{Grows, Stops}
+use Rattle.basis.specs.declared.memory.OrMemory.{OrMemory}
 use Rattle.vcd_text.specs.declared.fault.WriteFault.{WriteFault}
-use Rattle.vcd_text.specs.declared.progress.Progress as declared
+use Rattle.vcd_text.specs.declared.progress.Progress.{Progress}
 use Rattle.vcd_text.specs.declared.progress.Progress.TheVariants.{Idle, Asked, Started}
 use Rattle.vcd_text.specs.declared.sink.DumpSink.{DumpSink}
 
 -- ---- from item to item
-
--- how far a dump has come
-pub data Progress : Type 0 where
-  idle : Progress  -- no $dumpvars yet
-  asked : Progress  -- one in the slot that runs
-  started : ℕ → List Vector → Progress  -- the last time line, and the values at the last slot end
 
 -- a text behind its time, where there is one
 abbrev pub timed : ℕ → List ℕ → List ℕ
@@ -40,19 +34,19 @@ changed_lines old new = value_lines (changes 0 old new)
 
 -- what an item adds to the dump, below this header
 abbrev pub item_text : List ℕ → Progress → Item → List ℕ
-item_text head idle item = []
-item_text head asked (Dump command) = []
-item_text head asked (SlotEnd t values) = start_text head t values
-item_text head (started last old) (Dump command) = []
-item_text head (started last old) (SlotEnd t values) = timed t (changed_lines old values)
+item_text head Idle item = []
+item_text head Asked (Dump command) = []
+item_text head Asked (SlotEnd t values) = start_text head t values
+item_text head (Started last old) (Dump command) = []
+item_text head (Started last old) (SlotEnd t values) = timed t (changed_lines old values)
 
 abbrev pub progress_after : Progress → Item → Progress
-progress_after idle (Dump command) = asked
-progress_after idle (SlotEnd t values) = idle
-progress_after asked (Dump command) = asked
-progress_after asked (SlotEnd t values) = started t values
-progress_after (started last old) (Dump command) = started last old
-progress_after (started last old) (SlotEnd t values) = started (last_line last t (changed_lines old values)) values
+progress_after Idle (Dump command) = Asked
+progress_after Idle (SlotEnd t values) = Idle
+progress_after Asked (Dump command) = Asked
+progress_after Asked (SlotEnd t values) = Started t values
+progress_after (Started last old) (Dump command) = Started last old
+progress_after (Started last old) (SlotEnd t values) = Started (last_line last t (changed_lines old values)) values
 
 -- what items add, one after another
 abbrev pub items_text : List ℕ → Progress → List Item → List ℕ
@@ -65,33 +59,21 @@ progress_over p (item ∷ items) = progress_over (progress_after p item) items
 
 -- what the end adds
 abbrev pub end_text : Progress → ℕ → List ℕ
-end_text idle t = []
-end_text asked t = []
-end_text (started last old) t = cond (last == t) [] (time_line t)
+end_text Idle t = []
+end_text Asked t = []
+end_text (Started last old) t = cond (last == t) [] (time_line t)
 
 -- after it the last time line is that of the end, and the same end adds nothing more
 abbrev pub progress_at_end : Progress → ℕ → Progress
-progress_at_end idle t = idle
-progress_at_end asked t = asked
-progress_at_end (started last old) t = started t old
+progress_at_end Idle t = Idle
+progress_at_end Asked t = Asked
+progress_at_end (Started last old) t = Started t old
 
 -- ---- what the program keeps
 
-abbrev pub history_view : History → History
-history_view history = record {
-  items = item_views history.items.items;
-  end = history.end;
-  values = history.values.items;
-}
-
-abbrev pub progress_view : declared.Progress → Progress
-progress_view Idle = idle
-progress_view Asked = asked
-progress_view (Started last values) = started last values.items
-
 -- what these items add to the dump
 abbrev pub text_of : {W : Type 0} → DumpSink W → List Item → List ℕ
-text_of sink items = items_text sink.header.now (progress_view sink.progress) items
+text_of sink items = items_text sink.header.now sink.progress items
 
 -- it is the same borrowed writer and the same header
 abbrev pub IsSameDump : {W : Type 0} → DumpSink W → DumpSink W → Type 0
@@ -101,10 +83,10 @@ IsSameDump old new = (new.writer.ghost_name ≡ old.writer.ghost_name) × (new.h
 abbrev pub Takes : {W : Type 0} → (W → Option (List ℕ)) → DumpSink W → List Item → DumpSink W → Type 0
 Takes contents old items new =
     IsSameDump old new
-    × (progress_view new.progress ≡ progress_over (progress_view old.progress) items)
+    × (new.progress ≡ progress_over old.progress items)
     × Grows contents old.writer.now new.writer.now (text_of old items)
 
 -- the fault came somewhere in what the items add
-abbrev pub Fails : {W : Type 0} → (W → Option (List ℕ)) → DumpSink W → List Item → WriteFault → DumpSink W → Type 0
+abbrev pub Fails : {W : Type 0} → (W → Option (List ℕ)) → DumpSink W → List Item → OrMemory WriteFault → DumpSink W → Type 0
 Fails contents old items fault new =
     IsSameDump old new × Stops contents old.writer.now new.writer.now (text_of old items) fault

@@ -2,11 +2,11 @@
 
 ghost use Rattle.std.specs.Prelude.{◌≡◌, ◌++◌, ◌+◌, ◌==◌, ℕ, IfOk, OnOk, decimal, length, map};
 ghost use Rattle.std.specs.List.{after_last};
-ghost use Rattle.vcd_text.specs.DumpText.{bounds_text, closings, code, header as header_text, kind_word, named_variable_line, scope_line, scope_lines, variable_lines};
+ghost use Rattle.vcd_text.specs.DumpText.{bounds_text, closings, code, header as header_text, kind_word, named_variable_line, scope_line, scope_lines, timescale_line, variable_lines};
 
 use crate::values::follow;
+use basis::{NoMemory, Span};
 use itoa::Buffer;
-use basis::NoMemory;
 use std::alloc::Global;
 use std::marker::Model;
 use vast::design::{Bounds, Design, Kind, Scope, Variable};
@@ -32,7 +32,7 @@ impl Header {
         ensures { IfOk result (λ header. header ≡ header_text design.now) }
     {
         let mut text = Vec::from_slice(alloc, b"$version vrace $end\n")?;
-        text.extend_from_slice(b"$timescale 1 ns $end\n")?;
+        put_precision(&mut text, design.precision)?;
         put_scopes(alloc, &mut text, &design.scopes, &design.variables)?;
         text.extend_from_slice(b"$enddefinitions $end\n")?;
         Ok(Header { text })
@@ -46,19 +46,34 @@ impl Header {
     }
 }
 
+// The unit in which times are counted.
+fn put_precision(text: &mut Vec<u8>, precision: Span) -> Result<(), NoMemory>
+    ensures { OnOk result (text.new.items ≡ text.old.items ++ timescale_line precision) }
+{
+    text.extend_from_slice(b"$timescale ")?;
+    put_number(text, u32::from(precision.count))?;
+    text.extend_from_slice(b" ")?;
+    text.extend_from_slice(precision.unit.name().as_bytes())?;
+    text.extend_from_slice(b" $end")?;
+    text.push(b'\n')?;
+    Ok(())
+}
+
 fn put_number(text: &mut Vec<u8>, number: u32) -> Result<(), NoMemory>
     ensures { OnOk result (text.new.items ≡ text.old.items ++ decimal number) }
 {
     let mut digits = Buffer::new();
-    text.extend_from_slice(digits.format(number).as_bytes())
+    text.extend_from_slice(digits.format(number).as_bytes())?;
+    Ok(())
 }
 
 fn put_kind(text: &mut Vec<u8>, kind: Kind) -> Result<(), NoMemory>
     ensures { OnOk result (text.new.items ≡ text.old.items ++ kind_word kind) }
 {
     match kind {
-        Kind::Reg => text.extend_from_slice(b"reg"),
+        Kind::Reg => text.extend_from_slice(b"reg")?,
     }
+    Ok(())
 }
 
 // The range of what was declared with one.
@@ -72,7 +87,8 @@ fn put_bounds(text: &mut Vec<u8>, bounds: Option<Bounds>) -> Result<(), NoMemory
             put_number(text, bounds.left)?;
             text.extend_from_slice(b":")?;
             put_number(text, bounds.right)?;
-            text.extend_from_slice(b"]")
+            text.extend_from_slice(b"]")?;
+            Ok(())
         }
     }
 }

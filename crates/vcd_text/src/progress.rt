@@ -1,16 +1,17 @@
 // How far a dump has come, and what a slot end adds to it (18.2.1).
 
-ghost use Rattle.std.specs.Prelude.{◌≡◌, ◌++◌, List, ℕ, IfOk, OnOk};
+ghost use Rattle.std.specs.Prelude.{◌≡◌, ◌++◌, List, ℕ, IfOk};
 ghost use Rattle.vmodel.specs.declared.history.Item.TheVariants.{Dump};
 ghost use Rattle.vmodel.specs.declared.history.DumpCommand.{DumpCommand};
 ghost use Rattle.vcd_text.specs.DumpText.{time_line};
-ghost use Rattle.vcd_text.specs.Sinks.{changed_lines, last_line, progress_after, progress_view, start_text, timed};
+ghost use Rattle.vcd_text.specs.Sinks.{changed_lines, last_line, progress_after, start_text, timed};
 
 use crate::values::{put_changes, put_values};
-use itoa::Buffer;
 use basis::NoMemory;
+use itoa::Buffer;
 use std::alloc::Global;
 use vbits::Vec4;
+use vmodel::values::Values;
 
 /// How far a dump has come: no `$dumpvars` yet, one in the slot that runs, or started.
 #[derive(Drop)]
@@ -18,12 +19,12 @@ pub(crate) enum Progress {
     Idle,
     Asked,
     /// The last time line, and the values at the last slot end.
-    Started { last: u64, values: Vec<Vec4> },
+    Started { last: u64, values: Values },
 }
 
 // After a dump command.
 pub(crate) fn ask(progress: &mut Progress)
-    ensures { (command : DumpCommand) → progress_view progress.new ≡ progress_after (progress_view progress.old) (Dump command) }
+    ensures { (command : DumpCommand) → progress.new ≡ progress_after progress.old (Dump command) }
 {
     match progress {
         Progress::Idle => *progress = Progress::Asked,
@@ -74,14 +75,6 @@ pub(crate) fn later_text(
         text.clear();
     }
     Ok(text)
-}
-
-// The values at a slot end in place of those at the one before. It takes memory only where they are more.
-pub(crate) fn keep(kept: &mut Vec<Vec4>, values: &[Vec4]) -> Result<(), NoMemory>
-    ensures { OnOk result (kept.new.items ≡ values.now) }
-{
-    kept.clear();
-    kept.extend_from_slice(values)
 }
 
 // The last time line, once this text has been written at a time.

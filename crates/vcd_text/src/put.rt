@@ -2,16 +2,21 @@
 
 ghost use Rattle.std.specs.Prelude.{◌≡◌, OnOk, IfErr};
 ghost use Rattle.vcd_text.specs.Metered.{Grows, Stops};
+ghost use Rattle.basis.specs.declared.memory.OrMemory.TheVariants.{Fault};
 ghost use Rattle.vcd_text.specs.declared.fault.WriteFault.TheVariants.{Write as WriteFailed};
 
 use crate::fault::WriteFault;
 use crate::metered::Metered;
+use basis::OrMemory;
 use std::io::Write;
 
 // Writes the whole text. The first failure ends it.
-pub(crate) fn put<W: Write>(writer: &mut Metered<W>, text: &[u8]) -> Result<(), OrMemory<WriteFault>>
+pub(crate) fn put<W: Write>(
+    writer: &mut Metered<W>,
+    text: &[u8],
+) -> Result<(), OrMemory<WriteFault>>
     ensures ok { OnOk result (Grows W.contents writer.old writer.new text.now) }
-    ensures fault { IfErr result (λ fault. fault ≡ WriteFailed) }
+    ensures fault { IfErr result (λ fault. fault ≡ Fault WriteFailed) }
     ensures err { IfErr result (Stops W.contents writer.old writer.new text.now) }
 {
     let mut rest = text;

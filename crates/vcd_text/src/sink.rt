@@ -4,19 +4,22 @@ ghost use Rattle.std.specs.Prelude.{◌≡◌, [], ◌∷◌, OnOk, OnErr, IfErr
 ghost use Rattle.vmodel.specs.declared.history.Item.TheVariants.{SlotEnd, Dump};
 ghost use Rattle.vmodel.specs.declared.history.DumpCommand.{DumpCommand};
 ghost use Rattle.vcd_text.specs.DumpText.{time_line};
-ghost use Rattle.vcd_text.specs.Sinks.{idle, asked, changed_lines, end_text, last_line, start_text, timed};
+ghost use Rattle.vcd_text.specs.declared.progress.Progress.TheVariants.{Idle, Asked};
+ghost use Rattle.vcd_text.specs.Sinks.{changed_lines, end_text, last_line, start_text, timed};
 ghost use Rattle.vcd_text.specs.Metered.{Grows, Stops};
 
 use crate::fault::WriteFault;
 use crate::header::Header;
 use crate::metered::Metered;
-use crate::progress::{Progress, ask, first_text, keep, later_text, line_after, line_of};
+use crate::progress::{Progress, ask, first_text, later_text, line_after, line_of};
 use crate::put::put;
+use basis::OrMemory;
 use std::alloc::Global;
 use std::io::Write;
 use vbits::Vec4;
 use vmodel::history::{End, Item};
 use vmodel::sink::Sink;
+use vmodel::values::Values;
 
 /// Writes the dump of a run as its items come: the header and all values at the end of the first slot with a
 /// `$dumpvars`, the changes at each later slot end (18.2.1; docs/FORMATS.md, "Dumps"). Before a start nothing is
@@ -40,9 +43,7 @@ fn put_start<W: Write>(
     ensures ok { OnOk result (Grows W.contents writer.old writer.new (start_text header.now time values.now)) }
     ensures err { IfErr result (Stops W.contents writer.old writer.new (start_text header.now time values.now)) }
 {
-    let Ok(text) = first_text(alloc, time, values) else {
-        return Err(WriteFault::Memory);
-    };
+    let text = first_text(alloc, time, values)?;
     match put(writer, header) {
         Ok(()) => put(writer, &text),
         Err(fault) => Err(fault),
@@ -54,21 +55,17 @@ fn put_slot<W: Write>(
     alloc: Global,
     writer: &mut Metered<W>,
     last: &mut u64,
-    kept: &mut Vec<Vec4>,
+    kept: &mut Values,
     time: u64,
     values: &[Vec4],
 ) -> Result<(), OrMemory<WriteFault>>
-    ensures last { OnOk result (last.new ≡ last_line last.old time (changed_lines kept.old.items values.now)) }
-    ensures kept { OnOk result (kept.new.items ≡ values.now) }
-    ensures ok { OnOk result (Grows W.contents writer.old writer.new (timed time (changed_lines kept.old.items values.now))) }
-    ensures err { IfErr result (Stops W.contents writer.old writer.new (timed time (changed_lines kept.old.items values.now))) }
+    ensures last { OnOk result (last.new ≡ last_line last.old time (changed_lines kept.old values.now)) }
+    ensures kept { OnOk result (kept.new ≡ values.now) }
+    ensures ok { OnOk result (Grows W.contents writer.old writer.new (timed time (changed_lines kept.old values.now))) }
+    ensures err { IfErr result (Stops W.contents writer.old writer.new (timed time (changed_lines kept.old values.now))) }
 {
-    let Ok(text) = later_text(alloc, time, kept, values) else {
-        return Err(WriteFault::Memory);
-    };
-    let Ok(()) = keep(kept, values) else {
-        return Err(WriteFault::Memory);
-    };
+    let text = later_text(alloc, time, kept.as_slice(), values)?;
+    kept.assign(values)?;
     match put(writer, &text) {
         Ok(()) => {
             *last = line_after(*last, time, &text);
@@ -91,21 +88,19 @@ fn put_end<W: Write>(
     if last == time {
         return Ok(());
     }
-    let Ok(text) = line_of(alloc, time) else {
-        return Err(WriteFault::Memory);
-    };
+    let text = line_of(alloc, time)?;
     put(writer, &text)
 }
 
 impl<'a, W: Write> DumpSink<'a, W> {
-    ghost use Rattle.vcd_text.specs.Sinks.{progress_at_end, progress_view, IsSameDump, Takes, Fails};
+    ghost use Rattle.vcd_text.specs.Sinks.{progress_at_end, IsSameDump, Takes, Fails};
 
     /// A dump of which nothing has come yet.
     pub fn new(alloc: Global, header: &'a Header, writer: &'a mut Metered<W>) -> DumpSink<'a, W>
         ensures same_writer { result.writer.ghost_name ≡ writer.entry.ghost_name }
         ensures unwritten { result.writer.now ≡ writer.old }
         ensures header { result.header.now ≡ header.now }
-        ensures progress { progress_view result.progress ≡ idle }
+        ensures progress { result.progress ≡ Idle }
     {
         DumpSink {
             alloc,
@@ -117,13 +112,11 @@ impl<'a, W: Write> DumpSink<'a, W> {
 
     // The slot that asked for the dump has ended.
     fn start(&mut self, time: u64, values: &[Vec4]) -> Result<(), OrMemory<WriteFault>>
-        requires { progress_view self.old.progress ≡ asked }
+        requires { self.old.progress ≡ Asked }
         ensures ok { OnOk result (Takes W.contents self.old (SlotEnd time values.now ∷ []) self.new) }
         ensures err { IfErr result (λ fault. Fails W.contents self.old (SlotEnd time values.now ∷ []) fault self.new) }
     {
-        let Ok(kept) = Vec::from_slice(self.alloc, values) else {
-            return Err(WriteFault::Memory);
-        };
+        let kept = Values::from_slice(self.alloc, values)?;
         match put_start(
             self.alloc,
             self.header.as_bytes(),
@@ -169,7 +162,7 @@ impl<'a, W: Write> DumpSink<'a, W> {
         ensures err { IfErr result (λ fault. Fails W.contents self.old (item.now ∷ []) fault self.new) }
     {
         match item {
-            Item::SlotEnd { time, values } => self.end_slot(*time, values),
+            Item::SlotEnd { time, values } => self.end_slot(*time, values.as_slice()),
             Item::Dump(_) => {
                 self.ask();
                 Ok(())
@@ -181,10 +174,10 @@ impl<'a, W: Write> DumpSink<'a, W> {
     /// call with the same end writes nothing.
     pub fn finish(&mut self, end: &End) -> Result<(), OrMemory<WriteFault>>
         ensures same { IsSameDump self.old self.new }
-        ensures progress { OnOk result (progress_view self.new.progress ≡ progress_at_end (progress_view self.old.progress) end.now.time) }
-        ensures kept { OnErr result (progress_view self.new.progress ≡ progress_view self.old.progress) }
-        ensures ok { OnOk result (Grows W.contents self.old.writer.now self.new.writer.now (end_text (progress_view self.old.progress) end.now.time)) }
-        ensures err { IfErr result (Stops W.contents self.old.writer.now self.new.writer.now (end_text (progress_view self.old.progress) end.now.time)) }
+        ensures progress { OnOk result (self.new.progress ≡ progress_at_end self.old.progress end.now.time) }
+        ensures kept { OnErr result (self.new.progress ≡ self.old.progress) }
+        ensures ok { OnOk result (Grows W.contents self.old.writer.now self.new.writer.now (end_text self.old.progress end.now.time)) }
+        ensures err { IfErr result (Stops W.contents self.old.writer.now self.new.writer.now (end_text self.old.progress end.now.time)) }
     {
         match &mut self.progress {
             Progress::Idle => Ok(()),
@@ -220,7 +213,7 @@ impl<'a, W: Write> Sink for DumpSink<'a, W> {
     ghost use Rattle.vcd_text.specs.Sinks.{Takes, Fails};
     ghost use Rattle.vcd_text.specs.SinkLaws.{takes_none, takes_joins, fails_after};
 
-    type Fault = WriteFault;
+    type Fault = OrMemory<WriteFault>;
 
     ghost takes = { Takes W.contents };
 

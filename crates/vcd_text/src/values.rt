@@ -84,7 +84,8 @@ fn put_change(text: &mut Vec<u8>, digits: &[u8], name: &[u8]) -> Result<(), NoMe
     } else {
         text.extend_from_slice(digits)?;
     }
-    text.extend_from_slice(name)
+    text.extend_from_slice(name)?;
+    Ok(())
 }
 
 // The line that says what the variable of this code is worth. The scratch is for its digits.
@@ -104,11 +105,7 @@ fn put_value(
 }
 
 // The lines of all values at the end of the text, in the order of the variables.
-pub(crate) fn put_values(
-    alloc: Global,
-    text: &mut Vec<u8>,
-    values: &[Vec4],
-) -> Result<(), NoMemory>
+pub(crate) fn put_values(alloc: Global, text: &mut Vec<u8>, values: &[Vec4]) -> Result<(), NoMemory>
     ensures { OnOk result (text.new.items ≡ text.old.items ++ value_lines (enumerate_from 0 values.now)) }
 {
     let mut scratch = Vec::new(alloc);

@@ -4,12 +4,14 @@ ghost use Rattle.std.specs.Prelude.{◌≡◌, OnOk, IfErr};
 ghost use Rattle.vast.specs.Design.{Design};
 ghost use Rattle.vcd_text.specs.DumpText.{dump_below, header as header_text, vcd};
 ghost use Rattle.vcd_text.specs.Metered.{Grows, Stops};
-ghost use Rattle.vcd_text.specs.Sinks.{idle, history_view, progress_view, IsSameDump};
+ghost use Rattle.vcd_text.specs.declared.progress.Progress.TheVariants.{Idle};
+ghost use Rattle.vcd_text.specs.Sinks.{IsSameDump};
 
 use crate::fault::WriteFault;
 use crate::header::Header;
 use crate::metered::Metered;
 use crate::sink::DumpSink;
+use basis::OrMemory;
 use std::alloc::Global;
 use std::io::Write;
 use vmodel::history::History;
@@ -17,7 +19,7 @@ use vmodel::sink::Sink;
 
 // A whole history into a fresh sink.
 fn fill<W: Write>(sink: &mut DumpSink<'_, W>, history: &History) -> Result<(), OrMemory<WriteFault>>
-    requires { progress_view sink.old.progress ≡ idle }
+    requires { sink.old.progress ≡ Idle }
     ensures same { IsSameDump sink.old sink.new }
     ensures ok { OnOk result (Grows W.contents sink.old.writer.now sink.new.writer.now (dump_below sink.old.header.now history.now)) }
     ensures err { IfErr result (Stops W.contents sink.old.writer.now sink.new.writer.now (dump_below sink.old.header.now history.now)) }

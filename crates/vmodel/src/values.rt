@@ -1,6 +1,6 @@
 // The values of all variables, by number (IEEE 1364-2005, 4.2).
 
-ghost use Rattle.std.specs.Prelude.{◌≡◌, List, IfOk, map};
+ghost use Rattle.std.specs.Prelude.{◌≡◌, List, IfOk, OnOk, map};
 ghost use Rattle.vbits.specs.Vectors.{Vector};
 ghost use Rattle.vmodel.specs.Parts as spec;
 ghost use Rattle.vmodel.specs.Run.{opening_value};
@@ -65,6 +65,23 @@ impl Values {
         ensures { result ≡ list.items }
     {
         Values { list }
+    }
+
+    /// The values of a list.
+    pub fn from_slice(alloc: Global, values: &[Vec4]) -> Result<Values, NoMemory>
+        ensures { IfOk result (λ list. list ≡ values.now) }
+    {
+        let list = Vec::from_slice(alloc, values)?;
+        Ok(Values { list })
+    }
+
+    /// Other values in place of these. It takes memory only where they are more; where it is refused the values are lost.
+    pub fn assign(&mut self, values: &[Vec4]) -> Result<(), NoMemory>
+        ensures { OnOk result (self.new ≡ values.now) }
+    {
+        self.list.clear();
+        self.list.extend_from_slice(values)?;
+        Ok(())
     }
 
     /// The values, as a list.

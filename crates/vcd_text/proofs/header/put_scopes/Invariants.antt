@@ -1,4 +1,4 @@
-use Rattle.std.proofs.Common.{◌≡◌, ◌++◌, ℕ, drop, map}
+use Rattle.std.proofs.Common.{◌≡◌, ◌++◌, ℕ, drop}
 use Rattle.vcd_text.specs.DumpText.{code, scope_lines}
 use Rattle.vcd_text.proofs.header.put_scopes.Given as goal
 
@@ -6,5 +6,5 @@ abbrev pub invariant-loop-scope : goal.invariant-loop-scope
 invariant-loop-scope l =
     (n : ℕ)
     × (l.name.items ≡ code n)
-    × (l.text.items ++ scope_lines l.around n (map scope_view (drop l.scope-index l.scopes)) (map variable_view l.rest)
-    ≡ l.initial.text.items ++ scope_lines 0 0 (map scope_view l.scopes) (map variable_view l.variables))
+    × (l.text.items ++ scope_lines l.around n (drop l.scope-index l.scopes) l.rest
+    ≡ l.initial.text.items ++ scope_lines 0 0 l.scopes l.variables)

@@ -1,5 +1,5 @@
-use Rattle.std.proofs.Common.{◌++◌, ◌+◌, map, drop, ap, ◌∙◌, List, ℕ}
-use Rattle.vast.specs.declared.design.Variable.{Variable}
+use Rattle.std.proofs.Common.{◌++◌, ◌+◌, drop, ap, ◌∙◌, List, ℕ}
+use Rattle.vast.specs.Design.{Variable}
 use Rattle.vcd_text.specs.DumpText.{named_variable_line, variable_lines}
 use Rattle.vcd_text.proofs.HeaderLemmas.{name_more, variable_more, left_from}
 use Rattle.vcd_text.proofs.header.put_variables.Goals as goal
@@ -9,11 +9,11 @@ loop-variable-preserved c =
     λ n e. let so_far = c.loop-variable.invariant n e in (
       name_more c.loop-variable.name.items c.follow.new.name.items n c.loop-variable.variable-index so_far.0 c.in_ok-follow.ensures,
       variable_more c.loop-variable.text.items c.loop-variable.name.items c.put_variable.new.text.items
-          (c.args.text.now.items ++ variable_lines n (map variable_view c.args.variables.now)) n c.loop-variable.variable-index (variable_view c.variable-item.result)
-          (map variable_view (drop (c.loop-variable.variable-index + 1) c.args.variables.now)) so_far.0
+          (c.args.text.now.items ++ variable_lines n c.args.variables.now) n c.loop-variable.variable-index c.variable-item.result
+          (drop (c.loop-variable.variable-index + 1) c.args.variables.now) so_far.0
           (c.in_ok-put_variable.ensures
-          ∙ ap (λ (name : List ℕ). c.loop-variable.text.items ++ named_variable_line name (variable_view c.variable-item.result)) c.deref.ensures.value)
-          (ap (λ (vs : List Variable). c.loop-variable.text.items ++ variable_lines (n + c.loop-variable.variable-index) (map variable_view vs))
+          ∙ ap (λ (name : List ℕ). c.loop-variable.text.items ++ named_variable_line name c.variable-item.result) c.deref.ensures.value)
+          (ap (λ (vs : List Variable). c.loop-variable.text.items ++ variable_lines (n + c.loop-variable.variable-index) vs)
           (left_from c.args.variables.now c.loop-variable.variable-index c.variable-item.result c.variable-item.is c.loop-variable-test.true)
           ∙ so_far.1),
     )

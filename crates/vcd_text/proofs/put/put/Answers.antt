@@ -1,6 +1,7 @@
 use Rattle.std.proofs.Common.{arith}
 use Rattle.std.proofs.lemmas.Bool.Decides.{nat_tests}
 use Rattle.vcd_text.proofs.PutLemmas.{stops_by_error, stops_dry, rest_grows, rest_stops, grows_done}
+use Rattle.basis.specs.declared.memory.OrMemory.TheVariants.{Fault}
 use Rattle.vcd_text.specs.declared.fault.WriteFault.TheVariants.{Write as WriteFailed}
 use Rattle.vcd_text.proofs.put.put.Goals as goal
 
@@ -17,7 +18,7 @@ loop-rest-preserved g c = (
       c.in-Ok.ensures.bytes c.in-Ok.ensures.failures c.split_at.ensures.back m p),
   λ m p. c.loop-rest.invariant.1 m
       (rest_stops g.W.Write.contents c.loop-rest.writer c.write.new.self c.loop-rest.rest.now c.split_at.result.1.now c.in-Ok.taken (omega arith)
-      c.in-Ok.ensures.bytes c.in-Ok.ensures.failures c.split_at.ensures.back m WriteFailed p),
+      c.in-Ok.ensures.bytes c.in-Ok.ensures.failures c.split_at.ensures.back m (Fault WriteFailed) p),
 )
 
 pub returns-in-Err-clause-err : goal.returns-in-Err-clause-err

@@ -1,4 +1,5 @@
 use Rattle.std.proofs.Common.{drop}
+use Rattle.basis.specs.declared.memory.OrMemory.{OrMemory}
 use Rattle.vcd_text.specs.declared.fault.WriteFault.{WriteFault}
 use Rattle.vcd_text.specs.declared.sink.DumpSink.{DumpSink}
 use Rattle.vcd_text.specs.Sinks.{Takes, Fails}
@@ -7,7 +8,7 @@ use Rattle.vcd_text.proofs.sink.DumpSinkSink.take.Given as goal
 -- what taking the rest does, taking all does
 abbrev pub invariant-loop-item : goal.invariant-loop-item
 invariant-loop-item g l =
-    ((t : DumpSink _) → Takes g.W.Write.contents l.self (item_views (drop l.item-index l.items)) t →
-    Takes g.W.Write.contents l.initial.self (item_views l.items) t)
-    × ((t : DumpSink _) (fault : WriteFault) → Fails g.W.Write.contents l.self (item_views (drop l.item-index l.items)) fault t →
-    Fails g.W.Write.contents l.initial.self (item_views l.items) fault t)
+    ((t : DumpSink _) → Takes g.W.Write.contents l.self (drop l.item-index l.items) t →
+    Takes g.W.Write.contents l.initial.self l.items t)
+    × ((t : DumpSink _) (fault : OrMemory WriteFault) → Fails g.W.Write.contents l.self (drop l.item-index l.items) fault t →
+    Fails g.W.Write.contents l.initial.self l.items fault t)
