@@ -1,5 +1,4 @@
 pub mod Found
-pub mod Exploring
-pub mod Ways
-pub mod Wheels
-pub mod WheelLaws
+pub mod Told
+pub mod Inner
+pub mod Toys

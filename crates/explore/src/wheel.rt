@@ -16,9 +16,9 @@ pub struct Wheel {
 }
 
 impl Space for Wheel {
-    ghost use Rattle.explore.specs.Wheels.{wheel_rules};
+    ghost use Rattle.explore.specs.Toys.Wheels.{wheel_rules};
     ghost use Rattle.std.proofs.Common.{rules as std_rules};
-    ghost use Rattle.explore.specs.WheelLaws.{wheel_is_lawful};
+    ghost use Rattle.explore.specs.Toys.WheelLaws.{wheel_is_lawful};
 
     type State = u32;
 

@@ -1,0 +1,3 @@
+-- A toy space that loops, and that it is lawful.
+pub mod Wheels
+pub mod WheelLaws
