@@ -18,7 +18,7 @@ use Rattle.basis.proofs.Lists.{listed_place}
 use Rattle.statebook.proofs.CoreLemmas.{closed_listed, sound_add, sound_nothing}
 use Rattle.statebook.proofs.ReachLemmas.{sound_reached}
 use Rattle.explore.specs.Found.{AllFewest, AreFound, HasEntries, IsListedMark}
-use Rattle.explore.specs.Told.{HasRoom, HasUnfinished, ListsExactly, TellsOfBook, WentThrough}
+use Rattle.explore.specs.Told.{IsBounded, HasUnfinished, ListsExactly, TellsOfBook, WentThrough}
 use Rattle.explore.specs.Inner.Exploring.{AllFinished, AllVisited, Closes, FinishedLeast, IsComplete, IsUnderWay, StoppedFull}
 use Rattle.explore.specs.declared.classes.Full.{Full}
 use Rattle.explore.specs.declared.findings.Findings.{Findings}
@@ -104,8 +104,8 @@ has_entries r limits eq agree b u apart count = record {
 }
 
 -- a book with the root's entry alone has room
-pub root_has_room : {S : Type 0} (r : Rules S) (limits : Limits) (b : Book S) → IsUnderWay r limits b → length b.entries ≡ 1 → 1 ≤ limits.entries → HasRoom r limits.entries b.entries
-root_has_room r limits b u alone some = record {
+pub root_is_bounded : {S : Type 0} (r : Rules S) (limits : Limits) (b : Book S) → IsUnderWay r limits b → length b.entries ≡ 1 → 1 ≤ limits.entries → IsBounded r limits.entries b.entries
+root_is_bounded r limits b u alone some = record {
   place = 0;
   entry = u.root.entry;
   at = u.root.at;
@@ -153,7 +153,7 @@ pub record Left {S : Type 0} (r : Rules S) (limits : Limits) (eq : S → S → B
   pub paired : length b.finished ≡ length b.entries
   pub apart : IsUndominated eq b.entries
   pub agree : (s t : S) → r.same s t ≡ eq s t
-  pub room : HasRoom r limits.entries b.entries
+  pub bounded : IsBounded r limits.entries b.entries
   pub visited_all : OnOk visited (AllVisited r limits b)
   pub full : IfFault visited (λ _. limits.entries ≤ length b.entries)
   pub left : IfFault visited (λ _. HasUnfinished b)
@@ -173,7 +173,7 @@ tells_of_book r limits eq b visited findings h lists = (
     root = h.under_way.root;
     undominated = apart_by_rules r eq h.agree b.entries h.apart;
     marks = lists;
-    room = h.room;
+    bounded = h.bounded;
     full = λ t. stopped visited (h.entries t) h.full;
     left = λ t. stopped visited (h.entries t) h.left;
     fewer = λ t. fewer_entries r limits b (slice_get_within b.entries 0 h.under_way.root.entry h.under_way.root.at) (went_through r limits eq b visited findings.status h t);

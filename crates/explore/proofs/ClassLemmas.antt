@@ -8,7 +8,7 @@ use Rattle.statebook.specs.Books.{Book, IsFinished, IsUnfinished}
 use Rattle.statebook.specs.declared.entry.Entry.{Entry}
 use Rattle.statebook.specs.declared.limits.Limits.{Limits}
 use Rattle.explore.specs.Found.{SomeRunExceeds}
-use Rattle.explore.specs.Told.{AllChoicesLeadOn, AllLeadOn, HasRoom, HasUnfinished}
+use Rattle.explore.specs.Told.{AllChoicesLeadOn, AllLeadOn, IsBounded, HasUnfinished}
 use Rattle.explore.specs.Inner.Exploring.{AddsFew, AllVisited, BookGrows, FinishedAt, FinishedLeast, FinishesOnly, GrowsFrom, IsUnderWay, LeadsOnAt, VisitedAt, WasVisited, width_limit}
 use Rattle.explore.proofs.VisitLemmas.{grows_twice, leads_later, still_there, true_not_false}
 
@@ -27,7 +27,7 @@ FinishedBehind {S} b budget place = (i : ℕ) (e : Entry S) → IsFinished b i �
 -- how far a class has come
 pub record InClass {S : Type 0} (r : Rules S) (limits : Limits) (start now : Book S) (budget place : ℕ) (within : Bool) : Type 0 where
   pub few : length now.entries ≤ limits.entries + width_limit
-  pub room : HasRoom r limits.entries now.entries
+  pub bounded : IsBounded r limits.entries now.entries
   pub grows : BookGrows start now budget
   pub finished : within ≡ true → EachUpTo (IsFinished now) now budget place
   pub visited : EachUpTo (WasVisited r limits now.entries) now budget place
@@ -89,8 +89,8 @@ visited_now r limits now place new v = record {
 }
 
 -- the visit of an entry leaves room, whether or not it came to an end
-pub room_now : {S : Type 0} (r : Rules S) (limits : Limits) (now : Book S) (place : ℕ) (new : Book S) (e : Entry S) → slice_get now.entries place ≡ Some e → length now.entries < limits.entries → GrowsFrom now new place → AddsFew r now place new → HasRoom r limits.entries new.entries
-room_now r limits now place new e at fewer grows few = record {
+pub bounded_now : {S : Type 0} (r : Rules S) (limits : Limits) (now : Book S) (place : ℕ) (new : Book S) (e : Entry S) → slice_get now.entries place ≡ Some e → length now.entries < limits.entries → GrowsFrom now new place → AddsFew r now place new → IsBounded r limits.entries new.entries
+bounded_now r limits now place new e at fewer grows few = record {
   place = place;
   entry = e;
   at = (grows e at).stays place e at;
@@ -123,7 +123,7 @@ class_finished r limits start now new budget place within s u v same f =
     let lt = slice_get_within now.entries place v.entry v.at in
     record {
       few = omega (arith, v.narrow, v.fewer);
-      room = room_now r limits now place new v.entry v.at v.fewer v.grows v.few;
+      bounded = bounded_now r limits now place new v.entry v.at v.fewer v.grows v.few;
       grows = grows_twice start now new budget s.grows g;
       finished = λ t. one_more (IsFinished now) (IsFinished new) now new budget place g (λ i done. (done.0, g.done i done.0 done.1)) lt (s.finished t) f;
       visited = one_more (WasVisited r limits now.entries) (WasVisited r limits new.entries) now new budget place g (visited_later r limits now new budget g) lt s.visited (visited_now r limits now place new v);
@@ -138,7 +138,7 @@ class_cut r limits start now new budget place within s u v same x =
     let lt = slice_get_within now.entries place v.entry v.at in
     record {
       few = omega (arith, v.narrow, v.fewer);
-      room = room_now r limits now place new v.entry v.at v.fewer v.grows v.few;
+      bounded = bounded_now r limits now place new v.entry v.at v.fewer v.grows v.few;
       grows = grows_twice start now new budget s.grows g;
       finished = λ t. absurd (true_not_false (sym t));
       visited = one_more (WasVisited r limits now.entries) (WasVisited r limits new.entries) now new budget place g (visited_later r limits now new budget g) lt s.visited (visited_now r limits now place new v);
@@ -150,7 +150,7 @@ class_cut r limits start now new budget place within s u v same x =
 pub class_skipped : {S : Type 0} (r : Rules S) (limits : Limits) (start now : Book S) (budget place : ℕ) (within : Bool) (x : Entry S) → InClass r limits start now budget place within → slice_get now.entries place ≡ Some x → x.budget ≢ budget → InClass r limits start now budget (place + 1) within
 class_skipped r limits start now budget place within x s at other = record {
   few = s.few;
-  room = s.room;
+  bounded = s.bounded;
   grows = s.grows;
   finished = λ t. one_other (IsFinished now) now budget place x at other (s.finished t);
   visited = one_other (WasVisited r limits now.entries) now budget place x at other s.visited;

@@ -57,7 +57,7 @@ pub record ListsExactly {S : Type 0} (r : Rules S) (b : Book S) (marks : List (S
   pub best : (j : ℕ) (found : S × List (ℕ × ℕ)) → slice_get marks j ≡ Some found → IsBest r b.entries found
 
 -- There are no more entries than the limit and what the choices of one entry can add.
-pub record HasRoom {S : Type 0} (r : Rules S) (limit : ℕ) (entries : List (Entry S)) : Type 0 where
+pub record IsBounded {S : Type 0} (r : Rules S) (limit : ℕ) (entries : List (Entry S)) : Type 0 where
   pub place : ℕ
   pub entry : Entry S
   pub at : slice_get entries place ≡ Some entry
@@ -73,7 +73,7 @@ WentThrough status = (status ≡ Exhausted) ⊎ (status ≡ Cut Steps)
 
 -- The answer is read from the book.
 -- [reached] Allowed events lead to the book. [root] Its first entry is the root's. [undominated] No entry was
--- added that an earlier one dominates. [marks] Its marks are those listed. [room] It hasn't outgrown the limit.
+-- added that an earlier one dominates. [marks] Its marks are those listed. [bounded] It hasn't outgrown the limit.
 -- The first reason that holds is told: [full] by the limit of entries it was cut only with as many entries and
 -- [left] one that isn't finished, and [fewer] with so many it is always cut, for want of memory if not by that
 -- limit. [steps] Where it was cut by the limit of steps alone, every way was gone that is within it.
@@ -82,7 +82,7 @@ pub record IsReadFrom {S : Type 0} (r : Rules S) (limits : Limits) (b : Book S) 
   pub root : IsRootAt b.entries 0
   pub undominated : IsUndominated r.same b.entries
   pub marks : ListsExactly r b findings.marks.entries
-  pub room : HasRoom r limits.entries b.entries
+  pub bounded : IsBounded r limits.entries b.entries
   pub full : findings.status ≡ Cut Entries → limits.entries ≤ length b.entries
   pub left : findings.status ≡ Cut Entries → HasUnfinished b
   pub fewer : WentThrough findings.status → length b.entries < limits.entries

@@ -2,7 +2,7 @@
 
 ghost use Rattle.std.specs.Prelude.{◌≡◌, ℕ, ◌+◌, ◌≤◌, true, false, length, IfOk, OnOk};
 ghost use Rattle.basis.specs.Reasons.{IfFault};
-ghost use Rattle.explore.specs.Told.{HasRoom, HasUnfinished};
+ghost use Rattle.explore.specs.Told.{IsBounded, HasUnfinished};
 ghost use Rattle.explore.specs.Inner.Exploring.{AllFinished, AllVisited, BookGrows, CutsShort, FinishedAt, FinishedLeast, VisitedAt, width_limit};
 ghost use Rattle.explore.specs.Inner.Ways.{IsSearching};
 
@@ -27,7 +27,7 @@ fn visit_class<P: Space>(
     budget: u32,
 ) -> Result<bool, OrMemory<Full>>
     requires searching { IsSearching (P.rules space.now) limits.now search.old }
-    requires room { HasRoom (P.rules space.now) limits.now.entries search.old.book.entries }
+    requires bounded { IsBounded (P.rules space.now) limits.now.entries search.old.book.entries }
     requires few { length search.old.book.entries ≤ limits.now.entries + width_limit }
     requires above { FinishedLeast search.old.book (budget + 1) }
     ensures finished { IfOk result (λ within. within ≡ true → FinishedAt search.new.book budget) }
@@ -37,7 +37,7 @@ fn visit_class<P: Space>(
     ensures left { IfFault result (λ _. HasUnfinished search.new.book) }
     ensures searching { IsSearching (P.rules space.now) limits.now search.new }
     ensures grows { BookGrows search.old.book search.new.book budget }
-    ensures room { HasRoom (P.rules space.now) limits.now.entries search.new.book.entries }
+    ensures bounded { IsBounded (P.rules space.now) limits.now.entries search.new.book.entries }
     ensures few { length search.new.book.entries ≤ limits.now.entries + width_limit }
     ensures above { OnOk result (FinishedLeast search.new.book budget) }
 {
@@ -67,7 +67,7 @@ pub fn visit_all<P: Space>(
     search: &mut Search<P::State>,
 ) -> Result<bool, OrMemory<Full>>
     requires searching { IsSearching (P.rules space.now) limits.now search.old }
-    requires room { HasRoom (P.rules space.now) limits.now.entries search.old.book.entries }
+    requires bounded { IsBounded (P.rules space.now) limits.now.entries search.old.book.entries }
     requires few { length search.old.book.entries ≤ limits.now.entries + width_limit }
     requires none { FinishedLeast search.old.book (limits.now.depart + 1) }
     ensures finished { IfOk result (λ within. within ≡ true → AllFinished search.new.book) }
@@ -76,7 +76,7 @@ pub fn visit_all<P: Space>(
     ensures full { IfFault result (λ _. limits.now.entries ≤ length search.new.book.entries) }
     ensures left { IfFault result (λ _. HasUnfinished search.new.book) }
     ensures searching { IsSearching (P.rules space.now) limits.now search.new }
-    ensures room { HasRoom (P.rules space.now) limits.now.entries search.new.book.entries }
+    ensures bounded { IsBounded (P.rules space.now) limits.now.entries search.new.book.entries }
 {
     let mut within = true;
     for departures in 0..limits.depart + 1 {

@@ -1,13 +1,13 @@
 use Rattle.std.proofs.Common.{◌≡◌, length, subst, refl, true, false}
 use Rattle.statebook.specs.Books.{Book, IsUndominated}
 use Rattle.explore.specs.Inner.Exploring.{AllFinished, CutsShort}
-use Rattle.explore.proofs.AloneLemmas.{Left, complete, exhausted, fewest, has_entries, root_has_room, stopped, tells_of_book, through_value}
+use Rattle.explore.proofs.AloneLemmas.{Left, complete, exhausted, fewest, has_entries, root_is_bounded, stopped, tells_of_book, through_value}
 use Rattle.explore.proofs.alone.explore_alone.Given.{Over}
 use Rattle.explore.proofs.alone.explore_alone.Goals as goal
 
-pub visit_all-visited-requires-clause-room : goal.visit_all-visited-requires-clause-room
-visit_all-visited-requires-clause-room g c = λ κs within.
-    root_has_room (g.P.Space.rules c.args.space.now) c.args.limits.now c.in_ok-open_book.field-0 c.in_ok-open_book.ensures.under_way c.in_ok-open_book.ensures.alone c.args.limits.now.within.some_entries
+pub visit_all-visited-requires-clause-bounded : goal.visit_all-visited-requires-clause-bounded
+visit_all-visited-requires-clause-bounded g c = λ κs within.
+    root_is_bounded (g.P.Space.rules c.args.space.now) c.args.limits.now c.in_ok-open_book.field-0 c.in_ok-open_book.ensures.under_way c.in_ok-open_book.ensures.alone c.args.limits.now.within.some_entries
 
 pub status_of-status-requires : goal.status_of-status-requires
 status_of-status-requires g c = λ is.
@@ -24,7 +24,7 @@ left g c =
       paired = subst Q c.book.view_is c.book.invariant.paired;
       apart = subst P c.book.view_is c.book.invariant.undominated;
       agree = g.met.P.Space.same_is_eq c.args.space.now;
-      room = c.visit_all-visited.ensures.room;
+      bounded = c.visit_all-visited.ensures.bounded;
       visited_all = c.visit_all-visited.ensures.all;
       full = c.visit_all-visited.ensures.full;
       left = c.visit_all-visited.ensures.left;

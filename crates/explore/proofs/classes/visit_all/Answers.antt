@@ -14,7 +14,7 @@ loop-departures-init g c =
     record {
       searching = c.requires.searching;
       few = c.requires.few;
-      room = c.requires.room;
+      bounded = c.requires.bounded;
       finished = λ t. none_over (IsFinished b) r limits b (limits.depart + 1 - 0) c.requires.searching.under_way (omega arith);
       visited = none_over (WasVisited r limits b.entries) r limits b (limits.depart + 1 - 0) c.requires.searching.under_way (omega arith);
       past = λ t. absurd (true_not_false t);
@@ -37,7 +37,7 @@ loop-departures-preserved g c =
     record {
       searching = c.visit_class.ensures.searching;
       few = c.visit_class.ensures.few;
-      room = c.visit_class.ensures.room;
+      bounded = c.visit_class.ensures.bounded;
       finished = λ t. elim c.if-not-branch.branch [
         | then-not-branch w ↦ absurd (true_not_false (sym t ∙ w.within-is))
         | else-not-branch w ↦ from_next (IsFinished old) (IsFinished new) old new before budget after next here (λ k done. (done.0, grows.done k done.0 done.1)) grows (i.finished (sym w.within-is ∙ t)) (c.in_ok-visit_class.ensures.finished w.if-not-branch.false)

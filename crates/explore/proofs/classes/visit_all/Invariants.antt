@@ -1,7 +1,7 @@
 use Rattle.std.proofs.Common.{◌≡◌, ◌+◌, ◌-◌, ◌≤◌, true, false, length}
 use Rattle.statebook.specs.Books.{IsFinished}
 use Rattle.explore.specs.Found.{SomeRunExceeds}
-use Rattle.explore.specs.Told.{HasRoom}
+use Rattle.explore.specs.Told.{IsBounded}
 use Rattle.explore.specs.Inner.Exploring.{FinishedLeast, WasVisited, width_limit}
 use Rattle.explore.specs.Inner.Ways.{IsSearching}
 use Rattle.explore.proofs.ClassLemmas.{EachFrom}
@@ -11,7 +11,7 @@ abbrev pub invariant-loop-departures : goal.invariant-loop-departures
 invariant-loop-departures g l = record {
   searching : IsSearching (g.P.Space.rules l.space) l.limits l.search;
   few : length l.search.book.entries ≤ l.limits.entries + width_limit;
-  room : HasRoom (g.P.Space.rules l.space) l.limits.entries l.search.book.entries;
+  bounded : IsBounded (g.P.Space.rules l.space) l.limits.entries l.search.book.entries;
   finished : l.within ≡ true → EachFrom (IsFinished l.search.book) l.search.book (l.limits.depart + 1 - l.departures);
   visited : EachFrom (WasVisited (g.P.Space.rules l.space) l.limits l.search.book.entries) l.search.book (l.limits.depart + 1 - l.departures);
   past : l.within ≡ false → SomeRunExceeds (g.P.Space.rules l.space) l.limits;

@@ -1,6 +1,6 @@
 use Rattle.std.proofs.Common.{subst, arith, ℕ}
 use Rattle.explore.specs.Inner.Exploring.{BookGrows}
-use Rattle.explore.proofs.ClassLemmas.{class_cut, class_done, class_finished, class_left, class_skipped, class_visited, room_now}
+use Rattle.explore.proofs.ClassLemmas.{class_cut, class_done, class_finished, class_left, class_skipped, class_visited, bounded_now}
 use Rattle.explore.proofs.VisitLemmas.{grows_twice}
 use Rattle.explore.proofs.classes.visit_class.Goals as goal
 use Rattle.explore.proofs.classes.visit_class.Goals.{then-read-budget+else-len-limits+in_ok-visit+then-not-branch, then-read-budget+else-len-limits+in_ok-visit+else-not-branch, else-read-budget}
@@ -16,9 +16,9 @@ returns-in_err-visit-clause-grows g c =
     grows_twice c.args.search.now.book c.loop-place.search.book c.visit.new.search.book c.args.budget c.loop-place.invariant.class.grows
     (subst P c.if-read-budget.true (c.visit.ensures.grows c.read.result.now c.read.ensures))
 
-pub returns-in_err-visit-clause-room : goal.returns-in_err-visit-clause-room
-returns-in_err-visit-clause-room g c =
-    room_now (g.P.Space.rules c.args.space.now) c.args.limits.now c.loop-place.search.book c.loop-place.place c.visit.new.search.book c.read.result.now c.read.ensures
+pub returns-in_err-visit-clause-bounded : goal.returns-in_err-visit-clause-bounded
+returns-in_err-visit-clause-bounded g c =
+    bounded_now (g.P.Space.rules c.args.space.now) c.args.limits.now c.loop-place.search.book c.loop-place.place c.visit.new.search.book c.read.result.now c.read.ensures
     (omega (arith, c.if-len-limits.false, c.len-then-read-budget.ensures.count)) c.visit.ensures.grows c.visit.ensures.few
 
 pub loop-place-preserved : goal.loop-place-preserved
