@@ -1,7 +1,7 @@
 -- From the first book to the findings.
-use Rattle.std.proofs.Common.{◌≡◌, ℕ, ◌≤◌, ◌||◌, not, ◌==◌, Bool, true, List, [], length, slice_get, Some, arith, ap, refl, sym, ◌∙◌, subst, inl, inr}
+use Rattle.std.proofs.Common.{◌≡◌, ℕ, ◌≤◌, ◌||◌, not, ◌==◌, zero, suc, Bool, true, false, List, [], ◌∷◌, length, slice_get, Option, Some, None, Result, Ok, OnOk, IfOk, arith, ap, refl, sym, ◌∙◌, subst, inl, inr}
 use Rattle.std.proofs.lemmas.Bool.{cases_lt}
-use Rattle.std.proofs.lemmas.Option.{slice_get_within}
+use Rattle.std.proofs.lemmas.Option.{same_Some, slice_get_within}
 use Rattle.sched_core.specs.Logs.{IsLog}
 use Rattle.sched_core.specs.Rules.{Rules, IsLawful, stands, NamesBelow}
 use Rattle.statebook.specs.Books.{Book, IsUndominated, Meets, no_entries}
@@ -10,15 +10,27 @@ use Rattle.statebook.specs.ExplorerCore.{IsEntry, IsListed}
 use Rattle.statebook.specs.declared.book.Met.{Met}
 use Rattle.statebook.specs.declared.book.Met.TheVariants.{New, Known}
 use Rattle.statebook.specs.declared.entry.Entry.{Entry}
+use Rattle.statebook.specs.declared.limits.Limits.{Limits}
+use Rattle.basis.specs.declared.memory.OrMemory.{OrMemory}
+use Rattle.basis.specs.Reasons.{IfFault}
 use Rattle.basis.proofs.Bools.{or_first}
 use Rattle.basis.proofs.Lists.{listed_place}
 use Rattle.statebook.proofs.CoreLemmas.{closed_listed, sound_add, sound_nothing}
-use Rattle.explore.specs.Exploring.{AllFinished, Closes, IsComplete, IsUnderWay}
-use Rattle.explore.specs.Found.{AllFewest, AreFound, HasEntries, HasNoShorter, IsListedMark, ListsMarks}
+use Rattle.statebook.proofs.ReachLemmas.{sound_reached}
+use Rattle.explore.specs.Found.{AllFewest, AreFound, HasEntries, IsListedMark}
+use Rattle.explore.specs.Told.{IsBounded, HasUnfinished, ListsExactly, TellsOfBook, WentThrough}
+use Rattle.explore.specs.Inner.Exploring.{AllFinished, AllVisited, Closes, FinishedLeast, IsComplete, IsUnderWay, StoppedFull}
+use Rattle.explore.specs.declared.classes.Full.{Full}
+use Rattle.explore.specs.declared.findings.Findings.{Findings}
+use Rattle.explore.specs.declared.findings.Reason.TheVariants.{Entries, Steps}
+use Rattle.explore.specs.declared.findings.Status.{Status}
+use Rattle.explore.specs.declared.findings.Status.TheVariants.{Exhausted, Cut}
+use Rattle.explore.proofs.ClassLemmas.{all_lead_on, fewer_entries}
+use Rattle.explore.proofs.MarkLemmas.{has_no_shorter, lists_each}
 
 -- the root's entry
-root_entry : {S : Type 0} (r : Rules S) (k limit : ℕ) (e : Entry S) → r.same e.state r.first ≡ true → e.budget ≡ k → e.log ≡ [] → e.steps ≡ 0 → IsEntry r k limit e
-root_entry {S} r k limit e same budget log steps =
+root_entry : {S : Type 0} (r : Rules S) (limits : Limits) (e : Entry S) → r.same e.state r.first ≡ true → e.budget ≡ limits.depart → e.log ≡ [] → e.steps ≡ 0 → IsEntry r limits.depart limits.steps e
+root_entry {S} r limits e same budget log steps =
     let none : length e.log ≡ 0 = ap length log in
     let A : ℕ → Type 0 = λ n. r.same e.state (stands r e.log n) ≡ true in
     let N : List (ℕ × ℕ) → Type 0 = λ l. NamesBelow l e.steps in
@@ -37,18 +49,18 @@ nothing_there : {X : Type 0} (i : ℕ) (x : X) → slice_get [] i ≡ Some x →
 nothing_there i x at = cc
 
 -- the book with the root's entry alone
-pub opened : {S : Type 0} (r : Rules S) (k limit : ℕ) (same : S → S → Bool) (e : Entry S) (met : Met) (new : Book S) → r.same e.state r.first ≡ true → e.budget ≡ k → e.log ≡ [] → e.steps ≡ 0 → Meets same no_entries e met new → IsUnderWay r k limit new
-opened {S} r k limit same e (New place) new root budget log steps m =
-    let P : Book S → Type 0 = λ b. IsUnderWay r k limit b in
+pub opened : {S : Type 0} (r : Rules S) (limits : Limits) (same : S → S → Bool) (e : Entry S) (met : Met) (new : Book S) → r.same e.state r.first ≡ true → e.budget ≡ limits.depart → e.log ≡ [] → e.steps ≡ 0 → Meets same no_entries e met new → IsUnderWay r limits new
+opened {S} r limits same e (New place) new root budget log steps m =
+    let P : Book S → Type 0 = λ b. IsUnderWay r limits b in
     subst P (sym m.1) (record {
-      sound = sound_add r k limit no_entries e (sound_nothing r k limit) (root_entry r k limit e root budget log steps);
+      sound = sound_add r limits.depart limits.steps no_entries e (sound_nothing r limits.depart limits.steps) (root_entry r limits e root budget log steps);
       root = record { entry = e; at = refl; log = log; steps = steps };
     })
-opened r k limit same e (Known place) new root budget log steps m = absurd (nothing_there place m.0 m.1)
+opened r limits same e (Known place) new root budget log steps m = absurd (nothing_there place m.0.entry m.0.at)
 
 -- where each entry is finished the book is complete
-pub complete : {S : Type 0} (r : Rules S) (k limit : ℕ) (b : Book S) → IsUnderWay r k limit b → AllFinished b → IsComplete b
-complete r k limit b u done = record {
+pub complete : {S : Type 0} (r : Rules S) (limits : Limits) (b : Book S) → IsUnderWay r limits b → AllFinished b → IsComplete b
+complete r limits b u done = record {
   root = u.root;
   places = λ i lt.
       (let e = listed_place b.entries i lt in
@@ -58,11 +70,11 @@ complete r k limit b u done = record {
 }
 
 -- what a closed book's entries list, the list of marks has
-pub exhausted : {S : Type 0} (r : Rules S) → IsLawful r → (k limit : ℕ) (b : Book S) (marks : List (S × List (ℕ × ℕ))) → IsUnderWay r k limit b → Closes b → ListsMarks r b.entries marks → IsCovered r k (IsListedMark r marks)
-exhausted r law k limit b marks u closed lists log n short run mark =
-    let l : IsListed r b.entries (stands r log n) (length log) = closed_listed r k limit b 0 closed.0 law u.sound closed.1 log n short run mark in
+pub exhausted : {S : Type 0} (r : Rules S) → IsLawful r → (limits : Limits) (b : Book S) (marks : List (S × List (ℕ × ℕ))) → IsUnderWay r limits b → Closes b → ListsExactly r b marks → IsCovered r limits.depart (IsListedMark r marks)
+exhausted r law limits b marks u closed lists log n short run mark =
+    let l : IsListed r b.entries (stands r log n) (length log) = closed_listed r limits.depart limits.steps b 0 closed.0 law u.sound closed.1 log n short run mark in
     let at_mark : r.mark l.entry.state ≡ true = law.mark_same l.entry.state (stands r log n) l.same ∙ mark in
-    let m : IsListedMark r marks l.entry.state (length l.entry.log) = lists l.place l.entry l.at at_mark in
+    let m : IsListedMark r marks l.entry.state (length l.entry.log) = lists_each r law limits b marks u lists l.place l.entry l.at at_mark in
     record {
       place = m.place;
       found = m.found;
@@ -72,21 +84,99 @@ exhausted r law k limit b marks u closed lists log n short run mark =
     }
 
 -- and under logs of the fewest departures
-pub fewest : {S : Type 0} (r : Rules S) → IsLawful r → (k limit : ℕ) (b : Book S) (marks : List (S × List (ℕ × ℕ))) → IsUnderWay r k limit b → Closes b → AreFound r k limit marks → HasNoShorter r b.entries marks → AllFewest r marks
-fewest r law k limit b marks u closed found shorter i p at log n run same = elim (cases_lt k (length log)) [
+pub fewest : {S : Type 0} (r : Rules S) → IsLawful r → (limits : Limits) (b : Book S) (marks : List (S × List (ℕ × ℕ))) → IsUnderWay r limits b → Closes b → AreFound r limits marks → ListsExactly r b marks → AllFewest r marks
+fewest r law limits b marks u closed found lists i p at log n run same = elim (cases_lt limits.depart (length log)) [
   | inl more ↦ (let f = found i p at in omega (arith, f.short, more))
   | inr short ↦ (
       let mark : r.mark (stands r log n) ≡ true = sym (law.mark_same p.0 (stands r log n) same) ∙ (found i p at).mark in
-      let l : IsListed r b.entries (stands r log n) (length log) = closed_listed r k limit b 0 closed.0 law u.sound closed.1 log n short run mark in
+      let l : IsListed r b.entries (stands r log n) (length log) = closed_listed r limits.depart limits.steps b 0 closed.0 law u.sound closed.1 log n short run mark in
       let near : r.same p.0 l.entry.state ≡ true = law.transitive p.0 (stands r log n) l.entry.state same (law.symmetric l.entry.state (stands r log n) l.same) in
-      omega (arith, shorter i p at l.place l.entry l.at near, l.departures))
+      omega (arith, has_no_shorter r limits b marks u lists i p at l.place l.entry l.at near, l.departures))
 ]
 
 -- a book's entries differ in state or budget
-pub has_entries : {S : Type 0} (r : Rules S) (k limit least : ℕ) (eq : S → S → Bool) → ((s t : S) → r.same s t ≡ eq s t) → (b : Book S) → IsUnderWay r k limit b → IsUndominated eq b.entries → least ≤ length b.entries → HasEntries r k limit least
-has_entries r k limit least eq agree b u apart count = record {
+pub has_entries : {S : Type 0} (r : Rules S) (limits : Limits) (eq : S → S → Bool) → ((s t : S) → r.same s t ≡ eq s t) → (b : Book S) → IsUnderWay r limits b → IsUndominated eq b.entries → limits.entries ≤ length b.entries → HasEntries r limits
+has_entries r limits eq agree b u apart count = record {
   entries = b.entries;
   count = count;
   allowed = u.sound.entry;
   differ = λ i j e f lt at at' same budget. apart.later i j e f lt at at' (record { state = sym (agree e.state f.state) ∙ same; budget = omega (arith, budget) });
 }
+
+-- a book with the root's entry alone has room
+pub root_is_bounded : {S : Type 0} (r : Rules S) (limits : Limits) (b : Book S) → IsUnderWay r limits b → length b.entries ≡ 1 → 1 ≤ limits.entries → IsBounded r limits.entries b.entries
+root_is_bounded r limits b u alone some = record {
+  place = 0;
+  entry = u.root.entry;
+  at = u.root.at;
+  few = omega (arith, alone, some);
+}
+
+only_none : (i : ℕ) (places : List ℕ) → slice_get (None ∷ []) i ≡ Some (Some places) → ⊥
+only_none zero places at = let none : None ≡ Some places = same_Some None (Some places) at in cc
+only_none (suc i) places at = cc
+
+none_finished : (finished : List (Option (List ℕ))) → finished ≡ None ∷ [] → (i : ℕ) (places : List ℕ) → slice_get finished i ≡ Some (Some places) → ⊥
+none_finished finished is i places at =
+    let P : List (Option (List ℕ)) → Type 0 = λ l. slice_get l i ≡ Some (Some places) in
+    only_none i places (subst P is at)
+
+-- nothing of it is finished
+pub root_unfinished : {S : Type 0} (b : Book S) (budget : ℕ) → b.finished ≡ None ∷ [] → FinishedLeast b budget
+root_unfinished b budget is i e done at = absurd (none_finished b.finished is i done.0 done.1)
+
+apart_by_rules : {S : Type 0} (r : Rules S) (eq : S → S → Bool) → ((s t : S) → r.same s t ≡ eq s t) → (entries : List (Entry S)) → IsUndominated eq entries → IsUndominated r.same entries
+apart_by_rules r eq agree entries apart = record {
+  later = λ i j e f lt at at' d. apart.later i j e f lt at at' (record { state = sym (agree e.state f.state) ∙ d.state; budget = d.budget });
+}
+
+-- what is known of a search that went through
+through : {A E P : Type 0} (visited : Result A E) (a : A) → visited ≡ Ok a → OnOk visited P → P
+through {A} {E} {P} visited a is p =
+    let Q : Result A E → Type 0 = λ v. OnOk v P in
+    subst Q is p
+
+pub through_value : {A E : Type 0} (visited : Result A E) (a : A) (P : A → Type 0) → visited ≡ Ok a → IfOk visited P → P a
+through_value {A} {E} visited a P is p =
+    let Q : Result A E → Type 0 = λ v. IfOk v P in
+    subst Q is p
+
+-- and of one that the limit of entries stopped
+pub stopped : {P : Type 0} (visited : Result Bool (OrMemory Full)) → StoppedFull visited → IfFault visited (λ _. P) → P
+stopped {P} visited (full, is) p =
+    let Q : Result Bool (OrMemory Full) → Type 0 = λ v. IfFault v (λ _. P) in
+    subst Q is p
+
+-- what the search left, and how it ended
+pub record Left {S : Type 0} (r : Rules S) (limits : Limits) (eq : S → S → Bool) (b : Book S) (visited : Result Bool (OrMemory Full)) (status : Status) : Type 0 where
+  pub under_way : IsUnderWay r limits b
+  pub paired : length b.finished ≡ length b.entries
+  pub apart : IsUndominated eq b.entries
+  pub agree : (s t : S) → r.same s t ≡ eq s t
+  pub bounded : IsBounded r limits.entries b.entries
+  pub visited_all : OnOk visited (AllVisited r limits b)
+  pub full : IfFault visited (λ _. limits.entries ≤ length b.entries)
+  pub left : IfFault visited (λ _. HasUnfinished b)
+  pub exhausted : status ≡ Exhausted → visited ≡ Ok true
+  pub entries : status ≡ Cut Entries → StoppedFull visited
+  pub steps : status ≡ Cut Steps → visited ≡ Ok false
+
+went_through : {S : Type 0} (r : Rules S) (limits : Limits) (eq : S → S → Bool) (b : Book S) (visited : Result Bool (OrMemory Full)) (status : Status) → Left r limits eq b visited status → WentThrough status → AllVisited r limits b
+went_through r limits eq b visited status h (inl exhausted) = through visited true (h.exhausted exhausted) h.visited_all
+went_through r limits eq b visited status h (inr steps) = through visited false (h.steps steps) h.visited_all
+
+pub tells_of_book : {S : Type 0} (r : Rules S) (limits : Limits) (eq : S → S → Bool) (b : Book S) (visited : Result Bool (OrMemory Full)) (findings : Findings S) → Left r limits eq b visited findings.status → ListsExactly r b findings.marks.entries → TellsOfBook r limits findings
+tells_of_book r limits eq b visited findings h lists = (
+  b,
+  record {
+    reached = sound_reached r limits.depart limits.steps b h.under_way.sound h.paired;
+    root = h.under_way.root;
+    undominated = apart_by_rules r eq h.agree b.entries h.apart;
+    marks = lists;
+    bounded = h.bounded;
+    full = λ t. stopped visited (h.entries t) h.full;
+    left = λ t. stopped visited (h.entries t) h.left;
+    fewer = λ t. fewer_entries r limits b (slice_get_within b.entries 0 h.under_way.root.entry h.under_way.root.at) (went_through r limits eq b visited findings.status h t);
+    steps = λ t. all_lead_on r limits b (went_through r limits eq b visited findings.status h (inr t));
+  },
+)

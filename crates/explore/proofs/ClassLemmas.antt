@@ -1,92 +1,225 @@
 -- What visiting the entries of one budget after another keeps.
-use Rattle.std.proofs.Common.{◌≡◌, ◌≢◌, ℕ, ◌+◌, ◌<◌, ◌≤◌, Bool, true, false, length, slice_get, Some, arith, ap, sym, ◌∙◌, subst, inl, inr}
+use Rattle.std.proofs.Common.{◌≡◌, ◌≢◌, ℕ, ◌+◌, ◌-◌, ◌<◌, ◌≤◌, Bool, true, false, List, length, slice_get, Option, Some, None, arith, ap, sym, ◌∙◌, subst, ◌⊎◌, inl, inr}
 use Rattle.std.proofs.lemmas.Bool.{cases_lt}
 use Rattle.std.proofs.lemmas.Option.{same_Some, slice_get_within}
-use Rattle.sched_core.specs.Rules.{Rules}
-use Rattle.statebook.specs.Books.{Book}
-use Rattle.statebook.specs.declared.entry.Entry.{Entry}
 use Rattle.basis.proofs.Lists.{listed_place}
-use Rattle.explore.specs.Exploring.{FinishedAt, Grows, IsFinished, IsUnderWay, width_limit}
+use Rattle.sched_core.specs.Rules.{Rules}
+use Rattle.statebook.specs.Books.{Book, IsFinished, IsUnfinished}
+use Rattle.statebook.specs.declared.entry.Entry.{Entry}
+use Rattle.statebook.specs.declared.limits.Limits.{Limits}
 use Rattle.explore.specs.Found.{SomeRunExceeds}
-use Rattle.explore.proofs.VisitLemmas.{grows_twice, still_there, true_not_false}
+use Rattle.explore.specs.Told.{AllChoicesLeadOn, AllLeadOn, IsBounded, HasUnfinished}
+use Rattle.explore.specs.Inner.Exploring.{AddsFew, AllVisited, BookGrows, FinishedAt, FinishedLeast, FinishesOnly, GrowsFrom, IsUnderWay, LeadsOnAt, VisitedAt, WasVisited, width_limit}
+use Rattle.explore.proofs.VisitLemmas.{grows_twice, leads_later, still_there, true_not_false}
 
--- Each entry with at least this budget is finished.
-abbrev pub FinishedFrom : {S : Type 0} → Book S → ℕ → Type 0
-FinishedFrom {S} b budget = (i : ℕ) (e : Entry S) → slice_get b.entries i ≡ Some e → budget ≤ e.budget → IsFinished b i
+-- Of each place that has an entry of at least this budget it is true.
+abbrev pub EachFrom : {S : Type 0} → (ℕ → Type 0) → Book S → ℕ → Type 0
+EachFrom {S} P b budget = (i : ℕ) (e : Entry S) → slice_get b.entries i ≡ Some e → budget ≤ e.budget → P i
+
+-- Of each place before this one that has an entry of this budget it is true.
+abbrev pub EachUpTo : {S : Type 0} → (ℕ → Type 0) → Book S → ℕ → ℕ → Type 0
+EachUpTo {S} P b budget place = (i : ℕ) (e : Entry S) → i < place → slice_get b.entries i ≡ Some e → e.budget ≡ budget → P i
+
+-- What is finished has a greater budget, or stands before the place.
+abbrev pub FinishedBehind : {S : Type 0} → Book S → ℕ → ℕ → Type 0
+FinishedBehind {S} b budget place = (i : ℕ) (e : Entry S) → IsFinished b i → slice_get b.entries i ≡ Some e → (budget < e.budget) ⊎ ((e.budget ≡ budget) × (i < place))
 
 -- how far a class has come
-pub record InClass {S : Type 0} (r : Rules S) (k limit most : ℕ) (start now : Book S) (budget place : ℕ) (within : Bool) : Type 0 where
-  pub under_way : IsUnderWay r k limit now
-  pub few : length now.entries ≤ most + width_limit
-  pub grows : Grows start now budget
-  pub finished : within ≡ true → (i : ℕ) (e : Entry S) → i < place → slice_get now.entries i ≡ Some e → e.budget ≡ budget → IsFinished now i
-  pub past : within ≡ false → SomeRunExceeds r k limit
+pub record InClass {S : Type 0} (r : Rules S) (limits : Limits) (start now : Book S) (budget place : ℕ) (within : Bool) : Type 0 where
+  pub few : length now.entries ≤ limits.entries + width_limit
+  pub bounded : IsBounded r limits.entries now.entries
+  pub grows : BookGrows start now budget
+  pub finished : within ≡ true → EachUpTo (IsFinished now) now budget place
+  pub visited : EachUpTo (WasVisited r limits now.entries) now budget place
+  pub past : within ≡ false → SomeRunExceeds r limits
+  pub behind : FinishedBehind now budget place
 
-finished_later : {S : Type 0} (old new : Book S) (budget place : ℕ) → Grows old new budget → place < length old.entries → ((i : ℕ) (e : Entry S) → i < place → slice_get old.entries i ≡ Some e → e.budget ≡ budget → IsFinished old i) → (i : ℕ) (e : Entry S) → i < place → slice_get new.entries i ≡ Some e → e.budget ≡ budget → IsFinished new i
-finished_later {S} old new budget place g lt h i e less at same =
+-- what a visit of the entry at the place makes of the book
+pub record Visits {S : Type 0} (r : Rules S) (limits : Limits) (now : Book S) (place : ℕ) (new : Book S) : Type 0 where
+  pub entry : Entry S
+  pub at : slice_get now.entries place ≡ Some entry
+  pub fewer : length now.entries < limits.entries
+  pub grows : GrowsFrom now new place
+  pub few : AddsFew r now place new
+  pub narrow : length new.entries < length now.entries + width_limit
+  pub only : FinishesOnly now place new
+  pub leads : LeadsOnAt r limits new place
+
+one_later : {S : Type 0} (P Q : ℕ → Type 0) (old new : Book S) (budget place : ℕ) → BookGrows old new budget → ((i : ℕ) → P i → Q i) → place < length old.entries → EachUpTo P old budget place → EachUpTo Q new budget place
+one_later {S} P Q old new budget place g on lt h i e less at same =
     let x = listed_place old.entries i (omega (arith, less, lt)) in
     let itself : x.0 ≡ e = still_there old new budget i x.0 e g x.1 at in
-    let P : Entry S → Type 0 = λ f. slice_get old.entries i ≡ Some f in
-    let f = h i e less (subst P itself x.1) same in
-    (f.0, g.done i f.0 f.1)
+    let T : Entry S → Type 0 = λ f. slice_get old.entries i ≡ Some f in
+    on i (h i e less (subst T itself x.1) same)
 
-visited : {S : Type 0} (old new : Book S) (budget place : ℕ) → Grows old new budget → place < length old.entries → ((i : ℕ) (e : Entry S) → i < place → slice_get old.entries i ≡ Some e → e.budget ≡ budget → IsFinished old i) → IsFinished new place → (i : ℕ) (e : Entry S) → i < place + 1 → slice_get new.entries i ≡ Some e → e.budget ≡ budget → IsFinished new i
-visited {S} old new budget place g lt h f i e less at same = elim (cases_lt i place) [
-  | inl before ↦ finished_later old new budget place g lt h i e before at same
+-- it is true of one place more
+one_more : {S : Type 0} (P Q : ℕ → Type 0) (old new : Book S) (budget place : ℕ) → BookGrows old new budget → ((i : ℕ) → P i → Q i) → place < length old.entries → EachUpTo P old budget place → Q place → EachUpTo Q new budget (place + 1)
+one_more {S} P Q old new budget place g on lt h here i e less at same = elim (cases_lt i place) [
+  | inl before ↦ one_later P Q old new budget place g on lt h i e before at same
   | inr ge ↦ (
-      let P : ℕ → Type 0 = λ p. IsFinished new p in
-      let here : place ≡ i = omega (arith, ge, less) in
-      subst P here f)
-]
-
--- the entry at the place was visited, and is finished
-pub class_finished : {S : Type 0} (r : Rules S) (k limit most : ℕ) (start now new : Book S) (budget place : ℕ) (within : Bool) → InClass r k limit most start now budget place within → place < length now.entries → length now.entries < most → Grows now new budget → length new.entries < length now.entries + width_limit → IsUnderWay r k limit new → IsFinished new place → InClass r k limit most start new budget (place + 1) within
-class_finished r k limit most start now new budget place within s lt less g few u f = record {
-  under_way = u;
-  few = omega (arith, few, less);
-  grows = grows_twice start now new budget s.grows g;
-  finished = λ t. visited now new budget place g lt (s.finished t) f;
-  past = s.past;
-}
-
--- the entry at the place was visited, and is not finished
-pub class_cut : {S : Type 0} (r : Rules S) (k limit most : ℕ) (start now new : Book S) (budget place : ℕ) (within : Bool) → InClass r k limit most start now budget place within → length now.entries < most → Grows now new budget → length new.entries < length now.entries + width_limit → IsUnderWay r k limit new → SomeRunExceeds r k limit → InClass r k limit most start new budget (place + 1) false
-class_cut r k limit most start now new budget place within s less g few u x = record {
-  under_way = u;
-  few = omega (arith, few, less);
-  grows = grows_twice start now new budget s.grows g;
-  finished = λ t. absurd (true_not_false (sym t));
-  past = λ t. x;
-}
-
-skipped : {S : Type 0} (b : Book S) (budget place : ℕ) (x : Entry S) → slice_get b.entries place ≡ Some x → x.budget ≢ budget → ((i : ℕ) (e : Entry S) → i < place → slice_get b.entries i ≡ Some e → e.budget ≡ budget → IsFinished b i) → (i : ℕ) (e : Entry S) → i < place + 1 → slice_get b.entries i ≡ Some e → e.budget ≡ budget → IsFinished b i
-skipped {S} b budget place x there other h i e less at same = elim (cases_lt i place) [
-  | inl before ↦ h i e before at same
-  | inr ge ↦ (
-      let P : ℕ → Type 0 = λ p. slice_get b.entries p ≡ Some e in
-      let here : i ≡ place = omega (arith, ge, less) in
-      let itself : x ≡ e = same_Some x e (sym there ∙ subst P here at) in
-      absurd (other (ap (λ f. f.budget) itself ∙ same)))
+      let it : place ≡ i = omega (arith, ge, less) in
+      subst Q it here)
 ]
 
 -- the entry at the place has another budget
-pub class_skipped : {S : Type 0} (r : Rules S) (k limit most : ℕ) (start now : Book S) (budget place : ℕ) (within : Bool) (x : Entry S) → InClass r k limit most start now budget place within → slice_get now.entries place ≡ Some x → x.budget ≢ budget → InClass r k limit most start now budget (place + 1) within
-class_skipped r k limit most start now budget place within x s at other = record {
-  under_way = s.under_way;
+one_other : {S : Type 0} (P : ℕ → Type 0) (b : Book S) (budget place : ℕ) (x : Entry S) → slice_get b.entries place ≡ Some x → x.budget ≢ budget → EachUpTo P b budget place → EachUpTo P b budget (place + 1)
+one_other {S} P b budget place x there other h i e less at same = elim (cases_lt i place) [
+  | inl before ↦ h i e before at same
+  | inr ge ↦ (
+      let T : ℕ → Type 0 = λ p. slice_get b.entries p ≡ Some e in
+      let here : i ≡ place = omega (arith, ge, less) in
+      let itself : x ≡ e = same_Some x e (sym there ∙ subst T here at) in
+      absurd (other (ap (λ f. f.budget) itself ∙ same)))
+]
+
+pub visited_later : {S : Type 0} (r : Rules S) (limits : Limits) (old new : Book S) (budget : ℕ) → BookGrows old new budget → (i : ℕ) → WasVisited r limits old.entries i → WasVisited r limits new.entries i
+visited_later r limits old new budget g i v = record {
+  entry = v.entry;
+  at = g.stays i v.entry v.at;
+  leads = λ c lt. leads_later r limits old new budget v.entry c g (v.leads c lt);
+  fewer = v.fewer;
+}
+
+visited_now : {S : Type 0} (r : Rules S) (limits : Limits) (now : Book S) (place : ℕ) (new : Book S) → Visits r limits now place new → WasVisited r limits new.entries place
+visited_now r limits now place new v = record {
+  entry = v.entry;
+  at = (v.grows v.entry v.at).stays place v.entry v.at;
+  leads = v.leads v.entry ((v.grows v.entry v.at).stays place v.entry v.at);
+  fewer = omega (arith, v.fewer, slice_get_within now.entries place v.entry v.at);
+}
+
+-- the visit of an entry leaves room, whether or not it came to an end
+pub bounded_now : {S : Type 0} (r : Rules S) (limits : Limits) (now : Book S) (place : ℕ) (new : Book S) (e : Entry S) → slice_get now.entries place ≡ Some e → length now.entries < limits.entries → GrowsFrom now new place → AddsFew r now place new → IsBounded r limits.entries new.entries
+bounded_now r limits now place new e at fewer grows few = record {
+  place = place;
+  entry = e;
+  at = (grows e at).stays place e at;
+  few = omega (arith, few e at, fewer);
+}
+
+behind_now : {S : Type 0} (r : Rules S) (limits : Limits) (now : Book S) (place : ℕ) (new : Book S) (budget : ℕ) → IsUnderWay r limits now → (v : Visits r limits now place new) → v.entry.budget ≡ budget → FinishedBehind now budget place → FinishedBehind new budget (place + 1)
+behind_now {S} r limits now place new budget u v same h i e done at = elim (v.only i done) [
+  | inl before ↦ (
+      let m = u.sound.met i before.0 before.1 in
+      let itself : m.entry ≡ e = still_there now new v.entry.budget i m.entry e (v.grows v.entry v.at) m.at at in
+      let T : Entry S → Type 0 = λ x. slice_get now.entries i ≡ Some x in
+      elim (h i e before (subst T itself m.at)) [
+        | inl greater ↦ inl greater
+        | inr equal ↦ inr (equal.0, omega (arith, equal.1))
+      ])
+  | inr here ↦ (
+      let T : ℕ → Type 0 = λ p. slice_get new.entries p ≡ Some e in
+      let itself : v.entry ≡ e = still_there now new v.entry.budget place v.entry e (v.grows v.entry v.at) v.at (subst T here at) in
+      inr (sym (ap (λ x. x.budget) itself) ∙ same, omega (arith, here)))
+]
+
+grows_at : {S : Type 0} (r : Rules S) (limits : Limits) (now : Book S) (place : ℕ) (new : Book S) (budget : ℕ) → (v : Visits r limits now place new) → v.entry.budget ≡ budget → BookGrows now new budget
+grows_at r limits now place new budget v same = subst (λ n. BookGrows now new n) same (v.grows v.entry v.at)
+
+-- the entry at the place was visited, and is finished
+pub class_finished : {S : Type 0} (r : Rules S) (limits : Limits) (start now new : Book S) (budget place : ℕ) (within : Bool) → InClass r limits start now budget place within → IsUnderWay r limits now → (v : Visits r limits now place new) → v.entry.budget ≡ budget → IsFinished new place → InClass r limits start new budget (place + 1) within
+class_finished r limits start now new budget place within s u v same f =
+    let g = grows_at r limits now place new budget v same in
+    let lt = slice_get_within now.entries place v.entry v.at in
+    record {
+      few = omega (arith, v.narrow, v.fewer);
+      bounded = bounded_now r limits now place new v.entry v.at v.fewer v.grows v.few;
+      grows = grows_twice start now new budget s.grows g;
+      finished = λ t. one_more (IsFinished now) (IsFinished new) now new budget place g (λ i done. (done.0, g.done i done.0 done.1)) lt (s.finished t) f;
+      visited = one_more (WasVisited r limits now.entries) (WasVisited r limits new.entries) now new budget place g (visited_later r limits now new budget g) lt s.visited (visited_now r limits now place new v);
+      past = s.past;
+      behind = behind_now r limits now place new budget u v same s.behind;
+    }
+
+-- the entry at the place was visited, and is not finished
+pub class_cut : {S : Type 0} (r : Rules S) (limits : Limits) (start now new : Book S) (budget place : ℕ) (within : Bool) → InClass r limits start now budget place within → IsUnderWay r limits now → (v : Visits r limits now place new) → v.entry.budget ≡ budget → SomeRunExceeds r limits → InClass r limits start new budget (place + 1) false
+class_cut r limits start now new budget place within s u v same x =
+    let g = grows_at r limits now place new budget v same in
+    let lt = slice_get_within now.entries place v.entry v.at in
+    record {
+      few = omega (arith, v.narrow, v.fewer);
+      bounded = bounded_now r limits now place new v.entry v.at v.fewer v.grows v.few;
+      grows = grows_twice start now new budget s.grows g;
+      finished = λ t. absurd (true_not_false (sym t));
+      visited = one_more (WasVisited r limits now.entries) (WasVisited r limits new.entries) now new budget place g (visited_later r limits now new budget g) lt s.visited (visited_now r limits now place new v);
+      past = λ t. x;
+      behind = behind_now r limits now place new budget u v same s.behind;
+    }
+
+-- the entry at the place has another budget
+pub class_skipped : {S : Type 0} (r : Rules S) (limits : Limits) (start now : Book S) (budget place : ℕ) (within : Bool) (x : Entry S) → InClass r limits start now budget place within → slice_get now.entries place ≡ Some x → x.budget ≢ budget → InClass r limits start now budget (place + 1) within
+class_skipped r limits start now budget place within x s at other = record {
   few = s.few;
+  bounded = s.bounded;
   grows = s.grows;
-  finished = λ t. skipped now budget place x at other (s.finished t);
+  finished = λ t. one_other (IsFinished now) now budget place x at other (s.finished t);
+  visited = one_other (WasVisited r limits now.entries) now budget place x at other s.visited;
   past = s.past;
+  behind = λ i e done there. elim (s.behind i e done there) [
+    | inl greater ↦ inl greater
+    | inr equal ↦ inr (equal.0, omega (arith, equal.1))
+  ];
 }
 
 -- a whole class was gone through
-pub class_done : {S : Type 0} (r : Rules S) (k limit most : ℕ) (start now : Book S) (budget place : ℕ) (within : Bool) → InClass r k limit most start now budget place within → length now.entries ≤ place → within ≡ true → FinishedAt now budget
-class_done r k limit most start now budget place within s le t i e at same =
-    let lt = slice_get_within now.entries i e at in
-    s.finished t i e (omega (arith, lt, le)) at same
+pub class_done : {S : Type 0} (r : Rules S) (limits : Limits) (start now : Book S) (budget place : ℕ) (within : Bool) → InClass r limits start now budget place within → length now.entries ≤ place → within ≡ true → FinishedAt now budget
+class_done r limits start now budget place within s le t i e at same =
+    s.finished t i e (omega (arith, slice_get_within now.entries i e at, le)) at same
 
--- no entry has more than k departures left
-pub none_over : {S : Type 0} (r : Rules S) (k limit : ℕ) (b : Book S) (budget : ℕ) → IsUnderWay r k limit b → k < budget → FinishedFrom b budget
-none_over r k limit b budget u lt i e at le =
-    let is = (u.sound.entry i e at).budget in
-    absurd (omega (arith, is, lt, le))
+pub class_visited : {S : Type 0} (r : Rules S) (limits : Limits) (start now : Book S) (budget place : ℕ) (within : Bool) → InClass r limits start now budget place within → length now.entries ≤ place → VisitedAt r limits now budget
+class_visited r limits start now budget place within s le i e at same =
+    s.visited i e (omega (arith, slice_get_within now.entries i e at, le)) at same
+
+pub class_least : {S : Type 0} (r : Rules S) (limits : Limits) (start now : Book S) (budget place : ℕ) (within : Bool) → InClass r limits start now budget place within → FinishedLeast now budget
+class_least r limits start now budget place within s i e done at = elim (s.behind i e done at) [
+  | inl greater ↦ omega (arith, greater)
+  | inr equal ↦ omega (arith, equal.0)
+]
+
+-- nothing of this class is finished yet
+pub behind_start : {S : Type 0} (b : Book S) (budget : ℕ) → FinishedLeast b (budget + 1) → FinishedBehind b budget 0
+behind_start b budget h i e done at = inl (omega (arith, h i e done at))
+
+open_or_done : {S : Type 0} (b : Book S) (place : ℕ) (o : Option (List ℕ)) → slice_get b.finished place ≡ Some o → IsUnfinished b place ⊎ IsFinished b place
+open_or_done b place None at = inl at
+open_or_done b place (Some places) at = inr (places, at)
+
+-- the entry that is to be visited isn't finished
+pub class_left : {S : Type 0} (r : Rules S) (limits : Limits) (start now : Book S) (budget place : ℕ) (within : Bool) (x : Entry S) → InClass r limits start now budget place within → slice_get now.entries place ≡ Some x → x.budget ≡ budget → place < length now.finished → HasUnfinished now
+class_left r limits start now budget place within x s at same lt =
+    let o = listed_place now.finished place lt in
+    elim (open_or_done now place o.0 o.1) [
+      | inl left ↦ (place, left)
+      | inr done ↦ elim (s.behind place x done at) [
+        | inl greater ↦ absurd (omega (arith, greater, same))
+        | inr equal ↦ absurd (omega (arith, equal.1))
+      ]
+    ]
+
+-- no entry has more departures left than the limit
+pub none_over : {S : Type 0} (P : ℕ → Type 0) (r : Rules S) (limits : Limits) (b : Book S) (budget : ℕ) → IsUnderWay r limits b → limits.depart < budget → EachFrom P b budget
+none_over P r limits b budget u lt i e at le = absurd (omega (arith, (u.sound.entry i e at).budget, lt, le))
+
+-- with a class more, it is true from its budget on
+pub from_next : {S : Type 0} (P Q : ℕ → Type 0) (old new : Book S) (before budget after : ℕ) → before ≡ budget + 1 → after ≡ budget → ((i : ℕ) → P i → Q i) → BookGrows old new budget → EachFrom P old before → ((i : ℕ) (e : Entry S) → slice_get new.entries i ≡ Some e → e.budget ≡ budget → Q i) → EachFrom Q new after
+from_next P Q old new before budget after next here on g h now i e at le = elim (cases_lt budget e.budget) [
+  | inl more ↦ elim (g.lower i e at) [
+    | inl there ↦ on i (h i e there (omega (arith, more, next)))
+    | inr low ↦ absurd (omega (arith, low, more))
+  ]
+  | inr ge ↦ now i e at (omega (arith, le, ge, here))
+]
+
+-- where each entry was visited, each leads on
+pub all_lead_on : {S : Type 0} (r : Rules S) (limits : Limits) (b : Book S) → AllVisited r limits b → AllLeadOn r limits b.entries
+all_lead_on {S} r limits b visited i e at =
+    let v = visited i e at in
+    let P : Entry S → Type 0 = λ x. AllChoicesLeadOn r limits b.entries x in
+    subst P (same_Some v.entry e (sym v.at ∙ at)) v.leads
+
+-- and there are fewer entries than the limit, as there were when the last was taken
+pub fewer_entries : {S : Type 0} (r : Rules S) (limits : Limits) (b : Book S) → 0 < length b.entries → AllVisited r limits b → length b.entries < limits.entries
+fewer_entries r limits b some visited =
+    let last : ℕ = length b.entries - 1 in
+    let e = listed_place b.entries last (omega (arith, some)) in
+    omega (arith, (visited last e.0 e.1).fewer, some)

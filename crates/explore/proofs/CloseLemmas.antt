@@ -2,7 +2,7 @@
 use Rattle.std.proofs.Common.{◌≡◌, ℕ, ◌<◌, List, length, slice_get, Contains, Some, arith, sym, ◌∙◌}
 use Rattle.std.proofs.lemmas.Option.{same_Some, slice_get_within, get_or_from_slice_get}
 use Rattle.statebook.specs.Books.{Book, IsClosed, IsClosedAt}
-use Rattle.explore.specs.Exploring.{IsComplete}
+use Rattle.explore.specs.Inner.Exploring.{IsComplete}
 
 -- the list has each place of the book, in order
 pub record ListsAll (all : List ℕ) (count : ℕ) : Type 0 where

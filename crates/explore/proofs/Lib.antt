@@ -4,5 +4,6 @@ pub mod NextLemmas
 pub mod VisitLemmas
 pub mod ClassLemmas
 pub mod CloseLemmas
+pub mod InsertLemmas
 pub mod MarkLemmas
 pub mod AloneLemmas

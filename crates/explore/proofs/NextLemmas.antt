@@ -1,5 +1,6 @@
 -- A run that goes on from an entry by a choice, and then by forced steps.
-use Rattle.std.proofs.Common.{◌≡◌, ◌≢◌, ℕ, ◌+◌, ◌-◌, ◌<◌, ◌≤◌, ◌==◌, zero, suc, true, false, if◌then◌else◌, List, [], ◌∷◌, ◌++◌, length, length-append, arith, ap, refl, sym, ◌∙◌, subst, add-one, below_more}
+use Rattle.std.proofs.Common.{◌≡◌, ◌≢◌, ℕ, ◌+◌, ◌-◌, ◌<◌, ◌≤◌, ◌==◌, zero, suc, true, false, if◌then◌else◌, List, [], ◌∷◌, ◌++◌, length, length-append, arith, ap, refl, sym, ◌∙◌, subst, add-one, below_more, inl, inr}
+use Rattle.std.proofs.lemmas.Bool.{cases_lt}
 use Rattle.std.proofs.lemmas.Bool.Decides.{nat_tests}
 use Rattle.sched_core.specs.Inner.Reading.{next_from}
 use Rattle.sched_core.specs.Logs.{IsLog}
@@ -9,8 +10,10 @@ use Rattle.statebook.specs.Stations.{is_station, forced, IsNextStation}
 use Rattle.statebook.specs.ExplorerCore.{IsEntry, choices_of, budget_after}
 use Rattle.statebook.specs.declared.entry.Entry.{Entry}
 use Rattle.statebook.proofs.RunLemmas.{departs, is_station_same, width_between}
-use Rattle.explore.specs.Exploring.{ComesTo, GoesPast, Follows, log_of}
+use Rattle.statebook.specs.declared.limits.Limits.{Limits}
 use Rattle.explore.specs.Found.{SomeRunExceeds}
+use Rattle.explore.specs.Told.{Allows, ChoiceGoesPast, GoesPast}
+use Rattle.explore.specs.Inner.Exploring.{ComesTo, Follows, log_of}
 
 -- a log that names only steps below n can go on at n
 next_from_below : (low n : ℕ) (log : List (ℕ × ℕ)) → low ≤ n → NamesBelow log n → next_from low log ≤ n
@@ -176,12 +179,12 @@ entry_from {S} r law k limit e next c start is lt step high log to way within b 
     }
 
 -- where the forced way has no station within the limit, the run takes more steps
-pub exceeds_from : {S : Type 0} (r : Rules S) → IsLawful r → (k limit : ℕ) (e : Entry S) (c : ℕ) (start : S) → IsEntry r k limit e → c < choices_of (r.width e.state) e.budget → r.same start (r.after e.state c) ≡ true → e.steps + 1 ≤ limit → GoesPast r start (e.steps + 1) limit → SomeRunExceeds r k limit
-exceeds_from {S} r law k limit e c start is lt to within past =
+exceeds_from : {S : Type 0} (r : Rules S) → IsLawful r → (limits : Limits) (e : Entry S) (c : ℕ) (start : S) → IsEntry r limits.depart limits.steps e → c < choices_of (r.width e.state) e.budget → r.same start (r.after e.state c) ≡ true → e.steps + 1 ≤ limits.steps → GoesPast r start (e.steps + 1) limits.steps → SomeRunExceeds r limits
+exceeds_from {S} r law limits e c start is lt to within past =
     let after : List (ℕ × ℕ) = log_of e.log e.steps c in
     let goes : GoesOnBy e.log after e.steps c = goes_on_by e.log e.steps c is.names in
-    let first : Reaches r after start (suc e.steps) = first_step r law k limit e after c start is goes (allowed_width (r.width e.state) e.budget c lt) to in
-    let m : ℕ = limit - e.steps in
+    let first : Reaches r after start (suc e.steps) = first_step r law limits.depart limits.steps e after c start is goes (allowed_width (r.width e.state) e.budget c lt) to in
+    let m : ℕ = limits.steps - e.steps in
     let there : Reaches r after (forced r start m) (suc e.steps + m) =
     forced_on r law after start (suc e.steps) goes.names first m (λ j less. past j (omega (arith, less))) in
     record {
@@ -193,12 +196,12 @@ exceeds_from {S} r law k limit e c start is lt to within past =
     }
 
 -- where an entry stands at the limit, a further choice takes more steps
-pub exceeds_at : {S : Type 0} (r : Rules S) → IsLawful r → (k limit : ℕ) (e : Entry S) (c : ℕ) → IsEntry r k limit e → c < choices_of (r.width e.state) e.budget → e.steps ≡ limit → SomeRunExceeds r k limit
-exceeds_at {S} r law k limit e c is lt full =
+exceeds_at : {S : Type 0} (r : Rules S) → IsLawful r → (limits : Limits) (e : Entry S) (c : ℕ) → IsEntry r limits.depart limits.steps e → c < choices_of (r.width e.state) e.budget → e.steps ≡ limits.steps → SomeRunExceeds r limits
+exceeds_at {S} r law limits e c is lt full =
     let after : List (ℕ × ℕ) = log_of e.log e.steps c in
     let goes : GoesOnBy e.log after e.steps c = goes_on_by e.log e.steps c is.names in
     let first : Reaches r after (r.after e.state c) (suc e.steps) =
-    first_step r law k limit e after c (r.after e.state c) is goes (allowed_width (r.width e.state) e.budget c lt) (law.reflexive (r.after e.state c)) in
+    first_step r law limits.depart limits.steps e after c (r.after e.state c) is goes (allowed_width (r.width e.state) e.budget c lt) (law.reflexive (r.after e.state c)) in
     record {
       log = after;
       steps = suc e.steps;
@@ -206,6 +209,13 @@ exceeds_at {S} r law k limit e c is lt full =
       run = first.run;
       more = omega arith;
     }
+
+-- so it is wherever the way after a choice goes past the limit
+pub exceeds : {S : Type 0} (r : Rules S) → IsLawful r → (limits : Limits) (e : Entry S) (c : ℕ) → IsEntry r limits.depart limits.steps e → Allows r e c → ChoiceGoesPast r limits e c → SomeRunExceeds r limits
+exceeds r law limits e c is lt past = elim (cases_lt e.steps limits.steps) [
+  | inl less ↦ exceeds_from r law limits e c (r.after e.state c) is lt (law.reflexive (r.after e.state c)) (omega (arith, less)) past
+  | inr ge ↦ exceeds_at r law limits e c is lt (omega (arith, ge, is.within))
+]
 
 -- a step of a copy leads where a step of the state does
 pub stepped : {S : Type 0} (r : Rules S) → IsLawful r → (copy s t : S) (c : ℕ) → r.same copy s ≡ true → c < r.width s → r.same t (r.after copy c) ≡ true → r.same t (r.after s c) ≡ true

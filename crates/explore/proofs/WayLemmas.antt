@@ -5,8 +5,10 @@ use Rattle.std.proofs.lemmas.Bool.{cases_lt}
 use Rattle.sched_core.specs.Rules.{Rules, IsLawful}
 use Rattle.statebook.specs.Stations.{is_station, forced}
 use Rattle.statebook.proofs.RunLemmas.{is_station_same, width_between}
-use Rattle.explore.specs.Exploring.{ComesTo, GoesPast}
-use Rattle.explore.specs.Ways.{AllCome, AllGoPast, LeadsTo, Passes}
+use Rattle.statebook.specs.declared.limits.Limits.{Limits}
+use Rattle.explore.specs.Told.{GoesPast}
+use Rattle.explore.specs.Inner.Exploring.{ComesTo}
+use Rattle.explore.specs.Inner.Ways.{AllCome, AllGoPast, LeadsTo, Passes}
 use Rattle.explore.specs.declared.search.Landmark.{Landmark}
 use Rattle.basis.proofs.Lists.{last_or_before}
 use Rattle.explore.proofs.NextLemmas.{forced_same}
@@ -78,6 +80,10 @@ past_on r law s t m taken n limit p count within past j le =
 -- a state has come to one that is equal in no step
 pub comes_itself : {S : Type 0} (r : Rules S) (s t : S) → r.same t s ≡ true → Passes r s t 0
 comes_itself r s t e = record { same = e; passes = λ j lt. absurd (omega (arith, lt)) }
+
+-- from equal states the way goes past the limit alike
+pub past_same : {S : Type 0} (r : Rules S) → IsLawful r → (s t : S) (taken limit : ℕ) → r.same t s ≡ true → taken ≤ limit → GoesPast r t taken limit → GoesPast r s taken limit
+past_same r law s t taken limit e within past = past_on r law s t 0 taken taken limit (comes_itself r s t e) (omega arith) within past
 
 -- equal states lead to the same
 pub leads_same : {S : Type 0} (r : Rules S) → IsLawful r → (entries : List (Entry S)) (s t : S) (steps : ℕ) (station : Option ℕ) → r.same t s ≡ true → LeadsTo r entries t steps station → LeadsTo r entries s steps station
@@ -161,7 +167,7 @@ marks_come r law start s t taken n reached landmarks h way i l at =
 pub way_past : {S : Type 0} (r : Rules S) → IsLawful r → (start s : S) (taken n limit : ℕ) (landmarks : List (Landmark S)) → OnWay r start s taken n landmarks → n ≤ limit → GoesPast r s n limit → GoesPast r start taken limit
 way_past r law start s taken n limit landmarks h within past = past_on r law start s (n - taken) taken n limit h.way (omega (arith, h.low)) within past
 
-pub marks_past : {S : Type 0} (r : Rules S) → IsLawful r → (start s : S) (taken n limit : ℕ) (landmarks : List (Landmark S)) → OnWay r start s taken n landmarks → n ≤ limit → GoesPast r s n limit → AllGoPast r landmarks limit
-marks_past r law start s taken n limit landmarks h within past i l at =
+pub marks_past : {S : Type 0} (r : Rules S) → IsLawful r → (start s : S) (taken n : ℕ) (limits : Limits) (landmarks : List (Landmark S)) → OnWay r start s taken n landmarks → n ≤ limits.steps → GoesPast r s n limits.steps → AllGoPast r landmarks limits
+marks_past r law start s taken n limits landmarks h within past i l at =
     let m = h.marks i l at in
-    (omega (arith, m.0, within), past_on r law l.state s (n - l.taken) l.taken n limit m.1 (omega (arith, m.0)) within past)
+    (omega (arith, m.0, within), past_on r law l.state s (n - l.taken) l.taken n limits.steps m.1 (omega (arith, m.0)) within past)

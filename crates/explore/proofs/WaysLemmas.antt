@@ -1,5 +1,5 @@
 -- What is remembered of forced ways, and what it is good for.
-use Rattle.std.proofs.Common.{◌≡◌, ℕ, ◌+◌, ◌-◌, ◌<◌, ◌≤◌, ◌++◌, zero, suc, Bool, true, false, List, [], ◌∷◌, Option, Some, None, IfSome, IfNone, slice_get, length, length-append, if◌then◌else◌, cond, ap, arith, refl, sym, ◌∙◌, subst, ◌⊎◌, inl, inr}
+use Rattle.std.proofs.Common.{◌≡◌, ℕ, ◌+◌, ◌-◌, ◌<◌, ◌≤◌, ◌++◌, zero, suc, Bool, true, false, List, [], ◌∷◌, Option, Some, None, IfSome, IfNone, slice_get, length, length-append, cond, ap, arith, refl, sym, ◌∙◌, subst, inl, inr}
 use Rattle.std.proofs.lemmas.Bool.{cases_lt}
 use Rattle.std.proofs.lemmas.Map.Entries.{place_from_lookup}
 use Rattle.std.proofs.lemmas.Option.{same_Some, slice_get_within}
@@ -9,9 +9,11 @@ use Rattle.basis.proofs.Lists.{stands_in_front, stands_last}
 use Rattle.sched_core.specs.Rules.{Rules, IsLawful}
 use Rattle.statebook.specs.declared.entry.Entry.{Entry}
 use Rattle.statebook.specs.Stations.{forced}
-use Rattle.statebook.specs.Books.{Book}
-use Rattle.explore.specs.Exploring.{ComesTo, IsFoundAt, IsSameOrAdded}
-use Rattle.explore.specs.Ways.{AllCome, AllGoPast, AllLead, AreRemembered, IsKnownAs, LeadsTo}
+use Rattle.statebook.specs.Books.{Book, IsFoundAt}
+use Rattle.statebook.specs.declared.limits.Limits.{Limits}
+use Rattle.explore.specs.Inner.Exploring.{ComesTo, IsSameOrAdded}
+use Rattle.explore.specs.Inner.Ways.{AllCome, AllGoPast, AllLead, AreRemembered, IsKnownAs, LeadsTo}
+use Rattle.explore.proofs.InsertLemmas.{Inserted, inserted}
 use Rattle.explore.proofs.WayLemmas.{leads_same}
 use Rattle.explore.specs.declared.search.Onward.{Onward}
 use Rattle.explore.specs.declared.search.Landmark.{Landmark}
@@ -34,53 +36,6 @@ known_as test ways None e = tt
 pub unknown_as : {S : Type 0} (test : S → Bool) (ways : List (S × Onward)) (found : Option Onward) → found ≡ lookup test ways → IfNone found ((i : ℕ) (p : S × Onward) → slice_get ways i ≡ Some p → test p.0 ≡ false)
 unknown_as test ways (Some onward) e = tt
 unknown_as test ways None e = λ i p at. none_passes test ways (sym e) i p at
-
-inserted_behind : {K V : Type 0} (eq : K → K → Bool) (e : K × V) (es : List (K × V)) (k : K) (v : V) → ((j : ℕ) (p : K × V) → slice_get (insert_entry eq es k v) j ≡ Some p → ((eq k p.0 ≡ true) × (p.1 ≡ v)) ⊎ ((i : ℕ) × (slice_get es i ≡ Some p))) → (j : ℕ) (p : K × V) (b : Bool) → eq k e.0 ≡ b → slice_get (if b then (e.0, v) ∷ es else e ∷ insert_entry eq es k v) j ≡ Some p → ((eq k p.0 ≡ true) × (p.1 ≡ v)) ⊎ ((i : ℕ) × (slice_get (e ∷ es) i ≡ Some p))
-inserted_behind {K} {V} eq e es k v later zero p true here at =
-    let same : ◌≡◌ {A = K × V} (e.0, v) p = same_Some (e.0, v) p at in
-    inl (ap (λ q. eq k q.0) (sym same) ∙ here, ap (λ q. q.1) (sym same))
-inserted_behind eq e es k v later (suc j) p true here at = inr (suc j, at)
-inserted_behind eq e es k v later zero p false other at = inr (0, at)
-inserted_behind eq e es k v later (suc j) p false other at = elim (later j p at) [
-  | inl new ↦ inl new
-  | inr old ↦ inr (suc old.0, old.1)
-]
-
--- what inserting a pair leaves: the pair, at a key that was equal, or what was there
-inserted_pair : {K V : Type 0} (eq : K → K → Bool) → ((x : K) → eq x x ≡ true) → (es : List (K × V)) (k : K) (v : V) (j : ℕ) (p : K × V) → slice_get (insert_entry eq es k v) j ≡ Some p → ((eq k p.0 ≡ true) × (p.1 ≡ v)) ⊎ ((i : ℕ) × (slice_get es i ≡ Some p))
-inserted_pair {K} {V} eq itself [] k v zero p at =
-    let same : ◌≡◌ {A = K × V} (k, v) p = same_Some (k, v) p at in
-    inl (ap (λ q. eq k q.0) (sym same) ∙ itself k, ap (λ q. q.1) (sym same))
-inserted_pair eq itself [] k v (suc j) p at = absurd cc
-inserted_pair eq itself (e ∷ es) k v j p at = inserted_behind eq e es k v (inserted_pair eq itself es k v) j p (eq k e.0) refl at
-
-inserted_key_at : {K V : Type 0} (eq : K → K → Bool) (e : K × V) (es : List (K × V)) (k : K) (v : V) → ((i : ℕ) (p : K × V) → slice_get es i ≡ Some p → (q : K × V) × (slice_get (insert_entry eq es k v) i ≡ Some q) × (q.0 ≡ p.0)) → (i : ℕ) (p : K × V) (b : Bool) → slice_get (e ∷ es) i ≡ Some p → (q : K × V) × (slice_get (if b then (e.0, v) ∷ es else e ∷ insert_entry eq es k v) i ≡ Some q) × (q.0 ≡ p.0)
-inserted_key_at eq e es k v later zero p true at = ((e.0, v), refl, ap (λ q. q.0) (same_Some e p at))
-inserted_key_at eq e es k v later (suc i) p true at = (p, at, refl)
-inserted_key_at eq e es k v later zero p false at = (p, at, refl)
-inserted_key_at eq e es k v later (suc i) p false at = later i p at
-
--- a key that is there stays
-inserted_key : {K V : Type 0} (eq : K → K → Bool) (es : List (K × V)) (k : K) (v : V) (i : ℕ) (p : K × V) → slice_get es i ≡ Some p → (q : K × V) × (slice_get (insert_entry eq es k v) i ≡ Some q) × (q.0 ≡ p.0)
-inserted_key eq [] k v i p at = absurd cc
-inserted_key eq (e ∷ es) k v i p at = inserted_key_at eq e es k v (inserted_key eq es k v) i p (eq k e.0) at
-
-inserted_there_at : {K V : Type 0} (eq : K → K → Bool) (e : K × V) (es : List (K × V)) (k : K) (v : V) → (i : ℕ) × (p : K × V) × (slice_get (insert_entry eq es k v) i ≡ Some p) × (eq k p.0 ≡ true) → (b : Bool) → eq k e.0 ≡ b → (i : ℕ) × (p : K × V) × (slice_get (if b then (e.0, v) ∷ es else e ∷ insert_entry eq es k v) i ≡ Some p) × (eq k p.0 ≡ true)
-inserted_there_at eq e es k v later true here = (0, (e.0, v), refl, here)
-inserted_there_at eq e es k v (i, p, at, same) false other = (suc i, p, at, same)
-
--- the key that is inserted is there
-inserted_there : {K V : Type 0} (eq : K → K → Bool) → ((x : K) → eq x x ≡ true) → (es : List (K × V)) (k : K) (v : V) → (i : ℕ) × (p : K × V) × (slice_get (insert_entry eq es k v) i ≡ Some p) × (eq k p.0 ≡ true)
-inserted_there eq itself [] k v = (0, (k, v), refl, itself k)
-inserted_there eq itself (e ∷ es) k v = inserted_there_at eq e es k v (inserted_there eq itself es k v) (eq k e.0) refl
-
-inserted_count_at : {K V : Type 0} (eq : K → K → Bool) (e : K × V) (es : List (K × V)) (k : K) (v : V) → length (insert_entry eq es k v) ≤ length es + 1 → (b : Bool) → length (if b then (e.0, v) ∷ es else e ∷ insert_entry eq es k v) ≤ length (e ∷ es) + 1
-inserted_count_at eq e es k v later true = omega arith
-inserted_count_at eq e es k v later false = omega (arith, later)
-
-inserted_count : {K V : Type 0} (eq : K → K → Bool) (es : List (K × V)) (k : K) (v : V) → length (insert_entry eq es k v) ≤ length es + 1
-inserted_count eq [] k v = omega arith
-inserted_count eq (e ∷ es) k v = inserted_count_at eq e es k v (inserted_count eq es k v) (eq k e.0)
 
 -- The landmarks left are among those that were given, and what is remembered is of the latter or was before, and not more than there
 -- is room for. With room for all, something is remembered of each that is no longer left.
@@ -129,21 +84,20 @@ remembers_less same most old all left rest last end station now h items full =
       known = λ room i l past at. absurd (omega (arith, room, full, h.count, less));
     }
 
-known_key : {S : Type 0} (same : S → S → Bool) (now : List (S × Onward)) (k : S) (v : Onward) (s : S) → (onward : Onward) × IsKnownAs same now s onward → (onward : Onward) × IsKnownAs same (insert_entry same now k v) s onward
-known_key same now k v s (onward, (i, p, at, equal, is)) =
-    let q = inserted_key same now k v i p at in
+known_key : {S : Type 0} (same : S → S → Bool) (now after : List (S × Onward)) (k : S) (v : Onward) → Inserted same now k v after → (s : S) → (onward : Onward) × IsKnownAs same now s onward → (onward : Onward) × IsKnownAs same after s onward
+known_key same now after k v I s (onward, (i, p, at, equal, is)) =
+    let q = I.kept i p at in
     (q.0.1, (i, q.0, q.1, ap (same s) q.2 ∙ equal, refl))
 
-known_more : {S : Type 0} (same : S → S → Bool) → ((x : S) → same x x ≡ true) → (all left rest : List (Landmark S)) (last : Landmark S) (now : List (S × Onward)) (v : Onward) → slice_get all (length rest) ≡ Some last → length left ≡ length rest + 1 → ((i : ℕ) (l : Landmark S) → length left ≤ i → slice_get all i ≡ Some l → (onward : Onward) × IsKnownAs same now l.state onward) → (i : ℕ) (l : Landmark S) → length rest ≤ i → slice_get all i ≡ Some l → (onward : Onward) × IsKnownAs same (insert_entry same now last.state v) l.state onward
-known_more {S} same itself all left rest last now v there less known i l past at = elim (cases_lt (length rest) i) [
-  | inl later ↦ known_key same now last.state v l.state (known i l (omega (arith, later, less)) at)
+known_more : {S : Type 0} (same : S → S → Bool) (all left rest : List (Landmark S)) (last : Landmark S) (now after : List (S × Onward)) (v : Onward) → Inserted same now last.state v after → slice_get all (length rest) ≡ Some last → length left ≡ length rest + 1 → ((i : ℕ) (l : Landmark S) → length left ≤ i → slice_get all i ≡ Some l → (onward : Onward) × IsKnownAs same now l.state onward) → (i : ℕ) (l : Landmark S) → length rest ≤ i → slice_get all i ≡ Some l → (onward : Onward) × IsKnownAs same after l.state onward
+known_more {S} same all left rest last now after v I there less known i l past at = elim (cases_lt (length rest) i) [
+  | inl later ↦ known_key same now after last.state v I l.state (known i l (omega (arith, later, less)) at)
   | inr ge ↦ (
       let here : i ≡ length rest = omega (arith, ge, past) in
       let P : ℕ → Type 0 = λ j. slice_get all j ≡ Some l in
       let one : last ≡ l = same_Some last l (sym there ∙ subst P here at) in
-      let Q : Landmark S → Type 0 = λ x. (onward : Onward) × IsKnownAs same (insert_entry same now last.state v) x.state onward in
-      let new = inserted_there same itself now last.state v in
-      subst Q one (new.1.1, (new.0, new.1, new.2, new.3, refl)))
+      let Q : Landmark S → Type 0 = λ x. (onward : Onward) × IsKnownAs same after x.state onward in
+      subst Q one (v, (I.place, (I.key, v), I.at, I.same, refl)))
 ]
 
 -- the last landmark was taken, and is remembered
@@ -152,16 +106,17 @@ remembers_more {S} same itself most old all left rest last end station now new h
     let onward : Onward = record { steps = end - last.taken; station = station } in
     let there : slice_get all (length rest) ≡ Some last = last_among all left rest last h.among items in
     let less : length left ≡ length rest + 1 = one_less left rest last items in
+    let I : Inserted same now last.state onward (insert_entry same now last.state onward) = inserted same itself now last.state onward in
     let P : List (S × Onward) → Type 0 = λ xs. Remembers same most old all rest end station xs in
     subst P (sym more) (record {
       among = among_left all left rest last h.among items;
-      remembered = λ i p at. elim (inserted_pair same itself now last.state onward i p at) [
+      remembered = λ i p at. elim (I.from i p at) [
         | inl new ↦ inr (record { place = length rest; landmark = last; at = there; equal = new.0; onward = new.1 })
         | inr was ↦ h.remembered was.0 p was.1
       ];
-      count = omega (arith, h.count, less, inserted_count same now last.state onward);
-      within = λ room. omega (arith, space, inserted_count same now last.state onward);
-      known = λ room. known_more same itself all left rest last now onward there less (h.known room);
+      count = omega (arith, h.count, less, I.count);
+      within = λ room. omega (arith, space, I.count);
+      known = λ room. known_more same all left rest last now (insert_entry same now last.state onward) onward I there less (h.known room);
     })
 
 -- what a state is known as is so
@@ -206,7 +161,7 @@ lead_more {S} r law same agree entries old new landmarks end station lead marks 
 ]
 
 -- where the way comes to a station that the book has met
-pub marks_lead_there : {S : Type 0} (r : Rules S) → IsLawful r → (same : S → S → Bool) → ((s t : S) → r.same s t ≡ same s t) → (b : Book S) (next : Entry S) (place end : ℕ) (landmarks : List (Landmark S)) → AllCome r landmarks next.state end → IsFoundAt same b next place → MarksLead r b.entries landmarks end (Some place)
+pub marks_lead_there : {S : Type 0} (r : Rules S) → IsLawful r → (same : S → S → Bool) → ((s t : S) → r.same s t ≡ same s t) → (b : Book S) (next : Entry S) (place end : ℕ) (landmarks : List (Landmark S)) → AllCome r landmarks next.state end → IsFoundAt same b.entries next place → MarksLead r b.entries landmarks end (Some place)
 marks_lead_there r law same agree b next place end landmarks come found i l at =
     let way = come i l at in (
       found.entry,
@@ -219,17 +174,17 @@ marks_lead_there r law same agree b next place end landmarks come found i l at =
       },
     )
 
-pub marks_lead_past : {S : Type 0} (r : Rules S) (entries : List (Entry S)) (limit : ℕ) (landmarks : List (Landmark S)) → AllGoPast r landmarks limit → MarksLead r entries landmarks (limit + 1) None
-marks_lead_past r entries limit landmarks past i l at = λ j lt. (past i l at).1 j (omega (arith, lt))
+pub marks_lead_past : {S : Type 0} (r : Rules S) (entries : List (Entry S)) (limits : Limits) (landmarks : List (Landmark S)) → AllGoPast r landmarks limits → MarksLead r entries landmarks (limits.steps + 1) None
+marks_lead_past r entries limits landmarks past i l at = λ j lt. (past i l at).1 j (omega (arith, lt))
 
 pub come_before : {S : Type 0} (r : Rules S) (landmarks : List (Landmark S)) (t : S) (end : ℕ) → AllCome r landmarks t end → (i : ℕ) (l : Landmark S) → slice_get landmarks i ≡ Some l → l.taken ≤ end
 come_before r landmarks t end come i l at = omega (arith, (come i l at).count)
 
 -- a book with an entry more has room for what there was room for
-pub room_later : {S : Type 0} (old : Book S) (e : Entry S) (new : Book S) (count : ℕ) → IsSameOrAdded old e new → count ≤ length old.entries + 4096 → count ≤ length new.entries + 4096
-room_later {S} old e new count (inl same) room =
-    let P : Book S → Type 0 = λ b. count ≤ length b.entries + 4096 in
-    subst P (sym same) room
-room_later {S} old e new count (inr added) room =
-    let P : Book S → Type 0 = λ b. count ≤ length b.entries + 4096 in
-    subst P (sym added) (omega (arith, room, length-append old.entries (e ∷ [])))
+pub room_later : {S : Type 0} (old : Book S) (e : Entry S) (new : Book S) (room count : ℕ) → IsSameOrAdded old e new → count ≤ length old.entries + room → count ≤ length new.entries + room
+room_later {S} old e new room count (inl same) few =
+    let P : Book S → Type 0 = λ b. count ≤ length b.entries + room in
+    subst P (sym same) few
+room_later {S} old e new room count (inr added) few =
+    let P : Book S → Type 0 = λ b. count ≤ length b.entries + room in
+    subst P (sym added) (omega (arith, few, length-append old.entries (e ∷ [])))

@@ -1,19 +1,28 @@
--- What an explorer lists: marks, each with the log of a run that reaches it.
+-- What an explorer lists: marks, each with the log of a run that reaches it. And when that is all of them.
 use Rattle.std.specs.Prelude.{◌≡◌, ℕ, ◌<◌, ◌≤◌, true, List, length, slice_get, Some}
 use Rattle.sched_core.specs.Rules.{Rules, stands, IsRun, NamesBelow}
+use Rattle.statebook.specs.Covered.{IsCovered}
 use Rattle.statebook.specs.ExplorerCore.{IsEntry}
 use Rattle.statebook.specs.declared.entry.Entry.{Entry}
+use Rattle.statebook.specs.declared.limits.Limits.{Limits}
+use Rattle.explore.specs.declared.findings.Findings.{Findings}
+use Rattle.explore.specs.declared.findings.Reason.TheVariants.{Entries, Steps}
+use Rattle.explore.specs.declared.findings.Status.TheVariants.{Exhausted, Cut}
 
--- The pair is a mark with its log: the run under the log takes at most so many steps, all that the
--- log names among them, with at most k departures, and stands at the mark.
-pub record IsFound {S : Type 0} (r : Rules S) (k limit : ℕ) (found : S × List (ℕ × ℕ)) : Type 0 where
+-- The pair is a mark with its log: the run under the log is within the limits, takes all that the log
+-- names, and stands at the mark.
+pub record IsFound {S : Type 0} (r : Rules S) (limits : Limits) (found : S × List (ℕ × ℕ)) : Type 0 where
   pub steps : ℕ
   pub run : IsRun r found.1 steps
   pub at : r.same found.0 (stands r found.1 steps) ≡ true
   pub mark : r.mark found.0 ≡ true
   pub names : NamesBelow found.1 steps
-  pub within : steps ≤ limit
-  pub short : length found.1 ≤ k
+  pub within : steps ≤ limits.steps
+  pub short : length found.1 ≤ limits.depart
+
+-- Each of the pairs is a mark with its log.
+abbrev pub AreFound : {S : Type 0} → Rules S → Limits → List (S × List (ℕ × ℕ)) → Type 0
+AreFound {S} r limits marks = (i : ℕ) (found : S × List (ℕ × ℕ)) → slice_get marks i ≡ Some found → IsFound r limits found
 
 -- A state equal to s is listed, under a log of at most d departures.
 pub record IsListedMark {S : Type 0} (r : Rules S) (marks : List (S × List (ℕ × ℕ))) (s : S) (d : ℕ) : Type 0 where
@@ -27,29 +36,37 @@ pub record IsListedMark {S : Type 0} (r : Rules S) (marks : List (S × List (ℕ
 abbrev pub AllFewest : {S : Type 0} → Rules S → List (S × List (ℕ × ℕ)) → Type 0
 AllFewest {S} r marks = (i : ℕ) (found : S × List (ℕ × ℕ)) → slice_get marks i ≡ Some found → (log : List (ℕ × ℕ)) (n : ℕ) → IsRun r log n → r.same found.0 (stands r log n) ≡ true → length found.1 ≤ length log
 
--- Some run of at most k departures takes more than so many steps.
-pub record SomeRunExceeds {S : Type 0} (r : Rules S) (k limit : ℕ) : Type 0 where
+-- Some run within the limit of departures takes more steps than the limit.
+pub record SomeRunExceeds {S : Type 0} (r : Rules S) (limits : Limits) : Type 0 where
   pub log : List (ℕ × ℕ)
   pub steps : ℕ
-  pub short : length log ≤ k
+  pub short : length log ≤ limits.depart
   pub run : IsRun r log steps
-  pub more : limit < steps
+  pub more : limits.steps < steps
 
--- At least so many entries exist that may be added, no two of them alike in state and budget.
-pub record HasEntries {S : Type 0} (r : Rules S) (k limit least : ℕ) : Type 0 where
+-- At least as many entries as the limit exist that may be added, no two of them alike in state and budget.
+pub record HasEntries {S : Type 0} (r : Rules S) (limits : Limits) : Type 0 where
   pub entries : List (Entry S)
-  pub count : least ≤ length entries
-  pub allowed : (i : ℕ) (e : Entry S) → slice_get entries i ≡ Some e → IsEntry r k limit e
+  pub count : limits.entries ≤ length entries
+  pub allowed : (i : ℕ) (e : Entry S) → slice_get entries i ≡ Some e → IsEntry r limits.depart limits.steps e
   pub differ : (i j : ℕ) (e f : Entry S) → i < j → slice_get entries i ≡ Some e → slice_get entries j ≡ Some f → r.same e.state f.state ≡ true → e.budget ≡ f.budget → ⊥
 
--- Each of the pairs is a mark with its log.
-abbrev pub AreFound : {S : Type 0} → Rules S → ℕ → ℕ → List (S × List (ℕ × ℕ)) → Type 0
-AreFound {S} r k limit marks = (i : ℕ) (found : S × List (ℕ × ℕ)) → slice_get marks i ≡ Some found → IsFound r k limit found
+-- each listed mark is one, under its log
+abbrev pub ListsFound : {S : Type 0} → Rules S → Limits → Findings S → Type 0
+ListsFound r limits findings = AreFound r limits findings.marks.entries
 
--- Each entry that stands at a mark is listed, under a log with no more departures.
-abbrev pub ListsMarks : {S : Type 0} → Rules S → List (Entry S) → List (S × List (ℕ × ℕ)) → Type 0
-ListsMarks {S} r entries marks = (i : ℕ) (e : Entry S) → slice_get entries i ≡ Some e → r.mark e.state ≡ true → IsListedMark r marks e.state (length e.log)
+-- `Exhausted` is said only where every mark of every run within the limit of departures is listed
+abbrev pub ListsAll : {S : Type 0} → Rules S → Limits → Findings S → Type 0
+ListsAll r limits findings = findings.status ≡ Exhausted → IsCovered r limits.depart (IsListedMark r findings.marks.entries)
 
--- No entry that stands at a listed mark has fewer departures.
-abbrev pub HasNoShorter : {S : Type 0} → Rules S → List (Entry S) → List (S × List (ℕ × ℕ)) → Type 0
-HasNoShorter {S} r entries marks = (j : ℕ) (found : S × List (ℕ × ℕ)) → slice_get marks j ≡ Some found → (i : ℕ) (e : Entry S) → slice_get entries i ≡ Some e → r.same found.0 e.state ≡ true → length found.1 ≤ length e.log
+-- and then each under a log of the fewest departures
+abbrev pub ListsFewest : {S : Type 0} → Rules S → Findings S → Type 0
+ListsFewest r findings = findings.status ≡ Exhausted → AllFewest r findings.marks.entries
+
+-- `Cut(Entries)` is said only where there are so many entries
+abbrev pub TellsEntries : {S : Type 0} → Rules S → Limits → Findings S → Type 0
+TellsEntries r limits findings = findings.status ≡ Cut Entries → HasEntries r limits
+
+-- `Cut(Steps)` is said only where a run takes more steps
+abbrev pub TellsSteps : {S : Type 0} → Rules S → Limits → Findings S → Type 0
+TellsSteps r limits findings = findings.status ≡ Cut Steps → SomeRunExceeds r limits

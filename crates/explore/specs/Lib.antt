@@ -1,3 +1,3 @@
 pub mod Found
-pub mod Exploring
-pub mod Ways
+pub mod Told
+pub mod Inner

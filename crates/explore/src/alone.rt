@@ -1,16 +1,16 @@
 // The call of one owner: it opens the book, goes through it, and reads the marks from it.
 
-ghost use Rattle.std.specs.Prelude.{◌≡◌, true, false, length, Err, IfOk, OnOk};
+ghost use Rattle.std.specs.Prelude.{◌≡◌, true, false, length, [], ◌∷◌, Ok, None, IfOk};
 ghost use Rattle.indexmap.specs.IndexMap.{IsUnique};
-ghost use Rattle.statebook.specs.Covered.{IsCovered};
-ghost use Rattle.explore.specs.Exploring.{AllFinished, Closes, IsComplete, IsUnderWay};
-ghost use Rattle.explore.specs.Found.{AllFewest, AreFound, HasEntries, IsListedMark, SomeRunExceeds};
+ghost use Rattle.explore.specs.Found.{ListsAll, ListsFewest, ListsFound, TellsEntries, TellsSteps};
+ghost use Rattle.explore.specs.Told.{TellsOfBook};
+ghost use Rattle.explore.specs.Inner.Exploring.{Closes, IsComplete, IsUnderWay, StoppedFull};
 
-use crate::classes::visit_all;
+use crate::classes::{Full, visit_all};
 use crate::findings::{Findings, Reason, Status};
 use crate::marks::list_marks;
 use crate::search::Search;
-use basis::NoMemory;
+use basis::{NoMemory, OrMemory};
 use indexmap::IndexMap;
 use sched_core::{Log, Space};
 use statebook::{Entry, Limits, PlainBook};
@@ -35,8 +35,9 @@ fn open_book<P: Space>(
     space: &P,
     limits: &Limits,
 ) -> Result<PlainBook<P::State>, NoMemory>
-    ensures under_way { IfOk result (IsUnderWay (P.rules space.now) limits.now.depart limits.now.steps) }
-    ensures few { IfOk result (λ book. length book.entries ≡ 1) }
+    ensures under_way { IfOk result (IsUnderWay (P.rules space.now) limits.now) }
+    ensures alone { IfOk result (λ book. length book.entries ≡ 1) }
+    ensures unfinished { IfOk result (λ book. book.finished ≡ None ∷ []) }
 {
     let root = Entry {
         state: space.root()?,
@@ -53,26 +54,26 @@ fn open_book<P: Space>(
 
 // What is to be said of a book that was gone through: exhausted where a closing scan of all its
 // entries answers true.
-fn status_of<P: Space>(
+fn status_of<S: Eq + Hash + Drop>(
     alloc: Global,
-    space: &P,
-    limits: &Limits,
-    book: &PlainBook<P::State>,
-    visited: Result<(), Reason>,
+    book: &PlainBook<S>,
+    visited: Result<bool, OrMemory<Full>>,
 ) -> Status
-    requires under_way { IsUnderWay (P.rules space.now) limits.now.depart limits.now.steps book.now }
-    requires finished { OnOk visited (AllFinished book.now) }
-    ensures exhausted { result ≡ Status.Exhausted → Closes book.now }
-    ensures entries { result ≡ Status.Cut Reason.Entries → visited ≡ Err Reason.Entries }
-    ensures steps { result ≡ Status.Cut Reason.Steps → visited ≡ Err Reason.Steps }
+    requires { visited ≡ Ok true → IsComplete book.now }
+    ensures closed { result ≡ Status.Exhausted → Closes book.now }
+    ensures exhausted { result ≡ Status.Exhausted → visited ≡ Ok true }
+    ensures entries { result ≡ Status.Cut Reason.Entries → StoppedFull visited }
+    ensures steps { result ≡ Status.Cut Reason.Steps → visited ≡ Ok false }
 {
     match visited {
-        Err(reason) => Status::Cut(reason),
-        Ok(()) => match closes(alloc, book) {
+        Ok(true) => match closes(alloc, book) {
             Ok(true) => Status::Exhausted,
             Ok(false) => unreachable!(),
             Err(refused) => Status::Cut(Reason::Memory(refused)),
         },
+        Ok(false) => Status::Cut(Reason::Steps),
+        Err(OrMemory::Fault(_)) => Status::Cut(Reason::Entries),
+        Err(OrMemory::Memory(refused)) => Status::Cut(Reason::Memory(refused)),
     }
 }
 
@@ -83,14 +84,14 @@ fn status_of<P: Space>(
 /// Proved: each listed mark is reached under its log, by a run within both limits. Where it says
 /// `Exhausted`, every mark that a run of at most `limits.depart` departures reaches is listed, after
 /// however many steps, and no run at all that reaches a listed mark has fewer departures than its log.
-/// Where it says `Cut(Entries)`, there are at least `limits.entries` entries; where `Cut(Steps)`, some
-/// run of at most `limits.depart` departures takes more than `limits.steps` steps.
+/// Where it says `Cut(Entries)`, there are at least `limits.entries` entries and a job was left; where
+/// `Cut(Steps)`, some run of at most `limits.depart` departures takes more than `limits.steps` steps.
+/// Whatever it says, the marks are those of one book that allowed events lead to, each with the log of
+/// the entry of the greatest budget; after `Cut(Steps)` each choice of each entry of that book leads to
+/// an entry of it or goes past the limit of steps, and there are fewer entries than their limit.
 ///
-/// Beside the entries it keeps states on forced ways, one in 256 steps and at most 4,096 more than there
-/// are entries. A way that comes to one of them at a count of steps that 256 divides isn't walked on.
-///
-/// Only tested: that a growth was refused where it says `Cut(Memory)`, what the list of a search
-/// that was cut holds beyond being true, and which of several reasons is told.
+/// Beside the entries it keeps states on forced ways, one in `SPACING` steps and at most `ROOM` more
+/// than there are entries. A way that comes to one of them at such a count of steps isn't walked on.
 ///
 /// The error is want of memory for the root or for the list, E901.
 pub fn explore_alone<P: Space>(
@@ -98,12 +99,13 @@ pub fn explore_alone<P: Space>(
     space: &P,
     limits: &Limits,
 ) -> Result<Findings<P::State>, NoMemory>
-    ensures found { IfOk result (λ findings. AreFound (P.rules space.now) limits.now.depart limits.now.steps findings.marks.entries) }
+    ensures found { IfOk result (ListsFound (P.rules space.now) limits.now) }
     ensures distinct { IfOk result (λ findings. IsUnique P.State.eq findings.marks) }
-    ensures exhausted { IfOk result (λ findings. findings.status ≡ Status.Exhausted → IsCovered (P.rules space.now) limits.now.depart (IsListedMark (P.rules space.now) findings.marks.entries)) }
-    ensures fewest { IfOk result (λ findings. findings.status ≡ Status.Exhausted → AllFewest (P.rules space.now) findings.marks.entries) }
-    ensures entries { IfOk result (λ findings. findings.status ≡ Status.Cut Reason.Entries → HasEntries (P.rules space.now) limits.now.depart limits.now.steps limits.now.entries) }
-    ensures steps { IfOk result (λ findings. findings.status ≡ Status.Cut Reason.Steps → SomeRunExceeds (P.rules space.now) limits.now.depart limits.now.steps) }
+    ensures exhausted { IfOk result (ListsAll (P.rules space.now) limits.now) }
+    ensures fewest { IfOk result (ListsFewest (P.rules space.now)) }
+    ensures entries { IfOk result (TellsEntries (P.rules space.now) limits.now) }
+    ensures steps { IfOk result (TellsSteps (P.rules space.now) limits.now) }
+    ensures book { IfOk result (TellsOfBook (P.rules space.now) limits.now) }
 {
     let mut search = Search {
         book: open_book(alloc, space, limits)?,
@@ -112,7 +114,7 @@ pub fn explore_alone<P: Space>(
     let visited = visit_all(alloc, space, limits, &mut search);
     let Search { book, ways } = search;
     drop(ways);
-    let status = status_of(alloc, space, limits, &book, visited);
+    let status = status_of(alloc, &book, visited);
     let marks = list_marks(alloc, space, limits, &book)?;
     Ok(Findings { marks, status })
 }

@@ -9,8 +9,9 @@ use std::hash::Hash;
 /// before a job was taken; or a run takes more steps than the limit. The first of these in this
 /// order is told.
 ///
-/// That it is true is proved of `Entries` and `Steps`. That memory was short is only tested, and
-/// so is the order.
+/// That it is true is proved: nobody has a `NoMemory` who wasn't refused a growth, and the other two
+/// are said only where they hold. So is the order of these two: where `Steps` is told no job was left
+/// and there were fewer entries than the limit.
 #[derive(Clone, Copy, Debug, PartialEq, Eq)]
 pub enum Reason {
     Memory(NoMemory),
@@ -29,7 +30,8 @@ pub enum Status {
 ///
 /// It is proved of each that it is reached under its log and, where the status is `Exhausted`, that
 /// no run reaches it with fewer departures and that no mark of a run within the limit of departures
-/// is missing. Which marks a search that was cut has met is only tested.
+/// is missing. Whatever the status, they are all the marks of one book that the explorer's events
+/// lead to, and after `Cut(Steps)` of one from which every way was gone that is within the limit.
 #[derive(Drop)]
 pub struct Findings<S: Eq + Hash> {
     pub marks: IndexMap<S, Log>,

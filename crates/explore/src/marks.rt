@@ -2,8 +2,9 @@
 
 ghost use Rattle.std.specs.Prelude.{◌≡◌, IfOk, OnOk};
 ghost use Rattle.indexmap.specs.IndexMap.{IsUnique, insert_entry};
-ghost use Rattle.explore.specs.Exploring.{IsUnderWay};
-ghost use Rattle.explore.specs.Found.{AreFound, HasNoShorter, ListsMarks};
+ghost use Rattle.explore.specs.Found.{AreFound};
+ghost use Rattle.explore.specs.Told.{ListsExactly};
+ghost use Rattle.explore.specs.Inner.Exploring.{IsUnderWay};
 
 use basis::NoMemory;
 use indexmap::IndexMap;
@@ -18,7 +19,7 @@ fn note<S: Eq + Hash + Drop>(
     state: S,
     log: Log,
 ) -> Result<(), NoMemory>
-    ensures noted { OnOk result (marks.new.entries ≡ insert_entry S.eq marks.old.entries state log) }
+    ensures put { OnOk result (marks.new.entries ≡ insert_entry S.eq marks.old.entries state log) }
     ensures distinct { IsUnique S.eq marks.new }
 {
     marks.insert(state, log)?;
@@ -33,10 +34,9 @@ pub fn list_marks<P: Space>(
     limits: &Limits,
     book: &PlainBook<P::State>,
 ) -> Result<IndexMap<P::State, Log>, NoMemory>
-    requires { IsUnderWay (P.rules space.now) limits.now.depart limits.now.steps book.now }
-    ensures found { IfOk result (λ marks. AreFound (P.rules space.now) limits.now.depart limits.now.steps marks.entries) }
-    ensures listed { IfOk result (λ marks. ListsMarks (P.rules space.now) book.now.entries marks.entries) }
-    ensures shortest { IfOk result (λ marks. HasNoShorter (P.rules space.now) book.now.entries marks.entries) }
+    requires { IsUnderWay (P.rules space.now) limits.now book.now }
+    ensures found { IfOk result (λ marks. AreFound (P.rules space.now) limits.now marks.entries) }
+    ensures read { IfOk result (λ marks. ListsExactly (P.rules space.now) book.now marks.entries) }
     ensures distinct { IfOk result (λ marks. IsUnique P.State.eq marks) }
 {
     let mut marks = IndexMap::new(alloc);

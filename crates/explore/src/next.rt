@@ -2,10 +2,10 @@
 
 ghost use Rattle.std.specs.Prelude.{◌≡◌, ◌<◌, ◌≤◌, [], IfOk, IfSome, IfNone};
 ghost use Rattle.sched_core.specs.Rules.{NamesBelow};
-ghost use Rattle.statebook.specs.ExplorerCore.{IsEntry, budget_after, choices_of};
-ghost use Rattle.explore.specs.Exploring.{Follows, log_of};
-ghost use Rattle.explore.specs.Found.{SomeRunExceeds};
-ghost use Rattle.explore.specs.Ways.{AllCome, AllGoPast, IsSearching};
+ghost use Rattle.statebook.specs.ExplorerCore.{budget_after};
+ghost use Rattle.explore.specs.Told.{Allows, ChoiceGoesPast};
+ghost use Rattle.explore.specs.Inner.Exploring.{Follows, MayBeAdded, log_of};
+ghost use Rattle.explore.specs.Inner.Ways.{AllComeTo, AllGoPast, IfPast, IfReached, IsSearching};
 
 use crate::search::{Landmark, Search};
 use crate::way::to_station;
@@ -48,15 +48,15 @@ pub fn next_entry<P: Space>(
     choice: u32,
     landmarks: &mut Vec<Landmark<P::State>>,
 ) -> Result<Option<Entry<P::State>>, NoMemory>
-    requires searching { IsSearching (P.rules space.now) limits.now.depart limits.now.steps search.now }
-    requires entry { IsEntry (P.rules space.now) limits.now.depart limits.now.steps entry.now }
-    requires choice { choice < choices_of ((P.rules space.now).width entry.now.state) entry.now.budget }
+    requires searching { IsSearching (P.rules space.now) limits.now search.now }
+    requires entry { MayBeAdded (P.rules space.now) limits.now entry.now }
+    requires choice { Allows (P.rules space.now) entry.now choice }
     requires none_yet { landmarks.old.items ≡ [] }
-    ensures follows { IfOk result (λ next. IfSome next (Follows (P.rules space.now) entry.now choice)) }
-    ensures allowed { IfOk result (λ next. IfSome next (IsEntry (P.rules space.now) limits.now.depart limits.now.steps)) }
-    ensures past { IfOk result (λ next. IfNone next (SomeRunExceeds (P.rules space.now) limits.now.depart limits.now.steps)) }
-    ensures come { IfOk result (λ next. IfSome next (λ e. AllCome (P.rules space.now) landmarks.new.items e.state e.steps)) }
-    ensures go_past { IfOk result (λ next. IfNone next (AllGoPast (P.rules space.now) landmarks.new.items limits.now.steps)) }
+    ensures follows { IfReached result (Follows (P.rules space.now) entry.now choice) }
+    ensures allowed { IfReached result (MayBeAdded (P.rules space.now) limits.now) }
+    ensures past { IfPast result (ChoiceGoesPast (P.rules space.now) limits.now entry.now choice) }
+    ensures come { IfReached result (AllComeTo (P.rules space.now) landmarks.new.items) }
+    ensures go_past { IfPast result (AllGoPast (P.rules space.now) landmarks.new.items limits.now) }
 {
     if entry.steps == limits.steps {
         return Ok(None);

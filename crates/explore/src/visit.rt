@@ -1,11 +1,10 @@
 // One job: all choices of one entry.
 
 ghost use Rattle.std.specs.Prelude.{◌≡◌, ℕ, ◌+◌, ◌<◌, ◌≤◌, true, false, length, slice_get, Some, IfOk, IfSome, IfNone, OnOk, OnErr};
-ghost use Rattle.statebook.specs.ExplorerCore.{IsMet, choices_of};
-ghost use Rattle.explore.specs.Exploring.{Grows, IsFinished, IsFoundAt, IsSameOrAdded, width_limit};
-ghost use Rattle.explore.specs.Found.{SomeRunExceeds};
-ghost use Rattle.explore.specs.Ways.{IsSearching};
-ghost use Rattle.statebook.specs.declared.entry.Entry.{Entry};
+ghost use Rattle.statebook.specs.ExplorerCore.{choices_of};
+ghost use Rattle.statebook.specs.Books.{IsFinished, IsFoundAt};
+ghost use Rattle.explore.specs.Inner.Exploring.{AddsFew, AllowsAt, CutsShort, FinishesNone, FinishesOnly, GrowsFrom, IsMetAt, IsSameOrAdded, LeadsOnAt, width_limit};
+ghost use Rattle.explore.specs.Inner.Ways.{IfPast, IfReached, IsSearching, PastFrom};
 
 use crate::next::next_entry;
 use crate::search::Search;
@@ -33,7 +32,7 @@ fn met_place<S: Eq + Hash + Drop>(
     book: &mut PlainBook<S>,
     entry: Entry<S>,
 ) -> Result<usize, NoMemory>
-    ensures found { IfOk result (λ j. IsFoundAt S.eq book.new entry j) }
+    ensures found { IfOk result (IsFoundAt S.eq book.new.entries entry) }
     ensures ok { OnOk result (IsSameOrAdded book.old entry book.new) }
     ensures err { OnErr result (book.new ≡ book.old) }
 {
@@ -54,13 +53,14 @@ fn meet_choice<P: Space>(
     place: usize,
     choice: u32,
 ) -> Result<Option<usize>, NoMemory>
-    requires searching { IsSearching (P.rules space.now) limits.now.depart limits.now.steps search.old }
+    requires searching { IsSearching (P.rules space.now) limits.now search.old }
     requires place { place < length search.old.book.entries }
-    requires choice { (e : Entry P.State) → slice_get search.old.book.entries place ≡ Some e → choice < choices_of ((P.rules space.now).width e.state) e.budget }
-    ensures met { IfOk result (λ met. IfSome met (λ j. (e : Entry P.State) → slice_get search.old.book.entries place ≡ Some e → IsMet (P.rules space.now) search.new.book.entries e choice j)) }
-    ensures past { IfOk result (λ met. IfNone met (SomeRunExceeds (P.rules space.now) limits.now.depart limits.now.steps)) }
-    ensures searching { IsSearching (P.rules space.now) limits.now.depart limits.now.steps search.new }
-    ensures grows { (e : Entry P.State) → slice_get search.old.book.entries place ≡ Some e → Grows search.old.book search.new.book e.budget }
+    requires choice { AllowsAt (P.rules space.now) search.old.book place choice }
+    ensures met { IfReached result (IsMetAt (P.rules space.now) search.new.book place choice) }
+    ensures past { IfPast result (PastFrom (P.rules space.now) limits.now search.new place choice) }
+    ensures searching { IsSearching (P.rules space.now) limits.now search.new }
+    ensures grows { GrowsFrom search.old.book search.new.book place }
+    ensures none { FinishesNone search.old.book search.new.book }
     ensures few { length search.new.book.entries ≤ length search.old.book.entries + 1 }
 {
     let mut landmarks = Vec::new(alloc);
@@ -90,13 +90,16 @@ pub fn visit<P: Space>(
     search: &mut Search<P::State>,
     place: usize,
 ) -> Result<bool, NoMemory>
-    requires searching { IsSearching (P.rules space.now) limits.now.depart limits.now.steps search.old }
+    requires searching { IsSearching (P.rules space.now) limits.now search.old }
     requires place { place < length search.old.book.entries }
     ensures finished { IfOk result (λ within. within ≡ true → IsFinished search.new.book place) }
-    ensures past { IfOk result (λ within. within ≡ false → SomeRunExceeds (P.rules space.now) limits.now.depart limits.now.steps) }
-    ensures searching { IsSearching (P.rules space.now) limits.now.depart limits.now.steps search.new }
-    ensures grows { (e : Entry P.State) → slice_get search.old.book.entries place ≡ Some e → Grows search.old.book search.new.book e.budget }
-    ensures few { length search.new.book.entries < length search.old.book.entries + width_limit }
+    ensures leads { OnOk result (LeadsOnAt (P.rules space.now) limits.now search.new.book place) }
+    ensures past { IfOk result (CutsShort (P.rules space.now) limits.now) }
+    ensures searching { IsSearching (P.rules space.now) limits.now search.new }
+    ensures grows { GrowsFrom search.old.book search.new.book place }
+    ensures only { FinishesOnly search.old.book place search.new.book }
+    ensures few { AddsFew (P.rules space.now) search.old.book place search.new.book }
+    ensures narrow { length search.new.book.entries < length search.old.book.entries + width_limit }
 {
     let count = choice_count(space, search.book.read(place));
     let mut next = Vec::new(alloc);

@@ -1,9 +1,10 @@
 // Forced ways, walked to the next station.
 
 ghost use Rattle.std.specs.Prelude.{◌≡◌, ◌<◌, ◌≤◌, ◌↔◌, ◌+◌, ◌-◌, [], true, IfOk, IfSome, IfNone, IsTrue, OnErr};
-ghost use Rattle.statebook.specs.Stations.{forced, is_station};
-ghost use Rattle.explore.specs.Exploring.{ComesTo, GoesPast};
-ghost use Rattle.explore.specs.Ways.{AllCome, AllGoPast, IsAhead, IsSearching};
+ghost use Rattle.statebook.specs.Stations.{is_station};
+ghost use Rattle.explore.specs.Told.{GoesPast};
+ghost use Rattle.explore.specs.Inner.Exploring.{ComesTo};
+ghost use Rattle.explore.specs.Inner.Ways.{AllCome, AllGoPast, IfPast, IfReached, IsAhead, IsForced, IsSearching};
 
 use crate::search::{Landmark, Search};
 use crate::ways::known;
@@ -34,10 +35,10 @@ fn walk<P: Space>(
 ) -> Result<Option<u32>, NoMemory>
     requires root { (P.rules space.now).same root.now (P.rules space.now).first ≡ true }
     requires within { taken ≤ limit }
-    ensures there { IfOk result (λ reached. IfSome reached (λ n. ComesTo (P.rules space.now) state.old taken state.new n)) }
-    ensures limit { IfOk result (λ reached. IfSome reached (λ n. n ≤ limit)) }
-    ensures past { IfOk result (λ reached. IfNone reached (GoesPast (P.rules space.now) state.old taken limit)) }
-    ensures on { IfOk result (λ reached. IfNone reached ((P.rules space.now).same state.new (forced (P.rules space.now) state.old (limit - taken)) ≡ true)) }
+    ensures there { IfReached result (ComesTo (P.rules space.now) state.old taken state.new) }
+    ensures limit { IfReached result (λ n. n ≤ limit) }
+    ensures past { IfPast result (GoesPast (P.rules space.now) state.old taken limit) }
+    ensures on { IfPast result (IsForced (P.rules space.now) state.old (limit - taken) state.new) }
 {
     let mut n = taken;
     loop {
@@ -68,9 +69,9 @@ fn look_ahead<P: Space>(
     state: &mut P::State,
     n: u32,
 ) -> Result<Ahead, NoMemory>
-    requires searching { IsSearching (P.rules space.now) limits.now.depart limits.now.steps search.now }
+    requires searching { IsSearching (P.rules space.now) limits.now search.now }
     requires within { n ≤ limits.now.steps }
-    ensures ahead { IfOk result (λ ahead. IsAhead (P.rules space.now) state.old n limits.now.steps ahead state.new) }
+    ensures ahead { IfOk result (IsAhead (P.rules space.now) state.old n limits.now state.new) }
 {
     let Some(onward) = known(&search.ways, state) else {
         return Ok(Ahead::Unknown);
@@ -101,14 +102,14 @@ pub fn to_station<P: Space>(
     taken: u32,
     landmarks: &mut Vec<Landmark<P::State>>,
 ) -> Result<Option<u32>, NoMemory>
-    requires searching { IsSearching (P.rules space.now) limits.now.depart limits.now.steps search.now }
+    requires searching { IsSearching (P.rules space.now) limits.now search.now }
     requires within { taken ≤ limits.now.steps }
     requires none_yet { landmarks.old.items ≡ [] }
-    ensures there { IfOk result (λ reached. IfSome reached (λ n. ComesTo (P.rules space.now) state.old taken state.new n)) }
-    ensures limit { IfOk result (λ reached. IfSome reached (λ n. n ≤ limits.now.steps)) }
-    ensures past { IfOk result (λ reached. IfNone reached (GoesPast (P.rules space.now) state.old taken limits.now.steps)) }
-    ensures come { IfOk result (λ reached. IfSome reached (λ n. AllCome (P.rules space.now) landmarks.new.items state.new n)) }
-    ensures go_past { IfOk result (λ reached. IfNone reached (AllGoPast (P.rules space.now) landmarks.new.items limits.now.steps)) }
+    ensures there { IfReached result (ComesTo (P.rules space.now) state.old taken state.new) }
+    ensures limit { IfReached result (λ n. n ≤ limits.now.steps) }
+    ensures past { IfPast result (GoesPast (P.rules space.now) state.old taken limits.now.steps) }
+    ensures come { IfReached result (AllCome (P.rules space.now) landmarks.new.items state.new) }
+    ensures go_past { IfPast result (AllGoPast (P.rules space.now) landmarks.new.items limits.now) }
 {
     let root = &search.book.read(0).state;
     let mut n = taken;

@@ -1,8 +1,7 @@
 // What is remembered of forced ways.
 
-ghost use Rattle.std.specs.Prelude.{◌≡◌, ◌+◌, ◌≤◌, ℕ, length, slice_get, Some, IfSome, IfNone, OnOk};
-ghost use Rattle.explore.specs.Ways.{AreKnown, AreRemembered, HasRoomFor, IsKnownAs, IsUnknown};
-ghost use Rattle.explore.specs.declared.search.Landmark.{Landmark};
+ghost use Rattle.std.specs.Prelude.{◌≡◌, IfSome, IfNone, OnOk};
+ghost use Rattle.explore.specs.Inner.Ways.{AllBefore, HasRoomFor, IsKnownAs, IsUnknown, RemembersAll, RemembersNoMore};
 
 use crate::search::{Landmark, Onward, Search};
 use basis::NoMemory;
@@ -30,10 +29,10 @@ pub fn remember<S: Eq + Hash + Drop>(
     end: u32,
     station: Option<usize>,
 ) -> Result<(), NoMemory>
-    requires before { (i : ℕ) (l : Landmark S) → slice_get landmarks.items i ≡ Some l → l.taken ≤ end }
+    requires before { AllBefore landmarks.items end }
     requires room { HasRoomFor search.old 0 }
-    ensures remembered { AreRemembered S.eq search.old.ways.entries landmarks.items end station search.new.ways.entries }
-    ensures all { OnOk result (HasRoomFor search.old (length landmarks.items) → AreKnown S.eq landmarks.items search.new.ways.entries) }
+    ensures remembered { RemembersNoMore S.eq search.old landmarks.items end station search.new }
+    ensures all { OnOk result (RemembersAll S.eq search.old landmarks.items search.new) }
     ensures room { HasRoomFor search.new 0 }
     ensures book { search.new.book ≡ search.old.book }
 {

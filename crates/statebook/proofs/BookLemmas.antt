@@ -8,7 +8,7 @@ use Rattle.std.specs.Cmp.{IsEquivalence}
 use Rattle.basis.proofs.Bools.{and_left, and_right, or_left, or_right}
 use Rattle.basis.proofs.Lists.{last_or_before}
 use Rattle.indexmap.specs.IndexSet.{insert_key}
-use Rattle.statebook.specs.Books.{Book, Dominates, IsFoundAt, IsUndominated, add, places_of}
+use Rattle.statebook.specs.Books.{Book, Dominates, IsFoundAt, IsUndominated, add, places_of, shown}
 use Rattle.statebook.specs.Inner.Kept.{IsKept, alike}
 use Rattle.statebook.specs.declared.entry.Entry.{Entry}
 use Rattle.std.proofs.lemmas.Option.{slice_get-get_or, slice_get_within}
@@ -157,10 +157,6 @@ not_alike {S} same eq keys top e v is bound none i f at = subst (λ (x : Entry S
 
 pub key_added : {X : Type 0} (eq : X → X → Bool) (keys : List X) (v : X) → ((i : ℕ) (f : X) → slice_get keys i ≡ Some f → eq v f ≡ false) → insert_key eq keys v ≡ keys ++ v ∷ []
 key_added eq keys v h = rw (all_fail (eq v) keys h) refl
-
--- the book that these lists show
-abbrev pub shown : {S A : Type 0} → List (Entry S) → List (Option (Vec ℕ A)) → Book S
-shown keys items = record { entries = keys; finished = map places_of items }
 
 -- an entry and an empty place were put last
 pub shown-add : {S A : Type 0} (keys more : List (Entry S)) (items pushed : List (Option (Vec ℕ A))) (v : Entry S) → more ≡ keys ++ v ∷ [] → pushed ≡ items ++ None ∷ [] → shown more pushed ≡ add (shown keys items) v

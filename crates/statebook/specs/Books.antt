@@ -1,5 +1,5 @@
 -- The book that an explorer keeps: its entries, and what each of them has met.
-use Rattle.std.specs.Prelude.{◌≡◌, ◌<◌, ◌≤◌, Vec, ℕ, Bool, true, List, [], ◌∷◌, ◌++◌, slice_get, slice_set, length, Contains, Option, Some, None}
+use Rattle.std.specs.Prelude.{◌≡◌, ◌<◌, ◌≤◌, Vec, ℕ, Bool, true, List, [], ◌∷◌, ◌++◌, slice_get, slice_set, length, Contains, Option, Some, None, map}
 use Rattle.statebook.specs.declared.entry.Entry.{Entry}
 use Rattle.statebook.specs.declared.book.Met.{Met}
 use Rattle.statebook.specs.declared.book.Met.TheVariants.{New, Known}
@@ -80,3 +80,7 @@ pub record IsUndominated {S : Type 0} (same : S → S → Bool) (entries : List 
 abbrev pub places_of : {A : Type 0} → Option (Vec ℕ A) → Option (List ℕ)
 places_of None = None
 places_of (Some v) = Some v.items
+
+-- the book that these lists show
+abbrev pub shown : {S A : Type 0} → List (Entry S) → List (Option (Vec ℕ A)) → Book S
+shown entries items = record { entries = entries; finished = map places_of items }

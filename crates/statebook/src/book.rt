@@ -41,15 +41,14 @@ pub struct PlainBook<S: Eq + Hash> {
 }
 
 impl<S: Eq + Hash> Model for PlainBook<S> {
-    ghost use Rattle.std.specs.Prelude.{map};
-    ghost use Rattle.statebook.specs.Books.{Book, places_of};
+    ghost use Rattle.statebook.specs.Books.{Book, shown};
     ghost use Rattle.statebook.specs.Inner.Kept.{IsKept};
 
     ghost Value = { Book S };
 
-    ghost view = { λ b. record { entries = b.entries.keys; finished = map places_of b.finished.items } };
+    ghost view = { λ b. shown b.entries.keys b.finished.items };
 
-    ghost invariant = { λ b. IsKept S.eq (record { entries = b.entries.keys; finished = map places_of b.finished.items }) b.top };
+    ghost invariant = { λ b. IsKept S.eq (shown b.entries.keys b.finished.items) b.top };
 }
 
 // The place of the entry that is equal in state and budget.

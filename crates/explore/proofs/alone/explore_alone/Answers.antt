@@ -1,21 +1,56 @@
-use Rattle.std.proofs.Common.{ap, subst, List}
-use Rattle.statebook.specs.Books.{IsUndominated}
-use Rattle.statebook.specs.declared.entry.Entry.{Entry}
-use Rattle.explore.proofs.AloneLemmas.{exhausted, fewest, has_entries}
+use Rattle.std.proofs.Common.{◌≡◌, length, subst, refl, true, false}
+use Rattle.statebook.specs.Books.{Book, IsUndominated}
+use Rattle.explore.specs.Inner.Exploring.{AllFinished, CutsShort}
+use Rattle.explore.proofs.AloneLemmas.{Left, complete, exhausted, fewest, has_entries, root_is_bounded, stopped, tells_of_book, through_value}
+use Rattle.explore.proofs.alone.explore_alone.Given.{Over}
 use Rattle.explore.proofs.alone.explore_alone.Goals as goal
+
+pub visit_all-visited-requires-clause-bounded : goal.visit_all-visited-requires-clause-bounded
+visit_all-visited-requires-clause-bounded g c = λ κs within.
+    root_is_bounded (g.P.Space.rules c.args.space.now) c.args.limits.now c.in_ok-open_book.field-0 c.in_ok-open_book.ensures.under_way c.in_ok-open_book.ensures.alone c.args.limits.now.within.some_entries
+
+pub status_of-status-requires : goal.status_of-status-requires
+status_of-status-requires g c = λ is.
+    complete (g.P.Space.rules c.args.space.now) c.args.limits.now c.visit_all-visited.new.search.book c.visit_all-visited.ensures.searching.under_way
+    (through_value c.visit_all-visited.result true (λ within. within ≡ true → AllFinished c.visit_all-visited.new.search.book) is c.visit_all-visited.ensures.finished refl)
+
+-- what the search left, and how it ended
+left : (g : Over) (c : goal.After-drop-book-inside-6 g) → Left (g.P.Space.rules c.args.space.now) c.args.limits.now g.P.State.PartialEq.eq c.visit_all-visited.new.search.book c.visit_all-visited.result c.status_of-status.result
+left g c =
+    let P : Book g.row.P-State.Denot → Type 0 = λ b. IsUndominated g.P.State.PartialEq.eq b.entries in
+    let Q : Book g.row.P-State.Denot → Type 0 = λ b. length b.finished ≡ length b.entries in
+    record {
+      under_way = c.visit_all-visited.ensures.searching.under_way;
+      paired = subst Q c.book.view_is c.book.invariant.paired;
+      apart = subst P c.book.view_is c.book.invariant.undominated;
+      agree = g.met.P.Space.same_is_eq c.args.space.now;
+      bounded = c.visit_all-visited.ensures.bounded;
+      visited_all = c.visit_all-visited.ensures.all;
+      full = c.visit_all-visited.ensures.full;
+      left = c.visit_all-visited.ensures.left;
+      exhausted = c.status_of-status.ensures.exhausted;
+      entries = c.status_of-status.ensures.entries;
+      steps = c.status_of-status.ensures.steps;
+    }
 
 pub returns-clause-exhausted : goal.returns-clause-exhausted
 returns-clause-exhausted g c = λ t.
-    exhausted (g.P.Space.rules c.args.space.now) (g.met.P.Space.lawful c.args.space.now) c.args.limits.now.depart c.args.limits.now.steps c.visit_all-visited.new.search.book c.in_ok-marks.marks.entries
-    c.visit_all-visited.ensures.searching.under_way (c.status_of-status.ensures.exhausted t) c.in_ok-marks.ensures.listed
+    exhausted (g.P.Space.rules c.args.space.now) (g.met.P.Space.lawful c.args.space.now) c.args.limits.now c.visit_all-visited.new.search.book c.in_ok-marks.marks.entries
+    c.visit_all-visited.ensures.searching.under_way (c.status_of-status.ensures.closed t) c.in_ok-marks.ensures.read
 
 pub returns-clause-fewest : goal.returns-clause-fewest
 returns-clause-fewest g c = λ t.
-    fewest (g.P.Space.rules c.args.space.now) (g.met.P.Space.lawful c.args.space.now) c.args.limits.now.depart c.args.limits.now.steps c.visit_all-visited.new.search.book c.in_ok-marks.marks.entries
-    c.visit_all-visited.ensures.searching.under_way (c.status_of-status.ensures.exhausted t) c.in_ok-marks.ensures.found c.in_ok-marks.ensures.shortest
+    fewest (g.P.Space.rules c.args.space.now) (g.met.P.Space.lawful c.args.space.now) c.args.limits.now c.visit_all-visited.new.search.book c.in_ok-marks.marks.entries
+    c.visit_all-visited.ensures.searching.under_way (c.status_of-status.ensures.closed t) c.in_ok-marks.ensures.found c.in_ok-marks.ensures.read
 
 pub returns-clause-entries : goal.returns-clause-entries
 returns-clause-entries g c = λ t.
-    let P : List (Entry g.row.P-State.Denot) → Type 0 = λ l. IsUndominated g.P.State.PartialEq.eq l in
-    has_entries (g.P.Space.rules c.args.space.now) c.args.limits.now.depart c.args.limits.now.steps c.args.limits.now.entries g.P.State.PartialEq.eq (g.met.P.Space.same_is_eq c.args.space.now) c.visit_all-visited.new.search.book
-    c.visit_all-visited.ensures.searching.under_way (subst P (ap (λ b. b.entries) c.book.view_is) c.book.invariant.undominated) (c.visit_all-visited.ensures.full (c.status_of-status.ensures.entries t))
+    let h = left g c in
+    has_entries (g.P.Space.rules c.args.space.now) c.args.limits.now g.P.State.PartialEq.eq h.agree c.visit_all-visited.new.search.book h.under_way h.apart (stopped c.visit_all-visited.result (c.status_of-status.ensures.entries t) h.full)
+
+pub returns-clause-steps : goal.returns-clause-steps
+returns-clause-steps g c = λ t.
+    through_value c.visit_all-visited.result false (CutsShort (g.P.Space.rules c.args.space.now) c.args.limits.now) (c.status_of-status.ensures.steps t) c.visit_all-visited.ensures.past refl
+
+pub returns-clause-book : goal.returns-clause-book
+returns-clause-book g c = tells_of_book (g.P.Space.rules c.args.space.now) c.args.limits.now g.P.State.PartialEq.eq c.visit_all-visited.new.search.book c.visit_all-visited.result _ (left g c) c.in_ok-marks.ensures.read

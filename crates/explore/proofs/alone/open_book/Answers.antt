@@ -8,5 +8,5 @@ pub returns-in-Ok-clause-under_way : goal.returns-in-Ok-clause-under_way
 returns-in-Ok-clause-under_way g c =
     let root : Entry g.row.P-State.Denot = record { state = c.in_ok-root.field-0; budget = c.args.limits.now.depart; log = c.new.result; steps = 0 } in
     let P : Book g.row.P-State.Denot → Type 0 = λ b. Meets g.P.State.PartialEq.eq b root c.in-Ok.field-0 c.meet.new.self in
-    opened (g.P.Space.rules c.args.space.now) c.args.limits.now.depart c.args.limits.now.steps g.P.State.PartialEq.eq root c.in-Ok.field-0 c.meet.new.self
+    opened (g.P.Space.rules c.args.space.now) c.args.limits.now g.P.State.PartialEq.eq root c.in-Ok.field-0 c.meet.new.self
     c.in_ok-root.ensures refl c.new.ensures refl (subst P c.new-book.ensures c.in-Ok.ensures.ok)

@@ -1,13 +1,13 @@
 use Rattle.std.proofs.Common.{◌+◌, ◌-◌}
-use Rattle.explore.specs.Exploring.{width_limit}
-use Rattle.explore.specs.Ways.{IsSearching}
+use Rattle.explore.specs.Inner.Exploring.{width_limit}
+use Rattle.explore.specs.Inner.Ways.{IsSearching}
 use Rattle.explore.proofs.ClassLemmas.{InClass}
 use Rattle.explore.proofs.classes.visit_class.Given as goal
 
 abbrev pub invariant-loop-place : goal.invariant-loop-place
 invariant-loop-place g l = record {
-  class : InClass (g.P.Space.rules l.space) l.limits.depart l.limits.steps l.limits.entries l.initial.search.book l.search.book l.budget l.place l.within;
-  searching : IsSearching (g.P.Space.rules l.space) l.limits.depart l.limits.steps l.search;
+  class : InClass (g.P.Space.rules l.space) l.limits l.initial.search.book l.search.book l.budget l.place l.within;
+  searching : IsSearching (g.P.Space.rules l.space) l.limits l.search;
 }
 
 abbrev pub decreases-loop-place : goal.decreases-loop-place

@@ -4,6 +4,6 @@ use Rattle.explore.proofs.marks.list_marks.Given as goal
 
 abbrev pub invariant-loop-place : goal.invariant-loop-place
 invariant-loop-place g l = record {
-  marks : MarksUpTo (g.P.Space.rules l.space) l.limits.depart l.limits.steps l.book.entries l.place l.marks.entries;
+  marks : MarksUpTo (g.P.Space.rules l.space) l.limits l.book.entries l.place l.marks.entries;
   distinct : IsUnique g.P.State.PartialEq.eq l.marks;
 }

@@ -1,12 +1,12 @@
 use Rattle.std.proofs.Common.{◌≡◌, ◌+◌, arith, true}
-use Rattle.explore.proofs.NextLemmas.{allowed_width, follows_from, entry_from, exceeds_from, exceeds_at, stepped}
+use Rattle.explore.proofs.NextLemmas.{allowed_width, follows_from, entry_from, stepped}
+use Rattle.explore.proofs.WayLemmas.{past_same}
 use Rattle.explore.proofs.next.next_entry.Given.{Over}
 use Rattle.explore.proofs.next.next_entry.Goals as goal
 use Rattle.explore.proofs.next.next_entry.Goals.{In_ok-steps}
 
 pub returns-then-entry-limits-clause-past : goal.returns-then-entry-limits-clause-past
-returns-then-entry-limits-clause-past g c =
-    exceeds_at (g.P.Space.rules c.args.space.now) (g.met.P.Space.lawful c.args.space.now) c.args.limits.now.depart c.args.limits.now.steps c.args.entry.now c.args.choice c.requires.entry c.requires.choice c.if-entry-limits.true
+returns-then-entry-limits-clause-past g c = λ j le. absurd (let full = c.if-entry-limits.true in omega (arith, le, full))
 
 -- the state stands where the choice leads
 taken : (g : Over) (c : In_ok-steps g) → (g.P.Space.rules c.args.space.now).same c.step.new.s ((g.P.Space.rules c.args.space.now).after c.args.entry.now.state c.args.choice) ≡ true
@@ -16,7 +16,9 @@ taken g c =
 
 pub returns-in-None-clause-past : goal.returns-in-None-clause-past
 returns-in-None-clause-past g c =
-    exceeds_from (g.P.Space.rules c.args.space.now) (g.met.P.Space.lawful c.args.space.now) c.args.limits.now.depart c.args.limits.now.steps c.args.entry.now c.args.choice c.step.new.s c.requires.entry c.requires.choice
+    let r = g.P.Space.rules c.args.space.now in
+    let law = g.met.P.Space.lawful c.args.space.now in
+    past_same r law (r.after c.args.entry.now.state c.args.choice) c.step.new.s (c.args.entry.now.steps + 1) c.args.limits.now.steps
     (taken g (goal.at.returns-in-None-clause-past g c).In_ok-steps)
     (let w = c.requires.entry.within in let n = c.if-entry-limits.false in omega arith)
     (rw c.in-None.is at c.in_ok-steps.ensures.past)

@@ -11,6 +11,6 @@ returns-clause-found g c = elim c.match-meet.branch [
       rw w.result-is (found_new g.S.PartialEq.eq g.met.S.Eq.laws c.args.book.now c.args.entry c.meet.new.self w.in-Ok-New.place m.0 m.1))
   | in-Ok-Known w ↦ (
       let m : Meets g.S.PartialEq.eq c.args.book.now c.args.entry (Known w.in-Ok-Known.place) c.meet.new.self = rw w.in-Ok-Known.field-0-is at w.in-Ok-Known.ensures.ok in
-      rw w.result-is (found_known g.S.PartialEq.eq c.args.book.now c.args.entry m.0 c.meet.new.self w.in-Ok-Known.place m.1 m.2 m.3))
+      rw w.result-is (found_known g.S.PartialEq.eq c.args.book.now c.args.entry m.0.entry c.meet.new.self w.in-Ok-Known.place m.0.at m.0.dominates m.1))
   | in-Err w ↦ rw w.result-is tt
 ]

@@ -1,5 +1,5 @@
 use Rattle.std.proofs.Common.{arith}
-use Rattle.explore.specs.Ways.{LeadsTo}
+use Rattle.explore.specs.Inner.Ways.{LeadsTo}
 use Rattle.explore.proofs.WayLemmas.{leads_past, leads_there}
 use Rattle.explore.proofs.WaysLemmas.{known_leads, leads_to_entry, leads_to_place}
 use Rattle.explore.proofs.way.look_ahead.Given.{Over}

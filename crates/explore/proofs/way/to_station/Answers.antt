@@ -1,6 +1,7 @@
 use Rattle.std.proofs.Common.{arith, ◌≡◌, ◌-◌, ◌≤◌, ℕ, subst, sym}
-use Rattle.explore.specs.Exploring.{ComesTo, GoesPast}
-use Rattle.explore.specs.Ways.{IsAhead, Passes}
+use Rattle.explore.specs.Told.{GoesPast}
+use Rattle.explore.specs.Inner.Exploring.{ComesTo}
+use Rattle.explore.specs.Inner.Ways.{IsAhead, Passes}
 use Rattle.explore.specs.declared.way.Ahead.TheVariants.{Station}
 use Rattle.explore.proofs.VisitLemmas.{root_state}
 use Rattle.explore.proofs.WayLemmas.{OnWay, way_opens, way_goes_on, way_marked, way_comes, marks_come, way_past, marks_past}
@@ -15,7 +16,7 @@ loop-reached-init g c = record {
 }
 
 pub walk-requires-clause-root : goal.walk-requires-clause-root
-walk-requires-clause-root g c = λ κs h. root_state (g.P.Space.rules c.args.space.now) c.args.limits.now.depart c.args.limits.now.steps c.args.search.now.book c.read.result.now c.requires.searching.under_way c.read.ensures
+walk-requires-clause-root g c = λ κs h. root_state (g.P.Space.rules c.args.space.now) c.args.limits.now c.args.search.now.book c.read.result.now c.requires.searching.under_way c.read.ensures
 
 pub walk-requires-clause-within : goal.walk-requires-clause-within
 walk-requires-clause-within g c = λ κs h. omega (arith, c.loop-reached.invariant.high, c.min-until.ensures)
@@ -43,7 +44,7 @@ returns-then-n-limits-clause-past g c =
 
 pub returns-then-n-limits-clause-go_past : goal.returns-then-n-limits-clause-go_past
 returns-then-n-limits-clause-go_past g c =
-    marks_past (g.P.Space.rules c.args.space.now) (g.met.P.Space.lawful c.args.space.now) c.args.state.now c.loop-reached.state c.args.taken c.loop-reached.n c.args.limits.now.steps c.loop-reached.landmarks.items
+    marks_past (g.P.Space.rules c.args.space.now) (g.met.P.Space.lawful c.args.space.now) c.args.state.now c.loop-reached.state c.args.taken c.loop-reached.n c.args.limits.now c.loop-reached.landmarks.items
     c.loop-reached.invariant.way c.loop-reached.invariant.high (none_left g c)
 
 open_way : (g : Over) (c : In_ok-reached-2 g) → Passes (g.P.Space.rules c.args.space.now) c.loop-reached.state c.walk.new.state (c.min-until.result - c.loop-reached.n)
@@ -62,7 +63,7 @@ within g c = omega (arith, c.min-until.ensures)
 
 ahead_comes : (g : Over) (c : In-Station g) → ComesTo (g.P.Space.rules c.args.space.now) c.walk.new.state c.min-until.result c.look_ahead.new.state c.in-Station.reached
 ahead_comes g c =
-    let ahead : IsAhead (g.P.Space.rules c.args.space.now) c.walk.new.state c.min-until.result c.args.limits.now.steps (Station c.in-Station.reached) c.look_ahead.new.state = rw c.in-Station.is at c.in_ok-reached-2.ensures.ahead in
+    let ahead : IsAhead (g.P.Space.rules c.args.space.now) c.walk.new.state c.min-until.result c.args.limits.now c.look_ahead.new.state (Station c.in-Station.reached) = rw c.in-Station.is at c.in_ok-reached-2.ensures.ahead in
     ahead.0
 
 ahead_past : (g : Over) (c : In-Past g) → GoesPast (g.P.Space.rules c.args.space.now) c.walk.new.state c.min-until.result c.args.limits.now.steps
@@ -85,7 +86,7 @@ returns-in-Past-clause-past g c =
 
 pub returns-in-Past-clause-go_past : goal.returns-in-Past-clause-go_past
 returns-in-Past-clause-go_past g c =
-    marks_past (g.P.Space.rules c.args.space.now) (g.met.P.Space.lawful c.args.space.now) c.args.state.now c.walk.new.state c.args.taken c.min-until.result c.args.limits.now.steps c.loop-reached.landmarks.items
+    marks_past (g.P.Space.rules c.args.space.now) (g.met.P.Space.lawful c.args.space.now) c.args.state.now c.walk.new.state c.args.taken c.min-until.result c.args.limits.now c.loop-reached.landmarks.items
     (walked g (goal.at.returns-in-Past-clause-go_past g c).In_ok-reached-2) (within g (goal.at.returns-in-Past-clause-go_past g c).In_ok-reached-2) (ahead_past g c)
 
 pub loop-reached-preserved : goal.loop-reached-preserved

@@ -1,10 +1,10 @@
 use Rattle.std.proofs.Common.{◌≡◌, ◌∙◌, ap, sym, refl, slice_get, subst, max, length, ℕ, Some, None, ◌++◌, ◌∷◌, [], is_ok, if◌then◌else◌, false}
 use Rattle.std.specs.List.{position_or_len}
 use Rattle.indexmap.specs.IndexSet.{insert_key}
-use Rattle.statebook.specs.Books.{Book, Dominates, add}
+use Rattle.statebook.specs.Books.{Book, Dominates, add, shown}
 use Rattle.statebook.specs.Inner.Kept.{IsKept, alike}
 use Rattle.statebook.specs.declared.entry.Entry.{Entry}
-use Rattle.statebook.proofs.BookLemmas.{key_added, kept-add, shown, shown-add, not_alike, position_last}
+use Rattle.statebook.proofs.BookLemmas.{key_added, kept-add, shown-add, not_alike, position_last}
 use Rattle.statebook.proofs.book.PlainBook.meet.Given.{Over}
 use Rattle.statebook.proofs.book.PlainBook.meet.Goals as goal
 

@@ -1,14 +1,28 @@
 -- What an explorer remembers of forced ways, so that ways that join needn't each be walked to the end.
-use Rattle.std.specs.Prelude.{◌≡◌, ℕ, ◌+◌, ◌-◌, ◌<◌, ◌≤◌, ◌⊎◌, Bool, true, false, List, length, Option, Some, None, slice_get}
+use Rattle.std.specs.Prelude.{◌≡◌, ℕ, ◌+◌, ◌-◌, ◌<◌, ◌≤◌, ◌⊎◌, Bool, true, false, List, length, Option, Some, None, IfSome, IfNone, slice_get, Result, IfOk}
 use Rattle.sched_core.specs.Rules.{Rules}
 use Rattle.statebook.specs.Stations.{is_station, forced}
 use Rattle.statebook.specs.declared.entry.Entry.{Entry}
-use Rattle.explore.specs.Exploring.{ComesTo, GoesPast, IsUnderWay}
+use Rattle.statebook.specs.declared.limits.Limits.{Limits}
+use Rattle.explore.specs.Told.{ChoiceGoesPast, GoesPast}
+use Rattle.explore.specs.Inner.Exploring.{ComesTo, IsUnderWay}
 use Rattle.explore.specs.declared.search.Onward.{Onward}
 use Rattle.explore.specs.declared.search.Landmark.{Landmark}
 use Rattle.explore.specs.declared.search.Search.{Search}
+use Rattle.explore.specs.declared.ways.TheConstants.{ROOM}
 use Rattle.explore.specs.declared.way.Ahead.{Ahead}
 use Rattle.explore.specs.declared.way.Ahead.TheVariants.{Station, Past, Unknown}
+
+-- what an answer says where it has a value, and where it has none
+abbrev pub IfReached : {A E : Type 0} → Result (Option A) E → (A → Type 0) → Type 0
+IfReached answer P = IfOk answer (λ reached. IfSome reached P)
+
+abbrev pub IfPast : {A E : Type 0} → Result (Option A) E → Type 0 → Type 0
+IfPast answer P = IfOk answer (λ reached. IfNone reached P)
+
+-- The state stands so many forced steps from s.
+abbrev pub IsForced : {S : Type 0} → Rules S → S → ℕ → S → Type 0
+IsForced r s n t = r.same t (forced r s n) ≡ true
 
 -- The forced way from s comes to t in m steps, and passes no station before.
 pub record Passes {S : Type 0} (r : Rules S) (s t : S) (m : ℕ) : Type 0 where
@@ -24,13 +38,17 @@ LeadsTo r entries s steps None = (j : ℕ) → j < steps → is_station r (force
 abbrev pub AllLead : {S : Type 0} → Rules S → List (Entry S) → List (S × Onward) → Type 0
 AllLead {S} r entries ways = (i : ℕ) (p : S × Onward) → slice_get ways i ≡ Some p → LeadsTo r entries p.0 p.1.steps p.1.station
 
--- With so many more, at most 4,096 more states are remembered than there are entries.
+-- After choice c of the entry at the place the way goes past the step limit.
+abbrev pub PastFrom : {S : Type 0} → Rules S → Limits → Search S → ℕ → ℕ → Type 0
+PastFrom {S} r limits s place c = (e : Entry S) → slice_get s.book.entries place ≡ Some e → ChoiceGoesPast r limits e c
+
+-- With so many more, no more states are remembered than there are entries and room beside.
 abbrev pub HasRoomFor : {S : Type 0} → Search S → ℕ → Type 0
-HasRoomFor s more = length s.ways.entries + more ≤ length s.book.entries + 4096
+HasRoomFor s more = length s.ways.entries + more ≤ length s.book.entries + ROOM
 
 -- What a search is at any time: its book is under way, and what it remembers is so, and not too much.
-pub record IsSearching {S : Type 0} (r : Rules S) (k limit : ℕ) (s : Search S) : Type 0 where
-  pub under_way : IsUnderWay r k limit s.book
+pub record IsSearching {S : Type 0} (r : Rules S) (limits : Limits) (s : Search S) : Type 0 where
+  pub under_way : IsUnderWay r limits s.book
   pub lead : AllLead r s.book.entries s.ways.entries
   pub room : HasRoomFor s 0
 
@@ -50,15 +68,23 @@ AreKnown {S} same landmarks ways = (i : ℕ) (l : Landmark S) → slice_get land
 abbrev pub AllCome : {S : Type 0} → Rules S → List (Landmark S) → S → ℕ → Type 0
 AllCome {S} r landmarks t n = (i : ℕ) (l : Landmark S) → slice_get landmarks i ≡ Some l → ComesTo r l.state l.taken t n
 
+-- From each landmark the way comes to the entry, after its steps in all.
+abbrev pub AllComeTo : {S : Type 0} → Rules S → List (Landmark S) → Entry S → Type 0
+AllComeTo r landmarks e = AllCome r landmarks e.state e.steps
+
 -- Each landmark is within the limit of steps, and no station stands on the way from it up to that limit.
-abbrev pub AllGoPast : {S : Type 0} → Rules S → List (Landmark S) → ℕ → Type 0
-AllGoPast {S} r landmarks limit = (i : ℕ) (l : Landmark S) → slice_get landmarks i ≡ Some l → (l.taken ≤ limit) × GoesPast r l.state l.taken limit
+abbrev pub AllGoPast : {S : Type 0} → Rules S → List (Landmark S) → Limits → Type 0
+AllGoPast {S} r landmarks limits = (i : ℕ) (l : Landmark S) → slice_get landmarks i ≡ Some l → (l.taken ≤ limits.steps) × GoesPast r l.state l.taken limits.steps
+
+-- No landmark stands behind so many steps.
+abbrev pub AllBefore : {S : Type 0} → List (Landmark S) → ℕ → Type 0
+AllBefore {S} landmarks end = (i : ℕ) (l : Landmark S) → slice_get landmarks i ≡ Some l → l.taken ≤ end
 
 -- What is known ahead of s, after n steps: the station that t is now, that there is none up to the limit, or nothing, and then t is s.
-abbrev pub IsAhead : {S : Type 0} → Rules S → S → ℕ → ℕ → Ahead → S → Type 0
-IsAhead r s n limit (Station reached) t = ComesTo r s n t reached × (reached ≤ limit)
-IsAhead r s n limit Past t = GoesPast r s n limit
-IsAhead r s n limit Unknown t = t ≡ s
+abbrev pub IsAhead : {S : Type 0} → Rules S → S → ℕ → Limits → S → Ahead → Type 0
+IsAhead r s n limits t (Station reached) = ComesTo r s n t reached × (reached ≤ limits.steps)
+IsAhead r s n limits t Past = GoesPast r s n limits.steps
+IsAhead r s n limits t Unknown = t ≡ s
 
 -- What is remembered of the state is of a landmark that is equal, and leads on to the end.
 pub record IsOfLandmark {S : Type 0} (same : S → S → Bool) (landmarks : List (Landmark S)) (end : ℕ) (station : Option ℕ) (known : S × Onward) : Type 0 where
@@ -71,3 +97,11 @@ pub record IsOfLandmark {S : Type 0} (same : S → S → Bool) (landmarks : List
 -- What is remembered was so before, or is of a landmark.
 abbrev pub AreRemembered : {S : Type 0} → (S → S → Bool) → List (S × Onward) → List (Landmark S) → ℕ → Option ℕ → List (S × Onward) → Type 0
 AreRemembered {S} same old landmarks end station new = (i : ℕ) (p : S × Onward) → slice_get new i ≡ Some p → ((j : ℕ) × (slice_get old j ≡ Some p)) ⊎ IsOfLandmark same landmarks end station p
+
+-- The search remembers nothing more.
+abbrev pub RemembersNoMore : {S : Type 0} → (S → S → Bool) → Search S → List (Landmark S) → ℕ → Option ℕ → Search S → Type 0
+RemembersNoMore same old landmarks end station new = AreRemembered same old.ways.entries landmarks end station new.ways.entries
+
+-- With room for all, something is remembered of each landmark.
+abbrev pub RemembersAll : {S : Type 0} → (S → S → Bool) → Search S → List (Landmark S) → Search S → Type 0
+RemembersAll same old landmarks new = HasRoomFor old (length landmarks) → AreKnown same landmarks new.ways.entries

@@ -1,0 +1,127 @@
+-- What the parts of the explorer keep as they go on.
+use Rattle.std.specs.Prelude.{◌≡◌, ℕ, ◌+◌, ◌^◌, ◌<◌, ◌≤◌, ◌⊎◌, zero, suc, Bool, true, false, List, [], ◌∷◌, ◌++◌, length, slice_get, Some, Result, Err}
+use Rattle.basis.specs.declared.memory.OrMemory.{OrMemory}
+use Rattle.basis.specs.declared.memory.OrMemory.TheVariants.{Fault}
+use Rattle.sched_core.specs.Rules.{Rules}
+use Rattle.statebook.specs.Stations.{forced, IsNextStation}
+use Rattle.statebook.specs.Books.{Book, IsClosed, IsFinished, IsRootAt, add}
+use Rattle.statebook.specs.ExplorerCore.{IsEntry, IsMet, IsSound, budget_after, choices_of}
+use Rattle.statebook.specs.declared.entry.Entry.{Entry}
+use Rattle.statebook.specs.declared.limits.Limits.{Limits}
+use Rattle.explore.specs.Found.{SomeRunExceeds}
+use Rattle.explore.specs.Told.{AllChoicesLeadOn, Allows}
+use Rattle.explore.specs.declared.classes.Full.{Full}
+
+-- From s, after some steps, the forced way came to its next station after n steps in all.
+pub record ComesTo {S : Type 0} (r : Rules S) (s : S) (taken : ℕ) (t : S) (n : ℕ) : Type 0 where
+  pub forced_steps : ℕ
+  pub count : n ≡ taken + forced_steps
+  pub next : IsNextStation r s forced_steps
+  pub same : r.same t (forced r s forced_steps) ≡ true
+
+-- The entry is that of the next station after choice c of e.
+pub record Follows {S : Type 0} (r : Rules S) (e : Entry S) (c : ℕ) (next : Entry S) : Type 0 where
+  pub steps : ℕ
+  pub station : IsNextStation r (r.after e.state c) steps
+  pub same : r.same next.state (forced r (r.after e.state c) steps) ≡ true
+  pub budget : next.budget ≡ budget_after e.budget c
+
+-- The entry is one that may be added within the limits.
+abbrev pub MayBeAdded : {S : Type 0} → Rules S → Limits → Entry S → Type 0
+MayBeAdded r limits e = IsEntry r limits.depart limits.steps e
+
+-- Where it is said that not every way was within the limit, some run exceeds it.
+abbrev pub CutsShort : {S : Type 0} → Rules S → Limits → Bool → Type 0
+CutsShort r limits within = within ≡ false → SomeRunExceeds r limits
+
+-- The work was stopped by the limit of entries.
+abbrev pub StoppedFull : Result Bool (OrMemory Full) → Type 0
+StoppedFull visited = (full : Full) × (visited ≡ Err (Fault full))
+
+-- The book grew: entries stay, finished ones too, and what was added has at most this budget.
+pub record BookGrows {S : Type 0} (old new : Book S) (budget : ℕ) : Type 0 where
+  pub stays : (i : ℕ) (e : Entry S) → slice_get old.entries i ≡ Some e → slice_get new.entries i ≡ Some e
+  pub done : (i : ℕ) (places : List ℕ) → slice_get old.finished i ≡ Some (Some places) → slice_get new.finished i ≡ Some (Some places)
+  pub lower : (i : ℕ) (e : Entry S) → slice_get new.entries i ≡ Some e → (slice_get old.entries i ≡ Some e) ⊎ (e.budget ≤ budget)
+
+-- It grew so by the choices of the entry at the place.
+abbrev pub GrowsFrom : {S : Type 0} → Book S → Book S → ℕ → Type 0
+GrowsFrom {S} old new place = (e : Entry S) → slice_get old.entries place ≡ Some e → BookGrows old new e.budget
+
+-- The entry at the place allows the choice.
+abbrev pub AllowsAt : {S : Type 0} → Rules S → Book S → ℕ → ℕ → Type 0
+AllowsAt {S} r b place c = (e : Entry S) → slice_get b.entries place ≡ Some e → Allows r e c
+
+-- The entry at place j dominates the next station after choice c of the entry at the place.
+abbrev pub IsMetAt : {S : Type 0} → Rules S → Book S → ℕ → ℕ → ℕ → Type 0
+IsMetAt {S} r b place c j = (e : Entry S) → slice_get b.entries place ≡ Some e → IsMet r b.entries e c j
+
+-- All choices of the entry at the place lead on.
+abbrev pub LeadsOnAt : {S : Type 0} → Rules S → Limits → Book S → ℕ → Type 0
+LeadsOnAt {S} r limits b place = (e : Entry S) → slice_get b.entries place ≡ Some e → AllChoicesLeadOn r limits b.entries e
+
+-- No more entries were added than the entry at the place has choices.
+abbrev pub AddsFew : {S : Type 0} → Rules S → Book S → ℕ → Book S → Type 0
+AddsFew {S} r old place new = (e : Entry S) → slice_get old.entries place ≡ Some e → length new.entries ≤ length old.entries + choices_of (r.width e.state) e.budget
+
+-- What is finished was so before.
+abbrev pub FinishesNone : {S : Type 0} → Book S → Book S → Type 0
+FinishesNone old new = (i : ℕ) → IsFinished new i → IsFinished old i
+
+-- What is finished was so before, or is the entry at the place.
+abbrev pub FinishesOnly : {S : Type 0} → Book S → ℕ → Book S → Type 0
+FinishesOnly old place new = (i : ℕ) → IsFinished new i → IsFinished old i ⊎ (i ≡ place)
+
+-- What is finished has at least this budget.
+abbrev pub FinishedLeast : {S : Type 0} → Book S → ℕ → Type 0
+FinishedLeast {S} b budget = (i : ℕ) (e : Entry S) → IsFinished b i → slice_get b.entries i ≡ Some e → budget ≤ e.budget
+
+-- A state's choices are counted by 32 bits, so there are fewer than this.
+abbrev pub width_limit : ℕ
+width_limit = 2 ^ 32
+
+-- The log of a run that goes on by this choice at this step.
+abbrev pub log_of : List (ℕ × ℕ) → ℕ → ℕ → List (ℕ × ℕ)
+log_of log step zero = log
+log_of log step (suc c) = log ++ (step, suc c) ∷ []
+
+-- What an explorer's book is at any time: sound, and its first entry the root's.
+pub record IsUnderWay {S : Type 0} (r : Rules S) (limits : Limits) (b : Book S) : Type 0 where
+  pub sound : IsSound r limits.depart limits.steps b
+  pub root : IsRootAt b.entries 0
+
+-- The book stays, or has the entry more.
+abbrev pub IsSameOrAdded : {S : Type 0} → Book S → Entry S → Book S → Type 0
+IsSameOrAdded old e new = (new ≡ old) ⊎ (new ≡ add old e)
+
+-- Each entry of the book is finished.
+abbrev pub AllFinished : {S : Type 0} → Book S → Type 0
+AllFinished {S} b = (i : ℕ) (e : Entry S) → slice_get b.entries i ≡ Some e → IsFinished b i
+
+-- Each entry with just this budget is finished.
+abbrev pub FinishedAt : {S : Type 0} → Book S → ℕ → Type 0
+FinishedAt {S} b budget = (i : ℕ) (e : Entry S) → slice_get b.entries i ≡ Some e → e.budget ≡ budget → IsFinished b i
+
+-- The entry at the place was visited: all its choices lead on, and as it was taken there were fewer entries than the limit.
+pub record WasVisited {S : Type 0} (r : Rules S) (limits : Limits) (entries : List (Entry S)) (place : ℕ) : Type 0 where
+  pub entry : Entry S
+  pub at : slice_get entries place ≡ Some entry
+  pub leads : AllChoicesLeadOn r limits entries entry
+  pub fewer : place + 1 < limits.entries
+
+-- Each entry was visited.
+abbrev pub AllVisited : {S : Type 0} → Rules S → Limits → Book S → Type 0
+AllVisited {S} r limits b = (i : ℕ) (e : Entry S) → slice_get b.entries i ≡ Some e → WasVisited r limits b.entries i
+
+-- Each entry with just this budget was visited.
+abbrev pub VisitedAt : {S : Type 0} → Rules S → Limits → Book S → ℕ → Type 0
+VisitedAt {S} r limits b budget = (i : ℕ) (e : Entry S) → slice_get b.entries i ≡ Some e → e.budget ≡ budget → WasVisited r limits b.entries i
+
+-- Some list of places closes the book, from the root's at 0.
+abbrev pub Closes : {S : Type 0} → Book S → Type 0
+Closes b = (all : List ℕ) × IsClosed b 0 all
+
+-- Each entry is finished and names only places of entries.
+pub record IsComplete {S : Type 0} (b : Book S) : Type 0 where
+  pub root : IsRootAt b.entries 0
+  pub places : (i : ℕ) → i < length b.entries → (places : List ℕ) × (slice_get b.finished i ≡ Some (Some places)) × ((c j : ℕ) → slice_get places c ≡ Some j → j < length b.entries)
