@@ -17,6 +17,6 @@ mod tests;
 mod text;
 
 pub use fault::LexFault;
-pub use kind::Kind;
+pub use kind::TokenKind;
 pub use lexer::tokens;
 pub use list::Tokens;
