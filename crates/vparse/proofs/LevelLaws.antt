@@ -5,7 +5,7 @@ use Rattle.std.specs.Str.{bytes_eq}
 use Rattle.vast.specs.Words.{is_name}
 use Rattle.vast.specs.Syntax.{Text, StatementTree, ItemTree, ModuleTree}
 use Rattle.vast.specs.Derives.{spell_statement, spell_item, spell_module, fits_item, fits_module}
-use Rattle.vast.specs.Depth.{fits_within}
+use Rattle.vast.specs.Inner.{fits_within}
 use Rattle.vparse.specs.declared.lead.Lead.{Lead}
 use Rattle.vparse.specs.declared.lead.Lead.TheVariants as lead
 use Rattle.basis.specs.declared.memory.OrMemory.{OrMemory}

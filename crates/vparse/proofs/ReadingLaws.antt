@@ -8,7 +8,7 @@ use Rattle.std.proofs.lemmas.Bool.Decides.{nat_tests}
 use Rattle.vast.specs.Words.{is_name, is_number, begins_name, is_digit, is_in_name, is_reserved, reserved_words}
 use Rattle.vast.specs.Syntax.{Text, ExpressionTree, number, name, StatementTree, empty, block, assign, nonblocking, delay, dump_vars, finish, StatementTrees, none, first}
 use Rattle.vast.specs.Derives.{spell_expression, spell_statement, spell_statements, fits_expression, fits_statement, fits_statements, depth, greatest_depth}
-use Rattle.vast.specs.Depth.{fits_within, all_fit_within}
+use Rattle.vast.specs.Inner.{fits_within, all_fit_within}
 use Rattle.vast.proofs.TreeLemmas.{first_within, none_within_zero}
 use Rattle.vparse.specs.declared.lead.Lead.{Lead}
 use Rattle.vparse.specs.declared.lead.Lead.TheVariants as lead
