@@ -10,13 +10,14 @@ use Rattle.vlex.specs.declared.bytes.Lead.TheVariants as lead
 use Rattle.vlex.specs.declared.form.Form.TheVariants.{Blank, Comment, Token}
 use Rattle.vlex.specs.declared.kind.TokenKind.{TokenKind}
 use Rattle.vlex.specs.declared.kind.TokenKind.TheVariants.{Name, System, Plain, Based, Text as Quoted, Symbol}
-use Rattle.vlex.specs.Bytes.{is_in, is_letter, lead_of}
+use Rattle.vlex.specs.Bytes.{is_in, lead_of}
 use Rattle.vlex.specs.Forms.{only_if, form_of, form_by, number_form, slash_form}
 use Rattle.vlex.specs.Lexed.{Lexed, Piece, IsFront}
 use Rattle.vlex.specs.Lexed.Lexed.{done, blank, comment, token}
 use Rattle.vlex.proofs.Leads.{Says, says}
 use Rattle.vast.specs.Syntax.{Text}
-use Rattle.vast.specs.Words.{is_name, is_number, begins_name, is_digit, is_in_name, is_reserved}
+use Rattle.std.specs.Char.{is_ascii_digit}
+use Rattle.vast.specs.Words.{is_name, is_number, begins_name, is_in_name, is_reserved}
 use Rattle.vparse.specs.Words.{TellsNumber, TellsName}
 use Rattle.vparse.proofs.ReadingLaws.{no_digit}
 
@@ -41,9 +42,6 @@ record Tells (kind : TokenKind) (bytes : Text) : Type 0 where
   number : is_number bytes ≡ is_numeric kind
   name : is_name bytes ≡ (is_word kind && not (is_reserved bytes))
 
-letter_begins : (c : ℕ) → (is_letter c || (c == 95)) ≡ begins_name c
-letter_begins c = grind (arith, nat_tests)
-
 word_in_name : (c : ℕ) → is_in Words c ≡ is_in_name c
 word_in_name c = grind (arith, nat_tests)
 
@@ -51,13 +49,13 @@ words_in_name : (cs : List ℕ) → list_all (is_in Words) cs ≡ list_all is_in
 words_in_name [] = refl
 words_in_name (c ∷ cs) = ap (λ b. b && list_all (is_in Words) cs) (word_in_name c) ∙ ap (λ b. is_in_name c && b) (words_in_name cs)
 
-digit_no_letter : (c : ℕ) → is_digit c ≡ true → begins_name c ≡ false
+digit_no_letter : (c : ℕ) → is_ascii_digit c ≡ true → begins_name c ≡ false
 digit_no_letter c e = grind (arith, nat_tests)
 
 name_tells : (c : ℕ) (cs : List ℕ) → begins_name c ≡ true → list_all is_in_name cs ≡ true → Tells Name (c ∷ cs)
 name_tells c cs first all = record { number = no_digit c first; name = ap (λ b. b && list_all is_in_name cs && not (is_reserved (c ∷ cs))) first ∙ ap (λ b. b && not (is_reserved (c ∷ cs))) all }
 
-other_tells : (kind : TokenKind) (c : ℕ) (cs : List ℕ) → is_word kind ≡ false → (is_digit c || (c == 39)) ≡ is_numeric kind → begins_name c ≡ false → Tells kind (c ∷ cs)
+other_tells : (kind : TokenKind) (c : ℕ) (cs : List ℕ) → is_word kind ≡ false → (is_ascii_digit c || (c == 39)) ≡ is_numeric kind → begins_name c ≡ false → Tells kind (c ∷ cs)
 other_tells kind c cs other first letter = record {
   number = first;
   name = ap (λ b. b && list_all is_in_name cs && not (is_reserved (c ∷ cs))) letter ∙ sym (ap (λ b. b && not (is_reserved (c ∷ cs))) other);
@@ -104,10 +102,10 @@ by_lead : (l : Lead) (c : ℕ) (cs : List ℕ) (kind : TokenKind) → Says l c �
 by_lead lead.Blank c cs kind s e = absurd (no_blank _ kind e)
 by_lead lead.Letter c cs kind s e =
     let t = token_of _ Name kind e in
-    told_at c Name kind c cs refl t.0 (name_tells c cs (sym (letter_begins c) ∙ s) (sym (words_in_name cs) ∙ t.1))
+    told_at c Name kind c cs refl t.0 (name_tells c cs s (sym (words_in_name cs) ∙ t.1))
 by_lead lead.Dollar c cs kind s e = told_at 36 System kind c cs s (token_of _ System kind e).0 (other_tells System 36 cs refl refl refl)
 by_lead lead.Digit c cs kind s e =
-    let first : (is_digit c || (c == 39)) ≡ true = ap (λ b. b || (c == 39)) s in
+    let first : (is_ascii_digit c || (c == 39)) ≡ true = ap (λ b. b || (c == 39)) s in
     elim (digit_numeric (c ∷ cs) kind e) [
       | inl plain ↦ told_at c Plain kind c cs refl plain (other_tells Plain c cs refl first (digit_no_letter c s))
       | inr based ↦ told_at c Based kind c cs refl based (other_tells Based c cs refl first (digit_no_letter c s))
@@ -116,8 +114,8 @@ by_lead lead.Apostrophe c cs kind s e = told_at 39 Based kind c cs s (token_of _
 by_lead lead.Quote c cs kind s e = told_at 34 Quoted kind c cs s (token_of _ Quoted kind e).0 (other_tells Quoted 34 cs refl refl refl)
 by_lead lead.Slash c cs kind s e = told_at 47 Symbol kind c cs s (slash_symbol cs kind e) (other_tells Symbol 47 cs refl refl refl)
 by_lead lead.Mark c cs kind s e =
-    let first : (is_digit c || (c == 39)) ≡ false = ap (λ b. b || (c == 39)) s.digit ∙ ne_eqb c 39 s.apostrophe in
-    told_at c Symbol kind c cs refl (token_of _ Symbol kind e).0 (other_tells Symbol c cs refl first (sym (letter_begins c) ∙ s.letter))
+    let first : (is_ascii_digit c || (c == 39)) ≡ false = ap (λ b. b || (c == 39)) s.digit ∙ ne_eqb c 39 s.apostrophe in
+    told_at c Symbol kind c cs refl (token_of _ Symbol kind e).0 (other_tells Symbol c cs refl first s.letter)
 by_lead lead.Other c cs kind s e = let clash : None ≡ Some (Token kind) = e in absurd cc
 
 front_tells : (text : List ℕ) (kind : TokenKind) (len : ℕ) → IsFront text (Token kind) len → Tells kind (take len text)
