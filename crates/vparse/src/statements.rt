@@ -4,8 +4,8 @@ ghost use Rattle.std.specs.Prelude.{◌≡◌, ◌-◌, ◌∷◌, drop, map, co
 ghost use Rattle.vast.specs.Syntax.{ExpressionTree, StatementTree, dump_vars, finish};
 ghost use Rattle.vast.specs.Trees.{word_text, expression_tree, statement_tree};
 ghost use Rattle.vparse.specs.Inner.Readers.{begins, until};
-ghost use Rattle.vparse.specs.Inner.Reading.{expression, task, led_at, statements_at, block_at, delay_at, statement};
-ghost use Rattle.vparse.specs.Inner.Answers.{Answers, AnswersValue, Deepens, Heads, IsFlat, assignment_to, listed};
+ghost use Rattle.vparse.specs.Inner.Reading.{expression, task, led_at, body_at, block_at, delay_at, statement};
+ghost use Rattle.vparse.specs.Inner.Answers.{Answers, AnswersValue, Deepens, Heads, IsFlat, assigned_to, listed};
 
 use crate::beginning::{Beginning, beginning_of_word, is};
 use crate::cursor::Cursor;
@@ -47,7 +47,7 @@ fn value<'a>(cursor: &mut Cursor<'_, 'a>) -> Result<Expr<'a>, OrMemory<Stop>>
 
 // What follows the name that begins an assignment.
 fn assignment<'a>(cursor: &mut Cursor<'_, 'a>, target: Word<'a>) -> Result<Stmt<'a>, OrMemory<Stop>>
-    ensures reads { Answers (assignment_to target.entry) statement_tree cursor.old cursor.new result }
+    ensures reads { Answers (assigned_to target.entry) statement_tree cursor.old cursor.new result }
     ensures flat { IsFlat result }
 {
     match cursor.word() {
@@ -171,7 +171,7 @@ fn statements<'a>(
     cursor: &mut Cursor<'_, 'a>,
     levels: u32,
 ) -> Result<Vec<Stmt<'a>>, OrMemory<Stop>>
-    ensures reads { Answers (statements_at levels) (listed statement_tree) cursor.old cursor.new result }
+    ensures reads { Answers (body_at levels) (listed statement_tree) cursor.old cursor.new result }
     ensures deepens { Deepens (levels - 1) cursor.old cursor.new result }
 {
     let mut found = Vec::new(alloc);

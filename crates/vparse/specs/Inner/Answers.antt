@@ -40,8 +40,8 @@ abbrev pub Heads : List Text → Word → Type 0
 Heads words word = words ≡ word_text word ∷ drop 1 words
 
 -- what stands behind the name of an assignment
-abbrev pub assignment_to : Word → Reader StatementTree
-assignment_to target = assignment (word_text target)
+abbrev pub assigned_to : Word → Reader StatementTree
+assigned_to target = assignment (word_text target)
 
 -- the value and the semicolon are read, whatever is made of the value
 abbrev pub AnswersValue : List Text → List Text → Result Expr (OrMemory Stop) → Type 0

@@ -74,12 +74,12 @@ unfoldable pub statement : ℕ → Reader StatementTree
 statement zero words = None
 statement (suc below) words = led below (statement below) words
 
--- what begins with a word and is no deeper than so many levels below it, and what follows begin and # there
+-- a statement by its first word, what stands between begin and end, and what follows begin and #, with so many levels
 abbrev pub led_at : ℕ → Reader StatementTree
 led_at below = led below (statement below)
 
-abbrev pub statements_at : ℕ → Reader (List StatementTree)
-statements_at levels = statements_of (statement levels)
+abbrev pub body_at : ℕ → Reader (List StatementTree)
+body_at levels = statements_of (statement levels)
 
 abbrev pub block_at : ℕ → Reader StatementTree
 block_at levels = block_of (statement levels)
