@@ -18,7 +18,11 @@ is_z_digit c = c == 122 || c == 90 || c == 63
 abbrev pub is_unknown : ℕ → Bool
 is_unknown c = is_x_digit c || is_z_digit c
 
--- what stands before the base of a number (3.5.1)
+-- 3.5.1: it parts digits, and is passed over
+abbrev pub is_underscore : ℕ → Bool
+is_underscore c = c == 95
+
+-- 3.5.1: it stands before the base of a number
 abbrev pub is_apostrophe : ℕ → Bool
 is_apostrophe c = c == 39
 

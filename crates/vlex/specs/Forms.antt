@@ -10,7 +10,7 @@ use Rattle.vlex.specs.declared.bytes.Lead.TheVariants as lead
 use Rattle.vlex.specs.declared.form.Form.{Form}
 use Rattle.vlex.specs.declared.form.Form.TheVariants.{Blank, Comment, Token}
 use Rattle.vlex.specs.declared.kind.TokenKind.TheVariants.{Name, System, Plain, Based, Text, Symbol}
-use Rattle.vlex.specs.Bytes.{is_apostrophe, is_unknown, is_in, lead_of}
+use Rattle.vlex.specs.Bytes.{is_apostrophe, is_underscore, is_unknown, is_in, lead_of}
 
 abbrev pub only_if : Bool → Form → Option Form
 only_if test form = if test then Some form else None
@@ -45,7 +45,7 @@ has_good_escapes (c ∷ d ∷ cs) =
 
 -- the decimal number that digits spell, _ passed over
 abbrev pub with_digit : ℕ → ℕ → ℕ
-with_digit n c = if c == 95 then n else 10 * n + (c - 48)
+with_digit n c = if is_underscore c then n else 10 * n + (c - 48)
 
 abbrev pub spelled_number : List ℕ → ℕ
 spelled_number = fold with_digit 0

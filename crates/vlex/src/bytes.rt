@@ -3,7 +3,9 @@
 ghost use Rattle.std.specs.Prelude.{◌≡◌, ◌≤◌, true, length, slice_index};
 ghost use Rattle.std.specs.List.{prefix_len};
 ghost use Rattle.std.specs.Char.{is_ascii_digit};
-ghost use Rattle.vlex.specs.Bytes.{is_unknown, is_mark, is_in, lead_of};
+ghost use Rattle.vlex.specs.Bytes.{is_mark, is_in, lead_of};
+
+use crate::digits::is_unknown;
 
 /// The bytes that a piece goes on with.
 #[derive(Clone, Copy)]
@@ -30,13 +32,6 @@ pub enum Lead {
     Slash,
     Mark,
     Other,
-}
-
-/// Whether the byte is the digit x, z or ?.
-pub fn is_unknown(byte: u8) -> bool
-    ensures { result ≡ is_unknown byte }
-{
-    byte == b'x' || byte == b'X' || byte == b'z' || byte == b'Z' || byte == b'?'
 }
 
 fn is_mark(byte: u8) -> bool

@@ -4,6 +4,7 @@
 #![tactic(auto)]
 
 mod bytes;
+pub mod digits;
 mod fault;
 mod form;
 mod front;

@@ -7,7 +7,8 @@ ghost use Rattle.vlex.specs.Bytes.{is_in, lead_of};
 ghost use Rattle.vlex.specs.Forms.{digits_from, digits_after, is_base_and_digits, is_based, is_size};
 ghost use Rattle.vlex.specs.Inner.{Finds, IsAnswer};
 
-use crate::bytes::{Lead, Set, byte_at, is_in, is_unknown, run_len};
+use crate::bytes::{Lead, Set, byte_at, is_in, run_len};
+use crate::digits::is_unknown;
 use crate::form::{Form, Front};
 use crate::kind::TokenKind;
 
