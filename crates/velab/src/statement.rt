@@ -7,8 +7,7 @@ ghost use Rattle.vast.specs.DesignViews.{actions, process_actions};
 ghost use Rattle.vast.specs.Trees.{word_text, expression_tree, statement_tree, statement_trees, item_tree};
 ghost use Rattle.velab.specs.Elaborate as spec;
 ghost use Rattle.velab.specs.Elaborate.{actions_of, all_actions_of, is_declared, knows, knows_all, knows_expression, place_of, statement_of};
-ghost use Rattle.velab.specs.Parts.{initials_of};
-ghost use Rattle.velab.specs.Reasons.{IsBreach, no_breach};
+ghost use Rattle.velab.specs.Inner.{initials_of, IsBreach, no_breach, BreaksUse, BreaksExpression, BreaksStatement, BreaksStatements, BreaksProcess, BreaksProcesses};
 
 use crate::fault::ElabFault;
 use crate::names::Names;
@@ -26,7 +25,7 @@ fn number_of(names: &Names<'_>, word: &Word<'_>) -> Result<u32, OrMemory<ElabFau
     requires { length names.now ≤ 1024 }
     ensures ok { IfOk result (λ n. n ≡ place_of names.now (word_text word.now)) }
     ensures declared { OnOk result (is_declared names.now (word_text word.now) ≡ true) }
-    ensures err { IfFault result (IsBreach (record no_breach { unknown = is_declared names.now (word_text word.now) ≡ false })) }
+    ensures err { IfFault result (BreaksUse names.now (word_text word.now)) }
 {
     match names.place(word.text) {
         Some(place) => Ok(place as u32),
@@ -41,7 +40,7 @@ fn expression_of(
     requires { length names.now ≤ 1024 }
     ensures ok { IfOk result (λ e. e ≡ spec.expression_of names.now (expression_tree expression.now)) }
     ensures known { OnOk result (knows_expression names.now (expression_tree expression.now) ≡ true) }
-    ensures err { IfFault result (IsBreach (record no_breach { unknown = knows_expression names.now (expression_tree expression.now) ≡ false })) }
+    ensures err { IfFault result (BreaksExpression names.now (expression_tree expression.now)) }
 {
     match expression {
         Expr::Number(word) => Ok(Expression::Constant(constant_of(word.text))),
@@ -72,7 +71,7 @@ fn put_actions(
     requires { length names.now ≤ 1024 }
     ensures ok { OnOk result (actions into.new.items ≡ join (actions into.old.items) (actions_of names.now (statement_tree statement.now))) }
     ensures known { OnOk result (knows names.now (statement_tree statement.now) ≡ true) }
-    ensures err { IfFault result (IsBreach (record no_breach { unknown = knows names.now (statement_tree statement.now) ≡ false })) }
+    ensures err { IfFault result (BreaksStatement names.now (statement_tree statement.now)) }
 {
     match statement {
         Stmt::Empty => Ok(()),
@@ -114,7 +113,7 @@ fn put_all_actions(
     requires { length names.now ≤ 1024 }
     ensures ok { OnOk result (actions into.new.items ≡ join (actions into.old.items) (all_actions_of names.now (statement_trees statements.now))) }
     ensures known { OnOk result (knows_all names.now (statement_trees statements.now) ≡ true) }
-    ensures err { IfFault result (IsBreach (record no_breach { unknown = knows_all names.now (statement_trees statements.now) ≡ false })) }
+    ensures err { IfFault result (BreaksStatements names.now (statement_trees statements.now)) }
 {
     for statement in statements {
         put_actions(alloc, names, statement, into)?;
@@ -134,7 +133,7 @@ fn put_process(
     ensures ok { OnOk result (map process_actions into.new.items ≡ map process_actions into.old.items ++ map (actions_of names.now) (initials_of (item_tree item.now))) }
     ensures few { OnOk result (length into.new.items ≤ 256) }
     ensures known { OnOk result (list_all (knows names.now) (initials_of (item_tree item.now)) ≡ true) }
-    ensures err { IfFault result (IsBreach (record no_breach { unknown = list_all (knows names.now) (initials_of (item_tree item.now)) ≡ false; many = 256 < length into.old.items + length (initials_of (item_tree item.now)) })) }
+    ensures err { IfFault result (BreaksProcess names.now into.old (item_tree item.now)) }
 {
     match item {
         Item::Registers { .. } => Ok(()),
@@ -160,7 +159,7 @@ pub fn processes(
     ensures ok { IfOk result (λ ps. map process_actions ps.items ≡ map (actions_of names.now) (filter_map statement_of (map item_tree items.now))) }
     ensures few { IfOk result (λ ps. length ps.items ≤ 256) }
     ensures known { OnOk result (list_all (knows names.now) (filter_map statement_of (map item_tree items.now)) ≡ true) }
-    ensures err { IfFault result (IsBreach (record no_breach { unknown = list_all (knows names.now) (filter_map statement_of (map item_tree items.now)) ≡ false; many = 256 < length (filter_map statement_of (map item_tree items.now)) })) }
+    ensures err { IfFault result (BreaksProcesses names.now (map item_tree items.now)) }
 {
     let mut processes = Vec::new(alloc);
     for item in items {

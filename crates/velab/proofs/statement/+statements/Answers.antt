@@ -6,7 +6,7 @@ use Rattle.vast.specs.declared.design.Expression.TheVariants.{Constant}
 use Rattle.vast.specs.declared.design.Statement.{Assign, Nonblocking, Delay, DumpVars, Finish}
 use Rattle.basis.specs.Reasons.{IfFault}
 use Rattle.velab.specs.Elaborate.{actions_of}
-use Rattle.velab.specs.Reasons.{IsBreach, no_breach}
+use Rattle.velab.specs.Inner.{IsBreach, no_breach}
 use Rattle.vast.proofs.ActionLemmas.{join_done, action_of_delay}
 use Rattle.velab.proofs.StatementLemmas.{put_gives, block_actions, block_knows, actions_step, knows_step, actions_end}
 use Rattle.velab.proofs.statement.+statements.Goals as goal
