@@ -3,7 +3,7 @@ use Rattle.std.proofs.Common.{◌≡◌, ℕ, ◌+◌, ◌-◌, ◌<◌, ◌≢�
 use Rattle.std.proofs.lemmas.Bool.Decides.{nat_tests}
 use Rattle.vast.specs.Syntax.{StatementTree, empty, block, assign, nonblocking, delay, dump_vars, finish, StatementTrees, first}
 use Rattle.vast.specs.Derives.{fits_statement, fits_statements, depth, greatest_depth}
-use Rattle.vast.specs.Depth.{fits_within, all_fit_within}
+use Rattle.vast.specs.Inner.{fits_within, all_fit_within}
 use Rattle.vast.specs.Trees.{statement_tree, row_trees, statement_trees}
 use Rattle.vast.specs.declared.syntax.Stmt.{Stmt, Block, Block', Row_of-Stmt, end_of-Stmt, more_of-Stmt, items-the_row-Stmt, items_hidden-the_row-Stmt-0}
 use mathlib.Core.Former.{Count}

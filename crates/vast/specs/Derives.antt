@@ -29,10 +29,14 @@ abbrev pub spell_range : Option RangeTree → List Text
 spell_range None = []
 spell_range (Some range) = codes "[" ∷ range.left ∷ codes ":" ∷ range.right ∷ codes "]" ∷ []
 
+-- , name ..
+abbrev pub spell_more_names : List Text → List Text
+spell_more_names = flat_map (λ letters. codes "," ∷ letters ∷ [])
+
 -- name, name, ..
 abbrev pub spell_names : List Text → List Text
 spell_names [] = []
-spell_names (letters ∷ rest) = letters ∷ flat_map (λ more. codes "," ∷ more ∷ []) rest
+spell_names (letters ∷ rest) = letters ∷ spell_more_names rest
 
 abbrev pub spell_item : ItemTree → List Text
 spell_item (registers range names) = codes "reg" ∷ (spell_range range ++ (spell_names names ++ codes ";" ∷ []))

@@ -1,18 +1,17 @@
 -- Words: what may stand for a name or a number in a tree, and which words the profile has (docs/LANGUAGE.md,
 -- "Words"; IEEE 1364-2005, 3.7, 3.5.1). A word is the bytes of one token.
-use Rattle.std.specs.Prelude.{Bool, false, ◌&&◌, ◌||◌, not, ℕ, ◌==◌, nat_le, List, [], ◌∷◌, codes}
+use Rattle.std.specs.Prelude.{Bool, false, ◌&&◌, ◌||◌, not, ℕ, ◌==◌, List, [], ◌∷◌, codes}
 use Rattle.std.specs.List.{list_any, list_all}
 use Rattle.std.specs.Str.{bytes_eq}
+use Rattle.std.specs.Char.{is_ascii_digit, is_ascii_alphabetic}
 
+-- 3.7: a letter or `_`
 abbrev pub begins_name : ℕ → Bool
-begins_name c = (nat_le 97 c && nat_le c 122) || (nat_le 65 c && nat_le c 90) || (c == 95)
+begins_name c = is_ascii_alphabetic c || (c == 95)
 
-abbrev pub is_digit : ℕ → Bool
-is_digit c = nat_le 48 c && nat_le c 57
-
--- a letter, `_`, a digit or `$`
+-- 3.7: a letter, `_`, a digit or `$`
 abbrev pub is_in_name : ℕ → Bool
-is_in_name c = begins_name c || is_digit c || (c == 36)
+is_in_name c = begins_name c || is_ascii_digit c || (c == 36)
 
 -- the reserved words of this product (docs/LANGUAGE.md), in the order of their letters
 unfoldable pub reserved_words : List (List ℕ)
@@ -34,6 +33,7 @@ reserved_words =
     ∷ codes "unsigned" ∷ codes "use" ∷ codes "uwire" ∷ codes "wait" ∷ codes "wand" ∷ codes "while" ∷ codes "wire"
     ∷ codes "wor" ∷ codes "xnor" ∷ codes "xor" ∷ []
 
+-- 3.7.2
 abbrev pub is_reserved : List ℕ → Bool
 is_reserved word = list_any (λ reserved. bytes_eq reserved word) reserved_words
 
@@ -45,4 +45,4 @@ is_name (c ∷ cs) = begins_name c && list_all is_in_name cs && not (is_reserved
 -- 3.5.1: among tokens the numbers are those that begin with a digit or an apostrophe
 abbrev pub is_number : List ℕ → Bool
 is_number [] = false
-is_number (c ∷ cs) = is_digit c || (c == 39)
+is_number (c ∷ cs) = is_ascii_digit c || (c == 39)

@@ -3,10 +3,9 @@
 ghost use Rattle.std.specs.Prelude.{◌≡◌, map, option_map};
 ghost use Rattle.std.specs.List.{list_all};
 ghost use Rattle.vast.specs.Words.{is_name as is_name_text};
-ghost use Rattle.vast.specs.Syntax.{assign};
 ghost use Rattle.vast.specs.Derives.{fits as fits_tree, fits_module, fits_item, fits_range, fits_expression};
 ghost use Rattle.vast.specs.Trees.{source_tree, module_tree, item_tree, range_tree, word_text, expression_tree, statement_tree, statement_trees};
-ghost use Rattle.vast.specs.Depth.{fits_within, all_fit_within};
+ghost use Rattle.vast.specs.Inner.{fits_within, all_fit_within, assignment_tree};
 
 use crate::syntax::{Ast, Expr, Item, Module, Range, Stmt, Word};
 use crate::words::{is_name, is_number};
@@ -25,7 +24,7 @@ fn expression_fits(expression: &Expr<'_>) -> bool
 
 // Whether an assignment of either kind fits, and is no deeper than so many levels.
 fn assignment_fits(target: &Word<'_>, value: &Expr<'_>, levels: u32) -> bool
-    ensures { result ≡ fits_within levels (assign (word_text target.now) (expression_tree value.now)) }
+    ensures { result ≡ fits_within levels (assignment_tree target.now value.now) }
 {
     levels > 1 && is_name(target.text) && expression_fits(value)
 }

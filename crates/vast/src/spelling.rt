@@ -1,10 +1,10 @@
 // The words of a tree, in order.
 
-ghost use Rattle.std.specs.Prelude.{◌≡◌, ◌∷◌, [], ◌++◌, codes, OnOk, IfOk, flat_map, map, option_map};
-ghost use Rattle.vast.specs.Derives.{spell as spell_tree, spell_module, spell_item, spell_names, spell_range, spell_expression, spell_statement, spell_statements};
+ghost use Rattle.std.specs.Prelude.{◌≡◌, ◌∷◌, [], IfOk, flat_map, map, option_map};
+ghost use Rattle.vast.specs.Derives.{spell as spell_tree, spell_module, spell_item, spell_names, spell_more_names, spell_range, spell_expression, spell_statement, spell_statements};
 ghost use Rattle.vast.specs.Trees.{source_tree, module_tree, item_tree, range_tree, word_text, expression_tree, statement_tree, statement_trees};
 ghost use Rattle.vast.specs.Spellings.{texts};
-ghost use Rattle.vast.specs.Syntax.{block};
+ghost use Rattle.vast.specs.Inner.{Puts, assignment_words, block_tree};
 
 use crate::syntax::{Ast, Expr, Item, Module, Range, Stmt, Word};
 use basis::NoMemory;
@@ -17,14 +17,14 @@ pub struct Spelling<'t> {
 }
 
 fn put<'t>(words: &mut Vec<Spelling<'t>>, text: &'t [u8]) -> Result<(), NoMemory>
-    ensures { OnOk result (texts words.new.items ≡ texts words.old.items ++ text.now ∷ []) }
+    ensures { Puts words.old words.new result (text.now ∷ []) }
 {
     words.push(Spelling { text })?;
     Ok(())
 }
 
 fn put_expression<'t>(words: &mut Vec<Spelling<'t>>, expression: &Expr<'t>) -> Result<(), NoMemory>
-    ensures { OnOk result (texts words.new.items ≡ texts words.old.items ++ spell_expression (expression_tree expression.now)) }
+    ensures { Puts words.old words.new result (spell_expression (expression_tree expression.now)) }
 {
     match expression {
         Expr::Number(word) => put(words, word.text),
@@ -38,7 +38,7 @@ fn put_assignment<'t>(
     sign: &'t [u8],
     value: &Expr<'t>,
 ) -> Result<(), NoMemory>
-    ensures { OnOk result (texts words.new.items ≡ texts words.old.items ++ word_text target.now ∷ sign.now ∷ (spell_expression (expression_tree value.now) ++ codes ";" ∷ [])) }
+    ensures { Puts words.old words.new result (assignment_words target.now sign.now value.now) }
 {
     put(words, target.text)?;
     put(words, sign)?;
@@ -48,7 +48,7 @@ fn put_assignment<'t>(
 
 #[cycle(spelling)]
 fn put_statement<'t>(words: &mut Vec<Spelling<'t>>, statement: &Stmt<'t>) -> Result<(), NoMemory>
-    ensures { OnOk result (texts words.new.items ≡ texts words.old.items ++ spell_statement (statement_tree statement.now)) }
+    ensures { Puts words.old words.new result (spell_statement (statement_tree statement.now)) }
 {
     match statement {
         Stmt::Empty => put(words, b";"),
@@ -73,7 +73,7 @@ fn put_statement<'t>(words: &mut Vec<Spelling<'t>>, statement: &Stmt<'t>) -> Res
 
 #[cycle(spelling)]
 fn put_block<'t>(words: &mut Vec<Spelling<'t>>, statements: &[Stmt<'t>]) -> Result<(), NoMemory>
-    ensures { OnOk result (texts words.new.items ≡ texts words.old.items ++ spell_statement (block (statement_trees statements.now))) }
+    ensures { Puts words.old words.new result (spell_statement (block_tree statements.now)) }
 {
     put(words, b"begin")?;
     put_statements(words, statements)?;
@@ -85,7 +85,7 @@ fn put_statements<'t>(
     words: &mut Vec<Spelling<'t>>,
     statements: &[Stmt<'t>],
 ) -> Result<(), NoMemory>
-    ensures { OnOk result (texts words.new.items ≡ texts words.old.items ++ spell_statements (statement_trees statements.now)) }
+    ensures { Puts words.old words.new result (spell_statements (statement_trees statements.now)) }
 {
     for statement in statements {
         put_statement(words, statement)?;
@@ -94,7 +94,7 @@ fn put_statements<'t>(
 }
 
 fn put_range<'t>(words: &mut Vec<Spelling<'t>>, range: &Option<Range<'t>>) -> Result<(), NoMemory>
-    ensures { OnOk result (texts words.new.items ≡ texts words.old.items ++ spell_range (option_map range_tree range.now)) }
+    ensures { Puts words.old words.new result (spell_range (option_map range_tree range.now)) }
 {
     match range {
         None => Ok(()),
@@ -109,7 +109,7 @@ fn put_range<'t>(words: &mut Vec<Spelling<'t>>, range: &Option<Range<'t>>) -> Re
 }
 
 fn put_names<'t>(words: &mut Vec<Spelling<'t>>, names: &[Word<'t>]) -> Result<(), NoMemory>
-    ensures { OnOk result (texts words.new.items ≡ texts words.old.items ++ spell_names (map word_text names.now)) }
+    ensures { Puts words.old words.new result (spell_names (map word_text names.now)) }
 {
     match names.split_first() {
         None => Ok(()),
@@ -121,7 +121,7 @@ fn put_names<'t>(words: &mut Vec<Spelling<'t>>, names: &[Word<'t>]) -> Result<()
 }
 
 fn put_more_names<'t>(words: &mut Vec<Spelling<'t>>, names: &[Word<'t>]) -> Result<(), NoMemory>
-    ensures { OnOk result (texts words.new.items ≡ texts words.old.items ++ flat_map (λ more. codes "," ∷ more ∷ []) (map word_text names.now)) }
+    ensures { Puts words.old words.new result (spell_more_names (map word_text names.now)) }
 {
     for name in names {
         put(words, b",")?;
@@ -131,7 +131,7 @@ fn put_more_names<'t>(words: &mut Vec<Spelling<'t>>, names: &[Word<'t>]) -> Resu
 }
 
 fn put_item<'t>(words: &mut Vec<Spelling<'t>>, item: &Item<'t>) -> Result<(), NoMemory>
-    ensures { OnOk result (texts words.new.items ≡ texts words.old.items ++ spell_item (item_tree item.now)) }
+    ensures { Puts words.old words.new result (spell_item (item_tree item.now)) }
 {
     match item {
         Item::Registers { range, names } => {
@@ -148,7 +148,7 @@ fn put_item<'t>(words: &mut Vec<Spelling<'t>>, item: &Item<'t>) -> Result<(), No
 }
 
 fn put_items<'t>(words: &mut Vec<Spelling<'t>>, items: &[Item<'t>]) -> Result<(), NoMemory>
-    ensures { OnOk result (texts words.new.items ≡ texts words.old.items ++ flat_map spell_item (map item_tree items.now)) }
+    ensures { Puts words.old words.new result (flat_map spell_item (map item_tree items.now)) }
 {
     for item in items {
         put_item(words, item)?;
@@ -157,7 +157,7 @@ fn put_items<'t>(words: &mut Vec<Spelling<'t>>, items: &[Item<'t>]) -> Result<()
 }
 
 fn put_module<'t>(words: &mut Vec<Spelling<'t>>, unit: &Module<'t>) -> Result<(), NoMemory>
-    ensures { OnOk result (texts words.new.items ≡ texts words.old.items ++ spell_module (module_tree unit.now)) }
+    ensures { Puts words.old words.new result (spell_module (module_tree unit.now)) }
 {
     put(words, b"module")?;
     put(words, unit.name.text)?;

@@ -5,7 +5,7 @@ use Rattle.basis.specs.declared.memory.OrMemory.TheVariants.{Fault, Memory}
 use Rattle.basis.specs.Reasons.{Because, IfFault}
 use Rattle.velab.specs.declared.fault.ElabFault.{ElabFault}
 use Rattle.velab.specs.declared.fault.ElabFault.TheVariants.{Module, Doubled, Unknown, Width, TooMany}
-use Rattle.velab.specs.Reasons.{Breaches, IsBreach}
+use Rattle.velab.specs.Inner.{Breaches, IsBreach}
 
 pub because_of : {b c : Breaches} → (b.doubled → c.doubled) → (b.unknown → c.unknown) → (b.width → c.width) → (b.many → c.many) →
     (e : OrMemory ElabFault) → Because (IsBreach b) e → Because (IsBreach c) e

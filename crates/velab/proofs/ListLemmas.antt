@@ -1,9 +1,10 @@
 -- A loop over a list that builds another: what was done and what is left to do make the whole.
-use Rattle.std.proofs.Common.{◌≡◌, ◌<◌, ℕ, suc, ◌+◌, Bool, false, ◌&&◌, List, ◌∷◌, ◌++◌, length, drop, get_or, drop-cons, add-one, refl, sym, ap, subst, ◌∙◌, append_assoc, length-append, arith}
+use Rattle.std.proofs.Common.{◌≡◌, ◌<◌, ℕ, ◌+◌, Bool, false, ◌&&◌, List, ◌∷◌, ◌++◌, length, drop, get_or, refl, sym, ap, subst, ◌∙◌, append_assoc, length-append, arith}
+use Rattle.basis.proofs.Lists.{left_from}
 
 module _ {A : Type 0} (xs : List A) (i : ℕ) (x : A) (within : i < length xs) (is : x ≡ get_or xs i x) where
   pub drop_at : drop i xs ≡ x ∷ drop (i + 1) xs
-  drop_at = drop-cons xs i x within ∙ ap (λ y. y ∷ drop (suc i) xs) (sym is) ∙ ap (λ j. x ∷ drop j xs) (sym (add-one i))
+  drop_at = sym (left_from xs i x is within)
 
   module _ {B : Type 0} (F : List A → List B) (h : A → List B) (splits : (y : A) (ys : List A) → F (y ∷ ys) ≡ h y ++ F ys) where
     -- what is left begins with what x gives

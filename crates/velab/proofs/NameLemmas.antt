@@ -5,6 +5,7 @@ use Rattle.std.specs.Str.{bytes_eq}
 use Rattle.std.specs.Cmp.Lexicographic.{nat_list_eq_equiv}
 use Rattle.std.proofs.lemmas.List.{length-map, map-append}
 use Rattle.std.proofs.lemmas.List.Folds.{list_any-append}
+use Rattle.basis.proofs.Bools.{or_second, or_left, or_right}
 use Rattle.vast.specs.Syntax.{Text}
 use Rattle.velab.specs.Elaborate.{has_double, is_declared}
 
@@ -28,20 +29,8 @@ position-texts p keys = λ i. found (prefix-texts (λ t. not (p t)) keys i) (sho
     shown : length keys ≡ length (texts keys)
     shown = sym (length-map keys (λ (key : Bor Text). key.now))
 
-or_true : (a b : Bool) → b ≡ true → (a || b) ≡ true
-or_true true b e = refl
-or_true false b e = e
-
 or_false : (a b : Bool) → a ≡ false → b ≡ false → (a || b) ≡ false
 or_false a b e f = (λ i. e i || f i)
-
-left_false : (a b : Bool) → (a || b) ≡ false → a ≡ false
-left_false true b e = absurd (true≢false e)
-left_false false b e = refl
-
-right_false : (a b : Bool) → (a || b) ≡ false → b ≡ false
-right_false true b e = absurd (true≢false e)
-right_false false b e = e
 
 -- a name that stands before is there twice
 pub double_at : (xs rest : List Text) (y : Text) → is_declared xs y ≡ true → has_double (xs ++ y ∷ rest) ≡ true
@@ -49,12 +38,12 @@ double_at [] rest y there = absurd (true≢false (sym there))
 double_at (x ∷ xs) rest y there = by (bytes_eq y x) refl (double_at xs rest y)
   where
     among : bytes_eq x y ≡ true → list_any (bytes_eq x) (xs ++ y ∷ rest) ≡ true
-    among e = list_any-append (bytes_eq x) xs (y ∷ rest) ∙ or_true (list_any (bytes_eq x) xs) (list_any (bytes_eq x) (y ∷ rest)) (ap (λ b. b || list_any (bytes_eq x) rest) e)
+    among e = list_any-append (bytes_eq x) xs (y ∷ rest) ∙ or_second (list_any (bytes_eq x) xs) (list_any (bytes_eq x) (y ∷ rest)) (ap (λ b. b || list_any (bytes_eq x) rest) e)
 
     by : (b : Bool) → bytes_eq y x ≡ b → (is_declared xs y ≡ true → has_double (xs ++ y ∷ rest) ≡ true) →
         (list_any (bytes_eq x) (xs ++ y ∷ rest) || has_double (xs ++ y ∷ rest)) ≡ true
     by true e later = ap (λ b. b || has_double (xs ++ y ∷ rest)) (among (nat_list_eq_equiv.symm x y ∙ e))
-    by false e later = or_true (list_any (bytes_eq x) (xs ++ y ∷ rest)) (has_double (xs ++ y ∷ rest))
+    by false e later = or_second (list_any (bytes_eq x) (xs ++ y ∷ rest)) (has_double (xs ++ y ∷ rest))
         (later (sym (ap (λ b. b || is_declared xs y) e) ∙ there))
 
 -- a name that doesn't stand before may come last
@@ -64,10 +53,10 @@ no_double-push (x ∷ xs) y none new =
     or_false (list_any (bytes_eq x) (xs ++ y ∷ [])) (has_double (xs ++ y ∷ []))
     (
     list_any-append (bytes_eq x) xs (y ∷ [])
-    ∙ or_false (list_any (bytes_eq x) xs) (bytes_eq x y || false) (left_false (list_any (bytes_eq x) xs) (has_double xs) none)
-    (or_false (bytes_eq x y) false (nat_list_eq_equiv.symm x y ∙ left_false (bytes_eq y x) (is_declared xs y) new) refl)
+    ∙ or_false (list_any (bytes_eq x) xs) (bytes_eq x y || false) (or_left (list_any (bytes_eq x) xs) (has_double xs) none)
+    (or_false (bytes_eq x y) false (nat_list_eq_equiv.symm x y ∙ or_left (bytes_eq y x) (is_declared xs y) new) refl)
     )
-    (no_double-push xs y (right_false (list_any (bytes_eq x) xs) (has_double xs) none) (right_false (bytes_eq y x) (is_declared xs y) new))
+    (no_double-push xs y (or_right (list_any (bytes_eq x) xs) (has_double xs) none) (or_right (bytes_eq y x) (is_declared xs y) new))
 
 -- the names after one was put in
 pub no_double-inserted : (keys new : List (Bor Text)) (key : Bor Text) → has_double (texts keys) ≡ false → list_any (λ (k : Bor Text). bytes_eq key.now k.now) keys ≡ false →

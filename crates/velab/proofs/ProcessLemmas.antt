@@ -8,14 +8,13 @@ use Rattle.vast.specs.declared.syntax.Item.{Item}
 use Rattle.vast.specs.Syntax.{ItemTree, registers, initial}
 use Rattle.velab.specs.declared.fault.ElabFault.{ElabFault}
 use Rattle.velab.specs.Elaborate.{knows, statement_of}
-use Rattle.velab.specs.Parts.{initials_of}
-use Rattle.velab.specs.Reasons.{IsBreach, no_breach}
+use Rattle.velab.specs.Inner.{initials_of, IsBreach, no_breach}
 use Rattle.velab.proofs.FaultLemmas.{because_of}
 use Rattle.velab.proofs.ListLemmas.{drop_at}
 use Rattle.vast.specs.Syntax.{StatementTree}
 use Rattle.vast.specs.declared.design.Action.{Action}
 use Rattle.velab.specs.Elaborate.{Laid, Processes, laid, laid_processes}
-use Rattle.velab.specs.Parts.{IsLaid, AreLaid}
+use Rattle.velab.specs.Inner.{IsLaid, AreLaid}
 
 -- so many are laid: what is left leads to the same as all of them from the start
 pub record LeadTo (names : List (List ℕ)) (now : List Action) (before : List (List ℕ)) (left : List StatementTree) (all : Processes) : Type 0 where

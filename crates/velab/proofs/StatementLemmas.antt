@@ -9,7 +9,7 @@ use Rattle.vast.specs.declared.design.Action.{Action}
 use Rattle.basis.specs.declared.memory.OrMemory.{OrMemory}
 use Rattle.velab.specs.declared.fault.ElabFault.{ElabFault}
 use Rattle.velab.specs.Elaborate.{Laid, placed, nothing_laid, laid, all_laid, knows, knows_all}
-use Rattle.velab.specs.Parts.{IsLaid}
+use Rattle.velab.specs.Inner.{IsLaid}
 use Rattle.velab.proofs.ListLemmas.{drop_at}
 
 -- one action was put at the next place

@@ -9,7 +9,8 @@ use Rattle.basis.specs.Reasons.{Because, IfFault}
 use Rattle.velab.specs.declared.fault.ElabFault.{ElabFault}
 use Rattle.velab.specs.declared.fault.ElabFault.TheVariants.{Module as ModuleFault, Doubled, Unknown, Width, TooMany}
 use Rattle.velab.specs.Elaborate.{top_of, has_double, is_declared, module_names}
-use Rattle.velab.specs.Reasons.{IsBreach, no_breach, breaches_of, IsDesignReason}
+use Rattle.velab.specs.Reasons.{IsDesignReason}
+use Rattle.velab.specs.Inner.{IsBreach, no_breach, BreaksModule}
 use Rattle.velab.proofs.FaultLemmas.{because_of}
 use Rattle.velab.proofs.ListLemmas.{drop_at}
 use Rattle.velab.proofs.VariableLemmas.{name_stops}
@@ -24,7 +25,7 @@ modules_err modules i unit names all e within is same h =
 
 -- a rule that the top breaks is a rule that the text breaks
 pub top_err : {T : Type 0} (result : Result T (OrMemory ElabFault)) (tree : SourceTree) (top : Option Text) (m : ModuleTree) → top_of tree top ≡ Some m →
-    IfFault result (IsBreach (breaches_of m)) → IfFault result (IsDesignReason tree top)
+    IfFault result (BreaksModule m) → IfFault result (IsDesignReason tree top)
 top_err (Ok x) tree top m is h = tt
 top_err (Err (Fault (ModuleFault at))) tree top m is h = absurd h
 top_err (Err (Fault (Doubled at))) tree top m is h = inr (m, is, h)

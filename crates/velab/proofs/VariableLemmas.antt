@@ -21,8 +21,8 @@ use Rattle.basis.specs.declared.memory.OrMemory.{OrMemory}
 use Rattle.basis.specs.Reasons.{Because, IfFault}
 use Rattle.velab.specs.declared.fault.ElabFault.{ElabFault}
 use Rattle.velab.specs.Elaborate.{is_negative, is_declared, has_double, has_range, Declaration, declared, declarations_of, bounds_of, variable_by, variable_of}
-use Rattle.velab.specs.Parts.{names_of, names_in}
-use Rattle.velab.specs.Reasons.{IsBreach, no_breach}
+use Rattle.velab.specs.Inner.{names_of, names_in}
+use Rattle.velab.specs.Inner.{IsBreach, no_breach}
 use Rattle.velab.proofs.ListLemmas.{stopped, fails_at, longer}
 use Rattle.velab.proofs.NameLemmas.{double_at}
 use Rattle.velab.proofs.FaultLemmas.{because_of}

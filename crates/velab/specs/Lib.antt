@@ -1,4 +1,5 @@
 pub mod Literals
 pub mod Elaborate
 pub mod Reasons
-pub mod Parts
+pub mod Laws
+pub mod Inner

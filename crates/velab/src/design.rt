@@ -6,7 +6,8 @@ ghost use Rattle.vast.specs.Design.{Design};
 ghost use Rattle.vast.specs.Trees.{source_tree, module_tree};
 ghost use Rattle.velab.specs.Elaborate as spec;
 ghost use Rattle.velab.specs.Elaborate.{Elaborates, IsRight};
-ghost use Rattle.velab.specs.Reasons.{IsDesignReason, HasNoDesign, IsBreach, breaches_of};
+ghost use Rattle.velab.specs.Reasons.{IsDesignReason, HasNoDesign};
+ghost use Rattle.velab.specs.Inner.{BreaksModule};
 
 use crate::fault::ElabFault;
 use crate::statement::{ProcessTable, processes};
@@ -41,7 +42,7 @@ fn scopes(alloc: Global, name: &[u8], variables: u32) -> Result<Vec<Scope>, NoMe
 fn design_of(alloc: Global, unit: &Module<'_>) -> Result<Design, OrMemory<ElabFault>>
     ensures ok { IfOk result (λ design. design ≡ spec.design_of (module_tree unit.now)) }
     ensures right { OnOk result (IsRight (module_tree unit.now)) }
-    ensures err { IfFault result (IsBreach (breaches_of (module_tree unit.now))) }
+    ensures err { IfFault result (BreaksModule (module_tree unit.now)) }
 {
     let Declarations { names, variables } = declare_items(alloc, unit.name.text, &unit.items)?;
     let ProcessTable { actions, begins } = processes(alloc, &names, &unit.items)?;

@@ -4,7 +4,7 @@ ghost use Rattle.std.specs.Prelude.{◌≡◌, ◌<◌, ◌++◌, ◌∷◌, [],
 ghost use Rattle.std.specs.Str.{bytes_eq};
 ghost use Rattle.basis.specs.Reasons.{IfFault};
 ghost use Rattle.velab.specs.Elaborate.{has_double, is_declared};
-ghost use Rattle.velab.specs.Reasons.{IsBreach, no_breach};
+ghost use Rattle.velab.specs.Inner.{BreaksName};
 
 use crate::fault::ElabFault;
 use basis::OrMemory;
@@ -52,7 +52,7 @@ impl<'t> Names<'t> {
     pub fn add(&mut self, word: &Word<'t>) -> Result<(), OrMemory<ElabFault>>
         ensures added { OnOk result (self.new ≡ self.old ++ word.now.text.now ∷ []) }
         ensures unique { has_double self.new ≡ false }
-        ensures err { IfFault result (IsBreach (record no_breach { doubled = is_declared self.old word.now.text.now ≡ true })) }
+        ensures err { IfFault result (BreaksName self.old word.now.text.now) }
     {
         let added = self.set.insert(word.text)?;
         if !added {

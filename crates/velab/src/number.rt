@@ -2,25 +2,17 @@
 ghost use Rattle.std.specs.Prelude.{◌≡◌, ◌≤◌, ◌+◌, ◌-◌, ◌%◌, ◌^◌, ◌++◌, ◌<◌, IfSome, position, drop, length, min, take, if◌then◌else◌};
 ghost use Rattle.vbits.specs.Letters as letters;
 ghost use Rattle.vbits.specs.Vectors as vectors;
+ghost use Rattle.vlex.specs.Bytes.{is_apostrophe};
+ghost use Rattle.vlex.specs.Forms.{with_digit, spelled_number};
 ghost use Rattle.velab.specs.Literals as literals;
+ghost use Rattle.velab.specs.Inner.{shifted_letters};
 
 use vast::design::Constant;
 use vbits::{Bit4, Vec4};
+use vlex::digits::{is_x_digit, is_z_digit};
 
 /// The widest number or variable, in bits.
 pub(crate) const WIDEST: u32 = 64;
-
-fn is_x_digit(c: u8) -> bool
-    ensures { result ≡ literals.is_x_digit c }
-{
-    c == b'x' || c == b'X'
-}
-
-fn is_z_digit(c: u8) -> bool
-    ensures { result ≡ literals.is_z_digit c }
-{
-    c == b'z' || c == b'Z' || c == b'?'
-}
 
 fn digit_value(c: u8) -> u8
     ensures { result ≡ literals.digit_value c }
@@ -49,7 +41,7 @@ fn behind_first(text: &[u8]) -> &[u8]
 
 // One digit more, of which the lowest 64 bits are kept.
 fn with_digit(n: u64, c: u8) -> u64
-    ensures { result ≡ literals.with_digit n c % 2 ^ 64 }
+    ensures { result ≡ with_digit n c % 2 ^ 64 }
 {
     if c == b'_' {
         return n;
@@ -60,7 +52,7 @@ fn with_digit(n: u64, c: u8) -> u64
 
 // The lowest 64 bits of the number that decimal digits spell.
 fn low_number(digits: &[u8]) -> u64
-    ensures { result ≡ literals.spelled_number digits.now % 2 ^ 64 }
+    ensures { result ≡ spelled_number digits.now % 2 ^ 64 }
 {
     let mut n: u64 = 0;
     for c in digits {
@@ -72,7 +64,7 @@ fn low_number(digits: &[u8]) -> u64
 // One digit more, or 64 where that is less.
 fn size_with_digit(n: u32, c: u8) -> u32
     requires { n ≤ 64 }
-    ensures { result ≡ min 64 (literals.with_digit n c) }
+    ensures { result ≡ min 64 (with_digit n c) }
 {
     if c == b'_' {
         return n;
@@ -82,7 +74,7 @@ fn size_with_digit(n: u32, c: u8) -> u32
 
 // The number that decimal digits spell, or 64 where that is less.
 fn small_number(digits: &[u8]) -> u32
-    ensures { result ≡ min 64 (literals.spelled_number digits.now) }
+    ensures { result ≡ min 64 (spelled_number digits.now) }
 {
     let mut n: u32 = 0;
     for c in digits {
@@ -158,7 +150,7 @@ fn shifted_in(value: Vec4, count: u32, c: u8) -> Vec4
     requires whole { length value.letters ≡ 64 }
     requires some { 1 ≤ count }
     requires few { count ≤ 4 }
-    ensures { result.letters ≡ (if literals.is_underscore c then value.letters else literals.digit_letters count c ++ take (64 - count) value.letters) }
+    ensures { result.letters ≡ shifted_letters count c value.letters }
 {
     if c == b'_' {
         return value;
@@ -265,7 +257,7 @@ fn plain_constant(digits: &[u8]) -> Constant
 
 // Where the apostrophe of a based number stands.
 fn apostrophe(text: &[u8]) -> Option<usize>
-    ensures place { result ≡ position literals.is_apostrophe text.now }
+    ensures place { result ≡ position is_apostrophe text.now }
     ensures within { IfSome result (λ place. place < length text.now) }
 {
     text.iter().position(|c| *c == b'\'')

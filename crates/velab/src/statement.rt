@@ -5,8 +5,7 @@ ghost use Rattle.basis.specs.Reasons.{IfFault};
 ghost use Rattle.vast.specs.Trees.{word_text, expression_tree, statement_tree, statement_trees, item_tree};
 ghost use Rattle.velab.specs.Elaborate as spec;
 ghost use Rattle.velab.specs.Elaborate.{laid, all_laid, laid_processes, is_declared, knows, knows_all, knows_expression, place_of, statement_of};
-ghost use Rattle.velab.specs.Parts.{initials_of, IsLaid, AreLaid};
-ghost use Rattle.velab.specs.Reasons.{IsBreach, no_breach};
+ghost use Rattle.velab.specs.Inner.{initials_of, IsLaid, AreLaid, IsBreach, no_breach, BreaksUse, BreaksExpression, BreaksStatement, BreaksStatements, BreaksProcess, BreaksProcesses};
 
 use crate::fault::ElabFault;
 use crate::names::Names;
@@ -24,7 +23,7 @@ fn number_of(names: &Names<'_>, word: &Word<'_>) -> Result<u32, OrMemory<ElabFau
     requires { length names.now ≤ 1024 }
     ensures ok { IfOk result (λ n. n ≡ place_of names.now (word_text word.now)) }
     ensures declared { OnOk result (is_declared names.now (word_text word.now) ≡ true) }
-    ensures err { IfFault result (IsBreach (record no_breach { unknown = is_declared names.now (word_text word.now) ≡ false })) }
+    ensures err { IfFault result (BreaksUse names.now (word_text word.now)) }
 {
     match names.place(word.text) {
         Some(place) => Ok(place as u32),
@@ -39,7 +38,7 @@ fn expression_of(
     requires { length names.now ≤ 1024 }
     ensures ok { IfOk result (λ e. e ≡ spec.expression_of names.now (expression_tree expression.now)) }
     ensures known { OnOk result (knows_expression names.now (expression_tree expression.now) ≡ true) }
-    ensures err { IfFault result (IsBreach (record no_breach { unknown = knows_expression names.now (expression_tree expression.now) ≡ false })) }
+    ensures err { IfFault result (BreaksExpression names.now (expression_tree expression.now)) }
 {
     match expression {
         Expr::Number(word) => Ok(Expression::Constant(constant_of(word.text))),
@@ -77,7 +76,7 @@ fn lay(
     requires { length names.now ≤ 1024 }
     ensures ok { OnOk result (IsLaid (laid names.now table.old.items (statement_tree statement.now)) into.old.items table.new.items into.new.items) }
     ensures known { OnOk result (knows names.now (statement_tree statement.now) ≡ true) }
-    ensures err { IfFault result (IsBreach (record no_breach { unknown = knows names.now (statement_tree statement.now) ≡ false })) }
+    ensures err { IfFault result (BreaksStatement names.now (statement_tree statement.now)) }
 {
     match statement {
         Stmt::Empty => Ok(()),
@@ -115,7 +114,7 @@ fn lay_all(
     requires { length names.now ≤ 1024 }
     ensures ok { OnOk result (IsLaid (all_laid names.now table.old.items (statement_trees statements.now)) into.old.items table.new.items into.new.items) }
     ensures known { OnOk result (knows_all names.now (statement_trees statements.now) ≡ true) }
-    ensures err { IfFault result (IsBreach (record no_breach { unknown = knows_all names.now (statement_trees statements.now) ≡ false })) }
+    ensures err { IfFault result (BreaksStatements names.now (statement_trees statements.now)) }
 {
     for statement in statements {
         lay(alloc, names, statement, table, into)?;
@@ -136,7 +135,7 @@ fn lay_process(
     ensures ok { OnOk result (AreLaid (laid_processes names.now table.old.items (initials_of (item_tree item.now))) into.old.items table.new.items into.new.items) }
     ensures few { OnOk result (length into.new.items ≤ 256) }
     ensures known { OnOk result (list_all (knows names.now) (initials_of (item_tree item.now)) ≡ true) }
-    ensures err { IfFault result (IsBreach (record no_breach { unknown = list_all (knows names.now) (initials_of (item_tree item.now)) ≡ false; many = 256 < length into.old.items + length (initials_of (item_tree item.now)) })) }
+    ensures err { IfFault result (BreaksProcess names.now into.old (item_tree item.now)) }
 {
     match item {
         Item::Registers { .. } => Ok(()),
@@ -170,7 +169,7 @@ pub fn processes(
     ensures few { IfOk result (λ ps. length ps.begins.items ≤ 256) }
     ensures count { OnOk result (length (filter_map statement_of (map item_tree items.now)) ≤ 256) }
     ensures known { OnOk result (list_all (knows names.now) (filter_map statement_of (map item_tree items.now)) ≡ true) }
-    ensures err { IfFault result (IsBreach (record no_breach { unknown = list_all (knows names.now) (filter_map statement_of (map item_tree items.now)) ≡ false; many = 256 < length (filter_map statement_of (map item_tree items.now)) })) }
+    ensures err { IfFault result (BreaksProcesses names.now (map item_tree items.now)) }
 {
     let mut actions = Vec::new(alloc);
     let mut begins = Vec::new(alloc);

@@ -1,12 +1,10 @@
 // The modules of a text, and which of them is the top (12.1.1).
-ghost use Rattle.std.specs.Prelude.{◌≡◌, true, false, map, option_map, OnOk};
-ghost use Rattle.std.specs.List.{find};
-ghost use Rattle.std.specs.Str.{bytes_eq};
+ghost use Rattle.std.specs.Prelude.{◌≡◌, false, map, OnOk, Some};
 ghost use Rattle.basis.specs.Reasons.{IfFault};
 ghost use Rattle.vast.specs.Trees.{module_tree};
 ghost use Rattle.velab.specs.Elaborate as spec;
 ghost use Rattle.velab.specs.Elaborate.{has_double, module_names};
-ghost use Rattle.velab.specs.Reasons.{IsBreach, no_breach};
+ghost use Rattle.velab.specs.Inner.{BreaksModules, unit_tree, named_text};
 
 use crate::fault::ElabFault;
 use crate::names::Names;
@@ -17,7 +15,7 @@ use vast::syntax::Module;
 /// E302 where two modules have one name.
 pub fn check_names(alloc: Global, modules: &[Module<'_>]) -> Result<(), OrMemory<ElabFault>>
     ensures ok { OnOk result (has_double (module_names (map module_tree modules.now)) ≡ false) }
-    ensures err { IfFault result (IsBreach (record no_breach { doubled = has_double (module_names (map module_tree modules.now)) ≡ true })) }
+    ensures err { IfFault result (BreaksModules (map module_tree modules.now)) }
 {
     let mut names = Names::new(alloc);
     for unit in modules {
@@ -28,7 +26,7 @@ pub fn check_names(alloc: Global, modules: &[Module<'_>]) -> Result<(), OrMemory
 
 // The first module of that name.
 fn named<'a, 't>(modules: &'a [Module<'t>], name: &[u8]) -> Option<&'a Module<'t>>
-    ensures { option_map (λ m. module_tree m.now) result ≡ find (λ m. bytes_eq m.name name.now) (map module_tree modules.now) }
+    ensures { unit_tree result ≡ spec.top_of (map module_tree modules.now) (Some name.now) }
 {
     for unit in modules {
         if unit.name.text == name {
@@ -39,7 +37,7 @@ fn named<'a, 't>(modules: &'a [Module<'t>], name: &[u8]) -> Option<&'a Module<'t
 }
 
 fn only<'a, 't>(modules: &'a [Module<'t>]) -> Option<&'a Module<'t>>
-    ensures { option_map (λ m. module_tree m.now) result ≡ spec.only_of (map module_tree modules.now) }
+    ensures { unit_tree result ≡ spec.only_of (map module_tree modules.now) }
 {
     if modules.len() == 1 {
         Some(&modules[0])
@@ -50,7 +48,7 @@ fn only<'a, 't>(modules: &'a [Module<'t>]) -> Option<&'a Module<'t>>
 
 /// The module of that name, or without a name the only one.
 pub fn top_of<'a, 't>(modules: &'a [Module<'t>], top: Option<&[u8]>) -> Option<&'a Module<'t>>
-    ensures { option_map (λ m. module_tree m.now) result ≡ spec.top_of (map module_tree modules.now) (option_map (λ t. t.now) top.entry) }
+    ensures { unit_tree result ≡ spec.top_of (map module_tree modules.now) (named_text top.entry) }
 {
     match top {
         None => only(modules),

@@ -6,8 +6,7 @@ ghost use Rattle.vbits.specs.Letters as letters;
 ghost use Rattle.vast.specs.Trees.{word_text, range_tree, item_tree, module_tree};
 ghost use Rattle.velab.specs.Elaborate as spec;
 ghost use Rattle.velab.specs.Elaborate.{has_double, has_range, is_declared, is_range, variable_by, variable_of, declarations_of, declarations, declared_names, length_of};
-ghost use Rattle.velab.specs.Reasons.{IsBreach, no_breach};
-ghost use Rattle.velab.specs.Parts.{names_in, names_of};
+ghost use Rattle.velab.specs.Inner.{names_in, names_of, BreaksBound, BreaksRange, BreaksDeclaration, BreaksNames, BreaksItem, BreaksItems};
 
 use crate::fault::ElabFault;
 use crate::names::Names;
@@ -70,7 +69,7 @@ fn bound_in(value: Vec4) -> Option<u32>
 fn bound_of(word: &Word<'_>) -> Result<u32, OrMemory<ElabFault>>
     ensures ok { IfOk result (λ n. spec.bound_of (word_text word.now) ≡ Some n) }
     ensures within { IfOk result (λ n. n ≤ 65535) }
-    ensures err { IfFault result (IsBreach (record no_breach { width = spec.bound_of (word_text word.now) ≡ None })) }
+    ensures err { IfFault result (BreaksBound (word_text word.now)) }
 {
     match bound_in(constant_of(word.text).value) {
         Some(bound) => Ok(bound),
@@ -91,7 +90,7 @@ fn bounds_of(range: &Range<'_>) -> Result<Bounds, OrMemory<ElabFault>>
     ensures ok { IfOk result (λ bounds. bounds ≡ spec.bounds_of (range_tree range.now)) }
     ensures range { OnOk result (is_range (Some (range_tree range.now)) ≡ true) }
     ensures few { IfOk result (λ bounds. spec.span bounds ≤ 64) }
-    ensures err { IfFault result (IsBreach (record no_breach { width = is_range (Some (range_tree range.now)) ≡ false })) }
+    ensures err { IfFault result (BreaksRange (Some (range_tree range.now))) }
 {
     let left = bound_of(&range.left)?;
     let right = bound_of(&range.right)?;
@@ -109,7 +108,7 @@ fn range_bounds(range: &Option<Range<'_>>) -> Result<Option<Bounds>, OrMemory<El
     ensures ok { IfOk result (λ bounds. bounds ≡ option_map spec.bounds_of (option_map range_tree range.now)) }
     ensures range { OnOk result (is_range (option_map range_tree range.now) ≡ true) }
     ensures few { IfOk result (λ bounds. length_of bounds ≤ 64) }
-    ensures err { IfFault result (IsBreach (record no_breach { width = is_range (option_map range_tree range.now) ≡ false })) }
+    ensures err { IfFault result (BreaksRange (option_map range_tree range.now)) }
 {
     match range {
         None => Ok(None),
@@ -171,7 +170,7 @@ fn declare<'t>(
     ensures names { OnOk result (into.new.names ≡ into.old.names ++ word_text word.now ∷ []) }
     ensures variables { OnOk result (into.new.variables.items ≡ into.old.variables.items ++ variable_by scope.now bounds (word_text word.now) ∷ []) }
     ensures few { OnOk result (length into.new.names ≤ 1024) }
-    ensures err { IfFault result (IsBreach (record no_breach { doubled = is_declared into.old.names (word_text word.now) ≡ true; many = 1024 ≤ length into.old.names })) }
+    ensures err { IfFault result (BreaksDeclaration into.old.names (word_text word.now)) }
 {
     if into.names.len() >= MOST_VARIABLES {
         return Err(OrMemory::Fault(ElabFault::TooMany { at: Some(word.at) }));
@@ -195,7 +194,7 @@ fn declare_all<'t>(
     ensures names { OnOk result (into.new.names ≡ into.old.names ++ map word_text words.now) }
     ensures variables { OnOk result (into.new.variables.items ≡ into.old.variables.items ++ map (variable_by scope.now bounds) (map word_text words.now)) }
     ensures few { OnOk result (length into.new.names ≤ 1024) }
-    ensures err { IfFault result (IsBreach (record no_breach { doubled = has_double (into.old.names ++ map word_text words.now) ≡ true; many = 1024 < length (into.old.names ++ map word_text words.now) })) }
+    ensures err { IfFault result (BreaksNames (into.old.names ++ map word_text words.now)) }
 {
     for word in words {
         declare(alloc, scope, bounds, word, into)?;
@@ -215,7 +214,7 @@ fn declare_item<'t>(
     ensures variables { OnOk result (into.new.variables.items ≡ into.old.variables.items ++ map (variable_of scope.now) (declarations_of (item_tree item.now))) }
     ensures few { OnOk result (length into.new.names ≤ 1024) }
     ensures range { OnOk result (has_range (item_tree item.now) ≡ true) }
-    ensures err { IfFault result (IsBreach (record no_breach { doubled = has_double (into.old.names ++ names_of (item_tree item.now)) ≡ true; width = has_range (item_tree item.now) ≡ false; many = 1024 < length (into.old.names ++ names_of (item_tree item.now)) })) }
+    ensures err { IfFault result (BreaksItem into.old.names (item_tree item.now)) }
 {
     match item {
         Item::Registers { range, names } => {
@@ -236,7 +235,7 @@ pub fn declare_items<'t>(
     ensures variables { IfOk result (λ d. d.variables.items ≡ map (variable_of scope.now) (flat_map declarations_of (map item_tree items.now))) }
     ensures few { IfOk result (λ d. length d.names ≤ 1024) }
     ensures ranges { OnOk result (list_all has_range (map item_tree items.now) ≡ true) }
-    ensures err { IfFault result (IsBreach (record no_breach { doubled = has_double (names_in (map item_tree items.now)) ≡ true; width = list_all has_range (map item_tree items.now) ≡ false; many = 1024 < length (names_in (map item_tree items.now)) })) }
+    ensures err { IfFault result (BreaksItems (map item_tree items.now)) }
 {
     let mut declarations = Declarations {
         names: Names::new(alloc),

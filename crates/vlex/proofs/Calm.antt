@@ -9,9 +9,9 @@ use Rattle.vlex.specs.declared.bytes.Lead.{Lead}
 use Rattle.vlex.specs.declared.bytes.Lead.TheVariants as lead
 use Rattle.vlex.specs.declared.form.Form.{Form}
 use Rattle.vlex.specs.declared.form.Form.TheVariants.{Token}
-use Rattle.vlex.specs.declared.kind.Kind.TheVariants.{Based}
-use Rattle.vlex.specs.Bytes.{is_in, is_unknown, lead_of}
-use Rattle.vlex.specs.Forms.{only_if, form_by, number_form, is_apostrophe, is_size, is_word, is_based, is_base_and_digits, digits_from, digits_after, are_in, is_symbol, is_double, is_triple}
+use Rattle.vlex.specs.declared.kind.TokenKind.TheVariants.{Based}
+use Rattle.vlex.specs.Bytes.{is_apostrophe, is_in, is_unknown, lead_of}
+use Rattle.vlex.specs.Forms.{only_if, form_by, number_form, is_size, is_word, is_based, is_base_and_digits, digits_from, digits_after, are_in, is_symbol, is_double, is_triple}
 use Rattle.vlex.proofs.Sizes.{and_false}
 
 -- neither a backtick nor a quote nor a slash

@@ -1,16 +1,18 @@
 -- What begins with a quote or a slash: strings, comments and the slash alone.
-use Rattle.std.proofs.Common.{◌≡◌, ◌≢◌, ℕ, zero, suc, ◌+◌, ◌<◌, ◌≤◌, Bool, true, false, ◌&&◌, List, [], ◌∷◌, None, length, take, drop, get_or, refl, sym, ◌∙◌, ap, subst, arith, inl, inr}
+use Rattle.std.proofs.Common.{◌≡◌, ◌≢◌, ℕ, zero, suc, ◌+◌, ◌<◌, ◌≤◌, Bool, true, false, ◌&&◌, List, [], ◌∷◌, None, Some, length, take, drop, get_or, refl, sym, ◌∙◌, ap, subst, arith, inl, inr}
 use Rattle.std.specs.List.{list_all, prefix_len}
 use Rattle.std.proofs.lemmas.Bool.{ne_eqb, cases_Bool}
 use Rattle.vlex.specs.declared.bytes.Set.TheVariants.{LineBytes}
 use Rattle.vlex.specs.declared.form.Form.TheVariants.{Comment, Token}
-use Rattle.vlex.specs.declared.kind.Kind.TheVariants.{Text, Symbol}
+use Rattle.vlex.specs.declared.kind.TokenKind.TheVariants.{Text, Symbol}
 use Rattle.vlex.specs.Bytes.{is_in, lead_of}
 use Rattle.vlex.specs.Forms.{ends_block, ends_string, has_good_escapes, only_if, form_of, form_by, slash_form}
-use Rattle.vlex.specs.Fronts.{IsLongest, IsOnly, Never}
+use Rattle.vlex.specs.Inner.{IsLongest, Never}
 use Rattle.vlex.specs.Lexed.{IsFront, IsStuck, IsOpen, is_free}
+use Rattle.vsrc.specs.Outside.{block_end, string_end}
+use Rattle.vlex.proofs.Ends.{stable_block, stable_string, never_ends, ends_once}
 use Rattle.vlex.proofs.Runs.{run_longest}
-use Rattle.vlex.proofs.Pieces.{IsLongestForm, front_of_longest, stuck_if_barred, piece_by, stuck_by, longest_if_only}
+use Rattle.vlex.proofs.Pieces.{IsOnly, IsLongestForm, front_of_longest, stuck_if_barred, piece_by, stuck_by, longest_if_only}
 
 -- a string: closed, with good escapes
 abbrev pub is_string : List ℕ → Bool
@@ -22,18 +24,19 @@ told_string c e cs = ap (λ b. form_by (lead_of b) b cs) e
 never_string : (cs : List ℕ) → Never ends_string cs → Never is_string cs
 never_string cs never = λ n. ap (λ b. b && has_good_escapes (take n cs)) (never n)
 
-pub open_string : (c : ℕ) (cs : List ℕ) → c ≡ 34 → Never ends_string cs → IsStuck (c ∷ cs) × IsOpen (c ∷ cs)
-open_string c cs e never = (stuck_by c cs is_string (Token Text) (told_string c e) (λ n _. never_string cs never n), opened cs never) where
-  opened : (cs : List ℕ) → Never ends_string cs → IsOpen (c ∷ cs)
-  opened [] never = e
-  opened (d ∷ ds) never = inr (e, never)
+pub open_string : (c : ℕ) (cs : List ℕ) → c ≡ 34 → string_end cs ≡ None → IsStuck (c ∷ cs) × IsOpen (c ∷ cs)
+open_string c cs e none = (stuck_by c cs is_string (Token Text) (told_string c e) (λ n _. never_string cs (never_ends string_end stable_string cs none) n), opened cs none) where
+  opened : (cs : List ℕ) → string_end cs ≡ None → IsOpen (c ∷ cs)
+  opened [] none = e
+  opened (d ∷ ds) none = inr (e, none)
 
 free_text : (c : ℕ) (rest : List ℕ) → is_free (Token Text) c rest ≡ true
 free_text c [] = refl
 free_text c (d ∷ ds) = refl
 
-pub closed_string : (c : ℕ) (cs : List ℕ) (len whole : ℕ) → c ≡ 34 → whole ≡ suc len → IsOnly ends_string cs len → has_good_escapes (take len cs) ≡ true → IsFront (c ∷ cs) (Token Text) whole
-closed_string c cs len whole e sum ends good =
+pub closed_string : (c : ℕ) (cs : List ℕ) (len whole : ℕ) → c ≡ 34 → whole ≡ suc len → string_end cs ≡ Some len → len ≤ length cs → has_good_escapes (take len cs) ≡ true → IsFront (c ∷ cs) (Token Text) whole
+closed_string c cs len whole e sum found within good =
+    let ends : IsOnly ends_string cs len = ends_once string_end stable_string cs len found within in
     piece_by c cs is_string (Token Text) (told_string c e) len whole sum
     (record {
       within = ends.within;
@@ -52,15 +55,14 @@ not_passing cs len n ends bad le =
       | inr ended ↦ ap (λ b. b && has_good_escapes (take n cs)) ended
     ]
 
-pub bad_string : (c : ℕ) (cs : List ℕ) (len : ℕ) → c ≡ 34 → IsOnly ends_string cs len → has_good_escapes (take len cs) ≡ false → IsStuck (c ∷ cs) × (IsOpen (c ∷ cs) → ⊥)
-bad_string c cs len e ends bad =
-    (stuck_by c cs is_string (Token Text) (told_string c e) (λ n le. not_passing cs len n ends bad le), shut cs len ends.passes) where
-      shut : (cs : List ℕ) (len : ℕ) → ends_string (take len cs) ≡ true → IsOpen (c ∷ cs) → ⊥
-      shut [] zero closes is_open = let clash : false ≡ true = closes in cc
-      shut [] (suc len) closes is_open = let clash : false ≡ true = closes in cc
-      shut (d ∷ ds) len closes is_open = elim is_open [
+pub bad_string : (c : ℕ) (cs : List ℕ) (len : ℕ) → c ≡ 34 → string_end cs ≡ Some len → len ≤ length cs → has_good_escapes (take len cs) ≡ false → IsStuck (c ∷ cs) × (IsOpen (c ∷ cs) → ⊥)
+bad_string c cs len e found within bad =
+    (stuck_by c cs is_string (Token Text) (told_string c e) (λ n le. not_passing cs len n (ends_once string_end stable_string cs len found within) bad le), shut cs found) where
+      shut : (cs : List ℕ) → string_end cs ≡ Some len → IsOpen (c ∷ cs) → ⊥
+      shut [] found is_open = let clash : None ≡ Some len = found in cc
+      shut (d ∷ ds) found is_open = elim is_open [
         | inl comment ↦ omega (arith, e, comment.0)
-        | inr string ↦ let clash : false ≡ true = sym (string.1 len) ∙ closes in cc
+        | inr string ↦ let clash : None ≡ Some len = sym string.1 ∙ found in cc
       ]
 
 -- Comments
@@ -94,8 +96,9 @@ line_comment c cs whole e sum =
     comment_front c 47 cs (prefix_len (is_in LineBytes) cs) whole sum
     (comment_by c 47 cs (list_all (is_in LineBytes)) (λ xs. told_slash c e (47 ∷ xs)) (prefix_len (is_in LineBytes) cs) (run_longest (is_in LineBytes) cs))
 
-pub block_comment : (c : ℕ) (cs : List ℕ) (len whole : ℕ) → c ≡ 47 → whole ≡ 2 + len → IsOnly ends_block cs len → IsFront (c ∷ 42 ∷ cs) Comment whole
-block_comment c cs len whole e sum ends =
+pub block_comment : (c : ℕ) (cs : List ℕ) (len whole : ℕ) → c ≡ 47 → whole ≡ 2 + len → block_end cs ≡ Some len → len ≤ length cs → IsFront (c ∷ 42 ∷ cs) Comment whole
+block_comment c cs len whole e sum found within =
+    let ends : IsOnly ends_block cs len = ends_once block_end stable_block cs len found within in
     comment_front c 42 cs len whole sum
     (comment_by c 42 cs ends_block (λ xs. told_slash c e (42 ∷ xs)) len (longest_if_only ends_block cs len ends))
 
@@ -107,10 +110,10 @@ slash_longest c d cs e none = record { within = omega arith; shape = told_slash 
   longer (suc zero) lt le = absurd (omega arith)
   longer (suc (suc n)) lt le = told_slash c e (d ∷ take n cs) ∙ none n (omega arith)
 
-pub open_block : (c : ℕ) (cs : List ℕ) → c ≡ 47 → Never ends_block cs → IsStuck (c ∷ 42 ∷ cs) × IsOpen (c ∷ 42 ∷ cs)
-open_block c cs e never = (
-  stuck_if_barred (c ∷ 42 ∷ cs) (Token Symbol) 1 (slash_longest c 42 cs e (λ n _. ap (λ b. only_if b Comment) (never n))) (ap (λ b. is_free (Token Symbol) b (42 ∷ cs)) e),
-  inl (e, refl, never),
+pub open_block : (c : ℕ) (cs : List ℕ) → c ≡ 47 → block_end cs ≡ None → IsStuck (c ∷ 42 ∷ cs) × IsOpen (c ∷ 42 ∷ cs)
+open_block c cs e none = (
+  stuck_if_barred (c ∷ 42 ∷ cs) (Token Symbol) 1 (slash_longest c 42 cs e (λ n _. ap (λ b. only_if b Comment) (never_ends block_end stable_block cs none n))) (ap (λ b. is_free (Token Symbol) b (42 ∷ cs)) e),
+  inl (e, refl, none),
 )
 
 pub slash_alone : (c : ℕ) (cs : List ℕ) → c ≡ 47 → get_or cs 0 0 ≢ 47 → get_or cs 0 0 ≢ 42 → IsFront (c ∷ cs) (Token Symbol) 1

@@ -8,7 +8,8 @@ use Rattle.vlex.specs.declared.form.Form.TheVariants.{Blank, Comment, Token}
 use Rattle.vlex.specs.declared.list.Span.{Span}
 use Rattle.vlex.specs.Lexed.{IsFront, IsStuck, Lexed, Piece, Reaches}
 use Rattle.vlex.specs.Lexed.Lexed.{done, blank, comment, token}
-use Rattle.vlex.specs.Tokenized.{piece_at, spans_of, AreInOrder, IsTokenAt}
+use Rattle.vlex.specs.Tokenized.{piece_at, AreInOrder, IsTokenAt}
+use Rattle.vlex.specs.Inner.{spans_of}
 use Rattle.vlex.proofs.Pieces.{longest_of_front, same_length, same_form}
 
 -- the token that a piece is, if it is one

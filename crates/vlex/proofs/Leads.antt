@@ -4,19 +4,20 @@ use Rattle.std.proofs.lemmas.Bool.{eqb-true, eqb-false}
 use Rattle.vlex.specs.declared.bytes.Set.TheVariants.{Blanks}
 use Rattle.vlex.specs.declared.bytes.Lead.{Lead}
 use Rattle.vlex.specs.declared.bytes.Lead.TheVariants as lead
-use Rattle.vlex.specs.Bytes.{is_in, is_digit, is_letter, is_mark, lead_of}
+use Rattle.std.specs.Char.{is_ascii_digit, is_ascii_alphabetic}
+use Rattle.vlex.specs.Bytes.{is_in, is_mark, lead_of}
 
 -- what begins neither a name nor a number
 pub record BeginsNeither (c : ℕ) : Type 0 where
-  pub letter : (is_letter c || nat_eq c 95) ≡ false
-  pub digit : is_digit c ≡ false
+  pub letter : (is_ascii_alphabetic c || nat_eq c 95) ≡ false
+  pub digit : is_ascii_digit c ≡ false
   pub apostrophe : c ≢ 39
 
 abbrev pub Says : Lead → ℕ → Type 0
 Says lead.Blank c = is_in Blanks c ≡ true
-Says lead.Letter c = (is_letter c || nat_eq c 95) ≡ true
+Says lead.Letter c = (is_ascii_alphabetic c || nat_eq c 95) ≡ true
 Says lead.Dollar c = c ≡ 36
-Says lead.Digit c = is_digit c ≡ true
+Says lead.Digit c = is_ascii_digit c ≡ true
 Says lead.Apostrophe c = c ≡ 39
 Says lead.Quote c = c ≡ 34
 Says lead.Slash c = c ≡ 47
@@ -24,7 +25,7 @@ Says lead.Mark c = BeginsNeither c
 Says lead.Other c = BeginsNeither c
 
 by_tests : (blank letter dollar digit apostrophe quote slash mark : Bool) (c : ℕ)
-    → is_in Blanks c ≡ blank → (is_letter c || nat_eq c 95) ≡ letter → nat_eq c 36 ≡ dollar → is_digit c ≡ digit → nat_eq c 39 ≡ apostrophe
+    → is_in Blanks c ≡ blank → (is_ascii_alphabetic c || nat_eq c 95) ≡ letter → nat_eq c 36 ≡ dollar → is_ascii_digit c ≡ digit → nat_eq c 39 ≡ apostrophe
     → nat_eq c 34 ≡ quote → nat_eq c 47 ≡ slash
     → Says (cond blank lead.Blank (cond letter lead.Letter (cond dollar lead.Dollar (cond digit lead.Digit (cond apostrophe lead.Apostrophe
     (cond quote lead.Quote (cond slash lead.Slash (cond mark lead.Mark lead.Other)))))))) c

@@ -4,7 +4,8 @@ mod Numbers
 mod Sizes
 mod Words
 mod Cuts
-mod Strings
+mod Ends
+mod Escapes
 mod Comments
 pub mod Leads
 mod Calm

@@ -4,7 +4,7 @@ use Rattle.std.specs.List.{prefix_len}
 use Rattle.vlex.specs.declared.bytes.Set.{Set}
 use Rattle.vlex.specs.Bytes.{is_in}
 use Rattle.vlex.specs.Forms.{is_based, is_base_and_digits, digits_after, are_in}
-use Rattle.vlex.specs.Fronts.{IsLongest, Finds, Never}
+use Rattle.vlex.specs.Inner.{IsLongest, Finds, Never}
 use Rattle.vlex.proofs.Runs.{run_longest}
 
 -- Base and digits

@@ -6,8 +6,14 @@ use Rattle.vlex.specs.declared.bytes.Lead.TheVariants as lead
 use Rattle.vlex.specs.declared.form.Form.{Form}
 use Rattle.vlex.specs.Bytes.{lead_of}
 use Rattle.vlex.specs.Forms.{form_of, only_if}
-use Rattle.vlex.specs.Fronts.{IsLongest, IsOnly}
+use Rattle.vlex.specs.Inner.{IsLongest}
 use Rattle.vlex.specs.Lexed.{IsFront, IsStuck, IsOpen, is_free}
+
+-- the first `len` bytes are the one front that passes the test
+pub record IsOnly (test : List ℕ → Bool) (bytes : List ℕ) (len : ℕ) : Type 0 where
+  pub within : len ≤ length bytes
+  pub passes : test (take len bytes) ≡ true
+  pub only : (n : ℕ) → n ≤ length bytes → test (take n bytes) ≡ true → n ≡ len
 
 -- a front with nothing said of what follows
 pub record IsLongestForm (text : List ℕ) (form : Form) (len : ℕ) : Type 0 where

@@ -2,7 +2,7 @@
 use Rattle.std.proofs.Common.{◌≡◌, ℕ, zero, suc, ◌+◌, ◌<◌, ◌≤◌, Bool, true, false, cond, ◌&&◌, List, [], ◌∷◌, length, take, refl, arith}
 use Rattle.std.specs.List.{prefix_len, list_all}
 use Rattle.std.proofs.lemmas.List.Sums.{prefix_len-le-length}
-use Rattle.vlex.specs.Fronts.{IsLongest}
+use Rattle.vlex.specs.Inner.{IsLongest}
 
 passes_step : (b r : Bool) (m n : ℕ) → suc n ≤ cond b (1 + m) 0 → (n ≤ m → r ≡ true) → (b && r) ≡ true
 passes_step true r m n le later = later (omega arith)

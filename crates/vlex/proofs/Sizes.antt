@@ -4,27 +4,21 @@ use Rattle.std.specs.List.{list_all, before_first, after_first, position_or_len}
 use Rattle.std.proofs.Math.Seq.{take-append_seam, take-append-add, drop-append_seam, drop-append-add}
 use Rattle.std.proofs.lemmas.Bool.{eqb-true, ne_eqb, cases_Bool}
 use Rattle.std.proofs.lemmas.List.{length-append}
+use Rattle.basis.proofs.Bools.{and_left, and_right}
 use Rattle.vlex.specs.declared.bytes.Set.TheVariants.{Words, Decimals}
 use Rattle.vlex.specs.declared.bytes.Lead.TheVariants as lead
 use Rattle.vlex.specs.declared.form.Form.TheVariants.{Token}
-use Rattle.vlex.specs.declared.kind.Kind.TheVariants.{Plain, Based}
-use Rattle.vlex.specs.Bytes.{is_in, is_digit, lead_of}
-use Rattle.vlex.specs.Forms.{only_if, form_of, form_by, number_form, is_apostrophe, is_size, is_based, number_of}
-use Rattle.vlex.specs.Fronts.{IsLongest}
+use Rattle.vlex.specs.declared.kind.TokenKind.TheVariants.{Plain, Based}
+use Rattle.std.specs.Char.{is_ascii_digit}
+use Rattle.vlex.specs.Bytes.{is_apostrophe, is_in, lead_of}
+use Rattle.vlex.specs.Forms.{only_if, form_of, form_by, number_form, is_size, is_based, spelled_number}
+use Rattle.vlex.specs.Inner.{IsLongest}
 use Rattle.vlex.specs.Lexed.{IsFront, IsStuck, is_free}
 use Rattle.vlex.proofs.Pieces.{IsLongestForm, front_of_longest, stuck_if_barred}
 
 pub and_false : (b : Bool) → (b && false) ≡ false
 and_false true = refl
 and_false false = refl
-
-left_of_and : (a b : Bool) → (a && b) ≡ true → a ≡ true
-left_of_and true b h = refl
-left_of_and false b h = h
-
-right_of_and : (a b : Bool) → (a && b) ≡ true → b ≡ true
-right_of_and true b h = h
-right_of_and false b h = let clash : false ≡ true = h in cc
 
 -- a digit is no apostrophe
 decimal_not_apostrophe : (d : ℕ) → is_in Decimals d ≡ true → nat_eq d 39 ≡ false
@@ -36,8 +30,8 @@ decimal_not_apostrophe d digit = elim (cases_Bool (nat_eq d 39)) [
 position_split : (ds zs : List ℕ) → list_all (is_in Decimals) ds ≡ true → position_or_len is_apostrophe (ds ++ 39 ∷ zs) ≡ length ds
 position_split [] zs all = refl
 position_split (d ∷ ds) zs all =
-    let later : position_or_len is_apostrophe (ds ++ 39 ∷ zs) ≡ length ds = position_split ds zs (right_of_and (is_in Decimals d) (list_all (is_in Decimals) ds) all) in
-    let here : nat_eq d 39 ≡ false = decimal_not_apostrophe d (left_of_and _ _ all) in
+    let later : position_or_len is_apostrophe (ds ++ 39 ∷ zs) ≡ length ds = position_split ds zs (and_right (is_in Decimals d) (list_all (is_in Decimals) ds) all) in
+    let here : nat_eq d 39 ≡ false = decimal_not_apostrophe d (and_left _ _ all) in
     let sum : 1 + position_or_len is_apostrophe (ds ++ 39 ∷ zs) ≡ suc (length ds) = omega (arith, later) in
     ap (λ b. cond (not b) (1 + position_or_len is_apostrophe (ds ++ 39 ∷ zs)) 0) here ∙ sum
 
@@ -62,8 +56,8 @@ bad_before : (ds : List ℕ) (x : ℕ) (ys : List ℕ) → list_all (is_in Decim
 bad_before [] x ys all out other =
     ap (list_all (is_in Decimals)) (before_first-cons x ys other) ∙ ap (λ b. b && list_all (is_in Decimals) (before_first is_apostrophe ys)) out
 bad_before (d ∷ ds) x ys all out other =
-    ap (list_all (is_in Decimals)) (before_first-cons d (ds ++ x ∷ ys) (decimal_not_apostrophe d (left_of_and _ _ all)))
-    ∙ ap (λ b. is_in Decimals d && b) (bad_before ds x ys (right_of_and _ _ all) out other) ∙ and_false (is_in Decimals d)
+    ap (list_all (is_in Decimals)) (before_first-cons d (ds ++ x ∷ ys) (decimal_not_apostrophe d (and_left _ _ all)))
+    ∙ ap (λ b. is_in Decimals d && b) (bad_before ds x ys (and_right _ _ all) out other) ∙ and_false (is_in Decimals d)
 
 -- The forms of digits, and of digits with more behind them
 
@@ -81,7 +75,7 @@ form_bad ds x ys all out other =
     let size : List ℕ = before_first is_apostrophe (ds ++ x ∷ ys) in
     let base : List ℕ = after_first is_apostrophe (ds ++ x ∷ ys) in
     ap (λ b. cond b (Some (Token Plain)) (only_if (is_size size && is_based base) (Token Based))) (not_all ds x ys out)
-    ∙ ap (λ b. only_if (b && nat_le 1 (number_of size) && nat_le (number_of size) 64 && is_based base) (Token Based)) (bad_before ds x ys all out other)
+    ∙ ap (λ b. only_if (b && nat_le 1 (spelled_number size) && nat_le (spelled_number size) 64 && is_based base) (Token Based)) (bad_before ds x ys all out other)
 
 -- The digits of a text, from a first one on, and what stands behind them
 
@@ -173,5 +167,5 @@ module _ (c : ℕ) (digits zs : List ℕ) (first : lead_of c ≡ lead.Digit) (al
   barred_number len size l barred =
       stuck_if_barred (c ∷ digits ++ 39 ∷ zs) (Token Based) (length (c ∷ digits) + suc len) (based_longest len size l) (behind_based len ∙ barred)
 
-pub all_digits : (c : ℕ) (digits : List ℕ) → is_digit c ≡ true → list_all (is_in Decimals) digits ≡ true → list_all (is_in Decimals) (c ∷ digits) ≡ true
+pub all_digits : (c : ℕ) (digits : List ℕ) → is_ascii_digit c ≡ true → list_all (is_in Decimals) digits ≡ true → list_all (is_in Decimals) (c ∷ digits) ≡ true
 all_digits c digits first rest = ap (λ b. (b || nat_eq c 95) && list_all (is_in Decimals) digits) first ∙ rest

@@ -1,8 +1,8 @@
 -- A text that has tokens has no backtick outside comments and strings.
-use Rattle.std.proofs.Common.{◌≡◌, ◌≢◌, ℕ, zero, suc, ◌+◌, ◌≤◌, Bool, true, false, cond, ◌&&◌, ◌||◌, not, nat_eq, List, [], ◌∷◌, None, Some, length, take, drop, refl, sym, ◌∙◌, ap, subst, arith, inl, inr}
+use Rattle.std.proofs.Common.{◌≡◌, ◌≢◌, ℕ, zero, suc, ◌+◌, Bool, true, false, cond, ◌&&◌, ◌||◌, not, nat_eq, List, [], ◌∷◌, None, Some, unwrap_or, length, take, drop, refl, sym, ◌∙◌, ap, subst, arith, inl, inr}
 use Rattle.std.specs.List.{list_all, prefix_len}
-use Rattle.std.proofs.lemmas.Bool.{eqb-true, ne_eqb, eqb-false, cases_eq, and_parts, cond-true}
-use Rattle.vsrc.specs.Outside.{IsFirstTick, stretch_len, block_len, string_len}
+use Rattle.std.proofs.lemmas.Bool.{ne_eqb, eqb-false, cases_eq, and_parts}
+use Rattle.vsrc.specs.Outside.{IsFirstTick, stretch_len, block_end, string_end, line_len, block_len, string_len}
 use Rattle.vsrc.specs.Outside.IsFirstTick.{here, later}
 use Rattle.vsrc.specs.Expansion.{HasNoTick}
 use Rattle.vlex.specs.declared.bytes.Set.TheVariants.{LineBytes}
@@ -10,11 +10,12 @@ use Rattle.vlex.specs.declared.bytes.Lead.{Lead}
 use Rattle.vlex.specs.declared.bytes.Lead.TheVariants as lead
 use Rattle.vlex.specs.declared.form.Form.{Form}
 use Rattle.vlex.specs.declared.form.Form.TheVariants.{Blank, Comment, Token}
-use Rattle.vlex.specs.declared.kind.Kind.TheVariants.{Symbol, Text}
+use Rattle.vlex.specs.declared.kind.TokenKind.TheVariants.{Symbol, Text}
 use Rattle.vlex.specs.Bytes.{is_in, lead_of}
 use Rattle.vlex.specs.Forms.{ends_block, ends_string, has_good_escapes, form_by, slash_form}
 use Rattle.vlex.specs.Lexed.{IsFront, is_free, Lexed, Piece}
 use Rattle.vlex.specs.Lexed.Lexed.{done, blank, comment, token}
+use Rattle.vlex.proofs.Ends.{stable_block, stable_string, ends_there}
 use Rattle.vlex.proofs.Leads.{says}
 use Rattle.vlex.proofs.Pieces.{longest_of_front, same_length}
 use Rattle.vlex.proofs.Comments.{line_comment}
@@ -47,47 +48,14 @@ calm_front (c ∷ cs) (suc len) all none =
 
 -- A string is one stretch
 
-string_step : (quote feed escape closes_behind closes_next : Bool) (behind next n : ℕ)
-    → cond quote false (cond feed false (cond escape closes_behind closes_next)) ≡ true
-    → (closes_behind ≡ true → behind ≡ n) → (closes_next ≡ true → next ≡ suc n)
-    → cond quote 1 (cond feed 0 (cond escape (2 + behind) (1 + next))) ≡ suc (suc n)
-string_step true f e cb cn b x n h behind next = let clash : false ≡ true = h in absurd cc
-string_step false true e cb cn b x n h behind next = let clash : false ≡ true = h in absurd cc
-string_step false false true cb cn b x n h behind next = omega (arith, behind h)
-string_step false false false cb cn b x n h behind next = omega (arith, next h)
-
-string_len_is : (cs : List ℕ) (n : ℕ) → n ≤ length cs → ends_string (take n cs) ≡ true → string_len cs ≡ n
-string_len_is cs zero le h = let clash : false ≡ true = h in cc
-string_len_is [] (suc n) le h = absurd (omega arith)
-string_len_is (c ∷ []) (suc zero) le h = let same : c ≡ 34 = eqb-true c 34 h in rw same refl
-string_len_is (c ∷ d ∷ cs) (suc zero) le h = cond-true (nat_eq c 34) _ _ h
-string_len_is (c ∷ []) (suc (suc n)) le h = absurd (omega arith)
-string_len_is (c ∷ d ∷ cs) (suc (suc n)) le h =
-    string_step (nat_eq c 34) (nat_eq c 10) (nat_eq c 92 && not (nat_eq d 10)) (ends_string (take n cs)) (ends_string (d ∷ take n cs))
-    (string_len cs) (string_len (d ∷ cs)) n h (string_len_is cs n (omega arith)) (string_len_is (d ∷ cs) (suc n) (omega arith))
-
 string_no_tick : (cs : List ℕ) (form : Form) (n : ℕ) → IsFront (34 ∷ cs) form (suc n) → HasNoTick (drop n cs) → HasNoTick (34 ∷ cs)
 string_no_tick cs form n f none =
     let closed : (ends_string (take n cs) && has_good_escapes (take n cs)) ≡ true = passed _ (Token Text) form f.shape in
-    let len : string_len cs ≡ n = string_len_is cs n (omega (arith, f.within)) (and_parts (ends_string (take n cs)) _ closed).0 in
+    let there : string_end cs ≡ Some n = ends_there string_end stable_string cs n (omega (arith, f.within)) (and_parts (ends_string (take n cs)) _ closed).0 in
+    let len : string_len cs ≡ n = ap (λ o. unwrap_or o (line_len cs)) there in
     pass 34 cs (suc n) (omega arith) (omega (arith, len)) none
 
 -- So is a comment, and so is a slash with none behind it
-
-block_step : (ends closes : Bool) (next n : ℕ) → (not ends && closes) ≡ true → (closes ≡ true → next ≡ n) → cond ends 2 (1 + next) ≡ suc n
-block_step true closes next n h onward = let clash : false ≡ true = h in absurd cc
-block_step false closes next n h onward = omega (arith, onward h)
-
-block_len_is : (cs : List ℕ) (n : ℕ) → n ≤ length cs → ends_block (take n cs) ≡ true → block_len cs ≡ n
-block_len_is cs zero le h = let clash : false ≡ true = h in cc
-block_len_is [] (suc n) le h = absurd (omega arith)
-block_len_is (c ∷ cs) (suc zero) le h = let clash : false ≡ true = h in cc
-block_len_is (c ∷ []) (suc (suc n)) le h = absurd (omega arith)
-block_len_is (c ∷ d ∷ cs) (suc (suc zero)) le h = cond-true (nat_eq c 42 && nat_eq d 47) _ _ h
-block_len_is (c ∷ d ∷ []) (suc (suc (suc n))) le h = absurd (omega arith)
-block_len_is (c ∷ d ∷ e ∷ cs) (suc (suc (suc n))) le h =
-    block_step (nat_eq c 42 && nat_eq d 47) (ends_block (d ∷ e ∷ take n cs)) (block_len (d ∷ e ∷ cs)) (suc (suc n)) h
-    (block_len_is (d ∷ e ∷ cs) (suc (suc n)) (omega arith))
 
 line_no_tick : (cs : List ℕ) (form : Form) (n : ℕ) → IsFront (47 ∷ 47 ∷ cs) form (suc (suc n)) → HasNoTick (drop n cs) → HasNoTick (47 ∷ 47 ∷ cs)
 line_no_tick cs form n f none =
@@ -97,7 +65,8 @@ line_no_tick cs form n f none =
 
 block_no_tick : (cs : List ℕ) (form : Form) (n : ℕ) → IsFront (47 ∷ 42 ∷ cs) form (suc (suc n)) → HasNoTick (drop n cs) → HasNoTick (47 ∷ 42 ∷ cs)
 block_no_tick cs form n f none =
-    let len : block_len cs ≡ n = block_len_is cs n (omega (arith, f.within)) (passed (ends_block (take n cs)) Comment form f.shape) in
+    let there : block_end cs ≡ Some n = ends_there block_end stable_block cs n (omega (arith, f.within)) (passed (ends_block (take n cs)) Comment form f.shape) in
+    let len : block_len cs ≡ n = ap (λ o. unwrap_or o (length cs)) there in
     pass 47 (42 ∷ cs) (suc (suc n)) (omega arith) (omega (arith, len)) none
 
 alone_step : (line block : Bool) (to_line to_end : ℕ) → not (line || block) ≡ true → cond line to_line (cond block to_end 1) ≡ 1

@@ -6,10 +6,10 @@ use Rattle.vlex.specs.declared.bytes.Set.TheVariants.{Blanks, Words}
 use Rattle.vlex.specs.declared.bytes.Lead.{Lead}
 use Rattle.vlex.specs.declared.bytes.Lead.TheVariants as lead
 use Rattle.vlex.specs.declared.form.Form.TheVariants.{Blank, Token}
-use Rattle.vlex.specs.declared.kind.Kind.TheVariants.{Name, System, Based, Symbol}
+use Rattle.vlex.specs.declared.kind.TokenKind.TheVariants.{Name, System, Based, Symbol}
 use Rattle.vlex.specs.Bytes.{is_in, lead_of}
 use Rattle.vlex.specs.Forms.{form_of, form_by, is_word, is_based, is_symbol, is_double, is_triple}
-use Rattle.vlex.specs.Fronts.{IsLongest, Never}
+use Rattle.vlex.specs.Inner.{IsLongest, Never}
 use Rattle.vlex.specs.Lexed.{IsFront, IsStuck, is_free}
 use Rattle.vlex.proofs.Runs.{run_longest}
 use Rattle.vlex.proofs.Pieces.{piece_by, barred_by, stuck_by}

@@ -1,15 +1,16 @@
 -- What bytes are, taken alone: a run of blanks, a comment, a token of some kind, or none of these.
-use Rattle.std.specs.Prelude.{ℕ, ◌+◌, ◌-◌, ◌*◌, Bool, true, false, ◌==◌, ◌&&◌, ◌||◌, not, nat_le, if◌then◌else◌, List, [], ◌∷◌, Option, None, Some, fold, codes}
+use Rattle.std.specs.Prelude.{ℕ, ◌+◌, ◌-◌, ◌*◌, Bool, true, false, ◌==◌, ◌&&◌, ◌||◌, not, nat_le, if◌then◌else◌, List, [], ◌∷◌, length, Option, None, Some, fold, codes}
 use Rattle.std.specs.List.{list_all, list_any, before_first, after_first}
 use Rattle.std.specs.Str.{bytes_eq}
+use Rattle.vsrc.specs.Outside.{block_end, string_end}
 use Rattle.vlex.specs.declared.bytes.Set.{Set}
 use Rattle.vlex.specs.declared.bytes.Set.TheVariants.{Blanks, Words, Decimals, Binaries, Octals, Hexadecimals, Underscores, LineBytes}
 use Rattle.vlex.specs.declared.bytes.Lead.{Lead}
 use Rattle.vlex.specs.declared.bytes.Lead.TheVariants as lead
 use Rattle.vlex.specs.declared.form.Form.{Form}
 use Rattle.vlex.specs.declared.form.Form.TheVariants.{Blank, Comment, Token}
-use Rattle.vlex.specs.declared.kind.Kind.TheVariants.{Name, System, Plain, Based, Text, Symbol}
-use Rattle.vlex.specs.Bytes.{is_unknown, is_in, lead_of}
+use Rattle.vlex.specs.declared.kind.TokenKind.TheVariants.{Name, System, Plain, Based, Text, Symbol}
+use Rattle.vlex.specs.Bytes.{is_apostrophe, is_underscore, is_unknown, is_in, lead_of}
 
 abbrev pub only_if : Bool → Form → Option Form
 only_if test form = if test then Some form else None
@@ -19,24 +20,18 @@ abbrev pub is_word : List ℕ → Bool
 is_word [] = false
 is_word (c ∷ cs) = list_all (is_in Words) (c ∷ cs)
 
--- Comments (3.3): what stands behind /* ends with the first */
+-- an end that is found is that of the bytes
+abbrev pub is_whole : Option ℕ → List ℕ → Bool
+is_whole None bytes = false
+is_whole (Some len) bytes = len == length bytes
 
+-- Comments (3.3): what stands behind /* ends with the first */
 abbrev pub ends_block : List ℕ → Bool
-ends_block [] = false
-ends_block (c ∷ []) = false
-ends_block (c ∷ d ∷ []) = c == 42 && d == 47
-ends_block (c ∷ d ∷ e ∷ cs) = not (c == 42 && d == 47) && ends_block (d ∷ e ∷ cs)
+ends_block bytes = is_whole (block_end bytes) bytes
 
 -- Strings (3.6): what stands behind the opening quote ends with the closing one, on the same line.
--- A backslash takes the next byte along.
 abbrev pub ends_string : List ℕ → Bool
-ends_string [] = false
-ends_string (c ∷ []) = c == 34
-ends_string (c ∷ d ∷ cs) =
-    if c == 34 then false
-    else if c == 10 then false
-    else if c == 92 && not (d == 10) then ends_string cs
-    else ends_string (d ∷ cs)
+ends_string bytes = is_whole (string_end bytes) bytes
 
 -- behind a backslash stands n, t, a backslash or a quote (3.6.3)
 abbrev pub has_good_escapes : List ℕ → Bool
@@ -49,12 +44,15 @@ has_good_escapes (c ∷ d ∷ cs) =
 -- Numbers (3.5.1)
 
 -- the decimal number that digits spell, _ passed over
-abbrev pub number_of : List ℕ → ℕ
-number_of digits = fold (λ n c. if c == 95 then n else 10 * n + (c - 48)) 0 digits
+abbrev pub with_digit : ℕ → ℕ → ℕ
+with_digit n c = if is_underscore c then n else 10 * n + (c - 48)
+
+abbrev pub spelled_number : List ℕ → ℕ
+spelled_number = fold with_digit 0
 
 -- a size is 1 to 64
 abbrev pub is_size : List ℕ → Bool
-is_size digits = list_all (is_in Decimals) digits && nat_le 1 (number_of digits) && nat_le (number_of digits) 64
+is_size digits = list_all (is_in Decimals) digits && nat_le 1 (spelled_number digits) && nat_le (spelled_number digits) 64
 
 -- behind a first digit other than _ stand digits of the same base
 abbrev pub digits_from : Set → ℕ → Option Set
@@ -83,9 +81,6 @@ is_base_and_digits (base ∷ first ∷ digits) = are_in (digits_after base first
 abbrev pub is_based : List ℕ → Bool
 is_based [] = false
 is_based (c ∷ cs) = if c == 115 || c == 83 then is_base_and_digits cs else is_base_and_digits (c ∷ cs)
-
-abbrev pub is_apostrophe : ℕ → Bool
-is_apostrophe c = c == 39
 
 -- what begins with a digit
 abbrev pub number_form : List ℕ → Option Form

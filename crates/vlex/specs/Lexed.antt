@@ -1,19 +1,20 @@
 -- The relation between a text and its tokens (IEEE 1364-2005, clause 3).
 use Rattle.std.specs.Prelude.{◌≡◌, ℕ, ◌+◌, ◌<◌, ◌≤◌, Bool, true, false, ◌==◌, ◌&&◌, ◌||◌, not, List, [], ◌∷◌, None, Some, length, take, drop, slice_index, ◌⊎◌}
 use Rattle.vsrc.specs.Source.{Source, place_of}
+use Rattle.vsrc.specs.Outside.{block_end, string_end}
 use Rattle.vlex.specs.declared.bytes.Set.TheVariants.{Words}
 use Rattle.vlex.specs.declared.form.Form.{Form}
 use Rattle.vlex.specs.declared.form.Form.TheVariants.{Blank, Comment, Token}
-use Rattle.vlex.specs.declared.kind.Kind.{Kind}
-use Rattle.vlex.specs.declared.kind.Kind.TheVariants.{Name, System, Plain, Based, Text, Symbol}
+use Rattle.vlex.specs.declared.kind.TokenKind.{TokenKind}
+use Rattle.vlex.specs.declared.kind.TokenKind.TheVariants.{Name, System, Plain, Based, Text, Symbol}
 use Rattle.vlex.specs.declared.fault.LexFault.{LexFault}
 use Rattle.vlex.specs.declared.fault.LexFault.TheVariants.{NotEnded, BadToken}
 use Rattle.vlex.specs.Bytes.{is_in}
-use Rattle.vlex.specs.Forms.{form_of, ends_block, ends_string}
+use Rattle.vlex.specs.Forms.{form_of}
 
 -- a token: its kind and its bytes
 pub record Piece : Type 0 where
-  pub kind : Kind
+  pub kind : TokenKind
   pub text : List ℕ
 
 -- what may not stand at once behind: an apostrophe behind a plain number, a letter, digit, _ or $
@@ -45,20 +46,20 @@ pub data Lexed : List ℕ → List Piece → Type 0 where
   done : Lexed [] []
   blank : (text : List ℕ) (len : ℕ) (pieces : List Piece) → IsFront text Blank len → Lexed (drop len text) pieces → Lexed text pieces
   comment : (text : List ℕ) (len : ℕ) (pieces : List Piece) → IsFront text Comment len → Lexed (drop len text) pieces → Lexed text pieces
-  token : (text : List ℕ) (kind : Kind) (len : ℕ) (pieces : List Piece) → IsFront text (Token kind) len → Lexed (drop len text) pieces
+  token : (text : List ℕ) (kind : TokenKind) (len : ℕ) (pieces : List Piece) → IsFront text (Token kind) len → Lexed (drop len text) pieces
       → Lexed text (record { kind = kind; text = take len text } ∷ pieces)
 
 -- no front of the text is a piece
 abbrev pub IsStuck : List ℕ → Type 0
 IsStuck text = (form : Form) (len : ℕ) → IsFront text form len → ⊥
 
--- a comment or a string begins the text, and no front of what stands behind its beginning ends it
+-- a comment or a string begins the text, and isn't closed (3.3, 3.6)
 abbrev pub IsOpen : List ℕ → Type 0
 IsOpen [] = ⊥
 IsOpen (c ∷ []) = c ≡ 34
 IsOpen (c ∷ d ∷ cs) =
-    ((c ≡ 47) × (d ≡ 42) × ((n : ℕ) → ends_block (take n cs) ≡ false))
-    ⊎ ((c ≡ 34) × ((n : ℕ) → ends_string (take n (d ∷ cs)) ≡ false))
+    ((c ≡ 47) × (d ≡ 42) × (block_end cs ≡ None))
+    ⊎ ((c ≡ 34) × (string_end (d ∷ cs) ≡ None))
 
 -- a list of tokens is the text's only one
 abbrev pub IsOnlyLexed : List ℕ → List Piece → Type 0

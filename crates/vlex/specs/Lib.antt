@@ -1,5 +1,6 @@
 pub mod Bytes
 pub mod Forms
-pub mod Fronts
 pub mod Lexed
 pub mod Tokenized
+pub mod Inner
+pub mod Laws

@@ -2,7 +2,10 @@
 
 ghost use Rattle.std.specs.Prelude.{◌≡◌, ◌≤◌, true, length, slice_index};
 ghost use Rattle.std.specs.List.{prefix_len};
-ghost use Rattle.vlex.specs.Bytes.{is_digit, is_letter, is_unknown, is_mark, is_in, lead_of};
+ghost use Rattle.std.specs.Char.{is_ascii_digit};
+ghost use Rattle.vlex.specs.Bytes.{is_mark, is_in, lead_of};
+
+use crate::digits::is_unknown;
 
 /// The bytes that a piece goes on with.
 #[derive(Clone, Copy)]
@@ -31,25 +34,6 @@ pub enum Lead {
     Other,
 }
 
-fn is_digit(byte: u8) -> bool
-    ensures { result ≡ is_digit byte }
-{
-    b'0' <= byte && byte <= b'9'
-}
-
-fn is_letter(byte: u8) -> bool
-    ensures { result ≡ is_letter byte }
-{
-    (b'A' <= byte && byte <= b'Z') || (b'a' <= byte && byte <= b'z')
-}
-
-/// Whether the byte is the digit x, z or ?.
-pub fn is_unknown(byte: u8) -> bool
-    ensures { result ≡ is_unknown byte }
-{
-    byte == b'x' || byte == b'X' || byte == b'z' || byte == b'Z' || byte == b'?'
-}
-
 fn is_mark(byte: u8) -> bool
     ensures { result ≡ is_mark byte }
 {
@@ -66,40 +50,33 @@ pub fn is_in(set: Set, byte: u8) -> bool
             || byte == b'\n'
             || byte == b'\r'
             || byte == 12,
-        Set::Words => is_letter(byte) || is_digit(byte) || byte == b'_' || byte == b'$',
-        Set::Decimals => is_digit(byte) || byte == b'_',
+        Set::Words => byte.is_ascii_alphabetic()
+            || byte.is_ascii_digit()
+            || byte == b'_'
+            || byte == b'$',
+        Set::Decimals => byte.is_ascii_digit() || byte == b'_',
         Set::Binaries => byte == b'0' || byte == b'1' || is_unknown(byte) || byte == b'_',
         Set::Octals => (b'0' <= byte && byte <= b'7') || is_unknown(byte) || byte == b'_',
-        Set::Hexadecimals => is_hexadecimal(byte),
+        Set::Hexadecimals => byte.is_ascii_hexdigit() || is_unknown(byte) || byte == b'_',
         Set::Underscores => byte == b'_',
         Set::LineBytes => byte != b'\n',
     }
 }
 
-fn is_hexadecimal(byte: u8) -> bool
-    ensures { result ≡ is_in Set.Hexadecimals byte }
-{
-    is_digit(byte)
-        || (b'A' <= byte && byte <= b'F')
-        || (b'a' <= byte && byte <= b'f')
-        || is_unknown(byte)
-        || byte == b'_'
-}
-
 /// What the byte begins.
 pub fn lead_of(byte: u8) -> Lead
     ensures value { result ≡ lead_of byte }
-    ensures digit { result ≡ Lead.Digit → is_digit byte ≡ true }
+    ensures digit { result ≡ Lead.Digit → is_ascii_digit byte ≡ true }
     ensures quote { result ≡ Lead.Quote → byte ≡ 34 }
     ensures slash { result ≡ Lead.Slash → byte ≡ 47 }
 {
     if is_in(Set::Blanks, byte) {
         Lead::Blank
-    } else if is_letter(byte) || byte == b'_' {
+    } else if byte.is_ascii_alphabetic() || byte == b'_' {
         Lead::Letter
     } else if byte == b'$' {
         Lead::Dollar
-    } else if is_digit(byte) {
+    } else if byte.is_ascii_digit() {
         Lead::Digit
     } else if byte == b'\'' {
         Lead::Apostrophe

@@ -1,13 +1,13 @@
 // The forms of pieces, and what stands at the head of a text.
 
-use crate::kind::Kind;
+use crate::kind::TokenKind;
 
 /// What the bytes of a piece of the text are.
 #[derive(Clone, Copy)]
 pub enum Form {
     Blank,
     Comment,
-    Token(Kind),
+    Token(TokenKind),
 }
 
 /// What stands at the head of a text.

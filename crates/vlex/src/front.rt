@@ -3,11 +3,11 @@
 ghost use Rattle.std.specs.Prelude.{◌≡◌, ◌∷◌, ◌<◌, length};
 ghost use Rattle.vlex.specs.Bytes.{lead_of};
 ghost use Rattle.vlex.specs.Forms.{is_double, is_triple};
-ghost use Rattle.vlex.specs.Fronts.{IsAnswer};
+ghost use Rattle.vlex.specs.Inner.{IsAnswer};
 
 use crate::bytes::{Lead, Set, byte_at, lead_of, run_len};
 use crate::form::{Form, Front};
-use crate::kind::Kind;
+use crate::kind::TokenKind;
 use crate::number::{based, number};
 use crate::text::{slash, string};
 
@@ -24,7 +24,7 @@ fn front_by(first: u8, rest: &[u8]) -> Front
 {
     match lead_of(first) {
         Lead::Blank => Front::Piece(Form::Blank, 1 + run_len(Set::Blanks, rest)),
-        Lead::Letter => Front::Piece(Form::Token(Kind::Name), 1 + run_len(Set::Words, rest)),
+        Lead::Letter => Front::Piece(Form::Token(TokenKind::Name), 1 + run_len(Set::Words, rest)),
         Lead::Dollar => system(first, rest),
         Lead::Digit => number(first, rest),
         Lead::Apostrophe => based(first, rest),
@@ -44,7 +44,7 @@ fn system(first: u8, rest: &[u8]) -> Front
     if len == 0 {
         Front::Bad
     } else {
-        Front::Piece(Form::Token(Kind::System), 1 + len)
+        Front::Piece(Form::Token(TokenKind::System), 1 + len)
     }
 }
 
@@ -61,7 +61,7 @@ fn symbol(first: u8, rest: &[u8]) -> Front
     } else {
         1
     };
-    Front::Piece(Form::Token(Kind::Symbol), len)
+    Front::Piece(Form::Token(TokenKind::Symbol), len)
 }
 
 fn is_double(first: u8, second: u8) -> bool

@@ -2,7 +2,7 @@
 
 /// The kinds of tokens, IEEE 1364-2005, clause 3. A reserved word is a `Name` here.
 #[derive(Clone, Copy, Debug, PartialEq, Eq)]
-pub enum Kind {
+pub enum TokenKind {
     /// A letter or `_`, then letters, digits, `_` and `$` (3.7).
     Name,
     /// `$`, then at least one letter, digit, `_` or `$` (3.7.3).

@@ -4,7 +4,8 @@ ghost use Rattle.std.specs.Prelude.{◌≡◌, ◌+◌, ◌++◌, ◌≤◌, len
 ghost use Rattle.basis.specs.Reasons.{IfFault};
 ghost use Rattle.vsrc.specs.Source.{text_limit};
 ghost use Rattle.vlex.specs.Lexed.{Lexed, IsOnlyLexed, IsTokenReason, HasNoTokens};
-ghost use Rattle.vlex.specs.Tokenized.{pieces_of, spans_of, AreInOrder, IsTokenAt};
+ghost use Rattle.vlex.specs.Tokenized.{pieces_of, AreInOrder, IsTokenAt};
+ghost use Rattle.vlex.specs.Inner.{spans_of};
 
 use crate::fault::LexFault;
 use crate::form::{Form, Front};

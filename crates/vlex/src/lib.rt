@@ -4,6 +4,7 @@
 #![tactic(auto)]
 
 mod bytes;
+pub mod digits;
 mod fault;
 mod form;
 mod front;
@@ -15,6 +16,6 @@ mod number;
 mod text;
 
 pub use fault::LexFault;
-pub use kind::Kind;
+pub use kind::TokenKind;
 pub use lexer::tokens;
 pub use list::Tokens;

@@ -3,7 +3,7 @@
 ghost use Rattle.std.specs.Prelude.{◌≡◌, ◌<◌, ◌≤◌, length, slice_get, Some};
 ghost use Rattle.std.specs.Option.{option_map};
 
-use crate::kind::Kind;
+use crate::kind::TokenKind;
 use std::marker::Model;
 use vsrc::{Expanded, Place};
 
@@ -12,7 +12,7 @@ use vsrc::{Expanded, Place};
 pub struct Span {
     pub start: u32,
     pub len: u32,
-    pub kind: Kind,
+    pub kind: TokenKind,
 }
 
 /// The tokens of a text, in order. Each takes 12 bytes; their bytes stand in the text.
@@ -23,7 +23,8 @@ pub struct Tokens<'a> {
 }
 
 impl<'a> Model for Tokens<'a> {
-    ghost use Rattle.vlex.specs.Tokenized.{Tokenized, AreKept};
+    ghost use Rattle.vlex.specs.Tokenized.{Tokenized};
+    ghost use Rattle.vlex.specs.Inner.{AreKept};
 
     ghost Value = { Tokenized };
 
@@ -33,7 +34,8 @@ impl<'a> Model for Tokens<'a> {
 }
 
 impl<'a> Tokens<'a> {
-    ghost use Rattle.vlex.specs.Tokenized.{pieces_of, start_of, AreKept};
+    ghost use Rattle.vlex.specs.Tokenized.{pieces_of, kind_at, text_at, start_of};
+    ghost use Rattle.vlex.specs.Inner.{AreKept};
     ghost use Rattle.vsrc.specs.Source.{place_of, text_limit};
 
     pub(crate) fn new(source: &'a Expanded, spans: Vec<Span>) -> Tokens<'a>
@@ -52,9 +54,9 @@ impl<'a> Tokens<'a> {
     }
 
     /// The kind of the token at `index`, from 0.
-    pub fn kind(&self, index: usize) -> Kind
+    pub fn kind(&self, index: usize) -> TokenKind
         requires { index < length (pieces_of self.now) }
-        ensures { option_map (λ piece. piece.kind) (slice_get (pieces_of self.now) index) ≡ Some result }
+        ensures { kind_at self.now index ≡ Some result }
     {
         self.spans[index].kind
     }
@@ -62,7 +64,7 @@ impl<'a> Tokens<'a> {
     /// The bytes of the token at `index`, from 0.
     pub fn text(&self, index: usize) -> &'a [u8]
         requires { index < length (pieces_of self.now) }
-        ensures { option_map (λ piece. piece.text) (slice_get (pieces_of self.now) index) ≡ Some result.now }
+        ensures { text_at self.now index ≡ Some result.now }
     {
         let span = self.spans[index];
         let rest = self.source.text().split_at(span.start as usize).1;

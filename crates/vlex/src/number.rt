@@ -2,23 +2,25 @@
 
 ghost use Rattle.std.specs.Prelude.{◌≡◌, ◌∷◌, ◌++◌, ◌≤◌, ◌==◌, ◌||◌, ◌+◌, ◌*◌, true, not, min, length, slice_index, ◌<◌, ◌^◌};
 ghost use Rattle.std.specs.List.{list_all};
-ghost use Rattle.vlex.specs.Bytes.{is_digit, is_in, lead_of};
+ghost use Rattle.std.specs.Char.{is_ascii_digit};
+ghost use Rattle.vlex.specs.Bytes.{is_in, lead_of};
 ghost use Rattle.vlex.specs.Forms.{digits_from, digits_after, is_base_and_digits, is_based, is_size};
-ghost use Rattle.vlex.specs.Fronts.{Finds, IsAnswer};
+ghost use Rattle.vlex.specs.Inner.{Finds, IsAnswer};
 
-use crate::bytes::{Lead, Set, byte_at, is_in, is_unknown, run_len};
+use crate::bytes::{Lead, Set, byte_at, is_in, run_len};
+use crate::digits::is_unknown;
 use crate::form::{Form, Front};
-use crate::kind::Kind;
+use crate::kind::TokenKind;
 
 /// The number that begins with a digit.
 pub fn number(first: u8, rest: &[u8]) -> Front
     requires lead { lead_of first ≡ Lead.Digit }
-    requires digit { is_digit first ≡ true }
+    requires digit { is_ascii_digit first ≡ true }
     ensures { IsAnswer (first ∷ rest.now) result }
 {
     let (digits, after) = rest.split_at(run_len(Set::Decimals, rest));
     if byte_at(after, 0) != b'\'' {
-        return Front::Piece(Form::Token(Kind::Plain), 1 + digits.len());
+        return Front::Piece(Form::Token(TokenKind::Plain), 1 + digits.len());
     }
     sized(first, digits, after.split_at(1).1)
 }
@@ -26,7 +28,7 @@ pub fn number(first: u8, rest: &[u8]) -> Front
 // The number with these digits as its size, told from what stands behind the apostrophe.
 fn sized(first: u8, digits: &[u8], base: &[u8]) -> Front
     requires lead { lead_of first ≡ Lead.Digit }
-    requires digit { is_digit first ≡ true }
+    requires digit { is_ascii_digit first ≡ true }
     requires digits { list_all (is_in Set.Decimals) digits.now ≡ true }
     requires short { length digits.now + 1 + length base.now < 2 ^ 63 }
     ensures { IsAnswer (first ∷ digits.now ++ 39 ∷ base.now) result }
@@ -40,7 +42,7 @@ fn sized(first: u8, digits: &[u8], base: &[u8]) -> Front
     if !is_ended(base, len) {
         return Front::Bad;
     }
-    Front::Piece(Form::Token(Kind::Based), 2 + digits.len() + len)
+    Front::Piece(Form::Token(TokenKind::Based), 2 + digits.len() + len)
 }
 
 /// The number that begins with an apostrophe.
@@ -54,7 +56,7 @@ pub fn based(first: u8, rest: &[u8]) -> Front
     if !is_ended(rest, len) {
         return Front::Bad;
     }
-    Front::Piece(Form::Token(Kind::Based), 1 + len)
+    Front::Piece(Form::Token(TokenKind::Based), 1 + len)
 }
 
 // Whether no letter, digit, `_` or `$` follows at once.
@@ -121,7 +123,7 @@ fn digits_from(set: Set, first: u8) -> Option<Set>
 
 // Whether the digits spell a size, 1 to 64.
 fn is_size(first: u8, digits: &[u8]) -> bool
-    requires first { is_digit first ≡ true }
+    requires first { is_ascii_digit first ≡ true }
     requires digits { list_all (is_in Set.Decimals) digits.now ≡ true }
     ensures { result ≡ is_size (first ∷ digits.now) }
 {

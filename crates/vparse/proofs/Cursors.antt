@@ -1,13 +1,8 @@
 -- What stands at a place of a list.
-use Rattle.std.proofs.Common.{◌≡◌, ℕ, zero, suc, ◌+◌, List, [], ◌∷◌, Some, drop, map, option_map, sym, arith}
+use Rattle.std.proofs.Common.{◌≡◌, ℕ, zero, suc, List, [], ◌∷◌, Some, drop, map, option_map, arith}
 use Rattle.std.specs.List.{slice_get}
-use Rattle.std.proofs.lemmas.List.{drop-drop}
 use Rattle.vlex.specs.Lexed.{Piece}
 use Rattle.vast.specs.Syntax.{Text}
-
--- one more is passed
-pub passed : {A : Type 0} (at : ℕ) (xs : List A) → drop (at + 1) xs ≡ drop 1 (drop at xs)
-passed at xs = sym (drop-drop 1 at xs)
 
 -- the text at a place stands before what is left behind it
 pub text_here : (pieces : List Piece) (at : ℕ) (text : Text) → option_map (λ piece. piece.text) (slice_get pieces at) ≡ Some text →

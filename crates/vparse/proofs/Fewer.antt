@@ -2,8 +2,8 @@
 use Rattle.std.proofs.Common.{ℕ, [], ◌∷◌, codes}
 use Rattle.vast.specs.Words.{is_name}
 use Rattle.vast.specs.Derives.{spell_statement, spell_item, spell_module, fits_item, fits_module}
-use Rattle.vast.specs.Depth.{fits_within}
-use Rattle.vparse.specs.Reading.{statement, more_name, item, unit}
+use Rattle.vast.specs.Inner.{fits_within}
+use Rattle.vparse.specs.Inner.Reading.{statement, more_name, item, unit}
 use Rattle.vparse.proofs.ReadingLaws.{statement_reads, some_words}
 use Rattle.vparse.proofs.SourceLaws.{more_reads, two_words, item_reads, item_words, unit_reads, unit_words}
 use Rattle.vparse.proofs.Turns.{LeavesFewer, leaves_fewer}

@@ -5,17 +5,18 @@ use Rattle.std.specs.Str.{bytes_eq}
 use Rattle.vast.specs.Words.{is_name}
 use Rattle.vast.specs.Syntax.{Text, StatementTree, ItemTree, ModuleTree}
 use Rattle.vast.specs.Derives.{spell_statement, spell_item, spell_module, fits_item, fits_module}
-use Rattle.vast.specs.Depth.{fits_within}
-use Rattle.vparse.specs.declared.lead.Lead.{Lead}
-use Rattle.vparse.specs.declared.lead.Lead.TheVariants as lead
+use Rattle.vast.specs.Inner.{fits_within}
+use Rattle.vparse.specs.declared.beginning.Beginning.{Beginning}
+use Rattle.vparse.specs.declared.beginning.Beginning.TheVariants as start
 use Rattle.basis.specs.declared.memory.OrMemory.{OrMemory}
 use Rattle.basis.specs.Reasons.{Because}
 use Rattle.vparse.specs.declared.stop.Stop.{Stop}
 use Rattle.vparse.specs.declared.stop.Stop.TheVariants.{TooDeep}
-use Rattle.vparse.specs.Answers.{Deepens}
-use Rattle.vparse.specs.Levels.{opens, openings, Opens}
-use Rattle.vparse.specs.Readers.{Reader, Reads, take_word}
-use Rattle.vparse.specs.Reading.{lead_of, statement, item, unit}
+use Rattle.vparse.specs.Inner.Answers.{Deepens}
+use Rattle.vparse.specs.Levels.{opens, openings}
+use Rattle.vparse.specs.Inner.Answers.{Opens}
+use Rattle.vparse.specs.Inner.Readers.{Reader, Reads, take_word}
+use Rattle.vparse.specs.Inner.Reading.{beginning_of, statement, item, unit}
 use Rattle.vparse.proofs.ReaderLaws.{because, word_taken}
 use Rattle.vparse.proofs.ReadingLaws.{statement_reads}
 use Rattle.vparse.proofs.SourceLaws.{item_reads, unit_reads}
@@ -84,17 +85,17 @@ passed_front levels passed words left e o = subst (λ ws. levels ≤ openings ws
         ∙ ap (take (length o.passed)) o.whole ∙ taken o.passed left
 
 -- what stands round another statement
-abbrev pub is_round : Lead → Bool
-is_round lead.Begin = true
-is_round lead.Hash = true
-is_round lead.Name = false
-is_round lead.Semicolon = false
-is_round lead.DumpVars = false
-is_round lead.Finish = false
-is_round lead.Other = false
+abbrev pub is_round : Beginning → Bool
+is_round start.Begin = true
+is_round start.Hash = true
+is_round start.Name = false
+is_round start.Semicolon = false
+is_round start.DumpVars = false
+is_round start.Finish = false
+is_round start.Other = false
 
 round_opens : (n s b h d f : Bool) →
-    is_round (if n then lead.Name else if s then lead.Semicolon else if b then lead.Begin else if h then lead.Hash else if d then lead.DumpVars else if f then lead.Finish else lead.Other) ≡ true →
+    is_round (if n then start.Name else if s then start.Semicolon else if b then start.Begin else if h then start.Hash else if d then start.DumpVars else if f then start.Finish else start.Other) ≡ true →
     (b || h) ≡ true
 round_opens n s true h d f e = refl
 round_opens n s false true d f e = refl
@@ -105,9 +106,9 @@ round_opens false false false false false true e = e
 round_opens false false false false false false e = e
 
 -- its first word opens a level
-pub lead_opens : (word : Text) → is_round (lead_of word) ≡ true → opens word ≡ true
-unfolding lead_of opens
-lead_opens word e =
+pub start_opens : (word : Text) → is_round (beginning_of word) ≡ true → opens word ≡ true
+unfolding beginning_of opens
+start_opens word e =
     round_opens (is_name word) (bytes_eq (codes ";") word) (bytes_eq (codes "begin") word) (bytes_eq (codes "#") word) (bytes_eq (codes "$dumpvars") word) (bytes_eq (codes "$finish") word) e
 
 -- the same of a reader that stops

@@ -2,7 +2,7 @@
 use Rattle.std.proofs.Common.{◌≡◌, List, None, Some, sym, ◌∙◌}
 use Rattle.vast.specs.Syntax.{Text, SourceTree}
 use Rattle.vast.specs.Derives.{HasNoTree}
-use Rattle.vparse.specs.Reading.{source}
+use Rattle.vparse.specs.Inner.Reading.{source}
 use Rattle.vparse.specs.Faults.{IsOnlyTree}
 use Rattle.vparse.proofs.ReaderLaws.{same_pair, none_is_not}
 use Rattle.vparse.proofs.SourceLaws.{derives_source}

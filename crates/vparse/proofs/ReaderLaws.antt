@@ -1,14 +1,15 @@
 -- What holds of readers: what was read stands at the front of the words, and what stands there is read.
-use Rattle.std.proofs.Common.{◌≡◌, ℕ, zero, suc, ◌+◌, ◌<◌, Bool, true, false, ◌&&◌, if◌then◌else◌, List, [], ◌∷◌, ◌++◌, Option, None, Some, length, flat_map, refl, sym, ap, ◌∙◌, arith, inl, inr, subst, append_assoc, length-append}
+use Rattle.std.proofs.Common.{◌≡◌, ℕ, zero, suc, ◌+◌, ◌<◌, Bool, true, false, if◌then◌else◌, List, [], ◌∷◌, ◌++◌, Option, None, Some, length, flat_map, refl, sym, ap, ◌∙◌, arith, inl, inr, subst, append_assoc, length-append}
 use Rattle.std.specs.List.{list_all}
 use Rattle.std.specs.Str.{bytes_eq}
 use Rattle.std.proofs.lemmas.Bool.{cases_Bool}
 use Rattle.std.proofs.lemmas.Slice.Eq.{bytes_eq-Decides}
+use Rattle.basis.proofs.Bools.{and_both, and_left, and_right}
 use Rattle.basis.specs.declared.memory.OrMemory.{OrMemory}
 use Rattle.basis.specs.declared.memory.OrMemory.TheVariants.{Fault, Memory}
 use Rattle.basis.specs.Reasons.{Because}
 use Rattle.vast.specs.Syntax.{Text}
-use Rattle.vparse.specs.Readers.{Reader, Reads, and_then, take_word, symbol, many}
+use Rattle.vparse.specs.Inner.Readers.{Reader, Reads, and_then, take_word, symbol, many}
 
 pair_or : {A : Type 0} → A × List Text → Option (A × List Text) → A × List Text
 pair_or pair None = pair
@@ -47,17 +48,6 @@ passed_over true a b e = elim (true_false e) [ ]
   where
     true_false : true ≡ false → ⊥
     true_false e = cc
-
-pub both : (a b : Bool) → a ≡ true → b ≡ true → (a && b) ≡ true
-both a b p q = ap (λ x. x && b) p ∙ q
-
-pub left_of : (a b : Bool) → (a && b) ≡ true → a ≡ true
-left_of true b e = refl
-left_of false b e = e
-
-pub right_of : (a b : Bool) → (a && b) ≡ true → b ≡ true
-right_of true b e = e
-right_of false b e = cc
 
 pub same_text : (a b : Text) → bytes_eq a b ≡ true → a ≡ b
 same_text a b e = grind (arith, bytes_eq-Decides)
@@ -118,7 +108,7 @@ module _ {A : Type 0} (read : Reader A) (spell : A → List Text) (fits : A → 
               spelled =
                   r.spelled words a.0.0 a.0.1 a.1 ∙ ap (λ ws. spell a.0.0 ++ ws) more.spelled ∙ sym (append_assoc (spell a.0.0) (flat_map spell b.0.0) b.0.1)
                   ∙ ap (λ ws. flat_map spell (a.0.0 ∷ b.0.0) ++ ws) p.1 ∙ ap (λ ts. flat_map spell ts ++ rest) p.0;
-              fitting = sym (ap (list_all fits) p.0) ∙ both (fits a.0.0) (list_all fits b.0.0) (r.fitting words a.0.0 a.0.1 a.1) more.fitting;
+              fitting = sym (ap (list_all fits) p.0) ∙ and_both (fits a.0.0) (list_all fits b.0.0) (r.fitting words a.0.0 a.0.1 a.1) more.fitting;
               stopped = sym (ap stops p.1) ∙ more.stopped;
             }
       ]
@@ -132,14 +122,14 @@ module _ {A : Type 0} (read : Reader A) (spell : A → List Text) (fits : A → 
       below_zero n e = omega (arith, e)
   many_complete positive goes (suc fuel) [] rest fit stop enough = chosen (stops rest) _ _ stop
   many_complete positive goes (suc fuel) (tree ∷ trees) rest fit stop enough =
-      let here = left_of (fits tree) (list_all fits trees) fit in
+      let here = and_left (fits tree) (list_all fits trees) fit in
       let assoc = append_assoc (spell tree) (flat_map spell trees) rest in
       let fewer : length (flat_map spell trees ++ rest) < fuel = shorter in
       ap (many read stops (suc fuel)) assoc
       ∙ passed_over (stops (spell tree ++ (flat_map spell trees ++ rest))) _ _ (goes tree (flat_map spell trees ++ rest) here)
       ∙ then_is (read (spell tree ++ (flat_map spell trees ++ rest))) _ tree (flat_map spell trees ++ rest) (r.complete tree (flat_map spell trees ++ rest) here)
       ∙ then_is (many read stops fuel (flat_map spell trees ++ rest)) _ trees rest
-      (many_complete positive goes fuel trees rest (right_of (fits tree) (list_all fits trees) fit) stop fewer)
+      (many_complete positive goes fuel trees rest (and_right (fits tree) (list_all fits trees) fit) stop fewer)
     where
       lengths : (a b c : ℕ) → a + b < suc c → 0 < a → b < c
       lengths a b c = omega arith

@@ -5,19 +5,21 @@ use Rattle.std.specs.List.{list_all}
 use Rattle.std.specs.Str.{bytes_eq}
 use Rattle.std.proofs.lemmas.Bool.{cases_Bool}
 use Rattle.std.proofs.lemmas.Bool.Decides.{nat_tests}
-use Rattle.vast.specs.Words.{is_name, is_number, begins_name, is_digit, is_in_name, is_reserved, reserved_words}
+use Rattle.std.specs.Char.{is_ascii_digit}
+use Rattle.vast.specs.Words.{is_name, is_number, begins_name, is_in_name, is_reserved, reserved_words}
 use Rattle.vast.specs.Syntax.{Text, ExpressionTree, number, name, StatementTree, empty, block, assign, nonblocking, delay, dump_vars, finish, StatementTrees, none, first}
 use Rattle.vast.specs.Derives.{spell_expression, spell_statement, spell_statements, fits_expression, fits_statement, fits_statements, depth, greatest_depth}
-use Rattle.vast.specs.Depth.{fits_within, all_fit_within}
+use Rattle.vast.specs.Inner.{fits_within, all_fit_within}
 use Rattle.vast.proofs.TreeLemmas.{first_within, none_within_zero}
-use Rattle.vparse.specs.declared.lead.Lead.{Lead}
-use Rattle.vparse.specs.declared.lead.Lead.TheVariants as lead
-use Rattle.vparse.specs.Readers.{Reader, Reads, and_then, take_word, symbol, begins, until}
-use Rattle.vparse.specs.Trees.{trees_of}
-use Rattle.vparse.specs.Reading.{lead_of, expression, value, assignment, task, block_of, delay_of, follow, led, statement}
-use Rattle.vparse.proofs.ReaderLaws.{same_pair, none_is_not, parts, then_is, chosen, passed_over, both, left_of, right_of, same_text, text_same, word_taken, word_takes, symbol_taken, symbol_takes, many_sound, many_complete}
+use Rattle.vparse.specs.declared.beginning.Beginning.{Beginning}
+use Rattle.vparse.specs.declared.beginning.Beginning.TheVariants as start
+use Rattle.vparse.specs.Inner.Readers.{Reader, Reads, and_then, take_word, symbol, begins, until}
+use Rattle.vparse.specs.Inner.Trees.{trees_of}
+use Rattle.vparse.specs.Inner.Reading.{beginning_of, expression, value, assignment, task, block_of, delay_of, follow, led, statement}
+use Rattle.basis.proofs.Bools.{and_both, and_left, and_right}
+use Rattle.vparse.proofs.ReaderLaws.{same_pair, none_is_not, parts, then_is, chosen, passed_over, same_text, text_same, word_taken, word_takes, symbol_taken, symbol_takes, many_sound, many_complete}
 
-pub no_digit : (c : ℕ) → begins_name c ≡ true → (is_digit c || (c == 39)) ≡ false
+pub no_digit : (c : ℕ) → begins_name c ≡ true → (is_ascii_digit c || (c == 39)) ≡ false
 no_digit c e = grind (arith, nat_tests)
 
 -- no number is a name
@@ -26,57 +28,57 @@ number_no_name [] fit = absurd (false_true fit)
   where
     false_true : false ≡ true → ⊥
     false_true e = cc
-number_no_name (c ∷ cs) fit = no_digit c (left_of (begins_name c) (list_all is_in_name cs) (left_of (begins_name c && list_all is_in_name cs) (not (is_reserved (c ∷ cs))) fit))
+number_no_name (c ∷ cs) fit = no_digit c (and_left (begins_name c) (list_all is_in_name cs) (and_left (begins_name c && list_all is_in_name cs) (not (is_reserved (c ∷ cs))) fit))
 
--- the leads of words
+-- what words begin
 
-lead_name : (word : Text) → is_name word ≡ true → lead_of word ≡ lead.Name
-unfolding lead_of
-lead_name word e = chosen (is_name word) _ _ e
+start_name : (word : Text) → is_name word ≡ true → beginning_of word ≡ start.Name
+unfolding beginning_of
+start_name word e = chosen (is_name word) _ _ e
 
-lead_semicolon : lead_of (codes ";") ≡ lead.Semicolon
-unfolding lead_of
-lead_semicolon = refl
+start_semicolon : beginning_of (codes ";") ≡ start.Semicolon
+unfolding beginning_of
+start_semicolon = refl
 
-lead_begin : lead_of (codes "begin") ≡ lead.Begin
-unfolding lead_of reserved_words
-lead_begin = refl
+start_begin : beginning_of (codes "begin") ≡ start.Begin
+unfolding beginning_of reserved_words
+start_begin = refl
 
-lead_hash : lead_of (codes "#") ≡ lead.Hash
-unfolding lead_of
-lead_hash = refl
+start_hash : beginning_of (codes "#") ≡ start.Hash
+unfolding beginning_of
+start_hash = refl
 
-lead_dump_vars : lead_of (codes "$dumpvars") ≡ lead.DumpVars
-unfolding lead_of
-lead_dump_vars = refl
+start_dump_vars : beginning_of (codes "$dumpvars") ≡ start.DumpVars
+unfolding beginning_of
+start_dump_vars = refl
 
-lead_finish : lead_of (codes "$finish") ≡ lead.Finish
-unfolding lead_of
-lead_finish = refl
+start_finish : beginning_of (codes "$finish") ≡ start.Finish
+unfolding beginning_of
+start_finish = refl
 
 -- what a lead says of its word
-abbrev Told : Lead → Text → Type 0
-Told lead.Name word = is_name word ≡ true
-Told lead.Semicolon word = codes ";" ≡ word
-Told lead.Begin word = codes "begin" ≡ word
-Told lead.Hash word = codes "#" ≡ word
-Told lead.DumpVars word = codes "$dumpvars" ≡ word
-Told lead.Finish word = codes "$finish" ≡ word
-Told lead.Other word = Unit {0}
+abbrev Told : Beginning → Text → Type 0
+Told start.Name word = is_name word ≡ true
+Told start.Semicolon word = codes ";" ≡ word
+Told start.Begin word = codes "begin" ≡ word
+Told start.Hash word = codes "#" ≡ word
+Told start.DumpVars word = codes "$dumpvars" ≡ word
+Told start.Finish word = codes "$finish" ≡ word
+Told start.Other word = Unit {0}
 
-told_by : (test : Bool) (a b : Lead) (word : Text) → (test ≡ true → Told a word) → Told b word → Told (if test then a else b) word
+told_by : (test : Bool) (a b : Beginning) (word : Text) → (test ≡ true → Told a word) → Told b word → Told (if test then a else b) word
 told_by true a b word yes_then otherwise = yes_then refl
 told_by false a b word yes_then otherwise = otherwise
 
-told : (word : Text) → Told (lead_of word) word
-unfolding lead_of
+told : (word : Text) → Told (beginning_of word) word
+unfolding beginning_of
 told word =
-    told_by (is_name word) lead.Name _ word (λ e. e)
-    (told_by (bytes_eq (codes ";") word) lead.Semicolon _ word (same_text _ word)
-    (told_by (bytes_eq (codes "begin") word) lead.Begin _ word (same_text _ word)
-    (told_by (bytes_eq (codes "#") word) lead.Hash _ word (same_text _ word)
-    (told_by (bytes_eq (codes "$dumpvars") word) lead.DumpVars _ word (same_text _ word)
-    (told_by (bytes_eq (codes "$finish") word) lead.Finish lead.Other word (same_text _ word) tt)))))
+    told_by (is_name word) start.Name _ word (λ e. e)
+    (told_by (bytes_eq (codes ";") word) start.Semicolon _ word (same_text _ word)
+    (told_by (bytes_eq (codes "begin") word) start.Begin _ word (same_text _ word)
+    (told_by (bytes_eq (codes "#") word) start.Hash _ word (same_text _ word)
+    (told_by (bytes_eq (codes "$dumpvars") word) start.DumpVars _ word (same_text _ word)
+    (told_by (bytes_eq (codes "$finish") word) start.Finish start.Other word (same_text _ word) tt)))))
 
 -- expressions
 
@@ -143,8 +145,8 @@ assigned make sign spells fit deep below target words tree rest named room v = r
   spelled =
       ap (λ ws. target ∷ sign ∷ ws) (v.spelled ∙ sym (append_assoc (spell_expression v.held) (codes ";" ∷ []) rest))
       ∙ ap (λ ws. ws ++ rest) (sym (spells target v.held) ∙ ap spell_statement v.made);
-  fitting = both (fits_statement tree) (nat_le (depth tree) (suc below))
-      (sym (ap fits_statement v.made) ∙ fit target v.held ∙ both (is_name target) (fits_expression v.held) named v.fitting)
+  fitting = and_both (fits_statement tree) (nat_le (depth tree) (suc below))
+      (sym (ap fits_statement v.made) ∙ fit target v.held ∙ and_both (is_name target) (fits_expression v.held) named v.fitting)
       (ap (λ d. nat_le d (suc below)) (sym (ap depth v.made) ∙ deep target v.held) ∙ roomy below room);
 } where
   roomy : (n : ℕ) → nat_lt 0 n ≡ true → nat_le 2 (suc n) ≡ true
@@ -244,35 +246,35 @@ module _ (below : ℕ) (read : Reader StatementTree) (r : Reads read spell_state
             ∙ ap (λ t. spell_statement t ++ rest) p.0;
         fitting =
             sym (ap (fits_within (suc below)) p.0) ∙ deeper_delay below a.0.0 b.0.0
-            ∙ both (is_number a.0.0 && fits_statement b.0.0) (nat_le (depth b.0.0) below)
-            (both (is_number a.0.0) (fits_statement b.0.0) w.1 (left_of (fits_statement b.0.0) (nat_le (depth b.0.0) below) fit))
-            (right_of (fits_statement b.0.0) (nat_le (depth b.0.0) below) fit);
+            ∙ and_both (is_number a.0.0 && fits_statement b.0.0) (nat_le (depth b.0.0) below)
+            (and_both (is_number a.0.0) (fits_statement b.0.0) w.1 (and_left (fits_statement b.0.0) (nat_le (depth b.0.0) below) fit))
+            (and_right (fits_statement b.0.0) (nat_le (depth b.0.0) below) fit);
       }
 
-  follow_found : (l : Lead) (word : Text) (words : List Text) (tree : StatementTree) (rest : List Text) → Told l word → follow l below read word words ≡ Some (tree, rest) →
+  follow_found : (l : Beginning) (word : Text) (words : List Text) (tree : StatementTree) (rest : List Text) → Told l word → follow l below read word words ≡ Some (tree, rest) →
       Found (suc below) (word ∷ words) tree rest
-  follow_found lead.Name word words tree rest t e =
+  follow_found start.Name word words tree rest t e =
       elim (cases_Bool (nat_lt 0 below)) [
         | inl holds ↦ assignment_found below word words tree rest t holds (sym (chosen (nat_lt 0 below) _ _ holds) ∙ e)
         | inr fails ↦ absurd (none_is_not (sym (passed_over (nat_lt 0 below) _ _ fails) ∙ e))
       ]
-  follow_found lead.Semicolon word words tree rest t e =
+  follow_found start.Semicolon word words tree rest t e =
       let p = same_pair e in
       record {
         spelled = ap (λ w. w ∷ words) (sym t) ∙ ap (λ ws. codes ";" ∷ ws) p.1 ∙ ap (λ s. spell_statement s ++ rest) p.0;
         fitting = sym (ap (fits_within (suc below)) p.0) ∙ one_fits below;
       }
-  follow_found lead.Begin word words tree rest t e = subst (λ w. Found (suc below) (w ∷ words) tree rest) t (block_found words tree rest e)
-  follow_found lead.Hash word words tree rest t e = subst (λ w. Found (suc below) (w ∷ words) tree rest) t (delay_found words tree rest e)
-  follow_found lead.DumpVars word words tree rest t e =
+  follow_found start.Begin word words tree rest t e = subst (λ w. Found (suc below) (w ∷ words) tree rest) t (block_found words tree rest e)
+  follow_found start.Hash word words tree rest t e = subst (λ w. Found (suc below) (w ∷ words) tree rest) t (delay_found words tree rest e)
+  follow_found start.DumpVars word words tree rest t e =
       subst (λ w. Found (suc below) (w ∷ words) tree rest) t (task_found (codes "$dumpvars") dump_vars refl below (one_fits below) words tree rest e)
-  follow_found lead.Finish word words tree rest t e =
+  follow_found start.Finish word words tree rest t e =
       subst (λ w. Found (suc below) (w ∷ words) tree rest) t (task_found (codes "$finish") finish refl below (one_fits below) words tree rest e)
-  follow_found lead.Other word words tree rest t e = absurd (none_is_not e)
+  follow_found start.Other word words tree rest t e = absurd (none_is_not e)
 
   led_found : (words : List Text) (tree : StatementTree) (rest : List Text) → led below read words ≡ Some (tree, rest) → Found (suc below) words tree rest
   led_found [] tree rest e = absurd (none_is_not e)
-  led_found (word ∷ words) tree rest e = follow_found (lead_of word) word words tree rest (told word) e
+  led_found (word ∷ words) tree rest e = follow_found (beginning_of word) word words tree rest (told word) e
 
 -- what a tree that fits spells
 
@@ -294,9 +296,9 @@ no_end : (levels : ℕ) (tree : StatementTree) (rest : List Text) → fits_withi
 no_end levels empty rest fit = refl
 no_end levels (block trees) rest fit = refl
 no_end levels (assign target held) rest fit =
-    name_is_not (codes "end") end_reserved target (left_of (is_name target) _ (left_of (is_name target && fits_expression held) _ fit))
+    name_is_not (codes "end") end_reserved target (and_left (is_name target) _ (and_left (is_name target && fits_expression held) _ fit))
 no_end levels (nonblocking target held) rest fit =
-    name_is_not (codes "end") end_reserved target (left_of (is_name target) _ (left_of (is_name target && fits_expression held) _ fit))
+    name_is_not (codes "end") end_reserved target (and_left (is_name target) _ (and_left (is_name target && fits_expression held) _ fit))
 no_end levels (delay amount body) rest fit = refl
 no_end levels dump_vars rest fit = refl
 no_end levels finish rest fit = refl
@@ -314,11 +316,11 @@ pub fewer : (n : ℕ) → n < 1 + n
 fewer n = omega arith
 
 -- the first word of a statement decides how it is read
-led_by : (below : ℕ) (read : Reader StatementTree) (word : Text) (words : List Text) (l : Lead) → lead_of word ≡ l → led below read (word ∷ words) ≡ follow l below read word words
+led_by : (below : ℕ) (read : Reader StatementTree) (word : Text) (words : List Text) (l : Beginning) → beginning_of word ≡ l → led below read (word ∷ words) ≡ follow l below read word words
 led_by below read word words l e = ap (λ k. follow k below read word words) e
 
 room : (below : ℕ) (fits : Bool) → (fits && nat_le 2 (suc below)) ≡ true → nat_lt 0 below ≡ true
-room below fits e = enough below (right_of fits (nat_le 2 (suc below)) e)
+room below fits e = enough below (and_right fits (nat_le 2 (suc below)) e)
   where
     enough : (n : ℕ) → nat_le 2 (suc n) ≡ true → nat_lt 0 n ≡ true
     enough n e = grind (arith, nat_tests)
@@ -326,7 +328,7 @@ room below fits e = enough below (right_of fits (nat_le 2 (suc below)) e)
 assignment_led : (below : ℕ) (read : Reader StatementTree) (target : Text) (words : List Text) → is_name target ≡ true → nat_lt 0 below ≡ true →
     led below read (target ∷ words) ≡ assignment target words
 assignment_led below read target words named deep =
-    led_by below read target words lead.Name (lead_name target named) ∙ chosen (nat_lt 0 below) _ _ deep
+    led_by below read target words start.Name (start_name target named) ∙ chosen (nat_lt 0 below) _ _ deep
 
 task_complete : (leaf : StatementTree) (rest : List Text) → task leaf (codes ";" ∷ rest) ≡ Some (leaf, rest)
 task_complete leaf rest = then_is (symbol (codes ";") (codes ";" ∷ rest)) (λ _ last. Some (leaf, last)) (codes ";") rest (symbol_takes (codes ";") rest)
@@ -359,29 +361,29 @@ module _ (below : ℕ) (read : Reader StatementTree) (r : Reads read spell_state
       ∙ then_is (read (spell_statement body ++ rest)) (λ b last. Some (delay amount b, last)) body rest (r.complete body rest fit)
 
   led_complete : (tree : StatementTree) (rest : List Text) → fits_within (suc below) tree ≡ true → led below read (spell_statement tree ++ rest) ≡ Some (tree, rest)
-  led_complete empty rest fit = led_by below read (codes ";") rest lead.Semicolon lead_semicolon
+  led_complete empty rest fit = led_by below read (codes ";") rest start.Semicolon start_semicolon
   led_complete (block trees) rest fit =
-      led_by below read (codes "begin") ((spell_statements trees ++ codes "end" ∷ []) ++ rest) lead.Begin lead_begin
+      led_by below read (codes "begin") ((spell_statements trees ++ codes "end" ∷ []) ++ rest) start.Begin start_begin
       ∙ block_complete trees rest (sym (deeper below trees) ∙ fit)
   led_complete (assign target held) rest fit =
-      let f = left_of (is_name target && fits_expression held) (nat_le 2 (suc below)) fit in
+      let f = and_left (is_name target && fits_expression held) (nat_le 2 (suc below)) fit in
       let words : List Text = (spell_expression held ++ codes ";" ∷ []) ++ rest in
-      assignment_led below read target (codes "=" ∷ words) (left_of (is_name target) (fits_expression held) f) (room below (is_name target && fits_expression held) fit)
-      ∙ value_complete (assign target) held rest (right_of (is_name target) (fits_expression held) f)
+      assignment_led below read target (codes "=" ∷ words) (and_left (is_name target) (fits_expression held) f) (room below (is_name target && fits_expression held) fit)
+      ∙ value_complete (assign target) held rest (and_right (is_name target) (fits_expression held) f)
   led_complete (nonblocking target held) rest fit =
-      let f = left_of (is_name target && fits_expression held) (nat_le 2 (suc below)) fit in
+      let f = and_left (is_name target && fits_expression held) (nat_le 2 (suc below)) fit in
       let words : List Text = (spell_expression held ++ codes ";" ∷ []) ++ rest in
-      assignment_led below read target (codes "<=" ∷ words) (left_of (is_name target) (fits_expression held) f) (room below (is_name target && fits_expression held) fit)
-      ∙ value_complete (nonblocking target) held rest (right_of (is_name target) (fits_expression held) f)
+      assignment_led below read target (codes "<=" ∷ words) (and_left (is_name target) (fits_expression held) f) (room below (is_name target && fits_expression held) fit)
+      ∙ value_complete (nonblocking target) held rest (and_right (is_name target) (fits_expression held) f)
   led_complete (delay amount body) rest fit =
       let f = sym (deeper_delay below amount body) ∙ fit in
-      let g = left_of (is_number amount && fits_statement body) (nat_le (depth body) below) f in
-      led_by below read (codes "#") (amount ∷ (spell_statement body ++ rest)) lead.Hash lead_hash
-      ∙ delay_complete amount body rest (left_of (is_number amount) (fits_statement body) g)
-      (both (fits_statement body) (nat_le (depth body) below) (right_of (is_number amount) (fits_statement body) g)
-      (right_of (is_number amount && fits_statement body) (nat_le (depth body) below) f))
-  led_complete dump_vars rest fit = led_by below read (codes "$dumpvars") (codes ";" ∷ rest) lead.DumpVars lead_dump_vars ∙ task_complete dump_vars rest
-  led_complete finish rest fit = led_by below read (codes "$finish") (codes ";" ∷ rest) lead.Finish lead_finish ∙ task_complete finish rest
+      let g = and_left (is_number amount && fits_statement body) (nat_le (depth body) below) f in
+      led_by below read (codes "#") (amount ∷ (spell_statement body ++ rest)) start.Hash start_hash
+      ∙ delay_complete amount body rest (and_left (is_number amount) (fits_statement body) g)
+      (and_both (fits_statement body) (nat_le (depth body) below) (and_right (is_number amount) (fits_statement body) g)
+      (and_right (is_number amount && fits_statement body) (nat_le (depth body) below) f))
+  led_complete dump_vars rest fit = led_by below read (codes "$dumpvars") (codes ";" ∷ rest) start.DumpVars start_dump_vars ∙ task_complete dump_vars rest
+  led_complete finish rest fit = led_by below read (codes "$finish") (codes ";" ∷ rest) start.Finish start_finish ∙ task_complete finish rest
 
 pub statement_reads : (levels : ℕ) → Reads (statement levels) spell_statement (fits_within levels)
 unfolding statement

@@ -7,9 +7,10 @@ use Rattle.std.proofs.lemmas.Bool.Decides.{nat_tests}
 use Rattle.vast.specs.Words.{is_name, is_number, reserved_words}
 use Rattle.vast.specs.Syntax.{Text, RangeTree, ItemTree, registers, initial, ModuleTree, SourceTree}
 use Rattle.vast.specs.Derives.{spell_statement, spell_range, spell_names, spell_item, spell_module, spell, fits_range, fits_item, fits_module, Derives}
-use Rattle.vparse.specs.Readers.{Reads, and_then, take_word, symbol, begins, until}
-use Rattle.vparse.specs.Reading.{statement, bounds, range, more_name, no_more_names, names, registers_of, initial_of, item, unit, at_end, source}
-use Rattle.vparse.proofs.ReaderLaws.{same_pair, none_is_not, parts, then_is, chosen, passed_over, both, left_of, right_of, same_text, word_taken, word_takes, symbol_taken, many_sound, many_complete}
+use Rattle.vparse.specs.Inner.Readers.{Reads, and_then, take_word, symbol, begins, until}
+use Rattle.vparse.specs.Inner.Reading.{statement, bounds, range, more_name, no_more_names, names, registers_of, initial_of, item, unit, at_end, source}
+use Rattle.basis.proofs.Bools.{and_both, and_left, and_right}
+use Rattle.vparse.proofs.ReaderLaws.{same_pair, none_is_not, parts, then_is, chosen, passed_over, same_text, word_taken, word_takes, symbol_taken, many_sound, many_complete}
 use Rattle.vparse.proofs.ReadingLaws.{name_is_not, fewer, statement_reads}
 
 -- names
@@ -41,7 +42,7 @@ names_found words letters rest e =
     record {
       spelled = w.0 ∙ ap (λ ws. a.0.0 ∷ ws) m.spelled ∙ ap (λ ws. spell_names (a.0.0 ∷ b.0.0) ++ ws) p.1 ∙ ap (λ ls. spell_names ls ++ rest) p.0;
       some = sym (ap (λ ls. nat_lt 0 (length ls)) p.0) ∙ positive (length b.0.0);
-      fitting = sym (ap (list_all is_name) p.0) ∙ both (is_name a.0.0) (list_all is_name b.0.0) w.1 m.fitting;
+      fitting = sym (ap (list_all is_name) p.0) ∙ and_both (is_name a.0.0) (list_all is_name b.0.0) w.1 m.fitting;
     }
 
 pub two_words : (more : Text) → 0 < length (codes "," ∷ more ∷ [])
@@ -75,7 +76,7 @@ range_found words bits rest e =
                 ∙ ap (λ ws. codes "[" ∷ ws) (left.0 ∙ ap (λ ws. b.0.0 ∷ ws) (symbol_taken (codes ":") b.0.1 c.0.0 c.0.1 c.1
                 ∙ ap (λ ws. codes ":" ∷ ws) (right.0 ∙ ap (λ ws. d.0.0 ∷ ws) (symbol_taken (codes "]") d.0.1 g.0.0 g.0.1 g.1 ∙ ap (λ ws. codes "]" ∷ ws) p.1))))
                 ∙ ap (λ r. spell_range r ++ rest) p.0,
-            sym (ap fits_range p.0) ∙ both (is_number b.0.0) (is_number d.0.0) left.1 right.1,
+            sym (ap fits_range p.0) ∙ and_both (is_number b.0.0) (is_number d.0.0) left.1 right.1,
           )
       | inr fails ↦
           let p = same_pair (sym (passed_over (begins (codes "[") words) (bounds words) _ fails) ∙ e) in
@@ -88,10 +89,10 @@ range_complete None letters words fit named = passed_over (bytes_eq (codes "[") 
 range_complete (Some r) letters words fit named =
     let rest : List Text = letters ∷ words in
     then_is (take_word is_number (r.left ∷ codes ":" ∷ r.right ∷ codes "]" ∷ rest)) _ r.left (codes ":" ∷ r.right ∷ codes "]" ∷ rest)
-    (word_takes is_number r.left (codes ":" ∷ r.right ∷ codes "]" ∷ rest) (left_of (is_number r.left) (is_number r.right) fit))
+    (word_takes is_number r.left (codes ":" ∷ r.right ∷ codes "]" ∷ rest) (and_left (is_number r.left) (is_number r.right) fit))
     ∙ then_is (take_word is_number (r.right ∷ codes "]" ∷ rest)) (λ right d. and_then (symbol (codes "]") d) (λ _ last. Some (Some (record { left = r.left; right = right }), last)))
     r.right (codes "]" ∷ rest)
-    (word_takes is_number r.right (codes "]" ∷ rest) (right_of (is_number r.left) (is_number r.right) fit))
+    (word_takes is_number r.right (codes "]" ∷ rest) (and_right (is_number r.left) (is_number r.right) fit))
 
 -- items
 
@@ -117,7 +118,7 @@ registers_found words tree rest e =
           ∙ ap (λ t. spell_item t ++ rest) p.0;
       fitting =
           sym (ap fits_item p.0)
-          ∙ both (fits_range a.0.0 && nat_lt 0 (length b.0.0)) (list_all is_name b.0.0) (both (fits_range a.0.0) (nat_lt 0 (length b.0.0)) bits.1 letters.some) letters.fitting;
+          ∙ and_both (fits_range a.0.0 && nat_lt 0 (length b.0.0)) (list_all is_name b.0.0) (and_both (fits_range a.0.0) (nat_lt 0 (length b.0.0)) bits.1 letters.some) letters.fitting;
     }
 
 initial_found : (words : List Text) (tree : ItemTree) (rest : List Text) → initial_of words ≡ Some (tree, rest) → FoundItem (codes "initial" ∷ words) tree rest
@@ -159,15 +160,15 @@ registers_complete bits letters more rest fit named others =
     (names_complete letters more behind named others refl)
 
 item_complete : (tree : ItemTree) (rest : List Text) → fits_item tree ≡ true → item (spell_item tree ++ rest) ≡ Some (tree, rest)
-item_complete (registers bits []) rest fit = absurd (clash (right_of (fits_range bits) (nat_lt 0 0) (left_of (fits_range bits && nat_lt 0 0) true fit)))
+item_complete (registers bits []) rest fit = absurd (clash (and_right (fits_range bits) (nat_lt 0 0) (and_left (fits_range bits && nat_lt 0 0) true fit)))
   where
     clash : false ≡ true → ⊥
     clash e = cc
 item_complete (registers bits (letters ∷ more)) rest fit =
-    let f = left_of (fits_range bits && nat_lt 0 (length (letters ∷ more))) (list_all is_name (letters ∷ more)) fit in
-    let g = right_of (fits_range bits && nat_lt 0 (length (letters ∷ more))) (list_all is_name (letters ∷ more)) fit in
-    registers_complete bits letters more rest (left_of (fits_range bits) (nat_lt 0 (length (letters ∷ more))) f)
-    (left_of (is_name letters) (list_all is_name more) g) (right_of (is_name letters) (list_all is_name more) g)
+    let f = and_left (fits_range bits && nat_lt 0 (length (letters ∷ more))) (list_all is_name (letters ∷ more)) fit in
+    let g = and_right (fits_range bits && nat_lt 0 (length (letters ∷ more))) (list_all is_name (letters ∷ more)) fit in
+    registers_complete bits letters more rest (and_left (fits_range bits) (nat_lt 0 (length (letters ∷ more))) f)
+    (and_left (is_name letters) (list_all is_name more) g) (and_right (is_name letters) (list_all is_name more) g)
 item_complete (initial tree) rest fit =
     then_is (statement 64 (spell_statement tree ++ rest)) (λ t last. Some (initial t, last)) tree rest ((statement_reads 64).complete tree rest fit)
 
@@ -213,7 +214,7 @@ unit_found words tree rest e =
           ∙ ap (λ ws. codes "module" ∷ ws) (w.0 ∙ ap (λ ws. b.0.0 ∷ ws) (symbol_taken (codes ";") b.0.1 c.0.0 c.0.1 c.1
           ∙ ap (λ ws. codes ";" ∷ ws) (m.spelled ∙ ap (λ ws. flat_map spell_item d.0.0 ++ ws) behind ∙ sym (append_assoc (flat_map spell_item d.0.0) (codes "endmodule" ∷ []) rest))))
           ∙ ap (λ t. spell_module t ++ rest) p.0;
-      fitting = sym (ap fits_module p.0) ∙ both (is_name b.0.0) (list_all fits_item d.0.0) w.1 m.fitting;
+      fitting = sym (ap fits_module p.0) ∙ and_both (is_name b.0.0) (list_all fits_item d.0.0) w.1 m.fitting;
     }
 
 unit_complete : (tree : ModuleTree) (rest : List Text) → fits_module tree ≡ true → unit (spell_module tree ++ rest) ≡ Some (tree, rest)
@@ -223,11 +224,11 @@ unit_complete tree rest fit =
     ap (λ ws. unit (codes "module" ∷ tree.name ∷ codes ";" ∷ ws)) (append_assoc (flat_map spell_item tree.items) (codes "endmodule" ∷ []) rest)
     ∙ then_is (take_word is_name (tree.name ∷ codes ";" ∷ words))
     (λ n b. and_then (symbol (codes ";") b) (λ _ c. and_then (until item (begins (codes "endmodule")) c) (λ is d. and_then (symbol (codes "endmodule") d) (λ _ last. Some (record { name = n; items = is }, last)))))
-    tree.name (codes ";" ∷ words) (word_takes is_name tree.name (codes ";" ∷ words) (left_of (is_name tree.name) (list_all fits_item tree.items) fit))
+    tree.name (codes ";" ∷ words) (word_takes is_name tree.name (codes ";" ∷ words) (and_left (is_name tree.name) (list_all fits_item tree.items) fit))
     ∙ then_is (until item (begins (codes "endmodule")) words) (λ is d. and_then (symbol (codes "endmodule") d) (λ _ last. Some (record { name = tree.name; items = is }, last)))
     tree.items behind
     (many_complete item spell_item fits_item (begins (codes "endmodule")) item_reads item_words no_endmodule (1 + length words) tree.items behind
-    (right_of (is_name tree.name) (list_all fits_item tree.items) fit) refl (fewer (length words)))
+    (and_right (is_name tree.name) (list_all fits_item tree.items) fit) refl (fewer (length words)))
 
 pub unit_reads : Reads unit spell_module fits_module
 unit_reads = record {

@@ -7,10 +7,10 @@ use Rattle.vast.specs.Trees.{statement_tree, statement_trees}
 use Rattle.vast.proofs.TreeLemmas.{tree_of_block}
 use Rattle.basis.specs.declared.memory.OrMemory.{OrMemory}
 use Rattle.vparse.specs.declared.stop.Stop.{Stop}
-use Rattle.vparse.specs.Readers.{Reader, symbol, begins, until, and_then}
-use Rattle.vparse.specs.Reading.{assignment, block_of, led, statement, value}
-use Rattle.vparse.specs.Trees.{trees_of}
-use Rattle.vparse.specs.Answers.{Answers}
+use Rattle.vparse.specs.Inner.Readers.{Reader, symbol, begins, until, and_then}
+use Rattle.vparse.specs.Inner.Reading.{assignment, block_of, led, statement, value}
+use Rattle.vparse.specs.Inner.Trees.{trees_of}
+use Rattle.vparse.specs.Inner.Answers.{Answers}
 use Rattle.vparse.proofs.ReaderLaws.{because, chosen, passed_over, then_is}
 
 -- no statement stands within no level

@@ -3,7 +3,7 @@
 use Rattle.std.proofs.Common.{◌≡◌, ℕ, zero, suc, ◌+◌, ◌<◌, Bool, true, false, if◌then◌else◌, List, [], ◌∷◌, ◌++◌, Option, None, Some, length, map, refl, sym, ap, ◌∙◌, arith, append_assoc, length-append}
 use Rattle.std.proofs.lemmas.List.{append-nil, map-append}
 use Rattle.vast.specs.Syntax.{Text}
-use Rattle.vparse.specs.Readers.{Reader, Reads, and_then, many, until}
+use Rattle.vparse.specs.Inner.Readers.{Reader, Reads, and_then, many, until}
 use Rattle.vparse.proofs.ReaderLaws.{then_is, chosen, passed_over}
 
 -- what is read leaves fewer words

@@ -8,19 +8,20 @@ use Rattle.vlex.specs.declared.bytes.Set.TheVariants.{Words, Decimals}
 use Rattle.vlex.specs.declared.bytes.Lead.{Lead}
 use Rattle.vlex.specs.declared.bytes.Lead.TheVariants as lead
 use Rattle.vlex.specs.declared.form.Form.TheVariants.{Blank, Comment, Token}
-use Rattle.vlex.specs.declared.kind.Kind.{Kind}
-use Rattle.vlex.specs.declared.kind.Kind.TheVariants.{Name, System, Plain, Based, Text as Quoted, Symbol}
-use Rattle.vlex.specs.Bytes.{is_in, is_letter, lead_of}
+use Rattle.vlex.specs.declared.kind.TokenKind.{TokenKind}
+use Rattle.vlex.specs.declared.kind.TokenKind.TheVariants.{Name, System, Plain, Based, Text as Quoted, Symbol}
+use Rattle.vlex.specs.Bytes.{is_in, lead_of}
 use Rattle.vlex.specs.Forms.{only_if, form_of, form_by, number_form, slash_form}
 use Rattle.vlex.specs.Lexed.{Lexed, Piece, IsFront}
 use Rattle.vlex.specs.Lexed.Lexed.{done, blank, comment, token}
 use Rattle.vlex.proofs.Leads.{Says, says}
 use Rattle.vast.specs.Syntax.{Text}
-use Rattle.vast.specs.Words.{is_name, is_number, begins_name, is_digit, is_in_name, is_reserved}
+use Rattle.std.specs.Char.{is_ascii_digit}
+use Rattle.vast.specs.Words.{is_name, is_number, begins_name, is_in_name, is_reserved}
 use Rattle.vparse.specs.Words.{TellsNumber, TellsName}
 use Rattle.vparse.proofs.ReadingLaws.{no_digit}
 
-abbrev is_numeric : Kind → Bool
+abbrev is_numeric : TokenKind → Bool
 is_numeric Plain = true
 is_numeric Based = true
 is_numeric Name = false
@@ -28,7 +29,7 @@ is_numeric System = false
 is_numeric Quoted = false
 is_numeric Symbol = false
 
-abbrev is_word : Kind → Bool
+abbrev is_word : TokenKind → Bool
 is_word Name = true
 is_word Plain = false
 is_word Based = false
@@ -37,12 +38,9 @@ is_word Quoted = false
 is_word Symbol = false
 
 -- the bytes of a token tell what its kind tells
-record Tells (kind : Kind) (bytes : Text) : Type 0 where
+record Tells (kind : TokenKind) (bytes : Text) : Type 0 where
   number : is_number bytes ≡ is_numeric kind
   name : is_name bytes ≡ (is_word kind && not (is_reserved bytes))
-
-letter_begins : (c : ℕ) → (is_letter c || (c == 95)) ≡ begins_name c
-letter_begins c = grind (arith, nat_tests)
 
 word_in_name : (c : ℕ) → is_in Words c ≡ is_in_name c
 word_in_name c = grind (arith, nat_tests)
@@ -51,40 +49,40 @@ words_in_name : (cs : List ℕ) → list_all (is_in Words) cs ≡ list_all is_in
 words_in_name [] = refl
 words_in_name (c ∷ cs) = ap (λ b. b && list_all (is_in Words) cs) (word_in_name c) ∙ ap (λ b. is_in_name c && b) (words_in_name cs)
 
-digit_no_letter : (c : ℕ) → is_digit c ≡ true → begins_name c ≡ false
+digit_no_letter : (c : ℕ) → is_ascii_digit c ≡ true → begins_name c ≡ false
 digit_no_letter c e = grind (arith, nat_tests)
 
 name_tells : (c : ℕ) (cs : List ℕ) → begins_name c ≡ true → list_all is_in_name cs ≡ true → Tells Name (c ∷ cs)
 name_tells c cs first all = record { number = no_digit c first; name = ap (λ b. b && list_all is_in_name cs && not (is_reserved (c ∷ cs))) first ∙ ap (λ b. b && not (is_reserved (c ∷ cs))) all }
 
-other_tells : (kind : Kind) (c : ℕ) (cs : List ℕ) → is_word kind ≡ false → (is_digit c || (c == 39)) ≡ is_numeric kind → begins_name c ≡ false → Tells kind (c ∷ cs)
+other_tells : (kind : TokenKind) (c : ℕ) (cs : List ℕ) → is_word kind ≡ false → (is_ascii_digit c || (c == 39)) ≡ is_numeric kind → begins_name c ≡ false → Tells kind (c ∷ cs)
 other_tells kind c cs other first letter = record {
   number = first;
   name = ap (λ b. b && list_all is_in_name cs && not (is_reserved (c ∷ cs))) letter ∙ sym (ap (λ b. b && not (is_reserved (c ∷ cs))) other);
 }
 
 -- what holds at a byte and a kind holds at what equals them
-told_at : (b : ℕ) (k kind : Kind) (c : ℕ) (cs : List ℕ) → c ≡ b → k ≡ kind → Tells k (b ∷ cs) → Tells kind (c ∷ cs)
+told_at : (b : ℕ) (k kind : TokenKind) (c : ℕ) (cs : List ℕ) → c ≡ b → k ≡ kind → Tells k (b ∷ cs) → Tells kind (c ∷ cs)
 told_at b k kind c cs byte same t = subst (λ j. Tells j (c ∷ cs)) same (subst (λ x. Tells k (x ∷ cs)) (sym byte) t)
 
 -- the kind and the test of a form that is a token
-token_of : (b : Bool) (k kind : Kind) → only_if b (Token k) ≡ Some (Token kind) → (k ≡ kind) × (b ≡ true)
+token_of : (b : Bool) (k kind : TokenKind) → only_if b (Token k) ≡ Some (Token kind) → (k ≡ kind) × (b ≡ true)
 token_of true k kind e = let same : Some (Token k) ≡ Some (Token kind) = e in (cc, refl)
 token_of false k kind e = let clash : None ≡ Some (Token kind) = e in absurd cc
 
 -- blanks and comments are no tokens
 
-no_blank : (b : Bool) (kind : Kind) → only_if b Blank ≡ Some (Token kind) → ⊥
+no_blank : (b : Bool) (kind : TokenKind) → only_if b Blank ≡ Some (Token kind) → ⊥
 no_blank true kind e = let clash : Some Blank ≡ Some (Token kind) = e in cc
 no_blank false kind e = let clash : None ≡ Some (Token kind) = e in cc
 
-no_comment : (b : Bool) (kind : Kind) → only_if b Comment ≡ Some (Token kind) → ⊥
+no_comment : (b : Bool) (kind : TokenKind) → only_if b Comment ≡ Some (Token kind) → ⊥
 no_comment true kind e = let clash : Some Comment ≡ Some (Token kind) = e in cc
 no_comment false kind e = let clash : None ≡ Some (Token kind) = e in cc
 
 -- a token that begins with a slash is a symbol, and one that begins with a digit a number
 
-slash_symbol : (cs : List ℕ) (kind : Kind) → slash_form cs ≡ Some (Token kind) → Symbol ≡ kind
+slash_symbol : (cs : List ℕ) (kind : TokenKind) → slash_form cs ≡ Some (Token kind) → Symbol ≡ kind
 slash_symbol [] kind e = let same : Some (Token Symbol) ≡ Some (Token kind) = e in cc
 slash_symbol (d ∷ cs) kind e = elim (cases_eq d 47) [
   | inl line ↦ absurd (no_comment _ kind (rw line at e))
@@ -94,20 +92,20 @@ slash_symbol (d ∷ cs) kind e = elim (cases_eq d 47) [
   ]
 ]
 
-digit_numeric : (bytes : List ℕ) (kind : Kind) → number_form bytes ≡ Some (Token kind) → (Plain ≡ kind) ⊎ (Based ≡ kind)
+digit_numeric : (bytes : List ℕ) (kind : TokenKind) → number_form bytes ≡ Some (Token kind) → (Plain ≡ kind) ⊎ (Based ≡ kind)
 digit_numeric bytes kind e = elim (cases_Bool (list_all (is_in Decimals) bytes)) [
   | inl plain ↦ let same : Some (Token Plain) ≡ Some (Token kind) = rw plain at e in let is : Plain ≡ kind = cc in inl is
   | inr more ↦ inr (token_of _ Based kind (rw more at e)).0
 ]
 
-by_lead : (l : Lead) (c : ℕ) (cs : List ℕ) (kind : Kind) → Says l c → form_by l c cs ≡ Some (Token kind) → Tells kind (c ∷ cs)
+by_lead : (l : Lead) (c : ℕ) (cs : List ℕ) (kind : TokenKind) → Says l c → form_by l c cs ≡ Some (Token kind) → Tells kind (c ∷ cs)
 by_lead lead.Blank c cs kind s e = absurd (no_blank _ kind e)
 by_lead lead.Letter c cs kind s e =
     let t = token_of _ Name kind e in
-    told_at c Name kind c cs refl t.0 (name_tells c cs (sym (letter_begins c) ∙ s) (sym (words_in_name cs) ∙ t.1))
+    told_at c Name kind c cs refl t.0 (name_tells c cs s (sym (words_in_name cs) ∙ t.1))
 by_lead lead.Dollar c cs kind s e = told_at 36 System kind c cs s (token_of _ System kind e).0 (other_tells System 36 cs refl refl refl)
 by_lead lead.Digit c cs kind s e =
-    let first : (is_digit c || (c == 39)) ≡ true = ap (λ b. b || (c == 39)) s in
+    let first : (is_ascii_digit c || (c == 39)) ≡ true = ap (λ b. b || (c == 39)) s in
     elim (digit_numeric (c ∷ cs) kind e) [
       | inl plain ↦ told_at c Plain kind c cs refl plain (other_tells Plain c cs refl first (digit_no_letter c s))
       | inr based ↦ told_at c Based kind c cs refl based (other_tells Based c cs refl first (digit_no_letter c s))
@@ -116,11 +114,11 @@ by_lead lead.Apostrophe c cs kind s e = told_at 39 Based kind c cs s (token_of _
 by_lead lead.Quote c cs kind s e = told_at 34 Quoted kind c cs s (token_of _ Quoted kind e).0 (other_tells Quoted 34 cs refl refl refl)
 by_lead lead.Slash c cs kind s e = told_at 47 Symbol kind c cs s (slash_symbol cs kind e) (other_tells Symbol 47 cs refl refl refl)
 by_lead lead.Mark c cs kind s e =
-    let first : (is_digit c || (c == 39)) ≡ false = ap (λ b. b || (c == 39)) s.digit ∙ ne_eqb c 39 s.apostrophe in
-    told_at c Symbol kind c cs refl (token_of _ Symbol kind e).0 (other_tells Symbol c cs refl first (sym (letter_begins c) ∙ s.letter))
+    let first : (is_ascii_digit c || (c == 39)) ≡ false = ap (λ b. b || (c == 39)) s.digit ∙ ne_eqb c 39 s.apostrophe in
+    told_at c Symbol kind c cs refl (token_of _ Symbol kind e).0 (other_tells Symbol c cs refl first s.letter)
 by_lead lead.Other c cs kind s e = let clash : None ≡ Some (Token kind) = e in absurd cc
 
-front_tells : (text : List ℕ) (kind : Kind) (len : ℕ) → IsFront text (Token kind) len → Tells kind (take len text)
+front_tells : (text : List ℕ) (kind : TokenKind) (len : ℕ) → IsFront text (Token kind) len → Tells kind (take len text)
 front_tells text kind len f = by_bytes (take len text) f.shape where
   by_bytes : (bytes : List ℕ) → form_of bytes ≡ Some (Token kind) → Tells kind bytes
   by_bytes [] e = let clash : None ≡ Some (Token kind) = e in absurd cc
@@ -135,7 +133,7 @@ tokens_tell text pieces (token t kind len left f l) =
 
 -- The same, kind by kind
 
-numeric_kinds : (kind : Kind) → is_numeric kind ≡ true → (kind ≡ Plain) ⊎ (kind ≡ Based)
+numeric_kinds : (kind : TokenKind) → is_numeric kind ≡ true → (kind ≡ Plain) ⊎ (kind ≡ Based)
 numeric_kinds Plain e = inl refl
 numeric_kinds Based e = inr refl
 numeric_kinds Name e = let clash : false ≡ true = e in absurd cc
@@ -143,10 +141,10 @@ numeric_kinds System e = let clash : false ≡ true = e in absurd cc
 numeric_kinds Quoted e = let clash : false ≡ true = e in absurd cc
 numeric_kinds Symbol e = let clash : false ≡ true = e in absurd cc
 
-numeric_from : (kind : Kind) → (kind ≡ Plain) ⊎ (kind ≡ Based) → is_numeric kind ≡ true
+numeric_from : (kind : TokenKind) → (kind ≡ Plain) ⊎ (kind ≡ Based) → is_numeric kind ≡ true
 numeric_from kind e = elim e [ inl plain ↦ ap is_numeric plain | inr based ↦ ap is_numeric based ]
 
-word_kind : (kind : Kind) → is_word kind ≡ true → kind ≡ Name
+word_kind : (kind : TokenKind) → is_word kind ≡ true → kind ≡ Name
 word_kind Name e = refl
 word_kind Plain e = let clash : false ≡ true = e in absurd cc
 word_kind Based e = let clash : false ≡ true = e in absurd cc

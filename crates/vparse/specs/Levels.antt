@@ -1,5 +1,5 @@
--- The levels that words open (docs/LANGUAGE.md, "Depth").
-use Rattle.std.specs.Prelude.{◌≡◌, ℕ, ◌≤◌, Bool, ◌||◌, List, ◌++◌, codes, count_by}
+-- How many words begin a statement round another (docs/LANGUAGE.md, "Depth").
+use Rattle.std.specs.Prelude.{ℕ, Bool, ◌||◌, List, codes, count_by}
 use Rattle.std.specs.Str.{bytes_eq}
 use Rattle.vast.specs.Syntax.{Text}
 
@@ -7,11 +7,6 @@ use Rattle.vast.specs.Syntax.{Text}
 unfoldable pub opens : Text → Bool
 opens word = bytes_eq (codes "begin") word || bytes_eq (codes "#") word
 
+-- how many of the words do, `begin` or `#`, whether or not their statements have ended
 abbrev pub openings : List Text → ℕ
 openings words = count_by opens words
-
--- between these words and those behind them stand some that open so many levels at least
-pub record Opens (levels : ℕ) (words left : List Text) : Type 0 where
-  pub passed : List Text
-  pub whole : words ≡ passed ++ left
-  pub deep : levels ≤ openings passed

@@ -1,8 +1,6 @@
-pub mod Answers
 pub mod Faults
 pub mod Levels
 pub mod Profile
-pub mod Readers
-pub mod Reading
-pub mod Trees
 pub mod Words
+pub mod Laws
+pub mod Inner

@@ -1,6 +1,6 @@
 -- The words of a text, as its tokens stand, and what they tell.
 use Rattle.std.specs.Prelude.{◌≡◌, ◌⊎◌, ◌↔◌, IsTrue, false, List, map}
-use Rattle.vlex.specs.declared.kind.Kind.TheVariants.{Name, Plain, Based}
+use Rattle.vlex.specs.declared.kind.TokenKind.TheVariants.{Name, Plain, Based}
 use Rattle.vlex.specs.Lexed.{Piece}
 use Rattle.vlex.specs.Tokenized.{Tokenized, pieces_of}
 use Rattle.vast.specs.Syntax.{Text}

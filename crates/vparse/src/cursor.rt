@@ -5,11 +5,11 @@ ghost use Rattle.vlex.specs.Tokenized.{pieces_of};
 ghost use Rattle.vast.specs.Words.{is_name as is_name_text, is_number as is_number_text};
 ghost use Rattle.vast.specs.Trees.{word_text};
 ghost use Rattle.vparse.specs.Words.{words_of};
-ghost use Rattle.vparse.specs.Readers.{take_word, symbol, begins};
-ghost use Rattle.vparse.specs.Reading.{at_end};
-ghost use Rattle.vparse.specs.Answers.{Answers, IsFlat};
+ghost use Rattle.vparse.specs.Inner.Readers.{take_word, symbol, begins};
+ghost use Rattle.vparse.specs.Inner.Reading.{at_end};
+ghost use Rattle.vparse.specs.Inner.Answers.{Answers, Heads, IsFlat};
 
-use crate::lead::is;
+use crate::beginning::is;
 use crate::stop::Stop;
 use basis::OrMemory;
 use std::marker::Model;
@@ -59,7 +59,7 @@ impl<'c, 'a> Cursor<'c, 'a> {
 
     /// The word here, if there is one.
     pub fn word(&self) -> Option<Word<'a>>
-        ensures { MatchOption result (self.now ≡ []) (λ word. self.now ≡ word_text word ∷ drop 1 self.now) }
+        ensures { MatchOption result (self.now ≡ []) (Heads self.now) }
     {
         if self.at < self.end {
             Some(Word {

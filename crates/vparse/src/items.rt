@@ -1,13 +1,12 @@
 // What a module holds (IEEE 1364-2005, A.1.4).
 
-ghost use Rattle.std.specs.Prelude.{Some, option_map, map, codes};
+ghost use Rattle.std.specs.Prelude.{Some, option_map};
 ghost use Rattle.vast.specs.Trees.{word_text, range_tree, item_tree};
-ghost use Rattle.vparse.specs.Readers.{begins, until};
-ghost use Rattle.vparse.specs.Reading.{bounds, range, more_name, names, registers_of, initial_of, item};
-ghost use Rattle.vparse.specs.Answers.{Answers, Deepens, IsFlat};
+ghost use Rattle.vparse.specs.Inner.Reading.{bounds, range, more_name, names, registers_of, initial_of, item, items};
+ghost use Rattle.vparse.specs.Inner.Answers.{Answers, Deepens, IsFlat, listed};
 
+use crate::beginning::is;
 use crate::cursor::Cursor;
-use crate::lead::is;
 use crate::statements::statement;
 use crate::stop::Stop;
 use basis::OrMemory;
@@ -30,7 +29,7 @@ fn bounds<'a>(cursor: &mut Cursor<'_, 'a>) -> Result<Range<'a>, OrMemory<Stop>>
 
 // The range, where one stands.
 fn range<'a>(cursor: &mut Cursor<'_, 'a>) -> Result<Option<Range<'a>>, OrMemory<Stop>>
-    ensures reads { Answers range (λ range. option_map range_tree range) cursor.old cursor.new result }
+    ensures reads { Answers range (option_map range_tree) cursor.old cursor.new result }
     ensures flat { IsFlat result }
 {
     if cursor.begins(b"[") {
@@ -52,7 +51,7 @@ fn more_name<'a>(cursor: &mut Cursor<'_, 'a>) -> Result<Word<'a>, OrMemory<Stop>
 
 // Names with commas between them, at least one.
 fn names<'a>(alloc: Global, cursor: &mut Cursor<'_, 'a>) -> Result<Vec<Word<'a>>, OrMemory<Stop>>
-    ensures reads { Answers names (λ names. map word_text names.items) cursor.old cursor.new result }
+    ensures reads { Answers names (listed word_text) cursor.old cursor.new result }
     ensures flat { IsFlat result }
 {
     let mut names = Vec::new(alloc);
@@ -111,7 +110,7 @@ pub fn items<'a>(
     alloc: Global,
     cursor: &mut Cursor<'_, 'a>,
 ) -> Result<Vec<Item<'a>>, OrMemory<Stop>>
-    ensures reads { Answers (until item (begins (codes "endmodule"))) (λ found. map item_tree found.items) cursor.old cursor.new result }
+    ensures reads { Answers items (listed item_tree) cursor.old cursor.new result }
     ensures deepens { Deepens 63 cursor.old cursor.new result }
 {
     let mut found = Vec::new(alloc);

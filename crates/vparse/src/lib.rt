@@ -3,11 +3,11 @@
 // is no other.
 #![tactic(auto)]
 
+pub mod beginning;
 mod cursor;
 mod fault;
 mod items;
 pub mod law;
-pub mod lead;
 mod modules;
 mod parser;
 pub mod profile;

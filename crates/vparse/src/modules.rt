@@ -1,9 +1,8 @@
 // Modules, and the whole text (IEEE 1364-2005, A.1.2).
 
-ghost use Rattle.std.specs.Prelude.{map};
 ghost use Rattle.vast.specs.Trees.{module_tree};
-ghost use Rattle.vparse.specs.Reading.{unit, source};
-ghost use Rattle.vparse.specs.Answers.{Answers, Deepens};
+ghost use Rattle.vparse.specs.Inner.Reading.{unit, source};
+ghost use Rattle.vparse.specs.Inner.Answers.{Answers, Deepens, listed};
 
 use crate::cursor::Cursor;
 use crate::items::items;
@@ -30,7 +29,7 @@ pub fn source<'a>(
     alloc: Global,
     cursor: &mut Cursor<'_, 'a>,
 ) -> Result<Vec<Module<'a>>, OrMemory<Stop>>
-    ensures reads { Answers source (λ found. map module_tree found.items) cursor.old cursor.new result }
+    ensures reads { Answers source (listed module_tree) cursor.old cursor.new result }
     ensures deepens { Deepens 63 cursor.old cursor.new result }
 {
     let mut found = Vec::new(alloc);

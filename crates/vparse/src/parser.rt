@@ -5,7 +5,7 @@ ghost use Rattle.basis.specs.Reasons.{IfFault};
 ghost use Rattle.vast.specs.Derives.{Derives, HasNoTree};
 ghost use Rattle.vast.specs.Trees.{source_tree};
 ghost use Rattle.vparse.specs.Faults.{IsOnlyTree, IsSyntaxReason, is_any_outside};
-ghost use Rattle.vparse.specs.Levels.{Opens};
+ghost use Rattle.vparse.specs.Inner.Answers.{Opens};
 ghost use Rattle.vparse.specs.Words.{words_of};
 
 use crate::cursor::Cursor;

@@ -3,12 +3,12 @@
 ghost use Rattle.std.specs.Prelude.{◌≡◌, ◌-◌, ◌∷◌, drop, map, codes};
 ghost use Rattle.vast.specs.Syntax.{ExpressionTree, StatementTree, dump_vars, finish};
 ghost use Rattle.vast.specs.Trees.{word_text, expression_tree, statement_tree};
-ghost use Rattle.vparse.specs.Readers.{begins, until};
-ghost use Rattle.vparse.specs.Reading.{expression, value, assignment, task, led, block_of, delay_of, statement};
-ghost use Rattle.vparse.specs.Answers.{Answers, Deepens, IsFlat};
+ghost use Rattle.vparse.specs.Inner.Readers.{begins, until};
+ghost use Rattle.vparse.specs.Inner.Reading.{expression, task, led_at, body_at, block_at, delay_at, statement};
+ghost use Rattle.vparse.specs.Inner.Answers.{Answers, AnswersValue, Deepens, Heads, IsFlat, assigned_to, listed};
 
+use crate::beginning::{Beginning, beginning_of_word, is};
 use crate::cursor::Cursor;
-use crate::lead::{Lead, is, lead_of_word};
 use crate::stop::Stop;
 use basis::OrMemory;
 use std::alloc::Global;
@@ -37,7 +37,7 @@ fn expression<'a>(cursor: &mut Cursor<'_, 'a>) -> Result<Expr<'a>, OrMemory<Stop
 
 // What an assignment gives its target, and the semicolon.
 fn value<'a>(cursor: &mut Cursor<'_, 'a>) -> Result<Expr<'a>, OrMemory<Stop>>
-    ensures reads { (make : ExpressionTree → StatementTree) → Answers (value make) (λ held. make (expression_tree held)) cursor.old cursor.new result }
+    ensures reads { AnswersValue cursor.old cursor.new result }
     ensures flat { IsFlat result }
 {
     let held = expression(cursor)?;
@@ -47,7 +47,7 @@ fn value<'a>(cursor: &mut Cursor<'_, 'a>) -> Result<Expr<'a>, OrMemory<Stop>>
 
 // What follows the name that begins an assignment.
 fn assignment<'a>(cursor: &mut Cursor<'_, 'a>, target: Word<'a>) -> Result<Stmt<'a>, OrMemory<Stop>>
-    ensures reads { Answers (assignment (word_text target.entry)) statement_tree cursor.old cursor.new result }
+    ensures reads { Answers (assigned_to target.entry) statement_tree cursor.old cursor.new result }
     ensures flat { IsFlat result }
 {
     match cursor.word() {
@@ -113,39 +113,39 @@ fn led<'a>(
     word: Word<'a>,
     below: u32,
 ) -> Result<Stmt<'a>, OrMemory<Stop>>
-    requires { cursor.old ≡ word_text word ∷ drop 1 cursor.old }
-    ensures reads { Answers (led below (statement below)) statement_tree cursor.old cursor.new result }
+    requires { Heads cursor.old word }
+    ensures reads { Answers (led_at below) statement_tree cursor.old cursor.new result }
     ensures deepens { Deepens below cursor.old cursor.new result }
 {
-    match lead_of_word(word.text) {
-        Lead::Name => {
+    match beginning_of_word(word.text) {
+        Beginning::Name => {
             if below == 0 {
                 return Err(OrMemory::Fault(Stop::TooDeep));
             }
             cursor.pass();
             assignment(cursor, word)
         }
-        Lead::Semicolon => {
+        Beginning::Semicolon => {
             cursor.pass();
             Ok(Stmt::Empty)
         }
-        Lead::Begin => {
+        Beginning::Begin => {
             cursor.pass();
             block(alloc, cursor, below)
         }
-        Lead::Hash => {
+        Beginning::Hash => {
             cursor.pass();
             delay(alloc, cursor, below)
         }
-        Lead::DumpVars => {
+        Beginning::DumpVars => {
             cursor.pass();
             dump_vars(cursor)
         }
-        Lead::Finish => {
+        Beginning::Finish => {
             cursor.pass();
             finish(cursor)
         }
-        Lead::Other => Err(OrMemory::Fault(Stop::NoTree)),
+        Beginning::Other => Err(OrMemory::Fault(Stop::NoTree)),
     }
 }
 
@@ -156,7 +156,7 @@ fn block<'a>(
     cursor: &mut Cursor<'_, 'a>,
     levels: u32,
 ) -> Result<Stmt<'a>, OrMemory<Stop>>
-    ensures reads { Answers (block_of (statement levels)) statement_tree cursor.old cursor.new result }
+    ensures reads { Answers (block_at levels) statement_tree cursor.old cursor.new result }
     ensures deepens { Deepens (levels - 1) cursor.old cursor.new result }
 {
     let statements = statements(alloc, cursor, levels)?;
@@ -171,7 +171,7 @@ fn statements<'a>(
     cursor: &mut Cursor<'_, 'a>,
     levels: u32,
 ) -> Result<Vec<Stmt<'a>>, OrMemory<Stop>>
-    ensures reads { Answers (until (statement levels) (begins (codes "end"))) (λ found. map statement_tree found.items) cursor.old cursor.new result }
+    ensures reads { Answers (body_at levels) (listed statement_tree) cursor.old cursor.new result }
     ensures deepens { Deepens (levels - 1) cursor.old cursor.new result }
 {
     let mut found = Vec::new(alloc);
@@ -189,7 +189,7 @@ fn delay<'a>(
     cursor: &mut Cursor<'_, 'a>,
     levels: u32,
 ) -> Result<Stmt<'a>, OrMemory<Stop>>
-    ensures reads { Answers (delay_of (statement levels)) statement_tree cursor.old cursor.new result }
+    ensures reads { Answers (delay_at levels) statement_tree cursor.old cursor.new result }
     ensures deepens { Deepens (levels - 1) cursor.old cursor.new result }
 {
     let amount = cursor.number()?;

@@ -1,4 +1,4 @@
 mod Counting
 mod Joining
-mod Stretches
+pub mod Stretches
 mod Ticks

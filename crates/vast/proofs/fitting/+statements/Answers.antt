@@ -1,5 +1,5 @@
 use Rattle.std.proofs.Common.{sym, ap, ◌∙◌}
-use Rattle.vast.specs.Depth.{fits_within}
+use Rattle.vast.specs.Inner.{fits_within}
 use Rattle.vast.specs.Trees.{statement_tree}
 use Rattle.vast.proofs.TreeLemmas.{none_within_zero, block_within}
 use Rattle.vast.proofs.fitting.+statements.Goals as goal

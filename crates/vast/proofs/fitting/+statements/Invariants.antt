@@ -1,6 +1,6 @@
 use Rattle.std.proofs.Common.{◌≡◌, drop}
 use Rattle.vast.specs.Trees.{statement_trees}
-use Rattle.vast.specs.Depth.{all_fit_within}
+use Rattle.vast.specs.Inner.{all_fit_within}
 use Rattle.vast.proofs.fitting.+statements.Given as goal
 
 abbrev pub invariant-statements_fit-loop-statement : goal.invariant-statements_fit-loop-statement

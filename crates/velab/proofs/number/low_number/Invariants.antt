@@ -1,5 +1,5 @@
 use Rattle.std.proofs.Common.{◌≡◌, ◌<◌, ◌%◌, ◌^◌, drop, fold}
-use Rattle.velab.specs.Literals.{with_digit}
+use Rattle.vlex.specs.Forms.{with_digit}
 use Rattle.velab.proofs.number.low_number.Given as goal
 
 abbrev pub invariant-loop-c : goal.invariant-loop-c

@@ -1,5 +1,5 @@
 use Rattle.std.proofs.Common.{◌≡◌, ◌≤◌, drop, fold, min}
-use Rattle.velab.specs.Literals.{with_digit}
+use Rattle.vlex.specs.Forms.{with_digit}
 use Rattle.velab.proofs.number.small_number.Given as goal
 
 abbrev pub invariant-loop-c : goal.invariant-loop-c

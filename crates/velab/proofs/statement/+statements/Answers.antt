@@ -1,8 +1,7 @@
 use Rattle.std.proofs.Common.{◌≡◌, true, false, OnOk, ap, subst}
 use Rattle.basis.specs.Reasons.{IfFault}
 use Rattle.velab.specs.Elaborate.{Laid}
-use Rattle.velab.specs.Parts.{IsLaid}
-use Rattle.velab.specs.Reasons.{IsBreach, no_breach}
+use Rattle.velab.specs.Inner.{IsLaid, IsBreach, no_breach}
 use Rattle.velab.proofs.StatementLemmas.{block_laid, block_knows}
 use Rattle.velab.proofs.statement.+statements.Goals as goal
 

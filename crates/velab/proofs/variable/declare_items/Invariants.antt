@@ -2,7 +2,7 @@ use Rattle.std.proofs.Common.{◌≡◌, ◌≤◌, ◌++◌, drop, length, map}
 use Rattle.std.specs.List.{list_all, flat_map}
 use Rattle.vast.specs.Trees.{item_tree}
 use Rattle.velab.specs.Elaborate.{variable_of, declarations_of, has_range}
-use Rattle.velab.specs.Parts.{names_in}
+use Rattle.velab.specs.Inner.{names_in}
 use Rattle.velab.proofs.variable.declare_items.Given as goal
 
 abbrev pub invariant-loop-item : goal.invariant-loop-item

@@ -4,7 +4,8 @@ use Rattle.vlex.specs.declared.form.Form.{Form}
 use Rattle.vlex.specs.declared.list.Span.{Span}
 use Rattle.vlex.specs.Lexed.Reaches.{start, next}
 use Rattle.vlex.specs.Lexed.{Lexed, Piece, IsFront}
-use Rattle.vlex.specs.Tokenized.{Tokenized, piece_at, pieces_of, spans_of, AreWithin, AreInOrder, IsTokenAt}
+use Rattle.vlex.specs.Tokenized.{Tokenized, piece_at, pieces_of, AreInOrder, IsTokenAt}
+use Rattle.vlex.specs.Inner.{spans_of, AreWithin}
 use Rattle.vlex.proofs.Cuts.{some_front, spans_grow, order_grows, stands_grows, in_order_more, all_within, goes_onward, goes_back, all_lexed, only_lexed, none_lexed}
 use Rattle.vlex.proofs.lexer.tokens.Goals as goal
 

@@ -1,6 +1,6 @@
 use Rattle.std.proofs.Common.{◌≡◌, ◌+◌, ◌<◌, ◌||◌, List, ℕ, true, false, nat_eq, get_or, length, arith, refl, ◌∙◌, sym, ap, subst}
 use Rattle.vlex.specs.Forms.{is_base_and_digits}
-use Rattle.vlex.specs.Fronts.{IsLongest, Never}
+use Rattle.vlex.specs.Inner.{IsLongest, Never}
 use Rattle.vlex.proofs.Numbers.{based_unsigned, based_signed_none, based_signed_some}
 use Rattle.vlex.proofs.number.based_len.Goals as goal
 

@@ -4,7 +4,7 @@ use Rattle.std.proofs.lemmas.List.{take-append-drop, length-drop, get_or-drop}
 use Rattle.std.proofs.lemmas.List.Sums.{prefix_len_stops}
 use Rattle.vlex.specs.declared.bytes.Set.TheVariants.{Decimals}
 use Rattle.vlex.specs.declared.form.Form.TheVariants.{Token}
-use Rattle.vlex.specs.declared.kind.Kind.TheVariants.{Plain}
+use Rattle.vlex.specs.declared.kind.TokenKind.TheVariants.{Plain}
 use Rattle.vlex.specs.Bytes.{is_in}
 use Rattle.vlex.specs.Lexed.{IsFront}
 use Rattle.vlex.proofs.Runs.{run_longest}

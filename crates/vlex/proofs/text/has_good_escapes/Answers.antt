@@ -1,5 +1,5 @@
 use Rattle.std.proofs.Common.{arith, ◌∙◌}
-use Rattle.vlex.proofs.Strings.{good_escapes_plain}
+use Rattle.vlex.proofs.Escapes.{good_escapes_plain}
 use Rattle.vlex.proofs.text.has_good_escapes.Goals as goal
 
 pub loop-at-preserved-then-bytes-at-ne92 : goal.loop-at-preserved-then-bytes-at-ne92

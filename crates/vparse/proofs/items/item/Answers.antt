@@ -1,6 +1,6 @@
 use Rattle.std.proofs.Common.{drop, subst}
 use Rattle.vast.specs.Trees.{word_text}
-use Rattle.vparse.specs.Answers.{Deepens}
+use Rattle.vparse.specs.Inner.Answers.{Deepens}
 use Rattle.vparse.proofs.LevelLaws.{opens_first, deepens_on}
 use Rattle.vparse.proofs.items.item.Goals as goal
 

@@ -1,8 +1,8 @@
 use Rattle.std.proofs.Common.{codes, sym, ◌∙◌}
 use Rattle.std.proofs.lemmas.Result.{err_from_is_err_and}
 use Rattle.vast.specs.Trees.{item_tree}
-use Rattle.vparse.specs.Readers.{begins, until}
-use Rattle.vparse.specs.Reading.{item}
+use Rattle.vparse.specs.Inner.Readers.{begins, until}
+use Rattle.vparse.specs.Inner.Reading.{item}
 use Rattle.vparse.proofs.Fewer.{item_fewer}
 use Rattle.vparse.proofs.LevelLaws.{stop_on, opens_on, opens_item}
 use Rattle.vparse.proofs.Turns.{turns_push}

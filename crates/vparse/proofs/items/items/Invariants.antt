@@ -1,8 +1,8 @@
 use Rattle.std.proofs.Common.{◌≡◌, length, map, codes}
 use Rattle.vast.specs.Trees.{item_tree}
-use Rattle.vparse.specs.Levels.{Opens}
-use Rattle.vparse.specs.Readers.{begins, until}
-use Rattle.vparse.specs.Reading.{item}
+use Rattle.vparse.specs.Inner.Answers.{Opens}
+use Rattle.vparse.specs.Inner.Readers.{begins, until}
+use Rattle.vparse.specs.Inner.Reading.{item}
 use Rattle.vparse.proofs.Turns.{behind}
 use Rattle.vparse.proofs.items.items.Given as goal
 

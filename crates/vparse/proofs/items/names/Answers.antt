@@ -1,6 +1,6 @@
 use Rattle.std.proofs.Common.{not, ap, ◌∙◌, sym}
 use Rattle.vast.specs.Trees.{word_text}
-use Rattle.vparse.specs.Reading.{names, more_name, no_more_names}
+use Rattle.vparse.specs.Inner.Reading.{names, more_name, no_more_names}
 use Rattle.vparse.proofs.Fewer.{more_name_fewer}
 use Rattle.vparse.proofs.Turns.{turns_push}
 use Rattle.vparse.proofs.items.names.Goals as goal

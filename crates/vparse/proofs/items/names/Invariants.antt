@@ -1,7 +1,7 @@
 use Rattle.std.proofs.Common.{◌≡◌, length, map}
 use Rattle.vast.specs.Trees.{word_text}
-use Rattle.vparse.specs.Readers.{until}
-use Rattle.vparse.specs.Reading.{names, more_name, no_more_names}
+use Rattle.vparse.specs.Inner.Readers.{until}
+use Rattle.vparse.specs.Inner.Reading.{names, more_name, no_more_names}
 use Rattle.vparse.proofs.Turns.{behind}
 use Rattle.vparse.proofs.items.names.Given as goal
 

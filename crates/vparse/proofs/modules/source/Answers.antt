@@ -1,7 +1,7 @@
 use Rattle.std.proofs.Common.{sym, ◌∙◌}
 use Rattle.std.proofs.lemmas.Result.{err_from_is_err_and}
 use Rattle.vast.specs.Trees.{module_tree}
-use Rattle.vparse.specs.Reading.{unit, source, at_end}
+use Rattle.vparse.specs.Inner.Reading.{unit, source, at_end}
 use Rattle.vparse.proofs.Fewer.{unit_fewer}
 use Rattle.vparse.proofs.LevelLaws.{stop_on, opens_on, opens_unit}
 use Rattle.vparse.proofs.Turns.{turns_push}

@@ -1,7 +1,7 @@
 use Rattle.std.proofs.Common.{◌≡◌, length, map}
 use Rattle.vast.specs.Trees.{module_tree}
-use Rattle.vparse.specs.Levels.{Opens}
-use Rattle.vparse.specs.Reading.{source}
+use Rattle.vparse.specs.Inner.Answers.{Opens}
+use Rattle.vparse.specs.Inner.Reading.{source}
 use Rattle.vparse.proofs.Turns.{behind}
 use Rattle.vparse.proofs.modules.source.Given as goal
 

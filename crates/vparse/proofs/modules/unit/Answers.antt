@@ -3,7 +3,7 @@ use Rattle.std.specs.Str.{bytes_eq}
 use Rattle.std.proofs.lemmas.Result.{err_from_is_err_and}
 use Rattle.vast.specs.Words.{is_name}
 use Rattle.vast.specs.Trees.{word_text}
-use Rattle.vparse.specs.Levels.{Opens}
+use Rattle.vparse.specs.Inner.Answers.{Opens}
 use Rattle.vparse.proofs.LevelLaws.{stop_on, opens_on, opens_word}
 use Rattle.vparse.proofs.modules.unit.Goals as goal
 

@@ -1,6 +1,6 @@
 use Rattle.std.proofs.Common.{ap, sym, ◌∙◌}
 use Rattle.vast.specs.Trees.{source_tree}
-use Rattle.vparse.specs.Reading.{source}
+use Rattle.vparse.specs.Inner.Reading.{source}
 use Rattle.vparse.specs.Words.{words_of}
 use Rattle.vparse.proofs.SourceLaws.{source_derives}
 use Rattle.vparse.proofs.ParseLaws.{only_read, none_derives}

@@ -2,13 +2,13 @@ use Rattle.std.proofs.Common.{◌-◌, codes, sym, ap, ◌∙◌, subst}
 use Rattle.std.proofs.lemmas.Result.{err_from_is_err_and}
 use Rattle.vast.specs.Words.{is_number}
 use Rattle.vast.specs.Trees.{word_text, statement_tree}
-use Rattle.vparse.specs.Answers.{Deepens}
-use Rattle.vparse.specs.Levels.{Opens}
-use Rattle.vparse.specs.Readers.{begins, until}
-use Rattle.vparse.specs.Reading.{led, statement}
+use Rattle.vparse.specs.Inner.Answers.{Deepens}
+use Rattle.vparse.specs.Inner.Answers.{Opens}
+use Rattle.vparse.specs.Inner.Readers.{begins, until}
+use Rattle.vparse.specs.Inner.Reading.{led, statement}
 use Rattle.vparse.proofs.Fewer.{statement_fewer}
 use Rattle.vparse.proofs.StatementLaws.{none_at_zero, level_lower, answers_alike, block_read}
-use Rattle.vparse.proofs.LevelLaws.{stop_on, is_round, lead_opens, opens_on, opens_word, opens_statement, deepens_more}
+use Rattle.vparse.proofs.LevelLaws.{stop_on, is_round, start_opens, opens_on, opens_word, opens_statement, deepens_more}
 use Rattle.vparse.proofs.Turns.{turns_push}
 use Rattle.vparse.proofs.statements.+statements.Goals as goal
 
@@ -45,13 +45,13 @@ statements-turns-preserved t c = record {
 pub led-returns-in-Begin-clause-deepens : goal.led-returns-in-Begin-clause-deepens
 led-returns-in-Begin-clause-deepens t c =
     deepens_more c.args.below c.args.cursor.now (word_text c.args.word) c.block.new.cursor c.block.result
-    (lead_opens (word_text c.args.word) (ap is_round (sym c.lead_of_word.ensures ∙ c.in-Begin.is))) c.requires
+    (start_opens (word_text c.args.word) (ap is_round (sym c.beginning_of_word.ensures ∙ c.in-Begin.is))) c.requires
     (subst (λ words. Deepens (c.args.below - 1) words c.block.new.cursor c.block.result) c.pass-in-Begin.ensures c.block.ensures.deepens)
 
 pub led-returns-in-Hash-clause-deepens : goal.led-returns-in-Hash-clause-deepens
 led-returns-in-Hash-clause-deepens t c =
     deepens_more c.args.below c.args.cursor.now (word_text c.args.word) c.delay.new.cursor c.delay.result
-    (lead_opens (word_text c.args.word) (ap is_round (sym c.lead_of_word.ensures ∙ c.in-Hash.is))) c.requires
+    (start_opens (word_text c.args.word) (ap is_round (sym c.beginning_of_word.ensures ∙ c.in-Hash.is))) c.requires
     (subst (λ words. Deepens (c.args.below - 1) words c.delay.new.cursor c.delay.result) c.pass-in-Hash.ensures c.delay.ensures.deepens)
 
 pub delay-returns-in_err-body-clause-deepens : goal.delay-returns-in_err-body-clause-deepens

@@ -1,6 +1,6 @@
 use Rattle.std.proofs.Common.{drop, ap, ◌∙◌}
 use Rattle.vparse.specs.Words.{words_of}
-use Rattle.vparse.proofs.Cursors.{passed}
+use Rattle.basis.proofs.Lists.{passed}
 use Rattle.vparse.proofs.cursor.Cursor.pass.Goals as goal
 
 pub returns : goal.returns

@@ -1,17 +1,17 @@
 use Rattle.std.proofs.Common.{sym, ◌∙◌}
-use Rattle.vparse.specs.Reading.{lead_of}
+use Rattle.vparse.specs.Inner.Reading.{beginning_of}
 use Rattle.vparse.proofs.ReaderLaws.{chosen, passed_over}
-use Rattle.vparse.proofs.lead.lead_of_word.Goals as goal
+use Rattle.vparse.proofs.beginning.beginning_of_word.Goals as goal
 
 pub returns-then-is_name : goal.returns-then-is_name
-unfolding lead_of
+unfolding beginning_of
 returns-then-is_name c =
     sym (
     chosen _ _ _ (sym c.is_name.ensures ∙ c.if-is_name.true)
     )
 
 pub returns-then-is : goal.returns-then-is
-unfolding lead_of
+unfolding beginning_of
 returns-then-is c =
     sym (
     passed_over _ _ _ (sym c.is_name.ensures ∙ c.if-is_name.false)
@@ -19,7 +19,7 @@ returns-then-is c =
     )
 
 pub returns-then-is-2 : goal.returns-then-is-2
-unfolding lead_of
+unfolding beginning_of
 returns-then-is-2 c =
     sym (
     passed_over _ _ _ (sym c.is_name.ensures ∙ c.if-is_name.false)
@@ -28,7 +28,7 @@ returns-then-is-2 c =
     )
 
 pub returns-then-is-3 : goal.returns-then-is-3
-unfolding lead_of
+unfolding beginning_of
 returns-then-is-3 c =
     sym (
     passed_over _ _ _ (sym c.is_name.ensures ∙ c.if-is_name.false)
@@ -38,7 +38,7 @@ returns-then-is-3 c =
     )
 
 pub returns-then-is-4 : goal.returns-then-is-4
-unfolding lead_of
+unfolding beginning_of
 returns-then-is-4 c =
     sym (
     passed_over _ _ _ (sym c.is_name.ensures ∙ c.if-is_name.false)
@@ -49,7 +49,7 @@ returns-then-is-4 c =
     )
 
 pub returns-then-is-5 : goal.returns-then-is-5
-unfolding lead_of
+unfolding beginning_of
 returns-then-is-5 c =
     sym (
     passed_over _ _ _ (sym c.is_name.ensures ∙ c.if-is_name.false)
@@ -61,7 +61,7 @@ returns-then-is-5 c =
     )
 
 pub returns-else-is-5 : goal.returns-else-is-5
-unfolding lead_of
+unfolding beginning_of
 returns-else-is-5 c =
     sym (
     passed_over _ _ _ (sym c.is_name.ensures ∙ c.if-is_name.false)

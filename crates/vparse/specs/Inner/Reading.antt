@@ -4,21 +4,21 @@ use Rattle.std.specs.Prelude.{ℕ, zero, suc, Bool, true, false, not, nat_lt, if
 use Rattle.std.specs.Str.{bytes_eq}
 use Rattle.vast.specs.Words.{is_name, is_number}
 use Rattle.vast.specs.Syntax.{Text, ExpressionTree, number, name, StatementTree, empty, block, assign, nonblocking, delay, dump_vars, finish, RangeTree, ItemTree, registers, initial, ModuleTree, SourceTree}
-use Rattle.vparse.specs.declared.lead.Lead.{Lead}
-use Rattle.vparse.specs.declared.lead.Lead.TheVariants as lead
-use Rattle.vparse.specs.Readers.{Reader, and_then, take_word, symbol, begins, until}
-use Rattle.vparse.specs.Trees.{trees_of}
+use Rattle.vparse.specs.declared.beginning.Beginning.{Beginning}
+use Rattle.vparse.specs.declared.beginning.Beginning.TheVariants as start
+use Rattle.vparse.specs.Inner.Readers.{Reader, and_then, take_word, symbol, begins, until}
+use Rattle.vparse.specs.Inner.Trees.{trees_of}
 
 -- what a statement's first word begins (A.6.4)
-unfoldable pub lead_of : Text → Lead
-lead_of word =
-    if is_name word then lead.Name
-    else if bytes_eq (codes ";") word then lead.Semicolon
-    else if bytes_eq (codes "begin") word then lead.Begin
-    else if bytes_eq (codes "#") word then lead.Hash
-    else if bytes_eq (codes "$dumpvars") word then lead.DumpVars
-    else if bytes_eq (codes "$finish") word then lead.Finish
-    else lead.Other
+unfoldable pub beginning_of : Text → Beginning
+beginning_of word =
+    if is_name word then start.Name
+    else if bytes_eq (codes ";") word then start.Semicolon
+    else if bytes_eq (codes "begin") word then start.Begin
+    else if bytes_eq (codes "#") word then start.Hash
+    else if bytes_eq (codes "$dumpvars") word then start.DumpVars
+    else if bytes_eq (codes "$finish") word then start.Finish
+    else start.Other
 
 -- number | name
 abbrev pub expression : Reader ExpressionTree
@@ -42,33 +42,50 @@ assignment target (sign ∷ words) =
 abbrev pub task : StatementTree → Reader StatementTree
 task tree words = and_then (symbol (codes ";") words) (λ _ last. Some (tree, last))
 
+-- statements up to end
+abbrev pub statements_of : Reader StatementTree → Reader (List StatementTree)
+statements_of read = until read (begins (codes "end"))
+
 -- what follows begin: statements and end
 abbrev pub block_of : Reader StatementTree → Reader StatementTree
 block_of read words =
-    and_then (until read (begins (codes "end")) words) (λ statements left. and_then (symbol (codes "end") left) (λ _ last. Some (block (trees_of statements), last)))
+    and_then (statements_of read words) (λ statements left. and_then (symbol (codes "end") left) (λ _ last. Some (block (trees_of statements), last)))
 
 -- what follows #: a number and a statement
 abbrev pub delay_of : Reader StatementTree → Reader StatementTree
 delay_of read words = and_then (take_word is_number words) (λ amount left. and_then (read left) (λ body last. Some (delay amount body, last)))
 
 -- what follows a statement's first word, with so many levels below it and a reader of statements there
-abbrev pub follow : Lead → ℕ → Reader StatementTree → Text → Reader StatementTree
-follow lead.Name below read word words = if nat_lt 0 below then assignment word words else None
-follow lead.Semicolon below read word words = Some (empty, words)
-follow lead.Begin below read word words = block_of read words
-follow lead.Hash below read word words = delay_of read words
-follow lead.DumpVars below read word words = task dump_vars words
-follow lead.Finish below read word words = task finish words
-follow lead.Other below read word words = None
+abbrev pub follow : Beginning → ℕ → Reader StatementTree → Text → Reader StatementTree
+follow start.Name below read word words = if nat_lt 0 below then assignment word words else None
+follow start.Semicolon below read word words = Some (empty, words)
+follow start.Begin below read word words = block_of read words
+follow start.Hash below read word words = delay_of read words
+follow start.DumpVars below read word words = task dump_vars words
+follow start.Finish below read word words = task finish words
+follow start.Other below read word words = None
 
 abbrev pub led : ℕ → Reader StatementTree → Reader StatementTree
 led below read [] = None
-led below read (word ∷ words) = follow (lead_of word) below read word words
+led below read (word ∷ words) = follow (beginning_of word) below read word words
 
 -- a statement of so many levels at most
 unfoldable pub statement : ℕ → Reader StatementTree
 statement zero words = None
 statement (suc below) words = led below (statement below) words
+
+-- a statement by its first word, what stands between begin and end, and what follows begin and #, with so many levels
+abbrev pub led_at : ℕ → Reader StatementTree
+led_at below = led below (statement below)
+
+abbrev pub body_at : ℕ → Reader (List StatementTree)
+body_at levels = statements_of (statement levels)
+
+abbrev pub block_at : ℕ → Reader StatementTree
+block_at levels = block_of (statement levels)
+
+abbrev pub delay_at : ℕ → Reader StatementTree
+delay_at levels = delay_of (statement levels)
 
 -- [number:number], or nothing where no [ stands
 abbrev pub bounds : Reader (Option RangeTree)
@@ -111,14 +128,18 @@ item (word ∷ words) =
     else if bytes_eq (codes "initial") word then initial_of words
     else None
 
+-- items up to endmodule
+abbrev pub items : Reader (List ItemTree)
+items = until item (begins (codes "endmodule"))
+
 -- module name ; .. endmodule
 abbrev pub unit : Reader ModuleTree
 unit words =
     and_then (symbol (codes "module") words) (λ _ a.
     and_then (take_word is_name a) (λ letters b.
     and_then (symbol (codes ";") b) (λ _ c.
-    and_then (until item (begins (codes "endmodule")) c) (λ items d.
-    and_then (symbol (codes "endmodule") d) (λ _ last. Some (record { name = letters; items = items }, last))))))
+    and_then (items c) (λ held d.
+    and_then (symbol (codes "endmodule") d) (λ _ last. Some (record { name = letters; items = held }, last))))))
 
 abbrev pub at_end : List Text → Bool
 at_end [] = true

@@ -2,13 +2,13 @@
 
 ghost use Rattle.std.specs.Prelude.{◌≡◌};
 ghost use Rattle.std.specs.Str.{bytes_eq};
-ghost use Rattle.vparse.specs.Reading.{lead_of};
+ghost use Rattle.vparse.specs.Inner.Reading.{beginning_of};
 
 use vast::words::is_name;
 
 /// What the first word of a statement begins (IEEE 1364-2005, A.6.4).
 #[derive(Clone, Copy, Debug, PartialEq, Eq)]
-pub enum Lead {
+pub enum Beginning {
     /// A name: an assignment to it.
     Name,
     /// `;`
@@ -26,23 +26,23 @@ pub enum Lead {
 }
 
 /// What a statement whose first word is this one is.
-pub fn lead_of_word(word: &[u8]) -> Lead
-    ensures { result ≡ lead_of word.now }
+pub fn beginning_of_word(word: &[u8]) -> Beginning
+    ensures { result ≡ beginning_of word.now }
 {
     if is_name(word) {
-        Lead::Name
+        Beginning::Name
     } else if is(word, b";") {
-        Lead::Semicolon
+        Beginning::Semicolon
     } else if is(word, b"begin") {
-        Lead::Begin
+        Beginning::Begin
     } else if is(word, b"#") {
-        Lead::Hash
+        Beginning::Hash
     } else if is(word, b"$dumpvars") {
-        Lead::DumpVars
+        Beginning::DumpVars
     } else if is(word, b"$finish") {
-        Lead::Finish
+        Beginning::Finish
     } else {
-        Lead::Other
+        Beginning::Other
     }
 }
 
