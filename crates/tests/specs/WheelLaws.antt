@@ -2,11 +2,7 @@
 use Rattle.std.proofs.Common.{◌≡◌, ℕ, Bool, true, ap, arith, subst}
 use Rattle.std.proofs.lemmas.Bool.Decides.{nat_tests}
 use Rattle.sched_core.specs.Rules.{IsLawful}
-<<<<<<<< HEAD:crates/tests/specs/WheelLaws.antt
 use Rattle.tests.specs.Wheels.{wheel_rules}
-========
-use Rattle.explore.specs.Toys.Wheels.{wheel_rules}
->>>>>>>> 5db276ab5f61357a08da0cb3ab5635d1a5c94771:crates/explore/specs/Toys/WheelLaws.antt
 
 same_place : (places back : ℕ) (door : Bool) (s t : ℕ) → (wheel_rules places back door).same s t ≡ true → s ≡ t
 same_place places back door s t h = grind (arith, nat_tests)

@@ -8,7 +8,7 @@ use std::io::{Read, Write};
 use std::test::Fail;
 use vast::design::{Bounds, Design, Kind, Scope, Variable};
 use vbits::Vec4;
-use vcd_text::{DumpSink, Header, Metered, WriteFault, write_vcd};
+use vcd_text::{DumpSink, Header, Metered, write_vcd};
 use vmodel::history::{Cause, DumpCommand, End, History, Item};
 use vmodel::sink::Sink;
 
@@ -126,15 +126,27 @@ $var reg 8 \" sum [7:0] $end\n$scope module left $end\n$var reg 4 # n $end\n$ups
 $scope module right $end\n$upscope $end\n$upscope $end\n$enddefinitions $end\n\
 #3\n$dumpvars\n0!\nb101 \"\nbx #\n$end\n#7\n1!\nbz #\n";
 
+// A writer that takes three bytes a call has the whole dump; one that fails at its fifth call has what it took before, and one that
+// takes no byte has none.
 #[test]
-fn whole_dump(rt: HostRuntime) -> Result<(), Fail> {
+fn dump_on_slow_writers(rt: HostRuntime) -> Result<(), Fail> {
     let alloc = rt.alloc();
     let header = Header::new(alloc, &design(alloc)?)?;
-    let mut writer = slow_writer(alloc, 3, 0);
-    let result = write_vcd(alloc, &header, &history(alloc, 7)?, &mut writer);
-    assert_eq!(rt; result, Ok(()));
-    assert_eq!(rt; writer.failures(), 0);
-    assert_eq!(rt; writer.into_inner().held.as_slice(), TEXT.as_bytes());
+    let history = history(alloc, 7)?;
+    for (most, failing, held) in [(3, 0, TEXT.len()), (10, 5, 40), (0, 0, 0)] {
+        let mut writer = slow_writer(alloc, most, failing);
+        let is_whole = write_vcd(alloc, &header, &history, &mut writer).is_ok();
+        assert!(rt; is_whole == (held == TEXT.len()), "{most} bytes a call");
+        assert!(rt;
+            writer.failures() == !is_whole as u64,
+            "{most} bytes a call"
+        );
+        let text = writer.into_inner().held;
+        assert!(rt;
+            text.len() == held && TEXT.as_bytes().starts_with(&text),
+            "{most} bytes a call"
+        );
+    }
     Ok(())
 }
 
@@ -155,29 +167,6 @@ fn dump_slot_by_slot(rt: HostRuntime) -> Result<(), Fail> {
     let mut text = Vec::from_slice(alloc, TEXT.as_bytes())?;
     text.extend_from_slice(b"#9\n")?;
     assert_eq!(rt; writer.into_inner().held.as_slice(), text.as_slice());
-    Ok(())
-}
-
-#[test]
-fn a_failed_write_ends_the_dump(rt: HostRuntime) -> Result<(), Fail> {
-    let alloc = rt.alloc();
-    let header = Header::new(alloc, &design(alloc)?)?;
-    let mut writer = slow_writer(alloc, 10, 5);
-    let result = write_vcd(alloc, &header, &history(alloc, 7)?, &mut writer);
-    assert_eq!(rt; result, Err(WriteFault::Write));
-    assert_eq!(rt; writer.failures(), 1);
-    assert_eq!(rt; writer.into_inner().held.as_slice(), &TEXT.as_bytes()[..40]);
-    Ok(())
-}
-
-#[test]
-fn to_take_no_byte_is_a_failure(rt: HostRuntime) -> Result<(), Fail> {
-    let alloc = rt.alloc();
-    let header = Header::new(alloc, &design(alloc)?)?;
-    let mut writer = slow_writer(alloc, 0, 0);
-    let result = write_vcd(alloc, &header, &history(alloc, 7)?, &mut writer);
-    assert_eq!(rt; result, Err(WriteFault::Write));
-    assert_eq!(rt; writer.failures(), 1);
     Ok(())
 }
 

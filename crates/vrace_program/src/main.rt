@@ -1,11 +1,13 @@
 //! The program `vrace`. In go words and Verilog; out comes a value change dump on standard output, or one line with the
-//! number of a fault on standard error. What is written is the contract of `vrace::replay_text`.
+//! number of a fault on standard error. What a replay writes is the contract of `vrace::replay_text`.
 #![tactic(auto)]
 
+mod explanations;
 mod words;
 
 use clap::Error;
 use clap::error::ErrorKind;
+use explanations::{explanation_of, show, show_all};
 use std::fs::File;
 use std::io::{BufWriter, Write};
 use std::process::ExitCode;
@@ -123,6 +125,21 @@ fn words_of(rt: &HostRuntime) -> Result<Vec<String>, Stop> {
     Ok(words)
 }
 
+// Says what a number of a fault means, or all of them.
+fn explain(rt: &HostRuntime, number: Option<&str>) -> Result<(), Stop> {
+    let done = match number {
+        None => show_all(rt),
+        Some(number) => match explanation_of(number) {
+            None => return Err(Stop::Usage),
+            Some(row) => show(rt, row),
+        },
+    };
+    match done {
+        Ok(()) => Ok(()),
+        Err(_) => Err(Stop::Refused(Fault::Write)),
+    }
+}
+
 // Does what the words ask for.
 fn run<'a>(rt: &HostRuntime, words: &'a [String]) -> Result<(), Stop> {
     let Ok(commands) = commands(rt.alloc()) else {
@@ -132,6 +149,9 @@ fn run<'a>(rt: &HostRuntime, words: &'a [String]) -> Result<(), Stop> {
         Ok(matches) => matches,
         Err(error) => return Err(stopped(rt, &error)),
     };
+    if let Some(matches) = matches.subcommand_matches("explain") {
+        return explain(rt, matches.get_str("NUMBER"));
+    }
     let Some(matches) = matches.subcommand_matches("replay") else {
         return Err(Stop::Usage);
     };

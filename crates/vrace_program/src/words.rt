@@ -4,6 +4,9 @@ use clap::{Arg, ArgAction, ArgMatches, Command, value_parser};
 use std::alloc::{AllocError, Global};
 use vmodel::history::Grain;
 
+const PAGES: &str =
+    "Pages, in the folder docs: LANGUAGE.md (what is read, commands, limits), SCHEDULING.md (steps, choices, logs), FORMATS.md (dumps and logs), FAULTS.md (numbers)";
+
 /// What a replay is asked for.
 #[derive(Drop)]
 pub struct Request<'a> {
@@ -66,13 +69,23 @@ fn replay_command<'a>(alloc: Global) -> Result<Command<'a>, AllocError> {
         .arg(files(alloc))
 }
 
+fn explain_command<'a>(alloc: Global) -> Result<Command<'a>, AllocError> {
+    let number = Arg::new(alloc, "NUMBER").help("The number, as E203; without it all are listed");
+    Command::new(alloc, "explain")
+        .about("Says what the number of a fault means")
+        .arg(number)
+}
+
 /// The commands of the program.
 pub fn commands<'a>(alloc: Global) -> Result<Command<'a>, AllocError> {
     Command::new(alloc, "vrace")
         .bin_name("vrace")?
         .about("Runs Verilog in the order that a log names. Without words: replays standard input.")
+        .version("0.1.0")
+        .after_help(PAGES)
         .subcommand_required(true)
-        .subcommand(replay_command(alloc)?)
+        .subcommand(replay_command(alloc)?)?
+        .subcommand(explain_command(alloc)?)
 }
 
 // Whether a word reads as an option, as all do that begin with a minus but `-` itself.

@@ -1,0 +1,41 @@
+"""What the scripts know of this repository: its crates, and how to copy it."""
+import shutil
+import subprocess
+from pathlib import Path
+
+ROOT = Path(__file__).resolve().parents[1]
+
+
+def crates():
+    """Each crate's name, lowest first, with the crates of this repository that it uses."""
+    lines = (line.split("#")[0].split(":") for line in (ROOT / "crates.txt").read_text().splitlines())
+    uses = {words[0].split()[0]: words[1].split() for words in lines if len(words) == 2}
+    order = []
+
+    def put(name):
+        if name in uses and name not in order:
+            for below in uses[name]:
+                put(below)
+            order.append(name)
+
+    for name in uses:
+        put(name)
+    return {name: [below for below in uses[name] if below in uses] for name in order}
+
+
+def needed(named, uses):
+    """The crates that are named and all that they stand on, lowest first."""
+    found = set(named)
+    for name in reversed(uses):
+        if name in found:
+            found.update(uses[name])
+    return [name for name in uses if name in found]
+
+
+def copied(room):
+    """Copies the repository's files into the folder, and nothing that checks kept."""
+    told = subprocess.run(["git", "ls-files", "-coz", "--exclude-standard"], cwd=ROOT, check=True, capture_output=True, text=True)
+    for name in filter(None, told.stdout.split("\0")):
+        if (ROOT / name).is_file():
+            (room / name).parent.mkdir(parents=True, exist_ok=True)
+            shutil.copy2(ROOT / name, room / name)
