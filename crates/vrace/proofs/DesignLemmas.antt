@@ -3,7 +3,7 @@ use Rattle.std.proofs.Common.{◌≡◌, inr, ℕ, List, Option, Result, Ok, Err
 use Rattle.vsrc.specs.Source.{joined}
 use Rattle.vast.specs.Syntax.{SourceTree}
 use Rattle.velab.specs.Elaborate.{Elaborates}
-use Rattle.velab.specs.Reasons.{IsReason as IsDesignReason, HasNoDesign as TreeHasNoDesign}
+use Rattle.velab.specs.Reasons.{IsDesignReason, HasNoDesign}
 use Rattle.velab.specs.declared.fault.ElabFault.{ElabFault}
 use Rattle.vrace.specs.Replays.{AreRead}
 use Rattle.vrace.specs.Unique.{IsReadAs}
@@ -11,7 +11,7 @@ use Rattle.vrace.specs.Refusals.{Breaks, IsTextReason, IsDesignFault}
 use Rattle.vrace.specs.declared.fault.Fault.{Fault}
 
 pub breaks : (text : List ℕ) (tree : SourceTree) (top : Option (List ℕ)) (fault : ElabFault) → IsReadAs text tree →
-    IsDesignReason tree top fault → TreeHasNoDesign tree top → Breaks text top fault
+    IsDesignReason tree top fault → HasNoDesign tree top → Breaks text top fault
 breaks text tree top fault read reason none = (
   (λ design is. none design (subst (λ t. Elaborates t top design) (read.only is.tree is.is_tree) is.elaborated)),
   (tree, read.is_tree, reason),

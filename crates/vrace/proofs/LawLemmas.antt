@@ -1,17 +1,18 @@
 -- One text, one replay: from the laws of each layer.
 use Rattle.std.proofs.Common.{◌≡◌, ℕ, ◌<◌, List, [], length, Option, None, Some, inl, inr, sym, ap, subst, ◌∙◌, arith}
 use Rattle.vsrc.specs.Source.{joined, text_limit}
-use Rattle.vsrc.specs.Expansion.{IsReason as IsSourceReason}
-use Rattle.vsrc.specs.declared.fault.SrcFault.TheVariants as source_fault
-use Rattle.vsrc.specs.declared.expanded.Place.{Place}
+use Rattle.vsrc.specs.Laws.{GrowsTooLong}
 use Rattle.vlex.specs.Lexed.{Lexed, Piece}
+use Rattle.vlex.specs.Laws.{CutsOneWay}
 use Rattle.vast.specs.Syntax.{Text, SourceTree}
 use Rattle.vast.specs.Derives.{Derives}
-use Rattle.vast.specs.Design.{DesignView}
-use Rattle.vparse.specs.Reading.{source}
+use Rattle.vast.specs.Design.{Design}
+use Rattle.vparse.specs.Inner.Reading.{source}
+use Rattle.vparse.specs.Laws.{ReadsCompletely}
 use Rattle.velab.specs.Elaborate.{Elaborates}
+use Rattle.velab.specs.Laws.{ElaboratesOneWay}
 use Rattle.sched_core.specs.Logs.{IsLog}
-use Rattle.sched_core.specs.LogText.{named_log_text}
+use Rattle.sched_core.specs.LogText.{named_log_text, OneLogForText}
 use Rattle.sched_core.specs.Replay.{EndsAfter}
 use Rattle.sched_core.specs.declared.log.LogHead.{LogHead}
 use Rattle.vmodel.specs.Run.{Setting, rules_of, history_after}
@@ -24,11 +25,11 @@ use Rattle.vrace.specs.declared.fault.Fault.TheVariants.{NotEnded, BadToken, Gro
 use Rattle.vrace.proofs.RunLemmas.{same_end, never_missing, never_more}
 
 pub record Laws : Type 0 where
-  pub growth : (files : List (List ℕ)) (place : Place) → IsSourceReason files (source_fault.Growth place) → text_limit < length (joined files)
-  pub one_list : (text : List ℕ) (pieces others : List Piece) → Lexed text pieces → Lexed text others → pieces ≡ others
-  pub reads : (words : List Text) (tree : SourceTree) → Derives words tree → source words ≡ Some (tree, [])
-  pub one_design : (tree : SourceTree) (top : Option Text) (design other : DesignView) → Elaborates tree top design → Elaborates tree top other → design ≡ other
-  pub one_log : (head other : LogHead) (log others : List (ℕ × ℕ)) → IsLog log → IsLog others → named_log_text head log ≡ named_log_text other others → (head ≡ other) × (log ≡ others)
+  pub growth : GrowsTooLong
+  pub one_list : CutsOneWay
+  pub reads : ReadsCompletely
+  pub one_design : ElaboratesOneWay
+  pub one_log : OneLogForText
 
 abbrev whole : SourceTree → Option (SourceTree × List Text)
 whole tree = Some (tree, [])
@@ -46,7 +47,7 @@ module _ (laws : Laws) where
       let here = subst (λ ps. Derives (texts_of ps) t) pieces a.derived in
       same_tree t u (sym (laws.reads (texts_of b.pieces) t here) ∙ laws.reads (texts_of b.pieces) u b.derived)
 
-  one_design_of : (text : List ℕ) (top : Option Text) (d e : DesignView) → IsDesignOf text top d → IsDesignOf text top e → d ≡ e
+  one_design_of : (text : List ℕ) (top : Option Text) (d e : Design) → IsDesignOf text top d → IsDesignOf text top e → d ≡ e
   one_design_of text top d e a b =
       let tree = one_tree text a.tree b.tree a.is_tree b.is_tree in
       laws.one_design b.tree top d e (subst (λ t. Elaborates t top d) tree a.elaborated) b.elaborated
@@ -78,7 +79,7 @@ module _ (laws : Laws) where
       not_for_files : (fault : Fault) → IsFileReason files fault → IsOfWriting fault
       not_for_files (Growth at) (within, (place, reason)) = absurd (omega (arith, laws.growth files place reason, d.played.are_read.short))
       not_for_files (NotYet at) (within, (place, (tick, first, is))) = absurd (d.played.are_read.clean tick first)
-      not_for_files Memory r = tt
+      not_for_files (Memory m) r = tt
       not_for_files TooLong r = absurd (omega (arith, r, d.played.are_read.within))
       not_for_files (NotEnded at) r = absurd r
       not_for_files (BadToken at) r = absurd r
@@ -108,7 +109,7 @@ module _ (laws : Laws) where
       not_for_text (Unknown at) (token, (none, broken)) = absurd (none d.played.design d.played.is_design)
       not_for_text (Width at) (token, (none, broken)) = absurd (none d.played.design d.played.is_design)
       not_for_text (TooMany at) (token, (none, broken)) = absurd (none d.played.design d.played.is_design)
-      not_for_text Memory r = tt
+      not_for_text (Memory m) r = tt
       not_for_text (Growth at) r = absurd r
       not_for_text (NotYet at) r = absurd r
       not_for_text BadLog r = absurd r
@@ -125,7 +126,7 @@ module _ (laws : Laws) where
           absurd (never_missing (rules_of (setting_of files asked log played)) played.members asked.steps d.steps (moved d.played played d.steps d.finishes.ends) missing)
       not_for_run TooManySteps (played, more) =
           absurd (never_more (rules_of (setting_of files asked log played)) played.members asked.steps d.steps (moved d.played played d.steps d.finishes.ends) d.finishes.within more)
-      not_for_run Memory r = tt
+      not_for_run (Memory m) r = tt
       not_for_run Write r = tt
       not_for_run (NotEnded at) r = absurd r
       not_for_run (BadToken at) r = absurd r

@@ -7,6 +7,8 @@ use Rattle.vcd_text.specs.DumpText.{header, vcd}
 use Rattle.vcd_text.specs.declared.metered.Metered.{Metered}
 use Rattle.vcd_text.specs.declared.fault.WriteFault.{WriteFault}
 use Rattle.vcd_text.specs.declared.fault.WriteFault.TheVariants as write
+use Rattle.basis.specs.declared.memory.OrMemory.{OrMemory}
+use Rattle.basis.specs.declared.memory.OrMemory.TheVariants as or
 use Rattle.vcd_text.specs.Metered.{count_after}
 use Rattle.vrace.specs.Asked.{Asked}
 use Rattle.vrace.specs.Replays.{Played, setting_of, IsDump}
@@ -15,32 +17,32 @@ use Rattle.vrace.specs.RunDumps.{IsRunDump, IsRunFault, Ends, fault_of, failures
 use Rattle.vrace.specs.declared.fault.Fault.{Fault}
 use Rattle.vrace.specs.declared.fault.Fault.TheVariants.{NotEnded, BadToken, Growth, NoTree, Outside, TooDeep, NotYet, NoTop, Doubled, Unknown, Width, TooMany, BadLog, NoSuchChoice, TooManySteps, OutOfLimit, Memory, Write, Read, TooLong}
 
-of_writing : (cause : WriteFault) → IsOfWriting (fault_of cause)
-of_writing write.Memory = tt
-of_writing write.Write = tt
+of_writing : (cause : OrMemory WriteFault) → IsOfWriting (fault_of cause)
+of_writing (or.Memory m) = tt
+of_writing (or.Fault write.Write) = tt
 
-reason_of_writing : (files : List (List ℕ)) (asked : Asked) (log dump : List ℕ) (cause : WriteFault) → IsDump files asked log dump → IsRunReason files asked log (fault_of cause)
-reason_of_writing files asked log dump write.Memory is = tt
-reason_of_writing files asked log dump write.Write is = (dump, is)
+reason_of_writing : (files : List (List ℕ)) (asked : Asked) (log dump : List ℕ) (cause : OrMemory WriteFault) → IsDump files asked log dump → IsRunReason files asked log (fault_of cause)
+reason_of_writing files asked log dump (or.Memory m) is = tt
+reason_of_writing files asked log dump (or.Fault write.Write) is = (dump, is)
 
-count_of_writing : (cause : WriteFault) (n : ℕ) → count_after cause n ≡ failures_after (fault_of cause) n
-count_of_writing write.Memory n = refl
-count_of_writing write.Write n = refl
+count_of_writing : (cause : OrMemory WriteFault) (n : ℕ) → count_after cause n ≡ failures_after (fault_of cause) n
+count_of_writing (or.Memory m) n = refl
+count_of_writing (or.Fault write.Write) n = refl
 
 module _ (files : List (List ℕ)) (asked : Asked) (log : List ℕ) (played : Played files asked log) (setting : Setting) (same : setting ≡ setting_of files asked log played) where
-  pub dumped : (dump : List ℕ) → IsRunDump (header played.design) setting played.members asked.steps dump → IsDump files asked log dump
+  pub dumped : (dump : List ℕ) → IsRunDump (header setting.design) setting played.members asked.steps dump → IsDump files asked log dump
   dumped dump d = record {
     played = played;
     steps = d.steps;
     end = d.end;
     finishes = subst (λ (s : Setting). Finishes s played.members asked.steps d.steps d.end) same d.finishes;
-    is_text = d.is_text ∙ ap (λ (s : Setting). vcd played.design (history_after s played.members d.steps)) same;
+    is_text = d.is_text ∙ ap (λ (s : Setting). vcd s.design (history_after s played.members d.steps)) same;
   }
 
   run_reason : (fault : Fault) → IsRunFault setting played.members asked.steps fault → IsRunReason files asked log fault
   run_reason NoSuchChoice p = (played, subst (λ (s : Setting). IsMissing (rules_of s) played.members asked.steps) same p)
   run_reason TooManySteps p = (played, subst (λ (s : Setting). TakesMore (rules_of s) played.members asked.steps) same p)
-  run_reason Memory p = tt
+  run_reason (Memory m) p = tt
   run_reason (NotEnded at) p = absurd p
   run_reason (BadToken at) p = absurd p
   run_reason (Growth at) p = absurd p
@@ -60,11 +62,11 @@ module _ (files : List (List ℕ)) (asked : Asked) (log : List ℕ) (played : Pl
   run_reason TooLong p = absurd p
 
   module _ {W : Type 0} (contents : W → Option (List ℕ)) (old new : Metered W) where
-    pub reason : (fault : Fault) → Ends contents (header played.design) setting played.members asked.steps old new fault → IsReason files asked log fault
+    pub reason : (fault : Fault) → Ends contents (header setting.design) setting played.members asked.steps old new fault → IsReason files asked log fault
     reason fault (inl (p, kept)) = inr (run_reason fault p)
     reason fault (inr stops) = inr (subst (IsRunReason files asked log) (sym stops.is) (reason_of_writing files asked log stops.dump stops.cause (dumped stops.dump stops.is_dump)))
 
-    pub left : (fault : Fault) → Ends contents (header played.design) setting played.members asked.steps old new fault →
+    pub left : (fault : Fault) → Ends contents (header setting.design) setting played.members asked.steps old new fault →
         Leaves contents files asked log fault old new
     left fault (inl (p, kept)) = inl kept
     left fault (inr stops) = inr (

@@ -4,8 +4,8 @@ use Rattle.std.proofs.lemmas.Bool.{cases_lt}
 use Rattle.std.proofs.lemmas.List.{append-nil}
 use Rattle.sched_core.specs.Rules.{Rules, stands, choice_at, IsRun, NamesBelow}
 use Rattle.sched_core.specs.Replay.{EndsAfter, IsMissing, TakesMore}
-use Rattle.vmodel.specs.History.{HistoryItem}
-use Rattle.vmodel.specs.Step.{next}
+use Rattle.vmodel.specs.declared.history.Item.{Item}
+use Rattle.vmodel.specs.Step.{next, items_of}
 use Rattle.vmodel.specs.Run.{Setting, state_after, given_by}
 
 -- no run goes on behind its end
@@ -46,7 +46,7 @@ never_more r log limit end ends within more =
     omega (arith, none, more.goes_on)
 
 -- what is given after n steps stands at the front of what is given after more
-pub given_front : (setting : Setting) (log : List (ℕ × ℕ)) (n end : ℕ) → n ≤ end → (more : List HistoryItem) × (given_by setting log end ≡ given_by setting log n ++ more)
+pub given_front : (setting : Setting) (log : List (ℕ × ℕ)) (n end : ℕ) → n ≤ end → (more : List Item) × (given_by setting log end ≡ given_by setting log n ++ more)
 given_front setting log n zero within =
     let same : zero ≡ n = omega (arith, within) in
     ([], ap (given_by setting log) same ∙ sym (append-nil (given_by setting log n)))
@@ -58,8 +58,8 @@ given_front setting log n (suc end) within =
       | inr below ↦ last (given_front setting log n end below)
     ]
   where
-    last : ((more : List HistoryItem) × (given_by setting log end ≡ given_by setting log n ++ more)) →
-        (more : List HistoryItem) × (given_by setting log (suc end) ≡ given_by setting log n ++ more)
+    last : ((more : List Item) × (given_by setting log end ≡ given_by setting log n ++ more)) →
+        (more : List Item) × (given_by setting log (suc end) ≡ given_by setting log n ++ more)
     last (more, same) =
-        let items : List HistoryItem = (next (state_after setting log end) (choice_at log end)).items in
-        (more ++ items, ap (λ (xs : List HistoryItem). xs ++ items) same ∙ append_assoc (given_by setting log n) more items)
+        let items : List Item = items_of (next setting.design (state_after setting log end) (choice_at log end)) in
+        (more ++ items, ap (λ (xs : List Item). xs ++ items) same ∙ append_assoc (given_by setting log n) more items)

@@ -26,7 +26,7 @@ IsTooMuch bytes = (limit < length bytes) × (length bytes ≤ limit + most)
 
 -- what a fault says of a reader, of what was taken from it, and of the count of its failures
 abbrev pub IsReadReason : Option (List ℕ) → Option (List ℕ) → ℕ → ℕ → Fault → Type 0
-IsReadReason old new before after Memory = Took old new (λ bytes. length bytes ≤ limit + most) × (after ≡ before)
+IsReadReason old new before after (Memory m) = Took old new (λ bytes. length bytes ≤ limit + most) × (after ≡ before)
 IsReadReason old new before after Read = Took old new (λ bytes. length bytes ≤ limit) × (after ≡ one_more before)
 IsReadReason old new before after TooLong = Took old new IsTooMuch × (after ≡ before)
 IsReadReason old new before after other = ⊥

@@ -1,14 +1,14 @@
 -- When a replay is refused, and what then stands written.
-use Rattle.std.specs.Prelude.{◌≡◌, ℕ, ◌<◌, ◌≤◌, ◌⊎◌, List, Option, Some, true, length, take, drop, slice_get, map, Vec}
+use Rattle.std.specs.Prelude.{◌≡◌, ℕ, ◌<◌, ◌≤◌, ◌⊎◌, List, Option, Some, true, length, take, drop, slice_get}
 use Rattle.std.specs.Io.KnownBytes.{Appends}
 use Rattle.vsrc.specs.Source.{joined}
-use Rattle.vsrc.specs.Expansion.{IsReason as IsSourceReason}
+use Rattle.vsrc.specs.Expansion.{IsSourceReason}
 use Rattle.vsrc.specs.declared.fault.SrcFault.TheVariants as source
 use Rattle.vsrc.specs.declared.expanded.Place.{Place}
-use Rattle.vlex.specs.Lexed.{Lexed, Piece, StopsAt, IsOpen}
+use Rattle.vlex.specs.Lexed.{Lexed, Piece, HasNoTokens, StopsAt, IsOpen}
 use Rattle.vast.specs.Syntax.{SourceTree}
-use Rattle.vast.specs.Design.{DesignView}
-use Rattle.velab.specs.Reasons.{IsReason as IsDesignReason}
+use Rattle.vast.specs.Design.{Design}
+use Rattle.velab.specs.Reasons.{IsDesignReason}
 use Rattle.velab.specs.declared.fault.ElabFault.{ElabFault}
 use Rattle.velab.specs.declared.fault.ElabFault.TheVariants as elab
 use Rattle.sched_core.specs.LogText.{IsNoNamedLogText}
@@ -22,13 +22,6 @@ use Rattle.vrace.specs.Replays.{limit, total, AreRead, texts_of, IsTreeOf, IsDes
 use Rattle.vrace.specs.declared.fault.Fault.{Fault}
 use Rattle.vrace.specs.declared.fault.Fault.TheVariants.{NotEnded, BadToken, Growth, NoTree, Outside, TooDeep, NotYet, NoTop, Doubled, Unknown, Width, TooMany, BadLog, NoSuchChoice, TooManySteps, Memory, Write, TooLong}
 
--- the bytes of the files
-abbrev pub texts : {A : Type 0} → List (Vec ℕ A) → List (List ℕ)
-texts = map (λ file. file.items)
-
-abbrev pub HasNoTokens : List ℕ → Type 0
-HasNoTokens text = (pieces : List Piece) → Lexed text pieces → ⊥
-
 abbrev pub HasTokens : List ℕ → Type 0
 HasTokens text = (pieces : List Piece) × Lexed text pieces
 
@@ -39,15 +32,15 @@ StopsOpen text = (at : ℕ) × StopsAt text at × IsOpen (drop at text)
 abbrev pub StopsBad : List ℕ → Type 0
 StopsBad text = (at : ℕ) × StopsAt text at × ¬ IsOpen (drop at text)
 
-abbrev pub HasNoTree : List ℕ → Type 0
-HasNoTree text = (tree : SourceTree) → IsTreeOf text tree → ⊥
+abbrev pub IsTreeless : List ℕ → Type 0
+IsTreeless text = (tree : SourceTree) → IsTreeOf text tree → ⊥
 
-abbrev pub HasNoDesign : List ℕ → Option (List ℕ) → Type 0
-HasNoDesign text top = (design : DesignView) → IsDesignOf text top design → ⊥
+abbrev pub IsDesignless : List ℕ → Option (List ℕ) → Type 0
+IsDesignless text top = (design : Design) → IsDesignOf text top design → ⊥
 
 -- the text has a tree, and a rule of its design is broken there
 abbrev pub Breaks : List ℕ → Option (List ℕ) → ElabFault → Type 0
-Breaks text top fault = HasNoDesign text top × ((tree : SourceTree) × IsTreeOf text tree × IsDesignReason tree top fault)
+Breaks text top fault = IsDesignless text top × ((tree : SourceTree) × IsTreeOf text tree × IsDesignReason tree top fault)
 
 -- a word of the text stands outside the profile
 pub record HasWordOutside (text : List ℕ) : Type 0 where
@@ -70,7 +63,7 @@ pub record HasDepth (text : List ℕ) : Type 0 where
 abbrev pub IsFileReason : List (List ℕ) → Fault → Type 0
 IsFileReason files (Growth at) = (total files ≤ limit) × ((place : Place) × IsSourceReason files (source.Growth place))
 IsFileReason files (NotYet at) = (total files ≤ limit) × ((place : Place) × IsSourceReason files (source.NotYet place))
-IsFileReason files Memory = Unit {0}
+IsFileReason files (Memory m) = Unit {0}
 IsFileReason files TooLong = limit < total files
 IsFileReason files other = ⊥
 
@@ -78,23 +71,23 @@ IsFileReason files other = ⊥
 abbrev pub IsTextReason : List ℕ → Option (List ℕ) → Fault → Type 0
 IsTextReason text top (NotEnded at) = HasNoTokens text × StopsOpen text
 IsTextReason text top (BadToken at) = HasNoTokens text × StopsBad text
-IsTextReason text top (NoTree at) = HasTokens text × HasNoTree text
-IsTextReason text top (Outside at) = HasWordOutside text × HasNoTree text
-IsTextReason text top (TooDeep at) = HasDepth text × HasNoTree text
+IsTextReason text top (NoTree at) = HasTokens text × IsTreeless text
+IsTextReason text top (Outside at) = HasWordOutside text × IsTreeless text
+IsTextReason text top (TooDeep at) = HasDepth text × IsTreeless text
 IsTextReason text top (NoTop at) = (token : Option ℕ) × Breaks text top (elab.Module token)
 IsTextReason text top (Doubled at) = (token : Option ℕ) × Breaks text top (elab.Doubled token)
 IsTextReason text top (Unknown at) = (token : Option ℕ) × Breaks text top (elab.Unknown token)
 IsTextReason text top (Width at) = (token : Option ℕ) × Breaks text top (elab.Width token)
 IsTextReason text top (TooMany at) = (token : Option ℕ) × Breaks text top (elab.TooMany token)
-IsTextReason text top Memory = Unit {0}
+IsTextReason text top (Memory m) = Unit {0}
 IsTextReason text top other = ⊥
 
 -- what a fault of the log or of its run says; where a writer failed there was a dump to write
 abbrev pub IsRunReason : List (List ℕ) → Asked → List ℕ → Fault → Type 0
-IsRunReason files asked log BadLog = AreRead files × ((design : DesignView) × IsDesignOf (joined files) asked.top design) × IsNoNamedLogText log
+IsRunReason files asked log BadLog = AreRead files × ((design : Design) × IsDesignOf (joined files) asked.top design) × IsNoNamedLogText log
 IsRunReason files asked log NoSuchChoice = (played : Played files asked log) × IsMissing (rules_of (setting_of files asked log played)) played.members asked.steps
 IsRunReason files asked log TooManySteps = (played : Played files asked log) × TakesMore (rules_of (setting_of files asked log played)) played.members asked.steps
-IsRunReason files asked log Memory = Unit {0}
+IsRunReason files asked log (Memory m) = Unit {0}
 IsRunReason files asked log Write = (dump : List ℕ) × IsDump files asked log dump
 IsRunReason files asked log other = ⊥
 
@@ -108,7 +101,7 @@ IsReason files asked log fault = IsDesignFault files asked.top fault ⊎ IsRunRe
 
 -- a fault that may come while the dump goes out
 abbrev pub IsOfWriting : Fault → Type 0
-IsOfWriting Memory = Unit {0}
+IsOfWriting (Memory m) = Unit {0}
 IsOfWriting Write = Unit {0}
 IsOfWriting other = ⊥
 

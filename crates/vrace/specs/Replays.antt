@@ -5,7 +5,7 @@ use Rattle.vsrc.specs.Expansion.{HasNoTick}
 use Rattle.vlex.specs.Lexed.{Lexed, Piece}
 use Rattle.vast.specs.Syntax.{Text, SourceTree}
 use Rattle.vast.specs.Derives.{Derives}
-use Rattle.vast.specs.Design.{DesignView}
+use Rattle.vast.specs.Design.{Design}
 use Rattle.velab.specs.Elaborate.{Elaborates}
 use Rattle.sched_core.specs.Logs.{IsLog}
 use Rattle.sched_core.specs.LogText.{named_log_text}
@@ -42,7 +42,7 @@ pub record IsTreeOf (text : List ℕ) (tree : SourceTree) : Type 0 where
   pub derived : Derives (texts_of pieces) tree
 
 -- A text stands for a design: that of the top module in its tree.
-pub record IsDesignOf (text : List ℕ) (top : Option Text) (design : DesignView) : Type 0 where
+pub record IsDesignOf (text : List ℕ) (top : Option Text) (design : Design) : Type 0 where
   pub tree : SourceTree
   pub is_tree : IsTreeOf text tree
   pub elaborated : Elaborates tree top design
@@ -56,7 +56,7 @@ grain_under head.Statement grain = grains.Statement
 -- What is run: the design of the files, under the log that the log's text writes.
 pub record Played (files : List (List ℕ)) (asked : Asked) (log : List ℕ) : Type 0 where
   pub are_read : AreRead files
-  pub design : DesignView
+  pub design : Design
   pub is_design : IsDesignOf (joined files) asked.top design
   pub head : LogHead
   pub members : List (ℕ × ℕ)

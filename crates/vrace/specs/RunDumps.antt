@@ -11,6 +11,8 @@ use Rattle.vcd_text.specs.Metered.{Stops, one_more}
 use Rattle.vcd_text.specs.declared.metered.Metered.{Metered}
 use Rattle.vcd_text.specs.declared.fault.WriteFault.{WriteFault}
 use Rattle.vcd_text.specs.declared.fault.WriteFault.TheVariants as write
+use Rattle.basis.specs.declared.memory.OrMemory.{OrMemory}
+use Rattle.basis.specs.declared.memory.OrMemory.TheVariants as or
 use Rattle.vrace.specs.declared.fault.Fault.{Fault}
 use Rattle.vrace.specs.declared.fault.Fault.TheVariants.{NoSuchChoice, TooManySteps, Memory, Write}
 
@@ -25,16 +27,16 @@ pub record IsRunDump (head : List ℕ) (setting : Setting) (log : List (ℕ × �
 abbrev pub IsRunFault : Setting → List (ℕ × ℕ) → ℕ → Fault → Type 0
 IsRunFault setting log limit NoSuchChoice = IsMissing (rules_of setting) log limit
 IsRunFault setting log limit TooManySteps = TakesMore (rules_of setting) log limit
-IsRunFault setting log limit Memory = Unit {0}
+IsRunFault setting log limit (Memory m) = Unit {0}
 IsRunFault setting log limit other = ⊥
 
-abbrev pub fault_of : WriteFault → Fault
-fault_of write.Memory = Memory
-fault_of write.Write = Write
+abbrev pub fault_of : OrMemory WriteFault → Fault
+fault_of (or.Fault write.Write) = Write
+fault_of (or.Memory m) = Memory m
 
 -- the fault came as the dump went out
 pub record StopsDump {W : Type 0} (contents : W → Option (List ℕ)) (head : List ℕ) (setting : Setting) (log : List (ℕ × ℕ)) (limit : ℕ) (old new : Metered W) (fault : Fault) : Type 0 where
-  pub cause : WriteFault
+  pub cause : OrMemory WriteFault
   pub is : fault ≡ fault_of cause
   pub dump : List ℕ
   pub is_dump : IsRunDump head setting log limit dump
@@ -46,10 +48,9 @@ failures_after Write n = one_more n
 failures_after other n = n
 
 -- the number of a fault of the run
-abbrev pub refused : ReplayFault → Fault
-refused replay.NoSuchChoice = NoSuchChoice
-refused replay.TooManySteps = TooManySteps
-refused replay.Memory = Memory
+abbrev pub replay_fault_of : ReplayFault → Fault
+replay_fault_of replay.NoSuchChoice = NoSuchChoice
+replay_fault_of replay.TooManySteps = TooManySteps
 
 -- the run wasn't begun to be written, or the fault came as it went out
 abbrev pub Ends : {W : Type 0} → (W → Option (List ℕ)) → List ℕ → Setting → List (ℕ × ℕ) → ℕ → Metered W → Metered W → Fault → Type 0

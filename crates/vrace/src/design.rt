@@ -1,22 +1,23 @@
 // From the bytes of the files to the design that they stand for.
 
 ghost use Rattle.std.specs.Prelude.{◌≡◌, ◌≤◌, ℕ, nat_lt, List, Option, IfOk, OnOk, IfErr, option_map};
-ghost use Rattle.vsrc.specs.Source.{Source, joined, source_of};
-ghost use Rattle.vsrc.specs.Expansion.{IsReason as IsSourceReason};
-ghost use Rattle.vlex.specs.Lexed.{HasNoTokens, IsReason as IsTokenReason};
+ghost use Rattle.vsrc.specs.Source.{Source, file_bytes, joined, source_of};
+ghost use Rattle.vsrc.specs.Expansion.{IsSourceReason};
+ghost use Rattle.vlex.specs.Lexed.{HasNoTokens, IsTokenReason};
 ghost use Rattle.vlex.specs.Tokenized.{Tokenized, pieces_of};
 ghost use Rattle.vast.specs.Syntax.{SourceTree};
 ghost use Rattle.vast.specs.Trees.{source_tree};
-ghost use Rattle.vast.specs.DesignViews.{design_view};
+ghost use Rattle.vast.specs.Derives.{HasNoTree};
 ghost use Rattle.vparse.specs.Words.{words_of};
-ghost use Rattle.vparse.specs.Faults.{HasNoTree, IsReason as IsSyntaxReason};
-ghost use Rattle.velab.specs.Reasons.{IsReason as IsDesignReason, IsOfText, HasNoDesign};
+ghost use Rattle.vparse.specs.Faults.{IsSyntaxReason};
+ghost use Rattle.velab.specs.Reasons.{IsDesignReason, HasNoDesign};
 ghost use Rattle.vrace.specs.Replays.{limit, total, AreRead, IsDesignOf};
 ghost use Rattle.vrace.specs.Unique.{IsCut, IsReadAs};
-ghost use Rattle.vrace.specs.Refusals.{texts, IsFileReason, IsTextReason, IsDesignFault};
+ghost use Rattle.vrace.specs.Refusals.{IsFileReason, IsTextReason, IsDesignFault};
 
 use crate::fault::{At, Fault};
 use crate::read::LIMIT;
+use basis::OrMemory;
 use std::alloc::Global;
 use vast::design::Design;
 use vast::syntax::Ast;
@@ -51,36 +52,33 @@ fn of_source(fault: SrcFault) -> Fault
     match fault {
         SrcFault::NotYet { place } => Fault::NotYet(at(place)),
         SrcFault::Growth { place } => Fault::Growth(at(place)),
-        SrcFault::Memory => Fault::Memory,
     }
 }
 
 // What stops the cut into tokens.
 fn of_tokens(fault: LexFault) -> Fault
-    ensures { (source : Source) (top : Option (List ℕ)) → HasNoTokens source.text fault → IsTokenReason source fault → IsTextReason source.text top result }
+    ensures { (source : Source) (top : Option (List ℕ)) → HasNoTokens source.text → IsTokenReason source fault → IsTextReason source.text top result }
 {
     match fault {
         LexFault::NotEnded { place } => Fault::NotEnded(at(place)),
         LexFault::BadToken { place } => Fault::BadToken(at(place)),
-        LexFault::Memory => Fault::Memory,
     }
 }
 
 // What stops the reading of the tokens.
 fn of_tree(fault: SyntaxFault) -> Fault
-    ensures { (text : List ℕ) (tokens : Tokenized) (top : Option (List ℕ)) → IsCut text (pieces_of tokens) → HasNoTree (words_of tokens) fault → IsSyntaxReason tokens fault → IsTextReason text top result }
+    ensures { (text : List ℕ) (tokens : Tokenized) (top : Option (List ℕ)) → IsCut text (pieces_of tokens) → HasNoTree (words_of tokens) → IsSyntaxReason tokens fault → IsTextReason text top result }
 {
     match fault {
         SyntaxFault::NoTree { place } => Fault::NoTree(at(place)),
         SyntaxFault::Outside { place } => Fault::Outside(at(place)),
         SyntaxFault::TooDeep { place } => Fault::TooDeep(at(place)),
-        SyntaxFault::Memory => Fault::Memory,
     }
 }
 
 // What stops the elaboration of the tree.
 fn of_design(tokens: &Tokens<'_>, fault: ElabFault) -> Fault
-    ensures { (text : List ℕ) (tree : SourceTree) (top : Option (List ℕ)) → IsReadAs text tree → IsDesignReason tree top fault → (IsOfText fault → HasNoDesign tree top) → IsTextReason text top result }
+    ensures { (text : List ℕ) (tree : SourceTree) (top : Option (List ℕ)) → IsReadAs text tree → IsDesignReason tree top fault → HasNoDesign tree top → IsTextReason text top result }
 {
     match fault {
         ElabFault::Module { at } => Fault::NoTop(at_token(tokens, at)),
@@ -88,20 +86,20 @@ fn of_design(tokens: &Tokens<'_>, fault: ElabFault) -> Fault
         ElabFault::Unknown { at } => Fault::Unknown(at_token(tokens, at)),
         ElabFault::Width { at } => Fault::Width(at_token(tokens, at)),
         ElabFault::TooMany { at } => Fault::TooMany(at_token(tokens, at)),
-        ElabFault::Memory => Fault::Memory,
     }
 }
 
 // The text of the files.
 fn text_of(alloc: Global, files: &[Vec<u8>]) -> Result<Expanded, Fault>
-    requires { total (texts files.now) ≤ limit }
-    ensures ok { IfOk result (λ expanded. expanded ≡ source_of (texts files.now)) }
-    ensures read { OnOk result (AreRead (texts files.now)) }
-    ensures err { IfErr result (λ fault. IsFileReason (texts files.now) fault) }
+    requires { total (file_bytes files.now) ≤ limit }
+    ensures ok { IfOk result (λ expanded. expanded ≡ source_of (file_bytes files.now)) }
+    ensures read { OnOk result (AreRead (file_bytes files.now)) }
+    ensures err { IfErr result (λ fault. IsFileReason (file_bytes files.now) fault) }
 {
     match expand(alloc, files) {
         Ok(expanded) => Ok(expanded),
-        Err(fault) => Err(of_source(fault)),
+        Err(OrMemory::Fault(fault)) => Err(of_source(fault)),
+        Err(OrMemory::Memory(refused)) => Err(Fault::Memory(refused)),
     }
 }
 
@@ -112,7 +110,8 @@ fn tokens_of<'a>(alloc: Global, text: &'a Expanded) -> Result<Tokens<'a>, Fault>
 {
     match tokens(alloc, text) {
         Ok(tokens) => Ok(tokens),
-        Err(fault) => Err(of_tokens(fault)),
+        Err(OrMemory::Fault(fault)) => Err(of_tokens(fault)),
+        Err(OrMemory::Memory(refused)) => Err(Fault::Memory(refused)),
     }
 }
 
@@ -123,13 +122,14 @@ fn tree_of<'a>(alloc: Global, tokens: &Tokens<'a>) -> Result<Ast<'a>, Fault>
 {
     match parse(alloc, tokens) {
         Ok(ast) => Ok(ast),
-        Err(fault) => Err(of_tree(fault)),
+        Err(OrMemory::Fault(fault)) => Err(of_tree(fault)),
+        Err(OrMemory::Memory(refused)) => Err(Fault::Memory(refused)),
     }
 }
 
 // The design of the text.
 fn design_of_text(alloc: Global, text: &Expanded, top: Option<&[u8]>) -> Result<Design, Fault>
-    ensures ok { IfOk result (λ design. IsDesignOf text.now.text (option_map (λ name. name.now) top.entry) (design_view design)) }
+    ensures ok { IfOk result (λ design. IsDesignOf text.now.text (option_map (λ name. name.now) top.entry) design) }
     ensures err { IfErr result (λ fault. IsTextReason text.now.text (option_map (λ name. name.now) top.entry) fault) }
 {
     let tokens = match tokens_of(alloc, text) {
@@ -142,7 +142,8 @@ fn design_of_text(alloc: Global, text: &Expanded, top: Option<&[u8]>) -> Result<
     };
     match elaborate(alloc, &ast, top) {
         Ok(design) => Ok(design),
-        Err(fault) => Err(of_design(&tokens, fault)),
+        Err(OrMemory::Fault(fault)) => Err(of_design(&tokens, fault)),
+        Err(OrMemory::Memory(refused)) => Err(Fault::Memory(refused)),
     }
 }
 
@@ -150,9 +151,9 @@ fn design_of_text(alloc: Global, text: &Expanded, top: Option<&[u8]>) -> Result<
 /// E2xx and E3xx only where their text has no tokens, no tree, or no design; E299 where it uses a directive or a macro;
 /// E901.
 pub fn design_of(alloc: Global, files: &[Vec<u8>], top: Option<&[u8]>) -> Result<Design, Fault>
-    ensures read { OnOk result (AreRead (texts files.now)) }
-    ensures ok { IfOk result (λ design. IsDesignOf (joined (texts files.now)) (option_map (λ name. name.now) top.entry) (design_view design)) }
-    ensures err { IfErr result (λ fault. IsDesignFault (texts files.now) (option_map (λ name. name.now) top.entry) fault) }
+    ensures read { OnOk result (AreRead (file_bytes files.now)) }
+    ensures ok { IfOk result (λ design. IsDesignOf (joined (file_bytes files.now)) (option_map (λ name. name.now) top.entry) design) }
+    ensures err { IfErr result (λ fault. IsDesignFault (file_bytes files.now) (option_map (λ name. name.now) top.entry) fault) }
 {
     if is_too_long(files) {
         return Err(Fault::TooLong);
@@ -166,7 +167,7 @@ pub fn design_of(alloc: Global, files: &[Vec<u8>], top: Option<&[u8]>) -> Result
 
 // Whether the files together are too long.
 fn is_too_long(files: &[Vec<u8>]) -> bool
-    ensures { result ≡ nat_lt limit (total (texts files.now)) }
+    ensures { result ≡ nat_lt limit (total (file_bytes files.now)) }
 {
     let mut room = LIMIT;
     for file in files {

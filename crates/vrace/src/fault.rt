@@ -3,7 +3,7 @@
 ghost use Rattle.std.specs.Prelude.{◌≡◌};
 ghost use Rattle.vrace.specs.declared.fault.Fault.TheVariants.{Memory};
 
-use std::alloc::{AllocError, AllocFailed};
+use basis::NoMemory;
 use std::fmt;
 use thiserror::Error;
 use vsrc::Place;
@@ -80,7 +80,7 @@ pub enum Fault {
     OutOfLimit,
     /// A growth was refused.
     #[error("E901")]
-    Memory,
+    Memory(NoMemory),
     /// The writer failed.
     #[error("E902")]
     Write,
@@ -92,18 +92,10 @@ pub enum Fault {
     TooLong,
 }
 
-impl From<AllocError> for Fault {
-    ghost from_gives = { λ _ e. e ≡ Memory };
+impl From<NoMemory> for Fault {
+    ghost from_gives = { λ m e. e ≡ Memory m };
 
-    fn from(_error: AllocError) -> Fault {
-        Fault::Memory
-    }
-}
-
-impl<T: Drop> From<AllocFailed<T>> for Fault {
-    ghost from_gives = { λ _ e. e ≡ Memory };
-
-    fn from(_error: AllocFailed<T>) -> Fault {
-        Fault::Memory
+    fn from(refused: NoMemory) -> Fault {
+        Fault::Memory(refused)
     }
 }

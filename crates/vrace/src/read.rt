@@ -6,6 +6,7 @@ ghost use Rattle.vrace.specs.Replays.{limit};
 ghost use Rattle.vrace.specs.Reads.{IsAllOf, IsReadReason, IsTaken, most};
 
 use crate::fault::Fault;
+use basis::NoMemory;
 use std::alloc::Global;
 use std::io::Read;
 use vcd_text::Metered;
@@ -34,7 +35,7 @@ fn read_more<R: Read>(
     };
     match text.extend_from_slice(piece.split_at(count).0) {
         Ok(()) => Ok(count),
-        Err(_) => Err(Fault::Memory),
+        Err(refused) => Err(Fault::Memory(NoMemory::from(refused))),
     }
 }
 

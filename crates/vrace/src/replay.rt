@@ -1,28 +1,29 @@
 // From files and a log to the dump of the run.
 
 ghost use Rattle.std.specs.Prelude.{◌≡◌, ◌⊎◌, ℕ, List, OnOk, IfErr};
-ghost use Rattle.vast.specs.DesignViews.{design_view};
+ghost use Rattle.vsrc.specs.Source.{file_bytes};
 ghost use Rattle.vmodel.specs.declared.history.End.{End};
 ghost use Rattle.vmodel.specs.Played.{Finishes};
-ghost use Rattle.vmodel.specs.RunViews.{setting_of};
 ghost use Rattle.vcd_text.specs.DumpText.{header};
 ghost use Rattle.vcd_text.specs.Metered.{Grows};
-ghost use Rattle.vcd_text.specs.Sinks.{idle, progress_view, IsSameDump};
+ghost use Rattle.vcd_text.specs.declared.progress.Progress.TheVariants.{Idle};
+ghost use Rattle.vcd_text.specs.Sinks.{IsSameDump};
 ghost use Rattle.vrace.specs.Asked.{asked};
 ghost use Rattle.vrace.specs.Replays.{IsDump, grain_under as grain_by};
-ghost use Rattle.vrace.specs.Refusals.{texts, IsReason, Leaves};
-ghost use Rattle.vrace.specs.RunDumps.{IsRunDump, IsRunFault, StopsDump, Ends, fault_of, refused, failures_after};
+ghost use Rattle.vrace.specs.Refusals.{IsReason, Leaves};
+ghost use Rattle.vrace.specs.RunDumps.{IsRunDump, IsRunFault, StopsDump, Ends, fault_of, replay_fault_of, failures_after};
 
 use crate::design::design_of;
 use crate::fault::Fault;
 use crate::options::Options;
 use crate::unwatched::Unwatched;
+use basis::OrMemory;
 use sched_core::{Log, LogFault, LogHead, ReplayFault, read_named_log};
 use std::alloc::Global;
 use std::io::Write;
 use vcd_text::{DumpSink, Header, Metered, WriteFault};
+use vmachine::{Machine, RunFault};
 use vmodel::history::Grain;
-use vmodel::run::{Run, RunFault};
 
 /// What a replay shows of a run.
 #[derive(Clone, Copy, Debug, PartialEq, Eq)]
@@ -43,76 +44,76 @@ fn grain_under(head: LogHead, grain: Grain) -> Grain
 }
 
 fn of_replay(fault: ReplayFault) -> Fault
-    ensures { result ≡ refused fault }
+    ensures { result ≡ replay_fault_of fault }
 {
     match fault {
         ReplayFault::NoSuchChoice => Fault::NoSuchChoice,
         ReplayFault::TooManySteps => Fault::TooManySteps,
-        ReplayFault::Memory => Fault::Memory,
     }
 }
 
-fn of_writing(fault: WriteFault) -> Fault
+fn of_writing(fault: OrMemory<WriteFault>) -> Fault
     ensures { result ≡ fault_of fault }
 {
     match fault {
-        WriteFault::Memory => Fault::Memory,
-        WriteFault::Write => Fault::Write,
+        OrMemory::Fault(WriteFault::Write) => Fault::Write,
+        OrMemory::Memory(refused) => Fault::Memory(refused),
     }
 }
 
 // Runs the design under the log where nobody watches: whether the run ends.
-fn see_end(alloc: Global, run: &Run<'_>, log: &Log, steps: u32) -> Result<(), Fault>
-    ensures ends { OnOk result ((n : ℕ) × (end : End) × Finishes (setting_of run.now) log.now steps n end) }
-    ensures reason { IfErr result (λ fault. IsRunFault (setting_of run.now) log.now steps fault) }
+fn see_end(machine: &Machine, log: &Log, steps: u32) -> Result<(), Fault>
+    ensures ends { OnOk result ((n : ℕ) × (end : End) × Finishes machine.now log.now steps n end) }
+    ensures reason { IfErr result (λ fault. IsRunFault machine.now log.now steps fault) }
 {
     let mut sink = Unwatched;
-    match run.hand_on(alloc, log, steps, &mut sink) {
+    match machine.run_into(log, steps, &mut sink) {
         Ok(_) => Ok(()),
-        Err(RunFault::Replay(fault)) => Err(of_replay(fault)),
-        Err(RunFault::Sink(never)) => match never {},
+        Err(OrMemory::Fault(RunFault::Replay(fault))) => Err(of_replay(fault)),
+        Err(OrMemory::Fault(RunFault::Sink(never))) => match never {},
+        Err(OrMemory::Memory(refused)) => Err(Fault::Memory(refused)),
     }
 }
 
 // Runs it again into a fresh sink.
 fn fill<W: Write>(
-    alloc: Global,
-    run: &Run<'_>,
+    machine: &Machine,
     log: &Log,
     steps: u32,
     sink: &mut DumpSink<'_, W>,
 ) -> Result<(), Fault>
-    requires fresh { progress_view sink.old.progress ≡ idle }
-    requires ends { (dump : List ℕ) × IsRunDump sink.old.header.now (setting_of run.now) log.now steps dump }
+    requires fresh { sink.old.progress ≡ Idle }
+    requires ends { (dump : List ℕ) × IsRunDump sink.old.header.now machine.now log.now steps dump }
     ensures same { IsSameDump sink.old sink.new }
-    ensures ok { OnOk result ((dump : List ℕ) × IsRunDump sink.old.header.now (setting_of run.now) log.now steps dump × Grows W.contents sink.old.writer.now sink.new.writer.now dump) }
-    ensures err { IfErr result (λ fault. StopsDump W.contents sink.old.header.now (setting_of run.now) log.now steps sink.old.writer.now sink.new.writer.now fault) }
+    ensures ok { OnOk result ((dump : List ℕ) × IsRunDump sink.old.header.now machine.now log.now steps dump × Grows W.contents sink.old.writer.now sink.new.writer.now dump) }
+    ensures err { IfErr result (λ fault. StopsDump W.contents sink.old.header.now machine.now log.now steps sink.old.writer.now sink.new.writer.now fault) }
 {
-    match run.hand_on(alloc, log, steps, sink) {
+    match machine.run_into(log, steps, sink) {
         Ok(end) => match sink.finish(&end) {
             Ok(()) => Ok(()),
             Err(fault) => Err(of_writing(fault)),
         },
-        Err(RunFault::Sink(fault)) => Err(of_writing(fault)),
-        Err(RunFault::Replay(fault)) => Err(of_replay(fault)),
+        Err(OrMemory::Fault(RunFault::Sink(fault))) => Err(of_writing(fault)),
+        Err(OrMemory::Fault(RunFault::Replay(fault))) => Err(of_replay(fault)),
+        Err(OrMemory::Memory(refused)) => Err(Fault::Memory(refused)),
     }
 }
 
 // Writes the dump of the run below the header.
 fn write_run<W: Write>(
     alloc: Global,
-    run: &Run<'_>,
+    machine: &Machine,
     log: &Log,
     steps: u32,
     head: &Header,
     writer: &mut Metered<W>,
 ) -> Result<(), Fault>
-    requires ends { (dump : List ℕ) × IsRunDump head.now (setting_of run.now) log.now steps dump }
-    ensures ok { OnOk result ((dump : List ℕ) × IsRunDump head.now (setting_of run.now) log.now steps dump × Grows W.contents writer.old writer.new dump) }
-    ensures err { IfErr result (λ fault. StopsDump W.contents head.now (setting_of run.now) log.now steps writer.old writer.new fault) }
+    requires ends { (dump : List ℕ) × IsRunDump head.now machine.now log.now steps dump }
+    ensures ok { OnOk result ((dump : List ℕ) × IsRunDump head.now machine.now log.now steps dump × Grows W.contents writer.old writer.new dump) }
+    ensures err { IfErr result (λ fault. StopsDump W.contents head.now machine.now log.now steps writer.old writer.new fault) }
 {
     let mut sink = DumpSink::new(alloc, head, writer);
-    let result = fill(alloc, run, log, steps, &mut sink);
+    let result = fill(machine, log, steps, &mut sink);
     let writer = sink.into_writer();
     // No effect at run time. The proof reads what the writer holds from this use.
     let _ = &*writer;
@@ -122,21 +123,21 @@ fn write_run<W: Write>(
 // Writes the dump of the run, once it is known to end.
 fn dump_run<W: Write>(
     alloc: Global,
-    run: &Run<'_>,
+    machine: &Machine,
     log: &Log,
     steps: u32,
     writer: &mut Metered<W>,
 ) -> Result<(), Fault>
-    ensures ok { OnOk result ((dump : List ℕ) × IsRunDump (header (design_view run.now.design.now)) (setting_of run.now) log.now steps dump × Grows W.contents writer.old writer.new dump) }
-    ensures err { IfErr result (λ fault. Ends W.contents (header (design_view run.now.design.now)) (setting_of run.now) log.now steps writer.old writer.new fault) }
+    ensures ok { OnOk result ((dump : List ℕ) × IsRunDump (header machine.now.design) machine.now log.now steps dump × Grows W.contents writer.old writer.new dump) }
+    ensures err { IfErr result (λ fault. Ends W.contents (header machine.now.design) machine.now log.now steps writer.old writer.new fault) }
 {
-    match see_end(alloc, run, log, steps) {
+    match see_end(machine, log, steps) {
         Ok(()) => {}
         Err(fault) => return Err(fault),
     }
-    match Header::new(alloc, run.design) {
-        Ok(head) => write_run(alloc, run, log, steps, &head, writer),
-        Err(_) => Err(Fault::Memory),
+    match Header::new(alloc, machine.design()) {
+        Ok(head) => write_run(alloc, machine, log, steps, &head, writer),
+        Err(refused) => Err(Fault::Memory(refused)),
     }
 }
 
@@ -156,9 +157,9 @@ pub fn replay_text<W: Write>(
     show: Show,
     writer: &mut Metered<W>,
 ) -> Result<(), Fault>
-    ensures dump { OnOk result ((dump : List ℕ) × IsDump (texts files.now) (asked options.now) log.now dump × Grows W.contents writer.old writer.new dump) }
-    ensures reason { IfErr result (λ fault. IsReason (texts files.now) (asked options.now) log.now fault) }
-    ensures left { IfErr result (λ fault. Leaves W.contents (texts files.now) (asked options.now) log.now fault writer.old writer.new) }
+    ensures dump { OnOk result ((dump : List ℕ) × IsDump (file_bytes files.now) (asked options.now) log.now dump × Grows W.contents writer.old writer.new dump) }
+    ensures reason { IfErr result (λ fault. IsReason (file_bytes files.now) (asked options.now) log.now fault) }
+    ensures left { IfErr result (λ fault. Leaves W.contents (file_bytes files.now) (asked options.now) log.now fault writer.old writer.new) }
     ensures failures { IfErr result (λ fault. writer.new.failures ≡ failures_after fault writer.old.failures) }
 {
     let design = match design_of(alloc, files, options.top) {
@@ -167,15 +168,14 @@ pub fn replay_text<W: Write>(
     };
     let (head, members) = match read_named_log(alloc, log) {
         Ok(named) => named,
-        Err(LogFault::IllFormed) => return Err(Fault::BadLog),
-        Err(LogFault::Memory) => return Err(Fault::Memory),
+        Err(OrMemory::Fault(LogFault::IllFormed)) => return Err(Fault::BadLog),
+        Err(OrMemory::Memory(refused)) => return Err(Fault::Memory(refused)),
     };
-    let run = Run {
-        design: &design,
-        until: options.until,
-        grain: grain_under(head, options.grain),
+    let machine = match Machine::new(alloc, design, options.until, grain_under(head, options.grain)) {
+        Ok(machine) => machine,
+        Err(refused) => return Err(Fault::Memory(refused)),
     };
     match show {
-        Show::Dump => dump_run(alloc, &run, &members, options.limits.steps, writer),
+        Show::Dump => dump_run(alloc, &machine, &members, options.limits.steps, writer),
     }
 }

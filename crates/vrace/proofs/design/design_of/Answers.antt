@@ -1,9 +1,9 @@
 use Rattle.std.proofs.Common.{ap, option_map}
-use Rattle.vrace.specs.Refusals.{texts}
+use Rattle.vsrc.specs.Source.{file_bytes}
 use Rattle.vrace.proofs.DesignLemmas.{err_of_text}
 use Rattle.vrace.proofs.design.design_of.Goals as goal
 
 pub returns-clause-err : goal.returns-clause-err
 returns-clause-err c =
-    err_of_text c.design_of_text.result (texts c.args.files.now) c.in-Ok.text.text (option_map (λ name. name.now) c.args.top)
+    err_of_text c.design_of_text.result (file_bytes c.args.files.now) c.in-Ok.text.text (option_map (λ name. name.now) c.args.top)
     c.in-Ok.ensures.read (ap (λ source. source.text) c.in-Ok.ensures.ok) c.design_of_text.ensures.err
