@@ -34,7 +34,7 @@ fn main(rt: HostRuntime) -> Result<()> {
         Status::Exhausted => "exhausted",
         Status::Cut(Reason::Entries) => "cut by entries",
         Status::Cut(Reason::Steps) => "cut by steps",
-        Status::Cut(Reason::Memory) => "cut by memory",
+        Status::Cut(Reason::Memory(_)) => "cut by memory",
     };
     println!(rt; "{} marks, {status}", findings.marks.len())?;
     Ok(())

@@ -2,6 +2,7 @@
 
 ghost use Rattle.std.specs.Prelude.{◌≤◌};
 
+use basis::{Span, Unit};
 use std::alloc::Global;
 use std::io;
 use std::io::{Read, Write};
@@ -11,6 +12,7 @@ use vbits::Vec4;
 use vcd_text::{DumpSink, Header, Metered, write_vcd};
 use vmodel::history::{Cause, DumpCommand, End, History, Item};
 use vmodel::sink::Sink;
+use vmodel::values::Values;
 
 // Takes at most so many bytes a call, and fails at a call.
 #[derive(Drop)]
@@ -90,14 +92,20 @@ fn design(alloc: Global) -> Result<Design, Fail> {
     scopes.push(scope(alloc, b"left", 1, 1)?)?;
     scopes.push(scope(alloc, b"right", 1, 0)?)?;
     Ok(Design {
+        top: Vec::from_slice(alloc, b"top")?,
+        precision: Span {
+            count: 1,
+            unit: Unit::Nanosecond,
+        },
         variables,
-        processes: Vec::new(alloc),
         scopes,
+        actions: Vec::new(alloc),
+        processes: Vec::new(alloc),
     })
 }
 
 fn slot(alloc: Global, time: u64, go: u64, n: Vec4) -> Result<Item, Fail> {
-    let values = Vec::from_slice(alloc, &[Vec4::from_u64(1, go), Vec4::from_u64(8, 5), n])?;
+    let values = Values::from_slice(alloc, &[Vec4::from_u64(1, go), Vec4::from_u64(8, 5), n])?;
     Ok(Item::SlotEnd { time, values })
 }
 
@@ -115,7 +123,7 @@ fn history(alloc: Global, end: u64) -> Result<History, Fail> {
             time: end,
             cause: Cause::Finish,
         },
-        values: Vec::new(alloc),
+        values: Values::from_slice(alloc, &[])?,
     })
 }
 

@@ -7,7 +7,7 @@ use vast::syntax::{self, Ast, Module, Stmt, Word};
 use vast::{fits, spell};
 use vbits::Vec4;
 use velab::elaborate;
-use vlex::{Kind, Tokens, tokens};
+use vlex::{TokenKind, Tokens, tokens};
 use vmodel::history::{Grain, Item};
 use vmodel::{opening, slow_step, slow_width};
 use vparse::parse;
@@ -87,12 +87,12 @@ fn cuts_a_text(rt: HostRuntime) -> Result<(), Fail> {
 #[test]
 fn names_kinds_and_places(rt: HostRuntime) -> Result<(), Fail> {
     let kinds = [
-        Kind::Name,
-        Kind::System,
-        Kind::Plain,
-        Kind::Based,
-        Kind::Text,
-        Kind::Symbol,
+        TokenKind::Name,
+        TokenKind::System,
+        TokenKind::Plain,
+        TokenKind::Based,
+        TokenKind::Text,
+        TokenKind::Symbol,
     ];
     let source = source(rt.alloc(), &[b"a\n$b 1\n", b"1'b1\n\"c\" +"])?;
     let found = tokens(rt.alloc(), &source)?;
@@ -165,10 +165,10 @@ fn plain_steps_leave_their_state(rt: HostRuntime) -> Result<(), Fail> {
     let first = opening(alloc, &design, 100, Grain::Process)?;
     for _ in 0..2 {
         assert_eq!(rt; slow_width(&first), 1);
-        let (second, items) = slow_step(alloc, &first, 0)?;
+        let (second, items) = slow_step(alloc, &design, &first, 0)?;
         assert!(rt; items.is_empty());
         assert_eq!(rt; slow_width(&second), 1);
-        let (_third, items) = slow_step(alloc, &second, 0)?;
+        let (_third, items) = slow_step(alloc, &design, &second, 0)?;
         assert!(rt; slot_end(&items) == Some([Vec4::from_u64(1, 1)].as_slice()));
     }
     Ok(())

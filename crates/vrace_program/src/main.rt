@@ -5,6 +5,7 @@
 mod explanations;
 mod words;
 
+use basis::NoMemory;
 use clap::Error;
 use clap::error::ErrorKind;
 use explanations::{explanation_of, show, show_all};
@@ -29,20 +30,46 @@ fn read_file(rt: &HostRuntime, name: &str) -> Result<Vec<u8>, Fault> {
     }
 }
 
+// Keeps a text with the others.
+fn keep(texts: &mut Vec<Vec<u8>>, text: Vec<u8>) -> Result<(), NoMemory> {
+    texts.push(text)?;
+    Ok(())
+}
+
 // The texts of the files, or of standard input.
 fn texts(rt: &HostRuntime, names: &[&str]) -> Result<Vec<Vec<u8>>, Fault> {
     let mut texts = Vec::new(rt.alloc());
     if names.is_empty() {
-        texts.push(read_text(rt.alloc(), &mut Metered::new(rt.reader()))?)?;
+        keep(
+            &mut texts,
+            read_text(rt.alloc(), &mut Metered::new(rt.reader()))?,
+        )?;
     }
     for name in names {
-        texts.push(read_file(rt, name)?)?;
+        keep(&mut texts, read_file(rt, name)?)?;
     }
     Ok(texts)
 }
 
+// What ends the program early.
+enum Stop {
+    // Help was asked for and printed.
+    Helped,
+    // The words don't parse.
+    Usage,
+    // Memory was refused before a call of the library.
+    NoMemory,
+    Refused(Fault),
+}
+
+impl From<Fault> for Stop {
+    fn from(fault: Fault) -> Stop {
+        Stop::Refused(fault)
+    }
+}
+
 // Replays what is asked for onto standard output.
-fn replay(rt: &HostRuntime, request: &Request<'_>) -> Result<(), Fault> {
+fn replay(rt: &HostRuntime, request: &Request<'_>) -> Result<(), Stop> {
     let top = request.top.map(|name| name.as_bytes());
     let options = Options::new(
         top,
@@ -54,7 +81,7 @@ fn replay(rt: &HostRuntime, request: &Request<'_>) -> Result<(), Fault> {
     )?;
     let texts = texts(rt, &request.files)?;
     let Ok(buffered) = BufWriter::new(rt.alloc(), io::writer(rt)) else {
-        return Err(Fault::Memory);
+        return Err(Stop::NoMemory);
     };
     let mut writer = Metered::new(buffered);
     replay_text(
@@ -67,29 +94,14 @@ fn replay(rt: &HostRuntime, request: &Request<'_>) -> Result<(), Fault> {
     )?;
     match writer.flush() {
         Ok(()) => Ok(()),
-        Err(_) => Err(Fault::Write),
-    }
-}
-
-// What ends the program early.
-enum Stop {
-    // Help was asked for and printed.
-    Helped,
-    // The words don't parse.
-    Usage,
-    Refused(Fault),
-}
-
-impl From<Fault> for Stop {
-    fn from(fault: Fault) -> Stop {
-        Stop::Refused(fault)
+        Err(_) => Err(Stop::Refused(Fault::Write)),
     }
 }
 
 // What clap says of words that it doesn't take: help on standard output, or a refusal.
 fn stopped(rt: &HostRuntime, error: &Error) -> Stop {
     if error.kind() == ErrorKind::OutOfMemory {
-        return Stop::Refused(Fault::Memory);
+        return Stop::NoMemory;
     }
     if error.use_stderr() {
         return Stop::Usage;
@@ -106,20 +118,20 @@ fn words_of(rt: &HostRuntime) -> Result<Vec<String>, Stop> {
         Ok(arguments) => arguments,
         Err(error) => {
             if error.kind() == io::ErrorKind::OutOfMemory {
-                return Err(Stop::Refused(Fault::Memory));
+                return Err(Stop::NoMemory);
             }
             return Err(Stop::Usage);
         }
     };
     let Ok(mut words) = arguments.collect::<Vec<String>>(rt.alloc()) else {
-        return Err(Stop::Refused(Fault::Memory));
+        return Err(Stop::NoMemory);
     };
     if words.len() == 1 {
         let Ok(replay) = String::from_str(rt.alloc(), "replay") else {
-            return Err(Stop::Refused(Fault::Memory));
+            return Err(Stop::NoMemory);
         };
         let Ok(()) = words.push(replay) else {
-            return Err(Stop::Refused(Fault::Memory));
+            return Err(Stop::NoMemory);
         };
     }
     Ok(words)
@@ -143,7 +155,7 @@ fn explain(rt: &HostRuntime, number: Option<&str>) -> Result<(), Stop> {
 // Does what the words ask for.
 fn run<'a>(rt: &HostRuntime, words: &'a [String]) -> Result<(), Stop> {
     let Ok(commands) = commands(rt.alloc()) else {
-        return Err(Stop::Refused(Fault::Memory));
+        return Err(Stop::NoMemory);
     };
     let matches = match commands.try_get_matches_from(words) {
         Ok(matches) => matches,
@@ -159,12 +171,9 @@ fn run<'a>(rt: &HostRuntime, words: &'a [String]) -> Result<(), Stop> {
         return Err(Stop::Usage);
     }
     let Ok(request) = request_of(rt.alloc(), matches) else {
-        return Err(Stop::Refused(Fault::Memory));
+        return Err(Stop::NoMemory);
     };
-    match replay(rt, &request) {
-        Ok(()) => Ok(()),
-        Err(fault) => Err(Stop::Refused(fault)),
-    }
+    replay(rt, &request)
 }
 
 fn main(rt: HostRuntime) -> ExitCode {
@@ -177,6 +186,10 @@ fn main(rt: HostRuntime) -> ExitCode {
         Err(Stop::Helped) => ExitCode::SUCCESS,
         Err(Stop::Usage) => {
             let _ = eprintln!(rt; "vrace: usage");
+            ExitCode::from(2)
+        }
+        Err(Stop::NoMemory) => {
+            let _ = eprintln!(rt; "vrace: E901");
             ExitCode::from(2)
         }
         Err(Stop::Refused(fault)) => {

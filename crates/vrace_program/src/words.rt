@@ -1,7 +1,8 @@
 // The words of a command line, by the rules of docs/LANGUAGE.md, "Commands".
 
+use basis::NoMemory;
 use clap::{Arg, ArgAction, ArgMatches, Command, value_parser};
-use std::alloc::{AllocError, Global};
+use std::alloc::Global;
 use vmodel::history::Grain;
 
 const PAGES: &str =
@@ -40,7 +41,7 @@ fn files<'a>(alloc: Global) -> Arg<'a> {
         .help("Verilog files in order; none means standard input")
 }
 
-fn replay_command<'a>(alloc: Global) -> Result<Command<'a>, AllocError> {
+fn replay_command<'a>(alloc: Global) -> Result<Command<'a>, NoMemory> {
     let until = option(
         alloc,
         "until",
@@ -59,33 +60,36 @@ fn replay_command<'a>(alloc: Global) -> Result<Command<'a>, AllocError> {
         "The departures, as step:index joined by commas",
     )
     .default_value("-");
-    Command::new(alloc, "replay")
+    let command = Command::new(alloc, "replay")
         .about("Writes the value change dump of the run under a log")
         .arg(option(alloc, "top", "N", "The top module"))?
         .arg(until)?
         .arg(steps)?
         .arg(grain(alloc))?
         .arg(log)?
-        .arg(files(alloc))
+        .arg(files(alloc))?;
+    Ok(command)
 }
 
-fn explain_command<'a>(alloc: Global) -> Result<Command<'a>, AllocError> {
+fn explain_command<'a>(alloc: Global) -> Result<Command<'a>, NoMemory> {
     let number = Arg::new(alloc, "NUMBER").help("The number, as E203; without it all are listed");
-    Command::new(alloc, "explain")
+    let command = Command::new(alloc, "explain")
         .about("Says what the number of a fault means")
-        .arg(number)
+        .arg(number)?;
+    Ok(command)
 }
 
 /// The commands of the program.
-pub fn commands<'a>(alloc: Global) -> Result<Command<'a>, AllocError> {
-    Command::new(alloc, "vrace")
+pub fn commands<'a>(alloc: Global) -> Result<Command<'a>, NoMemory> {
+    let command = Command::new(alloc, "vrace")
         .bin_name("vrace")?
         .about("Runs Verilog in the order that a log names. Without words: replays standard input.")
         .version("0.1.0")
         .after_help(PAGES)
         .subcommand_required(true)
         .subcommand(replay_command(alloc)?)?
-        .subcommand(explain_command(alloc)?)
+        .subcommand(explain_command(alloc)?)?;
+    Ok(command)
 }
 
 // Whether a word reads as an option, as all do that begin with a minus but `-` itself.
@@ -107,7 +111,7 @@ pub fn has_dashed_value(matches: &ArgMatches<'_>) -> bool {
 }
 
 /// What the words behind `replay` ask for.
-pub fn request_of<'a>(alloc: Global, matches: &ArgMatches<'a>) -> Result<Request<'a>, AllocError> {
+pub fn request_of<'a>(alloc: Global, matches: &ArgMatches<'a>) -> Result<Request<'a>, NoMemory> {
     let files = match matches.get_strs("FILE") {
         None => Vec::new(alloc),
         Some(names) => Vec::from_slice(alloc, names)?,
