@@ -8,6 +8,7 @@ use sched_core::Space;
 /// A toy space that loops. It has places 0 to `places` - 1, and a run opens at 0. Choice 0 is a
 /// step to the next place, from the last one to `back`. Where there is a door, choice 1 of place 0
 /// leaves by it, and that run has ended, at `places`.
+#[derive(Drop)]
 pub struct Wheel {
     pub places: u32,
     pub back: u32,
