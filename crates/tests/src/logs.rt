@@ -1,5 +1,6 @@
 // Texts of logs, and replays on a board.
 
+use basis::OrMemory;
 use sched_core::{
     Grid, Log, LogHead, ReplayFault, Square, read_log, read_named_log, replay, write_log,
     write_named_log,
@@ -44,8 +45,8 @@ fn replay_on_the_board(rt: HostRuntime) -> Result<(), Fail> {
     assert_eq!(rt; reached.steps, 4);
     assert!(rt; reached.state == Square { x: 2, y: 2 });
     let late = replay(&grid, &read_log(rt.alloc(), b"4:1")?, 100);
-    assert!(rt; matches!(&late, Err(ReplayFault::NoSuchChoice)));
+    assert!(rt; matches!(&late, Err(OrMemory::Fault(ReplayFault::NoSuchChoice))));
     let short = replay(&grid, &Log::new(rt.alloc()), 3);
-    assert!(rt; matches!(&short, Err(ReplayFault::TooManySteps)));
+    assert!(rt; matches!(&short, Err(OrMemory::Fault(ReplayFault::TooManySteps))));
     Ok(())
 }
