@@ -24,6 +24,7 @@ fn option<'a>(alloc: Global, name: &'a str, value: &'a str, help: &'a str) -> Ar
     Arg::new(alloc, name)
         .long(name)
         .value_name(value)
+        .action(ArgAction::Set)
         .help(help)
 }
 
