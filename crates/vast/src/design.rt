@@ -58,12 +58,12 @@ impl Model for Design {
     ghost Value = { design.Design };
 
     ghost view = { λ d. record {
-        top = d.top.items;
-        precision = d.precision;
-        variables = d.variables.items;
-        scopes = d.scopes.items;
-        actions = d.actions.items;
-        processes = d.processes.items;
+      top = d.top.items;
+      precision = d.precision;
+      variables = d.variables.items;
+      scopes = d.scopes.items;
+      actions = d.actions.items;
+      processes = d.processes.items;
     } };
 
     ghost invariant = { λ d. length d.processes.items ≤ 256 };

@@ -169,11 +169,7 @@ impl SlowState {
 
 /// Puts behind others what a step gives to the history, in order: what it showed, and the slot end where the state after
 /// it is one.
-pub fn put_items(
-    items: &mut Vec<Item>,
-    state: &SlowState,
-    deed: &Deed,
-) -> Result<(), NoMemory>
+pub fn put_items(items: &mut Vec<Item>, state: &SlowState, deed: &Deed) -> Result<(), NoMemory>
     ensures { OnOk result (items.new.items ≡ items.old.items ++ items_of (record { state = state.now; deed = deed.now })) }
 {
     if let Some(command) = deed.command {

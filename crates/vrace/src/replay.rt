@@ -171,7 +171,12 @@ pub fn replay_text<W: Write>(
         Err(OrMemory::Fault(LogFault::IllFormed)) => return Err(Fault::BadLog),
         Err(OrMemory::Memory(refused)) => return Err(Fault::Memory(refused)),
     };
-    let machine = match Machine::new(alloc, design, options.until, grain_under(head, options.grain)) {
+    let machine = match Machine::new(
+        alloc,
+        design,
+        options.until,
+        grain_under(head, options.grain),
+    ) {
         Ok(machine) => machine,
         Err(refused) => return Err(Fault::Memory(refused)),
     };
