@@ -51,7 +51,7 @@ pub record HasWordOutside (text : List ℕ) : Type 0 where
   pub stands : slice_get (texts_of pieces) index ≡ Some word
   pub outside : is_outside word ≡ true
 
--- a word of the text, or its end, stands behind words that open 63 levels at least (docs/LANGUAGE.md, "Depth")
+-- a word of the text, or its end, stands behind 63 words `begin` or `#` at least (docs/LANGUAGE.md, "Depth")
 pub record HasDepth (text : List ℕ) : Type 0 where
   pub pieces : List Piece
   pub lexed : Lexed text pieces
