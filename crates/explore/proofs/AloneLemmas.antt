@@ -1,7 +1,7 @@
 -- From the first book to the findings.
-use Rattle.std.proofs.Common.{◌≡◌, ℕ, ◌≤◌, ◌||◌, not, ◌==◌, zero, suc, Bool, true, false, List, [], ◌∷◌, length, slice_get, Option, Some, None, Result, Ok, OnOk, IfOk, arith, ap, refl, sym, ◌∙◌, subst, inl, inr}
+use Rattle.std.proofs.Common.{◌≡◌, ℕ, ◌≤◌, ◌||◌, not, ◌==◌, Bool, true, false, List, [], length, slice_get, Some, Result, Ok, OnOk, IfOk, arith, ap, refl, sym, ◌∙◌, subst, inl, inr}
 use Rattle.std.proofs.lemmas.Bool.{cases_lt}
-use Rattle.std.proofs.lemmas.Option.{same_Some, slice_get_within}
+use Rattle.std.proofs.lemmas.Option.{slice_get_within}
 use Rattle.sched_core.specs.Logs.{IsLog}
 use Rattle.sched_core.specs.Rules.{Rules, IsLawful, stands, NamesBelow}
 use Rattle.statebook.specs.Books.{Book, IsUndominated, Meets, no_entries}
@@ -18,8 +18,8 @@ use Rattle.basis.proofs.Lists.{listed_place}
 use Rattle.statebook.proofs.CoreLemmas.{closed_listed, sound_add, sound_nothing}
 use Rattle.statebook.proofs.ReachLemmas.{sound_reached}
 use Rattle.explore.specs.Found.{AllFewest, AreFound, HasEntries, IsListedMark}
-use Rattle.explore.specs.Told.{IsBounded, HasUnfinished, ListsExactly, TellsOfBook, WentThrough}
-use Rattle.explore.specs.Inner.Exploring.{AllFinished, AllVisited, Closes, FinishedLeast, IsComplete, IsUnderWay, StoppedFull}
+use Rattle.explore.specs.Told.{IsBounded, ListsExactly, TellsOfBook, WentThrough}
+use Rattle.explore.specs.Inner.Exploring.{AllFinished, AllVisited, Closes, IsComplete, IsUnderWay, StoppedFull}
 use Rattle.explore.specs.declared.classes.Full.{Full}
 use Rattle.explore.specs.declared.findings.Findings.{Findings}
 use Rattle.explore.specs.declared.findings.Reason.TheVariants.{Entries, Steps}
@@ -112,19 +112,6 @@ root_is_bounded r limits b u alone some = record {
   few = omega (arith, alone, some);
 }
 
-only_none : (i : ℕ) (places : List ℕ) → slice_get (None ∷ []) i ≡ Some (Some places) → ⊥
-only_none zero places at = let none : None ≡ Some places = same_Some None (Some places) at in cc
-only_none (suc i) places at = cc
-
-none_finished : (finished : List (Option (List ℕ))) → finished ≡ None ∷ [] → (i : ℕ) (places : List ℕ) → slice_get finished i ≡ Some (Some places) → ⊥
-none_finished finished is i places at =
-    let P : List (Option (List ℕ)) → Type 0 = λ l. slice_get l i ≡ Some (Some places) in
-    only_none i places (subst P is at)
-
--- nothing of it is finished
-pub root_unfinished : {S : Type 0} (b : Book S) (budget : ℕ) → b.finished ≡ None ∷ [] → FinishedLeast b budget
-root_unfinished b budget is i e done at = absurd (none_finished b.finished is i done.0 done.1)
-
 apart_by_rules : {S : Type 0} (r : Rules S) (eq : S → S → Bool) → ((s t : S) → r.same s t ≡ eq s t) → (entries : List (Entry S)) → IsUndominated eq entries → IsUndominated r.same entries
 apart_by_rules r eq agree entries apart = record {
   later = λ i j e f lt at at' d. apart.later i j e f lt at at' (record { state = sym (agree e.state f.state) ∙ d.state; budget = d.budget });
@@ -156,7 +143,6 @@ pub record Left {S : Type 0} (r : Rules S) (limits : Limits) (eq : S → S → B
   pub bounded : IsBounded r limits.entries b.entries
   pub visited_all : OnOk visited (AllVisited r limits b)
   pub full : IfFault visited (λ _. limits.entries ≤ length b.entries)
-  pub left : IfFault visited (λ _. HasUnfinished b)
   pub exhausted : status ≡ Exhausted → visited ≡ Ok true
   pub entries : status ≡ Cut Entries → StoppedFull visited
   pub steps : status ≡ Cut Steps → visited ≡ Ok false
@@ -175,7 +161,6 @@ tells_of_book r limits eq b visited findings h lists = (
     marks = lists;
     bounded = h.bounded;
     full = λ t. stopped visited (h.entries t) h.full;
-    left = λ t. stopped visited (h.entries t) h.left;
     fewer = λ t. fewer_entries r limits b (slice_get_within b.entries 0 h.under_way.root.entry h.under_way.root.at) (went_through r limits eq b visited findings.status h t);
     steps = λ t. all_lead_on r limits b (went_through r limits eq b visited findings.status h (inr t));
   },

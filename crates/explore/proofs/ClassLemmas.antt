@@ -1,15 +1,15 @@
 -- What visiting the entries of one budget after another keeps.
-use Rattle.std.proofs.Common.{◌≡◌, ◌≢◌, ℕ, ◌+◌, ◌-◌, ◌<◌, ◌≤◌, Bool, true, false, List, length, slice_get, Option, Some, None, arith, ap, sym, ◌∙◌, subst, ◌⊎◌, inl, inr}
+use Rattle.std.proofs.Common.{◌≡◌, ◌≢◌, ℕ, ◌+◌, ◌-◌, ◌<◌, ◌≤◌, Bool, true, false, length, slice_get, Some, arith, ap, sym, ◌∙◌, subst, inl, inr}
 use Rattle.std.proofs.lemmas.Bool.{cases_lt}
 use Rattle.std.proofs.lemmas.Option.{same_Some, slice_get_within}
 use Rattle.basis.proofs.Lists.{listed_place}
 use Rattle.sched_core.specs.Rules.{Rules}
-use Rattle.statebook.specs.Books.{Book, IsFinished, IsUnfinished}
+use Rattle.statebook.specs.Books.{Book, IsFinished}
 use Rattle.statebook.specs.declared.entry.Entry.{Entry}
 use Rattle.statebook.specs.declared.limits.Limits.{Limits}
 use Rattle.explore.specs.Found.{SomeRunExceeds}
-use Rattle.explore.specs.Told.{AllChoicesLeadOn, AllLeadOn, IsBounded, HasUnfinished}
-use Rattle.explore.specs.Inner.Exploring.{AddsFew, AllVisited, BookGrows, FinishedAt, FinishedLeast, FinishesOnly, GrowsFrom, IsUnderWay, LeadsOnAt, VisitedAt, WasVisited, width_limit}
+use Rattle.explore.specs.Told.{AllChoicesLeadOn, AllLeadOn, IsBounded}
+use Rattle.explore.specs.Inner.Exploring.{AddsFew, AllVisited, BookGrows, FinishedAt, GrowsFrom, IsUnderWay, LeadsOnAt, VisitedAt, WasVisited, width_limit}
 use Rattle.explore.proofs.VisitLemmas.{grows_twice, leads_later, still_there, true_not_false}
 
 -- Of each place that has an entry of at least this budget it is true.
@@ -20,10 +20,6 @@ EachFrom {S} P b budget = (i : ℕ) (e : Entry S) → slice_get b.entries i ≡ 
 abbrev pub EachUpTo : {S : Type 0} → (ℕ → Type 0) → Book S → ℕ → ℕ → Type 0
 EachUpTo {S} P b budget place = (i : ℕ) (e : Entry S) → i < place → slice_get b.entries i ≡ Some e → e.budget ≡ budget → P i
 
--- What is finished has a greater budget, or stands before the place.
-abbrev pub FinishedBehind : {S : Type 0} → Book S → ℕ → ℕ → Type 0
-FinishedBehind {S} b budget place = (i : ℕ) (e : Entry S) → IsFinished b i → slice_get b.entries i ≡ Some e → (budget < e.budget) ⊎ ((e.budget ≡ budget) × (i < place))
-
 -- how far a class has come
 pub record InClass {S : Type 0} (r : Rules S) (limits : Limits) (start now : Book S) (budget place : ℕ) (within : Bool) : Type 0 where
   pub few : length now.entries ≤ limits.entries + width_limit
@@ -32,7 +28,6 @@ pub record InClass {S : Type 0} (r : Rules S) (limits : Limits) (start now : Boo
   pub finished : within ≡ true → EachUpTo (IsFinished now) now budget place
   pub visited : EachUpTo (WasVisited r limits now.entries) now budget place
   pub past : within ≡ false → SomeRunExceeds r limits
-  pub behind : FinishedBehind now budget place
 
 -- what a visit of the entry at the place makes of the book
 pub record Visits {S : Type 0} (r : Rules S) (limits : Limits) (now : Book S) (place : ℕ) (new : Book S) : Type 0 where
@@ -42,7 +37,6 @@ pub record Visits {S : Type 0} (r : Rules S) (limits : Limits) (now : Book S) (p
   pub grows : GrowsFrom now new place
   pub few : AddsFew r now place new
   pub narrow : length new.entries < length now.entries + width_limit
-  pub only : FinishesOnly now place new
   pub leads : LeadsOnAt r limits new place
 
 one_later : {S : Type 0} (P Q : ℕ → Type 0) (old new : Book S) (budget place : ℕ) → BookGrows old new budget → ((i : ℕ) → P i → Q i) → place < length old.entries → EachUpTo P old budget place → EachUpTo Q new budget place
@@ -97,28 +91,12 @@ bounded_now r limits now place new e at fewer grows few = record {
   few = omega (arith, few e at, fewer);
 }
 
-behind_now : {S : Type 0} (r : Rules S) (limits : Limits) (now : Book S) (place : ℕ) (new : Book S) (budget : ℕ) → IsUnderWay r limits now → (v : Visits r limits now place new) → v.entry.budget ≡ budget → FinishedBehind now budget place → FinishedBehind new budget (place + 1)
-behind_now {S} r limits now place new budget u v same h i e done at = elim (v.only i done) [
-  | inl before ↦ (
-      let m = u.sound.met i before.0 before.1 in
-      let itself : m.entry ≡ e = still_there now new v.entry.budget i m.entry e (v.grows v.entry v.at) m.at at in
-      let T : Entry S → Type 0 = λ x. slice_get now.entries i ≡ Some x in
-      elim (h i e before (subst T itself m.at)) [
-        | inl greater ↦ inl greater
-        | inr equal ↦ inr (equal.0, omega (arith, equal.1))
-      ])
-  | inr here ↦ (
-      let T : ℕ → Type 0 = λ p. slice_get new.entries p ≡ Some e in
-      let itself : v.entry ≡ e = still_there now new v.entry.budget place v.entry e (v.grows v.entry v.at) v.at (subst T here at) in
-      inr (sym (ap (λ x. x.budget) itself) ∙ same, omega (arith, here)))
-]
-
 grows_at : {S : Type 0} (r : Rules S) (limits : Limits) (now : Book S) (place : ℕ) (new : Book S) (budget : ℕ) → (v : Visits r limits now place new) → v.entry.budget ≡ budget → BookGrows now new budget
 grows_at r limits now place new budget v same = subst (λ n. BookGrows now new n) same (v.grows v.entry v.at)
 
 -- the entry at the place was visited, and is finished
-pub class_finished : {S : Type 0} (r : Rules S) (limits : Limits) (start now new : Book S) (budget place : ℕ) (within : Bool) → InClass r limits start now budget place within → IsUnderWay r limits now → (v : Visits r limits now place new) → v.entry.budget ≡ budget → IsFinished new place → InClass r limits start new budget (place + 1) within
-class_finished r limits start now new budget place within s u v same f =
+pub class_finished : {S : Type 0} (r : Rules S) (limits : Limits) (start now new : Book S) (budget place : ℕ) (within : Bool) → InClass r limits start now budget place within → (v : Visits r limits now place new) → v.entry.budget ≡ budget → IsFinished new place → InClass r limits start new budget (place + 1) within
+class_finished r limits start now new budget place within s v same f =
     let g = grows_at r limits now place new budget v same in
     let lt = slice_get_within now.entries place v.entry v.at in
     record {
@@ -128,12 +106,11 @@ class_finished r limits start now new budget place within s u v same f =
       finished = λ t. one_more (IsFinished now) (IsFinished new) now new budget place g (λ i done. (done.0, g.done i done.0 done.1)) lt (s.finished t) f;
       visited = one_more (WasVisited r limits now.entries) (WasVisited r limits new.entries) now new budget place g (visited_later r limits now new budget g) lt s.visited (visited_now r limits now place new v);
       past = s.past;
-      behind = behind_now r limits now place new budget u v same s.behind;
     }
 
 -- the entry at the place was visited, and is not finished
-pub class_cut : {S : Type 0} (r : Rules S) (limits : Limits) (start now new : Book S) (budget place : ℕ) (within : Bool) → InClass r limits start now budget place within → IsUnderWay r limits now → (v : Visits r limits now place new) → v.entry.budget ≡ budget → SomeRunExceeds r limits → InClass r limits start new budget (place + 1) false
-class_cut r limits start now new budget place within s u v same x =
+pub class_cut : {S : Type 0} (r : Rules S) (limits : Limits) (start now new : Book S) (budget place : ℕ) (within : Bool) → InClass r limits start now budget place within → (v : Visits r limits now place new) → v.entry.budget ≡ budget → SomeRunExceeds r limits → InClass r limits start new budget (place + 1) false
+class_cut r limits start now new budget place within s v same x =
     let g = grows_at r limits now place new budget v same in
     let lt = slice_get_within now.entries place v.entry v.at in
     record {
@@ -143,7 +120,6 @@ class_cut r limits start now new budget place within s u v same x =
       finished = λ t. absurd (true_not_false (sym t));
       visited = one_more (WasVisited r limits now.entries) (WasVisited r limits new.entries) now new budget place g (visited_later r limits now new budget g) lt s.visited (visited_now r limits now place new v);
       past = λ t. x;
-      behind = behind_now r limits now place new budget u v same s.behind;
     }
 
 -- the entry at the place has another budget
@@ -155,10 +131,6 @@ class_skipped r limits start now budget place within x s at other = record {
   finished = λ t. one_other (IsFinished now) now budget place x at other (s.finished t);
   visited = one_other (WasVisited r limits now.entries) now budget place x at other s.visited;
   past = s.past;
-  behind = λ i e done there. elim (s.behind i e done there) [
-    | inl greater ↦ inl greater
-    | inr equal ↦ inr (equal.0, omega (arith, equal.1))
-  ];
 }
 
 -- a whole class was gone through
@@ -169,32 +141,6 @@ class_done r limits start now budget place within s le t i e at same =
 pub class_visited : {S : Type 0} (r : Rules S) (limits : Limits) (start now : Book S) (budget place : ℕ) (within : Bool) → InClass r limits start now budget place within → length now.entries ≤ place → VisitedAt r limits now budget
 class_visited r limits start now budget place within s le i e at same =
     s.visited i e (omega (arith, slice_get_within now.entries i e at, le)) at same
-
-pub class_least : {S : Type 0} (r : Rules S) (limits : Limits) (start now : Book S) (budget place : ℕ) (within : Bool) → InClass r limits start now budget place within → FinishedLeast now budget
-class_least r limits start now budget place within s i e done at = elim (s.behind i e done at) [
-  | inl greater ↦ omega (arith, greater)
-  | inr equal ↦ omega (arith, equal.0)
-]
-
--- nothing of this class is finished yet
-pub behind_start : {S : Type 0} (b : Book S) (budget : ℕ) → FinishedLeast b (budget + 1) → FinishedBehind b budget 0
-behind_start b budget h i e done at = inl (omega (arith, h i e done at))
-
-open_or_done : {S : Type 0} (b : Book S) (place : ℕ) (o : Option (List ℕ)) → slice_get b.finished place ≡ Some o → IsUnfinished b place ⊎ IsFinished b place
-open_or_done b place None at = inl at
-open_or_done b place (Some places) at = inr (places, at)
-
--- the entry that is to be visited isn't finished
-pub class_left : {S : Type 0} (r : Rules S) (limits : Limits) (start now : Book S) (budget place : ℕ) (within : Bool) (x : Entry S) → InClass r limits start now budget place within → slice_get now.entries place ≡ Some x → x.budget ≡ budget → place < length now.finished → HasUnfinished now
-class_left r limits start now budget place within x s at same lt =
-    let o = listed_place now.finished place lt in
-    elim (open_or_done now place o.0 o.1) [
-      | inl left ↦ (place, left)
-      | inr done ↦ elim (s.behind place x done at) [
-        | inl greater ↦ absurd (omega (arith, greater, same))
-        | inr equal ↦ absurd (omega (arith, equal.1))
-      ]
-    ]
 
 -- no entry has more departures left than the limit
 pub none_over : {S : Type 0} (P : ℕ → Type 0) (r : Rules S) (limits : Limits) (b : Book S) (budget : ℕ) → IsUnderWay r limits b → limits.depart < budget → EachFrom P b budget

@@ -10,9 +10,9 @@ use Rattle.statebook.specs.ExplorerCore.{IsEntry, IsMet, AllMet, choices_of, bud
 use Rattle.statebook.specs.declared.entry.Entry.{Entry}
 use Rattle.basis.proofs.Lists.{stands_in_front, stands_last, last_or_before}
 use Rattle.statebook.specs.declared.limits.Limits.{Limits}
-use Rattle.statebook.proofs.CoreLemmas.{slice_get-set, sound_add, sound_finish}
+use Rattle.statebook.proofs.CoreLemmas.{sound_add, sound_finish}
 use Rattle.explore.specs.Told.{AllChoicesLeadOn, LeadsOn}
-use Rattle.explore.specs.Inner.Exploring.{AddsFew, BookGrows, FinishesNone, FinishesOnly, Follows, IsSameOrAdded, IsUnderWay, LeadsOnAt}
+use Rattle.explore.specs.Inner.Exploring.{AddsFew, BookGrows, Follows, IsSameOrAdded, IsUnderWay, LeadsOnAt}
 
 pub found_new : {S : Type 0} (same : S → S → Bool) → IsEquivalence same → (old : Book S) (e : Entry S) (new : Book S) (place : ℕ) → place ≡ length old.entries → new ≡ add old e → IsFoundAt same new.entries e place
 found_new {S} same eq old e new place at grown =
@@ -232,35 +232,6 @@ leads_done {S} r limits old place places new (inl h) leads =
 leads_done {S} r limits old place places new (inr h) leads =
     let P : Book S → Type 0 = λ b. LeadsOnAt r limits b place in
     subst P (sym h.1) leads
-
--- an entry that is added isn't finished
-pub finishes_none : {S : Type 0} (old : Book S) (e : Entry S) (new : Book S) → IsSameOrAdded old e new → FinishesNone old new
-finishes_none {S} old e new (inl same) =
-    let P : Book S → Type 0 = λ b. FinishesNone old b in
-    subst P (sym same) (λ i done. done)
-finishes_none {S} old e new (inr added) =
-    let P : Book S → Type 0 = λ b. FinishesNone old b in
-    subst P (sym added) (λ i done. elim (last_or_before old.finished None i (Some done.0) done.1) [
-      | inl there ↦ (done.0, there)
-      | inr last ↦ let none : None ≡ Some done.0 = last.1 in absurd cc
-    ])
-
-finished_or : {S : Type 0} (old : Book S) (place : ℕ) (places : List ℕ) → FinishesOnly old place (finish old place places)
-finished_or old place places i done = elim (slice_get-set old.finished place (Some places) i (Some done.0) done.1) [
-  | inl there ↦ inl (done.0, there)
-  | inr here ↦ inr here.0
-]
-
-pub finishes_only : {S : Type 0} (start old : Book S) (place : ℕ) (places : List ℕ) (new : Book S) → FinishesNone start old → Finishes old place places new → FinishesOnly start place new
-finishes_only {S} start old place places new none (inl h) =
-    let P : Book S → Type 0 = λ b. FinishesOnly start place b in
-    subst P (sym h.1) (λ i done. elim (finished_or old place places i done) [
-      | inl there ↦ inl (none i there)
-      | inr here ↦ inr here
-    ])
-finishes_only {S} start old place places new none (inr h) =
-    let P : Book S → Type 0 = λ b. FinishesOnly start place b in
-    subst P (sym h.1) (λ i done. inl (none i done))
 
 pub adds_few : {S : Type 0} (r : Rules S) (old new : Book S) (place count : ℕ) (e : Entry S) → slice_get old.entries place ≡ Some e → count ≤ choices_of (r.width e.state) e.budget → length new.entries ≤ length old.entries + count → AddsFew r old place new
 adds_few {S} r old new place count e at le few f at' =

@@ -1,7 +1,7 @@
 -- What an answer tells of the book that the search left: whatever the status, the marks are read from such a book.
 use Rattle.std.specs.Prelude.{◌≡◌, ℕ, ◌+◌, ◌<◌, ◌≤◌, ◌⊎◌, true, false, List, length, slice_get, Some}
 use Rattle.sched_core.specs.Rules.{Rules}
-use Rattle.statebook.specs.Books.{Book, IsRootAt, IsUndominated, IsUnfinished}
+use Rattle.statebook.specs.Books.{Book, IsRootAt, IsUndominated}
 use Rattle.statebook.specs.ExplorerCore.{IsMet, IsReached, choices_of}
 use Rattle.statebook.specs.Stations.{is_station, forced}
 use Rattle.statebook.specs.declared.entry.Entry.{Entry}
@@ -63,10 +63,6 @@ pub record IsBounded {S : Type 0} (r : Rules S) (limit : ℕ) (entries : List (E
   pub at : slice_get entries place ≡ Some entry
   pub few : length entries ≤ limit + choices_of (r.width entry.state) entry.budget
 
--- Some entry isn't finished.
-abbrev pub HasUnfinished : {S : Type 0} → Book S → Type 0
-HasUnfinished b = (place : ℕ) × IsUnfinished b place
-
 -- No job was left: the search was not stopped for want of memory, nor by the limit of entries.
 abbrev pub WentThrough : Status → Type 0
 WentThrough status = (status ≡ Exhausted) ⊎ (status ≡ Cut Steps)
@@ -74,9 +70,9 @@ WentThrough status = (status ≡ Exhausted) ⊎ (status ≡ Cut Steps)
 -- The answer is read from the book.
 -- [reached] Allowed events lead to the book. [root] Its first entry is the root's. [undominated] No entry was
 -- added that an earlier one dominates. [marks] Its marks are those listed. [bounded] It hasn't outgrown the limit.
--- The first reason that holds is told: [full] by the limit of entries it was cut only with as many entries and
--- [left] one that isn't finished, and [fewer] with so many it is always cut, for want of memory if not by that
--- limit. [steps] Where it was cut by the limit of steps alone, every way was gone that is within it.
+-- The first reason that holds is told: [full] by the limit of entries it was cut only with as many entries, and
+-- [fewer] with so many it is always cut, for want of memory if not by that limit. [steps] Where it was cut by the
+-- limit of steps, every way was gone that is within it.
 pub record IsReadFrom {S : Type 0} (r : Rules S) (limits : Limits) (b : Book S) (findings : Findings S) : Type 0 where
   pub reached : IsReached r limits.depart limits.steps b
   pub root : IsRootAt b.entries 0
@@ -84,7 +80,6 @@ pub record IsReadFrom {S : Type 0} (r : Rules S) (limits : Limits) (b : Book S) 
   pub marks : ListsExactly r b findings.marks.entries
   pub bounded : IsBounded r limits.entries b.entries
   pub full : findings.status ≡ Cut Entries → limits.entries ≤ length b.entries
-  pub left : findings.status ≡ Cut Entries → HasUnfinished b
   pub fewer : WentThrough findings.status → length b.entries < limits.entries
   pub steps : findings.status ≡ Cut Steps → AllLeadOn r limits b.entries
 

@@ -37,7 +37,6 @@ fn open_book<P: Space>(
 ) -> Result<PlainBook<P::State>, NoMemory>
     ensures under_way { IfOk result (IsUnderWay (P.rules space.now) limits.now) }
     ensures alone { IfOk result (λ book. length book.entries ≡ 1) }
-    ensures unfinished { IfOk result (λ book. book.finished ≡ None ∷ []) }
 {
     let root = Entry {
         state: space.root()?,
@@ -84,11 +83,11 @@ fn status_of<S: Eq + Hash + Drop>(
 /// Proved: each listed mark is reached under its log, by a run within both limits. Where it says
 /// `Exhausted`, every mark that a run of at most `limits.depart` departures reaches is listed, after
 /// however many steps, and no run at all that reaches a listed mark has fewer departures than its log.
-/// Where it says `Cut(Entries)`, there are at least `limits.entries` entries and a job was left; where
-/// `Cut(Steps)`, some run of at most `limits.depart` departures takes more than `limits.steps` steps.
-/// Whatever it says, the marks are those of one book that allowed events lead to, each with the log of
-/// the entry of the greatest budget; after `Cut(Steps)` each choice of each entry of that book leads to
-/// an entry of it or goes past the limit of steps, and there are fewer entries than their limit.
+/// Where it says `Cut(Entries)`, there are at least `limits.entries` entries; where `Cut(Steps)`, some
+/// run of at most `limits.depart` departures takes more than `limits.steps` steps. Whatever it says,
+/// the marks are those of one book that allowed events lead to, each with the log of the entry of the
+/// greatest budget; after `Cut(Steps)` each choice of each entry of that book leads to an entry of it
+/// or goes past the limit of steps, and there are fewer entries than their limit.
 ///
 /// Beside the entries it keeps states on forced ways, one in `SPACING` steps and at most `ROOM` more
 /// than there are entries. A way that comes to one of them at such a count of steps isn't walked on.

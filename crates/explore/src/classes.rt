@@ -2,8 +2,8 @@
 
 ghost use Rattle.std.specs.Prelude.{◌≡◌, ℕ, ◌+◌, ◌≤◌, true, false, length, IfOk, OnOk};
 ghost use Rattle.basis.specs.Reasons.{IfFault};
-ghost use Rattle.explore.specs.Told.{IsBounded, HasUnfinished};
-ghost use Rattle.explore.specs.Inner.Exploring.{AllFinished, AllVisited, BookGrows, CutsShort, FinishedAt, FinishedLeast, VisitedAt, width_limit};
+ghost use Rattle.explore.specs.Told.{IsBounded};
+ghost use Rattle.explore.specs.Inner.Exploring.{AllFinished, AllVisited, BookGrows, CutsShort, FinishedAt, VisitedAt, width_limit};
 ghost use Rattle.explore.specs.Inner.Ways.{IsSearching};
 
 use crate::search::Search;
@@ -29,17 +29,14 @@ fn visit_class<P: Space>(
     requires searching { IsSearching (P.rules space.now) limits.now search.old }
     requires bounded { IsBounded (P.rules space.now) limits.now.entries search.old.book.entries }
     requires few { length search.old.book.entries ≤ limits.now.entries + width_limit }
-    requires above { FinishedLeast search.old.book (budget + 1) }
     ensures finished { IfOk result (λ within. within ≡ true → FinishedAt search.new.book budget) }
     ensures all { OnOk result (VisitedAt (P.rules space.now) limits.now search.new.book budget) }
     ensures past { IfOk result (CutsShort (P.rules space.now) limits.now) }
     ensures full { IfFault result (λ _. limits.now.entries ≤ length search.new.book.entries) }
-    ensures left { IfFault result (λ _. HasUnfinished search.new.book) }
     ensures searching { IsSearching (P.rules space.now) limits.now search.new }
     ensures grows { BookGrows search.old.book search.new.book budget }
     ensures bounded { IsBounded (P.rules space.now) limits.now.entries search.new.book.entries }
     ensures few { length search.new.book.entries ≤ limits.now.entries + width_limit }
-    ensures above { OnOk result (FinishedLeast search.new.book budget) }
 {
     let mut within = true;
     let mut place = 0;
@@ -69,12 +66,10 @@ pub fn visit_all<P: Space>(
     requires searching { IsSearching (P.rules space.now) limits.now search.old }
     requires bounded { IsBounded (P.rules space.now) limits.now.entries search.old.book.entries }
     requires few { length search.old.book.entries ≤ limits.now.entries + width_limit }
-    requires none { FinishedLeast search.old.book (limits.now.depart + 1) }
     ensures finished { IfOk result (λ within. within ≡ true → AllFinished search.new.book) }
     ensures all { OnOk result (AllVisited (P.rules space.now) limits.now search.new.book) }
     ensures past { IfOk result (CutsShort (P.rules space.now) limits.now) }
     ensures full { IfFault result (λ _. limits.now.entries ≤ length search.new.book.entries) }
-    ensures left { IfFault result (λ _. HasUnfinished search.new.book) }
     ensures searching { IsSearching (P.rules space.now) limits.now search.new }
     ensures bounded { IsBounded (P.rules space.now) limits.now.entries search.new.book.entries }
 {

@@ -3,7 +3,7 @@
 ghost use Rattle.std.specs.Prelude.{◌≡◌, ℕ, ◌+◌, ◌<◌, ◌≤◌, true, false, length, slice_get, Some, IfOk, IfSome, IfNone, OnOk, OnErr};
 ghost use Rattle.statebook.specs.ExplorerCore.{choices_of};
 ghost use Rattle.statebook.specs.Books.{IsFinished, IsFoundAt};
-ghost use Rattle.explore.specs.Inner.Exploring.{AddsFew, AllowsAt, CutsShort, FinishesNone, FinishesOnly, GrowsFrom, IsMetAt, IsSameOrAdded, LeadsOnAt, width_limit};
+ghost use Rattle.explore.specs.Inner.Exploring.{AddsFew, AllowsAt, CutsShort, GrowsFrom, IsMetAt, IsSameOrAdded, LeadsOnAt, width_limit};
 ghost use Rattle.explore.specs.Inner.Ways.{IfPast, IfReached, IsSearching, PastFrom};
 
 use crate::next::next_entry;
@@ -60,7 +60,6 @@ fn meet_choice<P: Space>(
     ensures past { IfPast result (PastFrom (P.rules space.now) limits.now search.new place choice) }
     ensures searching { IsSearching (P.rules space.now) limits.now search.new }
     ensures grows { GrowsFrom search.old.book search.new.book place }
-    ensures none { FinishesNone search.old.book search.new.book }
     ensures few { length search.new.book.entries ≤ length search.old.book.entries + 1 }
 {
     let mut landmarks = Vec::new(alloc);
@@ -97,7 +96,6 @@ pub fn visit<P: Space>(
     ensures past { IfOk result (CutsShort (P.rules space.now) limits.now) }
     ensures searching { IsSearching (P.rules space.now) limits.now search.new }
     ensures grows { GrowsFrom search.old.book search.new.book place }
-    ensures only { FinishesOnly search.old.book place search.new.book }
     ensures few { AddsFew (P.rules space.now) search.old.book place search.new.book }
     ensures narrow { length search.new.book.entries < length search.old.book.entries + width_limit }
 {

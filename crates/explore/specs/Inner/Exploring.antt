@@ -64,18 +64,6 @@ LeadsOnAt {S} r limits b place = (e : Entry S) → slice_get b.entries place ≡
 abbrev pub AddsFew : {S : Type 0} → Rules S → Book S → ℕ → Book S → Type 0
 AddsFew {S} r old place new = (e : Entry S) → slice_get old.entries place ≡ Some e → length new.entries ≤ length old.entries + choices_of (r.width e.state) e.budget
 
--- What is finished was so before.
-abbrev pub FinishesNone : {S : Type 0} → Book S → Book S → Type 0
-FinishesNone old new = (i : ℕ) → IsFinished new i → IsFinished old i
-
--- What is finished was so before, or is the entry at the place.
-abbrev pub FinishesOnly : {S : Type 0} → Book S → ℕ → Book S → Type 0
-FinishesOnly old place new = (i : ℕ) → IsFinished new i → IsFinished old i ⊎ (i ≡ place)
-
--- What is finished has at least this budget.
-abbrev pub FinishedLeast : {S : Type 0} → Book S → ℕ → Type 0
-FinishedLeast {S} b budget = (i : ℕ) (e : Entry S) → IsFinished b i → slice_get b.entries i ≡ Some e → budget ≤ e.budget
-
 -- A state's choices are counted by 32 bits, so there are fewer than this.
 abbrev pub width_limit : ℕ
 width_limit = 2 ^ 32

@@ -27,7 +27,6 @@ left g c =
       bounded = c.visit_all-visited.ensures.bounded;
       visited_all = c.visit_all-visited.ensures.all;
       full = c.visit_all-visited.ensures.full;
-      left = c.visit_all-visited.ensures.left;
       exhausted = c.status_of-status.ensures.exhausted;
       entries = c.status_of-status.ensures.entries;
       steps = c.status_of-status.ensures.steps;

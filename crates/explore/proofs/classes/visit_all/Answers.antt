@@ -18,7 +18,6 @@ loop-departures-init g c =
       finished = λ t. none_over (IsFinished b) r limits b (limits.depart + 1 - 0) c.requires.searching.under_way (omega arith);
       visited = none_over (WasVisited r limits b.entries) r limits b (limits.depart + 1 - 0) c.requires.searching.under_way (omega arith);
       past = λ t. absurd (true_not_false t);
-      above = λ i e done at. omega (arith, c.requires.none i e done at);
     }
 
 pub loop-departures-preserved : goal.loop-departures-preserved
@@ -47,7 +46,6 @@ loop-departures-preserved g c =
         | then-not-branch w ↦ c.in_ok-visit_class.ensures.past w.if-not-branch.true
         | else-not-branch w ↦ i.past (sym w.within-is ∙ t)
       ];
-      above = λ k e done at. omega (arith, here, c.in_ok-visit_class.ensures.above k e done at);
     }
 
 pub returns-clause-all : goal.returns-clause-all

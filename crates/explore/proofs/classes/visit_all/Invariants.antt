@@ -2,7 +2,7 @@ use Rattle.std.proofs.Common.{◌≡◌, ◌+◌, ◌-◌, ◌≤◌, true, fals
 use Rattle.statebook.specs.Books.{IsFinished}
 use Rattle.explore.specs.Found.{SomeRunExceeds}
 use Rattle.explore.specs.Told.{IsBounded}
-use Rattle.explore.specs.Inner.Exploring.{FinishedLeast, WasVisited, width_limit}
+use Rattle.explore.specs.Inner.Exploring.{WasVisited, width_limit}
 use Rattle.explore.specs.Inner.Ways.{IsSearching}
 use Rattle.explore.proofs.ClassLemmas.{EachFrom}
 use Rattle.explore.proofs.classes.visit_all.Given as goal
@@ -15,5 +15,4 @@ invariant-loop-departures g l = record {
   finished : l.within ≡ true → EachFrom (IsFinished l.search.book) l.search.book (l.limits.depart + 1 - l.departures);
   visited : EachFrom (WasVisited (g.P.Space.rules l.space) l.limits l.search.book.entries) l.search.book (l.limits.depart + 1 - l.departures);
   past : l.within ≡ false → SomeRunExceeds (g.P.Space.rules l.space) l.limits;
-  above : FinishedLeast l.search.book (l.limits.depart + 1 - l.departures);
 }

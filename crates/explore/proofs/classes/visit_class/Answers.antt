@@ -1,14 +1,9 @@
 use Rattle.std.proofs.Common.{subst, arith, ℕ}
 use Rattle.explore.specs.Inner.Exploring.{BookGrows}
-use Rattle.explore.proofs.ClassLemmas.{class_cut, class_done, class_finished, class_left, class_skipped, class_visited, bounded_now}
+use Rattle.explore.proofs.ClassLemmas.{class_cut, class_done, class_finished, class_skipped, class_visited, bounded_now}
 use Rattle.explore.proofs.VisitLemmas.{grows_twice}
 use Rattle.explore.proofs.classes.visit_class.Goals as goal
 use Rattle.explore.proofs.classes.visit_class.Goals.{then-read-budget+else-len-limits+in_ok-visit+then-not-branch, then-read-budget+else-len-limits+in_ok-visit+else-not-branch, else-read-budget}
-
-pub returns-then-len-limits-clause-left : goal.returns-then-len-limits-clause-left
-returns-then-len-limits-clause-left g c =
-    class_left (g.P.Space.rules c.args.space.now) c.args.limits.now c.args.search.now.book c.loop-place.search.book c.args.budget c.loop-place.place c.loop-place.within c.read.result.now c.loop-place.invariant.class
-    c.read.ensures c.if-read-budget.true (omega (arith, c.loop-place-test.true, c.len.ensures.paired))
 
 pub returns-in_err-visit-clause-grows : goal.returns-in_err-visit-clause-grows
 returns-in_err-visit-clause-grows g c =
@@ -30,7 +25,7 @@ loop-place-preserved g c =
       | then-read-budget+else-len-limits+in_ok-visit+then-not-branch w ↦
           rw (w.search-is, w.within-is)
           (record {
-            class = class_cut r limits c.args.search.now.book now w.visit.new.search.book c.args.budget c.loop-place.place c.loop-place.within c.loop-place.invariant.class c.loop-place.invariant.searching.under_way
+            class = class_cut r limits c.args.search.now.book now w.visit.new.search.book c.args.budget c.loop-place.place c.loop-place.within c.loop-place.invariant.class
                 (record {
                   entry = c.read.result.now;
                   at = c.read.ensures;
@@ -38,7 +33,6 @@ loop-place-preserved g c =
                   grows = w.visit.ensures.grows;
                   few = w.visit.ensures.few;
                   narrow = w.visit.ensures.narrow;
-                  only = w.visit.ensures.only;
                   leads = w.in_ok-visit.ensures.leads;
                 })
                 w.if-read-budget.true (w.in_ok-visit.ensures.past w.if-not-branch.true);
@@ -47,7 +41,7 @@ loop-place-preserved g c =
       | then-read-budget+else-len-limits+in_ok-visit+else-not-branch w ↦
           rw (w.search-is, w.within-is)
           (record {
-            class = class_finished r limits c.args.search.now.book now w.visit.new.search.book c.args.budget c.loop-place.place c.loop-place.within c.loop-place.invariant.class c.loop-place.invariant.searching.under_way
+            class = class_finished r limits c.args.search.now.book now w.visit.new.search.book c.args.budget c.loop-place.place c.loop-place.within c.loop-place.invariant.class
                 (record {
                   entry = c.read.result.now;
                   at = c.read.ensures;
@@ -55,7 +49,6 @@ loop-place-preserved g c =
                   grows = w.visit.ensures.grows;
                   few = w.visit.ensures.few;
                   narrow = w.visit.ensures.narrow;
-                  only = w.visit.ensures.only;
                   leads = w.in_ok-visit.ensures.leads;
                 })
                 w.if-read-budget.true (w.in_ok-visit.ensures.finished w.if-not-branch.false);

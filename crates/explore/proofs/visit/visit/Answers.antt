@@ -6,7 +6,7 @@ use Rattle.explore.specs.Inner.Exploring.{BookGrows, IsMetAt}
 use Rattle.explore.specs.Inner.Ways.{PastFrom}
 use Rattle.explore.specs.declared.ways.TheConstants.{ROOM}
 use Rattle.explore.proofs.NextLemmas.{exceeds}
-use Rattle.explore.proofs.VisitLemmas.{HasMet, Finishes, finishes, finishes_only, finished_now, leads_all, leads_done, leads_more, under_way_done, grows_done, grows_twice, grows_on, all_met, met_more, place_within, still_there, true_not_false, room_done}
+use Rattle.explore.proofs.VisitLemmas.{HasMet, Finishes, finishes, finished_now, leads_all, leads_done, leads_more, under_way_done, grows_done, grows_twice, grows_on, all_met, met_more, place_within, still_there, true_not_false, room_done}
 use Rattle.explore.proofs.WaysLemmas.{lead_later}
 use Rattle.explore.proofs.visit.visit.Given.{Over}
 use Rattle.explore.proofs.visit.visit.Goals as goal
@@ -56,7 +56,6 @@ loop-choice-preserved g c =
       searching = c.meet_choice.ensures.searching;
       few = omega (arith, i.few, c.meet_choice.ensures.few);
       grows = λ e at. grows_on c.args.search.now.book c.loop-choice.search.book c.meet_choice.new.search.book c.args.place e (i.grows e at) at c.meet_choice.ensures.grows;
-      none = λ k done. i.none k (c.meet_choice.ensures.none k done);
       met = λ t. elim c.match-branch-2.branch [
         | in-Some+in_ok-push-in-Some w ↦ (
             let M : IsMetAt r c.meet_choice.new.search.book c.args.place c.loop-choice.choice w.in-Some.at = rw w.in-Some.is at c.in_ok-at.ensures.met in
@@ -98,15 +97,6 @@ pub returns-else-within-clause-leads : goal.returns-else-within-clause-leads
 returns-else-within-clause-leads g c =
     leads_all (g.P.Space.rules c.args.space.now) c.args.limits.now c.args.search.now.book c.loop-choice.search.book c.args.place c.loop-choice.choice c.read.result.now c.loop-choice.invariant.leads c.read.ensures
     (c.loop-choice.invariant.grows c.read.result.now c.read.ensures) (omega (arith, c.choice_count-count.ensures, c.loop-choice-test.false, c.loop-choice.auto.choice-end))
-
-pub returns-then-within-clause-only : goal.returns-then-within-clause-only
-returns-then-within-clause-only g c = finishes_only c.args.search.now.book c.loop-choice.search.book c.args.place c.loop-choice.next.items c.finish.new.self c.loop-choice.invariant.none (noted g c)
-
-pub returns-in_err-at-clause-only : goal.returns-in_err-at-clause-only
-returns-in_err-at-clause-only g c = λ i done. inl (c.loop-choice.invariant.none i (c.meet_choice.ensures.none i done))
-
-pub returns-in_err-push-in-Some-clause-only : goal.returns-in_err-push-in-Some-clause-only
-returns-in_err-push-in-Some-clause-only g c = λ i done. inl (c.loop-choice.invariant.none i (c.meet_choice.ensures.none i done))
 
 pub returns-then-within-clause-searching : goal.returns-then-within-clause-searching
 returns-then-within-clause-searching g c =

@@ -1,6 +1,6 @@
 use Rattle.std.proofs.Common.{◌≡◌, ◌+◌, ◌≤◌, true, false, length}
 use Rattle.explore.specs.Found.{SomeRunExceeds}
-use Rattle.explore.specs.Inner.Exploring.{FinishesNone, GrowsFrom}
+use Rattle.explore.specs.Inner.Exploring.{GrowsFrom}
 use Rattle.explore.specs.Inner.Ways.{IsSearching}
 use Rattle.explore.proofs.VisitLemmas.{HasMet, LeadUpTo}
 use Rattle.explore.proofs.visit.visit.Given as goal
@@ -10,7 +10,6 @@ invariant-loop-choice g l = record {
   searching : IsSearching (g.P.Space.rules l.space) l.limits l.search;
   few : length l.search.book.entries ≤ length l.initial.search.book.entries + l.choice;
   grows : GrowsFrom l.initial.search.book l.search.book l.place;
-  none : FinishesNone l.initial.search.book l.search.book;
   met : l.within ≡ true → HasMet (g.P.Space.rules l.space) l.initial.search.book l.search.book l.place l.choice l.next.items;
   leads : LeadUpTo (g.P.Space.rules l.space) l.limits l.initial.search.book l.search.book l.place l.choice;
   past : l.within ≡ false → SomeRunExceeds (g.P.Space.rules l.space) l.limits;
