@@ -16,8 +16,8 @@ loop-key-init c =
       left = λ i e at. best_entry rows c.args.best.now c.requires.best c.iter-key-items.ensures.ordered i e (ap (λ es. slice_get es i) (sym start) ∙ at);
     }
 
-pub glimpse_at-requires : goal.glimpse_at-requires
-glimpse_at-requires c =
+pub glimpse_at-glimpse-requires : goal.glimpse_at-glimpse-requires
+glimpse_at-glimpse-requires c =
     let rows = rows_of c.args.variable c.args.slot.now in
     let b = c.loop-key.invariant.left 0 (c.in-Some._key.now, c.in-Some.place.now) (first_of c.loop-key._key-iterator c.next.new.self (c.in-Some._key.now, c.in-Some.place.now) c.in-Some.ensures.steps) in
     let lt = slice_get_within rows c.in-Some.place.now b.row b.at in

@@ -8,8 +8,8 @@ use Rattle.racebook.proofs.BestLemmas.{best_kept, best_put, noted_within}
 use Rattle.racebook.proofs.values.note.Goals as goal
 use Rattle.racebook.proofs.values.note.Goals.{in-Some+else-departures, in_default}
 
-pub glimpse_at-requires-in-Some : goal.glimpse_at-requires-in-Some
-glimpse_at-requires-in-Some c =
+pub glimpse_at-other-requires : goal.glimpse_at-other-requires
+glimpse_at-other-requires c =
     let noted : get key_cmp c.args.best.now c.key-key.result ≡ Some c.in-Some.noted = sym c.get.ensures.value ∙ sym c.copied.ensures ∙ c.in-Some.is in
     let lt = noted_within (rows_of c.args.variable c.args.slot.now) c.args.place (get key_cmp c.args.best.now) c.key-key.result c.in-Some.noted c.requires.best noted in
     let e = length_rows c.args.variable c.args.slot.now in
