@@ -1,6 +1,5 @@
 -- Glimpses and the runs that they are of.
-use Rattle.std.proofs.Common.{◌≡◌, ◌≢◌, ℕ, zero, suc, ◌+◌, ◌<◌, ◌≤◌, ◌⊎◌, ◌==◌, ◌&&◌, ◌||◌, Bool, true, false, cond, is_some, is_none, List, [], ◌∷◌, ◌++◌, length, slice_get, get_or, Option, Some, None, refl, sym, ap, ◌∙◌, subst, inl, inr, arith}
-use Rattle.std.specs.List.{Contains}
+use Rattle.std.proofs.Common.{◌≡◌, ℕ, ◌+◌, ◌<◌, ◌≤◌, ◌⊎◌, ◌==◌, ◌&&◌, ◌||◌, Bool, true, false, cond, is_some, is_none, List, [], ◌∷◌, ◌++◌, length, slice_get, get_or, Option, Some, None, refl, sym, ap, ◌∙◌, subst, inl, inr, arith}
 use Rattle.std.specs.List.Sorted.{IsNonDecreasingBy, IsPermutation}
 use Rattle.std.proofs.lemmas.Bool.{cases_lt}
 use Rattle.std.proofs.lemmas.Bool.Decides.{nat_tests}
@@ -11,7 +10,7 @@ use Rattle.vbits.specs.Vectors.{Vector}
 use Rattle.sched_core.specs.Rules.{IsRun, stands}
 use Rattle.statebook.specs.Covered.{IsCovered}
 use Rattle.statebook.specs.declared.limits.Limits.{Limits}
-use Rattle.explore.specs.Found.{AreFound, IsFound, IsListedMark}
+use Rattle.explore.specs.Found.{AreFound, IsListedMark}
 use Rattle.vmodel.specs.declared.history.Cause.{Cause}
 use Rattle.vmodel.specs.State.{State}
 use Rattle.vmodel.specs.Run.{Setting, rules_of, state_after, is_mark}
@@ -21,8 +20,8 @@ use Rattle.vmachine.specs.Machines.{Stands, machine_rules}
 use Rattle.vmachine.specs.Reads.{slot_in}
 use Rattle.racebook.specs.declared.glimpse.Glimpse.{Glimpse}
 use Rattle.racebook.specs.Order.{AreInTextOrder, IsTextBefore}
-use Rattle.racebook.specs.Races.{Race, EachRace, HasFewest, IsRace, IsShown, IsSighting, ListsEveryValue, ListsValue, SomeRunShows, TwoRunsDiffer}
-use Rattle.racebook.specs.Inner.{AreAll, AreGlimpses, AreGlimpsesBelow, AreInTime, AreWide, Disagree, HasGlimpse, IsGlimpse, IsNoSlot, IsOfSome, IsRaceAmong, IsSeen}
+use Rattle.racebook.specs.Races.{Race, EachRace, HasFewest, IsRace, IsShown, IsSighting, ListsEveryValue}
+use Rattle.racebook.specs.Inner.{AreAll, AreGlimpses, AreGlimpsesBelow, AreInTime, AreWide, Disagree, IsGlimpse, IsNoSlot, IsOfSome, IsSeen}
 
 -- ---- what stands at the end of a slot
 

@@ -1,9 +1,9 @@
 -- Keys: their bounds, and that no two values have the same.
-use Rattle.std.proofs.Common.{◌≡◌, ℕ, zero, suc, ◌+◌, ◌*◌, ◌^◌, ◌<◌, ◌≤◌, ◌⊎◌, cond, Bool, true, false, List, [], ◌∷◌, length, drop, slice_get, Some, refl, sym, ap, ◌∙◌, arith, length-drop}
+use Rattle.std.proofs.Common.{◌≡◌, ℕ, zero, suc, ◌+◌, ◌*◌, ◌^◌, ◌<◌, ◌≤◌, cond, Bool, true, false, List, [], ◌∷◌, length, drop, slice_get, Some, refl, sym, ap, ◌∙◌, arith, length-drop}
 use Rattle.vbits.specs.declared.bit4.Bit4.{Bit4}
 use Rattle.vbits.specs.declared.bit4.Bit4.TheVariants.{Zero, One, X, Z}
 use Rattle.vbits.specs.Vectors.{Vector}
-use Rattle.racebook.specs.Order.{digit_of, text_number, shape_of}
+use Rattle.racebook.specs.Order.{digit_of, text_number}
 use Rattle.racebook.specs.Inner.{key_of}
 
 pub digit_small : (letter : Bit4) → digit_of letter ≤ 3

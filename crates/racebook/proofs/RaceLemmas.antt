@@ -8,8 +8,8 @@ use Rattle.vbits.specs.declared.bit4.Bit4.TheVariants.{X}
 use Rattle.vbits.specs.Vectors.{Vector, filled}
 use Rattle.racebook.specs.declared.glimpse.Glimpse.{Glimpse}
 use Rattle.racebook.specs.Order.{IsEarlier}
-use Rattle.racebook.specs.Races.{Race, EachRace, AreInOrder}
-use Rattle.racebook.specs.Inner.{AllSame, AreBest, AreUpTo, AreWide, Disagree, HasTwo, HasValue, HaveValue, IsRaceAmong, IsSeen, IsSlotOf, ListsRace, TellsRace, row_of, rows_of, value_in}
+use Rattle.racebook.specs.Races.{Race}
+use Rattle.racebook.specs.Inner.{AllSame, AreBest, AreUpTo, AreWide, Disagree, HasTwo, HasValue, HaveValue, IsRaceAmong, IsSeen, IsSlotOf, TellsRace, row_of, rows_of, value_in}
 use Rattle.racebook.proofs.ListLemmas.{contains_at, at_contains}
 
 -- ---- rows

@@ -1,13 +1,12 @@
 -- Slots one after the other.
-use Rattle.std.proofs.Common.{◌≡◌, ◌≢◌, ℕ, zero, suc, ◌+◌, ◌-◌, ◌<◌, ◌≤◌, ◌⊎◌, List, [], ◌∷◌, length, take, drop, slice_get, get_or, Some, refl, sym, ap, ◌∙◌, subst, inl, inr, arith}
-use Rattle.std.specs.List.{Contains}
+use Rattle.std.proofs.Common.{◌≡◌, ◌≢◌, ℕ, zero, suc, ◌+◌, ◌-◌, ◌<◌, ◌≤◌, ◌⊎◌, List, [], ◌∷◌, length, take, drop, slice_get, get_or, Some, refl, sym, ap, ◌∙◌, inl, inr, arith}
 use Rattle.std.proofs.lemmas.Bool.{cases_lt}
 use Rattle.std.proofs.lemmas.Option.{slice_get_within, slice_get-get_or, same_Some}
 use Rattle.racebook.specs.declared.glimpse.Glimpse.{Glimpse}
 use Rattle.vbits.specs.Vectors.{Vector}
 use Rattle.racebook.specs.Order.{IsEarlier}
 use Rattle.racebook.specs.Races.{Race}
-use Rattle.racebook.specs.Inner.{AreAll, AreInTime, AreUpTo, AreWide, Disagree, IsSeen, IsSlotEndAt, IsSlotOf, ListsRace}
+use Rattle.racebook.specs.Inner.{AreAll, AreInTime, AreUpTo, AreWide, IsSeen, IsSlotEndAt, IsSlotOf}
 use Rattle.racebook.proofs.ListLemmas.{contains_at, at_contains}
 
 -- the glimpses before the place are of earlier times

@@ -1,9 +1,11 @@
 -- Words for the contracts of calls within: glimpses of slot ends, gone through by time and variable.
-use Rattle.std.specs.Prelude.{◌≡◌, ◌≢◌, ℕ, ◌<◌, ◌≤◌, List, [], length, slice_get, map, Option, Some, None, unwrap_or}
+use Rattle.std.specs.Prelude.{◌≡◌, ◌≢◌, Bool, ℕ, ◌<◌, ◌≤◌, List, [], length, slice_get, map, Option, Some, None, unwrap_or}
 use Rattle.std.specs.List.{Contains}
 use Rattle.std.specs.declared.cmp.Ordering.{Ordering}
 use Rattle.std.specs.Ordering.{nat_cmp, ordering_then}
 use Rattle.std.specs.BTreeMap.{BTreeMap, get}
+use Rattle.std.specs.Bool.{MatchBool}
+use Rattle.explore.specs.declared.findings.Findings.{Findings}
 use Rattle.vbits.specs.Vectors.{Vector, filled}
 use Rattle.vbits.specs.declared.bit4.Bit4.TheVariants.{X}
 use Rattle.vmodel.specs.State.{State}
@@ -53,6 +55,14 @@ AreGlimpses setting marks glimpses = AreGlimpsesBelow setting marks (length mark
 abbrev pub AreWide : ℕ → List Glimpse → Type 0
 AreWide count glimpses = (glimpse : Glimpse) → Contains glimpses glimpse → length glimpse.values.now ≡ count
 
+-- what is seen of all marks of the findings
+abbrev pub AreGlimpsesOf : Setting → Findings Standing → List Glimpse → Type 0
+AreGlimpsesOf setting findings glimpses = AreGlimpses setting findings.marks.entries glimpses
+
+-- each has a value of each variable of the design
+abbrev pub HaveAllValues : Setting → List Glimpse → Type 0
+HaveAllValues setting glimpses = AreWide (length setting.design.variables) glimpses
+
 -- their times don't fall
 abbrev pub AreInTime : List Glimpse → Type 0
 AreInTime glimpses = (i j : ℕ) (g h : Glimpse) →
@@ -91,6 +101,10 @@ pub record HasTwo (rows : List (Vector × List (ℕ × ℕ))) : Type 0 where
 -- each has a value of the variable
 abbrev pub HaveValue : ℕ → List Glimpse → Type 0
 HaveValue variable slot = (glimpse : Glimpse) → Contains slot glimpse → variable < length glimpse.values.now
+
+-- whether two rows differ
+abbrev pub TellsTwo : List (Vector × List (ℕ × ℕ)) → Bool → Type 0
+TellsTwo rows answer = MatchBool answer (HasTwo rows) (AllSame rows)
 
 -- of the first rows those with the key have no fewer departures than the one at the place
 pub record IsBestAt (rows : List (Vector × List (ℕ × ℕ))) (count : ℕ) (key : ℕ × ℕ) (place : ℕ) : Type 0 where

@@ -93,6 +93,10 @@ abbrev pub AreInOrder : List Race → Type 0
 AreInOrder races = (i j : ℕ) (a b : Race) →
     i < j → slice_get races i ≡ Some a → slice_get races j ≡ Some b → IsEarlier a.time a.variable b.time b.variable
 
+-- the values of each race stand in the order of their texts
+abbrev pub AreValuesInOrder : List Race → Type 0
+AreValuesInOrder races = EachRace (λ race. AreInTextOrder race.values) races
+
 -- ---- the clauses, of findings whose marks were found under limits
 
 -- each race listed is one
@@ -108,6 +112,6 @@ abbrev pub ListsAllRaces : Setting → Findings Standing → List Race → Type 
 ListsAllRaces setting findings races = (limits : Limits) → IsWhole setting limits findings → ListsEveryValue setting limits.depart races
 
 -- and then each value's log has the fewest departures
-abbrev pub ListsFewestDepartures : Setting → Findings Standing → List Race → Type 0
-ListsFewestDepartures setting findings races = (limits : Limits) →
+abbrev pub GivesFewest : Setting → Findings Standing → List Race → Type 0
+GivesFewest setting findings races = (limits : Limits) →
     ListsFound (machine_rules setting) limits findings → IsWhole setting limits findings → EachRace (HasFewest setting) races

@@ -1,8 +1,7 @@
 // The races of all slots, by time.
 
 ghost use Rattle.std.specs.Prelude.{◌≡◌, ◌<◌, IfOk, length};
-ghost use Rattle.racebook.specs.Order.{AreInTextOrder};
-ghost use Rattle.racebook.specs.Races.{AreInOrder, EachRace, ListsAllRaces, ListsFewestDepartures, ListsRaces};
+ghost use Rattle.racebook.specs.Races.{AreInOrder, AreValuesInOrder, ListsAllRaces, GivesFewest, ListsRaces};
 ghost use Rattle.racebook.specs.Inner.{AreAll, AreInTime, AreWide, IsSlotEndAt};
 
 use crate::glimpse::{Glimpse, glimpses_in_time};
@@ -60,9 +59,9 @@ pub fn races(
 ) -> Result<Vec<Race>, NoMemory>
     ensures found { IfOk result (λ races. ListsRaces machine.now findings.now races.items) }
     ensures all { IfOk result (λ races. ListsAllRaces machine.now findings.now races.items) }
-    ensures fewest { IfOk result (λ races. ListsFewestDepartures machine.now findings.now races.items) }
+    ensures fewest { IfOk result (λ races. GivesFewest machine.now findings.now races.items) }
     ensures order { IfOk result (λ races. AreInOrder races.items) }
-    ensures values { IfOk result (λ races. EachRace (λ race. AreInTextOrder race.values) races.items) }
+    ensures values { IfOk result (λ races. AreValuesInOrder races.items) }
 {
     machine_law();
     run_law();

@@ -1,7 +1,7 @@
 // What is seen of a mark that is the end of a slot.
 
-ghost use Rattle.std.specs.Prelude.{◌≡◌, IfSome, IfNone, IfOk, length};
-ghost use Rattle.racebook.specs.Inner.{AreGlimpses, AreInTime, AreWide, IsGlimpse, IsNoSlot};
+ghost use Rattle.std.specs.Prelude.{IfSome, IfNone, IfOk};
+ghost use Rattle.racebook.specs.Inner.{AreGlimpsesOf, AreInTime, HaveAllValues, IsGlimpse, IsNoSlot};
 
 use basis::NoMemory;
 use explore::Findings;
@@ -37,7 +37,7 @@ fn all_glimpses<'f>(
     machine: &Machine,
     findings: &'f Findings<Standing>,
 ) -> Result<Vec<Glimpse<'f>>, NoMemory>
-    ensures { IfOk result (λ glimpses. AreGlimpses machine.now findings.now.marks.entries glimpses.items) }
+    ensures { IfOk result (λ glimpses. AreGlimpsesOf machine.now findings.now glimpses.items) }
 {
     let mut glimpses = Vec::new(alloc);
     for place in 0..findings.marks.len() {
@@ -56,8 +56,8 @@ pub fn glimpses_in_time<'f>(
     machine: &Machine,
     findings: &'f Findings<Standing>,
 ) -> Result<Vec<Glimpse<'f>>, NoMemory>
-    ensures of { IfOk result (λ glimpses. AreGlimpses machine.now findings.now.marks.entries glimpses.items) }
-    ensures wide { IfOk result (λ glimpses. AreWide (length machine.now.design.variables) glimpses.items) }
+    ensures of { IfOk result (λ glimpses. AreGlimpsesOf machine.now findings.now glimpses.items) }
+    ensures wide { IfOk result (λ glimpses. HaveAllValues machine.now glimpses.items) }
     ensures order { IfOk result (λ glimpses. AreInTime glimpses.items) }
 {
     let mut glimpses = all_glimpses(alloc, machine, findings)?;

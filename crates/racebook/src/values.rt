@@ -1,7 +1,7 @@
 // The different values of one variable in one slot, each with the fewest departures that lead to it.
 
-ghost use Rattle.std.specs.Prelude.{◌≡◌, ◌+◌, ◌<◌, MatchBool, IfOk, OnOk, Some, length, slice_get};
-ghost use Rattle.racebook.specs.Inner.{AllSame, AreBest, HasTwo, HaveValue, IsBest, IsBestBelow, rows_of, value_in};
+ghost use Rattle.std.specs.Prelude.{◌≡◌, ◌+◌, ◌<◌, IfOk, OnOk, Some, length, slice_get};
+ghost use Rattle.racebook.specs.Inner.{AreBest, HaveValue, IsBest, IsBestBelow, TellsTwo, rows_of, value_in};
 
 use crate::glimpse::Glimpse;
 use crate::key::{Key, key};
@@ -38,7 +38,7 @@ fn departures(glimpse: &Glimpse) -> usize
 /// Whether two glimpses of the slot have different values of the variable.
 pub fn differ(slot: &[Glimpse], variable: usize) -> bool
     requires { HaveValue variable slot.now }
-    ensures { MatchBool result (HasTwo (rows_of variable slot.now)) (AllSame (rows_of variable slot.now)) }
+    ensures { TellsTwo (rows_of variable slot.now) result }
 {
     if slot.is_empty() {
         return false;

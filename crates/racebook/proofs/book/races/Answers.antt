@@ -1,8 +1,7 @@
-use Rattle.std.proofs.Common.{◌≡◌, List, sym, subst}
+use Rattle.std.proofs.Common.{List, sym, subst}
 use Rattle.std.proofs.lemmas.Result.{IfOk-weaker}
 use Rattle.racebook.specs.declared.glimpse.Glimpse.{Glimpse}
-use Rattle.racebook.specs.Races.{ListsRaces, ListsAllRaces, ListsFewestDepartures, EachRace}
-use Rattle.racebook.specs.Order.{AreInTextOrder}
+use Rattle.racebook.specs.Races.{ListsRaces, ListsAllRaces, GivesFewest, AreValuesInOrder}
 use Rattle.racebook.specs.Inner.{AreAll, AreGlimpses}
 use Rattle.racebook.proofs.FoundLemmas.{races_found, races_all, races_fewest, races_order}
 use Rattle.racebook.proofs.book.races.Goals as goal
@@ -35,11 +34,11 @@ returns-clause-fewest c =
     let gs = c.deref.result.now in
     let law = c.machine_law.ensures in
     let are : AreGlimpses setting marks gs = subst (λ (xs : List Glimpse). AreGlimpses setting marks xs) (sym c.deref.ensures.value) c.in_ok-glimpses.ensures.of in
-    IfOk-weaker c.races_among.result (λ races. AreAll gs races.items) (λ races. ListsFewestDepartures setting c.args.findings.now races.items)
+    IfOk-weaker c.races_among.result (λ races. AreAll gs races.items) (λ races. GivesFewest setting c.args.findings.now races.items)
     (λ races book. λ limits found whole. races_fewest setting limits marks gs races.items (law.same setting) (law.stands setting) (law.runs setting) (law.runs_back setting) (law.mark setting)
     (c.run_law.ensures.values setting) found (whole.1 whole.0) are book) c.races_among.ensures
 
 pub returns-clause-values : goal.returns-clause-values
 returns-clause-values c =
-    IfOk-weaker c.races_among.result (λ races. AreAll c.deref.result.now races.items) (λ races. EachRace (λ race. AreInTextOrder race.values) races.items)
+    IfOk-weaker c.races_among.result (λ races. AreAll c.deref.result.now races.items) (λ races. AreValuesInOrder races.items)
     (λ races book. races_order c.deref.result.now races.items book) c.races_among.ensures

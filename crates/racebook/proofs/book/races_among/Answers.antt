@@ -1,4 +1,4 @@
-use Rattle.std.proofs.Common.{◌≡◌, ℕ, ◌+◌, ◌-◌, ◌<◌, ◌≤◌, length, slice_get, get_or, Some, refl, take, drop, arith}
+use Rattle.std.proofs.Common.{◌≡◌, slice_get, get_or, Some, arith}
 use Rattle.std.proofs.lemmas.Option.{slice_get-get_or}
 use Rattle.racebook.specs.declared.glimpse.Glimpse.{Glimpse}
 use Rattle.racebook.proofs.SlotLemmas.{slot_of, gap_on, up_on, at_end}

@@ -1,4 +1,4 @@
-use Rattle.std.proofs.Common.{ℕ, ◌-◌, ◌<◌, ◌≤◌, length}
+use Rattle.std.proofs.Common.{ℕ, ◌-◌, ◌≤◌, length}
 use Rattle.racebook.specs.Inner.{AreUpTo}
 use Rattle.racebook.proofs.SlotLemmas.{ComeBefore, ComeFrom, HasGap}
 use Rattle.racebook.proofs.book.races_among.Given as goal

@@ -1,7 +1,5 @@
-use Rattle.std.proofs.Common.{◌≡◌, ap, sym, ◌∙◌, option_map, subst}
+use Rattle.std.proofs.Common.{ap, sym, ◌∙◌, option_map}
 use Rattle.std.specs.Map.Iter.{deref_pair}
-use Rattle.std.specs.Option.{IfSome}
-use Rattle.racebook.specs.Inner.{IsGlimpse}
 use Rattle.racebook.proofs.FoundLemmas.{glimpses_more, glimpses_skip, glimpses_none}
 use Rattle.racebook.proofs.glimpse.all_glimpses.Goals as goal
 use Rattle.racebook.proofs.glimpse.all_glimpses.Goals.{in-Some+in-Some-glimpse_of+in_ok-push, in-Some+in_default-glimpse_of, in_default}

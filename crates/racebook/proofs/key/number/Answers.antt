@@ -1,5 +1,4 @@
-use Rattle.std.proofs.Common.{◌≡◌, ℕ, suc, ◌+◌, ◌-◌, ◌*◌, ◌<◌, ◌≤◌, length, drop, arith}
-use Rattle.racebook.specs.Order.{text_number}
+use Rattle.std.proofs.Common.{◌≡◌, suc, ◌-◌, arith}
 use Rattle.racebook.proofs.KeyLemmas.{number_step, rest_small}
 use Rattle.racebook.proofs.key.number.Goals as goal
 

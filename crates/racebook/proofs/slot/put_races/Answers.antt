@@ -1,4 +1,4 @@
-use Rattle.std.proofs.Common.{◌≡◌, ap, ◌∙◌}
+use Rattle.std.proofs.Common.{ap, ◌∙◌}
 use Rattle.racebook.proofs.RaceLemmas.{slot_more, slot_same, have_value}
 use Rattle.racebook.proofs.slot.put_races.Goals as goal
 use Rattle.racebook.proofs.slot.put_races.Goals.{in-Some+in_ok-push, in_default}

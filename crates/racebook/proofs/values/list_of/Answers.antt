@@ -1,7 +1,6 @@
-use Rattle.std.proofs.Common.{◌≡◌, ℕ, suc, ◌<◌, List, [], ◌∷◌, length, map, slice_get, Some, refl, sym, ◌∙◌, ap, subst, arith}
+use Rattle.std.proofs.Common.{◌≡◌, ℕ, suc, ◌∷◌, map, slice_get, refl, sym, ◌∙◌, ap, arith}
 use Rattle.std.proofs.lemmas.Option.{slice_get_within}
-use Rattle.vbits.specs.Vectors.{Vector}
-use Rattle.racebook.specs.Inner.{IsBestAt, rows_of, row_of, sighted}
+use Rattle.racebook.specs.Inner.{rows_of, row_of, sighted}
 use Rattle.racebook.proofs.ListLemmas.{contains_at}
 use Rattle.racebook.proofs.RaceLemmas.{row_at, length_rows}
 use Rattle.racebook.proofs.BestLemmas.{best_entry, first_of, list_best, list_done, list_start, list_step, next_of, sighted_is}
