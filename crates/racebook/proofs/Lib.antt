@@ -1,0 +1,6 @@
+pub mod ListLemmas
+pub mod KeyLemmas
+pub mod BestLemmas
+pub mod RaceLemmas
+pub mod SlotLemmas
+pub mod FoundLemmas

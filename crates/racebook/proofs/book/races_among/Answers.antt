@@ -1,0 +1,27 @@
+use Rattle.std.proofs.Common.{◌≡◌, slice_get, get_or, Some, arith}
+use Rattle.std.proofs.lemmas.Option.{slice_get-get_or}
+use Rattle.racebook.specs.declared.glimpse.Glimpse.{Glimpse}
+use Rattle.racebook.proofs.SlotLemmas.{slot_of, gap_on, up_on, at_end}
+use Rattle.racebook.proofs.book.races_among.Goals as goal
+
+pub slots-preserved : goal.slots-preserved
+slots-preserved c =
+    let gs = c.args.glimpses.now in
+    let start = c.slots.start in
+    let end = c.slot_end-end.result in
+    let first : Glimpse = get_or gs start c.index-glimpses-start.result in
+    let at : slice_get gs start ≡ Some first = slice_get-get_or gs start c.index-glimpses-start.result c.slots-test.true in
+    let is = c.slot_end-end.ensures in
+    let gap = c.slots.invariant.gap in
+    let order = c.requires.order in
+    let of = slot_of gs start end first is order gap at in
+    let old = c.slots.invariant.up_to first.time (λ i g lt here. gap i start g first lt (omega arith) here at) (λ i g le here. order start i first g le at here) in
+    let up = c.in_ok-put_races.ensures gs of c.requires.wide old in
+    record {
+      within = is.within;
+      up_to = up_on gs start end c.args.count first c.put_races.new.races.items is gap c.requires.wide at up;
+      gap = gap_on gs start end first is order gap at;
+    }
+
+pub returns : goal.returns
+returns c = at_end c.args.glimpses.now c.slots.start c.slots.races.items (omega (arith, c.slots-test.false)) c.slots.invariant.up_to

@@ -1,0 +1,14 @@
+use Rattle.std.proofs.Common.{ℕ, ◌-◌, ◌≤◌, length}
+use Rattle.racebook.specs.Inner.{AreUpTo}
+use Rattle.racebook.proofs.SlotLemmas.{ComeBefore, ComeFrom, HasGap}
+use Rattle.racebook.proofs.book.races_among.Given as goal
+
+abbrev pub invariant-slots : goal.invariant-slots
+invariant-slots l = record {
+  within : l.start ≤ length l.glimpses;
+  up_to : (time : ℕ) → ComeBefore l.glimpses l.start time → ComeFrom l.glimpses l.start time → AreUpTo l.glimpses l.races.items time 0;
+  gap : HasGap l.glimpses l.start;
+}
+
+abbrev pub decreases-slots : goal.decreases-slots
+decreases-slots l = length l.glimpses - l.start

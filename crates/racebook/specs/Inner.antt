@@ -1,0 +1,205 @@
+-- Words for the contracts of calls within: glimpses of slot ends, gone through by time and variable.
+use Rattle.std.specs.Prelude.{◌≡◌, ◌≢◌, Bool, ℕ, ◌<◌, ◌≤◌, List, [], length, slice_get, map, Option, Some, None, unwrap_or}
+use Rattle.std.specs.List.{Contains}
+use Rattle.std.specs.declared.cmp.Ordering.{Ordering}
+use Rattle.std.specs.Ordering.{nat_cmp, ordering_then}
+use Rattle.std.specs.BTreeMap.{BTreeMap, get}
+use Rattle.std.specs.Bool.{MatchBool}
+use Rattle.explore.specs.declared.findings.Findings.{Findings}
+use Rattle.vbits.specs.Vectors.{Vector, filled}
+use Rattle.vbits.specs.declared.bit4.Bit4.TheVariants.{X}
+use Rattle.vmodel.specs.State.{State}
+use Rattle.vmodel.specs.Run.{Setting}
+use Rattle.vmachine.specs.declared.standing.Standing.{Standing}
+use Rattle.vmachine.specs.Machines.{Stands}
+use Rattle.vmachine.specs.Reads.{slot_in}
+use Rattle.racebook.specs.declared.glimpse.Glimpse.{Glimpse}
+use Rattle.racebook.specs.Order.{IsEarlier, shape_of, text_number, AreInTextOrder}
+use Rattle.racebook.specs.Races.{Race, EachRace, AreInOrder}
+
+-- ---- what is seen of a mark
+
+-- the glimpse is of this mark, which is the end of a slot
+pub record IsGlimpse (setting : Setting) (found : Standing × List (ℕ × ℕ)) (glimpse : Glimpse) : Type 0 where
+  pub log_is : glimpse.log.now ≡ found.1
+  pub slot : (t : State) → Stands setting found.0 t → slot_in t ≡ Some glimpse.time
+  pub values_are : (t : State) → Stands setting found.0 t → glimpse.values.now ≡ t.values
+  pub wide : length glimpse.values.now ≡ length setting.design.variables
+
+-- the mark is the end of no slot
+abbrev pub IsNoSlot : Setting → Standing → Type 0
+IsNoSlot setting s = (t : State) → Stands setting s t → length t.values ≡ length setting.design.variables → slot_in t ≡ None
+
+pub record HasGlimpse (setting : Setting) (found : Standing × List (ℕ × ℕ)) (glimpses : List Glimpse) : Type 0 where
+  pub glimpse : Glimpse
+  pub among : Contains glimpses glimpse
+  pub of : IsGlimpse setting found glimpse
+
+pub record IsOfSome (setting : Setting) (marks : List (Standing × List (ℕ × ℕ))) (glimpse : Glimpse) : Type 0 where
+  pub place : ℕ
+  pub found : Standing × List (ℕ × ℕ)
+  pub at : slice_get marks place ≡ Some found
+  pub of : IsGlimpse setting found glimpse
+
+-- each glimpse is of a mark, and each of the first marks that is the end of a slot has its glimpse
+pub record AreGlimpsesBelow (setting : Setting) (marks : List (Standing × List (ℕ × ℕ))) (count : ℕ) (glimpses : List Glimpse) : Type 0 where
+  pub each : (glimpse : Glimpse) → Contains glimpses glimpse → IsOfSome setting marks glimpse
+  pub whole : (place : ℕ) (found : Standing × List (ℕ × ℕ)) (t : State) (time : ℕ) → place < count →
+      slice_get marks place ≡ Some found → Stands setting found.0 t →
+      length t.values ≡ length setting.design.variables → slot_in t ≡ Some time → HasGlimpse setting found glimpses
+
+abbrev pub AreGlimpses : Setting → List (Standing × List (ℕ × ℕ)) → List Glimpse → Type 0
+AreGlimpses setting marks glimpses = AreGlimpsesBelow setting marks (length marks) glimpses
+
+-- each has so many values
+abbrev pub AreWide : ℕ → List Glimpse → Type 0
+AreWide count glimpses = (glimpse : Glimpse) → Contains glimpses glimpse → length glimpse.values.now ≡ count
+
+-- what is seen of all marks of the findings
+abbrev pub AreGlimpsesOf : Setting → Findings Standing → List Glimpse → Type 0
+AreGlimpsesOf setting findings glimpses = AreGlimpses setting findings.marks.entries glimpses
+
+-- each has a value of each variable of the design
+abbrev pub HaveAllValues : Setting → List Glimpse → Type 0
+HaveAllValues setting glimpses = AreWide (length setting.design.variables) glimpses
+
+-- their times don't fall
+abbrev pub AreInTime : List Glimpse → Type 0
+AreInTime glimpses = (i j : ℕ) (g h : Glimpse) →
+    i ≤ j → slice_get glimpses i ≡ Some g → slice_get glimpses j ≡ Some h → g.time ≤ h.time
+
+-- ---- the values of one variable in one slot
+
+-- the value of the variable; x, one bit wide, where there is none
+abbrev pub value_in : ℕ → Glimpse → Vector
+value_in variable glimpse = unwrap_or (slice_get glimpse.values.now variable) (filled 1 X)
+
+-- the value and the log
+abbrev pub row_of : ℕ → Glimpse → Vector × List (ℕ × ℕ)
+row_of variable glimpse = (value_in variable glimpse, glimpse.log.now)
+
+abbrev pub rows_of : ℕ → List Glimpse → List (Vector × List (ℕ × ℕ))
+rows_of variable slot = map (row_of variable) slot
+
+-- what texts are compared by
+abbrev pub key_of : Vector → ℕ × ℕ
+key_of value = (shape_of value, text_number value.letters)
+
+abbrev pub key_cmp : ℕ × ℕ → ℕ × ℕ → Ordering
+key_cmp a b = ordering_then (nat_cmp a.0 b.0) (nat_cmp a.1 b.1)
+
+abbrev pub AllSame : List (Vector × List (ℕ × ℕ)) → Type 0
+AllSame rows = (r s : Vector × List (ℕ × ℕ)) → Contains rows r → Contains rows s → r.0 ≡ s.0
+
+pub record HasTwo (rows : List (Vector × List (ℕ × ℕ))) : Type 0 where
+  pub one : Vector × List (ℕ × ℕ)
+  pub other : Vector × List (ℕ × ℕ)
+  pub has_one : Contains rows one
+  pub has_other : Contains rows other
+  pub differ : one.0 ≢ other.0
+
+-- each has a value of the variable
+abbrev pub HaveValue : ℕ → List Glimpse → Type 0
+HaveValue variable slot = (glimpse : Glimpse) → Contains slot glimpse → variable < length glimpse.values.now
+
+-- whether two rows differ
+abbrev pub TellsTwo : List (Vector × List (ℕ × ℕ)) → Bool → Type 0
+TellsTwo rows answer = MatchBool answer (HasTwo rows) (AllSame rows)
+
+-- of the first rows those with the key have no fewer departures than the one at the place
+pub record IsBestAt (rows : List (Vector × List (ℕ × ℕ))) (count : ℕ) (key : ℕ × ℕ) (place : ℕ) : Type 0 where
+  pub row : Vector × List (ℕ × ℕ)
+  pub at : slice_get rows place ≡ Some row
+  pub key_is : key_of row.0 ≡ key
+  pub fewest : (j : ℕ) (r : Vector × List (ℕ × ℕ)) → j < count → slice_get rows j ≡ Some r → key_of r.0 ≡ key → length row.1 ≤ length r.1
+
+abbrev pub HasBestAt : List (Vector × List (ℕ × ℕ)) → ℕ → ℕ × ℕ → Option ℕ → Type 0
+HasBestAt rows count key None = (j : ℕ) (r : Vector × List (ℕ × ℕ)) → j < count → slice_get rows j ≡ Some r → key_of r.0 ≢ key
+HasBestAt rows count key (Some place) = IsBestAt rows count key place
+
+abbrev pub IsBestBelow : List (Vector × List (ℕ × ℕ)) → ℕ → BTreeMap (ℕ × ℕ) ℕ → Type 0
+IsBestBelow rows count best = (key : ℕ × ℕ) → HasBestAt rows count key (get key_cmp best key)
+
+abbrev pub IsBest : List (Vector × List (ℕ × ℕ)) → BTreeMap (ℕ × ℕ) ℕ → Type 0
+IsBest rows best = IsBestBelow rows (length rows) best
+
+-- the row that an entry names
+abbrev pub sighted : List (Vector × List (ℕ × ℕ)) → (ℕ × ℕ) × ℕ → Vector × List (ℕ × ℕ)
+sighted rows entry = unwrap_or (slice_get rows entry.1) (filled 1 X, [])
+
+-- the value stands among these
+abbrev pub HasValue : List (Vector × List (ℕ × ℕ)) → Vector → Type 0
+HasValue values value = (i : ℕ) × (s : Vector × List (ℕ × ℕ)) × (slice_get values i ≡ Some s) × (s.0 ≡ value)
+
+-- each value of the rows once, with the log of the fewest departures, in the order of texts
+pub record AreBest (rows : List (Vector × List (ℕ × ℕ))) (values : List (Vector × List (ℕ × ℕ))) : Type 0 where
+  pub seen : (i : ℕ) (s : Vector × List (ℕ × ℕ)) → slice_get values i ≡ Some s → Contains rows s
+  pub fewest : (i : ℕ) (s r : Vector × List (ℕ × ℕ)) → slice_get values i ≡ Some s → Contains rows r → r.0 ≡ s.0 → length s.1 ≤ length r.1
+  pub all : (r : Vector × List (ℕ × ℕ)) → Contains rows r → HasValue values r.0
+  pub order : AreInTextOrder values
+
+-- the race of these rows, if there is one
+abbrev pub TellsRace : List (Vector × List (ℕ × ℕ)) → ℕ → ℕ → Option Race → Type 0
+TellsRace rows time variable None = AllSame rows
+TellsRace rows time variable (Some race) = (race.time ≡ time) × (race.variable ≡ variable) × HasTwo rows × AreBest rows race.values
+
+-- ---- races among glimpses
+
+-- a glimpse of this time has the value, under the log
+pub record IsSeen (glimpses : List Glimpse) (time variable : ℕ) (value : Vector) (log : List (ℕ × ℕ)) : Type 0 where
+  pub glimpse : Glimpse
+  pub among : Contains glimpses glimpse
+  pub time_is : glimpse.time ≡ time
+  pub value_is : slice_get glimpse.values.now variable ≡ Some value
+  pub log_is : glimpse.log.now ≡ log
+
+pub record Disagree (glimpses : List Glimpse) (time variable : ℕ) : Type 0 where
+  pub one : Vector
+  pub other : Vector
+  pub log : List (ℕ × ℕ)
+  pub other_log : List (ℕ × ℕ)
+  pub sees_one : IsSeen glimpses time variable one log
+  pub sees_other : IsSeen glimpses time variable other other_log
+  pub differ : one ≢ other
+
+pub record IsRaceAmong (glimpses : List Glimpse) (race : Race) : Type 0 where
+  pub two : 2 ≤ length race.values
+  pub seen : (i : ℕ) (s : Vector × List (ℕ × ℕ)) → slice_get race.values i ≡ Some s → IsSeen glimpses race.time race.variable s.0 s.1
+  pub fewest : (i : ℕ) (s : Vector × List (ℕ × ℕ)) (log : List (ℕ × ℕ)) → slice_get race.values i ≡ Some s →
+      IsSeen glimpses race.time race.variable s.0 log → length s.1 ≤ length log
+  pub all : (value : Vector) (log : List (ℕ × ℕ)) → IsSeen glimpses race.time race.variable value log → HasValue race.values value
+  pub order : AreInTextOrder race.values
+
+abbrev pub ListsRace : List Race → ℕ → ℕ → Type 0
+ListsRace races time variable = (i : ℕ) × (race : Race) × (slice_get races i ≡ Some race) × (race.time ≡ time) × (race.variable ≡ variable)
+
+-- the races are those before this time and variable
+pub record AreUpTo (glimpses : List Glimpse) (races : List Race) (time variable : ℕ) : Type 0 where
+  pub each : EachRace (IsRaceAmong glimpses) races
+  pub before : EachRace (λ race. IsEarlier race.time race.variable time variable) races
+  pub all : (t v : ℕ) → IsEarlier t v time variable → Disagree glimpses t v → ListsRace races t v
+  pub order : AreInOrder races
+
+-- and those are all
+pub record AreAll (glimpses : List Glimpse) (races : List Race) : Type 0 where
+  pub each : EachRace (IsRaceAmong glimpses) races
+  pub all : (t v : ℕ) → Disagree glimpses t v → ListsRace races t v
+  pub order : AreInOrder races
+
+-- the slot is of all the glimpses of this time
+pub record IsSlotOf (glimpses slot : List Glimpse) (time : ℕ) : Type 0 where
+  pub within : (g : Glimpse) → Contains slot g → Contains glimpses g
+  pub time_is : (g : Glimpse) → Contains slot g → g.time ≡ time
+  pub whole : (g : Glimpse) → Contains glimpses g → g.time ≡ time → Contains slot g
+
+-- from the races before this slot to those of it too
+abbrev pub GoesThrough : ℕ → ℕ → List Glimpse → List Race → List Race → Type 0
+GoesThrough time count slot old new = (glimpses : List Glimpse) → IsSlotOf glimpses slot time → AreWide count glimpses →
+    AreUpTo glimpses old time 0 → AreUpTo glimpses new time count
+
+-- where the slot that begins at start ends
+pub record IsSlotEndAt (glimpses : List Glimpse) (start end : ℕ) : Type 0 where
+  pub more : start < end
+  pub within : end ≤ length glimpses
+  pub same : (k : ℕ) (g h : Glimpse) → start ≤ k → k < end → slice_get glimpses start ≡ Some g → slice_get glimpses k ≡ Some h → h.time ≡ g.time
+  pub next : (g h : Glimpse) → slice_get glimpses start ≡ Some g → slice_get glimpses end ≡ Some h → h.time ≢ g.time

@@ -1,0 +1,3 @@
+pub mod Races
+pub mod Order
+pub mod Inner

@@ -1,0 +1,39 @@
+// A race: a time and a variable that has two values there, each under a log.
+
+use sched_core::Log;
+use std::marker::Model;
+use vbits::Vec4;
+
+/// A value that a variable has at the end of a slot, and the log of a run that shows it. A clause sees the pair of the
+/// value and the members of the log.
+#[derive(Drop)]
+pub struct Sighting {
+    pub value: Vec4,
+    pub log: Log,
+}
+
+impl Model for Sighting {
+    ghost use Rattle.std.specs.Prelude.{ℕ, List};
+    ghost use Rattle.vbits.specs.Vectors.{Vector};
+
+    ghost Value = { Vector × List (ℕ × ℕ) };
+
+    ghost view = { λ sighting. (sighting.value, sighting.log) };
+}
+
+/// A race: two or more values of one variable at the end of the slot of one time. The variable goes by its number in the
+/// design. A clause sees it as the record `Race` of specs/Races.antt.
+#[derive(Drop)]
+pub struct Race {
+    pub time: u64,
+    pub variable: usize,
+    pub values: Vec<Sighting>,
+}
+
+impl Model for Race {
+    ghost use Rattle.racebook.specs.Races as races;
+
+    ghost Value = { races.Race };
+
+    ghost view = { λ race. record { time = race.time; variable = race.variable; values = race.values.items } };
+}

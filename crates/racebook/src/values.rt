@@ -1,0 +1,129 @@
+// The different values of one variable in one slot, each with the fewest departures that lead to it.
+
+ghost use Rattle.std.specs.Prelude.{◌≡◌, ◌+◌, ◌<◌, IfOk, OnOk, Some, length, slice_get};
+ghost use Rattle.racebook.specs.Inner.{AreBest, HaveValue, IsBest, IsBestBelow, TellsTwo, rows_of, value_in};
+
+use crate::glimpse::Glimpse;
+use crate::key::{Key, key};
+use crate::race::Sighting;
+use basis::NoMemory;
+use std::alloc::Global;
+use std::collections::BTreeMap;
+use vbits::Vec4;
+
+// The variable's value in the glimpse.
+fn value_at(glimpse: &Glimpse, variable: usize) -> Vec4
+    requires { variable < length glimpse.now.values.now }
+    ensures { result ≡ value_in variable glimpse.now }
+{
+    let values = glimpse.values;
+    values[variable]
+}
+
+// The glimpse at a place of the slot.
+fn glimpse_at<'s, 'f>(slot: &'s [Glimpse<'f>], place: usize) -> &'s Glimpse<'f>
+    requires { place < length slot.now }
+    ensures { slice_get slot.now place ≡ Some result.now }
+{
+    &slot[place]
+}
+
+// How many departures lead to the glimpse.
+fn departures(glimpse: &Glimpse) -> usize
+    ensures { result ≡ length glimpse.now.log.now }
+{
+    glimpse.log.members().len()
+}
+
+/// Whether two glimpses of the slot have different values of the variable.
+pub fn differ(slot: &[Glimpse], variable: usize) -> bool
+    requires { HaveValue variable slot.now }
+    ensures { TellsTwo (rows_of variable slot.now) result }
+{
+    if slot.is_empty() {
+        return false;
+    }
+    let first = value_at(&slot[0], variable);
+    for glimpse in slot {
+        if value_at(glimpse, variable) != first {
+            return true;
+        }
+    }
+    false
+}
+
+// Notes the place by its value, unless one of no more departures is noted for it.
+fn note(
+    best: &mut BTreeMap<Key, usize>,
+    slot: &[Glimpse],
+    variable: usize,
+    place: usize,
+) -> Result<(), NoMemory>
+    requires have { HaveValue variable slot.now }
+    requires within { place < length slot.now }
+    requires best { IsBestBelow (rows_of variable slot.now) place best.old }
+    ensures { OnOk result (IsBestBelow (rows_of variable slot.now) (place + 1) best.new) }
+{
+    let glimpse = glimpse_at(slot, place);
+    let key = key(value_at(glimpse, variable));
+    if let Some(noted) = best.get(&key).copied() {
+        let other = glimpse_at(slot, noted);
+        if departures(other) <= departures(glimpse) {
+            return Ok(());
+        }
+    }
+    best.insert(key, place)?;
+    Ok(())
+}
+
+// For each value that the variable has, the first place of the fewest departures.
+fn best_of(
+    alloc: Global,
+    slot: &[Glimpse],
+    variable: usize,
+) -> Result<BTreeMap<Key, usize>, NoMemory>
+    requires { HaveValue variable slot.now }
+    ensures { IfOk result (IsBest (rows_of variable slot.now)) }
+{
+    let mut best = BTreeMap::new(alloc);
+    for place in 0..slot.len() {
+        note(&mut best, slot, variable, place)?;
+    }
+    Ok(best)
+}
+
+// The rows that the entries name, in the order of their keys.
+fn list_of(
+    alloc: Global,
+    slot: &[Glimpse],
+    variable: usize,
+    best: &BTreeMap<Key, usize>,
+) -> Result<Vec<Sighting>, NoMemory>
+    requires have { HaveValue variable slot.now }
+    requires best { IsBest (rows_of variable slot.now) best.now }
+    ensures { IfOk result (λ values. AreBest (rows_of variable slot.now) values.items) }
+{
+    let mut values = Vec::new(alloc);
+    for (_key, place) in best.iter() {
+        let glimpse = glimpse_at(slot, *place);
+        values.push(Sighting {
+            value: value_at(glimpse, variable),
+            log: glimpse.log.copy()?,
+        })?;
+    }
+    Ok(values)
+}
+
+/// The different values of the variable in the slot, each with the log of the fewest departures, in the order of their
+/// texts.
+pub fn values_of(
+    alloc: Global,
+    slot: &[Glimpse],
+    variable: usize,
+) -> Result<Vec<Sighting>, NoMemory>
+    requires { HaveValue variable slot.now }
+    ensures { IfOk result (λ values. AreBest (rows_of variable slot.now) values.items) }
+{
+    let best = best_of(alloc, slot, variable)?;
+    list_of(alloc, slot, variable, &best)
+}
