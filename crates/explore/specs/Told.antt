@@ -72,7 +72,7 @@ WentThrough status = (status ≡ Exhausted) ⊎ (status ≡ Cut Steps)
 -- added that an earlier one dominates. [marks] Its marks are those listed. [bounded] It hasn't outgrown the limit.
 -- The first reason that holds is told: [full] by the limit of entries it was cut only with as many entries, and
 -- [fewer] with so many it is always cut, for want of memory if not by that limit. [steps] Where it was cut by the
--- limit of steps, every way was gone that is within it.
+-- limit of steps, each choice of each entry leads on, under that entry's own count of steps.
 pub record IsReadFrom {S : Type 0} (r : Rules S) (limits : Limits) (b : Book S) (findings : Findings S) : Type 0 where
   pub reached : IsReached r limits.depart limits.steps b
   pub root : IsRootAt b.entries 0

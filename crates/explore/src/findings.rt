@@ -31,7 +31,7 @@ pub enum Status {
 /// It is proved of each that it is reached under its log and, where the status is `Exhausted`, that
 /// no run reaches it with fewer departures and that no mark of a run within the limit of departures
 /// is missing. Whatever the status, they are all the marks of one book that the explorer's events
-/// lead to, and after `Cut(Steps)` of one from which every way was gone that is within the limit.
+/// lead to; after `Cut(Steps)` each choice of each entry leads to an entry, or past the limit of steps.
 #[derive(Drop)]
 pub struct Findings<S: Eq + Hash> {
     pub marks: IndexMap<S, Log>,

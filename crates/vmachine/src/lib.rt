@@ -1,5 +1,5 @@
 // The runs of a design as a space of states. In go a design, a time limit and a grain; out come states with numbered
-// choices for an explorer, and for a log the items of its run, handed to who watches, slot by slot.
+// choices for an explorer, and for a log the items of its run, handed in order to who watches.
 // The law: what is told of a machine's states is what the rules of its setting say (`machine_law`); nothing above this
 // crate rests on how a state is kept.
 #![tactic(auto)]
