@@ -20,7 +20,7 @@ use Rattle.vmachine.specs.Machines.{Stands, machine_rules}
 use Rattle.vmachine.specs.Reads.{slot_in}
 use Rattle.racebook.specs.declared.glimpse.Glimpse.{Glimpse}
 use Rattle.racebook.specs.Order.{AreInTextOrder, IsTextBefore}
-use Rattle.racebook.specs.Races.{Race, EachRace, HasFewest, IsRace, IsShown, IsSighting, ListsEveryValue}
+use Rattle.racebook.specs.Races.{Race, EachRace, HasFewest, IsRace, IsShown, IsSighting, ListsEveryValue, ListsValue}
 use Rattle.racebook.specs.Inner.{AreAll, AreGlimpses, AreGlimpsesBelow, AreInTime, AreWide, Disagree, IsGlimpse, IsNoSlot, IsOfSome, IsSeen}
 
 -- ---- what stands at the end of a slot
@@ -234,6 +234,27 @@ races_found setting limits marks gs races alike all there found are book = λ i 
       seen = λ i s here. seen_sighting setting limits marks gs alike all there found are race.time race.variable s.0 s.1 (r.seen i s here);
     }
 
+-- where glimpses disagree, the race lists each value that is seen
+pub listed : (gs : List Glimpse) (races : List Race) → AreAll gs races → (time variable : ℕ) (value : Vector) (log : List (ℕ × ℕ)) →
+    Disagree gs time variable → IsSeen gs time variable value log → ListsValue races time variable value
+listed gs races book time variable value log two seen =
+    let l = book.all time variable two in
+    let r = book.each l.0 l.1 l.2 in
+    let there : IsSeen gs l.1.time l.1.variable value log =
+    subst (λ (x : ℕ). IsSeen gs l.1.time x value log) (sym l.4) (subst (λ (x : ℕ). IsSeen gs x variable value log) (sym l.3) seen) in
+    let v = r.all value log there in
+    record {
+      place = l.0;
+      race = l.1;
+      at = l.2;
+      time_is = l.3;
+      variable_is = l.4;
+      value_place = v.0;
+      sighting = v.1;
+      value_at = v.2;
+      value_is = v.3;
+    }
+
 pub races_all : (setting : Setting) (depart : ℕ) (marks : List (Standing × List (ℕ × ℕ))) (gs : List Glimpse) (races : List Race) → Alike setting → AllStand setting → RunHere setting → MarkAlike setting → HasVariables setting →
     IsCovered (machine_rules setting) depart (IsListedMark (machine_rules setting) marks) → AreGlimpses setting marks gs → AreAll gs races → ListsEveryValue setting depart races
 races_all setting depart marks gs races alike all here mark_alike wide covered are book = λ time variable value differ shows.
@@ -250,22 +271,7 @@ races_all setting depart marks gs races alike all here mark_alike wide covered a
       sees_other = other.seen;
       differ = differ.differ;
     } in
-    let l = book.all time variable two in
-    let r = book.each l.0 l.1 l.2 in
-    let third_there : IsSeen gs l.1.time l.1.variable value third.log =
-    subst (λ (x : ℕ). IsSeen gs l.1.time x value third.log) (sym l.4) (subst (λ (x : ℕ). IsSeen gs x variable value third.log) (sym l.3) third.seen) in
-    let v = r.all value third.log third_there in
-    record {
-      place = l.0;
-      race = l.1;
-      at = l.2;
-      time_is = l.3;
-      variable_is = l.4;
-      value_place = v.0;
-      sighting = v.1;
-      value_at = v.2;
-      value_is = v.3;
-    }
+    listed gs races book time variable value third.log two third.seen
 
 pub races_fewest : (setting : Setting) (limits : Limits) (marks : List (Standing × List (ℕ × ℕ))) (gs : List Glimpse) (races : List Race) → Alike setting → AllStand setting → RunThere setting → RunHere setting → MarkAlike setting → HasVariables setting →
     AreFound (machine_rules setting) limits marks → IsCovered (machine_rules setting) limits.depart (IsListedMark (machine_rules setting) marks) →

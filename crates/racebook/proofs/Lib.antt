@@ -4,3 +4,4 @@ pub mod BestLemmas
 pub mod RaceLemmas
 pub mod SlotLemmas
 pub mod FoundLemmas
+mod MarkedLemmas

@@ -7,10 +7,11 @@ use Rattle.statebook.specs.declared.limits.Limits.{Limits}
 use Rattle.explore.specs.declared.findings.Findings.{Findings}
 use Rattle.explore.specs.declared.findings.Status.TheVariants.{Exhausted}
 use Rattle.explore.specs.Found.{ListsFound, ListsAll}
+use Rattle.vmodel.specs.State.{State}
 use Rattle.vmodel.specs.Run.{Setting, rules_of, state_after}
 use Rattle.vmodel.specs.Kept.{IsSlotEnd}
 use Rattle.vmachine.specs.declared.standing.Standing.{Standing}
-use Rattle.vmachine.specs.Machines.{machine_rules}
+use Rattle.vmachine.specs.Machines.{Stands, machine_rules}
 use Rattle.racebook.specs.Order.{IsEarlier, AreInTextOrder}
 
 -- after so many steps the run under the log is at the end of the slot of this time, where the variable has this value
@@ -96,6 +97,44 @@ AreInOrder races = (i j : ℕ) (a b : Race) →
 -- the values of each race stand in the order of their texts
 abbrev pub AreValuesInOrder : List Race → Type 0
 AreValuesInOrder races = EachRace (λ race. AreInTextOrder race.values) races
+
+-- ---- what the marks show, whatever the status
+
+-- a mark stands for the end of the slot of this time, where the variable has this value, under this log
+pub record IsMarked (setting : Setting) (findings : Findings Standing) (time variable : ℕ) (value : Vector) (log : List (ℕ × ℕ)) : Type 0 where
+  pub place : ℕ
+  pub found : Standing × List (ℕ × ℕ)
+  pub at : slice_get findings.marks.entries place ≡ Some found
+  pub state : State
+  pub stands : Stands setting found.0 state
+  pub slot : IsSlotEnd time state.values state
+  pub wide : length state.values ≡ length setting.design.variables
+  pub value_is : slice_get state.values variable ≡ Some value
+  pub log_is : found.1 ≡ log
+
+-- two marks differ there
+pub record TwoMarksDiffer (setting : Setting) (findings : Findings Standing) (time variable : ℕ) : Type 0 where
+  pub one : Vector
+  pub other : Vector
+  pub log : List (ℕ × ℕ)
+  pub other_log : List (ℕ × ℕ)
+  pub marks_one : IsMarked setting findings time variable one log
+  pub marks_other : IsMarked setting findings time variable other other_log
+  pub differ : one ≢ other
+
+-- where two marks differ, the race is listed with every value that a mark has there
+abbrev pub ListsEveryMark : Setting → Findings Standing → List Race → Type 0
+ListsEveryMark setting findings races = (time variable : ℕ) (value : Vector) (log : List (ℕ × ℕ)) →
+    TwoMarksDiffer setting findings time variable → IsMarked setting findings time variable value log →
+    ListsValue races time variable value
+
+-- no mark has the value there with fewer departures than its log
+abbrev pub HasFewestOfMarks : Setting → Findings Standing → Race → Type 0
+HasFewestOfMarks setting findings race = (i : ℕ) (s : Vector × List (ℕ × ℕ)) (log : List (ℕ × ℕ)) →
+    slice_get race.values i ≡ Some s → IsMarked setting findings race.time race.variable s.0 log → length s.1 ≤ length log
+
+abbrev pub ListsShortest : Setting → Findings Standing → List Race → Type 0
+ListsShortest setting findings races = EachRace (HasFewestOfMarks setting findings) races
 
 -- ---- the clauses, of findings whose marks were found under limits
 

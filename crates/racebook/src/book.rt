@@ -1,7 +1,7 @@
 // The races of all slots, by time.
 
 ghost use Rattle.std.specs.Prelude.{◌≡◌, ◌<◌, IfOk, length};
-ghost use Rattle.racebook.specs.Races.{AreInOrder, AreValuesInOrder, ListsAllRaces, GivesFewest, ListsRaces};
+ghost use Rattle.racebook.specs.Races.{AreInOrder, AreValuesInOrder, ListsAllRaces, ListsEveryMark, ListsShortest, GivesFewest, ListsRaces};
 ghost use Rattle.racebook.specs.Inner.{AreAll, AreInTime, AreWide, IsSlotEndAt};
 
 use crate::glimpse::{Glimpse, glimpses_in_time};
@@ -44,7 +44,7 @@ fn races_among(alloc: Global, glimpses: &[Glimpse], count: usize) -> Result<Vec<
 }
 
 /// The races that an explorer's findings show: the times and variables at which two marks that are ends of slots have
-/// different values, each value with the log of the fewest departures among them.
+/// different values, each value with the log of the fewest departures among them, whatever the status.
 ///
 /// Where the findings are those of an exploration of this machine, each race listed is one. Where they are all, so are
 /// the races: whatever two runs within the limit of departures differ in at the end of a slot is listed, with every value
@@ -60,6 +60,8 @@ pub fn races(
     ensures found { IfOk result (λ races. ListsRaces machine.now findings.now races.items) }
     ensures all { IfOk result (λ races. ListsAllRaces machine.now findings.now races.items) }
     ensures fewest { IfOk result (λ races. GivesFewest machine.now findings.now races.items) }
+    ensures marked { IfOk result (λ races. ListsEveryMark machine.now findings.now races.items) }
+    ensures shortest { IfOk result (λ races. ListsShortest machine.now findings.now races.items) }
     ensures order { IfOk result (λ races. AreInOrder races.items) }
     ensures values { IfOk result (λ races. AreValuesInOrder races.items) }
 {
