@@ -5,7 +5,7 @@ use Rattle.std.specs.Option.{option_eq}
 use Rattle.std.specs.Cmp.Lexicographic.{pointwise}
 use Rattle.vbits.specs.Vectors.{Vector, vector_same}
 use Rattle.vmodel.specs.declared.history.Cause.{Cause}
-use Rattle.vmodel.specs.declared.history.Cause.TheVariants.{Finish, Quiet, Limit}
+use Rattle.vmodel.specs.declared.history.Cause.TheVariants.{Finish, Stop, Quiet, Limit}
 use Rattle.vmodel.specs.declared.history.Grain.{Grain}
 use Rattle.vmodel.specs.declared.history.Grain.TheVariants.{Process as ByProcess, Statement}
 use Rattle.vmodel.specs.declared.part.Part.{Part}
@@ -29,11 +29,14 @@ grain_same ByProcess ByProcess = true
 grain_same Statement Statement = true
 grain_same _ _ = false
 
+abbrev pub cause_rank : Cause → ℕ
+cause_rank Finish = 0
+cause_rank Stop = 1
+cause_rank Quiet = 2
+cause_rank Limit = 3
+
 abbrev pub cause_same : Cause → Cause → Bool
-cause_same Finish Finish = true
-cause_same Quiet Quiet = true
-cause_same Limit Limit = true
-cause_same _ _ = false
+cause_same c d = nat_eq (cause_rank c) (cause_rank d)
 
 abbrev pub part_same : Part → Part → Bool
 part_same (Whole m v) (Whole n w) = nat_eq m n && vector_same v w

@@ -10,7 +10,7 @@ use Rattle.std.proofs.lemmas.Bool.Decides.{Decides-and, Decides-like}
 use Rattle.vbits.specs.Vectors.{Vector, vector_same}
 use Rattle.vbits.specs.Equal.{vectors_tell}
 use Rattle.vmodel.specs.declared.history.Cause.{Cause}
-use Rattle.vmodel.specs.declared.history.Cause.TheVariants.{Finish, Quiet, Limit}
+use Rattle.vmodel.specs.declared.history.Cause.TheVariants.{Finish, Stop, Quiet, Limit}
 use Rattle.vmodel.specs.declared.history.Grain.{Grain}
 use Rattle.vmodel.specs.declared.history.Grain.TheVariants.{Process as ByProcess, Statement}
 use Rattle.vmodel.specs.declared.part.Part.{Part}
@@ -55,6 +55,7 @@ grains_tell _ _ = (λ h. cc, λ h. cc)
 
 pub causes_tell : Tells cause_same
 causes_tell Finish Finish = (λ h. refl, λ h. refl)
+causes_tell Stop Stop = (λ h. refl, λ h. refl)
 causes_tell Quiet Quiet = (λ h. refl, λ h. refl)
 causes_tell Limit Limit = (λ h. refl, λ h. refl)
 causes_tell _ _ = (λ h. cc, λ h. cc)

@@ -1,5 +1,8 @@
 // What a run shows: slot ends, dump commands and its end (docs/SCHEDULING.md).
 
+ghost use Rattle.std.specs.Prelude.{◌≡◌};
+ghost use Rattle.vmodel.specs.Same.{cause_rank};
+
 use crate::values::Values;
 use std::marker::Model;
 
@@ -42,10 +45,26 @@ impl Eq for Grain {
 pub enum Cause {
     /// `$finish` was taken (17.4.1).
     Finish,
+    /// `$stop` was taken (17.4.2).
+    Stop,
     /// No event was left.
     Quiet,
     /// All that was left lies past the time limit.
     Limit,
+}
+
+impl Cause {
+    // Its number; no two have the same.
+    fn rank(&self) -> u8
+        ensures { result ≡ cause_rank self.now }
+    {
+        match self {
+            Cause::Finish => 0,
+            Cause::Stop => 1,
+            Cause::Quiet => 2,
+            Cause::Limit => 3,
+        }
+    }
 }
 
 /// Two are equal where they hold the same.
@@ -59,17 +78,7 @@ impl PartialEq for Cause {
     ghost laws = { partial_equiv_from_equiv causes_equivalent };
 
     fn eq(&self, other: &Cause) -> bool {
-        match (self, other) {
-            (Cause::Finish, Cause::Finish) => true,
-            (Cause::Quiet, Cause::Quiet) => true,
-            (Cause::Limit, Cause::Limit) => true,
-            (Cause::Finish, Cause::Quiet) => false,
-            (Cause::Finish, Cause::Limit) => false,
-            (Cause::Quiet, Cause::Finish) => false,
-            (Cause::Quiet, Cause::Limit) => false,
-            (Cause::Limit, Cause::Finish) => false,
-            (Cause::Limit, Cause::Quiet) => false,
-        }
+        self.rank() == other.rank()
     }
 }
 

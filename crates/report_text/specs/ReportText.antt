@@ -1,0 +1,114 @@
+-- `ReportText` (docs/FORMATS.md, "Reports"): the text of a report and of the dumps of its ends.
+use Rattle.std.specs.Prelude.{ℕ, List, [], ◌∷◌, ◌++◌, length, codes, decimal, slice_get, Option, Some, None}
+use Rattle.sched_core.specs.LogText.{log_text}
+use Rattle.vmodel.specs.declared.history.Cause.{Cause}
+use Rattle.vmodel.specs.declared.history.Cause.TheVariants.{Finish, Stop, Quiet, Limit}
+use Rattle.vmodel.specs.declared.history.Grain.{Grain}
+use Rattle.vmodel.specs.declared.history.Grain.TheVariants.{Process, Statement}
+use Rattle.report_text.specs.declared.report.Version.{Version}
+use Rattle.report_text.specs.declared.report.Version.TheVariants.{One, Two}
+use Rattle.report_text.specs.declared.report.Outcome.{Outcome}
+use Rattle.report_text.specs.declared.report.Outcome.TheVariants.{Exhausted, CutMemory, CutEntries, CutSteps}
+use Rattle.report_text.specs.Report.{Column, End, Race, Report}
+
+abbrev pub line : List ℕ → List ℕ
+line text = text ++ 10 ∷ []
+
+-- two words with a space between
+abbrev pub spaced : List ℕ → List ℕ → List ℕ
+spaced left right = left ++ 32 ∷ right
+
+-- a word, a space and a number
+abbrev pub number_line : List ℕ → ℕ → List ℕ
+number_line word n = line (spaced word (decimal n))
+
+-- ---- words
+
+abbrev pub version_number : Version → ℕ
+version_number One = 1
+version_number Two = 2
+
+abbrev pub grain_word : Grain → List ℕ
+grain_word Process = codes "process"
+grain_word Statement = codes "statement"
+
+abbrev pub cause_word : Cause → List ℕ
+cause_word Finish = codes "finish"
+cause_word Stop = codes "stop"
+cause_word Quiet = codes "quiet"
+cause_word Limit = codes "limit"
+
+abbrev pub outcome_words : Outcome → List ℕ
+outcome_words Exhausted = codes "exhausted"
+outcome_words CutMemory = codes "cut memory"
+outcome_words CutEntries = codes "cut entries"
+outcome_words CutSteps = codes "cut steps"
+
+-- ---- the head
+
+-- a report of version 1 has no line for its grain, which is process
+abbrev pub grain_lines : Version → Grain → List ℕ
+grain_lines One grain = []
+grain_lines Two grain = line (spaced (codes "grain") (grain_word grain))
+
+abbrev pub column_line : Column → List ℕ
+column_line column = line (spaced column.name (decimal column.width))
+
+abbrev pub column_lines : List Column → List ℕ
+column_lines [] = []
+column_lines (column ∷ columns) = column_line column ++ column_lines columns
+
+abbrev pub head_text : Report → List ℕ
+head_text r =
+    number_line (codes "vrace report") (version_number r.version)
+    ++ line (spaced (codes "top") r.top)
+    ++ number_line (codes "until") r.until
+    ++ number_line (codes "depart") r.depart
+    ++ number_line (codes "steps") r.steps
+    ++ grain_lines r.version r.grain
+    ++ line (spaced (codes "state") (outcome_words r.outcome))
+    ++ number_line (codes "vars") (length r.variables)
+    ++ column_lines r.variables
+
+-- ---- ends
+
+-- time, cause, log and the count of the dump's bytes; and the line of the values
+abbrev pub end_text : End → List ℕ
+end_text end =
+    line (codes "end " ++ spaced (decimal end.time) (spaced (cause_word end.cause) (spaced (log_text end.log) (decimal end.bytes))))
+    ++ line end.line
+
+-- each end with its dump behind it
+abbrev pub ends_text : List End → List (List ℕ) → List ℕ
+ends_text [] dumps = []
+ends_text (end ∷ ends) [] = end_text end ++ ends_text ends []
+ends_text (end ∷ ends) (dump ∷ dumps) = end_text end ++ dump ++ ends_text ends dumps
+
+-- ---- races
+
+abbrev pub value_lines : List (List ℕ × List (ℕ × ℕ)) → List ℕ
+value_lines [] = []
+value_lines (value ∷ values) = line (spaced value.0 (log_text value.1)) ++ value_lines values
+
+abbrev pub name_at : Option Column → List ℕ
+name_at None = []
+name_at (Some column) = column.name
+
+abbrev pub race_text : List Column → Race → List ℕ
+race_text columns race =
+    line (codes "race " ++ spaced (decimal race.time) (spaced (name_at (slice_get columns race.variable)) (decimal (length race.values))))
+    ++ value_lines race.values
+
+abbrev pub races_text : List Column → List Race → List ℕ
+races_text columns [] = []
+races_text columns (race ∷ races) = race_text columns race ++ races_text columns races
+
+-- ---- the whole
+
+abbrev pub report_text : Report → List (List ℕ) → List ℕ
+report_text r dumps =
+    head_text r
+    ++ number_line (codes "ends") (length r.ends)
+    ++ ends_text r.ends dumps
+    ++ number_line (codes "races") (length r.races)
+    ++ races_text r.variables r.races

@@ -1,0 +1,115 @@
+-- Which reports there are: those whose text is read (docs/FORMATS.md, "Reports").
+use Rattle.std.specs.Prelude.{◌≡◌, ◌≢◌, ℕ, ◌<◌, ◌≤◌, ◌^◌, ◌&&◌, ◌||◌, ◌==◌, ◌⊎◌, Bool, true, false, List, [], ◌∷◌, ◌++◌, length, slice_get, Option, Some}
+use Rattle.std.specs.List.{list_all}
+use Rattle.std.specs.Ordering.{nat_cmp}
+use Rattle.std.specs.Cmp.Lexicographic.{slice_cmp}
+use Rattle.std.specs.declared.cmp.Ordering.TheVariants.{Less}
+use Rattle.sched_core.specs.Logs.{IsLog}
+use Rattle.vast.specs.Words.{begins_name, is_in_name}
+use Rattle.vmodel.specs.declared.history.Grain.TheVariants.{Process}
+use Rattle.report_text.specs.declared.report.Version.TheVariants.{One}
+use Rattle.report_text.specs.Report.{Column, End, Race, Report}
+use Rattle.report_text.specs.ReportText.{spaced, cause_word, report_text}
+
+-- the fact holds of each thing of the list
+abbrev pub Each : {A : Type 0} → (A → Type 0) → List A → Type 0
+Each {A} P xs = (i : ℕ) (x : A) → slice_get xs i ≡ Some x → P x
+
+-- and of each two things of it, the earlier one first
+abbrev pub EachTwo : {A : Type 0} → (A → A → Type 0) → List A → Type 0
+EachTwo {A} P xs = (i j : ℕ) (x y : A) → i < j → slice_get xs i ≡ Some x → slice_get xs j ≡ Some y → P x y
+
+-- one text stands before another in the order of their bytes
+abbrev pub IsTextLess : List ℕ → List ℕ → Type 0
+IsTextLess a b = slice_cmp nat_cmp a b ≡ Less
+
+-- ---- names and values
+
+-- 3.7: a letter or `_`, then letters, digits, `_` and `$`; a reserved word counts as well
+abbrev pub has_letters_of_name : List ℕ → Bool
+has_letters_of_name [] = false
+has_letters_of_name (c ∷ cs) = begins_name c && list_all is_in_name cs
+
+-- such names joined by dots: after each dot, as at the start, a name begins
+abbrev pub is_path_from : Bool → List ℕ → Bool
+is_path_from begun [] = begun
+is_path_from true (c ∷ cs) = (is_in_name c && is_path_from true cs) || (c == 46 && is_path_from false cs)
+is_path_from false (c ∷ cs) = begins_name c && is_path_from true cs
+
+abbrev pub is_path : List ℕ → Bool
+is_path = is_path_from false
+
+-- 0, 1, x or z
+abbrev pub is_digit : ℕ → Bool
+is_digit c = (c == 48) || (c == 49) || (c == 120) || (c == 122)
+
+-- the digits of a value of this width, leftmost first
+abbrev pub IsValue : ℕ → List ℕ → Type 0
+IsValue width text = (length text ≡ width) × (list_all is_digit text ≡ true)
+
+-- a line that tells a value of each of the variables, with one space between
+abbrev pub IsLineOf : List Column → List ℕ → Type 0
+IsLineOf [] text = text ≡ []
+IsLineOf (column ∷ []) text = IsValue column.width text
+IsLineOf (column ∷ next ∷ columns) text =
+    (value rest : List ℕ) × IsValue column.width value × IsLineOf (next ∷ columns) rest × (text ≡ spaced value rest)
+
+abbrev pub IsColumn : Column → Type 0
+IsColumn column = (is_path column.name ≡ true) × (1 ≤ column.width) × (column.width ≤ 64)
+
+-- ---- ends and races
+
+-- by time, then by the bytes of the cause, then by those of the values
+abbrev pub IsEndBefore : End → End → Type 0
+IsEndBefore a b =
+    (a.time < b.time)
+    ⊎ ((a.time ≡ b.time) × (IsTextLess (cause_word a.cause) (cause_word b.cause) ⊎ ((a.cause ≡ b.cause) × IsTextLess a.line b.line)))
+
+-- by time, then by the number of the variable
+abbrev pub IsRaceBefore : Race → Race → Type 0
+IsRaceBefore a b = (a.time < b.time) ⊎ ((a.time ≡ b.time) × (a.variable < b.variable))
+
+pub record IsEnd (columns : List Column) (end : End) : Type 0 where
+  pub time : end.time < 2 ^ 64
+  pub log : IsLog end.log
+  pub line : IsLineOf columns end.line
+
+-- two values or more, each as wide as the variable, in the order of their bytes
+pub record IsRace (columns : List Column) (race : Race) : Type 0 where
+  pub time : race.time < 2 ^ 64
+  pub column : Column
+  pub listed : slice_get columns race.variable ≡ Some column
+  pub two : 2 ≤ length race.values
+  pub values : Each (λ v. IsValue column.width v.0) race.values
+  pub logs : Each (λ v. IsLog v.1) race.values
+  pub order : EachTwo (λ v w. IsTextLess v.0 w.0) race.values
+
+-- the numbers of the head are within their limits
+pub record IsHead (r : Report) : Type 0 where
+  pub top : has_letters_of_name r.top ≡ true
+  pub until : r.until ≤ 4611686018427387903
+  pub depart : r.depart ≤ 4
+  pub some_steps : 1 ≤ r.steps
+  pub few_steps : r.steps ≤ 1000000
+  pub grain : r.version ≡ One → r.grain ≡ Process
+
+-- so many bytes as the dump has
+abbrev pub HaveBytes : List End → List (List ℕ) → Type 0
+HaveBytes [] [] = Unit {0}
+HaveBytes [] (dump ∷ dumps) = ⊥
+HaveBytes (end ∷ ends) [] = ⊥
+HaveBytes (end ∷ ends) (dump ∷ dumps) = (end.bytes ≡ length dump) × HaveBytes ends dumps
+
+pub record IsReport (r : Report) (dumps : List (List ℕ)) : Type 0 where
+  pub head : IsHead r
+  pub columns : Each IsColumn r.variables
+  pub names : EachTwo (λ a b. a.name ≢ b.name) r.variables
+  pub ends : Each (IsEnd r.variables) r.ends
+  pub ends_order : EachTwo IsEndBefore r.ends
+  pub dumps : HaveBytes r.ends dumps
+  pub races : Each (IsRace r.variables) r.races
+  pub races_order : EachTwo IsRaceBefore r.races
+
+-- the text is that of no report
+abbrev pub IsNoReportText : List ℕ → Type 0
+IsNoReportText text = (r : Report) (dumps : List (List ℕ)) → IsReport r dumps → text ≢ report_text r dumps

@@ -1,0 +1,8 @@
+// Reports as texts. In go a report and the dumps of its ends, and out come the pieces of its text; or in goes a text, and
+// out comes the report that it is of.
+// The law: exactly the texts of reports are read, each as the report that it is of.
+#![tactic(auto)]
+
+mod report;
+
+pub use report::{Column, End, Outcome, Race, Report, Seen, Version};

@@ -1,0 +1,120 @@
+// A report of an exploration (docs/FORMATS.md, "Reports").
+
+use sched_core::Log;
+use std::marker::Model;
+use vmodel::history::{Cause, Grain};
+
+/// The version of a report's text. Version 1 has no line for the grain, which is process.
+#[derive(Clone, Copy, Debug, PartialEq, Eq)]
+pub enum Version {
+    One,
+    Two,
+}
+
+/// How an exploration went: nothing within its limits was missed, or why it stopped short.
+#[derive(Clone, Copy, Debug, PartialEq, Eq)]
+pub enum Outcome {
+    Exhausted,
+    CutMemory,
+    CutEntries,
+    CutSteps,
+}
+
+/// A variable: its name, with the names of its scopes before it, joined by dots; and its width in bits.
+#[derive(Drop)]
+pub struct Column {
+    pub name: Vec<u8>,
+    pub width: u32,
+}
+
+impl Model for Column {
+    ghost use Rattle.report_text.specs.Report as reports;
+
+    ghost Value = { reports.Column };
+
+    ghost view = { λ c. record { name = c.name.items; width = c.width } };
+}
+
+/// An end that runs come to: its time, in units of the precision, its cause, a log that leads there, how many bytes the
+/// dump of that run has, and the line that tells the values of all variables.
+#[derive(Drop)]
+pub struct End {
+    pub time: u64,
+    pub cause: Cause,
+    pub log: Log,
+    pub bytes: u64,
+    pub line: Vec<u8>,
+}
+
+impl Model for End {
+    ghost use Rattle.report_text.specs.Report as reports;
+
+    ghost Value = { reports.End };
+
+    ghost view = { λ e. record { time = e.time; cause = e.cause; log = e.log; bytes = e.bytes; line = e.line.items } };
+}
+
+/// A value that a variable has at the end of a slot, as its digits, leftmost first, and the log of a run that shows it.
+#[derive(Drop)]
+pub struct Seen {
+    pub value: Vec<u8>,
+    pub log: Log,
+}
+
+impl Model for Seen {
+    ghost use Rattle.std.specs.Prelude.{ℕ, List};
+
+    ghost Value = { List ℕ × List (ℕ × ℕ) };
+
+    ghost view = { λ s. (s.value.items, s.log) };
+}
+
+/// A race: two or more values of one variable, by its number, at the end of the slot of one time.
+#[derive(Drop)]
+pub struct Race {
+    pub time: u64,
+    pub variable: usize,
+    pub values: Vec<Seen>,
+}
+
+impl Model for Race {
+    ghost use Rattle.report_text.specs.Report as reports;
+
+    ghost Value = { reports.Race };
+
+    ghost view = { λ r. record { time = r.time; variable = r.variable; values = r.values.items } };
+}
+
+/// A report, without the dumps of its ends. A clause sees it as the record `Report` of specs/Report.antt.
+#[derive(Drop)]
+pub struct Report {
+    pub version: Version,
+    pub top: Vec<u8>,
+    pub until: u64,
+    pub depart: u32,
+    pub steps: u32,
+    pub grain: Grain,
+    pub outcome: Outcome,
+    pub variables: Vec<Column>,
+    pub ends: Vec<End>,
+    pub races: Vec<Race>,
+}
+
+impl Model for Report {
+    ghost use Rattle.report_text.specs.Report as reports;
+
+    ghost Value = { reports.Report };
+
+    ghost view = { λ r. record {
+      version = r.version;
+      top = r.top.items;
+      until = r.until;
+      depart = r.depart;
+      steps = r.steps;
+      grain = r.grain;
+      outcome = r.outcome;
+      variables = r.variables.items;
+      ends = r.ends.items;
+      races = r.races.items;
+    } };
+}
