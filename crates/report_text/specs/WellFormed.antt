@@ -106,7 +106,7 @@ pub record IsReport (r : Report) (dumps : List (List ℕ)) : Type 0 where
   pub names : EachTwo (λ a b. a.name ≢ b.name) r.variables
   pub ends : Each (IsEnd r.variables) r.ends
   pub ends_order : EachTwo IsEndBefore r.ends
-  pub dumps : HaveBytes r.ends dumps
+  pub sizes : HaveBytes r.ends dumps
   pub races : Each (IsRace r.variables) r.races
   pub races_order : EachTwo IsRaceBefore r.races
 

@@ -18,4 +18,5 @@ pub use header::Header;
 pub use law::dumps_are_readable;
 pub use metered::Metered;
 pub use sink::DumpSink;
+pub use values::put_digits;
 pub use write::write_vcd;

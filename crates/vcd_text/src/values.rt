@@ -61,8 +61,8 @@ fn kept(digits: &[u8]) -> &[u8]
     rest
 }
 
-// The digits of a value, leftmost first.
-fn put_digits(text: &mut Vec<u8>, value: Vec4) -> Result<(), NoMemory>
+/// Puts the digits of a value last, all of them, leftmost first. The error is want of memory, E901.
+pub fn put_digits(text: &mut Vec<u8>, value: Vec4) -> Result<(), NoMemory>
     ensures { OnOk result (text.new.items ≡ text.old.items ++ map digit_code (reverse value.letters)) }
 {
     let mut i = value.len();

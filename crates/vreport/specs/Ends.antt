@@ -1,0 +1,37 @@
+-- Ends that runs come to, and when a list of them is whole.
+use Rattle.std.specs.Prelude.{◌≡◌, ℕ, ◌≤◌, List, length, slice_get, Some}
+use Rattle.sched_core.specs.Replay.{EndsAfter}
+use Rattle.statebook.specs.declared.limits.Limits.{Limits}
+use Rattle.vmodel.specs.declared.history.Cause.{Cause}
+use Rattle.vmodel.specs.Run.{Setting, rules_of, state_after, end_of}
+use Rattle.report_text.specs.Report.{End}
+use Rattle.vreport.specs.Values.{values_line}
+
+-- after so many steps the run under the log ends: at this time, for this cause, with these values
+pub record IsEndAfter (setting : Setting) (log : List (ℕ × ℕ)) (steps time : ℕ) (cause : Cause) (line : List ℕ) : Type 0 where
+  pub ends : EndsAfter (rules_of setting) log steps
+  pub end_is : end_of (state_after setting log steps) ≡ record { time = time; cause = cause }
+  pub line_is : line ≡ values_line (state_after setting log steps).values
+
+-- and so it does within the limits of departures and of steps
+pub record IsTrueEnd (setting : Setting) (limits : Limits) (end : End) : Type 0 where
+  pub steps : ℕ
+  pub after : IsEndAfter setting end.log steps end.time end.cause end.line
+  pub within : steps ≤ limits.steps
+  pub short : length end.log ≤ limits.depart
+
+-- the end is listed, under a log of at most so many departures
+pub record ListsEnd (ends : List End) (time : ℕ) (cause : Cause) (line : List ℕ) (departures : ℕ) : Type 0 where
+  pub place : ℕ
+  pub end : End
+  pub at : slice_get ends place ≡ Some end
+  pub time_is : end.time ≡ time
+  pub cause_is : end.cause ≡ cause
+  pub line_is : end.line ≡ line
+  pub fewest : length end.log ≤ departures
+
+-- every run of at most so many departures that ends, after however many steps, ends as one that is listed, which has no
+-- more departures than the run
+abbrev pub ListsEveryEnd : Setting → ℕ → List End → Type 0
+ListsEveryEnd setting depart ends = (log : List (ℕ × ℕ)) (steps time : ℕ) (cause : Cause) (line : List ℕ) →
+    length log ≤ depart → IsEndAfter setting log steps time cause line → ListsEnd ends time cause line (length log)

@@ -1,0 +1,102 @@
+// The marks at which runs end, in the order in which a report lists ends.
+
+ghost use Rattle.std.specs.Prelude.{◌≡◌, IfOk};
+ghost use Rattle.vreport.specs.Inner.{AreRows, AreSortedRows, TellsRow, cause_of as cause_by_order, order_of as cause_order};
+
+use crate::values::line_of_values;
+use basis::NoMemory;
+use explore::Findings;
+use sched_core::Log;
+use std::alloc::Global;
+use vmachine::{Machine, Standing};
+use vmodel::history::Cause;
+
+/// A mark at which a run ends: its time, the order of its cause, the line of its values, how many departures lead there,
+/// and the place of the mark. Rows are compared in the order of these.
+#[derive(PartialEq, Eq, PartialOrd, Ord, Drop)]
+pub struct Row {
+    pub time: u64,
+    pub cause: u8,
+    pub line: Vec<u8>,
+    pub departures: usize,
+    pub place: usize,
+}
+
+// The place of a cause in the order of their words: finish, limit, quiet, stop.
+fn order_of(cause: Cause) -> u8
+    ensures { result ≡ cause_order cause }
+{
+    match cause {
+        Cause::Finish => 0,
+        Cause::Limit => 1,
+        Cause::Quiet => 2,
+        Cause::Stop => 3,
+    }
+}
+
+/// The cause that has this place in the order of their words.
+pub fn cause_of(order: u8) -> Cause
+    ensures { result ≡ cause_by_order order }
+{
+    match order {
+        0 => Cause::Finish,
+        1 => Cause::Limit,
+        2 => Cause::Quiet,
+        _ => Cause::Stop,
+    }
+}
+
+// The row of one mark, if a run ends there.
+fn row_of(
+    alloc: Global,
+    machine: &Machine,
+    standing: &Standing,
+    log: &Log,
+    place: usize,
+) -> Result<Option<Row>, NoMemory>
+    ensures { IfOk result (TellsRow machine.now (standing.now, log.now) place) }
+{
+    let Some(end) = machine.end_of(standing) else {
+        return Ok(None);
+    };
+    Ok(Some(Row {
+        time: end.time,
+        cause: order_of(end.cause),
+        line: line_of_values(alloc, machine.values(standing))?,
+        departures: log.members().len(),
+        place,
+    }))
+}
+
+// The rows of all marks, in the order of the marks.
+fn all_rows(
+    alloc: Global,
+    machine: &Machine,
+    findings: &Findings<Standing>,
+) -> Result<Vec<Row>, NoMemory>
+    ensures { IfOk result (λ rows. AreRows machine.now findings.now.marks.entries rows.items) }
+{
+    let mut rows = Vec::new(alloc);
+    for place in 0..findings.marks.len() {
+        if let Some((standing, log)) = findings.marks.get_index(place) {
+            if let Some(row) = row_of(alloc, machine, standing, log, place)? {
+                rows.push(row)?;
+            }
+        }
+    }
+    Ok(rows)
+}
+
+/// The rows of all marks at which a run ends, in their own order.
+pub fn rows_in_order(
+    alloc: Global,
+    machine: &Machine,
+    findings: &Findings<Standing>,
+) -> Result<Vec<Row>, NoMemory>
+    ensures of { IfOk result (λ rows. AreRows machine.now findings.now.marks.entries rows.items) }
+    ensures order { IfOk result (λ rows. AreSortedRows rows.items) }
+{
+    let mut rows = all_rows(alloc, machine, findings)?;
+    rows.sort()?;
+    Ok(rows)
+}

@@ -1,0 +1,41 @@
+// Values as a report tells them.
+
+ghost use Rattle.std.specs.Prelude.{◌≡◌, ◌++◌, IfOk, OnOk};
+ghost use Rattle.vreport.specs.Values.{more_values, value_text, values_line};
+
+use basis::NoMemory;
+use std::alloc::Global;
+use vbits::Vec4;
+use vcd_text::put_digits;
+
+/// The digits of a value, leftmost first.
+pub fn text_of_value(alloc: Global, value: Vec4) -> Result<Vec<u8>, NoMemory>
+    ensures { IfOk result (λ text. text.items ≡ value_text value) }
+{
+    let mut text = Vec::with_capacity(alloc, value.len() as usize)?;
+    put_digits(&mut text, value)?;
+    Ok(text)
+}
+
+// Puts the values last, each behind a space.
+fn put_more(line: &mut Vec<u8>, values: &[Vec4]) -> Result<(), NoMemory>
+    ensures { OnOk result (line.new.items ≡ line.old.items ++ more_values values.now) }
+{
+    for value in values {
+        line.push(b' ')?;
+        put_digits(line, *value)?;
+    }
+    Ok(())
+}
+
+/// The line of the values of all variables, with one space between.
+pub fn line_of_values(alloc: Global, values: &[Vec4]) -> Result<Vec<u8>, NoMemory>
+    ensures { IfOk result (λ line. line.items ≡ values_line values.now) }
+{
+    let mut line = Vec::new(alloc);
+    if let Some((first, more)) = values.split_first() {
+        put_digits(&mut line, *first)?;
+        put_more(&mut line, more)?;
+    }
+    Ok(line)
+}
