@@ -1,5 +1,5 @@
 -- Which reports there are: those whose text is read (docs/FORMATS.md, "Reports").
-use Rattle.std.specs.Prelude.{◌≡◌, ◌≢◌, ℕ, ◌<◌, ◌≤◌, ◌^◌, ◌&&◌, ◌||◌, ◌==◌, ◌⊎◌, Bool, true, false, List, [], ◌∷◌, ◌++◌, length, slice_get, Option, Some}
+use Rattle.std.specs.Prelude.{◌≡◌, ◌≢◌, ℕ, ◌<◌, ◌≤◌, ◌^◌, ◌&&◌, ◌||◌, ◌==◌, ◌⊎◌, Bool, true, false, List, [], ◌∷◌, length, slice_get, Some}
 use Rattle.std.specs.List.{list_all}
 use Rattle.std.specs.Ordering.{nat_cmp}
 use Rattle.std.specs.Cmp.Lexicographic.{slice_cmp}
@@ -106,7 +106,7 @@ pub record IsReport (r : Report) (dumps : List (List ℕ)) : Type 0 where
   pub names : EachTwo (λ a b. a.name ≢ b.name) r.variables
   pub ends : Each (IsEnd r.variables) r.ends
   pub ends_order : EachTwo IsEndBefore r.ends
-  pub sizes : HaveBytes r.ends dumps
+  pub bytes : HaveBytes r.ends dumps
   pub races : Each (IsRace r.variables) r.races
   pub races_order : EachTwo IsRaceBefore r.races
 

@@ -3,6 +3,9 @@
 // The law: exactly the texts of reports are read, each as the report that it is of.
 #![tactic(auto)]
 
+mod pieces;
 mod report;
+mod words;
 
+pub use pieces::{end_lines, head_lines, race_count_line, race_lines};
 pub use report::{Column, End, Outcome, Race, Report, Seen, Version};

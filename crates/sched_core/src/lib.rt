@@ -12,6 +12,6 @@ mod space;
 
 pub use grid::{Grid, Square};
 pub use log::{Log, LogFault, LogHead, Member};
-pub use log_text::{read_log, read_named_log, write_log, write_named_log};
+pub use log_text::{append_log, read_log, read_named_log, write_log, write_named_log};
 pub use run::{Reached, ReplayFault, next_choice, replay};
 pub use space::Space;

@@ -171,8 +171,8 @@ fn append_more(text: &mut Vec<u8>, more: &[Member]) -> Result<(), NoMemory>
     Ok(())
 }
 
-// Puts the text of the log last.
-fn append_log(text: &mut Vec<u8>, log: &Log) -> Result<(), NoMemory>
+/// Puts the text of the log last. The error is want of memory, E901.
+pub fn append_log(text: &mut Vec<u8>, log: &Log) -> Result<(), NoMemory>
     ensures { OnOk result (text.new.items ≡ text.old.items ++ log_text log.now) }
 {
     let Some((first, more)) = log.members().split_first() else {

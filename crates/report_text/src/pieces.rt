@@ -1,0 +1,151 @@
+// The pieces of a report's text, for one who writes it piece by piece: the dumps of the ends stand between them.
+
+ghost use Rattle.std.specs.Prelude.{◌≡◌, ◌++◌, ◌∷◌, [], codes, decimal, length, slice_get, IfOk, OnOk};
+ghost use Rattle.report_text.specs.ReportText as spec;
+
+use crate::report::{Column, End, Race, Report, Seen, Version};
+use crate::words::{cause_word, grain_word, outcome_words, version_number};
+use basis::NoMemory;
+use itoa::Buffer;
+use sched_core::append_log;
+use std::alloc::Global;
+
+// Puts the word last, and a space.
+fn put_word(text: &mut Vec<u8>, word: &[u8]) -> Result<(), NoMemory>
+    ensures { OnOk result (text.new.items ≡ text.old.items ++ word.now ++ 32 ∷ []) }
+{
+    text.extend_from_slice(word)?;
+    text.push(b' ')?;
+    Ok(())
+}
+
+// Puts the number last.
+fn put_number(text: &mut Vec<u8>, n: u64) -> Result<(), NoMemory>
+    ensures { OnOk result (text.new.items ≡ text.old.items ++ decimal n) }
+{
+    let mut buffer = Buffer::new();
+    text.extend_from_slice(buffer.format(n).as_bytes())?;
+    Ok(())
+}
+
+// Puts a line of a word and a number last.
+fn put_number_line(text: &mut Vec<u8>, word: &[u8], n: u64) -> Result<(), NoMemory>
+    ensures { OnOk result (text.new.items ≡ text.old.items ++ spec.number_line word.now n) }
+{
+    put_word(text, word)?;
+    put_number(text, n)?;
+    text.push(b'\n')?;
+    Ok(())
+}
+
+// Puts a line of two words last.
+fn put_word_line(text: &mut Vec<u8>, word: &[u8], value: &[u8]) -> Result<(), NoMemory>
+    ensures { OnOk result (text.new.items ≡ text.old.items ++ spec.line (spec.spaced word.now value.now)) }
+{
+    put_word(text, word)?;
+    text.extend_from_slice(value)?;
+    text.push(b'\n')?;
+    Ok(())
+}
+
+// Puts a line for each column last.
+fn put_columns(text: &mut Vec<u8>, columns: &[Column]) -> Result<(), NoMemory>
+    ensures { OnOk result (text.new.items ≡ text.old.items ++ spec.column_lines columns.now) }
+{
+    for column in columns {
+        put_number_line(text, &column.name, column.width as u64)?;
+    }
+    Ok(())
+}
+
+// Puts the line of the grain last, where this version has one.
+fn put_grain(text: &mut Vec<u8>, report: &Report) -> Result<(), NoMemory>
+    ensures { OnOk result (text.new.items ≡ text.old.items ++ spec.grain_lines report.now.version report.now.grain) }
+{
+    match report.version {
+        Version::One => Ok(()),
+        Version::Two => put_word_line(text, b"grain", grain_word(report.grain)),
+    }
+}
+
+/// The lines of the head, and the line that counts the ends. The error is want of memory, E901.
+pub fn head_lines(alloc: Global, report: &Report) -> Result<Vec<u8>, NoMemory>
+    ensures { IfOk result (λ text. text.items ≡ spec.head_text report.now ++ spec.number_line (codes "ends") (length report.now.ends)) }
+{
+    let mut text = Vec::new(alloc);
+    put_number_line(&mut text, b"vrace report", version_number(report.version))?;
+    put_word_line(&mut text, b"top", &report.top)?;
+    put_number_line(&mut text, b"until", report.until)?;
+    put_number_line(&mut text, b"depart", report.depart as u64)?;
+    put_number_line(&mut text, b"steps", report.steps as u64)?;
+    put_grain(&mut text, report)?;
+    put_word_line(&mut text, b"state", outcome_words(report.outcome))?;
+    put_number_line(&mut text, b"vars", report.variables.len() as u64)?;
+    put_columns(&mut text, &report.variables)?;
+    put_number_line(&mut text, b"ends", report.ends.len() as u64)?;
+    Ok(text)
+}
+
+/// The two lines of an end: the dump of its run follows them. The error is want of memory, E901.
+pub fn end_lines(alloc: Global, end: &End) -> Result<Vec<u8>, NoMemory>
+    ensures { IfOk result (λ text. text.items ≡ spec.end_text end.now) }
+{
+    let mut text = Vec::new(alloc);
+    text.extend_from_slice(b"end ")?;
+    put_number(&mut text, end.time)?;
+    text.push(b' ')?;
+    put_word(&mut text, cause_word(end.cause))?;
+    append_log(&mut text, &end.log)?;
+    text.push(b' ')?;
+    put_number(&mut text, end.bytes)?;
+    text.push(b'\n')?;
+    text.extend_from_slice(&end.line)?;
+    text.push(b'\n')?;
+    Ok(text)
+}
+
+/// The line that counts the races. The error is want of memory, E901.
+pub fn race_count_line(alloc: Global, report: &Report) -> Result<Vec<u8>, NoMemory>
+    ensures { IfOk result (λ text. text.items ≡ spec.number_line (codes "races") (length report.now.races)) }
+{
+    let mut text = Vec::new(alloc);
+    put_number_line(&mut text, b"races", report.races.len() as u64)?;
+    Ok(text)
+}
+
+// Puts a line for each value last.
+fn put_values(text: &mut Vec<u8>, values: &[Seen]) -> Result<(), NoMemory>
+    ensures { OnOk result (text.new.items ≡ text.old.items ++ spec.value_lines values.now) }
+{
+    for seen in values {
+        put_word(text, &seen.value)?;
+        append_log(text, &seen.log)?;
+        text.push(b'\n')?;
+    }
+    Ok(())
+}
+
+// The name of the variable of this number; of none the empty name.
+fn name_at(columns: &[Column], variable: usize) -> &[u8]
+    ensures { result.now ≡ spec.name_at (slice_get columns.now variable) }
+{
+    match columns.get(variable) {
+        Some(column) => &column.name,
+        None => b"",
+    }
+}
+
+/// The lines of a race of these variables. The error is want of memory, E901.
+pub fn race_lines(alloc: Global, columns: &[Column], race: &Race) -> Result<Vec<u8>, NoMemory>
+    ensures { IfOk result (λ text. text.items ≡ spec.race_text columns.now race.now) }
+{
+    let mut text = Vec::new(alloc);
+    text.extend_from_slice(b"race ")?;
+    put_number(&mut text, race.time)?;
+    text.push(b' ')?;
+    put_word(&mut text, name_at(columns, race.variable))?;
+    put_number(&mut text, race.values.len() as u64)?;
+    text.push(b'\n')?;
+    put_values(&mut text, &race.values)?;
+    Ok(text)
+}
