@@ -171,7 +171,7 @@ fn dump_slot_by_slot(rt: HostRuntime) -> Result<(), Fail> {
     assert_eq!(rt; sink.finish(&history.end), Ok(()));
     // The same end again adds nothing.
     assert_eq!(rt; sink.finish(&history.end), Ok(()));
-    assert_eq!(rt; sink.into_writer().failures(), 0);
+    assert_eq!(rt; sink.into_outlet().failures(), 0);
     let mut text = Vec::from_slice(alloc, TEXT.as_bytes())?;
     text.extend_from_slice(b"#9\n")?;
     assert_eq!(rt; writer.into_inner().held.as_slice(), text.as_slice());

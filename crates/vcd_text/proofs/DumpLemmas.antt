@@ -1,5 +1,5 @@
 -- What a sink writes item by item is the dump.
-use Rattle.std.proofs.Common.{◌≡◌, ℕ, Bool, true, false, cond, ◌||◌, List, [], ◌∷◌, ◌++◌, Option, refl, sym, ap, subst, ◌∙◌, append_assoc}
+use Rattle.std.proofs.Common.{◌≡◌, ℕ, Bool, true, false, cond, ◌||◌, List, [], ◌∷◌, ◌++◌, refl, sym, ap, subst, ◌∙◌, append_assoc}
 use Rattle.std.specs.List.{list_any}
 use Rattle.std.proofs.lemmas.List.Folds.{list_any-append}
 use Rattle.vmodel.specs.declared.history.DumpCommand.{DumpCommand}
@@ -11,11 +11,9 @@ use Rattle.vcd_text.specs.DumpText.{Piece, Slot, below, body, changes, dump_belo
 use Rattle.vcd_text.specs.declared.progress.Progress.{Progress}
 use Rattle.vcd_text.specs.declared.progress.Progress.TheVariants.{Idle, Asked, Started}
 use Rattle.vcd_text.specs.Sinks.{end_text, items_text, last_line, progress_over, timed, text_of, Takes, Fails}
-use Rattle.vcd_text.specs.Metered.{Grows, Stops}
-use Rattle.vcd_text.specs.MeteredLaws.{grows_joins, stops_after, stops_before}
+use Rattle.vcd_text.specs.Outlets.{IsOutlet, Stopped}
+use Rattle.vcd_text.specs.OutletLaws.{stopped_after, stopped_before}
 use Rattle.basis.specs.declared.memory.OrMemory.{OrMemory}
-use Rattle.vcd_text.specs.declared.fault.WriteFault.{WriteFault}
-use Rattle.vcd_text.specs.declared.metered.Metered.{Metered}
 use Rattle.vcd_text.specs.declared.sink.DumpSink.{DumpSink}
 
 start_parts : (a b c d e : List ℕ) → a ++ (b ++ c ++ (d ++ e)) ≡ a ++ b ++ c ++ d ++ e
@@ -94,35 +92,33 @@ whole_text head history = idle_text head history.end.time [] history.items refl
 -- ---- of a sink with nothing come
 
 -- what a history adds up to its end is its whole dump
-whole_dump : {W : Type 0} (s : DumpSink W) (history : History) → s.progress ≡ Idle →
+whole_dump : {O : Type 0} (s : DumpSink O) (history : History) → s.progress ≡ Idle →
     dump_below s.header.now history ≡ text_of s history.items ++ end_text (progress_over s.progress history.items) history.end.time
 whole_dump s history fresh =
     sym (whole_text s.header.now history)
     ∙ ap (λ (from : Progress). items_text s.header.now from history.items ++ end_text (progress_over from history.items) history.end.time) (sym fresh)
 
-taken_dump : {W : Type 0} (contents : W → Option (List ℕ)) (s t : DumpSink W) (history : History) → s.progress ≡ Idle →
-    Takes contents s history.items t →
-    dump_below s.header.now history ≡ text_of s history.items ++ end_text t.progress history.end.time
-taken_dump contents s t history fresh p =
-    whole_dump s history fresh ∙ ap (λ (after : Progress). text_of s history.items ++ end_text after history.end.time) (sym p.1)
+module _ {O F : Type 0} (takes : O → List ℕ → O → Type 0) (fails : O → List ℕ → F → O → Type 0) (laws : IsOutlet takes fails)
+    (s : DumpSink O) (history : History) (fresh : s.progress ≡ Idle) where
+  taken_dump : (t : DumpSink O) → Takes takes s history.items t →
+      dump_below s.header.now history ≡ text_of s history.items ++ end_text t.progress history.end.time
+  taken_dump t p = whole_dump s history fresh ∙ ap (λ (after : Progress). text_of s history.items ++ end_text after history.end.time) (sym p.1)
 
-pub completes : {W : Type 0} (contents : W → Option (List ℕ)) (s t : DumpSink W) (history : History) (m : Metered W) → s.progress ≡ Idle →
-    Takes contents s history.items t → Grows contents t.writer.now m (end_text t.progress history.end.time) →
-    Grows contents s.writer.now m (dump_below s.header.now history)
-completes contents s t history m fresh p q =
-    subst (Grows contents s.writer.now m) (sym (taken_dump contents s t history fresh p))
-    (grows_joins contents s.writer.now t.writer.now m (text_of s history.items) (end_text t.progress history.end.time) p.2 q)
+  pub completes : (t : DumpSink O) (m : O) → Takes takes s history.items t → takes t.outlet.now (end_text t.progress history.end.time) m →
+      takes s.outlet.now (dump_below s.header.now history) m
+  completes t m p q =
+      subst (λ (text : List ℕ). takes s.outlet.now text m) (sym (taken_dump t p))
+      (laws.joins s.outlet.now t.outlet.now m (text_of s history.items) (end_text t.progress history.end.time) p.2 q)
 
-pub stops_completing : {W : Type 0} (contents : W → Option (List ℕ)) (s t : DumpSink W) (history : History) (m : Metered W) (fault : OrMemory WriteFault) →
-    s.progress ≡ Idle → Takes contents s history.items t →
-    Stops contents t.writer.now m (end_text t.progress history.end.time) fault → Stops contents s.writer.now m (dump_below s.header.now history) fault
-stops_completing contents s t history m fault fresh p q =
-    subst (λ (text : List ℕ). Stops contents s.writer.now m text fault) (sym (taken_dump contents s t history fresh p))
-    (stops_after contents s.writer.now t.writer.now m (text_of s history.items) (end_text t.progress history.end.time) fault p.2 q)
+  pub stops_completing : (t : DumpSink O) (m : O) (fault : OrMemory F) → Takes takes s history.items t →
+      Stopped takes fails t.outlet.now (end_text t.progress history.end.time) fault m → Stopped takes fails s.outlet.now (dump_below s.header.now history) fault m
+  stops_completing t m fault p q =
+      subst (λ (text : List ℕ). Stopped takes fails s.outlet.now text fault m) (sym (taken_dump t p))
+      (stopped_after takes fails laws s.outlet.now t.outlet.now m (text_of s history.items) (end_text t.progress history.end.time) fault p.2 q)
 
-pub stops_taking : {W : Type 0} (contents : W → Option (List ℕ)) (s t : DumpSink W) (history : History) (fault : OrMemory WriteFault) →
-    s.progress ≡ Idle → Fails contents s history.items fault t → Stops contents s.writer.now t.writer.now (dump_below s.header.now history) fault
-stops_taking contents s t history fault fresh p =
-    subst (λ (text : List ℕ). Stops contents s.writer.now t.writer.now text fault) (sym (whole_dump s history fresh))
-    (stops_before contents s.writer.now t.writer.now (text_of s history.items)
-    (end_text (progress_over s.progress history.items) history.end.time) fault p.1)
+  pub stops_taking : (t : DumpSink O) (fault : OrMemory F) → Fails takes fails s history.items fault t →
+      Stopped takes fails s.outlet.now (dump_below s.header.now history) fault t.outlet.now
+  stops_taking t fault p =
+      subst (λ (text : List ℕ). Stopped takes fails s.outlet.now text fault t.outlet.now) (sym (whole_dump s history fresh))
+      (stopped_before takes fails laws s.outlet.now t.outlet.now (text_of s history.items)
+      (end_text (progress_over s.progress history.items) history.end.time) fault p.1)

@@ -1,7 +1,11 @@
 pub mod CodeLaws
+pub mod Comparing
+pub mod Counts
 pub mod DumpText
 pub mod Metered
 pub mod MeteredLaws
+pub mod OutletLaws
+pub mod Outlets
 pub mod Readers
 pub mod SinkLaws
 pub mod Sinks

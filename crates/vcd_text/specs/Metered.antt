@@ -35,3 +35,11 @@ Grows contents old new text = Appends (contents old.inner) (contents new.inner) 
 abbrev pub Stops : {W : Type 0} → (W → Option (List ℕ)) → Metered W → Metered W → List ℕ → OrMemory WriteFault → Type 0
 Stops contents old new text fault =
     ((n : ℕ) × Appends (contents old.inner) (contents new.inner) (take n text)) × (new.failures ≡ count_after fault old.failures)
+
+-- the same of a writer as an outlet: it took the text
+abbrev pub Written : {W : Type 0} → (W → Option (List ℕ)) → Metered W → List ℕ → Metered W → Type 0
+Written contents old text new = Grows contents old new text
+
+-- and it failed somewhere in the text
+abbrev pub Broken : {W : Type 0} → (W → Option (List ℕ)) → Metered W → List ℕ → WriteFault → Metered W → Type 0
+Broken contents old text fault new = Stops contents old new text (Fault fault)

@@ -1,12 +1,15 @@
 -- What several texts make of a writer.
-use Rattle.std.proofs.Common.{◌≡◌, ℕ, ◌+◌, min, List, [], ◌++◌, length, take, Option, None, Some, refl, sym, ap, ◌∙◌, append_assoc, arith}
+use Rattle.std.proofs.Common.{ℕ, ◌+◌, min, List, [], ◌++◌, length, take, Option, None, Some, refl, sym, ap, ◌∙◌, append_assoc}
 use Rattle.std.specs.Io.KnownBytes.{Appends}
-use Rattle.std.proofs.lemmas.List.{append-nil, take-append-le, take_min}
+use Rattle.std.proofs.lemmas.List.{append-nil}
 use Rattle.std.proofs.Math.Seq.{take-append-add}
 use Rattle.vcd_text.specs.declared.metered.Metered.{Metered}
 use Rattle.basis.specs.declared.memory.OrMemory.{OrMemory}
+use Rattle.basis.specs.declared.memory.OrMemory.TheVariants.{Fault, Memory}
 use Rattle.vcd_text.specs.declared.fault.WriteFault.{WriteFault}
-use Rattle.vcd_text.specs.Metered.{Grows, Stops, count_after}
+use Rattle.vcd_text.specs.Metered.{Grows, Stops, Written, Broken, count_after}
+use Rattle.vcd_text.specs.Outlets.{IsOutlet, Stopped}
+use Rattle.vcd_text.specs.OutletLaws.{take_front}
 
 appends_none : (c : Option (List ℕ)) → Appends c c []
 appends_none None = tt
@@ -25,9 +28,6 @@ pub grows_joins : {W : Type 0} (contents : W → Option (List ℕ)) (a b c : Met
     Grows contents a c (xs ++ ys)
 grows_joins contents a b c xs ys p q = (appends_joins (contents a.inner) (contents b.inner) (contents c.inner) xs ys p.0 q.0, q.1 ∙ p.1)
 
-take_front : (xs ys : List ℕ) (n : ℕ) → take (min n (length xs)) (xs ++ ys) ≡ take n xs
-take_front xs ys n = take-append-le (min n (length xs)) xs ys (omega arith) ∙ take_min n xs
-
 -- the fault comes after a text that was written
 pub stops_after : {W : Type 0} (contents : W → Option (List ℕ)) (a b c : Metered W) (xs ys : List ℕ) (fault : OrMemory WriteFault) → Grows contents a b xs →
     Stops contents b c ys fault → Stops contents a c (xs ++ ys) fault
@@ -45,3 +45,18 @@ stops_before contents a b xs ys fault p =
     let place : ℕ = min p.0.0 (length xs) in
     let written : Appends (contents a.inner) (contents b.inner) (take place (xs ++ ys)) = rw (take_front xs ys p.0.0) p.0.1 in
     ((place, written), p.1)
+
+-- a writer is an outlet
+pub metered_laws : {W : Type 0} (contents : W → Option (List ℕ)) → IsOutlet (Written contents) (Broken contents)
+metered_laws contents = record {
+  none = grows_none contents;
+  joins = grows_joins contents;
+  fails_later = λ s t u xs ys fault. stops_after contents s t u xs ys (Fault fault);
+  fails_before = λ s u xs ys fault. stops_before contents s u xs ys (Fault fault);
+}
+
+-- where a writer stopped as an outlet, it stopped so
+pub stops_of : {W : Type 0} (contents : W → Option (List ℕ)) (a b : Metered W) (text : List ℕ) (fault : OrMemory WriteFault) →
+    Stopped (Written contents) (Broken contents) a text fault b → Stops contents a b text fault
+stops_of contents a b text (Fault fault) p = p
+stops_of contents a b text (Memory m) (n, p) = ((n, p.0), p.1)

@@ -1,13 +1,11 @@
 -- The laws of a sink that writes the dump.
-use Rattle.std.proofs.Common.{◌≡◌, ℕ, List, [], ◌∷◌, ◌++◌, Option, refl, sym, ap, ◌∙◌, append_assoc}
+use Rattle.std.proofs.Common.{◌≡◌, ℕ, List, [], ◌∷◌, ◌++◌, refl, sym, ap, subst, ◌∙◌, append_assoc}
 use Rattle.vmodel.specs.declared.history.Item.{Item}
 use Rattle.basis.specs.declared.memory.OrMemory.{OrMemory}
-use Rattle.vcd_text.specs.declared.fault.WriteFault.{WriteFault}
 use Rattle.vcd_text.specs.declared.sink.DumpSink.{DumpSink}
-use Rattle.vcd_text.specs.Metered.{Grows, Stops}
-use Rattle.vcd_text.specs.MeteredLaws.{grows_none, grows_joins, stops_after, stops_before}
+use Rattle.vcd_text.specs.Outlets.{IsOutlet, Stopped}
+use Rattle.vcd_text.specs.OutletLaws.{stopped_after, stopped_before}
 use Rattle.vcd_text.specs.declared.progress.Progress.{Progress}
-use Rattle.vcd_text.specs.declared.progress.Progress.TheVariants.{Idle, Asked, Started}
 use Rattle.vcd_text.specs.Sinks.{item_text, items_text, progress_after, progress_over, text_of, Takes, Fails}
 
 text_joins : (head : List ℕ) (p : Progress) (xs ys : List Item) →
@@ -21,39 +19,36 @@ progress_joins : (p : Progress) (xs ys : List Item) → progress_over p (xs ++ y
 progress_joins p [] ys = refl
 progress_joins p (x ∷ xs) ys = progress_joins (progress_after p x) xs ys
 
--- what two lists of items add, where the first one was taken
-both_texts : {W : Type 0} (contents : W → Option (List ℕ)) (s t : DumpSink W) (xs ys : List Item) → Takes contents s xs t →
-    text_of s (xs ++ ys) ≡ text_of s xs ++ text_of t ys
-both_texts contents s t xs ys p =
-    text_joins s.header.now s.progress xs ys
-    ∙ ap (λ (after : Progress). text_of s xs ++ items_text s.header.now after ys) (sym p.1)
-    ∙ ap (λ (head : List ℕ). text_of s xs ++ items_text head t.progress ys) (sym p.0.1)
+module _ {O F : Type 0} (takes : O → List ℕ → O → Type 0) (fails : O → List ℕ → F → O → Type 0) (laws : IsOutlet takes fails) where
+  -- what two lists of items add, where the first one was taken
+  both_texts : (s t : DumpSink O) (xs ys : List Item) → Takes takes s xs t → text_of s (xs ++ ys) ≡ text_of s xs ++ text_of t ys
+  both_texts s t xs ys p =
+      text_joins s.header.now s.progress xs ys
+      ∙ ap (λ (after : Progress). text_of s xs ++ items_text s.header.now after ys) (sym p.1)
+      ∙ ap (λ (head : List ℕ). text_of s xs ++ items_text head t.progress ys) (sym p.0.1)
 
-pub takes_none : {W : Type 0} (contents : W → Option (List ℕ)) (s : DumpSink W) → Takes contents s [] s
-takes_none contents s = ((refl, refl), refl, grows_none contents s.writer.now)
+  pub takes_none : (s : DumpSink O) → Takes takes s [] s
+  takes_none s = ((refl, refl), refl, laws.none s.outlet.now)
 
-pub takes_joins : {W : Type 0} (contents : W → Option (List ℕ)) (s t u : DumpSink W) (xs ys : List Item) → Takes contents s xs t → Takes contents t ys u →
-    Takes contents s (xs ++ ys) u
-takes_joins contents s t u xs ys p q =
-    let written : Grows contents s.writer.now u.writer.now (text_of s (xs ++ ys)) =
-    rw (both_texts contents s t xs ys p)
-    (grows_joins contents s.writer.now t.writer.now u.writer.now (text_of s xs) (text_of t ys) p.2 q.2) in
-    ((q.0.0 ∙ p.0.0, q.0.1 ∙ p.0.1), q.1 ∙ ap (λ (after : Progress). progress_over after ys) p.1 ∙ sym (progress_joins s.progress xs ys), written)
+  pub takes_joins : (s t u : DumpSink O) (xs ys : List Item) → Takes takes s xs t → Takes takes t ys u → Takes takes s (xs ++ ys) u
+  takes_joins s t u xs ys p q =
+      let taken : takes s.outlet.now (text_of s (xs ++ ys)) u.outlet.now =
+      subst (λ (text : List ℕ). takes s.outlet.now text u.outlet.now) (sym (both_texts s t xs ys p))
+      (laws.joins s.outlet.now t.outlet.now u.outlet.now (text_of s xs) (text_of t ys) p.2 q.2) in
+      ((q.0.0 ∙ p.0.0, q.0.1 ∙ p.0.1), q.1 ∙ ap (λ (after : Progress). progress_over after ys) p.1 ∙ sym (progress_joins s.progress xs ys), taken)
 
-pub fails_after : {W : Type 0} (contents : W → Option (List ℕ)) (s t u : DumpSink W) (xs ys : List Item) (fault : OrMemory WriteFault) → Takes contents s xs t →
-    Fails contents t ys fault u → Fails contents s (xs ++ ys) fault u
-fails_after contents s t u xs ys fault p q =
-    let stopped : Stops contents s.writer.now u.writer.now (text_of s (xs ++ ys)) fault =
-    rw (both_texts contents s t xs ys p)
-    (stops_after contents s.writer.now t.writer.now u.writer.now (text_of s xs) (text_of t ys) fault p.2 q.1) in
-    ((q.0.0 ∙ p.0.0, q.0.1 ∙ p.0.1), stopped)
+  pub fails_after : (s t u : DumpSink O) (xs ys : List Item) (fault : OrMemory F) → Takes takes s xs t → Fails takes fails t ys fault u →
+      Fails takes fails s (xs ++ ys) fault u
+  fails_after s t u xs ys fault p q =
+      let stopped : Stopped takes fails s.outlet.now (text_of s (xs ++ ys)) fault u.outlet.now =
+      subst (λ (text : List ℕ). Stopped takes fails s.outlet.now text fault u.outlet.now) (sym (both_texts s t xs ys p))
+      (stopped_after takes fails laws s.outlet.now t.outlet.now u.outlet.now (text_of s xs) (text_of t ys) fault p.2 q.1) in
+      ((q.0.0 ∙ p.0.0, q.0.1 ∙ p.0.1), stopped)
 
--- the same where more items weren't come to
-pub fails_before : {W : Type 0} (contents : W → Option (List ℕ)) (s u : DumpSink W) (xs ys : List Item) (fault : OrMemory WriteFault) → Fails contents s xs fault u →
-    Fails contents s (xs ++ ys) fault u
-fails_before contents s u xs ys fault p =
-    let stopped : Stops contents s.writer.now u.writer.now (text_of s (xs ++ ys)) fault =
-    rw (text_joins s.header.now s.progress xs ys)
-    (stops_before contents s.writer.now u.writer.now (text_of s xs)
-    (items_text s.header.now (progress_over s.progress xs) ys) fault p.1) in
-    (p.0, stopped)
+  -- the same where more items weren't come to
+  pub fails_before : (s u : DumpSink O) (xs ys : List Item) (fault : OrMemory F) → Fails takes fails s xs fault u → Fails takes fails s (xs ++ ys) fault u
+  fails_before s u xs ys fault p =
+      let stopped : Stopped takes fails s.outlet.now (text_of s (xs ++ ys)) fault u.outlet.now =
+      subst (λ (text : List ℕ). Stopped takes fails s.outlet.now text fault u.outlet.now) (sym (text_joins s.header.now s.progress xs ys))
+      (stopped_before takes fails laws s.outlet.now u.outlet.now (text_of s xs) (items_text s.header.now (progress_over s.progress xs) ys) fault p.1) in
+      (p.0, stopped)

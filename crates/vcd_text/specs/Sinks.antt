@@ -1,14 +1,12 @@
 -- A sink that writes the dump: what it keeps from item to item, and what taking them makes of it.
-use Rattle.std.specs.Prelude.{◌≡◌, ℕ, ◌==◌, cond, List, [], ◌∷◌, ◌++◌, Option, codes}
+use Rattle.std.specs.Prelude.{◌≡◌, ℕ, ◌==◌, cond, List, [], ◌∷◌, ◌++◌, codes}
 use Rattle.std.specs.List.{enumerate_from}
 use Rattle.vbits.specs.Vectors.{Vector}
-use Rattle.vmodel.specs.History.{History}
 use Rattle.vmodel.specs.declared.history.Item.{Item}
 use Rattle.vmodel.specs.declared.history.Item.TheVariants.{SlotEnd, Dump}
 use Rattle.vcd_text.specs.DumpText.{changes, framed, time_line, value_lines}
-use Rattle.vcd_text.specs.Metered.{Grows, Stops}
+use Rattle.vcd_text.specs.Outlets.{Stopped}
 use Rattle.basis.specs.declared.memory.OrMemory.{OrMemory}
-use Rattle.vcd_text.specs.declared.fault.WriteFault.{WriteFault}
 use Rattle.vcd_text.specs.declared.progress.Progress.{Progress}
 use Rattle.vcd_text.specs.declared.progress.Progress.TheVariants.{Idle, Asked, Started}
 use Rattle.vcd_text.specs.declared.sink.DumpSink.{DumpSink}
@@ -72,21 +70,21 @@ progress_at_end (Started last old) t = Started t old
 -- ---- what the program keeps
 
 -- what these items add to the dump
-abbrev pub text_of : {W : Type 0} → DumpSink W → List Item → List ℕ
+abbrev pub text_of : {O : Type 0} → DumpSink O → List Item → List ℕ
 text_of sink items = items_text sink.header.now sink.progress items
 
--- it is the same borrowed writer and the same header
-abbrev pub IsSameDump : {W : Type 0} → DumpSink W → DumpSink W → Type 0
-IsSameDump old new = (new.writer.ghost_name ≡ old.writer.ghost_name) × (new.header.now ≡ old.header.now)
+-- it is the same borrowed outlet and the same header
+abbrev pub IsSameDump : {O : Type 0} → DumpSink O → DumpSink O → Type 0
+IsSameDump old new = (new.outlet.ghost_name ≡ old.outlet.ghost_name) × (new.header.now ≡ old.header.now)
 
--- the writer grew by what the items add, and the dump has come as far as they lead
-abbrev pub Takes : {W : Type 0} → (W → Option (List ℕ)) → DumpSink W → List Item → DumpSink W → Type 0
-Takes contents old items new =
+-- the outlet took what the items add, and the dump has come as far as they lead
+abbrev pub Takes : {O : Type 0} → (O → List ℕ → O → Type 0) → DumpSink O → List Item → DumpSink O → Type 0
+Takes takes old items new =
     IsSameDump old new
     × (new.progress ≡ progress_over old.progress items)
-    × Grows contents old.writer.now new.writer.now (text_of old items)
+    × takes old.outlet.now (text_of old items) new.outlet.now
 
 -- the fault came somewhere in what the items add
-abbrev pub Fails : {W : Type 0} → (W → Option (List ℕ)) → DumpSink W → List Item → OrMemory WriteFault → DumpSink W → Type 0
-Fails contents old items fault new =
-    IsSameDump old new × Stops contents old.writer.now new.writer.now (text_of old items) fault
+abbrev pub Fails : {O F : Type 0} → (O → List ℕ → O → Type 0) → (O → List ℕ → F → O → Type 0) → DumpSink O → List Item → OrMemory F → DumpSink O → Type 0
+Fails takes fails old items fault new =
+    IsSameDump old new × Stopped takes fails old.outlet.now (text_of old items) fault new.outlet.now

@@ -1,4 +1,4 @@
-// Why a text wasn't written to its end.
+// Why a text wasn't taken to its end.
 
 /// Why a text wasn't written to its end, but for want of memory.
 #[derive(Clone, Copy, Debug, PartialEq, Eq)]
@@ -6,3 +6,11 @@ pub enum WriteFault {
     /// E902: the writer failed.
     Write,
 }
+
+/// There are 2^64 bytes or more.
+#[derive(Clone, Copy, Debug, PartialEq, Eq)]
+pub struct TooMany;
+
+/// A fault that never comes.
+#[derive(Drop)]
+pub enum Never {}

@@ -1,7 +1,8 @@
-// The law of dumps: what is written can be read.
+// Laws: what is written can be read, and a text is compared byte for byte.
 
-ghost use Rattle.std.specs.Prelude.{◌≡◌, ◌+◌, ℕ, List, All, length};
+ghost use Rattle.std.specs.Prelude.{◌≡◌, ◌+◌, ℕ, List, [], All, Some, length};
 ghost use Rattle.vcd_text.specs.CodeLaws.{IsDigit, number_of};
+ghost use Rattle.vcd_text.specs.Comparing.{stripped};
 ghost use Rattle.vcd_text.specs.DumpText.{Slot, code, shortened};
 ghost use Rattle.vcd_text.specs.Readers.{IsTold, extended};
 
@@ -15,4 +16,10 @@ pub fn dumps_are_readable()
     ensures only { (n : ℕ) (text : List ℕ) → All IsDigit text → number_of text ≡ n + 1 → text ≡ code n }
     ensures back { (digits : List ℕ) → extended (length digits) (shortened digits) ≡ digits }
     ensures values { (slots : List Slot) → IsTold slots }
+{}
+
+/// The law of `Expected`, which does nothing: nothing of a text is left where just that text has come.
+pub fn expected_is_whole()
+    ensures whole { (text expected : List ℕ) → text ≡ expected → stripped text (Some expected) ≡ Some [] }
+    ensures only { (text expected : List ℕ) → stripped text (Some expected) ≡ Some [] → text ≡ expected }
 {}

@@ -3,20 +3,25 @@
 // The law: the bytes are those of specs/DumpText.antt, and after a fault a prefix of them.
 #![tactic(auto)]
 
+mod counter;
+mod expected;
 mod fault;
 mod header;
 mod law;
 mod metered;
+mod outlet;
 mod progress;
-mod put;
 mod sink;
 mod values;
 mod write;
 
-pub use fault::WriteFault;
+pub use counter::Counter;
+pub use expected::Expected;
+pub use fault::{Never, TooMany, WriteFault};
 pub use header::Header;
-pub use law::dumps_are_readable;
+pub use law::{dumps_are_readable, expected_is_whole};
 pub use metered::Metered;
+pub use outlet::Outlet;
 pub use sink::DumpSink;
 pub use values::put_digits;
 pub use write::write_vcd;

@@ -5,6 +5,8 @@ ghost use Rattle.std.specs.Io.{ReadsAtMost, WritesAtMost};
 ghost use Rattle.std.specs.Io.KnownBytes.{Keeps, ReadConsumes, WriteAppends};
 ghost use Rattle.vcd_text.specs.Metered.{counted, is_failed_write};
 
+use crate::fault::WriteFault;
+use crate::outlet::Outlet;
 use std::io;
 use std::io::{Read, Write};
 
@@ -97,4 +99,34 @@ impl<W: Write> Write for Metered<W> {
         self.failures = count(self.failures, answer.is_err());
         answer
     }
+}
+
+impl<W: Write> Outlet for Metered<W> {
+    ghost use Rattle.vcd_text.specs.Metered.{Written, Broken};
+    ghost use Rattle.vcd_text.specs.MeteredLaws.{metered_laws};
+
+    type Fault = WriteFault;
+
+    ghost takes = { Written W.contents };
+
+    ghost fails = { Broken W.contents };
+
+    // Writes the whole text. The first failure ends it.
+    fn put(&mut self, text: &[u8]) -> Result<(), WriteFault> {
+        let mut rest = text;
+        while !rest.is_empty() {
+            match self.write(rest) {
+                Ok(taken) => {
+                    if taken == 0 {
+                        return Err(WriteFault::Write);
+                    }
+                    rest = rest.split_at(taken).1;
+                }
+                Err(_) => return Err(WriteFault::Write),
+            }
+        }
+        Ok(())
+    }
+
+    ghost lawful = { metered_laws W.contents };
 }

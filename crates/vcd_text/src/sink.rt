@@ -6,16 +6,13 @@ ghost use Rattle.vmodel.specs.declared.history.DumpCommand.{DumpCommand};
 ghost use Rattle.vcd_text.specs.DumpText.{time_line};
 ghost use Rattle.vcd_text.specs.declared.progress.Progress.TheVariants.{Idle, Asked};
 ghost use Rattle.vcd_text.specs.Sinks.{changed_lines, end_text, last_line, start_text, timed};
-ghost use Rattle.vcd_text.specs.Metered.{Grows, Stops};
+ghost use Rattle.vcd_text.specs.Outlets.{Stopped};
 
-use crate::fault::WriteFault;
 use crate::header::Header;
-use crate::metered::Metered;
+use crate::outlet::{Outlet, put};
 use crate::progress::{Progress, ask, first_text, later_text, line_after, line_of};
-use crate::put::put;
 use basis::OrMemory;
 use std::alloc::Global;
-use std::io::Write;
 use vbits::Vec4;
 use vmodel::history::{End, Item};
 use vmodel::sink::Sink;
@@ -23,50 +20,50 @@ use vmodel::values::Values;
 
 /// Writes the dump of a run as its items come: the header and all values at the end of the first slot with a
 /// `$dumpvars`, the changes at each later slot end (18.2.1; docs/FORMATS.md, "Dumps"). Before a start nothing is
-/// written. `finish` completes the dump, and `into_writer` gives the writer back.
+/// written. `finish` completes the dump, and `into_outlet` gives back what it is written to.
 #[derive(Drop)]
-pub struct DumpSink<'a, W> {
+pub struct DumpSink<'a, O> {
     alloc: Global,
     header: &'a Header,
-    writer: &'a mut Metered<W>,
+    outlet: &'a mut O,
     progress: Progress,
 }
 
 // The header and the first slot's end.
-fn put_start<W: Write>(
+fn put_start<O: Outlet>(
     alloc: Global,
     header: &[u8],
-    writer: &mut Metered<W>,
+    outlet: &mut O,
     time: u64,
     values: &[Vec4],
-) -> Result<(), OrMemory<WriteFault>>
-    ensures ok { OnOk result (Grows W.contents writer.old writer.new (start_text header.now time values.now)) }
-    ensures err { IfErr result (Stops W.contents writer.old writer.new (start_text header.now time values.now)) }
+) -> Result<(), OrMemory<O::Fault>>
+    ensures ok { OnOk result (O.takes outlet.old (start_text header.now time values.now) outlet.new) }
+    ensures err { IfErr result (λ fault. Stopped O.takes O.fails outlet.old (start_text header.now time values.now) fault outlet.new) }
 {
     let text = first_text(alloc, time, values)?;
-    match put(writer, header) {
-        Ok(()) => put(writer, &text),
+    match put(outlet, header) {
+        Ok(()) => put(outlet, &text),
         Err(fault) => Err(fault),
     }
 }
 
 // The changes of a later slot. What is kept moves on to its values, and to its time where it has a line.
-fn put_slot<W: Write>(
+fn put_slot<O: Outlet>(
     alloc: Global,
-    writer: &mut Metered<W>,
+    outlet: &mut O,
     last: &mut u64,
     kept: &mut Values,
     time: u64,
     values: &[Vec4],
-) -> Result<(), OrMemory<WriteFault>>
+) -> Result<(), OrMemory<O::Fault>>
     ensures last { OnOk result (last.new ≡ last_line last.old time (changed_lines kept.old values.now)) }
     ensures kept { OnOk result (kept.new ≡ values.now) }
-    ensures ok { OnOk result (Grows W.contents writer.old writer.new (timed time (changed_lines kept.old values.now))) }
-    ensures err { IfErr result (Stops W.contents writer.old writer.new (timed time (changed_lines kept.old values.now))) }
+    ensures ok { OnOk result (O.takes outlet.old (timed time (changed_lines kept.old values.now)) outlet.new) }
+    ensures err { IfErr result (λ fault. Stopped O.takes O.fails outlet.old (timed time (changed_lines kept.old values.now)) fault outlet.new) }
 {
     let text = later_text(alloc, time, kept.as_slice(), values)?;
     kept.assign(values)?;
-    match put(writer, &text) {
+    match put(outlet, &text) {
         Ok(()) => {
             *last = line_after(*last, time, &text);
             Ok(())
@@ -76,51 +73,51 @@ fn put_slot<W: Write>(
 }
 
 // The time of the end, unless the last time line is that.
-fn put_end<W: Write>(
+fn put_end<O: Outlet>(
     alloc: Global,
-    writer: &mut Metered<W>,
+    outlet: &mut O,
     last: u64,
     time: u64,
-) -> Result<(), OrMemory<WriteFault>>
-    ensures ok { OnOk result (Grows W.contents writer.old writer.new (cond (last == time) [] (time_line time))) }
-    ensures err { IfErr result (Stops W.contents writer.old writer.new (cond (last == time) [] (time_line time))) }
+) -> Result<(), OrMemory<O::Fault>>
+    ensures ok { OnOk result (O.takes outlet.old (cond (last == time) [] (time_line time)) outlet.new) }
+    ensures err { IfErr result (λ fault. Stopped O.takes O.fails outlet.old (cond (last == time) [] (time_line time)) fault outlet.new) }
 {
     if last == time {
         return Ok(());
     }
     let text = line_of(alloc, time)?;
-    put(writer, &text)
+    put(outlet, &text)
 }
 
-impl<'a, W: Write> DumpSink<'a, W> {
+impl<'a, O: Outlet> DumpSink<'a, O> {
     ghost use Rattle.vcd_text.specs.Sinks.{progress_at_end, IsSameDump, Takes, Fails};
 
     /// A dump of which nothing has come yet.
-    pub fn new(alloc: Global, header: &'a Header, writer: &'a mut Metered<W>) -> DumpSink<'a, W>
-        ensures same_writer { result.writer.ghost_name ≡ writer.entry.ghost_name }
-        ensures unwritten { result.writer.now ≡ writer.old }
+    pub fn new(alloc: Global, header: &'a Header, outlet: &'a mut O) -> DumpSink<'a, O>
+        ensures same_outlet { result.outlet.ghost_name ≡ outlet.entry.ghost_name }
+        ensures unwritten { result.outlet.now ≡ outlet.old }
         ensures header { result.header.now ≡ header.now }
         ensures progress { result.progress ≡ Idle }
     {
         DumpSink {
             alloc,
             header,
-            writer,
+            outlet,
             progress: Progress::Idle,
         }
     }
 
     // The slot that asked for the dump has ended.
-    fn start(&mut self, time: u64, values: &[Vec4]) -> Result<(), OrMemory<WriteFault>>
+    fn start(&mut self, time: u64, values: &[Vec4]) -> Result<(), OrMemory<O::Fault>>
         requires { self.old.progress ≡ Asked }
-        ensures ok { OnOk result (Takes W.contents self.old (SlotEnd time values.now ∷ []) self.new) }
-        ensures err { IfErr result (λ fault. Fails W.contents self.old (SlotEnd time values.now ∷ []) fault self.new) }
+        ensures ok { OnOk result (Takes O.takes self.old (SlotEnd time values.now ∷ []) self.new) }
+        ensures err { IfErr result (λ fault. Fails O.takes O.fails self.old (SlotEnd time values.now ∷ []) fault self.new) }
     {
         let kept = Values::from_slice(self.alloc, values)?;
         match put_start(
             self.alloc,
             self.header.as_bytes(),
-            self.writer,
+            self.outlet,
             time,
             values,
         ) {
@@ -136,30 +133,30 @@ impl<'a, W: Write> DumpSink<'a, W> {
     }
 
     // A slot has ended.
-    fn end_slot(&mut self, time: u64, values: &[Vec4]) -> Result<(), OrMemory<WriteFault>>
-        ensures ok { OnOk result (Takes W.contents self.old (SlotEnd time values.now ∷ []) self.new) }
-        ensures err { IfErr result (λ fault. Fails W.contents self.old (SlotEnd time values.now ∷ []) fault self.new) }
+    fn end_slot(&mut self, time: u64, values: &[Vec4]) -> Result<(), OrMemory<O::Fault>>
+        ensures ok { OnOk result (Takes O.takes self.old (SlotEnd time values.now ∷ []) self.new) }
+        ensures err { IfErr result (λ fault. Fails O.takes O.fails self.old (SlotEnd time values.now ∷ []) fault self.new) }
     {
         match &mut self.progress {
             Progress::Idle => Ok(()),
             Progress::Asked => self.start(time, values),
             Progress::Started { last, values: kept } => {
-                put_slot(self.alloc, self.writer, last, kept, time, values)
+                put_slot(self.alloc, self.outlet, last, kept, time, values)
             }
         }
     }
 
     // A dump command.
     fn ask(&mut self)
-        ensures { (command : DumpCommand) → Takes W.contents self.old (Dump command ∷ []) self.new }
+        ensures { (command : DumpCommand) → Takes O.takes self.old (Dump command ∷ []) self.new }
     {
         ask(&mut self.progress);
     }
 
     // The next item.
-    fn take_item(&mut self, item: &Item) -> Result<(), OrMemory<WriteFault>>
-        ensures ok { OnOk result (Takes W.contents self.old (item.now ∷ []) self.new) }
-        ensures err { IfErr result (λ fault. Fails W.contents self.old (item.now ∷ []) fault self.new) }
+    fn take_item(&mut self, item: &Item) -> Result<(), OrMemory<O::Fault>>
+        ensures ok { OnOk result (Takes O.takes self.old (item.now ∷ []) self.new) }
+        ensures err { IfErr result (λ fault. Fails O.takes O.fails self.old (item.now ∷ []) fault self.new) }
     {
         match item {
             Item::SlotEnd { time, values } => self.end_slot(*time, values.as_slice()),
@@ -172,18 +169,18 @@ impl<'a, W: Write> DumpSink<'a, W> {
 
     /// Writes what the end of the run adds: its time, unless the last time line is that (E901, E902). After `Ok` a second
     /// call with the same end writes nothing.
-    pub fn finish(&mut self, end: &End) -> Result<(), OrMemory<WriteFault>>
+    pub fn finish(&mut self, end: &End) -> Result<(), OrMemory<O::Fault>>
         ensures same { IsSameDump self.old self.new }
         ensures progress { OnOk result (self.new.progress ≡ progress_at_end self.old.progress end.now.time) }
         ensures kept { OnErr result (self.new.progress ≡ self.old.progress) }
-        ensures ok { OnOk result (Grows W.contents self.old.writer.now self.new.writer.now (end_text self.old.progress end.now.time)) }
-        ensures err { IfErr result (Stops W.contents self.old.writer.now self.new.writer.now (end_text self.old.progress end.now.time)) }
+        ensures ok { OnOk result (O.takes self.old.outlet.now (end_text self.old.progress end.now.time) self.new.outlet.now) }
+        ensures err { IfErr result (λ fault. Stopped O.takes O.fails self.old.outlet.now (end_text self.old.progress end.now.time) fault self.new.outlet.now) }
     {
         match &mut self.progress {
             Progress::Idle => Ok(()),
             Progress::Asked => Ok(()),
             Progress::Started { last, values: _ } => {
-                match put_end(self.alloc, self.writer, *last, end.time) {
+                match put_end(self.alloc, self.outlet, *last, end.time) {
                     Ok(()) => {
                         *last = end.time;
                         Ok(())
@@ -194,32 +191,32 @@ impl<'a, W: Write> DumpSink<'a, W> {
         }
     }
 
-    /// The writer, with all that was written.
-    pub fn into_writer(self) -> &'a mut Metered<W>
-        ensures same_writer { result.ghost_name ≡ self.entry.writer.ghost_name }
-        ensures written { result.now ≡ self.entry.writer.now }
+    /// What the dump is written to, with all that it took.
+    pub fn into_outlet(self) -> &'a mut O
+        ensures same_outlet { result.ghost_name ≡ self.entry.outlet.ghost_name }
+        ensures written { result.now ≡ self.entry.outlet.now }
     {
         let DumpSink {
             alloc: _,
             header: _,
-            writer,
+            outlet,
             progress: _,
         } = self;
-        writer
+        outlet
     }
 }
 
-impl<'a, W: Write> Sink for DumpSink<'a, W> {
+impl<'a, O: Outlet> Sink for DumpSink<'a, O> {
     ghost use Rattle.vcd_text.specs.Sinks.{Takes, Fails};
     ghost use Rattle.vcd_text.specs.SinkLaws.{takes_none, takes_joins, fails_after};
 
-    type Fault = OrMemory<WriteFault>;
+    type Fault = OrMemory<O::Fault>;
 
-    ghost takes = { Takes W.contents };
+    ghost takes = { Takes O.takes };
 
-    ghost fails = { Fails W.contents };
+    ghost fails = { Fails O.takes O.fails };
 
-    fn take(&mut self, items: &[Item]) -> Result<(), OrMemory<WriteFault>> {
+    fn take(&mut self, items: &[Item]) -> Result<(), OrMemory<O::Fault>> {
         for item in items {
             match self.take_item(item) {
                 Ok(()) => {}
@@ -229,9 +226,9 @@ impl<'a, W: Write> Sink for DumpSink<'a, W> {
         Ok(())
     }
 
-    ghost none = { takes_none W.contents };
+    ghost none = { takes_none O.takes O.fails O.lawful };
 
-    ghost joins = { takes_joins W.contents };
+    ghost joins = { takes_joins O.takes O.fails O.lawful };
 
-    ghost fails_later = { fails_after W.contents };
+    ghost fails_later = { fails_after O.takes O.fails O.lawful };
 }

@@ -80,13 +80,13 @@ fn fill<W: Write>(
     machine: &Machine,
     log: &Log,
     steps: u32,
-    sink: &mut DumpSink<'_, W>,
+    sink: &mut DumpSink<'_, Metered<W>>,
 ) -> Result<(), Fault>
     requires fresh { sink.old.progress ≡ Idle }
     requires ends { (dump : List ℕ) × IsRunDump sink.old.header.now machine.now log.now steps dump }
     ensures same { IsSameDump sink.old sink.new }
-    ensures ok { OnOk result ((dump : List ℕ) × IsRunDump sink.old.header.now machine.now log.now steps dump × Grows W.contents sink.old.writer.now sink.new.writer.now dump) }
-    ensures err { IfErr result (λ fault. StopsDump W.contents sink.old.header.now machine.now log.now steps sink.old.writer.now sink.new.writer.now fault) }
+    ensures ok { OnOk result ((dump : List ℕ) × IsRunDump sink.old.header.now machine.now log.now steps dump × Grows W.contents sink.old.outlet.now sink.new.outlet.now dump) }
+    ensures err { IfErr result (λ fault. StopsDump W.contents sink.old.header.now machine.now log.now steps sink.old.outlet.now sink.new.outlet.now fault) }
 {
     match machine.run_into(log, steps, sink) {
         Ok(end) => match sink.finish(&end) {
@@ -114,7 +114,7 @@ fn write_run<W: Write>(
 {
     let mut sink = DumpSink::new(alloc, head, writer);
     let result = fill(machine, log, steps, &mut sink);
-    let writer = sink.into_writer();
+    let writer = sink.into_outlet();
     // No effect at run time. The proof reads what the writer holds from this use.
     let _ = &*writer;
     result

@@ -1,11 +1,8 @@
 // A run that nobody watches.
 
+use vcd_text::Never;
 use vmodel::history::Item;
 use vmodel::sink::Sink;
-
-/// A fault that never comes.
-#[derive(Drop)]
-pub enum Never {}
 
 /// Takes the items of a run and keeps none, so that it is known how the run ends before a byte of it is written.
 #[derive(Drop)]

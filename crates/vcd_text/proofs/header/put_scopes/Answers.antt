@@ -1,4 +1,4 @@
-use Rattle.std.proofs.Common.{◌++◌, ◌∷◌, ◌+◌, ◌-◌, min, length, map, drop, ap, sym, ◌∙◌, List, ℕ}
+use Rattle.std.proofs.Common.{◌++◌, ◌∷◌, ◌+◌, ◌-◌, length, drop, ap, ◌∙◌, List, ℕ}
 use Rattle.vast.specs.Design.{Scope, Variable}
 use Rattle.vcd_text.specs.DumpText.{closings, scope_line, scope_lines}
 use Rattle.vcd_text.proofs.HeaderLemmas.{left_from, scope_more}

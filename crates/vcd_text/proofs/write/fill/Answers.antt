@@ -2,7 +2,7 @@ use Rattle.std.proofs.Common.{◌∙◌, ap, subst, List, OnOk, IfErr}
 use Rattle.vmodel.specs.declared.history.Item.{Item}
 use Rattle.vmodel.specs.History.{History}
 use Rattle.vmodel.specs.declared.history.End.{End}
-use Rattle.vcd_text.specs.Metered.{Grows, Stops}
+use Rattle.vcd_text.specs.Outlets.{Stopped}
 use Rattle.vcd_text.specs.Sinks.{end_text, Takes, Fails}
 use Rattle.vcd_text.proofs.DumpLemmas.{completes, stops_completing, stops_taking}
 use Rattle.vcd_text.proofs.PutLemmas.{on_ok, on_err}
@@ -10,27 +10,32 @@ use Rattle.vcd_text.proofs.write.fill.Goals as goal
 
 pub returns-in-Ok : goal.returns-in-Ok
 returns-in-Ok g c =
-    let taken : Takes g.W.Write.contents c.args.sink.now c.args.history.now.items c.take.new.self =
-    subst (λ (xs : List Item). Takes g.W.Write.contents c.args.sink.now xs c.take.new.self) (c.deref.ensures.value ∙ ap (λ (h : History). h.items) c.history.view_is) c.in-Ok.ensures.ok in
+    let outlet = c.take.new.self.outlet.now in
+    let after = c.finish.new.self.outlet.now in
+    let is_items = c.deref.ensures.value ∙ ap (λ (h : History). h.items) c.history.view_is in
+    let taken : Takes g.O.Outlet.takes c.args.sink.now c.args.history.now.items c.take.new.self =
+    subst (λ (xs : List Item). Takes g.O.Outlet.takes c.args.sink.now xs c.take.new.self) is_items c.in-Ok.ensures.ok in
     let ended = ap (λ (h : History). h.end) c.history.view_is in
     record {
       same = (c.finish.ensures.same.0 ∙ taken.0.0, c.finish.ensures.same.1 ∙ taken.0.1);
       ok = on_ok c.finish.result
-          (completes g.W.Write.contents c.args.sink.now c.take.new.self c.args.history.now c.finish.new.self.writer.now c.requires taken)
-          (subst (λ (e : End). OnOk c.finish.result (Grows g.W.Write.contents c.take.new.self.writer.now c.finish.new.self.writer.now (end_text c.take.new.self.progress e.time))) ended c.finish.ensures.ok);
+          (completes g.O.Outlet.takes g.O.Outlet.fails g.met.O.Outlet.lawful c.args.sink.now c.args.history.now c.requires c.take.new.self after taken)
+          (subst (λ (e : End). OnOk c.finish.result (g.O.Outlet.takes outlet (end_text c.take.new.self.progress e.time) after)) ended c.finish.ensures.ok);
       err = on_err c.finish.result
-          (λ fault. stops_completing g.W.Write.contents c.args.sink.now c.take.new.self c.args.history.now c.finish.new.self.writer.now fault
-          c.requires taken)
-          (subst (λ (e : End). IfErr c.finish.result (Stops g.W.Write.contents c.take.new.self.writer.now c.finish.new.self.writer.now (end_text c.take.new.self.progress e.time))) ended c.finish.ensures.err);
+          (λ fault. stops_completing g.O.Outlet.takes g.O.Outlet.fails g.met.O.Outlet.lawful c.args.sink.now c.args.history.now c.requires c.take.new.self
+          after fault taken)
+          (subst (λ (e : End). IfErr c.finish.result (λ fault. Stopped g.O.Outlet.takes g.O.Outlet.fails outlet (end_text c.take.new.self.progress e.time)
+          fault after)) ended c.finish.ensures.err);
     }
 
 pub returns-in-Err : goal.returns-in-Err
 returns-in-Err g c =
-    let failed : Fails g.W.Write.contents c.args.sink.now c.args.history.now.items c.in-Err.fault c.take.new.self =
-    subst (λ (xs : List Item). Fails g.W.Write.contents c.args.sink.now xs c.in-Err.fault c.take.new.self) (c.deref.ensures.value ∙ ap (λ (h : History). h.items) c.history.view_is)
-    c.in-Err.ensures.err in
+    let is_items = c.deref.ensures.value ∙ ap (λ (h : History). h.items) c.history.view_is in
+    let failed : Fails g.O.Outlet.takes g.O.Outlet.fails c.args.sink.now c.args.history.now.items c.in-Err.fault c.take.new.self =
+    subst (λ (xs : List Item). Fails g.O.Outlet.takes g.O.Outlet.fails c.args.sink.now xs c.in-Err.fault c.take.new.self) is_items c.in-Err.ensures.err in
     record {
       same = failed.0;
       ok = tt;
-      err = stops_taking g.W.Write.contents c.args.sink.now c.take.new.self c.args.history.now c.in-Err.fault c.requires failed;
+      err = stops_taking g.O.Outlet.takes g.O.Outlet.fails g.met.O.Outlet.lawful c.args.sink.now c.args.history.now c.requires c.take.new.self c.in-Err.fault
+          failed;
     }

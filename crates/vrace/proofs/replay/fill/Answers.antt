@@ -4,12 +4,12 @@ use Rattle.vrace.proofs.replay.fill.Goals as goal
 pub returns-in-Ok-finish-clause-ok : goal.returns-in-Ok-finish-clause-ok
 returns-in-Ok-finish-clause-ok g c =
     grows_whole g.W.Write.contents c.args.machine.now c.args.log.now c.args.steps c.args.sink.now c.requires.fresh c.run_into.new.sink
-    c.finish.new.self.writer.now c.in-Ok.end c.in-Ok.ensures.ends c.in-Ok-finish.ensures.ok
+    c.finish.new.self.outlet.now c.in-Ok.end c.in-Ok.ensures.ends c.in-Ok-finish.ensures.ok
 
 pub returns-in-Err-clause-err : goal.returns-in-Err-clause-err
 returns-in-Err-clause-err g c =
     stops_at_end g.W.Write.contents c.args.machine.now c.args.log.now c.args.steps c.args.sink.now c.requires.fresh c.run_into.new.sink
-    c.finish.new.self.writer.now c.in-Ok.end c.in-Err.fault c.of_writing.result c.of_writing.ensures c.in-Ok.ensures.ends c.in-Err.ensures.err
+    c.finish.new.self.outlet.now c.in-Ok.end c.in-Err.fault c.of_writing.result c.of_writing.ensures c.in-Ok.ensures.ends c.in-Err.ensures.err
 
 pub returns-in-Err-Fault-Sink-clause-err : goal.returns-in-Err-Fault-Sink-clause-err
 returns-in-Err-Fault-Sink-clause-err g c =

@@ -1,6 +1,5 @@
 use Rattle.std.proofs.Common.{drop}
 use Rattle.basis.specs.declared.memory.OrMemory.{OrMemory}
-use Rattle.vcd_text.specs.declared.fault.WriteFault.{WriteFault}
 use Rattle.vcd_text.specs.declared.sink.DumpSink.{DumpSink}
 use Rattle.vcd_text.specs.Sinks.{Takes, Fails}
 use Rattle.vcd_text.proofs.sink.DumpSinkSink.take.Given as goal
@@ -8,7 +7,7 @@ use Rattle.vcd_text.proofs.sink.DumpSinkSink.take.Given as goal
 -- what taking the rest does, taking all does
 abbrev pub invariant-loop-item : goal.invariant-loop-item
 invariant-loop-item g l =
-    ((t : DumpSink _) → Takes g.W.Write.contents l.self (drop l.item-index l.items) t →
-    Takes g.W.Write.contents l.initial.self l.items t)
-    × ((t : DumpSink _) (fault : OrMemory WriteFault) → Fails g.W.Write.contents l.self (drop l.item-index l.items) fault t →
-    Fails g.W.Write.contents l.initial.self l.items fault t)
+    ((t : DumpSink _) → Takes g.O.Outlet.takes l.self (drop l.item-index l.items) t →
+    Takes g.O.Outlet.takes l.initial.self l.items t)
+    × ((t : DumpSink _) (fault : OrMemory _) → Fails g.O.Outlet.takes g.O.Outlet.fails l.self (drop l.item-index l.items) fault t →
+    Fails g.O.Outlet.takes g.O.Outlet.fails l.initial.self l.items fault t)

@@ -1,0 +1,5 @@
+use Rattle.vcd_text.specs.Comparing.{whole_is_left, left_is_whole}
+use Rattle.vcd_text.proofs.law.expected_is_whole.Goals as goal
+
+pub returns : goal.returns
+returns c = record { whole = whole_is_left; only = left_is_whole }

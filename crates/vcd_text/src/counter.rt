@@ -1,0 +1,50 @@
+// How long a text is, where nobody keeps it.
+
+ghost use Rattle.std.specs.Prelude.{◌≡◌};
+
+use crate::fault::TooMany;
+use crate::outlet::Outlet;
+
+/// Counts the bytes of texts and keeps none.
+#[derive(Drop)]
+pub struct Counter {
+    count: u64,
+}
+
+impl Counter {
+    /// Counts from 0.
+    pub fn new() -> Counter
+        ensures { result.count ≡ 0 }
+    {
+        Counter { count: 0 }
+    }
+
+    /// How many bytes have come.
+    pub fn count(&self) -> u64
+        ensures { result ≡ self.now.count }
+    {
+        self.count
+    }
+}
+
+impl Outlet for Counter {
+    ghost use Rattle.vcd_text.specs.Counts.{Counts, IsFull, counter_laws};
+
+    type Fault = TooMany;
+
+    ghost takes = { Counts };
+
+    ghost fails = { IsFull };
+
+    fn put(&mut self, text: &[u8]) -> Result<(), TooMany> {
+        match self.count.checked_add(text.len() as u64) {
+            Some(count) => {
+                self.count = count;
+                Ok(())
+            }
+            None => Err(TooMany),
+        }
+    }
+
+    ghost lawful = { counter_laws };
+}
