@@ -58,11 +58,11 @@ pub record HasRow (setting : Setting) (found : Standing × List (ℕ × ℕ)) (p
   pub among : Contains rows row
   pub of : IsRow setting found place row
 
--- each row is of a mark, and each of the first marks at which a run ends has its row
+-- each row is of a mark, and each of the first marks has its row where a run ends there
 pub record AreRowsBelow (setting : Setting) (marks : List (Standing × List (ℕ × ℕ))) (count : ℕ) (rows : List Row) : Type 0 where
   pub each : (row : Row) → Contains rows row → IsRowOfSome setting marks row
-  pub whole : (place : ℕ) (found : Standing × List (ℕ × ℕ)) (t : State) (end : End) → place < count →
-      slice_get marks place ≡ Some found → Stands setting found.0 t → end_in t ≡ Some end → HasRow setting found place rows
+  pub whole : (place : ℕ) (found : Standing × List (ℕ × ℕ)) → place < count → slice_get marks place ≡ Some found →
+      HasRow setting found place rows ⊎ IsNoEnd setting found.0
 
 abbrev pub AreRows : Setting → List (Standing × List (ℕ × ℕ)) → List Row → Type 0
 AreRows setting marks rows = AreRowsBelow setting marks (length marks) rows

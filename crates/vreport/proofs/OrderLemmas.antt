@@ -1,0 +1,108 @@
+-- The order of rows.
+use Rattle.std.proofs.Common.{◌≡◌, ℕ, zero, suc, ◌+◌, ◌-◌, ◌<◌, ◌≤◌, ◌⊎◌, Bool, true, false, List, length, slice_get, get_or, Option, Some, refl, sym, ap, ◌∙◌, subst, inl, inr, arith}
+use Rattle.std.specs.Cmp.{IsTotalOrder}
+use Rattle.std.specs.Cmp.Lexicographic.{slice_cmp}
+use Rattle.std.specs.Ordering.{nat_cmp, is_lt, is_eq, ordering_then, ordering_reverse}
+use Rattle.std.specs.List.Sorted.{IsSorted}
+use Rattle.std.specs.declared.cmp.Ordering.{Ordering}
+use Rattle.std.specs.declared.cmp.Ordering.TheVariants.{Less, Equal, Greater}
+use Rattle.std.proofs.lemmas.Bool.{cases_lt}
+use Rattle.std.proofs.lemmas.Cmp.{nat_cmp_total, nat_list_cmp_total, on_total, then_total, ranked}
+use Rattle.std.proofs.lemmas.Map.Text.{is_eq-slice_cmp}
+use Rattle.std.proofs.lemmas.Slice.Eq.{bytes_eq-Decides}
+use Rattle.std.proofs.lemmas.Option.{slice_get_within, get_or_from_slice_get}
+use Rattle.vreport.specs.declared.row.Row.{Row}
+use Rattle.vreport.specs.Inner.{AreAlike, AreSortedRows, IsNotAfter, IsRowBefore}
+
+-- ---- any total order
+
+module _ {K : Type 0} (R : K → K → Ordering) (total : IsTotalOrder R) where
+  abbrev NotAfter : K → K → Type 0
+  NotAfter x y = is_lt (R y x) ≡ false
+
+  through : (x y z : K) (o p : Ordering) → R z x ≡ o → R z y ≡ p → NotAfter x y → NotAfter y z → is_lt o ≡ false
+  through x y z Equal p e f h k = refl
+  through x y z Greater p e f h k = refl
+  through x y z Less Less e f h k = absurd (let bad : is_lt (R z y) ≡ true = ap is_lt f in cc)
+  through x y z Less Equal e f h k =
+      let less : R y x ≡ Less = sym (total.congr z y x f) ∙ e in
+      absurd (let bad : is_lt (R y x) ≡ true = ap is_lt less in cc)
+  through x y z Less Greater e f h k =
+      let up : R y z ≡ Less = total.antisymm y z ∙ ap ordering_reverse f in
+      let less : R y x ≡ Less = total.trans y z x up e in
+      absurd (let bad : is_lt (R y x) ≡ true = ap is_lt less in cc)
+
+  not_after_trans : (x y z : K) → NotAfter x y → NotAfter y z → NotAfter x z
+  not_after_trans x y z h k = through x y z (R z x) (R z y) refl refl h k
+
+  -- what stands in order by neighbours does so by any two
+  far : (xs : List K) (d : K) → IsSorted R xs → (i n : ℕ) → i + suc n < length xs → NotAfter (get_or xs i d) (get_or xs (i + suc n) d)
+  far xs d sorted i zero lt =
+      let e : i + 1 ≡ i + suc zero = omega arith in
+      subst (λ m. NotAfter (get_or xs i d) (get_or xs m d)) e (sorted i d (omega arith) (subst (λ m. m < length xs) (sym e) lt))
+  far xs d sorted i (suc n) lt =
+      let h : NotAfter (get_or xs i d) (get_or xs (i + suc n) d) = far xs d sorted i n (omega (arith, lt)) in
+      let e : (i + suc n) + 1 ≡ i + suc (suc n) = omega arith in
+      let near : NotAfter (get_or xs (i + suc n) d) (get_or xs ((i + suc n) + 1) d) = sorted (i + suc n) d (omega arith) (subst (λ m. m < length xs) (sym e) lt) in
+      not_after_trans (get_or xs i d) (get_or xs (i + suc n) d) (get_or xs (i + suc (suc n)) d) h (subst (λ m. NotAfter (get_or xs (i + suc n) d) (get_or xs m d)) e near)
+
+  pub any_two : (xs : List K) → IsSorted R xs → (i j : ℕ) (x y : K) → i < j → slice_get xs i ≡ Some x → slice_get xs j ≡ Some y → is_lt (R y x) ≡ false
+  any_two xs sorted i j x y lt at at' =
+      let e : i + suc (j - suc i) ≡ j = omega arith in
+      let within : j < length xs = slice_get_within xs j y at' in
+      let h : NotAfter (get_or xs i x) (get_or xs j x) = subst (λ m. NotAfter (get_or xs i x) (get_or xs m x)) e (far xs x sorted i (j - suc i) (subst (λ m. m < length xs) (sym e) within)) in
+      let p : get_or xs i x ≡ x = get_or_from_slice_get xs i x x at in
+      let q : get_or xs j x ≡ y = get_or_from_slice_get xs j y x at' in
+      subst (λ (b : K). NotAfter x b) q (subst (λ (a : K). NotAfter a (get_or xs j x)) p h)
+
+-- ---- rows
+
+abbrev pub row_cmp : Row → Row → Ordering
+row_cmp r s =
+    ordering_then (nat_cmp r.time s.time) (ordering_then (nat_cmp r.cause s.cause)
+    (ordering_then (slice_cmp nat_cmp r.line.items s.line.items) (ordering_then (nat_cmp r.departures s.departures) (nat_cmp r.place s.place))))
+
+row_total : IsTotalOrder row_cmp
+row_total =
+    then_total (on_total (λ (r : Row). r.time) nat_cmp_total) (then_total (on_total (λ (r : Row). r.cause) nat_cmp_total)
+    (then_total (on_total (λ (r : Row). r.line.items) nat_list_cmp_total)
+    (then_total (on_total (λ (r : Row). r.departures) nat_cmp_total) (on_total (λ (r : Row). r.place) nat_cmp_total))))
+
+equal_numbers : (a b : ℕ) → nat_cmp a b ≡ Equal → a ≡ b
+equal_numbers a b e = rw e at (ranked a b (nat_cmp a b) refl)
+
+less_numbers : (a b : ℕ) → nat_cmp a b ≡ Less → a < b
+less_numbers a b e = rw e at (ranked a b (nat_cmp a b) refl)
+
+equal_lines : (a b : List ℕ) → slice_cmp nat_cmp a b ≡ Equal → a ≡ b
+equal_lines a b e = (bytes_eq-Decides a b).0 (sym (is_eq-slice_cmp a b) ∙ ap is_eq e)
+
+alike : (r s : Row) → nat_cmp s.time r.time ≡ Equal → nat_cmp s.cause r.cause ≡ Equal → slice_cmp nat_cmp s.line.items r.line.items ≡ Equal → AreAlike r s
+alike r s e f g = record {
+  time_same = sym (equal_numbers s.time r.time e);
+  cause_same = sym (equal_numbers s.cause r.cause f);
+  line_same = sym (equal_lines s.line.items r.line.items g);
+}
+
+by_cases : (r s : Row) (o p q u : Ordering) → nat_cmp s.time r.time ≡ o → nat_cmp s.cause r.cause ≡ p → slice_cmp nat_cmp s.line.items r.line.items ≡ q → nat_cmp s.departures r.departures ≡ u →
+    is_lt (ordering_then o (ordering_then p (ordering_then q (ordering_then u (nat_cmp s.place r.place))))) ≡ false → IsNotAfter r s
+by_cases r s Greater p q u e f g h up = inl (inl (less_numbers r.time s.time (nat_cmp_total.antisymm r.time s.time ∙ ap ordering_reverse e)))
+by_cases r s Less p q u e f g h up = absurd (cc)
+by_cases r s Equal Less q u e f g h up = absurd (cc)
+by_cases r s Equal Greater q u e f g h up =
+    inl (inr (sym (equal_numbers s.time r.time e), inl (less_numbers r.cause s.cause (nat_cmp_total.antisymm r.cause s.cause ∙ ap ordering_reverse f))))
+by_cases r s Equal Equal Less u e f g h up = absurd (cc)
+by_cases r s Equal Equal Greater u e f g h up =
+    inl (inr (sym (equal_numbers s.time r.time e), inr (sym (equal_numbers s.cause r.cause f), nat_list_cmp_total.antisymm r.line.items s.line.items ∙ ap ordering_reverse g)))
+by_cases r s Equal Equal Equal Less e f g h up = absurd (cc)
+by_cases r s Equal Equal Equal Equal e f g h up =
+    let same : r.departures ≡ s.departures = sym (equal_numbers s.departures r.departures h) in
+    inr (alike r s e f g, omega arith)
+by_cases r s Equal Equal Equal Greater e f g h up =
+    let less : r.departures < s.departures = less_numbers r.departures s.departures (nat_cmp_total.antisymm r.departures s.departures ∙ ap ordering_reverse h) in
+    inr (alike r s e f g, omega arith)
+
+pub rows_sorted : (rows : List Row) → IsSorted row_cmp rows → AreSortedRows rows
+rows_sorted rows sorted = λ i j r s lt at at'.
+    by_cases r s (nat_cmp s.time r.time) (nat_cmp s.cause r.cause) (slice_cmp nat_cmp s.line.items r.line.items) (nat_cmp s.departures r.departures) refl refl refl refl
+    (any_two row_cmp row_total rows sorted i j r s lt at at')
