@@ -1,3 +1,5 @@
 pub mod Values
 pub mod Ends
 pub mod Inner
+pub mod Dumps
+pub mod RunLaws

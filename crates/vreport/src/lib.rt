@@ -3,5 +3,6 @@
 // The law: what a report lists is true; where the findings are all, every end and every race is listed.
 #![tactic(auto)]
 
+mod dump;
 mod row;
 mod values;
