@@ -1,10 +1,15 @@
 -- Ends that runs come to, and when a list of them is whole.
-use Rattle.std.specs.Prelude.{◌≡◌, ℕ, ◌≤◌, List, length, slice_get, Some}
+use Rattle.std.specs.Prelude.{◌≡◌, ℕ, ◌≤◌, ◌^◌, List, length, slice_get, Some}
 use Rattle.sched_core.specs.Replay.{EndsAfter}
+use Rattle.explore.specs.declared.findings.Findings.{Findings}
+use Rattle.vmachine.specs.declared.standing.Standing.{Standing}
+use Rattle.racebook.specs.Races.{IsWhole}
 use Rattle.statebook.specs.declared.limits.Limits.{Limits}
 use Rattle.vmodel.specs.declared.history.Cause.{Cause}
 use Rattle.vmodel.specs.Run.{Setting, rules_of, state_after, end_of}
 use Rattle.report_text.specs.Report.{End}
+use Rattle.vcd_text.specs.DumpText.{header}
+use Rattle.vreport.specs.Dumps.{IsRunDump}
 use Rattle.vreport.specs.Values.{values_line}
 
 -- after so many steps the run under the log ends: at this time, for this cause, with these values
@@ -19,6 +24,16 @@ pub record IsTrueEnd (setting : Setting) (limits : Limits) (end : End) : Type 0 
   pub after : IsEndAfter setting end.log steps end.time end.cause end.line
   pub within : steps ≤ limits.steps
   pub short : length end.log ≤ limits.depart
+
+-- its bytes are as many as the dump of that run has
+pub record HasBytes (setting : Setting) (limits : Limits) (end : End) : Type 0 where
+  pub dump : List ℕ
+  pub is_dump : IsRunDump (header setting.design) setting end.log limits.steps dump
+  pub bytes_are : end.bytes ≡ length dump
+
+-- the run has a dump of 2^64 bytes or more
+abbrev pub HasLongDump : List ℕ → Setting → List (ℕ × ℕ) → ℕ → Type 0
+HasLongDump head setting log limit = (dump : List ℕ) × IsRunDump head setting log limit dump × (2 ^ 64 ≤ length dump)
 
 -- the end is listed, under a log of at most so many departures
 pub record ListsEnd (ends : List End) (time : ℕ) (cause : Cause) (line : List ℕ) (departures : ℕ) : Type 0 where
@@ -35,3 +50,7 @@ pub record ListsEnd (ends : List End) (time : ℕ) (cause : Cause) (line : List 
 abbrev pub ListsEveryEnd : Setting → ℕ → List End → Type 0
 ListsEveryEnd setting depart ends = (log : List (ℕ × ℕ)) (steps time : ℕ) (cause : Cause) (line : List ℕ) →
     length log ≤ depart → IsEndAfter setting log steps time cause line → ListsEnd ends time cause line (length log)
+
+-- so it is where the findings are all
+abbrev pub GivesEveryEnd : Setting → Limits → Findings Standing → List End → Type 0
+GivesEveryEnd setting limits findings ends = IsWhole setting limits findings → ListsEveryEnd setting limits.depart ends

@@ -1,9 +1,10 @@
 -- Words for the contracts of calls within: the marks at which runs end, as rows.
-use Rattle.std.specs.Prelude.{◌≡◌, ◌≢◌, ℕ, zero, suc, ◌<◌, ◌≤◌, ◌⊎◌, List, length, slice_get, Option, Some, None}
+use Rattle.std.specs.Prelude.{◌≡◌, ◌≢◌, ℕ, zero, suc, ◌+◌, ◌<◌, ◌≤◌, ◌⊎◌, List, length, slice_get, Option, Some, None}
 use Rattle.std.specs.List.{Contains}
-use Rattle.std.specs.Ordering.{nat_cmp}
+use Rattle.std.specs.Ordering.{nat_cmp, ordering_then}
+use Rattle.std.specs.declared.cmp.Ordering.{Ordering}
 use Rattle.std.specs.Cmp.Lexicographic.{slice_cmp}
-use Rattle.std.specs.declared.cmp.Ordering.TheVariants.{Less}
+use Rattle.std.specs.declared.cmp.Ordering.TheVariants.{Less, Equal}
 use Rattle.vmodel.specs.declared.history.Cause.{Cause}
 use Rattle.vmodel.specs.declared.history.Cause.TheVariants.{Finish, Stop, Quiet, Limit}
 use Rattle.vmodel.specs.declared.history.End.{End}
@@ -13,6 +14,11 @@ use Rattle.vmachine.specs.declared.standing.Standing.{Standing}
 use Rattle.vmachine.specs.Machines.{Stands}
 use Rattle.vmachine.specs.Reads.{end_in}
 use Rattle.vreport.specs.declared.row.Row.{Row}
+use Rattle.statebook.specs.declared.limits.Limits.{Limits}
+use Rattle.report_text.specs.Report.{End as Told}
+use Rattle.report_text.specs.WellFormed.{Each, EachTwo, IsEndBefore}
+use Rattle.vreport.specs.Dumps.{IsRunDump}
+use Rattle.vreport.specs.Ends.{HasBytes}
 use Rattle.vreport.specs.Values.{values_line}
 
 -- the place of a cause in the order of their words
@@ -69,21 +75,64 @@ AreRows setting marks rows = AreRowsBelow setting marks (length marks) rows
 
 -- ---- the order of rows
 
--- the rows are of the same end
-pub record AreAlike (r s : Row) : Type 0 where
-  pub time_same : r.time ≡ s.time
-  pub cause_same : r.cause ≡ s.cause
-  pub line_same : r.line.items ≡ s.line.items
+-- by time, then by the order of causes, then by the line of values
+abbrev pub key_cmp : Row → Row → Ordering
+key_cmp r s = ordering_then (nat_cmp r.time s.time) (ordering_then (nat_cmp r.cause s.cause) (slice_cmp nat_cmp r.line.items s.line.items))
 
--- the end of one row stands before that of another
-abbrev pub IsRowBefore : Row → Row → Type 0
-IsRowBefore r s =
-    (r.time < s.time)
-    ⊎ ((r.time ≡ s.time) × ((r.cause < s.cause) ⊎ ((r.cause ≡ s.cause) × (slice_cmp nat_cmp r.line.items s.line.items ≡ Less))))
-
--- it stands before the other, or is the same end under no more departures
+-- the end of one row stands before that of the other, or is the same under no more departures
 abbrev pub IsNotAfter : Row → Row → Type 0
-IsNotAfter r s = IsRowBefore r s ⊎ (AreAlike r s × (r.departures ≤ s.departures))
+IsNotAfter r s = (key_cmp r s ≡ Less) ⊎ ((key_cmp r s ≡ Equal) × (r.departures ≤ s.departures))
 
 abbrev pub AreSortedRows : List Row → Type 0
-AreSortedRows rows = (i j : ℕ) (r s : Row) → i < j → slice_get rows i ≡ Some r → slice_get rows j ≡ Some s → IsNotAfter r s
+AreSortedRows rows = EachTwo IsNotAfter rows
+
+-- the row at the place and the one before it are of one end
+pub record Repeats (rows : List Row) (place : ℕ) : Type 0 where
+  pub before : ℕ
+  pub first : Row
+  pub second : Row
+  pub is_before : before + 1 ≡ place
+  pub first_at : slice_get rows before ≡ Some first
+  pub second_at : slice_get rows place ≡ Some second
+  pub alike : key_cmp first second ≡ Equal
+
+-- ---- ends of rows
+
+-- so many bytes as the run's dump has
+abbrev pub CountsDump : List ℕ → Setting → List (ℕ × ℕ) → ℕ → ℕ → Type 0
+CountsDump head setting log limit count = (dump : List ℕ) × IsRunDump head setting log limit dump × (count ≡ length dump)
+
+-- the end is that of the row, under the log of its mark
+pub record IsEndOfRow (setting : Setting) (limits : Limits) (marks : List (Standing × List (ℕ × ℕ))) (row : Row) (end : Told) : Type 0 where
+  pub found : Standing × List (ℕ × ℕ)
+  pub at : slice_get marks row.place ≡ Some found
+  pub of : IsRow setting found row.place row
+  pub time_is : end.time ≡ row.time
+  pub cause_is : row.cause ≡ order_of end.cause
+  pub line_is : end.line ≡ row.line.items
+  pub log_is : end.log ≡ found.1
+  pub bytes : HasBytes setting limits end
+
+-- the row's end is listed, under no more departures
+pub record HasEnd (ends : List Told) (row : Row) : Type 0 where
+  pub place : ℕ
+  pub end : Told
+  pub at : slice_get ends place ≡ Some end
+  pub time_is : end.time ≡ row.time
+  pub cause_is : row.cause ≡ order_of end.cause
+  pub line_is : end.line ≡ row.line.items
+  pub fewest : length end.log ≤ row.departures
+
+-- the end is that of one of the first rows
+pub record IsEndOfSome (setting : Setting) (limits : Limits) (marks : List (Standing × List (ℕ × ℕ))) (rows : List Row) (count : ℕ) (end : Told) : Type 0 where
+  pub place : ℕ
+  pub row : Row
+  pub below : place < count
+  pub at : slice_get rows place ≡ Some row
+  pub of : IsEndOfRow setting limits marks row end
+
+-- the ends are those of the first rows
+pub record AreEndsBelow (setting : Setting) (limits : Limits) (marks : List (Standing × List (ℕ × ℕ))) (rows : List Row) (count : ℕ) (ends : List Told) : Type 0 where
+  pub each : Each (IsEndOfSome setting limits marks rows count) ends
+  pub whole : (place : ℕ) (row : Row) → place < count → slice_get rows place ≡ Some row → HasEnd ends row
+  pub order : EachTwo IsEndBefore ends

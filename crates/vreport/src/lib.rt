@@ -4,5 +4,6 @@
 #![tactic(auto)]
 
 mod dump;
+mod ends;
 mod row;
 mod values;
