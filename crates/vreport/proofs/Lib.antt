@@ -1,3 +1,6 @@
 pub mod RowLemmas
 pub mod OrderLemmas
 pub mod DumpLemmas
+pub mod EndLemmas
+pub mod ListingLemmas
+pub mod WholeLemmas

@@ -35,6 +35,10 @@ pub record HasBytes (setting : Setting) (limits : Limits) (end : End) : Type 0 w
 abbrev pub HasLongDump : List ℕ → Setting → List (ℕ × ℕ) → ℕ → Type 0
 HasLongDump head setting log limit = (dump : List ℕ) × IsRunDump head setting log limit dump × (2 ^ 64 ≤ length dump)
 
+-- so has a run of no more departures than the limit
+abbrev pub HasSomeLongDump : Setting → Limits → Type 0
+HasSomeLongDump setting limits = (log : List (ℕ × ℕ)) × (length log ≤ limits.depart) × HasLongDump (header setting.design) setting log limits.steps
+
 -- the end is listed, under a log of at most so many departures
 pub record ListsEnd (ends : List End) (time : ℕ) (cause : Cause) (line : List ℕ) (departures : ℕ) : Type 0 where
   pub place : ℕ

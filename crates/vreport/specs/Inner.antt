@@ -136,3 +136,6 @@ pub record AreEndsBelow (setting : Setting) (limits : Limits) (marks : List (Sta
   pub each : Each (IsEndOfSome setting limits marks rows count) ends
   pub whole : (place : ℕ) (row : Row) → place < count → slice_get rows place ≡ Some row → HasEnd ends row
   pub order : EachTwo IsEndBefore ends
+
+abbrev pub AreEnds : Setting → Limits → List (Standing × List (ℕ × ℕ)) → List Row → List Told → Type 0
+AreEnds setting limits marks rows ends = AreEndsBelow setting limits marks rows (length rows) ends

@@ -1,0 +1,149 @@
+-- Ends and the runs that they are of.
+use Rattle.std.proofs.Common.{◌≡◌, ℕ, ◌+◌, ◌-◌, ◌<◌, ◌≤◌, ◌⊎◌, ◌==◌, Bool, true, false, cond, List, [], ◌∷◌, ◌++◌, length, slice_get, get_or, Decides, Option, Some, None, refl, sym, ap, ◌∙◌, subst, inl, inr, arith}
+use Rattle.std.proofs.lemmas.Bool.{cases_lt}
+use Rattle.std.proofs.lemmas.Bool.Decides.{nat_tests}
+use Rattle.std.proofs.lemmas.Option.{same_Some, slice_get-get_or}
+use Rattle.std.specs.Cmp.Lexicographic.{pointwise, bytes_decides}
+use lib.Dec.{eqb}
+use Rattle.std.specs.declared.cmp.Ordering.TheVariants.{Equal}
+use Rattle.basis.specs.Reasons.{Because}
+use Rattle.basis.specs.declared.memory.OrMemory.{OrMemory}
+use Rattle.basis.specs.declared.memory.OrMemory.TheVariants.{Fault, Memory}
+use Rattle.sched_core.specs.Rules.{IsRun, stands}
+use Rattle.sched_core.specs.Replay.{EndsAfter}
+use Rattle.statebook.specs.Covered.{IsCovered}
+use Rattle.statebook.specs.declared.limits.Limits.{Limits}
+use Rattle.explore.specs.Found.{AreFound, IsFound, IsListedMark}
+use Rattle.vmodel.specs.declared.history.Cause.{Cause}
+use Rattle.vmodel.specs.declared.history.Cause.TheVariants.{Finish, Stop, Quiet, Limit}
+use Rattle.vmodel.specs.declared.history.End.{End}
+use Rattle.vmodel.specs.State.{State}
+use Rattle.vmodel.specs.Choices.{choices}
+use Rattle.vmodel.specs.Run.{Setting, rules_of, state_after, end_of, history_after}
+use Rattle.vmodel.specs.Played.{Finishes, width_is}
+use Rattle.vmachine.specs.declared.standing.Standing.{Standing}
+use Rattle.vmachine.specs.Machines.{Stands, machine_rules}
+use Rattle.vmachine.specs.Reads.{end_in}
+use Rattle.vcd_text.specs.DumpText.{dump_below, header}
+use Rattle.vreport.specs.declared.row.Row.{Row}
+use Rattle.vreport.specs.Dumps.{HasDump, IsRunDump}
+use Rattle.report_text.specs.Report.{End as Told}
+use Rattle.vreport.specs.Ends.{HasLongDump, HasSomeLongDump}
+use Rattle.vreport.specs.Inner.{CountsDump, IsEndOfRow, IsRow, IsRowAt, IsRowOfSome, Repeats, cause_of, key_cmp, order_of}
+use Rattle.vreport.proofs.DumpLemmas.{the_dump}
+use Rattle.vreport.proofs.OrderLemmas.{key_same, same_key}
+
+abbrev pub Alike : Setting → Type 0
+Alike setting = (s r : Standing) (t : State) → Stands setting s t → (machine_rules setting).same r s ≡ true → Stands setting r t
+
+abbrev pub AllStand : Setting → Type 0
+AllStand setting = (log : List (ℕ × ℕ)) (n : ℕ) → Stands setting (stands (machine_rules setting) log n) (state_after setting log n)
+
+abbrev pub RunThere : Setting → Type 0
+RunThere setting = (log : List (ℕ × ℕ)) (n : ℕ) → IsRun (machine_rules setting) log n → IsRun (rules_of setting) log n
+
+-- where a state tells an end, no choice is left
+pub record Ended (t : State) (end : End) : Type 0 where
+  pub none : length (choices t) ≡ 0
+  pub is : end_of t ≡ end
+
+ended_when : (b : Bool) (n : ℕ) (one end : End) → (n == 0) ≡ b → cond b (Some one) None ≡ Some end → (n ≡ 0) × (one ≡ end)
+ended_when true n one end e h = (grind (arith, nat_tests), same_Some one end h)
+ended_when false n one end e h = absurd (cc)
+
+pub ended : (t : State) (end : End) → end_in t ≡ Some end → Ended t end
+ended t end h = let p = ended_when (length (choices t) == 0) (length (choices t)) (end_of t) end refl h in record { none = p.0; is = p.1 }
+
+pub told_where_ended : (t : State) → length (choices t) ≡ 0 → end_in t ≡ Some (end_of t)
+told_where_ended t none = ap (λ (n : ℕ). cond (n == 0) (Some (end_of t)) None) none
+
+-- a reason that follows from another one
+pub because : {F : Type 0} (e : OrMemory F) {P Q : F → Type 0} → ((f : F) → P f → Q f) → Because P e → Because Q e
+because (Fault f) g p = g f p
+because (Memory m) g p = tt
+
+cause_back : (cause : Cause) → cause_of (order_of cause) ≡ cause
+cause_back Finish = refl
+cause_back Limit = refl
+cause_back Quiet = refl
+cause_back Stop = refl
+
+module _ (setting : Setting) (alike : Alike setting) (all : AllStand setting) (there : RunThere setting) (limits : Limits) where
+  -- where the run under a mark's log stands
+  pub stood : (found : Standing × List (ℕ × ℕ)) (f : IsFound (machine_rules setting) limits found) → Stands setting found.0 (state_after setting found.1 f.steps)
+  stood found f = alike (stands (machine_rules setting) found.1 f.steps) found.0 (state_after setting found.1 f.steps) (all found.1 f.steps) f.at
+
+  -- the run under the log of a row's mark ends there
+  pub row_finishes : (found : Standing × List (ℕ × ℕ)) (place : ℕ) (row : Row) (f : IsFound (machine_rules setting) limits found) → IsRow setting found place row →
+      (end : End) × Finishes setting found.1 limits.steps f.steps end × IsRowAt row end (state_after setting found.1 f.steps)
+  row_finishes found place row f of =
+      let t = state_after setting found.1 f.steps in
+      let told = of.at_end t (stood found f) in
+      let h = ended t told.0 told.1 in
+      (told.0, record {
+        within = f.within;
+        ends = record { run = there found.1 f.steps f.run; end = width_is setting t ∙ h.none; names = f.names };
+        end_is = sym h.is;
+      }, told.2)
+
+  pub row_dump : (found : Standing × List (ℕ × ℕ)) (place : ℕ) (row : Row) (head : List ℕ) → IsFound (machine_rules setting) limits found → IsRow setting found place row →
+      HasDump head setting found.1 limits.steps
+  row_dump found place row head f of =
+      let p = row_finishes found place row f of in
+      (dump_below head (history_after setting found.1 f.steps), the_dump head setting found.1 limits.steps f.steps p.0 p.1)
+
+  module _ (marks : List (Standing × List (ℕ × ℕ))) (found : AreFound (machine_rules setting) limits marks) (row : Row) (of : IsRowOfSome setting marks row)
+      (mark : Standing × List (ℕ × ℕ)) (at : slice_get marks row.place ≡ Some mark) where
+    same_mark : of.found ≡ mark
+    same_mark = same_Some of.found mark (sym of.at ∙ at)
+
+    its_row : IsRow setting mark row.place row
+    its_row = subst (λ (x : Standing × List (ℕ × ℕ)). IsRow setting x row.place row) same_mark of.of
+
+    pub its_dump : (head : List ℕ) → HasDump head setting mark.1 limits.steps
+    its_dump head = row_dump mark row.place row head (found row.place mark at) its_row
+
+    pub its_long_dump : (head : List ℕ) → head ≡ header setting.design → HasLongDump head setting mark.1 limits.steps → HasSomeLongDump setting limits
+    its_long_dump head is long = (mark.1, (found row.place mark at).short, subst (λ (h : List ℕ). HasLongDump h setting mark.1 limits.steps) is long)
+
+    -- the end that is made of it
+    pub its_end : (head : List ℕ) → head ≡ header setting.design → (end : Told) → end.time ≡ row.time → end.cause ≡ cause_of row.cause → end.line ≡ row.line.items → end.log ≡ mark.1 →
+        CountsDump head setting mark.1 limits.steps end.bytes → IsEndOfRow setting limits marks row end
+    its_end head is end time_is cause_is line_is log_is counts =
+        let f = found row.place mark at in
+        let t = state_after setting mark.1 f.steps in
+        let told = its_row.at_end t (stood mark f) in
+        record {
+          found = mark;
+          at = at;
+          of = its_row;
+          time_is = time_is;
+          cause_is = told.2.cause_is ∙ ap order_of (sym (cause_is ∙ ap cause_of told.2.cause_is ∙ cause_back told.0.cause));
+          line_is = line_is;
+          log_is = log_is;
+          bytes = record {
+            dump = counts.0;
+            is_dump = subst (λ (h : List ℕ). IsRunDump h setting end.log limits.steps counts.0) is (subst (λ (l : List (ℕ × ℕ)). IsRunDump head setting l limits.steps counts.0) (sym log_is) counts.1);
+            bytes_are = counts.2;
+          };
+        }
+
+-- the same times, causes and lines
+pub same_end_when : (r s : Row) (b : Bool) → r.time ≡ s.time → r.cause ≡ s.cause → b ≡ pointwise eqb r.line.items s.line.items → Decides b (key_cmp r s ≡ Equal)
+same_end_when r s b e f g =
+    let exact = bytes_decides r.line.items s.line.items in
+    (λ h. key_same r s (record { time_same = e; cause_same = f; line_same = exact.0 (sym g ∙ h) }), λ h. g ∙ exact.1 (same_key r s h).line_same)
+
+pub repeats_when : (rows : List Row) (place : ℕ) (r s : Row) (b : Bool) → (place ≡ 0 → ⊥) → place < length rows → get_or rows (place - 1) r ≡ r → get_or rows place s ≡ s →
+    Decides b (key_cmp r s ≡ Equal) → Decides b (Repeats rows place)
+repeats_when rows place r s b some within e f d =
+    let less : place - 1 < length rows = omega arith in
+    let at : slice_get rows (place - 1) ≡ Some r = slice_get-get_or rows (place - 1) r less ∙ ap Some e in
+    let at' : slice_get rows place ≡ Some s = slice_get-get_or rows place s within ∙ ap Some f in
+    let is : (place - 1) + 1 ≡ place = omega arith in
+    (λ h. record { before = place - 1; first = r; second = s; is_before = is; first_at = at; second_at = at'; alike = d.0 h },
+    λ p.
+        let same : p.before ≡ place - 1 = omega (arith, p.is_before) in
+        let one : p.first ≡ r = same_Some p.first r (sym p.first_at ∙ ap (slice_get rows) same ∙ at) in
+        let two : p.second ≡ s = same_Some p.second s (sym p.second_at ∙ at') in
+        d.1 (subst (λ (x : Row). key_cmp x s ≡ Equal) one (subst (λ (y : Row). key_cmp p.first y ≡ Equal) two p.alike)))

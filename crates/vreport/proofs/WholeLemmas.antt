@@ -1,0 +1,97 @@
+-- The ends that are listed are those of runs, and where the findings are all, they are all.
+use Rattle.std.proofs.Common.{◌≡◌, ℕ, ◌<◌, ◌≤◌, ◌⊎◌, true, List, length, slice_get, Option, Some, None, refl, sym, ap, ◌∙◌, subst, inl, inr, arith}
+use Rattle.std.specs.List.{Contains}
+use Rattle.std.proofs.lemmas.Option.{same_Some, slice_get-get_or}
+use Rattle.basis.proofs.Lists.{place_within}
+use Rattle.sched_core.specs.Rules.{IsRun, IsLawful, stands}
+use Rattle.sched_core.specs.Replay.{EndsAfter}
+use Rattle.statebook.specs.Covered.{IsCovered}
+use Rattle.statebook.specs.declared.limits.Limits.{Limits}
+use Rattle.explore.specs.Found.{AreFound, IsListedMark}
+use Rattle.vmodel.specs.declared.history.Cause.{Cause}
+use Rattle.vmodel.specs.declared.history.End.{End}
+use Rattle.vmodel.specs.State.{State}
+use Rattle.vmodel.specs.Choices.{choices}
+use Rattle.vmodel.specs.Run.{Setting, rules_of, state_after, end_of}
+use Rattle.vmodel.specs.RulesLaws.{lawful}
+use Rattle.vmodel.specs.Played.{width_is}
+use Rattle.vmachine.specs.declared.standing.Standing.{Standing}
+use Rattle.vmachine.specs.Machines.{Stands, machine_rules}
+use Rattle.vmachine.specs.Reads.{end_in}
+use Rattle.report_text.specs.Report.{End as Told}
+use Rattle.report_text.specs.WellFormed.{Each}
+use Rattle.vreport.specs.declared.row.Row.{Row}
+use Rattle.vreport.specs.Ends.{HasBytes, IsEndAfter, IsTrueEnd, ListsEnd, ListsEveryEnd}
+use Rattle.vreport.specs.Values.{values_line}
+use Rattle.vreport.specs.Inner.{AreEnds, AreRows, HasEnd, HasRow, IsEndOfRow, IsEndOfSome, IsNoEnd, order_of}
+use Rattle.vreport.proofs.EndLemmas.{Alike, AllStand, RunThere, row_finishes, told_where_ended}
+use Rattle.vreport.proofs.ListingLemmas.{cause_exact}
+
+abbrev pub RunHere : Setting → Type 0
+RunHere setting = (log : List (ℕ × ℕ)) (n : ℕ) → IsRun (rules_of setting) log n → IsRun (machine_rules setting) log n
+
+abbrev pub MarkAlike : Setting → Type 0
+MarkAlike setting = (s : Standing) (t : State) → Stands setting s t → (machine_rules setting).mark s ≡ (rules_of setting).mark t
+
+at_contains : {X : Type 0} (xs : List X) (x : X) → Contains xs x → (i : ℕ) × (slice_get xs i ≡ Some x)
+at_contains xs x has = (has.0, slice_get-get_or xs has.0 x has.1 ∙ ap Some has.2)
+
+module _ (setting : Setting) (alike : Alike setting) (all : AllStand setting) (there : RunThere setting) (limits : Limits)
+    (marks : List (Standing × List (ℕ × ℕ))) (rows : List Row) (ends : List Told) (are : AreEnds setting limits marks rows ends) where
+
+  true_end : AreFound (machine_rules setting) limits marks → (row : Row) (end : Told) → IsEndOfRow setting limits marks row end → IsTrueEnd setting limits end
+  true_end found row end of =
+      let f = found row.place of.found of.at in
+      let p = row_finishes setting alike all there limits of.found row.place row f of.of in
+      let t = state_after setting of.found.1 f.steps in
+      let time_is : end.time ≡ p.0.time = of.time_is ∙ p.2.time_is in
+      let cause_is : end.cause ≡ p.0.cause = cause_exact end.cause p.0.cause (sym of.cause_is ∙ p.2.cause_is) in
+      let told : p.0 ≡ record { time = end.time; cause = end.cause } = λ i. record { time = (sym time_is) i; cause = (sym cause_is) i } in
+      let here : IsEndAfter setting of.found.1 f.steps end.time end.cause end.line = record {
+        ends = p.1.ends;
+        end_is = sym p.1.end_is ∙ told;
+        line_is = of.line_is ∙ p.2.line_is;
+      } in
+      record {
+        steps = f.steps;
+        after = subst (λ (l : List (ℕ × ℕ)). IsEndAfter setting l f.steps end.time end.cause end.line) (sym of.log_is) here;
+        within = f.within;
+        short = (let a = f.short in let b = ap length of.log_is in omega arith);
+      }
+
+  pub ends_true : AreFound (machine_rules setting) limits marks → Each (IsTrueEnd setting limits) ends
+  ends_true found = λ i end at. (let o = are.each i end at in true_end found o.row end o.of)
+
+  pub ends_bytes : Each (HasBytes setting limits) ends
+  ends_bytes = λ i end at. (are.each i end at).of.bytes
+
+  module _ (here : RunHere setting) (mark_alike : MarkAlike setting) (of_marks : AreRows setting marks rows) where
+    row_listed : (found : Standing × List (ℕ × ℕ)) (place : ℕ) (t : State) (time : ℕ) (cause : Cause) (line : List ℕ) (departures : ℕ) → Stands setting found.0 t →
+        end_in t ≡ Some (record { time = time; cause = cause }) → line ≡ values_line t.values → length found.1 ≤ departures →
+        HasRow setting found place rows ⊎ IsNoEnd setting found.0 → ListsEnd ends time cause line departures
+    row_listed found place t time cause line departures st told line_is few (inr bare) = absurd (let bad = bare t st in cc)
+    row_listed found place t time cause line departures st told line_is few (inl has) =
+        let at = at_contains rows has.row has.among in
+        let listed = are.whole at.0 has.row (place_within rows at.0 has.row at.1) at.1 in
+        let (end, is, row_at) = has.of.at_end t st in
+        let same : end ≡ record { time = time; cause = cause } = same_Some end _ (sym is ∙ told) in
+        record {
+          place = listed.place;
+          end = listed.end;
+          at = listed.at;
+          time_is = listed.time_is ∙ row_at.time_is ∙ ap (λ (e : End). e.time) same;
+          cause_is = cause_exact listed.end.cause cause (sym listed.cause_is ∙ row_at.cause_is ∙ ap (λ (e : End). order_of e.cause) same);
+          line_is = listed.line_is ∙ row_at.line_is ∙ sym line_is;
+          fewest = (let a = listed.fewest in let b = has.of.departures_are in omega arith);
+        }
+
+    pub ends_all : (depart : ℕ) → IsCovered (machine_rules setting) depart (IsListedMark (machine_rules setting) marks) → ListsEveryEnd setting depart ends
+    ends_all depart covered = λ log steps time cause line short after.
+        let s = stands (machine_rules setting) log steps in
+        let t = state_after setting log steps in
+        let mark : (machine_rules setting).mark s ≡ true = mark_alike s t (all log steps) ∙ (lawful setting).end_is_mark t after.ends.end in
+        let l = covered log steps short (here log steps after.ends.run) mark in
+        let st : Stands setting l.found.0 t = alike s l.found.0 t (all log steps) l.same in
+        let none : length (choices t) ≡ 0 = sym (width_is setting t) ∙ after.ends.end in
+        row_listed l.found l.place t time cause line (length log) st (told_where_ended t none ∙ ap Some after.end_is) after.line_is l.departures
+        (of_marks.whole l.place l.found (place_within marks l.place l.found l.at) l.at)

@@ -1,0 +1,32 @@
+use Rattle.std.proofs.Common.{◌≡◌, ℕ, List, Some, refl, sym, ap, ◌∙◌, slice_get, option_map}
+use Rattle.std.specs.Map.Iter.{deref_pair}
+use Rattle.vmachine.specs.declared.standing.Standing.{Standing}
+use Rattle.vreport.proofs.EndLemmas.{because, its_dump, its_end, its_long_dump}
+use Rattle.vreport.proofs.ends.end_of.Goals as goal
+
+pub dump_len-requires : goal.dump_len-requires
+dump_len-requires c =
+    let law = c.machine_law.ensures in
+    let setting = c.args.machine.now in
+    let mark : Standing × List (ℕ × ℕ) = (c.in-Some.field-0-0.now, c.in-Some.log.now) in
+    record {
+      ends = its_dump setting (law.same setting) (law.stands setting) (law.runs setting) c.args.limits.now c.args.findings.now.marks.entries c.requires.found c.args.row.now c.requires.of
+          mark (sym c.get_index.ensures.entry ∙ ap (option_map deref_pair) c.in-Some.is) c.args.head.now;
+    }
+
+pub returns-in-Err-clause-long : goal.returns-in-Err-clause-long
+returns-in-Err-clause-long c =
+    let law = c.machine_law.ensures in
+    let setting = c.args.machine.now in
+    let mark : Standing × List (ℕ × ℕ) = (c.in-Some.field-0-0.now, c.in-Some.log.now) in
+    because c.in-Err.fault (λ _ long. its_long_dump setting (law.same setting) (law.stands setting) (law.runs setting) c.args.limits.now c.args.findings.now.marks.entries c.requires.found
+    c.args.row.now c.requires.of mark (sym c.get_index.ensures.entry ∙ ap (option_map deref_pair) c.in-Some.is) c.args.head.now c.requires.head long) c.in-Err.ensures.long
+
+pub returns-clause-ok : goal.returns-clause-ok
+returns-clause-ok c =
+    let law = c.machine_law.ensures in
+    let setting = c.args.machine.now in
+    let mark : Standing × List (ℕ × ℕ) = (c.in-Some.field-0-0.now, c.in-Some.log.now) in
+    its_end setting (law.same setting) (law.stands setting) (law.runs setting) c.args.limits.now c.args.findings.now.marks.entries c.requires.found c.args.row.now c.requires.of
+    mark (sym c.get_index.ensures.entry ∙ ap (option_map deref_pair) c.in-Some.is) c.args.head.now c.requires.head _ refl c.cause_of.ensures
+    (c.in_ok-from_slice.ensures.items ∙ c.deref.ensures.value) c.in_ok-copy.ensures.equal c.in-Ok.ensures.ok
