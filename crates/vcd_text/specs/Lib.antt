@@ -1,6 +1,7 @@
 pub mod CodeLaws
 pub mod Comparing
 pub mod Counts
+pub mod DumpLaws
 pub mod DumpText
 pub mod Metered
 pub mod MeteredLaws

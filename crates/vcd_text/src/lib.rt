@@ -19,7 +19,7 @@ pub use counter::Counter;
 pub use expected::Expected;
 pub use fault::{Never, TooMany, WriteFault};
 pub use header::Header;
-pub use law::{dumps_are_readable, expected_is_whole};
+pub use law::{dumps_are_readable, expected_is_whole, sinks_complete_dumps};
 pub use metered::Metered;
 pub use outlet::Outlet;
 pub use sink::DumpSink;
