@@ -25,8 +25,13 @@ abbrev pub last_line : ℕ → ℕ → List ℕ → ℕ
 last_line old t [] = old
 last_line old t (c ∷ cs) = t
 
+-- the header and the first slot's end
 abbrev pub start_text : List ℕ → ℕ → List Vector → List ℕ
 start_text head t values = head ++ time_line t ++ framed (codes "$dumpvars") (value_lines (enumerate_from 0 values))
+
+-- below any header this is the text of the start
+abbrev pub IsStart : List ℕ → ℕ → List Vector → Type 0
+IsStart text t values = (head : List ℕ) → head ++ text ≡ start_text head t values
 
 -- the lines of a later slot's end
 abbrev pub changed_lines : List Vector → List Vector → List ℕ
@@ -35,6 +40,10 @@ changed_lines old new = value_lines (changes 0 old new)
 -- what a later slot's end adds
 abbrev pub slot_text : ℕ → List Vector → List Vector → List ℕ
 slot_text t old new = timed t (changed_lines old new)
+
+-- the last time line after it
+abbrev pub line_after_slot : ℕ → ℕ → List Vector → List Vector → ℕ
+line_after_slot last t old new = last_line last t (changed_lines old new)
 
 -- what an item adds to the dump, below this header; nothing is written once a text failed
 abbrev pub item_text : List ℕ → Progress → Item → List ℕ
@@ -51,7 +60,7 @@ progress_after Idle (SlotEnd t values) = Idle
 progress_after Asked (Dump command) = Asked
 progress_after Asked (SlotEnd t values) = Started t values
 progress_after (Started last old) (Dump command) = Started last old
-progress_after (Started last old) (SlotEnd t values) = Started (last_line last t (changed_lines old values)) values
+progress_after (Started last old) (SlotEnd t values) = Started (line_after_slot last t old values) values
 progress_after Failed item = Failed
 
 -- what items add, one after another
@@ -124,6 +133,10 @@ Fails takes fails old items fault new =
     × IsOver fault new.progress
 
 -- ---- the end, and a whole history
+
+-- the dump has come to its end at this time
+abbrev pub IsAtEnd : {O : Type 0} → DumpSink O → ℕ → DumpSink O → Type 0
+IsAtEnd old t new = new.progress ≡ progress_at_end old.progress t
 
 -- the outlet took what the end at this time adds
 abbrev pub TakesEnd : {O : Type 0} → (O → List ℕ → O → Type 0) → DumpSink O → ℕ → DumpSink O → Type 0

@@ -4,7 +4,7 @@ ghost use Rattle.std.specs.Prelude.{◌≡◌, ◌++◌, List, ℕ, IfOk};
 ghost use Rattle.vmodel.specs.declared.history.Item.TheVariants.{Dump};
 ghost use Rattle.vmodel.specs.declared.history.DumpCommand.{DumpCommand};
 ghost use Rattle.vcd_text.specs.DumpText.{time_line};
-ghost use Rattle.vcd_text.specs.Sinks.{last_line, progress_after, slot_text, start_text};
+ghost use Rattle.vcd_text.specs.Sinks.{last_line, progress_after, slot_text, IsStart};
 
 use crate::values::{put_changes, put_values};
 use basis::NoMemory;
@@ -53,7 +53,7 @@ pub(crate) fn line_of(alloc: Global, time: u64) -> Result<Vec<u8>, NoMemory>
 
 // What the first slot end adds below the header.
 pub(crate) fn first_text(alloc: Global, time: u64, values: &[Vec4]) -> Result<Vec<u8>, NoMemory>
-    ensures { IfOk result (λ text. (head : List ℕ) → head ++ text.items ≡ start_text head time values.now) }
+    ensures { IfOk result (λ text. IsStart text.items time values.now) }
 {
     let mut text = line_of(alloc, time)?;
     text.extend_from_slice(b"$dumpvars\n")?;

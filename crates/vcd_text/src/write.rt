@@ -22,7 +22,8 @@ fn fill<O: Outlet>(sink: &mut DumpSink<'_, O>, history: &History) -> Result<(), 
     requires { sink.old.progress ≡ Idle }
     ensures same { IsSameDump sink.old sink.new }
     ensures ok { OnOk result (TakesDump O.takes sink.old history.now sink.new) }
-    ensures err { IfErr result (λ fault. FailsDump O.takes O.fails sink.old history.now fault sink.new) }
+    ensures err { IfErr result (λ fault.
+        FailsDump O.takes O.fails sink.old history.now fault sink.new) }
 {
     match sink.take(&history.items) {
         Ok(()) => sink.finish(&history.end),
@@ -39,8 +40,10 @@ pub fn write_vcd<W: Write>(
     history: &History,
     writer: &mut Metered<W>,
 ) -> Result<(), OrMemory<WriteFault>>
-    ensures ok { OnOk result (Grows W.contents writer.old writer.new (dump_below header.now history.now)) }
-    ensures err { IfErr result (Stops W.contents writer.old writer.new (dump_below header.now history.now)) }
+    ensures ok { OnOk result (
+        Grows W.contents writer.old writer.new (dump_below header.now history.now)) }
+    ensures err { IfErr result (
+        Stops W.contents writer.old writer.new (dump_below header.now history.now)) }
 {
     let mut sink = DumpSink::new(alloc, header, writer);
     let result = fill(&mut sink, history);
