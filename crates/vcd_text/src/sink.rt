@@ -1,6 +1,6 @@
 // The dump of a run, written slot by slot as the run goes.
 
-ghost use Rattle.std.specs.Prelude.{◌≡◌, [], ◌∷◌, OnOk, OnErr, IfErr};
+ghost use Rattle.std.specs.Prelude.{◌≡◌, ◌≢◌, [], ◌∷◌, OnOk, OnErr, IfErr};
 ghost use Rattle.vmodel.specs.declared.history.Item.TheVariants.{SlotEnd, Dump};
 ghost use Rattle.vmodel.specs.declared.history.DumpCommand.{DumpCommand};
 ghost use Rattle.vcd_text.specs.declared.progress.Progress.TheVariants.{Idle, Asked, Failed};
@@ -184,6 +184,7 @@ impl<'a, O: Outlet> DumpSink<'a, O> {
             FailsEnd O.takes O.fails self.old end.now.time fault self.new) }
         ensures failed { OnErr result (self.new.progress ≡ Failed) }
         ensures passed { IsPassedOver self.old self.new }
+        ensures once { OnErr result (self.old.progress ≢ Failed) }
     {
         match &mut self.progress {
             Progress::Idle => Ok(()),
@@ -235,6 +236,7 @@ impl<'a, O: Outlet> Sink for DumpSink<'a, O> {
             Fails O.takes O.fails self.old items.now fault self.new) }
         ensures failed { OnErr result (self.new.progress ≡ Failed) }
         ensures passed { IsPassedOver self.old self.new }
+        ensures once { OnErr result (self.old.progress ≢ Failed) }
     {
         if let Progress::Failed = &self.progress {
             return Ok(());
