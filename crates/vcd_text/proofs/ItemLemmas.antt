@@ -1,17 +1,33 @@
 -- Items that are left to take.
-use Rattle.std.proofs.Common.{◌≡◌, ◌<◌, ◌≤◌, ◌+◌, ℕ, suc, List, [], ◌∷◌, length, drop, get_or, drop-cons, sym, ap, subst, ◌∙◌, add-one}
+use Rattle.std.proofs.Common.{◌≡◌, ◌<◌, ◌≤◌, ◌+◌, ℕ, suc, List, [], ◌∷◌, length, drop, get_or, drop-cons, sym, ap, subst, ◌∙◌, add-one, refl}
 use Rattle.std.proofs.lemmas.List.{drop_all}
 use Rattle.vmodel.specs.declared.history.Item.{Item}
 use Rattle.basis.specs.declared.memory.OrMemory.{OrMemory}
+use Rattle.basis.specs.declared.memory.OrMemory.TheVariants.{Fault, Memory}
+use Rattle.vcd_text.specs.declared.progress.Progress.{Progress}
+use Rattle.vcd_text.specs.declared.progress.Progress.TheVariants.{Failed}
 use Rattle.vcd_text.specs.declared.sink.DumpSink.{DumpSink}
 use Rattle.vcd_text.specs.Outlets.{IsOutlet}
-use Rattle.vcd_text.specs.Sinks.{Takes, Fails}
+use Rattle.vcd_text.specs.Sinks.{Takes, Fails, IsOver, items_text, progress_over, text_of}
 use Rattle.vcd_text.specs.SinkLaws.{takes_none, takes_joins, fails_after, fails_before}
 
 left_items : (items : List Item) (i : ℕ) (item : Item) → item ≡ get_or items i item → i < length items →
     item ∷ drop (i + 1) items ≡ drop i items
 left_items items i item is within =
     sym (drop-cons items i item within ∙ ap (λ (x : Item). x ∷ drop (suc i) items) (sym is) ∙ ap (λ (n : ℕ). item ∷ drop n items) (sym (add-one i)))
+
+failed_text : (head : List ℕ) (items : List Item) → items_text head Failed items ≡ []
+failed_text head [] = refl
+failed_text head (item ∷ items) = failed_text head items
+
+failed_over : (items : List Item) → progress_over Failed items ≡ Failed
+failed_over [] = refl
+failed_over (item ∷ items) = failed_over items
+
+-- a dump that failed is over, whatever the fault
+pub over : {F : Type 0} (fault : OrMemory F) → IsOver fault Failed
+over (Fault fault) = refl
+over (Memory m) = tt
 
 module _ {O F : Type 0} (takes : O → List ℕ → O → Type 0) (fails : O → List ℕ → F → O → Type 0) (laws : IsOutlet takes fails) where
   -- one item is taken, and then the rest
@@ -35,6 +51,13 @@ module _ {O F : Type 0} (takes : O → List ℕ → O → Type 0) (fails : O →
   fails_here s u items i item fault is within p =
       subst (λ (xs : List Item). Fails takes fails s xs fault u) (left_items items i item is within)
       (fails_before takes fails laws s u (item ∷ []) (drop (i + 1) items) fault p)
+
+  -- a dump that failed passes items over
+  pub takes_nothing : (s : DumpSink O) (items : List Item) → s.progress ≡ Failed → Takes takes s items s
+  takes_nothing s items failed =
+      let over : progress_over s.progress items ≡ s.progress = ap (λ (p : Progress). progress_over p items) failed ∙ failed_over items ∙ sym failed in
+      let text : text_of s items ≡ [] = ap (λ (p : Progress). items_text s.header.now p items) failed ∙ failed_text s.header.now items in
+      ((refl, refl), sym over, subst (λ (xs : List ℕ). takes s.outlet.now xs s.outlet.now) (sym text) (laws.none s.outlet.now))
 
   -- nothing is left
   pub takes_all : (s : DumpSink O) (items : List Item) (i : ℕ) → length items ≤ i →

@@ -1,5 +1,4 @@
 pub mod CodeLemmas
-pub mod DumpLemmas
 pub mod ExpectedLemmas
 pub mod HeaderLemmas
 pub mod ItemLemmas

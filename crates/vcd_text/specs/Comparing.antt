@@ -15,6 +15,10 @@ stripped (c ∷ cs) (Some (d ∷ ds)) = cond (c == d) (stripped cs (Some ds)) No
 abbrev pub Strips : Option (List ℕ) → List ℕ → Option (List ℕ) → Type 0
 Strips old text new = new ≡ stripped text old
 
+-- a text leaves nothing of an expected one
+abbrev pub IsWhole : List ℕ → List ℕ → Type 0
+IsWhole text expected = stripped text (Some expected) ≡ Some []
+
 -- nothing is taken off
 stripped_none : (rest : Option (List ℕ)) → stripped [] rest ≡ rest
 stripped_none None = refl
@@ -62,9 +66,9 @@ only_front (c ∷ cs) (d ∷ ds) rest is = elim (cases_Bool (c == d)) [
 ]
 
 -- just the expected text leaves nothing
-pub whole_is_left : (text expected : List ℕ) → text ≡ expected → stripped text (Some expected) ≡ Some []
+pub whole_is_left : (text expected : List ℕ) → text ≡ expected → IsWhole text expected
 whole_is_left text expected is =
     ap (λ (xs : List ℕ). stripped text (Some xs)) (sym is ∙ sym (append-nil text)) ∙ stripped_front text []
 
-pub left_is_whole : (text expected : List ℕ) → stripped text (Some expected) ≡ Some [] → text ≡ expected
+pub left_is_whole : (text expected : List ℕ) → IsWhole text expected → text ≡ expected
 left_is_whole text expected is = sym (only_front text expected [] is ∙ append-nil text)

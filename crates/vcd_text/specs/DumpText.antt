@@ -54,9 +54,13 @@ change [] name = name
 change (d ∷ []) name = d ∷ name
 change (d ∷ e ∷ ds) name = 98 ∷ (shortened (d ∷ e ∷ ds) ++ 32 ∷ name)
 
+-- the digits of a value, leftmost first
+abbrev pub digits_of : Vector → List ℕ
+digits_of v = map digit (reverse v.letters)
+
 -- the line that says what the variable of a code is worth
 abbrev pub named_line : List ℕ → Vector → List ℕ
-named_line name v = line (change (map digit (reverse v.letters)) name)
+named_line name v = line (change (digits_of v) name)
 
 abbrev pub value_line : ℕ → Vector → List ℕ
 value_line n = named_line (code n)
@@ -66,6 +70,10 @@ value_line n = named_line (code n)
 abbrev pub value_lines : List (ℕ × Vector) → List ℕ
 value_lines [] = []
 value_lines (entry ∷ told) = value_line entry.0 entry.1 ++ value_lines told
+
+-- all values, from variable 0 on
+abbrev pub all_lines : List Vector → List ℕ
+all_lines values = value_lines (enumerate_from 0 values)
 
 -- the letters are the same
 abbrev pub is_kept : Vector → Vector → Bool

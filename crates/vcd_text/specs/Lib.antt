@@ -1,7 +1,9 @@
 pub mod CodeLaws
 pub mod Comparing
 pub mod Counts
+pub mod DumpLaws
 pub mod DumpText
+pub mod Headers
 pub mod Metered
 pub mod MeteredLaws
 pub mod OutletLaws

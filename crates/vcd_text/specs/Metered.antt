@@ -1,11 +1,19 @@
 -- Readers and writers whose failures are counted, and what pieces of text make of such a writer.
 use Rattle.std.specs.Prelude.{◌≡◌, ℕ, zero, suc, ◌+◌, ◌%◌, ◌^◌, Bool, true, false, cond, List, [], ◌∷◌, take, Option, Result, Ok, Err}
-use Rattle.std.specs.Io.KnownBytes.{Appends}
+use Rattle.std.specs.Io.KnownBytes.{Appends, ReadConsumes, WriteAppends}
 use Rattle.vcd_text.specs.declared.metered.Metered.{Metered}
 use Rattle.vcd_text.specs.declared.fault.WriteFault.{WriteFault}
 use Rattle.vcd_text.specs.declared.fault.WriteFault.TheVariants.{Write}
 use Rattle.basis.specs.declared.memory.OrMemory.{OrMemory}
 use Rattle.basis.specs.declared.memory.OrMemory.TheVariants.{Fault, Memory}
+
+-- the reader below lost the bytes that were read
+abbrev pub Reads : {R E : Type 0} → (R → Option (List ℕ)) → Metered R → Result ℕ E → List ℕ → Metered R → Type 0
+Reads remaining old result buf new = ReadConsumes (remaining old.inner) (remaining new.inner) result buf
+
+-- the writer below got those that were written
+abbrev pub Writes : {W E : Type 0} → (W → Option (List ℕ)) → Metered W → Result ℕ E → List ℕ → Metered W → Type 0
+Writes contents old result buf new = WriteAppends (contents old.inner) (contents new.inner) result buf
 
 -- a call of `write` failed: an error, or no byte was taken of a piece that isn't empty
 abbrev pub is_failed_write : {E : Type 0} → Result ℕ E → List ℕ → Bool

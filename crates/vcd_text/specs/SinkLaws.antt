@@ -43,7 +43,7 @@ module _ {O F : Type 0} (takes : O → List ℕ → O → Type 0) (fails : O →
       let stopped : Stopped takes fails s.outlet.now (text_of s (xs ++ ys)) fault u.outlet.now =
       subst (λ (text : List ℕ). Stopped takes fails s.outlet.now text fault u.outlet.now) (sym (both_texts s t xs ys p))
       (stopped_after takes fails laws s.outlet.now t.outlet.now u.outlet.now (text_of s xs) (text_of t ys) fault p.2 q.1) in
-      ((q.0.0 ∙ p.0.0, q.0.1 ∙ p.0.1), stopped)
+      ((q.0.0 ∙ p.0.0, q.0.1 ∙ p.0.1), stopped, q.2)
 
   -- the same where more items weren't come to
   pub fails_before : (s u : DumpSink O) (xs ys : List Item) (fault : OrMemory F) → Fails takes fails s xs fault u → Fails takes fails s (xs ++ ys) fault u
@@ -51,4 +51,4 @@ module _ {O F : Type 0} (takes : O → List ℕ → O → Type 0) (fails : O →
       let stopped : Stopped takes fails s.outlet.now (text_of s (xs ++ ys)) fault u.outlet.now =
       subst (λ (text : List ℕ). Stopped takes fails s.outlet.now text fault u.outlet.now) (sym (text_joins s.header.now s.progress xs ys))
       (stopped_before takes fails laws s.outlet.now u.outlet.now (text_of s xs) (items_text s.header.now (progress_over s.progress xs) ys) fault p.1) in
-      (p.0, stopped)
+      (p.0, stopped, p.2)

@@ -2,13 +2,15 @@
 use Rattle.std.specs.Prelude.{◌≡◌, ℕ, ◌==◌, cond, List, [], ◌∷◌, ◌++◌, codes}
 use Rattle.std.specs.List.{enumerate_from}
 use Rattle.vbits.specs.Vectors.{Vector}
+use Rattle.vmodel.specs.History.{History}
 use Rattle.vmodel.specs.declared.history.Item.{Item}
 use Rattle.vmodel.specs.declared.history.Item.TheVariants.{SlotEnd, Dump}
-use Rattle.vcd_text.specs.DumpText.{changes, framed, time_line, value_lines}
+use Rattle.vcd_text.specs.DumpText.{changes, dump_below, framed, time_line, value_lines}
 use Rattle.vcd_text.specs.Outlets.{Stopped}
 use Rattle.basis.specs.declared.memory.OrMemory.{OrMemory}
+use Rattle.basis.specs.declared.memory.OrMemory.TheVariants.{Fault, Memory}
 use Rattle.vcd_text.specs.declared.progress.Progress.{Progress}
-use Rattle.vcd_text.specs.declared.progress.Progress.TheVariants.{Idle, Asked, Started}
+use Rattle.vcd_text.specs.declared.progress.Progress.TheVariants.{Idle, Asked, Started, Failed}
 use Rattle.vcd_text.specs.declared.sink.DumpSink.{DumpSink}
 
 -- ---- from item to item
@@ -23,20 +25,34 @@ abbrev pub last_line : ℕ → ℕ → List ℕ → ℕ
 last_line old t [] = old
 last_line old t (c ∷ cs) = t
 
+-- the header and the first slot's end
 abbrev pub start_text : List ℕ → ℕ → List Vector → List ℕ
 start_text head t values = head ++ time_line t ++ framed (codes "$dumpvars") (value_lines (enumerate_from 0 values))
+
+-- below any header this is the text of the start
+abbrev pub IsStart : List ℕ → ℕ → List Vector → Type 0
+IsStart text t values = (head : List ℕ) → head ++ text ≡ start_text head t values
 
 -- the lines of a later slot's end
 abbrev pub changed_lines : List Vector → List Vector → List ℕ
 changed_lines old new = value_lines (changes 0 old new)
 
--- what an item adds to the dump, below this header
+-- what a later slot's end adds
+abbrev pub slot_text : ℕ → List Vector → List Vector → List ℕ
+slot_text t old new = timed t (changed_lines old new)
+
+-- the last time line after it
+abbrev pub line_after_slot : ℕ → ℕ → List Vector → List Vector → ℕ
+line_after_slot last t old new = last_line last t (changed_lines old new)
+
+-- what an item adds to the dump, below this header; nothing is written once a text failed
 abbrev pub item_text : List ℕ → Progress → Item → List ℕ
 item_text head Idle item = []
 item_text head Asked (Dump command) = []
 item_text head Asked (SlotEnd t values) = start_text head t values
 item_text head (Started last old) (Dump command) = []
-item_text head (Started last old) (SlotEnd t values) = timed t (changed_lines old values)
+item_text head (Started last old) (SlotEnd t values) = slot_text t old values
+item_text head Failed item = []
 
 abbrev pub progress_after : Progress → Item → Progress
 progress_after Idle (Dump command) = Asked
@@ -44,7 +60,8 @@ progress_after Idle (SlotEnd t values) = Idle
 progress_after Asked (Dump command) = Asked
 progress_after Asked (SlotEnd t values) = Started t values
 progress_after (Started last old) (Dump command) = Started last old
-progress_after (Started last old) (SlotEnd t values) = Started (last_line last t (changed_lines old values)) values
+progress_after (Started last old) (SlotEnd t values) = Started (line_after_slot last t old values) values
+progress_after Failed item = Failed
 
 -- what items add, one after another
 abbrev pub items_text : List ℕ → Progress → List Item → List ℕ
@@ -55,17 +72,27 @@ abbrev pub progress_over : Progress → List Item → Progress
 progress_over p [] = p
 progress_over p (item ∷ items) = progress_over (progress_after p item) items
 
+-- the time of the end, unless the last time line is that
+abbrev pub end_line : ℕ → ℕ → List ℕ
+end_line last t = cond (last == t) [] (time_line t)
+
 -- what the end adds
 abbrev pub end_text : Progress → ℕ → List ℕ
 end_text Idle t = []
 end_text Asked t = []
-end_text (Started last old) t = cond (last == t) [] (time_line t)
+end_text (Started last old) t = end_line last t
+end_text Failed t = []
+
+-- what a history adds to a dump of which nothing has come yet
+abbrev pub history_text : List ℕ → History → List ℕ
+history_text head history = items_text head Idle history.items ++ end_text (progress_over Idle history.items) history.end.time
 
 -- after it the last time line is that of the end, and the same end adds nothing more
 abbrev pub progress_at_end : Progress → ℕ → Progress
 progress_at_end Idle t = Idle
 progress_at_end Asked t = Asked
 progress_at_end (Started last old) t = Started t old
+progress_at_end Failed t = Failed
 
 -- ---- what the program keeps
 
@@ -84,7 +111,45 @@ Takes takes old items new =
     × (new.progress ≡ progress_over old.progress items)
     × takes old.outlet.now (text_of old items) new.outlet.now
 
+-- this was done with a dump that failed before: nothing was written
+abbrev pub IsPassedOver : {O : Type 0} → DumpSink O → DumpSink O → Type 0
+IsPassedOver old new = old.progress ≡ Failed → new.outlet.now ≡ old.outlet.now
+
+-- the outlet stopped somewhere in what the items add
+abbrev pub StopsIn : {O F : Type 0} → (O → List ℕ → O → Type 0) → (O → List ℕ → F → O → Type 0) → DumpSink O → List Item → OrMemory F → DumpSink O → Type 0
+StopsIn takes fails old items fault new =
+    IsSameDump old new × Stopped takes fails old.outlet.now (text_of old items) fault new.outlet.now
+
+-- once the outlet has failed nothing more is written; want of memory may come between two items too
+abbrev pub IsOver : {F : Type 0} → OrMemory F → Progress → Type 0
+IsOver (Fault fault) progress = progress ≡ Failed
+IsOver (Memory m) progress = Unit {0}
+
 -- the fault came somewhere in what the items add
 abbrev pub Fails : {O F : Type 0} → (O → List ℕ → O → Type 0) → (O → List ℕ → F → O → Type 0) → DumpSink O → List Item → OrMemory F → DumpSink O → Type 0
 Fails takes fails old items fault new =
-    IsSameDump old new × Stopped takes fails old.outlet.now (text_of old items) fault new.outlet.now
+    IsSameDump old new
+    × Stopped takes fails old.outlet.now (text_of old items) fault new.outlet.now
+    × IsOver fault new.progress
+
+-- ---- the end, and a whole history
+
+-- the dump has come to its end at this time
+abbrev pub IsAtEnd : {O : Type 0} → DumpSink O → ℕ → DumpSink O → Type 0
+IsAtEnd old t new = new.progress ≡ progress_at_end old.progress t
+
+-- the outlet took what the end at this time adds
+abbrev pub TakesEnd : {O : Type 0} → (O → List ℕ → O → Type 0) → DumpSink O → ℕ → DumpSink O → Type 0
+TakesEnd takes old t new = takes old.outlet.now (end_text old.progress t) new.outlet.now
+
+-- it stopped somewhere in that
+abbrev pub FailsEnd : {O F : Type 0} → (O → List ℕ → O → Type 0) → (O → List ℕ → F → O → Type 0) → DumpSink O → ℕ → OrMemory F → DumpSink O → Type 0
+FailsEnd takes fails old t fault new = Stopped takes fails old.outlet.now (end_text old.progress t) fault new.outlet.now
+
+-- it took the dump of a history
+abbrev pub TakesDump : {O : Type 0} → (O → List ℕ → O → Type 0) → DumpSink O → History → DumpSink O → Type 0
+TakesDump takes old history new = takes old.outlet.now (dump_below old.header.now history) new.outlet.now
+
+-- it stopped somewhere in that
+abbrev pub FailsDump : {O F : Type 0} → (O → List ℕ → O → Type 0) → (O → List ℕ → F → O → Type 0) → DumpSink O → History → OrMemory F → DumpSink O → Type 0
+FailsDump takes fails old history fault new = Stopped takes fails old.outlet.now (dump_below old.header.now history) fault new.outlet.now

@@ -1,8 +1,9 @@
 // The header of a dump (18.2.3).
 
-ghost use Rattle.std.specs.Prelude.{◌≡◌, ◌++◌, ◌+◌, ◌==◌, ℕ, IfOk, OnOk, decimal, length, map};
+ghost use Rattle.std.specs.Prelude.{◌≡◌, ◌++◌, ◌==◌, IfOk, OnOk, decimal, length};
 ghost use Rattle.std.specs.List.{after_last};
-ghost use Rattle.vcd_text.specs.DumpText.{bounds_text, closings, code, header as header_text, kind_word, named_variable_line, scope_line, scope_lines, timescale_line, variable_lines};
+ghost use Rattle.vcd_text.specs.DumpText.{bounds_text, closings, header as header_text, kind_word, named_variable_line as variable_text, scope_line, timescale_line};
+ghost use Rattle.vcd_text.specs.Headers.{IsCodeAfter, Lists, all_scopes};
 
 use crate::values::follow;
 use basis::{NoMemory, Span};
@@ -109,7 +110,7 @@ fn own_name(name: &[u8]) -> &[u8]
 
 // The line of a variable with this code.
 fn put_variable(text: &mut Vec<u8>, name: &[u8], variable: &Variable) -> Result<(), NoMemory>
-    ensures { OnOk result (text.new.items ≡ text.old.items ++ named_variable_line name.now variable.now) }
+    ensures { OnOk result (text.new.items ≡ text.old.items ++ variable_text name.now variable.now) }
 {
     text.extend_from_slice(b"$var ")?;
     put_kind(text, variable.kind)?;
@@ -131,8 +132,8 @@ fn put_variables(
     name: &mut Vec<u8>,
     variables: &[Variable],
 ) -> Result<(), NoMemory>
-    ensures names { (n : ℕ) → name.old.items ≡ code n → OnOk result (name.new.items ≡ code (n + length variables.now)) }
-    ensures lines { (n : ℕ) → name.old.items ≡ code n → OnOk result (text.new.items ≡ text.old.items ++ variable_lines n variables.now) }
+    ensures names { OnOk result (IsCodeAfter name.old.items (length variables.now) name.new.items) }
+    ensures lines { OnOk result (Lists name.old.items variables.now text.old.items text.new.items) }
 {
     for variable in variables {
         put_variable(text, name, variable)?;
@@ -167,7 +168,7 @@ fn put_scopes(
     scopes: &[Scope],
     variables: &[Variable],
 ) -> Result<(), NoMemory>
-    ensures { OnOk result (text.new.items ≡ text.old.items ++ scope_lines 0 0 scopes.now variables.now) }
+    ensures { OnOk result (text.new.items ≡ text.old.items ++ all_scopes scopes.now variables.now) }
 {
     let mut name = Vec::from_slice(alloc, b"!")?;
     let mut around = 0u64;

@@ -1,10 +1,12 @@
-// Laws: what is written can be read, and a text is compared byte for byte.
+// Laws: what is written can be read, a sink completes a dump, and a text is compared byte for byte.
 
-ghost use Rattle.std.specs.Prelude.{◌≡◌, ◌+◌, ℕ, List, [], All, Some, length};
-ghost use Rattle.vcd_text.specs.CodeLaws.{IsDigit, number_of};
-ghost use Rattle.vcd_text.specs.Comparing.{stripped};
-ghost use Rattle.vcd_text.specs.DumpText.{Slot, code, shortened};
+ghost use Rattle.std.specs.Prelude.{◌≡◌, ◌+◌, ℕ, List, All, length};
+ghost use Rattle.vcd_text.specs.CodeLaws.{IsDigit, IsNumeral, number_of};
+ghost use Rattle.vcd_text.specs.Comparing.{IsWhole};
+ghost use Rattle.vcd_text.specs.DumpText.{Slot, code, dump_below, shortened};
 ghost use Rattle.vcd_text.specs.Readers.{IsTold, extended};
+ghost use Rattle.vcd_text.specs.Sinks.{history_text};
+ghost use Rattle.vmodel.specs.History.{History};
 
 /// The law of dumps (docs/FORMATS.md, "Dumps"), which does nothing. The code of variable n is n + 1 in bijective base
 /// 94, the lowest digit first, with the digits `!` to `~`, and no other text is. A reader that extends the digits of a value
@@ -13,13 +15,20 @@ ghost use Rattle.vcd_text.specs.Readers.{IsTold, extended};
 pub fn dumps_are_readable()
     ensures digits { (n : ℕ) → All IsDigit (code n) }
     ensures number { (n : ℕ) → number_of (code n) ≡ n + 1 }
-    ensures only { (n : ℕ) (text : List ℕ) → All IsDigit text → number_of text ≡ n + 1 → text ≡ code n }
+    ensures only { (n : ℕ) (text : List ℕ) → IsNumeral n text → text ≡ code n }
     ensures back { (digits : List ℕ) → extended (length digits) (shortened digits) ≡ digits }
     ensures values { (slots : List Slot) → IsTold slots }
 {}
 
+/// The law of sinks, which does nothing: what the items of a history and then its end add to a dump of which nothing has
+/// come yet is the dump of the history.
+pub fn sinks_complete_dumps()
+    ensures { (head : List ℕ) (history : History) →
+        history_text head history ≡ dump_below head history }
+{}
+
 /// The law of `Expected`, which does nothing: nothing of a text is left where just that text has come.
 pub fn expected_is_whole()
-    ensures whole { (text expected : List ℕ) → text ≡ expected → stripped text (Some expected) ≡ Some [] }
-    ensures only { (text expected : List ℕ) → stripped text (Some expected) ≡ Some [] → text ≡ expected }
+    ensures whole { (text : List ℕ) → IsWhole text text }
+    ensures only { (text expected : List ℕ) → IsWhole text expected → text ≡ expected }
 {}

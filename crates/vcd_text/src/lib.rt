@@ -1,5 +1,6 @@
 // Histories to the text of a value change dump (IEEE 1364-2005, clause 18). In go a design and what its run shows;
-// out come bytes in a writer, as the run goes or at once, and a fault where they don't.
+// out come bytes in an outlet (a writer, a count, or a text to compare with), as the run goes or at once, and a fault
+// where they don't.
 // The law: the bytes are those of specs/DumpText.antt, and after a fault a prefix of them.
 #![tactic(auto)]
 
@@ -19,7 +20,7 @@ pub use counter::Counter;
 pub use expected::Expected;
 pub use fault::{Never, TooMany, WriteFault};
 pub use header::Header;
-pub use law::{dumps_are_readable, expected_is_whole};
+pub use law::{dumps_are_readable, expected_is_whole, sinks_complete_dumps};
 pub use metered::Metered;
 pub use outlet::Outlet;
 pub use sink::DumpSink;

@@ -2,8 +2,8 @@
 
 ghost use Rattle.std.specs.Prelude.{◌≡◌, is_err};
 ghost use Rattle.std.specs.Io.{ReadsAtMost, WritesAtMost};
-ghost use Rattle.std.specs.Io.KnownBytes.{Keeps, ReadConsumes, WriteAppends};
-ghost use Rattle.vcd_text.specs.Metered.{counted, is_failed_write};
+ghost use Rattle.std.specs.Io.KnownBytes.{Keeps};
+ghost use Rattle.vcd_text.specs.Metered.{Reads, Writes, counted, is_failed_write};
 
 use crate::fault::WriteFault;
 use crate::outlet::Outlet;
@@ -59,7 +59,7 @@ impl<R: Read> Read for Metered<R> {
 
     fn read(&mut self, buf: &mut [u8]) -> io::Result<usize>
         ensures bound { ReadsAtMost result buf.new }
-        ensures bytes { ReadConsumes (R.remaining self.old.inner) (R.remaining self.new.inner) result buf.new }
+        ensures bytes { Reads R.remaining self.old result buf.new self.new }
         ensures failures { self.new.failures ≡ counted (is_err result) self.old.failures }
     {
         let answer = self.inner.read(buf);
@@ -83,8 +83,9 @@ impl<W: Write> Write for Metered<W> {
 
     fn write(&mut self, buf: &[u8]) -> io::Result<usize>
         ensures bound { WritesAtMost result buf.now }
-        ensures bytes { WriteAppends (W.contents self.old.inner) (W.contents self.new.inner) result buf.now }
-        ensures failures { self.new.failures ≡ counted (is_failed_write result buf.now) self.old.failures }
+        ensures bytes { Writes W.contents self.old result buf.now self.new }
+        ensures failures { self.new.failures
+            ≡ counted (is_failed_write result buf.now) self.old.failures }
     {
         let answer = self.inner.write(buf);
         self.failures = count(self.failures, has_failed(&answer, buf));

@@ -27,7 +27,8 @@ pub trait Outlet {
 // The next text, where memory may be wanted for others.
 pub(crate) fn put<O: Outlet>(outlet: &mut O, text: &[u8]) -> Result<(), OrMemory<O::Fault>>
     ensures ok { OnOk result (O.takes outlet.old text.now outlet.new) }
-    ensures err { IfErr result (λ fault. Stopped O.takes O.fails outlet.old text.now fault outlet.new) }
+    ensures err { IfErr result (λ fault.
+        Stopped O.takes O.fails outlet.old text.now fault outlet.new) }
 {
     match outlet.put(text) {
         Ok(()) => Ok(()),

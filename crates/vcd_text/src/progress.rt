@@ -4,7 +4,7 @@ ghost use Rattle.std.specs.Prelude.{◌≡◌, ◌++◌, List, ℕ, IfOk};
 ghost use Rattle.vmodel.specs.declared.history.Item.TheVariants.{Dump};
 ghost use Rattle.vmodel.specs.declared.history.DumpCommand.{DumpCommand};
 ghost use Rattle.vcd_text.specs.DumpText.{time_line};
-ghost use Rattle.vcd_text.specs.Sinks.{changed_lines, last_line, progress_after, start_text, timed};
+ghost use Rattle.vcd_text.specs.Sinks.{last_line, progress_after, slot_text, IsStart};
 
 use crate::values::{put_changes, put_values};
 use basis::NoMemory;
@@ -13,13 +13,15 @@ use std::alloc::Global;
 use vbits::Vec4;
 use vmodel::values::Values;
 
-/// How far a dump has come: no `$dumpvars` yet, one in the slot that runs, or started.
+/// How far a dump has come: no `$dumpvars` yet, one in the slot that runs, started, or failed.
 #[derive(Drop)]
 pub(crate) enum Progress {
     Idle,
     Asked,
     /// The last time line, and the values at the last slot end.
     Started { last: u64, values: Values },
+    /// A text failed: nothing more is written.
+    Failed,
 }
 
 // After a dump command.
@@ -30,6 +32,7 @@ pub(crate) fn ask(progress: &mut Progress)
         Progress::Idle => *progress = Progress::Asked,
         Progress::Asked => {}
         Progress::Started { last: _, values: _ } => {}
+        Progress::Failed => {}
     }
 }
 
@@ -50,7 +53,7 @@ pub(crate) fn line_of(alloc: Global, time: u64) -> Result<Vec<u8>, NoMemory>
 
 // What the first slot end adds below the header.
 pub(crate) fn first_text(alloc: Global, time: u64, values: &[Vec4]) -> Result<Vec<u8>, NoMemory>
-    ensures { IfOk result (λ text. (head : List ℕ) → head ++ text.items ≡ start_text head time values.now) }
+    ensures { IfOk result (λ text. IsStart text.items time values.now) }
 {
     let mut text = line_of(alloc, time)?;
     text.extend_from_slice(b"$dumpvars\n")?;
@@ -66,7 +69,7 @@ pub(crate) fn later_text(
     old: &[Vec4],
     new: &[Vec4],
 ) -> Result<Vec<u8>, NoMemory>
-    ensures { IfOk result (λ text. text.items ≡ timed time (changed_lines old.now new.now)) }
+    ensures { IfOk result (λ text. text.items ≡ slot_text time old.now new.now) }
 {
     let mut text = line_of(alloc, time)?;
     let start = text.len();

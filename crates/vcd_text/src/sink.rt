@@ -1,11 +1,10 @@
 // The dump of a run, written slot by slot as the run goes.
 
-ghost use Rattle.std.specs.Prelude.{◌≡◌, [], ◌∷◌, OnOk, OnErr, IfErr, cond, ◌==◌};
+ghost use Rattle.std.specs.Prelude.{◌≡◌, ◌≢◌, [], ◌∷◌, OnOk, OnErr, IfErr};
 ghost use Rattle.vmodel.specs.declared.history.Item.TheVariants.{SlotEnd, Dump};
 ghost use Rattle.vmodel.specs.declared.history.DumpCommand.{DumpCommand};
-ghost use Rattle.vcd_text.specs.DumpText.{time_line};
-ghost use Rattle.vcd_text.specs.declared.progress.Progress.TheVariants.{Idle, Asked};
-ghost use Rattle.vcd_text.specs.Sinks.{changed_lines, end_text, last_line, start_text, timed};
+ghost use Rattle.vcd_text.specs.declared.progress.Progress.TheVariants.{Idle, Asked, Failed};
+ghost use Rattle.vcd_text.specs.Sinks.{end_line, line_after_slot, slot_text, start_text};
 ghost use Rattle.vcd_text.specs.Outlets.{Stopped};
 
 use crate::header::Header;
@@ -20,7 +19,8 @@ use vmodel::values::Values;
 
 /// Writes the dump of a run as its items come: the header and all values at the end of the first slot with a
 /// `$dumpvars`, the changes at each later slot end (18.2.1; docs/FORMATS.md, "Dumps"). Before a start nothing is
-/// written. `finish` completes the dump, and `into_outlet` gives back what it is written to.
+/// written, and nothing after a fault, where items are passed over. `finish` completes the dump, and `into_outlet` gives
+/// back what it is written to.
 #[derive(Drop)]
 pub struct DumpSink<'a, O> {
     alloc: Global,
@@ -32,16 +32,17 @@ pub struct DumpSink<'a, O> {
 // The header and the first slot's end.
 fn put_start<O: Outlet>(
     alloc: Global,
-    header: &[u8],
+    head: &[u8],
     outlet: &mut O,
     time: u64,
     values: &[Vec4],
 ) -> Result<(), OrMemory<O::Fault>>
-    ensures ok { OnOk result (O.takes outlet.old (start_text header.now time values.now) outlet.new) }
-    ensures err { IfErr result (λ fault. Stopped O.takes O.fails outlet.old (start_text header.now time values.now) fault outlet.new) }
+    ensures ok { OnOk result (O.takes outlet.old (start_text head.now time values.now) outlet.new) }
+    ensures err { IfErr result (λ fault.
+        Stopped O.takes O.fails outlet.old (start_text head.now time values.now) fault outlet.new) }
 {
     let text = first_text(alloc, time, values)?;
-    match put(outlet, header) {
+    match put(outlet, head) {
         Ok(()) => put(outlet, &text),
         Err(fault) => Err(fault),
     }
@@ -56,10 +57,11 @@ fn put_slot<O: Outlet>(
     time: u64,
     values: &[Vec4],
 ) -> Result<(), OrMemory<O::Fault>>
-    ensures last { OnOk result (last.new ≡ last_line last.old time (changed_lines kept.old values.now)) }
+    ensures last { OnOk result (last.new ≡ line_after_slot last.old time kept.old values.now) }
     ensures kept { OnOk result (kept.new ≡ values.now) }
-    ensures ok { OnOk result (O.takes outlet.old (timed time (changed_lines kept.old values.now)) outlet.new) }
-    ensures err { IfErr result (λ fault. Stopped O.takes O.fails outlet.old (timed time (changed_lines kept.old values.now)) fault outlet.new) }
+    ensures ok { OnOk result (O.takes outlet.old (slot_text time kept.old values.now) outlet.new) }
+    ensures err { IfErr result (λ fault.
+        Stopped O.takes O.fails outlet.old (slot_text time kept.old values.now) fault outlet.new) }
 {
     let text = later_text(alloc, time, kept.as_slice(), values)?;
     kept.assign(values)?;
@@ -79,8 +81,9 @@ fn put_end<O: Outlet>(
     last: u64,
     time: u64,
 ) -> Result<(), OrMemory<O::Fault>>
-    ensures ok { OnOk result (O.takes outlet.old (cond (last == time) [] (time_line time)) outlet.new) }
-    ensures err { IfErr result (λ fault. Stopped O.takes O.fails outlet.old (cond (last == time) [] (time_line time)) fault outlet.new) }
+    ensures ok { OnOk result (O.takes outlet.old (end_line last time) outlet.new) }
+    ensures err { IfErr result (λ fault.
+        Stopped O.takes O.fails outlet.old (end_line last time) fault outlet.new) }
 {
     if last == time {
         return Ok(());
@@ -90,7 +93,7 @@ fn put_end<O: Outlet>(
 }
 
 impl<'a, O: Outlet> DumpSink<'a, O> {
-    ghost use Rattle.vcd_text.specs.Sinks.{progress_at_end, IsSameDump, Takes, Fails};
+    ghost use Rattle.vcd_text.specs.Sinks.{IsAtEnd, IsPassedOver, IsSameDump, Takes, TakesEnd, FailsEnd, StopsIn};
 
     /// A dump of which nothing has come yet.
     pub fn new(alloc: Global, header: &'a Header, outlet: &'a mut O) -> DumpSink<'a, O>
@@ -111,7 +114,8 @@ impl<'a, O: Outlet> DumpSink<'a, O> {
     fn start(&mut self, time: u64, values: &[Vec4]) -> Result<(), OrMemory<O::Fault>>
         requires { self.old.progress ≡ Asked }
         ensures ok { OnOk result (Takes O.takes self.old (SlotEnd time values.now ∷ []) self.new) }
-        ensures err { IfErr result (λ fault. Fails O.takes O.fails self.old (SlotEnd time values.now ∷ []) fault self.new) }
+        ensures err { IfErr result (λ fault.
+            StopsIn O.takes O.fails self.old (SlotEnd time values.now ∷ []) fault self.new) }
     {
         let kept = Values::from_slice(self.alloc, values)?;
         match put_start(
@@ -135,7 +139,8 @@ impl<'a, O: Outlet> DumpSink<'a, O> {
     // A slot has ended.
     fn end_slot(&mut self, time: u64, values: &[Vec4]) -> Result<(), OrMemory<O::Fault>>
         ensures ok { OnOk result (Takes O.takes self.old (SlotEnd time values.now ∷ []) self.new) }
-        ensures err { IfErr result (λ fault. Fails O.takes O.fails self.old (SlotEnd time values.now ∷ []) fault self.new) }
+        ensures err { IfErr result (λ fault.
+            StopsIn O.takes O.fails self.old (SlotEnd time values.now ∷ []) fault self.new) }
     {
         match &mut self.progress {
             Progress::Idle => Ok(()),
@@ -143,6 +148,7 @@ impl<'a, O: Outlet> DumpSink<'a, O> {
             Progress::Started { last, values: kept } => {
                 put_slot(self.alloc, self.outlet, last, kept, time, values)
             }
+            Progress::Failed => Ok(()),
         }
     }
 
@@ -156,7 +162,8 @@ impl<'a, O: Outlet> DumpSink<'a, O> {
     // The next item.
     fn take_item(&mut self, item: &Item) -> Result<(), OrMemory<O::Fault>>
         ensures ok { OnOk result (Takes O.takes self.old (item.now ∷ []) self.new) }
-        ensures err { IfErr result (λ fault. Fails O.takes O.fails self.old (item.now ∷ []) fault self.new) }
+        ensures err { IfErr result (λ fault.
+            StopsIn O.takes O.fails self.old (item.now ∷ []) fault self.new) }
     {
         match item {
             Item::SlotEnd { time, values } => self.end_slot(*time, values.as_slice()),
@@ -167,14 +174,17 @@ impl<'a, O: Outlet> DumpSink<'a, O> {
         }
     }
 
-    /// Writes what the end of the run adds: its time, unless the last time line is that (E901, E902). After `Ok` a second
-    /// call with the same end writes nothing.
+    /// Writes what the end of the run adds: its time, unless the last time line is that (E901, E902). After `Ok` a
+    /// second call with the same end writes nothing, and after a fault no call does.
     pub fn finish(&mut self, end: &End) -> Result<(), OrMemory<O::Fault>>
         ensures same { IsSameDump self.old self.new }
-        ensures progress { OnOk result (self.new.progress ≡ progress_at_end self.old.progress end.now.time) }
-        ensures kept { OnErr result (self.new.progress ≡ self.old.progress) }
-        ensures ok { OnOk result (O.takes self.old.outlet.now (end_text self.old.progress end.now.time) self.new.outlet.now) }
-        ensures err { IfErr result (λ fault. Stopped O.takes O.fails self.old.outlet.now (end_text self.old.progress end.now.time) fault self.new.outlet.now) }
+        ensures ok { OnOk result (TakesEnd O.takes self.old end.now.time self.new) }
+        ensures progress { OnOk result (IsAtEnd self.old end.now.time self.new) }
+        ensures err { IfErr result (λ fault.
+            FailsEnd O.takes O.fails self.old end.now.time fault self.new) }
+        ensures failed { OnErr result (self.new.progress ≡ Failed) }
+        ensures passed { IsPassedOver self.old self.new }
+        ensures once { OnErr result (self.old.progress ≢ Failed) }
     {
         match &mut self.progress {
             Progress::Idle => Ok(()),
@@ -185,9 +195,13 @@ impl<'a, O: Outlet> DumpSink<'a, O> {
                         *last = end.time;
                         Ok(())
                     }
-                    Err(fault) => Err(fault),
+                    Err(fault) => {
+                        self.progress = Progress::Failed;
+                        Err(fault)
+                    }
                 }
             }
+            Progress::Failed => Ok(()),
         }
     }
 
@@ -207,7 +221,7 @@ impl<'a, O: Outlet> DumpSink<'a, O> {
 }
 
 impl<'a, O: Outlet> Sink for DumpSink<'a, O> {
-    ghost use Rattle.vcd_text.specs.Sinks.{Takes, Fails};
+    ghost use Rattle.vcd_text.specs.Sinks.{IsPassedOver, Takes, Fails};
     ghost use Rattle.vcd_text.specs.SinkLaws.{takes_none, takes_joins, fails_after};
 
     type Fault = OrMemory<O::Fault>;
@@ -216,11 +230,24 @@ impl<'a, O: Outlet> Sink for DumpSink<'a, O> {
 
     ghost fails = { Fails O.takes O.fails };
 
-    fn take(&mut self, items: &[Item]) -> Result<(), OrMemory<O::Fault>> {
+    fn take(&mut self, items: &[Item]) -> Result<(), OrMemory<O::Fault>>
+        ensures ok { OnOk result (Takes O.takes self.old items.now self.new) }
+        ensures err { IfErr result (λ fault.
+            Fails O.takes O.fails self.old items.now fault self.new) }
+        ensures failed { OnErr result (self.new.progress ≡ Failed) }
+        ensures passed { IsPassedOver self.old self.new }
+        ensures once { OnErr result (self.old.progress ≢ Failed) }
+    {
+        if let Progress::Failed = &self.progress {
+            return Ok(());
+        }
         for item in items {
             match self.take_item(item) {
                 Ok(()) => {}
-                Err(fault) => return Err(fault),
+                Err(fault) => {
+                    self.progress = Progress::Failed;
+                    return Err(fault);
+                }
             }
         }
         Ok(())

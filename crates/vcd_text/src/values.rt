@@ -1,8 +1,7 @@
 // The lines that say what variables are worth (18.2.2).
 
-ghost use Rattle.std.specs.Prelude.{◌≡◌, ◌<◌, ◌++◌, OnOk, true, false, length, drop, map, reverse};
-ghost use Rattle.std.specs.List.{enumerate_from};
-ghost use Rattle.vcd_text.specs.DumpText.{following, digit as digit_code, extension as extension_code, shortened, change, named_line, value_lines, is_kept as is_kept_vector};
+ghost use Rattle.std.specs.Prelude.{◌≡◌, ◌<◌, ◌++◌, OnOk, true, false, length, drop};
+ghost use Rattle.vcd_text.specs.DumpText.{all_lines, change, digit as digit_code, digits_of, extension as extension_code, following, is_kept as is_kept_vector, named_line, shortened};
 ghost use Rattle.vcd_text.specs.Sinks.{changed_lines};
 
 use basis::NoMemory;
@@ -44,7 +43,8 @@ fn extension(digit: u8) -> u8
 
 // Whether the extension of the second digit gives the first one back.
 fn is_given_back(digits: &[u8]) -> bool
-    ensures yes { result ≡ true → (1 < length digits.now) × (shortened digits.now ≡ shortened (drop 1 digits.now)) }
+    ensures some { result ≡ true → 1 < length digits.now }
+    ensures yes { result ≡ true → shortened digits.now ≡ shortened (drop 1 digits.now) }
     ensures no { result ≡ false → shortened digits.now ≡ digits.now }
 {
     digits.len() > 1 && digits[0] == extension(digits[1])
@@ -63,7 +63,7 @@ fn kept(digits: &[u8]) -> &[u8]
 
 /// Puts the digits of a value last, all of them, leftmost first. The error is want of memory, E901.
 pub fn put_digits(text: &mut Vec<u8>, value: Vec4) -> Result<(), NoMemory>
-    ensures { OnOk result (text.new.items ≡ text.old.items ++ map digit_code (reverse value.letters)) }
+    ensures { OnOk result (text.new.items ≡ text.old.items ++ digits_of value) }
 {
     let mut i = value.len();
     while i > 0 {
@@ -106,7 +106,7 @@ fn put_value(
 
 // The lines of all values at the end of the text, in the order of the variables.
 pub(crate) fn put_values(alloc: Global, text: &mut Vec<u8>, values: &[Vec4]) -> Result<(), NoMemory>
-    ensures { OnOk result (text.new.items ≡ text.old.items ++ value_lines (enumerate_from 0 values.now)) }
+    ensures { OnOk result (text.new.items ≡ text.old.items ++ all_lines values.now) }
 {
     let mut scratch = Vec::new(alloc);
     let mut name = Vec::from_slice(alloc, b"!")?;

@@ -1,12 +1,10 @@
 // The whole dump of a history.
 
 ghost use Rattle.std.specs.Prelude.{◌≡◌, OnOk, IfErr};
-ghost use Rattle.vast.specs.Design.{Design};
-ghost use Rattle.vcd_text.specs.DumpText.{dump_below, header as header_text, vcd};
+ghost use Rattle.vcd_text.specs.DumpText.{dump_below};
 ghost use Rattle.vcd_text.specs.Metered.{Grows, Stops};
-ghost use Rattle.vcd_text.specs.Outlets.{Stopped};
 ghost use Rattle.vcd_text.specs.declared.progress.Progress.TheVariants.{Idle};
-ghost use Rattle.vcd_text.specs.Sinks.{IsSameDump};
+ghost use Rattle.vcd_text.specs.Sinks.{IsSameDump, TakesDump, FailsDump};
 
 use crate::fault::WriteFault;
 use crate::header::Header;
@@ -23,8 +21,9 @@ use vmodel::sink::Sink;
 fn fill<O: Outlet>(sink: &mut DumpSink<'_, O>, history: &History) -> Result<(), OrMemory<O::Fault>>
     requires { sink.old.progress ≡ Idle }
     ensures same { IsSameDump sink.old sink.new }
-    ensures ok { OnOk result (O.takes sink.old.outlet.now (dump_below sink.old.header.now history.now) sink.new.outlet.now) }
-    ensures err { IfErr result (λ fault. Stopped O.takes O.fails sink.old.outlet.now (dump_below sink.old.header.now history.now) fault sink.new.outlet.now) }
+    ensures ok { OnOk result (TakesDump O.takes sink.old history.now sink.new) }
+    ensures err { IfErr result (λ fault.
+        FailsDump O.takes O.fails sink.old history.now fault sink.new) }
 {
     match sink.take(&history.items) {
         Ok(()) => sink.finish(&history.end),
@@ -32,16 +31,19 @@ fn fill<O: Outlet>(sink: &mut DumpSink<'_, O>, history: &History) -> Result<(), 
     }
 }
 
-/// Writes the dump of a history below the header of its design (18.2; docs/FORMATS.md, "Dumps"); without a start no
-/// byte. After a fault a prefix of it stands written. E901, and E902 only where the writer failed in this call.
+/// Writes the dump of a history below the header of its design, which is the design's `vcd` (18.2; docs/FORMATS.md,
+/// "Dumps"); without a start no byte. After a fault a prefix of it stands written. E901, and E902 only where the writer
+/// failed in this call.
 pub fn write_vcd<W: Write>(
     alloc: Global,
     header: &Header,
     history: &History,
     writer: &mut Metered<W>,
 ) -> Result<(), OrMemory<WriteFault>>
-    ensures ok { (design : Design) → header.now ≡ header_text design → OnOk result (Grows W.contents writer.old writer.new (vcd design history.now)) }
-    ensures err { (design : Design) → header.now ≡ header_text design → IfErr result (Stops W.contents writer.old writer.new (vcd design history.now)) }
+    ensures ok { OnOk result (
+        Grows W.contents writer.old writer.new (dump_below header.now history.now)) }
+    ensures err { IfErr result (
+        Stops W.contents writer.old writer.new (dump_below header.now history.now)) }
 {
     let mut sink = DumpSink::new(alloc, header, writer);
     let result = fill(&mut sink, history);

@@ -22,7 +22,7 @@ use Rattle.vcd_text.specs.Outlets.{Stopped}
 use Rattle.vcd_text.specs.declared.progress.Progress.TheVariants.{Idle}
 use Rattle.vcd_text.specs.Sinks.{end_text, text_of, Takes, Fails}
 use Rattle.vcd_text.specs.SinkLaws.{fails_after, fails_before}
-use Rattle.vcd_text.proofs.DumpLemmas.{completes, stops_taking, stops_completing}
+use Rattle.vcd_text.specs.DumpLaws.{completes, stops_taking, stops_completing}
 use Rattle.vcd_text.specs.declared.metered.Metered.{Metered}
 use Rattle.vcd_text.specs.declared.sink.DumpSink.{DumpSink}
 use Rattle.vcd_text.specs.declared.fault.WriteFault.{WriteFault}
@@ -101,7 +101,7 @@ module _ {W : Type 0} (contents : W → Option (List ℕ)) (setting : Setting) (
       StopsDump contents s.header.now setting log limit s.outlet.now t.outlet.now (Memory refused)
   stops_between t refused dump known (n, k, underway, taken) =
       let given : List Item = given_by setting log n in
-      let later : Fails (Written contents) (Broken contents) t (drop k given) (or.Memory refused) t = ((refl, refl), stops_at_once contents t.outlet.now (text_of t (drop k given)) refused) in
+      let later : Fails (Written contents) (Broken contents) t (drop k given) (or.Memory refused) t = ((refl, refl), stops_at_once contents t.outlet.now (text_of t (drop k given)) refused, tt) in
       let failed : Fails (Written contents) (Broken contents) s given (or.Memory refused) t =
       subst (λ (xs : List Item). Fails (Written contents) (Broken contents) s xs (or.Memory refused) t) (take-append-drop k given)
       (fails_after (Written contents) (Broken contents) (metered_laws contents) s t t (take k given) (drop k given) (or.Memory refused) taken later) in

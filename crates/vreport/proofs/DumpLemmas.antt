@@ -20,7 +20,7 @@ use Rattle.vcd_text.specs.Outlets.{IsOutlet, Stopped}
 use Rattle.vcd_text.specs.declared.progress.Progress.TheVariants.{Idle}
 use Rattle.vcd_text.specs.Sinks.{end_text, text_of, Takes, Fails}
 use Rattle.vcd_text.specs.SinkLaws.{fails_after, fails_before}
-use Rattle.vcd_text.proofs.DumpLemmas.{completes, stops_taking, stops_completing}
+use Rattle.vcd_text.specs.DumpLaws.{completes, stops_taking, stops_completing}
 use Rattle.vcd_text.specs.declared.sink.DumpSink.{DumpSink}
 use Rattle.vreport.specs.Dumps.{HasDump, IsRunDump, StopsDump, TakesDump}
 use Rattle.vreport.specs.RunLaws.{not_behind, never_missing, never_more, given_front}
@@ -75,7 +75,7 @@ module _ {O F : Type 0} (takes : O → List ℕ → O → Type 0) (fails : O →
       StopsDump takes fails s.header.now setting log limit s.outlet.now (or.Memory refused) t.outlet.now
   stops_between t refused known (n, k, underway, taken) =
       let given : List Item = given_by setting log n in
-      let later : Fails takes fails t (drop k given) (or.Memory refused) t = ((refl, refl), (0, laws.none t.outlet.now)) in
+      let later : Fails takes fails t (drop k given) (or.Memory refused) t = ((refl, refl), (0, laws.none t.outlet.now), tt) in
       let failed : Fails takes fails s given (or.Memory refused) t =
       subst (λ (xs : List Item). Fails takes fails s xs (or.Memory refused) t) (take-append-drop k given)
       (fails_after takes fails laws s t t (take k given) (drop k given) (or.Memory refused) taken later) in

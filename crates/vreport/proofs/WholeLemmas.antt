@@ -62,7 +62,7 @@ module _ (setting : Setting) (alike : Alike setting) (all : AllStand setting) (t
   pub ends_true : AreFound (machine_rules setting) limits marks → Each (IsTrueEnd setting limits) ends
   ends_true found = λ i end at. (let o = are.each i end at in true_end found o.row end o.of)
 
-  pub ends_bytes : Each (HasBytes setting limits) ends
+  pub ends_bytes : Each (HasBytes setting limits.steps) ends
   ends_bytes = λ i end at. (are.each i end at).of.bytes
 
   module _ (here : RunHere setting) (mark_alike : MarkAlike setting) (of_marks : AreRows setting marks rows) where

@@ -26,9 +26,9 @@ pub record IsTrueEnd (setting : Setting) (limits : Limits) (end : End) : Type 0 
   pub short : length end.log ≤ limits.depart
 
 -- its bytes are as many as the dump of that run has
-pub record HasBytes (setting : Setting) (limits : Limits) (end : End) : Type 0 where
+pub record HasBytes (setting : Setting) (steps : ℕ) (end : End) : Type 0 where
   pub dump : List ℕ
-  pub is_dump : IsRunDump (header setting.design) setting end.log limits.steps dump
+  pub is_dump : IsRunDump (header setting.design) setting end.log steps dump
   pub bytes_are : end.bytes ≡ length dump
 
 -- the run has a dump of 2^64 bytes or more

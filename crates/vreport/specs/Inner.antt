@@ -111,7 +111,7 @@ pub record IsEndOfRow (setting : Setting) (limits : Limits) (marks : List (Stand
   pub cause_is : row.cause ≡ order_of end.cause
   pub line_is : end.line ≡ row.line.items
   pub log_is : end.log ≡ found.1
-  pub bytes : HasBytes setting limits end
+  pub bytes : HasBytes setting limits.steps end
 
 -- the row's end is listed, under no more departures
 pub record HasEnd (ends : List Told) (row : Row) : Type 0 where

@@ -1,5 +1,6 @@
 pub mod Values
 pub mod Ends
+pub mod Truth
 pub mod Inner
 pub mod Dumps
 pub mod RunLaws

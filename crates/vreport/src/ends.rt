@@ -138,7 +138,7 @@ pub fn ends_of(
 ) -> Result<Vec<End>, OrMemory<TooMany>>
     requires found { ListsFound (machine_rules machine.now) limits.now findings.now }
     ensures true_ends { IfOk result (λ ends. Each (IsTrueEnd machine.now limits.now) ends.items) }
-    ensures bytes { IfOk result (λ ends. Each (HasBytes machine.now limits.now) ends.items) }
+    ensures bytes { IfOk result (λ ends. Each (HasBytes machine.now limits.now.steps) ends.items) }
     ensures all { IfOk result (λ ends. GivesEveryEnd machine.now limits.now findings.now ends.items) }
     ensures order { IfOk result (λ ends. EachTwo IsEndBefore ends.items) }
     ensures long { IfFault result (λ _. HasSomeLongDump machine.now limits.now) }

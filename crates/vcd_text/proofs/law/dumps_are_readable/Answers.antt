@@ -7,7 +7,7 @@ pub returns : goal.returns
 returns c = record {
   digits = code_digits;
   number = code_number;
-  only = only_code;
+  only = λ n text is. only_code n text is.0 is.1;
   back = digits_back;
   values = slots_told;
 }

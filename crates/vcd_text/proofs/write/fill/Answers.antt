@@ -4,7 +4,7 @@ use Rattle.vmodel.specs.History.{History}
 use Rattle.vmodel.specs.declared.history.End.{End}
 use Rattle.vcd_text.specs.Outlets.{Stopped}
 use Rattle.vcd_text.specs.Sinks.{end_text, Takes, Fails}
-use Rattle.vcd_text.proofs.DumpLemmas.{completes, stops_completing, stops_taking}
+use Rattle.vcd_text.specs.DumpLaws.{completes, stops_completing, stops_taking}
 use Rattle.vcd_text.proofs.PutLemmas.{on_ok, on_err}
 use Rattle.vcd_text.proofs.write.fill.Goals as goal
 

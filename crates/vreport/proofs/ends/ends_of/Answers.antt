@@ -24,7 +24,7 @@ returns-clause-bytes c =
     let marks = c.args.findings.now.marks.entries in
     let rows = c.deref.result.now in
     let law = c.machine_law.ensures in
-    IfOk-weaker c.ends_of_rows.result (λ ends. AreEnds setting limits marks rows ends.items) (λ ends. Each (HasBytes setting limits) ends.items)
+    IfOk-weaker c.ends_of_rows.result (λ ends. AreEnds setting limits marks rows ends.items) (λ ends. Each (HasBytes setting limits.steps) ends.items)
     (λ ends are. ends_bytes setting (law.same setting) (law.stands setting) (law.runs setting) limits marks rows ends.items are) c.ends_of_rows.ensures.ok
 
 pub returns-clause-all : goal.returns-clause-all

@@ -1,4 +1,4 @@
--- What a sink writes item by item is the dump.
+-- What a sink writes item by item is the dump of the history.
 use Rattle.std.proofs.Common.{◌≡◌, ℕ, Bool, true, false, cond, ◌||◌, List, [], ◌∷◌, ◌++◌, refl, sym, ap, subst, ◌∙◌, append_assoc}
 use Rattle.std.specs.List.{list_any}
 use Rattle.std.proofs.lemmas.List.Folds.{list_any-append}
@@ -10,7 +10,7 @@ use Rattle.vmodel.specs.declared.history.Item.TheVariants.{SlotEnd, Dump}
 use Rattle.vcd_text.specs.DumpText.{Piece, Slot, below, body, changes, dump_below, dumped, is_nothing, is_start, later_pieces, piece_text, pieces, slots_after, spoken, start, time_line}
 use Rattle.vcd_text.specs.declared.progress.Progress.{Progress}
 use Rattle.vcd_text.specs.declared.progress.Progress.TheVariants.{Idle, Asked, Started}
-use Rattle.vcd_text.specs.Sinks.{end_text, items_text, last_line, progress_over, timed, text_of, Takes, Fails}
+use Rattle.vcd_text.specs.Sinks.{end_text, history_text, items_text, last_line, progress_over, timed, text_of, Takes, Fails}
 use Rattle.vcd_text.specs.Outlets.{IsOutlet, Stopped}
 use Rattle.vcd_text.specs.OutletLaws.{stopped_after, stopped_before}
 use Rattle.basis.specs.declared.memory.OrMemory.{OrMemory}
@@ -85,8 +85,7 @@ module _ (head : List ℕ) (end : ℕ) where
       idle_text [] items refl
       ∙ sym (ap (λ (b : Bool). below head (spoken (pieces (cond b (slot ∷ later) (dumped later)))) end) none)
 
-pub whole_text : (head : List ℕ) (history : History) →
-    items_text head Idle history.items ++ end_text (progress_over Idle history.items) history.end.time ≡ dump_below head history
+pub whole_text : (head : List ℕ) (history : History) → history_text head history ≡ dump_below head history
 whole_text head history = idle_text head history.end.time [] history.items refl
 
 -- ---- of a sink with nothing come

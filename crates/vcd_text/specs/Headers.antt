@@ -1,0 +1,16 @@
+-- The lines of a header as they are written, one list of variables behind another.
+use Rattle.std.specs.Prelude.{◌≡◌, ℕ, ◌+◌, List, ◌++◌}
+use Rattle.vast.specs.Design.{Variable, Scope}
+use Rattle.vcd_text.specs.DumpText.{code, scope_lines, variable_lines}
+
+-- from the code of a variable to that of the one so many later
+abbrev pub IsCodeAfter : List ℕ → ℕ → List ℕ → Type 0
+IsCodeAfter name count next = (n : ℕ) → name ≡ code n → next ≡ code (n + count)
+
+-- the text grew by the lines of these variables, the first of which has that code
+abbrev pub Lists : List ℕ → List Variable → List ℕ → List ℕ → Type 0
+Lists name variables old new = (n : ℕ) → name ≡ code n → new ≡ old ++ variable_lines n variables
+
+-- all scopes, from variable 0 on
+abbrev pub all_scopes : List Scope → List Variable → List ℕ
+all_scopes = scope_lines 0 0
