@@ -22,7 +22,7 @@ pub use fault::{Never, TooMany, WriteFault};
 pub use header::Header;
 pub use law::{dumps_are_readable, expected_is_whole, sinks_complete_dumps};
 pub use metered::Metered;
-pub use outlet::Outlet;
+pub use outlet::{Outlet, put};
 pub use sink::DumpSink;
 pub use values::put_digits;
 pub use write::write_vcd;

@@ -24,8 +24,8 @@ pub trait Outlet {
     ghost lawful: { IsOutlet takes fails };
 }
 
-// The next text, where memory may be wanted for others.
-pub(crate) fn put<O: Outlet>(outlet: &mut O, text: &[u8]) -> Result<(), OrMemory<O::Fault>>
+/// Hands the text to the outlet, for callers that may want memory too: a fault is the outlet's.
+pub fn put<O: Outlet>(outlet: &mut O, text: &[u8]) -> Result<(), OrMemory<O::Fault>>
     ensures ok { OnOk result (O.takes outlet.old text.now outlet.new) }
     ensures err { IfErr result (λ fault.
         Stopped O.takes O.fails outlet.old text.now fault outlet.new) }

@@ -66,9 +66,11 @@ module _ {O F : Type 0} (takes : O → List ℕ → O → Type 0) (fails : O →
   stops_within t fault (dump, known) n underway failed =
       let front = given_front setting log n known.steps (not_behind (rules_of setting) log n known.steps underway.run known.finishes.ends) in
       let whole : Fails takes fails s (given_by setting log known.steps) fault t =
-      subst (λ (xs : List Item). Fails takes fails s xs fault t) (sym front.1) (fails_before takes fails laws s t (given_by setting log n) front.0 fault failed) in
-      (dump_below s.header.now (history_after setting log known.steps), the_dump s.header.now setting log limit known.steps known.end known.finishes,
-      stops_taking takes fails laws s (history_after setting log known.steps) fresh t fault whole)
+      subst (λ (xs : List Item). Fails takes fails s xs fault t) (sym front.1) (fails_before takes fails laws s t (given_by setting log n) front.0 fault failed) in (
+        dump_below s.header.now (history_after setting log known.steps),
+        the_dump s.header.now setting log limit known.steps known.end known.finishes,
+        stops_taking takes fails laws s (history_after setting log known.steps) fresh t fault whole,
+      )
 
   -- want of memory between two items
   stops_between : (t : DumpSink O) (refused : NoMemory) → HasDump s.header.now setting log limit → IsHanded (Takes takes) setting log limit s t →

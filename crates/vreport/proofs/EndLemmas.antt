@@ -79,12 +79,15 @@ module _ (setting : Setting) (alike : Alike setting) (all : AllStand setting) (t
   row_finishes found place row f of =
       let t = state_after setting found.1 f.steps in
       let told = of.at_end t (stood found f) in
-      let h = ended t told.0 told.1 in
-      (told.0, record {
-        within = f.within;
-        ends = record { run = there found.1 f.steps f.run; end = width_is setting t ∙ h.none; names = f.names };
-        end_is = sym h.is;
-      }, told.2)
+      let h = ended t told.0 told.1 in (
+        told.0,
+        record {
+          within = f.within;
+          ends = record { run = there found.1 f.steps f.run; end = width_is setting t ∙ h.none; names = f.names };
+          end_is = sym h.is;
+        },
+        told.2,
+      )
 
   pub row_dump : (found : Standing × List (ℕ × ℕ)) (place : ℕ) (row : Row) (head : List ℕ) → IsFound (machine_rules setting) limits found → IsRow setting found place row →
       HasDump head setting found.1 limits.steps
@@ -140,10 +143,11 @@ repeats_when rows place r s b some within e f d =
     let less : place - 1 < length rows = omega arith in
     let at : slice_get rows (place - 1) ≡ Some r = slice_get-get_or rows (place - 1) r less ∙ ap Some e in
     let at' : slice_get rows place ≡ Some s = slice_get-get_or rows place s within ∙ ap Some f in
-    let is : (place - 1) + 1 ≡ place = omega arith in
-    (λ h. record { before = place - 1; first = r; second = s; is_before = is; first_at = at; second_at = at'; alike = d.0 h },
-    λ p.
-        let same : p.before ≡ place - 1 = omega (arith, p.is_before) in
-        let one : p.first ≡ r = same_Some p.first r (sym p.first_at ∙ ap (slice_get rows) same ∙ at) in
-        let two : p.second ≡ s = same_Some p.second s (sym p.second_at ∙ at') in
-        d.1 (subst (λ (x : Row). key_cmp x s ≡ Equal) one (subst (λ (y : Row). key_cmp p.first y ≡ Equal) two p.alike)))
+    let is : (place - 1) + 1 ≡ place = omega arith in (
+      λ h. record { before = place - 1; first = r; second = s; is_before = is; first_at = at; second_at = at'; alike = d.0 h },
+      λ p.
+          let same : p.before ≡ place - 1 = omega (arith, p.is_before) in
+          let one : p.first ≡ r = same_Some p.first r (sym p.first_at ∙ ap (slice_get rows) same ∙ at) in
+          let two : p.second ≡ s = same_Some p.second s (sym p.second_at ∙ at') in
+          d.1 (subst (λ (x : Row). key_cmp x s ≡ Equal) one (subst (λ (y : Row). key_cmp p.first y ≡ Equal) two p.alike)),
+    )

@@ -4,3 +4,5 @@ pub mod DumpLemmas
 pub mod EndLemmas
 pub mod ListingLemmas
 pub mod WholeLemmas
+pub mod LeadLemmas
+pub mod WriteLemmas

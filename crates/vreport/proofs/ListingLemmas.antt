@@ -62,11 +62,16 @@ module _ (setting : Setting) (limits : Limits) (marks : List (Standing × List (
   in_order : (r s : Row) (e f : Told) → IsEndOfRow setting limits marks r e → IsEndOfRow setting limits marks s f → key_cmp r s ≡ Less → IsEndBefore e f
   in_order r s e f of of' less = elim (key_before r s less) [
     | inl time ↦ inl (subst (λ n. n < f.time) (sym of.time_is) (subst (λ n. r.time < n) (sym of'.time_is) time))
-    | inr same ↦ inr (of.time_is ∙ same.0 ∙ sym of'.time_is, elim same.1 [
+    | inr same ↦ inr (
+      of.time_is ∙ same.0 ∙ sym of'.time_is,
+      elim same.1 [
         | inl cause ↦ inl (later_cause e.cause f.cause (subst (λ n. n < order_of f.cause) of.cause_is (subst (λ n. r.cause < n) of'.cause_is cause)))
-        | inr alike ↦ inr (cause_exact e.cause f.cause (sym of.cause_is ∙ alike.0 ∙ of'.cause_is),
-            (subst (λ (text : List ℕ). IsTextLess text f.line) (sym of.line_is) (subst (λ (text : List ℕ). IsTextLess r.line.items text) (sym of'.line_is) alike.1)))
-      ])
+        | inr alike ↦ inr (
+          cause_exact e.cause f.cause (sym of.cause_is ∙ alike.0 ∙ of'.cause_is),
+          (subst (λ (text : List ℕ). IsTextLess text f.line) (sym of.line_is) (subst (λ (text : List ℕ). IsTextLess r.line.items text) (sym of'.line_is) alike.1)),
+        )
+      ],
+    )
   ]
 
   -- no earlier row is of the end of one that doesn't repeat the row before it
@@ -142,14 +147,14 @@ module _ (setting : Setting) (limits : Limits) (marks : List (Standing × List (
     ];
     whole = λ j r lt at. elim (below_next j place lt) [
       | inl before ↦ (let has = below.whole j r before at in record {
-          place = has.place;
-          end = has.end;
-          at = stands_in_front ends (end ∷ []) has.place has.end has.at;
-          time_is = has.time_is;
-          cause_is = has.cause_is;
-          line_is = has.line_is;
-          fewest = has.fewest;
-        })
+        place = has.place;
+        end = has.end;
+        at = stands_in_front ends (end ∷ []) has.place has.end has.at;
+        time_is = has.time_is;
+        cause_is = has.cause_is;
+        line_is = has.line_is;
+        fewest = has.fewest;
+      })
       | inr here ↦ (let same : row ≡ r = same_Some row r (sym row_at ∙ ap (slice_get rows) (sym here) ∙ at) in
           subst (HasEnd (ends ++ end ∷ [])) same (record {
             place = length ends;
@@ -163,14 +168,14 @@ module _ (setting : Setting) (limits : Limits) (marks : List (Standing × List (
     ];
     order = λ i j e f lt at at'. elim (last_or_before ends end j f at') [
       | inl old ↦ (elim (last_or_before ends end i e at) [
-          | inl old' ↦ below.order i j e f lt old' old
-          | inr last ↦ absurd (let w = place_within ends j f old in let p = last.0 in omega arith)
-        ])
+        | inl old' ↦ below.order i j e f lt old' old
+        | inr last ↦ absurd (let w = place_within ends j f old in let p = last.0 in omega arith)
+      ])
       | inr last ↦ (elim (last_or_before ends end i e at) [
-          | inl old' ↦ (let o = below.each i e old' in
-              let less : key_cmp o.row row ≡ Less = earlier_differs place o.place o.row row begins o.below o.at row_at in
-              subst (IsEndBefore e) last.1 (in_order o.row row e end o.of of less))
-          | inr last' ↦ absurd (let p = last.0 in let q = last'.0 in omega arith)
-        ])
+        | inl old' ↦ (let o = below.each i e old' in
+            let less : key_cmp o.row row ≡ Less = earlier_differs place o.place o.row row begins o.below o.at row_at in
+            subst (IsEndBefore e) last.1 (in_order o.row row e end o.of of less))
+        | inr last' ↦ absurd (let p = last.0 in let q = last'.0 in omega arith)
+      ])
     ];
   })

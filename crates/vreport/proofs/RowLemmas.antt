@@ -51,10 +51,10 @@ module _ (setting : Setting) (marks : List (Standing × List (ℕ × ℕ))) wher
     each = λ r has. elim (Contains-push_cases rows row r has) [
       | inl old ↦ below.each r old
       | inr fresh ↦ subst (IsRowOfSome setting marks) fresh (record {
-          found = mark;
-          at = ap (slice_get marks) of.place_is ∙ mark_at;
-          of = subst (λ k. IsRow setting mark k row) (sym of.place_is) of;
-        })
+        found = mark;
+        at = ap (slice_get marks) of.place_is ∙ mark_at;
+        of = subst (λ k. IsRow setting mark k row) (sym of.place_is) of;
+      })
     ];
     whole = λ i found lt at. elim (cases_lt i place) [
       | inl before ↦ earlier_has rows row found i (below.whole i found before at)

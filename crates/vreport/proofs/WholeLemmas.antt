@@ -38,7 +38,6 @@ at_contains xs x has = (has.0, slice_get-get_or xs has.0 x has.1 ∙ ap Some has
 
 module _ (setting : Setting) (alike : Alike setting) (all : AllStand setting) (there : RunThere setting) (limits : Limits)
     (marks : List (Standing × List (ℕ × ℕ))) (rows : List Row) (ends : List Told) (are : AreEnds setting limits marks rows ends) where
-
   true_end : AreFound (machine_rules setting) limits marks → (row : Row) (end : Told) → IsEndOfRow setting limits marks row end → IsTrueEnd setting limits end
   true_end found row end of =
       let f = found row.place of.found of.at in

@@ -1,11 +1,11 @@
 -- How a report tells values (docs/FORMATS.md, "Reports").
-use Rattle.std.specs.Prelude.{ℕ, List, [], ◌∷◌, ◌++◌, map, reverse}
+use Rattle.std.specs.Prelude.{ℕ, List, [], ◌∷◌, ◌++◌}
 use Rattle.vbits.specs.Vectors.{Vector}
-use Rattle.vcd_text.specs.DumpText.{digit}
+use Rattle.vcd_text.specs.DumpText.{digits_of}
 
 -- all digits, leftmost first
 abbrev pub value_text : Vector → List ℕ
-value_text v = map digit (reverse v.letters)
+value_text v = digits_of v
 
 -- the values after one, each behind a space
 abbrev pub more_values : List Vector → List ℕ

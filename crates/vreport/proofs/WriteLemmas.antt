@@ -1,0 +1,217 @@
+-- The text of a report, piece by piece.
+use Rattle.std.proofs.Common.{◌≡◌, ℕ, zero, suc, ◌+◌, ◌<◌, List, [], ◌∷◌, ◌++◌, length, codes, slice_get, get_or, drop, take, Option, Some, refl, sym, ap, subst, ◌∙◌, arith}
+use Rattle.std.proofs.lemmas.Option.{same_Some}
+use Rattle.basis.proofs.Lists.{left_from}
+use Rattle.basis.specs.declared.memory.NoMemory.{NoMemory}
+use Rattle.basis.specs.declared.memory.OrMemory.{OrMemory}
+use Rattle.basis.specs.declared.memory.OrMemory.TheVariants.{Memory}
+use Rattle.vmodel.specs.Run.{Setting, rules_of, history_after}
+use Rattle.vcd_text.specs.DumpText.{dump_below, header}
+use Rattle.vcd_text.specs.Outlets.{IsOutlet, Stopped}
+use Rattle.vcd_text.specs.OutletLaws.{stopped_before, stopped_after}
+use Rattle.report_text.specs.Report.{Column, End, Race}
+use Rattle.report_text.specs.ReportText.{end_text, ends_text, race_text, races_text}
+use Rattle.report_text.specs.WellFormed.{Each}
+use Rattle.vreport.specs.Dumps.{IsRunDump, StopsDump, TakesDump}
+use Rattle.vreport.specs.Ends.{HasBytes}
+use Rattle.vreport.specs.RunLaws.{same_end}
+use Rattle.report_text.specs.Report.{Report}
+use Rattle.report_text.specs.ReportText.{head_text, number_line}
+use Rattle.vreport.specs.Written.{AreDumps, IsDumpOf, StopsEnd, StopsEnds, StopsReport, TakesEnd, TakesEnds, TakesReport}
+use Rattle.vreport.proofs.LeadLemmas.{Leads, leads_first, leads_on, leads_stop, leads_end}
+
+-- a run has one dump
+pub same_dump : (head : List ℕ) (setting : Setting) (log : List (ℕ × ℕ)) (limit : ℕ) (d e : List ℕ) → IsRunDump head setting log limit d → IsRunDump head setting log limit e → d ≡ e
+same_dump head setting log limit d e p q =
+    let steps = same_end (rules_of setting) log p.steps q.steps p.finishes.ends.run p.finishes.ends.end q.finishes.ends in
+    p.is_text ∙ ap (λ n. dump_below head (history_after setting log n)) steps ∙ sym q.is_text
+
+pub dump_of_bytes : (setting : Setting) (steps : ℕ) (end : End) (h : HasBytes setting steps end) → IsDumpOf setting steps end h.dump
+dump_of_bytes setting steps end h = record { is_dump = h.is_dump; bytes_are = h.bytes_are }
+
+-- each end has its dump
+pub all_dumps : (setting : Setting) (steps : ℕ) (ends : List End) → Each (HasBytes setting steps) ends → (dumps : List (List ℕ)) × AreDumps setting steps ends dumps
+all_dumps setting steps [] each = ([], tt)
+all_dumps setting steps (end ∷ ends) each =
+    let h = each 0 end refl in
+    let (dumps, are) = all_dumps setting steps ends (λ i e at. each (suc i) e at) in
+    (h.dump ∷ dumps, (dump_of_bytes setting steps end h, are))
+
+record Splits (setting : Setting) (steps : ℕ) (ends : List End) (dumps : List (List ℕ)) (i : ℕ) (end : End) : Type 0 where
+  dump : List ℕ
+  of : IsDumpOf setting steps end dump
+  ends_are : drop i ends ≡ end ∷ drop (suc i) ends
+  dumps_are : drop i dumps ≡ dump ∷ drop (suc i) dumps
+
+splits : (setting : Setting) (steps : ℕ) (ends : List End) (dumps : List (List ℕ)) (i : ℕ) (end : End) → AreDumps setting steps ends dumps → slice_get ends i ≡ Some end →
+    Splits setting steps ends dumps i end
+splits setting steps [] dumps i end are at = absurd (cc)
+splits setting steps (e ∷ ends) [] i end are at = absurd are
+splits setting steps (e ∷ ends) (d ∷ dumps) zero end are at =
+    let same : e ≡ end = same_Some e end at in
+    record { dump = d; of = subst (λ (x : End). IsDumpOf setting steps x d) same are.0; ends_are = ap (λ (x : End). x ∷ ends) same; dumps_are = refl }
+splits setting steps (e ∷ ends) (d ∷ dumps) (suc i) end are at =
+    let s = splits setting steps ends dumps i end are.1 at in
+    record { dump = s.dump; of = s.of; ends_are = s.ends_are; dumps_are = s.dumps_are }
+
+module _ {O F : Type 0} (takes : O → List ℕ → O → Type 0) (fails : O → List ℕ → F → O → Type 0) (laws : IsOutlet takes fails) where
+  module _ (setting : Setting) (steps : ℕ) where
+    -- ---- one end
+
+    pub end_taken : (end : End) (head lines : List ℕ) (log : List (ℕ × ℕ)) (old m new : O) → head ≡ header setting.design → lines ≡ end_text end → log ≡ end.log → takes old lines m →
+        TakesDump takes head setting log steps m new → TakesEnd takes setting steps end old new
+    end_taken end head lines log old m new is lines_are log_is first (d, known, taken) = λ dump of.
+        let known' = subst (λ (h : List ℕ). IsRunDump h setting end.log steps d) is (subst (λ (l : List (ℕ × ℕ)). IsRunDump head setting l steps d) log_is known) in
+        let same : d ≡ dump = same_dump (header setting.design) setting end.log steps d dump known' of.is_dump in
+        laws.joins old m new (end_text end) dump (subst (λ (text : List ℕ). takes old text m) lines_are first) (subst (λ (text : List ℕ). takes m text new) same taken)
+
+    pub stops_at_lines : (end : End) (lines : List ℕ) (old m : O) (fault : OrMemory F) → lines ≡ end_text end → Stopped takes fails old lines fault m →
+        StopsEnd takes fails setting steps end old fault m
+    stops_at_lines end lines old m fault lines_are stopped = λ dump of.
+        stopped_before takes fails laws old m (end_text end) dump fault (subst (λ (text : List ℕ). Stopped takes fails old text fault m) lines_are stopped)
+
+    pub stops_in_dump : (end : End) (head lines : List ℕ) (log : List (ℕ × ℕ)) (old m new : O) (fault : OrMemory F) → head ≡ header setting.design → lines ≡ end_text end → log ≡ end.log →
+        takes old lines m → StopsDump takes fails head setting log steps m fault new → StopsEnd takes fails setting steps end old fault new
+    stops_in_dump end head lines log old m new fault is lines_are log_is first (d, known, stopped) = λ dump of.
+        let known' = subst (λ (h : List ℕ). IsRunDump h setting end.log steps d) is (subst (λ (l : List (ℕ × ℕ)). IsRunDump head setting l steps d) log_is known) in
+        let same : d ≡ dump = same_dump (header setting.design) setting end.log steps d dump known' of.is_dump in
+        stopped_after takes fails laws old m new (end_text end) dump fault (subst (λ (text : List ℕ). takes old text m) lines_are first)
+        (subst (λ (text : List ℕ). Stopped takes fails m text fault new) same stopped)
+
+    -- ---- all ends
+
+    abbrev pub EndsLead : List End → ℕ → O → O → Type 0
+    EndsLead ends i old now = (dumps : List (List ℕ)) → AreDumps setting steps ends dumps → Leads takes fails laws old (ends_text ends dumps) now (ends_text (drop i ends) (drop i dumps))
+
+    text_here : (ends : List End) (dumps : List (List ℕ)) (i : ℕ) (end : End) (s : Splits setting steps ends dumps i end) →
+        ends_text (drop i ends) (drop i dumps) ≡ (end_text end ++ s.dump) ++ ends_text (drop (suc i) ends) (drop (suc i) dumps)
+    text_here ends dumps i end s =
+        ap (λ (es : List End). ends_text es (drop i dumps)) s.ends_are
+        ∙ joined
+      where
+        joined : ends_text (end ∷ drop (suc i) ends) (drop i dumps) ≡ (end_text end ++ s.dump) ++ ends_text (drop (suc i) ends) (drop (suc i) dumps)
+        joined = ap (λ (ds : List (List ℕ)). ends_text (end ∷ drop (suc i) ends) ds) s.dumps_are
+
+    pub ends_on : (ends : List End) (i : ℕ) (end : End) (old now next : O) → slice_get ends i ≡ Some end → EndsLead ends i old now → TakesEnd takes setting steps end now next →
+        EndsLead ends (i + 1) old next
+    ends_on ends i end old now next at lead taken = λ dumps are.
+        let s = splits setting steps ends dumps i end are at in
+        let here = subst (λ (rest : List ℕ). Leads takes fails laws old (ends_text ends dumps) now rest) (text_here ends dumps i end s) (lead dumps are) in
+        let more = leads_on takes fails laws old now next (ends_text ends dumps) (end_text end ++ s.dump) (ends_text (drop (suc i) ends) (drop (suc i) dumps)) here (taken s.dump s.of) in
+        let next_is : suc i ≡ i + 1 = omega arith in
+        subst (λ (n : ℕ). Leads takes fails laws old (ends_text ends dumps) next (ends_text (drop n ends) (drop n dumps))) next_is more
+
+    pub ends_stop : (ends : List End) (i : ℕ) (end : End) (old now new : O) (fault : OrMemory F) → slice_get ends i ≡ Some end → EndsLead ends i old now →
+        StopsEnd takes fails setting steps end now fault new → StopsEnds takes fails setting steps ends old fault new
+    ends_stop ends i end old now new fault at lead stopped = λ dumps are.
+        let s = splits setting steps ends dumps i end are at in
+        let here = subst (λ (rest : List ℕ). Leads takes fails laws old (ends_text ends dumps) now rest) (text_here ends dumps i end s) (lead dumps are) in
+        leads_stop takes fails laws old now new (ends_text ends dumps) (end_text end ++ s.dump) (ends_text (drop (suc i) ends) (drop (suc i) dumps)) fault here (stopped s.dump s.of)
+
+    pub ends_first : (ends : List End) (old : O) → EndsLead ends 0 old old
+    ends_first ends old = λ dumps are. leads_first takes fails laws old (ends_text ends dumps)
+
+    pub ends_over : (ends : List End) (i : ℕ) (old now : O) → drop i ends ≡ [] → EndsLead ends i old now → TakesEnds takes setting steps ends old now
+    ends_over ends i old now none lead = λ dumps are.
+        leads_end takes fails laws old now (ends_text ends dumps)
+        (subst (λ (es : List End). Leads takes fails laws old (ends_text ends dumps) now (ends_text es (drop i dumps))) none (lead dumps are))
+
+  -- ---- races
+
+  module _ (columns : List Column) where
+    abbrev pub RacesLead : List Race → ℕ → O → O → Type 0
+    RacesLead races i old now = Leads takes fails laws old (races_text columns races) now (races_text columns (drop i races))
+
+    race_here : (races : List Race) (i : ℕ) (race : Race) → race ≡ get_or races i race → i < length races → races_text columns (drop i races) ≡ race_text columns race ++ races_text columns (drop (i + 1) races)
+    race_here races i race is lt = sym (ap (races_text columns) (left_from races i race is lt))
+
+    pub races_on : (races : List Race) (i : ℕ) (race : Race) (lines : List ℕ) (old now next : O) → race ≡ get_or races i race → i < length races → lines ≡ race_text columns race →
+        RacesLead races i old now → takes now lines next → RacesLead races (i + 1) old next
+    races_on races i race lines old now next is lt lines_are lead taken =
+        let here = subst (λ (rest : List ℕ). Leads takes fails laws old (races_text columns races) now rest) (race_here races i race is lt) lead in
+        leads_on takes fails laws old now next (races_text columns races) (race_text columns race) (races_text columns (drop (i + 1) races)) here
+        (subst (λ (text : List ℕ). takes now text next) lines_are taken)
+
+    pub races_stop : (races : List Race) (i : ℕ) (race : Race) (lines : List ℕ) (old now new : O) (fault : OrMemory F) → race ≡ get_or races i race → i < length races → lines ≡ race_text columns race →
+        RacesLead races i old now → Stopped takes fails now lines fault new → Stopped takes fails old (races_text columns races) fault new
+    races_stop races i race lines old now new fault is lt lines_are lead stopped =
+        let here = subst (λ (rest : List ℕ). Leads takes fails laws old (races_text columns races) now rest) (race_here races i race is lt) lead in
+        leads_stop takes fails laws old now new (races_text columns races) (race_text columns race) (races_text columns (drop (i + 1) races)) fault here
+        (subst (λ (text : List ℕ). Stopped takes fails now text fault new) lines_are stopped)
+
+    pub races_first : (races : List Race) (old : O) → RacesLead races 0 old old
+    races_first races old = leads_first takes fails laws old (races_text columns races)
+
+    pub races_over : (races : List Race) (i : ℕ) (old now : O) → drop i races ≡ [] → RacesLead races i old now → takes old (races_text columns races) now
+    races_over races i old now none lead =
+        leads_end takes fails laws old now (races_text columns races)
+        (subst (λ (rs : List Race). Leads takes fails laws old (races_text columns races) now (races_text columns rs)) none lead)
+
+  -- ---- four texts, one behind another
+
+  module _ (one two three four : List ℕ) where
+    pub taken_all : (a b c d e : O) → takes a one b → takes b two c → takes c three d → takes d four e → takes a (one ++ two ++ three ++ four) e
+    taken_all a b c d e p q r s = laws.joins a d e (one ++ two ++ three) four (laws.joins a c d (one ++ two) three (laws.joins a b c one two p q) r) s
+
+    pub stopped_first : (a b : O) (fault : OrMemory F) → Stopped takes fails a one fault b → Stopped takes fails a (one ++ two ++ three ++ four) fault b
+    stopped_first a b fault p =
+        stopped_before takes fails laws a b (one ++ two ++ three) four fault (stopped_before takes fails laws a b (one ++ two) three fault (stopped_before takes fails laws a b one two fault p))
+
+    pub stopped_second : (a b c : O) (fault : OrMemory F) → takes a one b → Stopped takes fails b two fault c → Stopped takes fails a (one ++ two ++ three ++ four) fault c
+    stopped_second a b c fault p q =
+        stopped_before takes fails laws a c (one ++ two ++ three) four fault (stopped_before takes fails laws a c (one ++ two) three fault (stopped_after takes fails laws a b c one two fault p q))
+
+    pub stopped_third : (a b c d : O) (fault : OrMemory F) → takes a one b → takes b two c → Stopped takes fails c three fault d → Stopped takes fails a (one ++ two ++ three ++ four) fault d
+    stopped_third a b c d fault p q r =
+        stopped_before takes fails laws a d (one ++ two ++ three) four fault (stopped_after takes fails laws a c d (one ++ two) three fault (laws.joins a b c one two p q) r)
+
+    pub stopped_last : (a b c d e : O) (fault : OrMemory F) → takes a one b → takes b two c → takes c three d → Stopped takes fails d four fault e →
+        Stopped takes fails a (one ++ two ++ three ++ four) fault e
+    stopped_last a b c d e fault p q r s =
+        stopped_after takes fails laws a d e (one ++ two ++ three) four fault (laws.joins a c d (one ++ two) three (laws.joins a b c one two p q) r) s
+
+  -- ---- the whole report
+
+  module _ (setting : Setting) (r : Report) (bytes : Each (HasBytes setting r.steps) r.ends) where
+    its_dumps : List (List ℕ)
+    its_dumps = (all_dumps setting r.steps r.ends bytes).0
+
+    are_its : AreDumps setting r.steps r.ends its_dumps
+    unfolding its_dumps
+    are_its = (all_dumps setting r.steps r.ends bytes).1
+
+    abbrev pub top : List ℕ
+    top = head_text r ++ number_line (codes "ends") (length r.ends)
+
+    abbrev pub turn : List ℕ
+    turn = number_line (codes "races") (length r.races)
+
+    abbrev pub last : List ℕ
+    last = races_text r.variables r.races
+
+    pub report_taken : (a b c d e : O) → takes a top b → TakesEnds takes setting r.steps r.ends b c → takes c turn d → takes d last e → TakesReport takes setting r a e
+    report_taken a b c d e p q s t = record {
+      dumps = its_dumps;
+      are_dumps = are_its;
+      taken = taken_all top (ends_text r.ends its_dumps) turn last a b c d e p (q its_dumps are_its) s t;
+    }
+
+    pub report_refused : (a : O) (refused : NoMemory) → StopsReport takes fails setting r a (Memory refused) a
+    report_refused a refused = record { dumps = its_dumps; are_dumps = are_its; stopped = (0, laws.none a) }
+
+    pub report_stops_first : (a b : O) (fault : OrMemory F) → Stopped takes fails a top fault b → StopsReport takes fails setting r a fault b
+    report_stops_first a b fault p = record { dumps = its_dumps; are_dumps = are_its; stopped = stopped_first top (ends_text r.ends its_dumps) turn last a b fault p }
+
+    pub report_stops_second : (a b c : O) (fault : OrMemory F) → takes a top b → StopsEnds takes fails setting r.steps r.ends b fault c → StopsReport takes fails setting r a fault c
+    report_stops_second a b c fault p q =
+        record { dumps = its_dumps; are_dumps = are_its; stopped = stopped_second top (ends_text r.ends its_dumps) turn last a b c fault p (q its_dumps are_its) }
+
+    pub report_stops_third : (a b c d : O) (fault : OrMemory F) → takes a top b → TakesEnds takes setting r.steps r.ends b c → Stopped takes fails c turn fault d →
+        StopsReport takes fails setting r a fault d
+    report_stops_third a b c d fault p q s =
+        record { dumps = its_dumps; are_dumps = are_its; stopped = stopped_third top (ends_text r.ends its_dumps) turn last a b c d fault p (q its_dumps are_its) s }
+
+    pub report_stops_last : (a b c d e : O) (fault : OrMemory F) → takes a top b → TakesEnds takes setting r.steps r.ends b c → takes c turn d → Stopped takes fails d last fault e →
+        StopsReport takes fails setting r a fault e
+    report_stops_last a b c d e fault p q s t =
+        record { dumps = its_dumps; are_dumps = are_its; stopped = stopped_last top (ends_text r.ends its_dumps) turn last a b c d e fault p (q its_dumps are_its) s t }

@@ -1,0 +1,6 @@
+use Rattle.std.proofs.Common.{◌≡◌, ◌++◌, drop, map}
+use Rattle.vreport.specs.Reports.{told_race}
+use Rattle.vreport.proofs.report.told_races.Given as goal
+
+abbrev pub invariant-loop-race : goal.invariant-loop-race
+invariant-loop-race l = l.told.items ++ map told_race (drop l.race-index l.races) ≡ map told_race l.races

@@ -1,0 +1,52 @@
+-- The report of what an explorer found: its head, and its races beside those of specs/Races of the races' own crate.
+use Rattle.std.specs.Prelude.{◌≡◌, ℕ, List, map}
+use Rattle.statebook.specs.declared.limits.Limits.{Limits}
+use Rattle.explore.specs.declared.findings.Findings.{Findings}
+use Rattle.explore.specs.declared.findings.Status.{Status}
+use Rattle.explore.specs.declared.findings.Status.TheVariants.{Exhausted, Cut}
+use Rattle.explore.specs.declared.findings.Reason.TheVariants.{Memory, Entries, Steps}
+use Rattle.vbits.specs.Vectors.{Vector}
+use Rattle.vmodel.specs.Run.{Setting}
+use Rattle.vmachine.specs.declared.standing.Standing.{Standing}
+use Rattle.racebook.specs.Races as found
+use Rattle.report_text.specs.declared.report.Outcome.{Outcome}
+use Rattle.report_text.specs.declared.report.Outcome.TheVariants as outcome
+use Rattle.report_text.specs.declared.report.Version.TheVariants.{Two}
+use Rattle.report_text.specs.Report.{Race, Report}
+use Rattle.vreport.specs.Truth.{IsTrueHead}
+use Rattle.vreport.specs.Values.{value_text}
+
+-- how the exploration went
+abbrev pub outcome_of : Status → Outcome
+outcome_of Exhausted = outcome.Exhausted
+outcome_of (Cut (Memory m)) = outcome.CutMemory
+outcome_of (Cut Entries) = outcome.CutEntries
+outcome_of (Cut Steps) = outcome.CutSteps
+
+-- the head is that of the setting and of the limits
+pub record IsHeadOf (setting : Setting) (limits : Limits) (status : Status) (report : Report) : Type 0 where
+  pub version_is : report.version ≡ Two
+  pub setting_is : IsTrueHead setting report
+  pub depart_is : report.depart ≡ limits.depart
+  pub steps_is : report.steps ≡ limits.steps
+  pub outcome_is : report.outcome ≡ outcome_of status
+
+-- ---- races
+
+-- a value as its digits, with its log
+abbrev pub told_value : Vector × List (ℕ × ℕ) → List ℕ × List (ℕ × ℕ)
+told_value seen = (value_text seen.0, seen.1)
+
+abbrev pub told_race : found.Race → Race
+told_race race = record { time = race.time; variable = race.variable; values = map told_value race.values }
+
+-- the races told are races, in order, with their values in the order of their digits; where the findings are all, no race
+-- and no value of one is missing, and each log has the fewest departures
+pub record ShowsRaces (setting : Setting) (limits : Limits) (findings : Findings Standing) (told : List Race) : Type 0 where
+  pub races : List found.Race
+  pub told_are : told ≡ map told_race races
+  pub each : found.EachRace (found.IsRace setting limits) races
+  pub order : found.AreInOrder races
+  pub values_order : found.AreValuesInOrder races
+  pub every : found.IsWhole setting limits findings → found.ListsEveryValue setting limits.depart races
+  pub fewest : found.IsWhole setting limits findings → found.EachRace (found.HasFewest setting) races

@@ -1,0 +1,116 @@
+// The report of an exploration.
+
+ghost use Rattle.std.specs.Prelude.{◌≡◌, map, IfOk};
+ghost use Rattle.basis.specs.Reasons.{IfFault};
+ghost use Rattle.explore.specs.Found.{ListsFound};
+ghost use Rattle.report_text.specs.WellFormed.{Each, EachTwo, IsEndBefore};
+ghost use Rattle.vmachine.specs.Machines.{machine_rules};
+ghost use Rattle.vreport.specs.Ends.{GivesEveryEnd, HasBytes, HasSomeLongDump, IsTrueEnd};
+ghost use Rattle.vreport.specs.Reports.{IsHeadOf, ShowsRaces, outcome_of as outcome_by_status, told_race, told_value};
+ghost use Rattle.vreport.specs.Truth.{column_of};
+
+use crate::ends::ends_of;
+use crate::values::text_of_value;
+use basis::{NoMemory, OrMemory};
+use explore::{Findings, Reason, Status};
+use racebook::{Sighting, races};
+use report_text::{Column, Outcome, Race, Report, Seen, Version};
+use statebook::Limits;
+use std::alloc::Global;
+use vast::design::Variable;
+use vcd_text::TooMany;
+use vmachine::{Machine, Standing};
+
+// The name and the width of each variable.
+fn columns_of(alloc: Global, variables: &[Variable]) -> Result<Vec<Column>, NoMemory>
+    ensures { IfOk result (λ columns. columns.items ≡ map column_of variables.now) }
+{
+    let mut columns = Vec::with_capacity(alloc, variables.len())?;
+    for variable in variables {
+        columns.push(Column {
+            name: Vec::from_slice(alloc, &variable.name)?,
+            width: variable.length,
+        })?;
+    }
+    Ok(columns)
+}
+
+// The values of a race, as texts.
+fn seen_of(alloc: Global, values: &[Sighting]) -> Result<Vec<Seen>, NoMemory>
+    ensures { IfOk result (λ seen. seen.items ≡ map told_value values.now) }
+{
+    let mut seen = Vec::with_capacity(alloc, values.len())?;
+    for sighting in values {
+        seen.push(Seen {
+            value: text_of_value(alloc, sighting.value)?,
+            log: sighting.log.copy()?,
+        })?;
+    }
+    Ok(seen)
+}
+
+// The races, as a report tells them.
+fn told_races(alloc: Global, races: &[racebook::Race]) -> Result<Vec<Race>, NoMemory>
+    ensures { IfOk result (λ told. told.items ≡ map told_race races.now) }
+{
+    let mut told = Vec::with_capacity(alloc, races.len())?;
+    for race in races {
+        told.push(Race {
+            time: race.time,
+            variable: race.variable,
+            values: seen_of(alloc, &race.values)?,
+        })?;
+    }
+    Ok(told)
+}
+
+// How the exploration went.
+fn outcome_of(status: Status) -> Outcome
+    ensures { result ≡ outcome_by_status status }
+{
+    match status {
+        Status::Exhausted => Outcome::Exhausted,
+        Status::Cut(Reason::Memory(_)) => Outcome::CutMemory,
+        Status::Cut(Reason::Entries) => Outcome::CutEntries,
+        Status::Cut(Reason::Steps) => Outcome::CutSteps,
+    }
+}
+
+/// The report of what an explorer found of a machine under limits, without the dumps of its ends: its head, each end once,
+/// each race, and of each the logs of the fewest departures among the marks that show it (docs/FORMATS.md, "Reports").
+///
+/// E901 where memory was refused. The other fault is that a dump has 2^64 bytes or more.
+pub fn report_of(
+    alloc: Global,
+    machine: &Machine,
+    findings: &Findings<Standing>,
+    limits: &Limits,
+) -> Result<Report, OrMemory<TooMany>>
+    requires found { ListsFound (machine_rules machine.now) limits.now findings.now }
+    ensures head { IfOk result (IsHeadOf machine.now limits.now findings.now.status) }
+    ensures true_ends { IfOk result (λ report. Each (IsTrueEnd machine.now limits.now) report.ends) }
+    ensures bytes { IfOk result (λ report. Each (HasBytes machine.now limits.now.steps) report.ends) }
+    ensures every_end { IfOk result (λ report. GivesEveryEnd machine.now limits.now findings.now report.ends) }
+    ensures ends_order { IfOk result (λ report. EachTwo IsEndBefore report.ends) }
+    ensures races { IfOk result (λ report. ShowsRaces machine.now limits.now findings.now report.races) }
+    ensures long { IfFault result (λ _. HasSomeLongDump machine.now limits.now) }
+{
+    let ends = match ends_of(alloc, machine, findings, limits) {
+        Ok(ends) => ends,
+        Err(fault) => return Err(fault),
+    };
+    let found = races(alloc, machine, findings)?;
+    let design = machine.design();
+    Ok(Report {
+        version: Version::Two,
+        top: Vec::from_slice(alloc, &design.top)?,
+        until: machine.until(),
+        depart: limits.depart,
+        steps: limits.steps,
+        grain: machine.grain(),
+        outcome: outcome_of(findings.status),
+        variables: columns_of(alloc, &design.variables)?,
+        ends,
+        races: told_races(alloc, &found)?,
+    })
+}

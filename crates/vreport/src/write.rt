@@ -1,0 +1,123 @@
+// The text of a report, with the dump of each end.
+
+ghost use Rattle.std.specs.Prelude.{◌≡◌, ℕ, List, OnOk, IfOk, IfErr};
+ghost use Rattle.vcd_text.specs.DumpText.{header};
+ghost use Rattle.vcd_text.specs.Outlets.{Stopped};
+ghost use Rattle.report_text.specs.WellFormed.{Each};
+ghost use Rattle.report_text.specs.ReportText.{races_text};
+ghost use Rattle.vreport.specs.Ends.{HasBytes};
+ghost use Rattle.vreport.specs.Written.{StopsEnd, StopsEnds, StopsReport, TakesEnd, TakesEnds, TakesReport};
+
+use crate::dump::write_dump;
+use basis::{NoMemory, OrMemory};
+use report_text::{Column, End, Race, Report, end_lines, head_lines, race_count_line, race_lines};
+use std::alloc::Global;
+use vcd_text::{Header, Outlet, put};
+use vmachine::Machine;
+
+// Hands on a text that was made, unless memory was refused for it.
+fn put_made<O: Outlet>(
+    outlet: &mut O,
+    made: Result<Vec<u8>, NoMemory>,
+) -> Result<(), OrMemory<O::Fault>>
+    ensures ok { (text : List ℕ) → IfOk made (λ lines. lines.items ≡ text) → OnOk result (O.takes outlet.old text outlet.new) }
+    ensures err { (text : List ℕ) → IfOk made (λ lines. lines.items ≡ text) → IfErr result (λ fault. Stopped O.takes O.fails outlet.old text fault outlet.new) }
+{
+    match made {
+        Ok(lines) => put(outlet, &lines),
+        Err(refused) => Err(OrMemory::Memory(refused)),
+    }
+}
+
+// An end, and its dump behind it.
+fn put_end<O: Outlet>(
+    alloc: Global,
+    machine: &Machine,
+    steps: u32,
+    head: &Header,
+    end: &End,
+    outlet: &mut O,
+) -> Result<(), OrMemory<O::Fault>>
+    requires bytes { HasBytes machine.now steps end.now }
+    requires head { head.now ≡ header machine.now.design }
+    ensures ok { OnOk result (TakesEnd O.takes machine.now steps end.now outlet.old outlet.new) }
+    ensures err { IfErr result (λ fault. StopsEnd O.takes O.fails machine.now steps end.now outlet.old fault outlet.new) }
+{
+    match put_made(outlet, end_lines(alloc, end)) {
+        Ok(()) => write_dump(alloc, machine, &end.log, steps, head, outlet),
+        Err(fault) => Err(fault),
+    }
+}
+
+// The ends, each with its dump.
+fn put_ends<O: Outlet>(
+    alloc: Global,
+    machine: &Machine,
+    steps: u32,
+    head: &Header,
+    ends: &[End],
+    outlet: &mut O,
+) -> Result<(), OrMemory<O::Fault>>
+    requires bytes { Each (HasBytes machine.now steps) ends.now }
+    requires head { head.now ≡ header machine.now.design }
+    ensures ok { OnOk result (TakesEnds O.takes machine.now steps ends.now outlet.old outlet.new) }
+    ensures err { IfErr result (λ fault. StopsEnds O.takes O.fails machine.now steps ends.now outlet.old fault outlet.new) }
+{
+    for end in ends {
+        match put_end(alloc, machine, steps, head, end, outlet) {
+            Ok(()) => {}
+            Err(fault) => return Err(fault),
+        }
+    }
+    Ok(())
+}
+
+// The races, one at a time.
+fn put_races<O: Outlet>(
+    alloc: Global,
+    columns: &[Column],
+    races: &[Race],
+    outlet: &mut O,
+) -> Result<(), OrMemory<O::Fault>>
+    ensures ok { OnOk result (O.takes outlet.old (races_text columns.now races.now) outlet.new) }
+    ensures err { IfErr result (λ fault. Stopped O.takes O.fails outlet.old (races_text columns.now races.now) fault outlet.new) }
+{
+    for race in races {
+        match put_made(outlet, race_lines(alloc, columns, race)) {
+            Ok(()) => {}
+            Err(fault) => return Err(fault),
+        }
+    }
+    Ok(())
+}
+
+/// Writes the text of a report to the outlet, and behind each end the dump of the run under its log, slot by slot: no dump
+/// is held in memory. E901 where memory was refused; else a fault is the outlet's. Then a front of the text stands written.
+pub fn write_report<O: Outlet>(
+    alloc: Global,
+    machine: &Machine,
+    report: &Report,
+    outlet: &mut O,
+) -> Result<(), OrMemory<O::Fault>>
+    requires bytes { Each (HasBytes machine.now report.now.steps) report.now.ends }
+    ensures ok { OnOk result (TakesReport O.takes machine.now report.now outlet.old outlet.new) }
+    ensures err { IfErr result (λ fault. StopsReport O.takes O.fails machine.now report.now outlet.old fault outlet.new) }
+{
+    let head = match Header::new(alloc, machine.design()) {
+        Ok(head) => head,
+        Err(refused) => return Err(OrMemory::Memory(refused)),
+    };
+    match put_made(outlet, head_lines(alloc, report)) {
+        Ok(()) => {}
+        Err(fault) => return Err(fault),
+    }
+    match put_ends(alloc, machine, report.steps, &head, &report.ends, outlet) {
+        Ok(()) => {}
+        Err(fault) => return Err(fault),
+    }
+    match put_made(outlet, race_count_line(alloc, report)) {
+        Ok(()) => {}
+        Err(fault) => return Err(fault),
+    }
+    put_races(alloc, &report.variables, &report.races, outlet)
+}
