@@ -22,7 +22,7 @@ use Rattle.vrace.specs.Replays.{texts_of, IsTreeOf, IsDesignOf, grain_under, Pla
 use Rattle.vrace.specs.Refusals.{IsFileReason, IsTextReason, IsRunReason, IsReason, IsOfWriting}
 use Rattle.vrace.specs.declared.fault.Fault.{Fault}
 use Rattle.vrace.specs.declared.fault.Fault.TheVariants.{NotEnded, BadToken, Growth, NoTree, Outside, TooDeep, NotYet, NoTop, Doubled, Unknown, Width, TooMany, BadLog, NoSuchChoice, TooManySteps, OutOfLimit, Memory, Write, Read, TooLong}
-use Rattle.vrace.proofs.RunLemmas.{same_end, never_missing, never_more}
+use Rattle.vreport.specs.RunLaws.{same_end, never_missing, never_more}
 
 pub record Laws : Type 0 where
   pub growth : GrowsTooLong

@@ -1,6 +1,5 @@
 mod DesignLemmas
 mod DumpLemmas
 mod ReplayLemmas
-mod RunLemmas
 mod ReadLemmas
 mod LawLemmas

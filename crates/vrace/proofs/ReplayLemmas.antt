@@ -13,7 +13,8 @@ use Rattle.vcd_text.specs.Metered.{count_after}
 use Rattle.vrace.specs.Asked.{Asked}
 use Rattle.vrace.specs.Replays.{Played, setting_of, IsDump}
 use Rattle.vrace.specs.Refusals.{IsRunReason, IsReason, IsOfWriting, Leaves}
-use Rattle.vrace.specs.RunDumps.{IsRunDump, IsRunFault, Ends, fault_of, failures_after}
+use Rattle.vreport.specs.Dumps.{IsRunDump}
+use Rattle.vrace.specs.RunDumps.{IsRunFault, Ends, fault_of, failures_after}
 use Rattle.vrace.specs.declared.fault.Fault.{Fault}
 use Rattle.vrace.specs.declared.fault.Fault.TheVariants.{NotEnded, BadToken, Growth, NoTree, Outside, TooDeep, NotYet, NoTop, Doubled, Unknown, Width, TooMany, BadLog, NoSuchChoice, TooManySteps, OutOfLimit, Memory, Write, Read, TooLong}
 

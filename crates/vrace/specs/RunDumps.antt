@@ -13,15 +13,9 @@ use Rattle.vcd_text.specs.declared.fault.WriteFault.{WriteFault}
 use Rattle.vcd_text.specs.declared.fault.WriteFault.TheVariants as write
 use Rattle.basis.specs.declared.memory.OrMemory.{OrMemory}
 use Rattle.basis.specs.declared.memory.OrMemory.TheVariants as or
+use Rattle.vreport.specs.Dumps.{IsRunDump}
 use Rattle.vrace.specs.declared.fault.Fault.{Fault}
 use Rattle.vrace.specs.declared.fault.Fault.TheVariants.{NoSuchChoice, TooManySteps, Memory, Write}
-
--- the run under the log ends, and this is its dump below the header
-pub record IsRunDump (head : List ℕ) (setting : Setting) (log : List (ℕ × ℕ)) (limit : ℕ) (dump : List ℕ) : Type 0 where
-  pub steps : ℕ
-  pub end : End
-  pub finishes : Finishes setting log limit steps end
-  pub is_text : dump ≡ dump_below head (history_after setting log steps)
 
 -- why a run isn't replayed to its end
 abbrev pub IsRunFault : Setting → List (ℕ × ℕ) → ℕ → Fault → Type 0

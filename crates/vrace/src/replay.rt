@@ -6,12 +6,11 @@ ghost use Rattle.vmodel.specs.declared.history.End.{End};
 ghost use Rattle.vmodel.specs.Played.{Finishes};
 ghost use Rattle.vcd_text.specs.DumpText.{header};
 ghost use Rattle.vcd_text.specs.Metered.{Grows};
-ghost use Rattle.vcd_text.specs.declared.progress.Progress.TheVariants.{Idle};
-ghost use Rattle.vcd_text.specs.Sinks.{IsSameDump};
 ghost use Rattle.vrace.specs.Asked.{asked};
 ghost use Rattle.vrace.specs.Replays.{IsDump, grain_under as grain_by};
 ghost use Rattle.vrace.specs.Refusals.{IsReason, Leaves};
-ghost use Rattle.vrace.specs.RunDumps.{IsRunDump, IsRunFault, StopsDump, Ends, fault_of, replay_fault_of, failures_after};
+ghost use Rattle.vreport.specs.Dumps.{HasDump, IsRunDump};
+ghost use Rattle.vrace.specs.RunDumps.{IsRunFault, StopsDump, Ends, fault_of, replay_fault_of, failures_after};
 
 use crate::design::design_of;
 use crate::fault::Fault;
@@ -21,9 +20,10 @@ use basis::OrMemory;
 use sched_core::{Log, LogFault, LogHead, ReplayFault, read_named_log};
 use std::alloc::Global;
 use std::io::Write;
-use vcd_text::{DumpSink, Header, Metered, WriteFault};
+use vcd_text::{Header, Metered, WriteFault};
 use vmachine::{Machine, RunFault};
 use vmodel::history::Grain;
+use vreport::write_dump;
 
 /// What a replay shows of a run.
 #[derive(Clone, Copy, Debug, PartialEq, Eq)]
@@ -75,31 +75,7 @@ fn see_end(machine: &Machine, log: &Log, steps: u32) -> Result<(), Fault>
     }
 }
 
-// Runs it again into a fresh sink.
-fn fill<W: Write>(
-    machine: &Machine,
-    log: &Log,
-    steps: u32,
-    sink: &mut DumpSink<'_, Metered<W>>,
-) -> Result<(), Fault>
-    requires fresh { sink.old.progress ≡ Idle }
-    requires ends { (dump : List ℕ) × IsRunDump sink.old.header.now machine.now log.now steps dump }
-    ensures same { IsSameDump sink.old sink.new }
-    ensures ok { OnOk result ((dump : List ℕ) × IsRunDump sink.old.header.now machine.now log.now steps dump × Grows W.contents sink.old.outlet.now sink.new.outlet.now dump) }
-    ensures err { IfErr result (λ fault. StopsDump W.contents sink.old.header.now machine.now log.now steps sink.old.outlet.now sink.new.outlet.now fault) }
-{
-    match machine.run_into(log, steps, sink) {
-        Ok(end) => match sink.finish(&end) {
-            Ok(()) => Ok(()),
-            Err(fault) => Err(of_writing(fault)),
-        },
-        Err(OrMemory::Fault(RunFault::Sink(fault))) => Err(of_writing(fault)),
-        Err(OrMemory::Fault(RunFault::Replay(fault))) => Err(of_replay(fault)),
-        Err(OrMemory::Memory(refused)) => Err(Fault::Memory(refused)),
-    }
-}
-
-// Writes the dump of the run below the header.
+// Writes the dump of the run, which ends, below the header.
 fn write_run<W: Write>(
     alloc: Global,
     machine: &Machine,
@@ -108,16 +84,14 @@ fn write_run<W: Write>(
     head: &Header,
     writer: &mut Metered<W>,
 ) -> Result<(), Fault>
-    requires ends { (dump : List ℕ) × IsRunDump head.now machine.now log.now steps dump }
+    requires ends { HasDump head.now machine.now log.now steps }
     ensures ok { OnOk result ((dump : List ℕ) × IsRunDump head.now machine.now log.now steps dump × Grows W.contents writer.old writer.new dump) }
     ensures err { IfErr result (λ fault. StopsDump W.contents head.now machine.now log.now steps writer.old writer.new fault) }
 {
-    let mut sink = DumpSink::new(alloc, head, writer);
-    let result = fill(machine, log, steps, &mut sink);
-    let writer = sink.into_outlet();
-    // No effect at run time. The proof reads what the writer holds from this use.
-    let _ = &*writer;
-    result
+    match write_dump(alloc, machine, log, steps, head, writer) {
+        Ok(()) => Ok(()),
+        Err(fault) => Err(of_writing(fault)),
+    }
 }
 
 // Writes the dump of the run, once it is known to end.

@@ -2,7 +2,8 @@ use Rattle.std.proofs.Common.{ℕ, List, OnOk, IfErr, inr, ap, subst, ◌∙◌}
 use Rattle.vmodel.specs.Run.{history_after}
 use Rattle.vcd_text.specs.DumpText.{dump_below, header}
 use Rattle.vcd_text.specs.Metered.{Grows}
-use Rattle.vrace.specs.RunDumps.{IsRunDump, StopsDump}
+use Rattle.vreport.specs.Dumps.{IsRunDump}
+use Rattle.vrace.specs.RunDumps.{StopsDump}
 use Rattle.vrace.proofs.DumpLemmas.{if_err, the_dump}
 use Rattle.vrace.proofs.replay.dump_run.Goals as goal
 
