@@ -6,3 +6,4 @@ pub mod ListingLemmas
 pub mod WholeLemmas
 pub mod LeadLemmas
 pub mod WriteLemmas
+pub mod ExploredLemmas

@@ -6,13 +6,16 @@ use Rattle.explore.specs.declared.findings.Status.{Status}
 use Rattle.explore.specs.declared.findings.Status.TheVariants.{Exhausted, Cut}
 use Rattle.explore.specs.declared.findings.Reason.TheVariants.{Memory, Entries, Steps}
 use Rattle.vbits.specs.Vectors.{Vector}
-use Rattle.vmodel.specs.Run.{Setting}
+use Rattle.vmodel.specs.Run.{Setting, rules_of}
 use Rattle.vmachine.specs.declared.standing.Standing.{Standing}
 use Rattle.racebook.specs.Races as found
 use Rattle.report_text.specs.declared.report.Outcome.{Outcome}
 use Rattle.report_text.specs.declared.report.Outcome.TheVariants as outcome
 use Rattle.report_text.specs.declared.report.Version.TheVariants.{Two}
 use Rattle.report_text.specs.Report.{Race, Report}
+use Rattle.explore.specs.Found.{SomeRunExceeds}
+use Rattle.report_text.specs.WellFormed.{Each, EachTwo, IsEndBefore}
+use Rattle.vreport.specs.Ends.{IsTrueEnd, ListsEveryEnd}
 use Rattle.vreport.specs.Truth.{IsTrueHead}
 use Rattle.vreport.specs.Values.{value_text}
 
@@ -50,3 +53,30 @@ pub record ShowsRaces (setting : Setting) (limits : Limits) (findings : Findings
   pub values_order : found.AreValuesInOrder races
   pub every : found.IsWhole setting limits findings → found.ListsEveryValue setting limits.depart races
   pub fewest : found.IsWhole setting limits findings → found.EachRace (found.HasFewest setting) races
+
+-- ---- what an exploration reports
+
+-- The races told are races, in order, with their values in the order of their digits. Where nothing was missed, no race and
+-- no value of one is missing, and each log has the fewest departures.
+pub record AreRaces (setting : Setting) (limits : Limits) (report : Report) : Type 0 where
+  pub races : List found.Race
+  pub told_are : report.races ≡ map told_race races
+  pub each : found.EachRace (found.IsRace setting limits) races
+  pub order : found.AreInOrder races
+  pub values_order : found.AreValuesInOrder races
+  pub every : report.outcome ≡ outcome.Exhausted → found.ListsEveryValue setting limits.depart races
+  pub fewest : report.outcome ≡ outcome.Exhausted → found.EachRace (found.HasFewest setting) races
+
+-- The report is of this setting, explored under these limits. Each end is that of a run within the limits, each race is
+-- one. Where it says exhausted, every run of at most so many departures that ends does so in a listed end, with no fewer
+-- departures than its log. Where it says that it was cut for steps, such a run takes more steps than the limit.
+pub record IsExploration (setting : Setting) (limits : Limits) (report : Report) : Type 0 where
+  pub version_is : report.version ≡ Two
+  pub head : IsTrueHead setting report
+  pub depart_is : report.depart ≡ limits.depart
+  pub steps_is : report.steps ≡ limits.steps
+  pub ends : Each (IsTrueEnd setting limits) report.ends
+  pub ends_order : EachTwo IsEndBefore report.ends
+  pub every_end : report.outcome ≡ outcome.Exhausted → ListsEveryEnd setting limits.depart report.ends
+  pub races : AreRaces setting limits report
+  pub cut_for_steps : report.outcome ≡ outcome.CutSteps → SomeRunExceeds (rules_of setting) limits

@@ -5,12 +5,14 @@
 
 mod dump;
 mod ends;
+mod explored;
 mod report;
 mod row;
 mod values;
 mod write;
 
 pub use dump::write_dump;
+pub use explored::report_alone;
 pub use report::report_of;
 pub use values::{line_of_values, text_of_value};
 pub use write::write_report;

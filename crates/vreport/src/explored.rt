@@ -1,0 +1,35 @@
+// From a machine to the report of its exploration, on the caller's own thread.
+
+ghost use Rattle.std.specs.Prelude.{◌≡◌, IfOk};
+ghost use Rattle.basis.specs.Reasons.{IfFault};
+ghost use Rattle.report_text.specs.WellFormed.{Each};
+ghost use Rattle.vreport.specs.Ends.{HasBytes, HasSomeLongDump};
+ghost use Rattle.vreport.specs.Reports.{IsExploration};
+
+use crate::report::report_of;
+use basis::OrMemory;
+use explore::explore_alone;
+use report_text::Report;
+use statebook::Limits;
+use std::alloc::Global;
+use vcd_text::TooMany;
+use vmachine::{Machine, machine_law};
+
+/// Explores the machine under the limits and reports what was found: every run of at most `limits.depart` departures, on
+/// the caller's own thread (docs/SCHEDULING.md; docs/RACES.md).
+///
+/// E901 where memory was refused before anything was found, or for the report. The other fault is that the dump of a run
+/// that is listed has 2^64 bytes or more.
+pub fn report_alone(
+    alloc: Global,
+    machine: &Machine,
+    limits: &Limits,
+) -> Result<Report, OrMemory<TooMany>>
+    ensures exploration { IfOk result (IsExploration machine.now limits.now) }
+    ensures bytes { IfOk result (λ report. Each (HasBytes machine.now report.steps) report.ends) }
+    ensures long { IfFault result (λ _. HasSomeLongDump machine.now limits.now) }
+{
+    machine_law();
+    let findings = explore_alone(alloc, machine, limits)?;
+    report_of(alloc, machine, &findings, limits)
+}
