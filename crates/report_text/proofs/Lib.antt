@@ -1,1 +1,9 @@
+pub mod ColumnLemmas
+pub mod FrontLemmas
+pub mod HeadingLemmas
+pub mod LineLemmas
+pub mod ListLemmas
+pub mod NameLemmas
+pub mod NumberLemmas
 pub mod PieceLemmas
+pub mod WordLemmas

@@ -3,9 +3,18 @@
 // The law: exactly the texts of reports are read, each as the report that it is of.
 #![tactic(auto)]
 
+mod columns;
+mod ends;
+mod front;
+mod heading_lines;
+mod letters;
+mod names;
 mod pieces;
+mod reader;
 mod report;
 mod words;
 
+pub use front::{after, cut, number};
 pub use pieces::{end_lines, head_lines, race_count_line, race_lines};
+pub use reader::Reader;
 pub use report::{Column, End, Outcome, Race, Report, Seen, Version};
