@@ -1,6 +1,6 @@
 -- The lines of variables, one after another.
-use Rattle.std.proofs.Common.{◌≡◌, ◌≢◌, ℕ, ◌<◌, ◌==◌, ◌&&◌, ◌||◌, not, zero, suc, Bool, true, false, List, [], ◌∷◌, ◌++◌, map, length, slice_get, Some, arith, ap, refl, sym, subst, ◌∙◌, append_assoc}
-use Rattle.std.specs.List.{list_all, list_any, flat_map}
+use Rattle.std.proofs.Common.{◌≡◌, ◌≢◌, ℕ, ◌<◌, ◌==◌, ◌&&◌, ◌||◌, not, zero, suc, Bool, true, false, List, [], ◌∷◌, ◌++◌, map, length, slice_get, Some, ap, refl, sym, subst, ◌∙◌, append_assoc}
+use Rattle.std.specs.List.{list_all, flat_map}
 use Rattle.std.specs.Str.{bytes_eq}
 use Rattle.std.specs.Fmt.{decimal}
 use Rattle.std.proofs.lemmas.Option.{same_Some}
@@ -56,11 +56,11 @@ pub columns_spelled : (columns : List Column) → flat_map column_line columns �
 columns_spelled [] = refl
 columns_spelled (column ∷ columns) = ap (λ t. column_line column ++ t) (columns_spelled columns)
 
-not_equal : (b : Bool) (P : Type 0) → Decides b P → b ≡ false → ¬ P
+pub not_equal : (b : Bool) (P : Type 0) → Decides b P → b ≡ false → ¬ P
 not_equal true P d e = absurd cc
 not_equal false P d e = λ p. (let t : false ≡ true = d.1 p in absurd cc)
 
-no_test : (b : Bool) (P : Type 0) → Decides b P → ¬ P → b ≡ false
+pub no_test : (b : Bool) (P : Type 0) → Decides b P → ¬ P → b ≡ false
 no_test true P d n = absurd (n (d.0 refl))
 no_test false P d n = refl
 

@@ -1,6 +1,5 @@
 -- Cuts of a text at a byte, and fronts.
-use Rattle.std.proofs.Common.{◌≡◌, ◌≢◌, ℕ, ◌+◌, ◌<◌, ◌≤◌, ◌==◌, ◌&&◌, zero, suc, not, Bool, true, false, List, [], ◌∷◌, ◌++◌, length, get_or, take, drop, arith, ap, refl, sym, subst, ◌∙◌, Option, None, Some, MatchOption, IfSome}
-use Rattle.std.specs.List.{list_all}
+use Rattle.std.proofs.Common.{◌≡◌, ◌≢◌, ℕ, ◌+◌, ◌<◌, ◌==◌, ◌&&◌, zero, suc, not, Bool, true, false, List, [], ◌∷◌, ◌++◌, length, get_or, take, drop, arith, ap, refl, sym, subst, ◌∙◌, Option, None, Some, MatchOption, IfSome}
 use Rattle.std.proofs.lemmas.List.{append_cancel_left}
 use Rattle.std.proofs.lemmas.Bool.Decides.{nat_tests}
 use Rattle.memchr.specs.Find.{IsFirstByte, is_byte}

@@ -1,11 +1,11 @@
 -- Which bytes the words of a report lack.
-use Rattle.std.proofs.Common.{◌≡◌, ◌≢◌, ℕ, ◌^◌, ◌<◌, ◌==◌, ◌&&◌, not, Bool, true, false, List, [], ◌∷◌, ◌++◌, arith, ap, refl, sym, subst, ◌∙◌}
+use Rattle.std.proofs.Common.{◌≡◌, ◌≢◌, ℕ, ◌^◌, ◌<◌, Bool, true, false, List, [], ◌∷◌, ◌++◌, arith, ap, refl}
 use Rattle.std.specs.List.{list_all}
 use Rattle.std.specs.Str.{all_ascii_digits}
 use Rattle.std.specs.Char.{is_ascii_digit}
 use Rattle.std.specs.Fmt.{decimal}
 use Rattle.std.proofs.lemmas.Bool.Decides.{nat_tests}
-use Rattle.report_text.specs.Inner.Fronts.{lacks, IsCut, IsNumber}
+use Rattle.report_text.specs.Inner.Fronts.{lacks, IsCut}
 use Rattle.report_text.specs.Inner.Places.{IsNumberFront}
 use Rattle.report_text.proofs.FrontLemmas.{and_left, and_right, both}
 use Rattle.report_text.proofs.NumberLemmas.{decimal_digits}
@@ -26,3 +26,7 @@ decimal_lacks b n h small = lacks_by is_ascii_digit b h (decimal n) (digits_all 
 
 pub number_cut : (b n : ℕ) (text rest : List ℕ) → is_ascii_digit b ≡ false → IsNumberFront b text n rest → IsCut b text (decimal n) rest
 number_cut b n text rest h f = (decimal_lacks b n h f.0, f.1)
+
+pub lacks_append : (b : ℕ) (xs ys : List ℕ) → lacks b xs ≡ true → lacks b ys ≡ true → lacks b (xs ++ ys) ≡ true
+lacks_append b [] ys p q = q
+lacks_append b (x ∷ xs) ys p q = both _ _ (and_left _ _ p) (lacks_append b xs ys (and_right _ _ p) q)

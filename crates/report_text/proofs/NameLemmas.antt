@@ -1,10 +1,8 @@
 -- Names kept as keys.
-use Rattle.std.proofs.Common.{◌≡◌, ◌≢◌, ℕ, ◌+◌, ◌<◌, zero, suc, Bool, true, false, cond, ◌||◌, not, if◌then◌else◌, nat_lt, List, [], ◌∷◌, ◌++◌, map, length, get_or, slice_get, position, Bor, Option, Some, None, refl, sym, ap, ◌∙◌, arith, true≢false}
-use Rattle.std.specs.List.{list_any, prefix_len, position_or_len}
+use Rattle.std.proofs.Common.{◌≡◌, ℕ, ◌+◌, Bool, true, false, cond, ◌||◌, not, if◌then◌else◌, nat_lt, List, [], ◌∷◌, ◌++◌, map, length, position, Bor, Option, Some, None, refl, sym, ap, ◌∙◌, true≢false}
+use Rattle.std.specs.List.{list_any, prefix_len}
 use Rattle.std.specs.Str.{bytes_eq}
-use Rattle.std.specs.Cmp.Lexicographic.{nat_list_eq_equiv}
 use Rattle.std.proofs.lemmas.List.{length-map, map-append}
-use Rattle.report_text.specs.Report.{Column}
 use Rattle.report_text.specs.Inner.Names.{is_among}
 
 abbrev pub texts : List (Bor (List ℕ)) → List (List ℕ)

@@ -5,3 +5,5 @@ pub mod Lists
 pub mod Names
 pub mod Columns
 pub mod Ends
+pub mod Races
+pub mod Wholes

@@ -29,6 +29,7 @@ const MOST_DEPARTURES: u64 = 4;
 const MOST_STEPS: u64 = 1_000_000;
 
 /// What the head of a report tells before its variables.
+#[derive(Drop)]
 pub struct Heading<'a> {
     pub version: Version,
     pub top: &'a [u8],
@@ -71,8 +72,8 @@ fn label_line<'a>(reader: &mut Reader<'a>, label: &[u8]) -> &'a [u8]
     reader.word(b'\n')
 }
 
-// Takes a line of this label and a number from low to high.
-fn number_line<'a>(reader: &mut Reader<'a>, label: &[u8], low: u64, high: u64) -> u64
+/// Takes a line of this label and a number from low to high.
+pub fn number_line<'a>(reader: &mut Reader<'a>, label: &[u8], low: u64, high: u64) -> u64
     ensures read { Took reader.old reader.new (λ text rest. IsNumberLine label.now low high text result rest) }
     ensures each { (n : ℕ) (rest : List ℕ) → reader.old.ok ≡ true → IsNumberLine label.now low high reader.old.rest n rest → (result ≡ n) × Stands reader.new rest }
 {

@@ -10,6 +10,8 @@ mod heading_lines;
 mod letters;
 mod names;
 mod pieces;
+mod races;
+mod read;
 mod reader;
 mod report;
 mod words;

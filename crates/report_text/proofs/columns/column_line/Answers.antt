@@ -1,4 +1,4 @@
-use Rattle.std.proofs.Common.{◌≡◌, ◌≤◌, ◌++◌, ◌∷◌, ◌∙◌, refl, ap, arith}
+use Rattle.std.proofs.Common.{◌≤◌, ◌++◌, ◌∷◌, ◌∙◌, refl, ap, arith}
 use Rattle.std.specs.Fmt.{decimal}
 use Rattle.report_text.specs.WellFormed.{is_path}
 use Rattle.report_text.proofs.FrontLemmas.{both}

@@ -1,4 +1,4 @@
-use Rattle.std.proofs.Common.{◌≡◌, ◌∙◌, ap, sym, arith}
+use Rattle.std.proofs.Common.{◌∙◌, ap, sym, arith}
 use Rattle.std.specs.Prelude.{codes}
 use Rattle.report_text.specs.ReportText.{outcome_words}
 use Rattle.report_text.specs.Inner.Headings.{grain_before, labelled}

@@ -1,4 +1,4 @@
-use Rattle.std.proofs.Common.{◌≡◌, ◌≢◌, arith}
+use Rattle.std.proofs.Common.{◌≢◌, arith}
 use Rattle.report_text.specs.ReportText.{version_number}
 use Rattle.report_text.proofs.HeadingLemmas.{version_front, is_one, is_two}
 use Rattle.report_text.proofs.heading_lines.version_line.Goals as goal
