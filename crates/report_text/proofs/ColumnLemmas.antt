@@ -92,14 +92,14 @@ pub column_step : (count : ℕ) (old now mid next : Place) (names : List (List �
 column_step count old now mid next names columns column added h n lt took each new ok rest =
     has_more column_line IsColumn Differ count old now next columns column h lt
     (λ fine.
-        let s : (mid.ok && added) ≡ true = sym ok ∙ fine in
-        let t = took (and_left _ _ s) in
-        let fresh : is_among (map (λ c. c.name) columns) column.name ≡ false = ap (λ ns. is_among ns column.name) (sym n) ∙ not_true _ (sym (and_right mid.ok added s) ∙ new) in
-        (t.0, (t.1.0, among_none columns column.name fresh, t.1.1 ∙ ap (λ r. column_line column ++ r) (sym rest))))
+    let s : (mid.ok && added) ≡ true = sym ok ∙ fine in
+    let t = took (and_left _ _ s) in
+    let fresh : is_among (map (λ c. c.name) columns) column.name ≡ false = ap (λ ns. is_among ns column.name) (sym n) ∙ not_true _ (sym (and_right mid.ok added s) ∙ new) in
+    (t.0, (t.1.0, among_none columns column.name fresh, t.1.1 ∙ ap (λ r. column_line column ++ r) (sym rest))))
     (λ z after fine is apart e.
-        let w = each z after fine (is, e) in
-        let fresh : is_among names column.name ≡ false = ap (λ ns. is_among ns column.name) n ∙ none_among columns column.name (λ i x at. subst (λ k. x.name ≢ k.name) (sym w.0) (apart i x at)) in
-        (w.0, (ok ∙ both _ _ w.1.0 (new ∙ ap not fresh), rest ∙ w.1.1)))
+    let w = each z after fine (is, e) in
+    let fresh : is_among names column.name ≡ false = ap (λ ns. is_among ns column.name) n ∙ none_among columns column.name (λ i x at. subst (λ k. x.name ≢ k.name) (sym w.0) (apart i x at)) in
+    (w.0, (ok ∙ both _ _ w.1.0 (new ∙ ap not fresh), rest ∙ w.1.1)))
 
 pub names_more : (names put : List (List ℕ)) (columns : List Column) (column : Column) → names ≡ map (λ c. c.name) columns → put ≡ names ++ column.name ∷ [] → put ≡ map (λ c. c.name) (columns ++ column ∷ [])
 names_more names put columns column n p = p ∙ ap (λ t. t ++ column.name ∷ []) n ∙ sym (map-append (λ c. c.name) columns (column ∷ []))

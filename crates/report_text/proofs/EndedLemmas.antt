@@ -29,21 +29,25 @@ pub ended_step : (columns : List Column) (count : ℕ) (old now mid next : Place
 ended_step columns count old now mid next all ended ends follows h lt shown took each told ok rest =
     has_more ended_text (IsEnded columns) IsEndedBefore count old now next all ended h lt
     (λ fine.
-        let s : (mid.ok && follows) ≡ true = sym ok ∙ fine in
-        let t = took (and_left _ _ s) in
-        let last = told.0 (and_right mid.ok follows s) in
-        let same : length ends ≡ length all = ap length shown ∙ length-map all (λ e. e.0) in
-        (t.0, (t.1.0,
-          behind_all (IsEnded columns) IsEndedBefore (λ a b c. end_before_trans a.0 b.0 c.0) all ended (h.sound t.0).1.0
-          (λ before at. last before.0 (ap (λ n. slice_get ends (n - 1)) same ∙ ap (λ es. slice_get es (length all - 1)) shown ∙ part_at (λ e. e.0) all (length all - 1) before at)),
-          t.1.1 ∙ ap (λ r. ended_text ended ++ r) (sym rest))))
+    let s : (mid.ok && follows) ≡ true = sym ok ∙ fine in
+    let t = took (and_left _ _ s) in
+    let last = told.0 (and_right mid.ok follows s) in
+    let same : length ends ≡ length all = ap length shown ∙ length-map all (λ e. e.0) in (
+      t.0,
+      (
+        t.1.0,
+        behind_all (IsEnded columns) IsEndedBefore (λ a b c. end_before_trans a.0 b.0 c.0) all ended (h.sound t.0).1.0
+            (λ before at. last before.0 (ap (λ n. slice_get ends (n - 1)) same ∙ ap (λ es. slice_get es (length all - 1)) shown ∙ part_at (λ e. e.0) all (length all - 1) before at)),
+        t.1.1 ∙ ap (λ r. ended_text ended ++ r) (sym rest),
+      ),
+    ))
     (λ z after fine is apart e.
-        let w = each z after fine (is, e) in
-        let follows_is = told.1 (λ before at.
-            let x = whole_at (λ e. e.0) all (length ends - 1) before (ap (λ es. slice_get es (length ends - 1)) (sym shown) ∙ at) in
-            let behind : IsEndBefore x.0.0 z.0 = apart (length ends - 1) x.0 x.1 in
-            subst (λ b. IsEndBefore b ended.0) x.2 (subst (λ k. IsEndBefore x.0.0 k) (sym w.0) behind)) in
-        ((λ i. (w.0 i, w.1 i)), (ok ∙ both _ _ w.2.0 follows_is, rest ∙ w.2.1)))
+    let w = each z after fine (is, e) in
+    let follows_is = told.1 (λ before at.
+    let x = whole_at (λ e. e.0) all (length ends - 1) before (ap (λ es. slice_get es (length ends - 1)) (sym shown) ∙ at) in
+    let behind : IsEndBefore x.0.0 z.0 = apart (length ends - 1) x.0 x.1 in
+    subst (λ b. IsEndBefore b ended.0) x.2 (subst (λ k. IsEndBefore x.0.0 k) (sym w.0) behind)) in
+    ((λ i. (w.0 i, w.1 i)), (ok ∙ both _ _ w.2.0 follows_is, rest ∙ w.2.1)))
 
 -- one more end, with its dump
 pub parts_more : {A B : Type 0} (f : A → B) (xs : List A) (x : A) (parts put : List B) (part : B) → parts ≡ map f xs → put ≡ parts ++ part ∷ [] → part ≡ f x → put ≡ map f (xs ++ x ∷ [])

@@ -12,10 +12,10 @@ pub follow_step : {A : Type 0} (f : A → List ℕ) (P : A → Type 0) (Q : A �
 follow_step f P Q trans count old now mid next xs y follows h lt took each told ok rest =
     has_more f P Q count old now next xs y h lt
     (λ fine.
-        let s : (mid.ok && follows) ≡ true = sym ok ∙ fine in
-        let t = took (and_left _ _ s) in
-        (t.0, (t.1.0, behind_all P Q trans xs y (h.sound t.0).1.0 (told.0 (and_right mid.ok follows s)), t.1.1 ∙ ap (λ r. f y ++ r) (sym rest))))
+    let s : (mid.ok && follows) ≡ true = sym ok ∙ fine in
+    let t = took (and_left _ _ s) in
+    (t.0, (t.1.0, behind_all P Q trans xs y (h.sound t.0).1.0 (told.0 (and_right mid.ok follows s)), t.1.1 ∙ ap (λ r. f y ++ r) (sym rest))))
     (λ z after fine is apart e.
-        let w = each z after fine (is, e) in
-        let follows_is = told.1 (λ before at. subst (λ k. Q before k) (sym w.0) (apart (length xs - 1) before at)) in
-        (w.0, (ok ∙ both _ _ w.1.0 follows_is, rest ∙ w.1.1)))
+    let w = each z after fine (is, e) in
+    let follows_is = told.1 (λ before at. subst (λ k. Q before k) (sym w.0) (apart (length xs - 1) before at)) in
+    (w.0, (ok ∙ both _ _ w.1.0 follows_is, rest ∙ w.1.1)))

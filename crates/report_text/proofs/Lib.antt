@@ -11,4 +11,6 @@ pub mod NameLemmas
 pub mod NumberLemmas
 pub mod PieceLemmas
 pub mod RaceLemmas
+pub mod SpellingLemmas
+pub mod WholeLemmas
 pub mod WordLemmas

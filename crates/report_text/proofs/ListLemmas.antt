@@ -74,10 +74,14 @@ pub has_more : {A : Type 0} (f : A → List ℕ) (P : A → Type 0) (Q : A → A
 has_more f P Q count old now next xs y h lt took each = record {
   sound = λ ok.
       let t = took ok in
-      let s = h.sound t.0 in
-      (s.0, (listed_more P Q xs y s.1.0 t.1.0 t.1.1,
-        s.1.1 ∙ ap (λ r. flat_map f xs ++ r) t.1.2 ∙ sym (append_assoc (flat_map f xs) (f y) next.rest)
-        ∙ ap (λ r. r ++ next.rest) (sym (flat_map-append f xs (y ∷ []) ∙ ap (λ r. flat_map f xs ++ r) (append-nil (f y))))));
+      let s = h.sound t.0 in (
+        s.0,
+        (
+          listed_more P Q xs y s.1.0 t.1.0 t.1.1,
+          s.1.1 ∙ ap (λ r. flat_map f xs ++ r) t.1.2 ∙ sym (append_assoc (flat_map f xs) (f y) next.rest)
+              ∙ ap (λ r. r ++ next.rest) (sym (flat_map-append f xs (y ∷ []) ∙ ap (λ r. flat_map f xs ++ r) (append-nil (f y)))),
+        ),
+      );
   complete = λ all after ok l n e.
       let g = h.complete all after ok l n e in
       next_of f P Q count now next xs y all after g.1.more l n lt g.1.whole g.1.left g.0 each;

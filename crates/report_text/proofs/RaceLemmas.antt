@@ -55,10 +55,10 @@ place_of columns names name i column shown differ at is =
     let count : position_or_len (bytes_eq name) names ≡ i =
     position_or_len_is (bytes_eq name) names i [] (omega (arith, within))
     (λ j low. no_test (bytes_eq name (get_or names j [])) (name ≡ get_or names j []) (bytes_eq-Decides name (get_or names j []))
-      (λ e.
-        let there : slice_get names j ≡ Some name = slice_get-get_or names j [] (omega (arith, low, within)) ∙ ap Some (sym e) in
-        let x = whole_at (λ c. c.name) columns j name (ap (λ ns. slice_get ns j) (sym shown) ∙ there) in
-        differ j i x.0 column low x.1 at (x.2 ∙ sym is)))
+    (λ e.
+    let there : slice_get names j ≡ Some name = slice_get-get_or names j [] (omega (arith, low, within)) ∙ ap Some (sym e) in
+    let x = whole_at (λ c. c.name) columns j name (ap (λ ns. slice_get ns j) (sym shown) ∙ there) in
+    differ j i x.0 column low x.1 at (x.2 ∙ sym is)))
     (λ low. (bytes_eq-Decides name (get_or names i [])).1 (sym (get_or_from_slice_get names i name [] here))) in
     by (position_or_len (bytes_eq name) names) count within
   where

@@ -51,7 +51,11 @@ fn column_line<'a>(reader: &mut Reader<'a>) -> (&'a [u8], u32)
 }
 
 /// Takes so many lines of variables. Where the reader is lost they mean nothing. The error is want of memory, E901.
-pub fn read_columns<'a>(alloc: Global, reader: &mut Reader<'a>, count: u64) -> Result<(Vec<Column>, Names<'a>), NoMemory>
+pub fn read_columns<'a>(
+    alloc: Global,
+    reader: &mut Reader<'a>,
+    count: u64,
+) -> Result<(Vec<Column>, Names<'a>), NoMemory>
     ensures read { IfOk result (λ p. Took reader.old reader.new (λ text rest. Listed IsColumn Differ p.0.items × (length p.0.items ≡ count) × (p.1 ≡ map (λ c. c.name) p.0.items) × (text ≡ spelled.column_lines p.0.items ++ rest))) }
     ensures each { (columns : List reports.Column) (rest : List ℕ) → reader.old.ok ≡ true → Listed IsColumn Differ columns → length columns ≡ count → reader.old.rest ≡ spelled.column_lines columns ++ rest → IfOk result (λ p. (p.0.items ≡ columns) × Stands reader.new rest) }
 {

@@ -63,7 +63,11 @@ fn after_value(text: &[u8], width: u32) -> Option<&[u8]>
         return None;
     }
     let (value, rest) = text.split_at(width as usize);
-    if is_value(width, value) { Some(rest) } else { None }
+    if is_value(width, value) {
+        Some(rest)
+    } else {
+        None
+    }
 }
 
 // Whether the line tells a value of each of the variables, with one space between.
@@ -162,11 +166,22 @@ fn end_words<'a>(reader: &mut Reader<'a>) -> EndWords<'a>
     let bytes = reader.number(b'\n');
     let line = reader.word(b'\n');
     let dump = reader.bytes(bytes);
-    EndWords { time, cause, log, bytes, line, dump }
+    EndWords {
+        time,
+        cause,
+        log,
+        bytes,
+        line,
+        dump,
+    }
 }
 
 // Takes an end and its dump. Where the reader is lost they mean nothing. The error is want of memory, E901.
-fn take_end<'a>(alloc: Global, reader: &mut Reader<'a>, columns: &[Column]) -> Result<(End, &'a [u8]), NoMemory>
+fn take_end<'a>(
+    alloc: Global,
+    reader: &mut Reader<'a>,
+    columns: &[Column],
+) -> Result<(End, &'a [u8]), NoMemory>
     ensures read { IfOk result (λ p. Took reader.old reader.new (λ text rest. inner.IsEndedTaken columns.now text (p.0, p.1.now) rest)) }
     ensures each { (ended : inner.Ended) (rest : List ℕ) → reader.old.ok ≡ true → inner.IsEndedTaken columns.now reader.old.rest ended rest → IfOk result (λ p. (p.0 ≡ ended.0) × (p.1.now ≡ ended.1) × Stands reader.new rest) }
 {
@@ -185,7 +200,12 @@ fn take_end<'a>(alloc: Global, reader: &mut Reader<'a>, columns: &[Column]) -> R
 }
 
 /// Takes so many ends with their dumps. Where the reader is lost they mean nothing. The error is want of memory, E901.
-pub fn read_ends<'a>(alloc: Global, reader: &mut Reader<'a>, columns: &[Column], count: u64) -> Result<(Vec<End>, Vec<&'a [u8]>), NoMemory>
+pub fn read_ends<'a>(
+    alloc: Global,
+    reader: &mut Reader<'a>,
+    columns: &[Column],
+    count: u64,
+) -> Result<(Vec<End>, Vec<&'a [u8]>), NoMemory>
     ensures read { IfOk result (λ p. Took reader.old reader.new (λ text rest. inner.AreTaken columns.now count text p.0.items (map (λ dump. dump.now) p.1.items) rest)) }
     ensures each { (all : List inner.Ended) (rest : List ℕ) → reader.old.ok ≡ true → Listed (inner.IsEnded columns.now) inner.IsEndedBefore all → length all ≡ count → reader.old.rest ≡ flat_map inner.ended_text all ++ rest → IfOk result (λ p. (p.0.items ≡ map (λ e. e.0) all) × (map (λ dump. dump.now) p.1.items ≡ map (λ e. e.1) all) × Stands reader.new rest) }
 {

@@ -145,5 +145,13 @@ pub fn read_heading<'a>(reader: &mut Reader<'a>) -> Heading<'a>
     let steps = number_line(reader, b"steps ", 1, MOST_STEPS);
     let grain = grain_line(reader, version);
     let outcome = outcome_line(reader);
-    Heading { version, top, until, depart, steps, grain, outcome }
+    Heading {
+        version,
+        top,
+        until,
+        depart,
+        steps,
+        grain,
+        outcome,
+    }
 }

@@ -16,7 +16,6 @@ mod reader;
 mod report;
 mod words;
 
-pub use front::{after, cut, number};
 pub use pieces::{end_lines, head_lines, race_count_line, race_lines};
-pub use reader::Reader;
-pub use report::{Column, End, Outcome, Race, Report, Seen, Version};
+pub use read::read_report;
+pub use report::{Column, End, Outcome, Race, Report, ReportFault, Seen, Told, Version};

@@ -42,7 +42,12 @@ fn may_follow_value(values: &[Seen], seen: &Seen) -> bool
 }
 
 // Takes so many lines of values of this width. Where the reader is lost they mean nothing. The error is want of memory, E901.
-fn take_values(alloc: Global, reader: &mut Reader, width: u32, count: u64) -> Result<Vec<Seen>, NoMemory>
+fn take_values(
+    alloc: Global,
+    reader: &mut Reader,
+    width: u32,
+    count: u64,
+) -> Result<Vec<Seen>, NoMemory>
     ensures read { IfOk result (λ values. Took reader.old reader.new (λ text rest. Listed (inner.IsShown width) inner.IsShownBefore values.items × (length values.items ≡ count) × (text ≡ spelled.value_lines values.items ++ rest))) }
     ensures each { (all : List inner.Shown) (rest : List ℕ) → reader.old.ok ≡ true → Listed (inner.IsShown width) inner.IsShownBefore all → length all ≡ count → reader.old.rest ≡ spelled.value_lines all ++ rest → IfOk result (λ values. (values.items ≡ all) × Stands reader.new rest) }
 {
@@ -92,16 +97,31 @@ fn race_line(reader: &mut Reader, columns: &[Column], names: &Names) -> RaceLine
     let count = reader.number(b'\n');
     reader.require(count >= 2);
     match find(columns, names, name) {
-        Some((variable, width)) => RaceLine { time, variable, width, count },
+        Some((variable, width)) => RaceLine {
+            time,
+            variable,
+            width,
+            count,
+        },
         None => {
             reader.require(false);
-            RaceLine { time, variable: 0, width: 0, count }
+            RaceLine {
+                time,
+                variable: 0,
+                width: 0,
+                count,
+            }
         }
     }
 }
 
 // Takes a race. Where the reader is lost it means nothing. The error is want of memory, E901.
-fn take_race(alloc: Global, reader: &mut Reader, columns: &[Column], names: &Names) -> Result<Race, NoMemory>
+fn take_race(
+    alloc: Global,
+    reader: &mut Reader,
+    columns: &[Column],
+    names: &Names,
+) -> Result<Race, NoMemory>
     requires shown { names.now ≡ map (λ c. c.name) columns.now }
     requires columns { Listed IsColumn Differ columns.now }
     ensures read { IfOk result (λ race. Took reader.old reader.new (λ text rest. inner.IsRaceTaken columns.now text race rest)) }
@@ -109,7 +129,11 @@ fn take_race(alloc: Global, reader: &mut Reader, columns: &[Column], names: &Nam
 {
     let line = race_line(reader, columns, names);
     let values = take_values(alloc, reader, line.width, line.count)?;
-    Ok(Race { time: line.time, variable: line.variable, values })
+    Ok(Race {
+        time: line.time,
+        variable: line.variable,
+        values,
+    })
 }
 
 // Whether the race may follow these.
@@ -117,13 +141,20 @@ fn may_follow_race(races: &[Race], race: &Race) -> bool
     ensures { IsTrue result ↔ inner.FollowsRace races.now race.now }
 {
     match races.last() {
-        Some(last) => last.time < race.time || (last.time == race.time && last.variable < race.variable),
+        Some(last) => last.time < race.time
+            || (last.time == race.time && last.variable < race.variable),
         None => true,
     }
 }
 
 /// Takes so many races of these variables. Where the reader is lost they mean nothing. The error is want of memory, E901.
-pub fn read_races(alloc: Global, reader: &mut Reader, columns: &[Column], names: &Names, count: u64) -> Result<Vec<Race>, NoMemory>
+pub fn read_races(
+    alloc: Global,
+    reader: &mut Reader,
+    columns: &[Column],
+    names: &Names,
+    count: u64,
+) -> Result<Vec<Race>, NoMemory>
     requires shown { names.now ≡ map (λ c. c.name) columns.now }
     requires columns { Listed IsColumn Differ columns.now }
     ensures read { IfOk result (λ races. Took reader.old reader.new (λ text rest. Listed (inner.IsCounted columns.now) IsRaceBefore races.items × (length races.items ≡ count) × (text ≡ spelled.races_text columns.now races.items ++ rest))) }

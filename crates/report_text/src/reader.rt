@@ -10,6 +10,7 @@ use std::marker::Model;
 
 /// What is left of a text. Once something that was asked for didn't stand in front, the reader is lost and stays so: what it
 /// gives then means nothing, and it is asked once, at the end.
+#[derive(Drop)]
 pub struct Reader<'a> {
     rest: &'a [u8],
     ok: bool,
@@ -28,7 +29,10 @@ impl<'a> Reader<'a> {
     pub fn new(text: &'a [u8]) -> Reader<'a>
         ensures { Stands result text.now }
     {
-        Reader { rest: text, ok: true }
+        Reader {
+            rest: text,
+            ok: true,
+        }
     }
 
     /// Whether all that was asked for stood there.

@@ -11,8 +11,7 @@ returns-clause-each c = λ column rest ok h.
     let n = c.number-width.ensures.each column.width rest w.1.0 (omega (arith, h.0.2), w.1.1) in
     let low : 1 ≤ c.number-width.result = omega (arith, h.0.1, n.0) in
     let high : c.number-width.result ≤ 64 = omega (arith, h.0.2, n.0) in
-    let wide = c.narrow.ensures high ∙ n.0 in
-    (
+    let wide = c.narrow.ensures high ∙ n.0 in (
       λ i. record { name = w.0 i; width = wide i },
       (
         c.require-2.ensures.ok ∙ both _ _ (c.require.ensures.ok ∙ both _ _ n.1.0 (c.is_path.ensures ∙ ap is_path w.0 ∙ h.0.0)) (c.is_width.ensures.1 (low, high)),

@@ -17,8 +17,8 @@ loop-place-preserved c =
     let l : length c.push.new.self.items ≡ length c.loop-place.columns.items + 1 = ap length items ∙ length-append c.loop-place.columns.items (column ∷ []) in
     record {
       read = subst (λ xs. HasRead column_line IsColumn Differ c.args.count c.args.reader.now xs c.require.new.self) (sym items)
-        (column_step c.args.count c.args.reader.now c.loop-place.reader c.column_line-width.new.reader c.require.new.self c.loop-place.names c.loop-place.columns.items column c.in_ok-added.added
-        c.loop-place.invariant.read c.loop-place.invariant.names (omega (arith, c.loop-place.invariant.len, c.loop-place-test.true)) c.column_line-width.ensures.read c.column_line-width.ensures.each c.in_ok-added.ensures.new c.require.ensures.ok c.require.ensures.rest);
+          (column_step c.args.count c.args.reader.now c.loop-place.reader c.column_line-width.new.reader c.require.new.self c.loop-place.names c.loop-place.columns.items column c.in_ok-added.added
+          c.loop-place.invariant.read c.loop-place.invariant.names (omega (arith, c.loop-place.invariant.len, c.loop-place-test.true)) c.column_line-width.ensures.read c.column_line-width.ensures.each c.in_ok-added.ensures.new c.require.ensures.ok c.require.ensures.rest);
       names = names_more c.loop-place.names c.add.new.self c.loop-place.columns.items column c.loop-place.invariant.names put ∙ ap (map (λ x. x.name)) (sym items);
       len = omega (arith, l, c.loop-place.invariant.len);
     }

@@ -12,8 +12,8 @@ loop-place-preserved c =
     let l : length c.push.new.self.items ≡ length c.loop-place.races.items + 1 = ap length c.in_ok-push.ensures.items ∙ length-append c.loop-place.races.items (c.in_ok-race.race ∷ []) in
     record {
       read = rw c.in_ok-push.ensures.items
-        (follow_step (race_text c.args.columns.now) (IsCounted c.args.columns.now) IsRaceBefore race_trans c.args.count c.args.reader.now c.loop-place.reader c.take_race.new.reader c.require.new.self c.loop-place.races.items c.in_ok-race.race c.may_follow_race.result
-        c.loop-place.invariant.read (omega (arith, c.loop-place.invariant.len, c.loop-place-test.true)) c.in_ok-race.ensures.read c.in_ok-race.ensures.each (rw c.deref.ensures.value at c.may_follow_race.ensures) c.require.ensures.ok c.require.ensures.rest);
+          (follow_step (race_text c.args.columns.now) (IsCounted c.args.columns.now) IsRaceBefore race_trans c.args.count c.args.reader.now c.loop-place.reader c.take_race.new.reader c.require.new.self c.loop-place.races.items c.in_ok-race.race c.may_follow_race.result
+          c.loop-place.invariant.read (omega (arith, c.loop-place.invariant.len, c.loop-place-test.true)) c.in_ok-race.ensures.read c.in_ok-race.ensures.each (rw c.deref.ensures.value at c.may_follow_race.ensures) c.require.ensures.ok c.require.ensures.rest);
       len = omega (arith, l, c.loop-place.invariant.len);
     }
 

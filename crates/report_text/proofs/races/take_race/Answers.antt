@@ -6,9 +6,11 @@ use Rattle.report_text.proofs.races.take_race.Goals as goal
 pub returns-clause-read : goal.returns-clause-read
 returns-clause-read c = λ ok.
     let v = c.in_ok-values.ensures.read ok in
-    let l = c.race_line-line.ensures.read v.0 in
-    (l.0, race_is c.args.columns.now (record { time = c.race_line-line.result.time; variable = c.race_line-line.result.variable; values = c.in_ok-values.values.items }) c.race_line-line.result.count c.race_line-line.result.width
-      l.1.0 c.args.reader.now.rest c.race_line-line.new.reader.rest c.take_values.new.reader.rest l.1.1 l.1.2 v.1.0 v.1.1 v.1.2)
+    let l = c.race_line-line.ensures.read v.0 in (
+      l.0,
+      race_is c.args.columns.now (record { time = c.race_line-line.result.time; variable = c.race_line-line.result.variable; values = c.in_ok-values.values.items }) c.race_line-line.result.count c.race_line-line.result.width
+          l.1.0 c.args.reader.now.rest c.race_line-line.new.reader.rest c.take_values.new.reader.rest l.1.1 l.1.2 v.1.0 v.1.1 v.1.2,
+    )
 
 pub returns-clause-each : goal.returns-clause-each
 returns-clause-each c = λ race rest ok h.

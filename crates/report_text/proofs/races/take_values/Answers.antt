@@ -10,8 +10,8 @@ loop-place-preserved c =
     let l : length c.push.new.self.items ≡ length c.loop-place.values.items + 1 = ap length c.in_ok-push.ensures.items ∙ length-append c.loop-place.values.items (c.in_ok-seen.seen ∷ []) in
     record {
       read = rw c.in_ok-push.ensures.items
-        (follow_step shown_line (IsShown c.args.width) IsShownBefore shown_trans c.args.count c.args.reader.now c.loop-place.reader c.take_seen.new.reader c.require.new.self c.loop-place.values.items c.in_ok-seen.seen c.may_follow_value.result
-        c.loop-place.invariant.read (omega (arith, c.loop-place.invariant.len, c.loop-place-test.true)) c.in_ok-seen.ensures.read c.in_ok-seen.ensures.each (rw c.deref.ensures.value at c.may_follow_value.ensures) c.require.ensures.ok c.require.ensures.rest);
+          (follow_step shown_line (IsShown c.args.width) IsShownBefore shown_trans c.args.count c.args.reader.now c.loop-place.reader c.take_seen.new.reader c.require.new.self c.loop-place.values.items c.in_ok-seen.seen c.may_follow_value.result
+          c.loop-place.invariant.read (omega (arith, c.loop-place.invariant.len, c.loop-place-test.true)) c.in_ok-seen.ensures.read c.in_ok-seen.ensures.each (rw c.deref.ensures.value at c.may_follow_value.ensures) c.require.ensures.ok c.require.ensures.rest);
       len = omega (arith, l, c.loop-place.invariant.len);
     }
 

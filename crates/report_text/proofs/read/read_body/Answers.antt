@@ -12,14 +12,21 @@ returns-clause-read c = λ ok.
     let r = c.in_ok-races.ensures.read ok in
     let m = c.number_line-count-2.ensures.read r.0 in
     let e = c.in_ok-ends.ensures.read m.0 in
-    let n = c.number_line-count.ensures.read e.0 in
-    (n.0, (e.1.0, record {
-      ends = e.1.1;
-      few_ends = subst (λ x. x < 2 ^ 64) (sym e.1.2) n.1.small;
-      listed = r.1.0;
-      few_races = subst (λ x. x < 2 ^ 64) (sym r.1.1) m.1.small;
-      whole = n.1.whole ∙ (λ i. labelled (codes "ends ") (decimal (sym e.1.2 i)) ((e.1.5 ∙ ap (λ t. flat_map ended_text e.1.0 ++ t) (m.1.whole ∙ (λ j. labelled (codes "races ") (decimal (sym r.1.1 j)) (r.1.2 j)))) i));
-    }, e.1.3, e.1.4))
+    let n = c.number_line-count.ensures.read e.0 in (
+      n.0,
+      (
+        e.1.0,
+        record {
+          ends = e.1.1;
+          few_ends = subst (λ x. x < 2 ^ 64) (sym e.1.2) n.1.small;
+          listed = r.1.0;
+          few_races = subst (λ x. x < 2 ^ 64) (sym r.1.1) m.1.small;
+          whole = n.1.whole ∙ (λ i. labelled (codes "ends ") (decimal (sym e.1.2 i)) ((e.1.5 ∙ ap (λ t. flat_map ended_text e.1.0 ++ t) (m.1.whole ∙ (λ j. labelled (codes "races ") (decimal (sym r.1.1 j)) (r.1.2 j)))) i));
+        },
+        e.1.3,
+        e.1.4,
+      ),
+    )
 
 pub returns-clause-each : goal.returns-clause-each
 returns-clause-each c = λ all races rest ok t.

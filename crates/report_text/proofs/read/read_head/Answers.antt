@@ -9,13 +9,18 @@ pub returns-clause-read : goal.returns-clause-read
 returns-clause-read c = λ ok.
     let k = c.in_ok-columns.ensures.read ok in
     let n = c.number_line-count.ensures.read k.0 in
-    let h = c.read_heading-heading.ensures.read n.0 in
-    (h.0, (record {
-      heading = h.1.0;
-      listed = k.1.0;
-      few = subst (λ x. x < 2 ^ 64) (sym k.1.1) n.1.small;
-      whole = h.1.1 ∙ ap (heading_before c.read_heading-heading.result) (n.1.whole ∙ (λ i. labelled (codes "vars ") (decimal (sym k.1.1 i)) (k.1.3 i)));
-    }, k.1.2))
+    let h = c.read_heading-heading.ensures.read n.0 in (
+      h.0,
+      (
+        record {
+          heading = h.1.0;
+          listed = k.1.0;
+          few = subst (λ x. x < 2 ^ 64) (sym k.1.1) n.1.small;
+          whole = h.1.1 ∙ ap (heading_before c.read_heading-heading.result) (n.1.whole ∙ (λ i. labelled (codes "vars ") (decimal (sym k.1.1 i)) (k.1.3 i)));
+        },
+        k.1.2,
+      ),
+    )
 
 pub returns-clause-each : goal.returns-clause-each
 returns-clause-each c = λ h columns rest ok t.
