@@ -9,6 +9,7 @@ pub mod ListLemmas
 pub mod LogLemmas
 pub mod NameLemmas
 pub mod NumberLemmas
+pub mod OneLemmas
 pub mod PieceLemmas
 pub mod RaceLemmas
 pub mod SpellingLemmas

@@ -125,3 +125,7 @@ IsTold text told = IsReport told.0 told.1 × (text ≡ report_text told.0 told.1
 abbrev pub ReadsEachReport : List ℕ → Result (Report × List (List ℕ)) (OrMemory ReportFault) → Type 0
 ReadsEachReport text answer =
     (r : Report) (dumps : List (List ℕ)) → IsReport r dumps → text ≡ report_text r dumps → MatchResult answer (λ told. (told.0 ≡ r) × (told.1 ≡ dumps)) (Because (λ _. ⊥))
+
+-- no two reports, with their dumps, have one text, where its bytes can be counted in 64 bits
+abbrev pub OneReportForText : Type 0
+OneReportForText = (r s : Report) (dumps others : List (List ℕ)) → IsReport r dumps → IsReport s others → length (report_text r dumps) < 2 ^ 64 → report_text r dumps ≡ report_text s others → (r ≡ s) × (dumps ≡ others)

@@ -7,6 +7,7 @@ mod columns;
 mod ends;
 mod front;
 mod heading_lines;
+mod law;
 mod letters;
 mod names;
 mod pieces;
@@ -16,6 +17,7 @@ mod reader;
 mod report;
 mod words;
 
+pub use law::report_text_law;
 pub use pieces::{end_lines, head_lines, race_count_line, race_lines};
 pub use read::read_report;
 pub use report::{Column, End, Outcome, Race, Report, ReportFault, Seen, Told, Version};
