@@ -3,7 +3,7 @@
 ghost use Rattle.std.specs.Prelude.{◌≡◌, ◌≢◌, ℕ, ◌≤◌, List, ◌++◌, map, true, length, IfOk, IsTrue, ◌↔◌};
 ghost use Rattle.report_text.specs.Inner.Lists.{Listed};
 ghost use Rattle.report_text.specs.Inner.Columns.{IsColumnTaken, Differ};
-ghost use Rattle.report_text.specs.Inner.Places.{Stands, Took};
+ghost use Rattle.report_text.specs.Inner.Places.{HasTaken, Stands, TakesEach, Took};
 ghost use Rattle.report_text.specs.Report as reports;
 ghost use Rattle.report_text.specs.ReportText as spelled;
 ghost use Rattle.report_text.specs.WellFormed.{IsColumn};
@@ -40,8 +40,8 @@ pub fn copy_of(alloc: Global, bytes: &[u8]) -> Result<Vec<u8>, NoMemory>
 
 // Takes the line of a variable, its name and its width.
 fn column_line<'a>(reader: &mut Reader<'a>) -> (&'a [u8], u32)
-    ensures read { Took reader.old reader.new (λ text rest. IsColumnTaken text (record { name = result.0.now; width = result.1 }) rest) }
-    ensures each { (column : reports.Column) (rest : List ℕ) → reader.old.ok ≡ true → IsColumnTaken reader.old.rest column rest → (record { name = result.0.now; width = result.1 } ≡ column) × Stands reader.new rest }
+    ensures read { HasTaken reader.old reader.new IsColumnTaken (record { name = result.0.now; width = result.1 }) }
+    ensures each { TakesEach reader.old reader.new IsColumnTaken (record { name = result.0.now; width = result.1 }) }
 {
     let name = reader.word(b' ');
     let width = reader.number(b'\n');

@@ -97,7 +97,7 @@ fn after_space(text: &[u8], width: u32) -> Option<&[u8]>
     after_value(after(text, b" ")?, width)
 }
 
-// Whether one text stands before another in the order of their bytes.
+/// Whether one text stands before another in the order of their bytes.
 pub fn is_less(a: &[u8], b: &[u8]) -> bool
     ensures { IsTrue result ↔ IsTextLess a.now b.now }
 {

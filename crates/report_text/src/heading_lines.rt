@@ -3,7 +3,7 @@
 ghost use Rattle.std.specs.Prelude.{◌≡◌, ℕ, ◌≤◌, List, true, IsTrue, ◌↔◌, codes, decimal};
 ghost use Rattle.report_text.specs.Inner.Headings.{IsHeading, IsLabelLine, IsNumberLine, grain_before, heading_before, labelled};
 ghost use Rattle.report_text.specs.Inner.Headings as headings;
-ghost use Rattle.report_text.specs.Inner.Places.{Stands, Took};
+ghost use Rattle.report_text.specs.Inner.Places.{HasTaken, Stands, TakesEach, Took};
 ghost use Rattle.report_text.specs.ReportText as spelled;
 ghost use Rattle.report_text.specs.WellFormed.{has_letters_of_name};
 ghost use Rattle.report_text.specs.declared.report.Version as versions;
@@ -74,8 +74,8 @@ fn label_line<'a>(reader: &mut Reader<'a>, label: &[u8]) -> &'a [u8]
 
 /// Takes a line of this label and a number from low to high.
 pub fn number_line<'a>(reader: &mut Reader<'a>, label: &[u8], low: u64, high: u64) -> u64
-    ensures read { Took reader.old reader.new (λ text rest. IsNumberLine label.now low high text result rest) }
-    ensures each { (n : ℕ) (rest : List ℕ) → reader.old.ok ≡ true → IsNumberLine label.now low high reader.old.rest n rest → (result ≡ n) × Stands reader.new rest }
+    ensures read { HasTaken reader.old reader.new (IsNumberLine label.now low high) result }
+    ensures each { TakesEach reader.old reader.new (IsNumberLine label.now low high) result }
 {
     reader.prefix(label);
     let n = reader.number(b'\n');
@@ -85,8 +85,8 @@ pub fn number_line<'a>(reader: &mut Reader<'a>, label: &[u8], low: u64, high: u6
 
 // Takes the line of the version.
 fn version_line(reader: &mut Reader) -> Version
-    ensures read { Took reader.old reader.new (λ text rest. text ≡ labelled (codes "vrace report ") (decimal (spelled.version_number result)) rest) }
-    ensures each { (version : versions.Version) (rest : List ℕ) → reader.old.ok ≡ true → reader.old.rest ≡ labelled (codes "vrace report ") (decimal (spelled.version_number version)) rest → (result ≡ version) × Stands reader.new rest }
+    ensures read { HasTaken reader.old reader.new headings.IsVersionLine result }
+    ensures each { TakesEach reader.old reader.new headings.IsVersionLine result }
 {
     let n = number_line(reader, b"vrace report ", 1, 2);
     if n == 1 { Version::One } else { Version::Two }
@@ -121,8 +121,8 @@ fn grain_line(reader: &mut Reader, version: Version) -> Grain
 
 // Takes the line of the outcome.
 fn outcome_line(reader: &mut Reader) -> Outcome
-    ensures read { Took reader.old reader.new (λ text rest. text ≡ labelled (codes "state ") (spelled.outcome_words result) rest) }
-    ensures each { (outcome : outcomes.Outcome) (rest : List ℕ) → reader.old.ok ≡ true → reader.old.rest ≡ labelled (codes "state ") (spelled.outcome_words outcome) rest → (result ≡ outcome) × Stands reader.new rest }
+    ensures read { HasTaken reader.old reader.new headings.IsOutcomeLine result }
+    ensures each { TakesEach reader.old reader.new headings.IsOutcomeLine result }
 {
     match outcome_of(label_line(reader, b"state ")) {
         Some(outcome) => outcome,

@@ -3,7 +3,7 @@
 ghost use Rattle.std.specs.Prelude.{◌≡◌, ◌↔◌, ◌≢◌, ℕ, ◌<◌, List, ◌++◌, map, true, length, slice_get, Some, IfOk, IfSome, IsTrue, MatchOption};
 ghost use Rattle.report_text.specs.Inner.Columns.{Differ};
 ghost use Rattle.report_text.specs.Inner.Lists.{Listed};
-ghost use Rattle.report_text.specs.Inner.Places.{Stands, Took};
+ghost use Rattle.report_text.specs.Inner.Places.{HasTaken, Stands, TakesEach, Took};
 ghost use Rattle.report_text.specs.Inner.Races as inner;
 ghost use Rattle.report_text.specs.Report as reports;
 ghost use Rattle.report_text.specs.ReportText as spelled;
@@ -20,8 +20,8 @@ use std::alloc::Global;
 
 // Takes the line of a value of this width. Where the reader is lost it means nothing. The error is want of memory, E901.
 fn take_seen(alloc: Global, reader: &mut Reader, width: u32) -> Result<Seen, NoMemory>
-    ensures read { IfOk result (λ seen. Took reader.old reader.new (λ text rest. inner.IsShownTaken width text seen rest)) }
-    ensures each { (shown : inner.Shown) (rest : List ℕ) → reader.old.ok ≡ true → inner.IsShownTaken width reader.old.rest shown rest → IfOk result (λ seen. (seen ≡ shown) × Stands reader.new rest) }
+    ensures read { IfOk result (HasTaken reader.old reader.new (inner.IsShownTaken width)) }
+    ensures each { IfOk result (TakesEach reader.old reader.new (inner.IsShownTaken width)) }
 {
     let value = reader.word(b' ');
     reader.require(is_value(width, value));
@@ -124,8 +124,8 @@ fn take_race(
 ) -> Result<Race, NoMemory>
     requires shown { names.now ≡ map (λ c. c.name) columns.now }
     requires columns { Listed IsColumn Differ columns.now }
-    ensures read { IfOk result (λ race. Took reader.old reader.new (λ text rest. inner.IsRaceTaken columns.now text race rest)) }
-    ensures each { (race : reports.Race) (rest : List ℕ) → reader.old.ok ≡ true → inner.IsRaceTaken columns.now reader.old.rest race rest → IfOk result (λ taken. (taken ≡ race) × Stands reader.new rest) }
+    ensures read { IfOk result (HasTaken reader.old reader.new (inner.IsRaceTaken columns.now)) }
+    ensures each { IfOk result (TakesEach reader.old reader.new (inner.IsRaceTaken columns.now)) }
 {
     let line = race_line(reader, columns, names);
     let values = take_values(alloc, reader, line.width, line.count)?;

@@ -3,7 +3,7 @@
 ghost use Rattle.std.specs.Prelude.{◌≡◌, ℕ, List, ◌++◌, ◌&&◌, ◌==◌, true, false, length};
 ghost use Rattle.std.specs.Char.{is_ascii_digit};
 ghost use Rattle.report_text.specs.Inner.Fronts.{IsCut};
-ghost use Rattle.report_text.specs.Inner.Places.{IsNumberFront, Stands, Took};
+ghost use Rattle.report_text.specs.Inner.Places.{HasTaken, IsNumberFront, Stands, TakesEach, Took};
 
 use crate::front::{after, cut, number};
 use std::marker::Model;
@@ -102,8 +102,8 @@ impl<'a> Reader<'a> {
     /// Takes a number of 64 bits and the byte behind it, which is no digit.
     pub fn number(&mut self, byte: u8) -> u64
         requires { is_ascii_digit byte ≡ false }
-        ensures read { Took self.old self.new (λ text rest. IsNumberFront byte text result rest) }
-        ensures each { (n : ℕ) (rest : List ℕ) → self.old.ok ≡ true → IsNumberFront byte self.old.rest n rest → (result ≡ n) × Stands self.new rest }
+        ensures read { HasTaken self.old self.new (IsNumberFront byte) result }
+        ensures each { TakesEach self.old self.new (IsNumberFront byte) result }
     {
         let word = self.word(byte);
         match number(word) {

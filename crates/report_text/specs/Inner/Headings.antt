@@ -56,3 +56,9 @@ pub record IsHeading (h : Heading) : Type 0 where
   pub some_steps : 1 ≤ h.steps
   pub few_steps : h.steps ≤ 1000000
   pub grain : h.version ≡ One → h.grain ≡ Process
+
+abbrev pub IsVersionLine : List ℕ → Version → List ℕ → Type 0
+IsVersionLine text version rest = text ≡ labelled (codes "vrace report ") (decimal (version_number version)) rest
+
+abbrev pub IsOutcomeLine : List ℕ → Outcome → List ℕ → Type 0
+IsOutcomeLine text outcome rest = text ≡ labelled (codes "state ") (outcome_words outcome) rest

@@ -14,6 +14,14 @@ Took old new P = new.ok ≡ true → (old.ok ≡ true) × P old.rest new.rest
 abbrev pub Stands : Place → List ℕ → Type 0
 Stands place rest = (place.ok ≡ true) × (place.rest ≡ rest)
 
+-- this stood there, in this way
+abbrev pub HasTaken : {A : Type 0} → Place → Place → (List ℕ → A → List ℕ → Type 0) → A → Type 0
+HasTaken old new Stood x = Took old new (λ text rest. Stood text x rest)
+
+-- where the reader wasn't lost, whatever stood there in this way is what was taken
+abbrev pub TakesEach : {A : Type 0} → Place → Place → (List ℕ → A → List ℕ → Type 0) → A → Type 0
+TakesEach {A} old new Stood x = (y : A) (rest : List ℕ) → old.ok ≡ true → Stood old.rest y rest → (x ≡ y) × Stands new rest
+
 -- the decimal of a number of 64 bits, then the byte
 abbrev pub IsNumberFront : ℕ → List ℕ → ℕ → List ℕ → Type 0
 IsNumberFront byte text n rest = (n < 2 ^ 64) × (text ≡ decimal n ++ byte ∷ rest)
