@@ -1,1 +1,17 @@
+pub mod ColumnLemmas
+pub mod EndLemmas
+pub mod EndedLemmas
+pub mod FollowLemmas
+pub mod FrontLemmas
+pub mod HeadingLemmas
+pub mod LineLemmas
+pub mod ListLemmas
+pub mod LogLemmas
+pub mod NameLemmas
+pub mod NumberLemmas
+pub mod OneLemmas
 pub mod PieceLemmas
+pub mod RaceLemmas
+pub mod SpellingLemmas
+pub mod WholeLemmas
+pub mod WordLemmas

@@ -1,3 +1,4 @@
 pub mod Report
 pub mod ReportText
 pub mod WellFormed
+pub mod Inner

@@ -1,13 +1,16 @@
 -- Which reports there are: those whose text is read (docs/FORMATS.md, "Reports").
-use Rattle.std.specs.Prelude.{◌≡◌, ◌≢◌, ℕ, ◌<◌, ◌≤◌, ◌^◌, ◌&&◌, ◌||◌, ◌==◌, ◌⊎◌, Bool, true, false, List, [], ◌∷◌, length, slice_get, Some}
+use Rattle.std.specs.Prelude.{◌≡◌, ◌≢◌, ℕ, ◌<◌, ◌≤◌, ◌^◌, ◌&&◌, ◌||◌, ◌==◌, ◌⊎◌, Bool, true, false, List, [], ◌∷◌, length, slice_get, Some, Result, MatchResult}
 use Rattle.std.specs.List.{list_all}
 use Rattle.std.specs.Ordering.{nat_cmp}
 use Rattle.std.specs.Cmp.Lexicographic.{slice_cmp}
 use Rattle.std.specs.declared.cmp.Ordering.TheVariants.{Less}
+use Rattle.basis.specs.declared.memory.OrMemory.{OrMemory}
+use Rattle.basis.specs.Reasons.{Because}
 use Rattle.sched_core.specs.Logs.{IsLog}
 use Rattle.vast.specs.Words.{begins_name, is_in_name}
 use Rattle.vmodel.specs.declared.history.Grain.TheVariants.{Process}
 use Rattle.report_text.specs.declared.report.Version.TheVariants.{One}
+use Rattle.report_text.specs.declared.report.ReportFault.{ReportFault}
 use Rattle.report_text.specs.Report.{Column, End, Race, Report}
 use Rattle.report_text.specs.ReportText.{spaced, cause_word, report_text}
 
@@ -113,3 +116,16 @@ pub record IsReport (r : Report) (dumps : List (List ℕ)) : Type 0 where
 -- the text is that of no report
 abbrev pub IsNoReportText : List ℕ → Type 0
 IsNoReportText text = (r : Report) (dumps : List (List ℕ)) → IsReport r dumps → text ≢ report_text r dumps
+
+-- the text is that of this report with these dumps
+abbrev pub IsTold : List ℕ → Report × List (List ℕ) → Type 0
+IsTold text told = IsReport told.0 told.1 × (text ≡ report_text told.0 told.1)
+
+-- the text of a report is read as that report with its dumps, unless memory was refused
+abbrev pub ReadsEachReport : List ℕ → Result (Report × List (List ℕ)) (OrMemory ReportFault) → Type 0
+ReadsEachReport text answer =
+    (r : Report) (dumps : List (List ℕ)) → IsReport r dumps → text ≡ report_text r dumps → MatchResult answer (λ told. (told.0 ≡ r) × (told.1 ≡ dumps)) (Because (λ _. ⊥))
+
+-- no two reports, with their dumps, have one text, where its bytes can be counted in 64 bits
+abbrev pub OneReportForText : Type 0
+OneReportForText = (r s : Report) (dumps others : List (List ℕ)) → IsReport r dumps → IsReport s others → length (report_text r dumps) < 2 ^ 64 → report_text r dumps ≡ report_text s others → (r ≡ s) × (dumps ≡ others)

@@ -3,9 +3,21 @@
 // The law: exactly the texts of reports are read, each as the report that it is of.
 #![tactic(auto)]
 
+mod columns;
+mod ends;
+mod front;
+mod heading_lines;
+mod law;
+mod letters;
+mod names;
 mod pieces;
+mod races;
+mod read;
+mod reader;
 mod report;
 mod words;
 
+pub use law::report_text_law;
 pub use pieces::{end_lines, head_lines, race_count_line, race_lines};
-pub use report::{Column, End, Outcome, Race, Report, Seen, Version};
+pub use read::read_report;
+pub use report::{Column, End, Outcome, Race, Report, ReportFault, Seen, Told, Version};

@@ -118,3 +118,25 @@ impl Model for Report {
       races = r.races.items;
     } };
 }
+
+/// A report and the dumps of its ends, in their order.
+#[derive(Drop)]
+pub struct Told<'a> {
+    pub report: Report,
+    pub dumps: Vec<&'a [u8]>,
+}
+
+impl<'a> Model for Told<'a> {
+    ghost use Rattle.std.specs.Prelude.{ℕ, List, map};
+    ghost use Rattle.report_text.specs.Report as reports;
+
+    ghost Value = { reports.Report × List (List ℕ) };
+
+    ghost view = { λ t. (t.report, map (λ dump. dump.now) t.dumps.items) };
+}
+
+/// Why a text was not read as a report: it is that of none (E501).
+#[derive(Clone, Copy, Debug, PartialEq, Eq)]
+pub enum ReportFault {
+    IllFormed,
+}

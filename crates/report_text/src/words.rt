@@ -1,6 +1,9 @@
 // The words that stand for versions, grains, causes and outcomes.
 
-ghost use Rattle.std.specs.Prelude.{◌≡◌};
+ghost use Rattle.std.specs.Prelude.{◌≡◌, ◌≢◌, IfSome, IfNone};
+ghost use Rattle.report_text.specs.declared.report.Outcome as outcomes;
+ghost use Rattle.vmodel.specs.declared.history.Cause as causes;
+ghost use Rattle.vmodel.specs.declared.history.Grain as grains;
 ghost use Rattle.report_text.specs.ReportText as text;
 
 use crate::report::{Outcome, Version};
@@ -48,4 +51,58 @@ pub fn outcome_words(outcome: Outcome) -> &'static [u8]
         Outcome::CutEntries => b"cut entries",
         Outcome::CutSteps => b"cut steps",
     }
+}
+
+/// The grain that the word stands for.
+pub fn grain_of(word: &[u8]) -> Option<Grain>
+    ensures read { IfSome result (λ x. word.now ≡ text.grain_word x) }
+    ensures none { IfNone result ((x : grains.Grain) → word.now ≢ text.grain_word x) }
+{
+    if word == b"process".as_slice() {
+        return Some(Grain::Process);
+    }
+    if word == b"statement".as_slice() {
+        return Some(Grain::Statement);
+    }
+    None
+}
+
+/// The cause that the word stands for.
+pub fn cause_of(word: &[u8]) -> Option<Cause>
+    ensures read { IfSome result (λ x. word.now ≡ text.cause_word x) }
+    ensures none { IfNone result ((x : causes.Cause) → word.now ≢ text.cause_word x) }
+{
+    if word == b"finish".as_slice() {
+        return Some(Cause::Finish);
+    }
+    if word == b"stop".as_slice() {
+        return Some(Cause::Stop);
+    }
+    if word == b"quiet".as_slice() {
+        return Some(Cause::Quiet);
+    }
+    if word == b"limit".as_slice() {
+        return Some(Cause::Limit);
+    }
+    None
+}
+
+/// The outcome that the word stands for.
+pub fn outcome_of(word: &[u8]) -> Option<Outcome>
+    ensures read { IfSome result (λ x. word.now ≡ text.outcome_words x) }
+    ensures none { IfNone result ((x : outcomes.Outcome) → word.now ≢ text.outcome_words x) }
+{
+    if word == b"exhausted".as_slice() {
+        return Some(Outcome::Exhausted);
+    }
+    if word == b"cut memory".as_slice() {
+        return Some(Outcome::CutMemory);
+    }
+    if word == b"cut entries".as_slice() {
+        return Some(Outcome::CutEntries);
+    }
+    if word == b"cut steps".as_slice() {
+        return Some(Outcome::CutSteps);
+    }
+    None
 }

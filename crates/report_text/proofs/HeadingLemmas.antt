@@ -1,0 +1,36 @@
+-- What the lines of a head before its variables hold.
+use Rattle.std.proofs.Common.{◌≡◌, ◌≢◌, ℕ, true, false, List, [], ◌∷◌, arith, refl}
+use Rattle.std.specs.Prelude.{codes}
+use Rattle.std.specs.List.{list_all}
+use Rattle.std.specs.Fmt.{decimal}
+use Rattle.vast.specs.Words.{begins_name, is_in_name}
+use Rattle.report_text.specs.declared.report.Version.{Version}
+use Rattle.report_text.specs.declared.report.Version.TheVariants.{One, Two}
+use Rattle.report_text.specs.ReportText.{version_number}
+use Rattle.report_text.specs.WellFormed.{has_letters_of_name}
+use Rattle.report_text.specs.Inner.Fronts.{lacks}
+use Rattle.report_text.specs.Inner.Headings.{IsNumberLine, labelled}
+use Rattle.report_text.proofs.FrontLemmas.{and_left, and_right, both}
+use Rattle.report_text.proofs.LineLemmas.{lacks_by}
+
+begins_in : (c : ℕ) → begins_name c ≡ true → is_in_name c ≡ true
+begins_in c h = rw h refl
+
+name_in : (name : List ℕ) → has_letters_of_name name ≡ true → list_all is_in_name name ≡ true
+name_in [] h = absurd cc
+name_in (c ∷ cs) h = both _ _ (begins_in c (and_left _ _ h)) (and_right _ _ h)
+
+pub name_lacks : (b : ℕ) (name : List ℕ) → is_in_name b ≡ false → has_letters_of_name name ≡ true → lacks b name ≡ true
+name_lacks b name other h = lacks_by is_in_name b other name (name_in name h)
+
+pub version_front : (v : Version) (text rest : List ℕ) → text ≡ labelled (codes "vrace report ") (decimal (version_number v)) rest → IsNumberLine (codes "vrace report ") 1 2 text (version_number v) rest
+version_front One text rest e = record { small = omega arith; above = omega arith; below = omega arith; whole = e }
+version_front Two text rest e = record { small = omega arith; above = omega arith; below = omega arith; whole = e }
+
+pub is_one : (v : Version) (n : ℕ) → n ≡ version_number v → n ≡ 1 → One ≡ v
+is_one One n e h = refl
+is_one Two n e h = absurd (omega (arith, e, h))
+
+pub is_two : (v : Version) (n : ℕ) → n ≡ version_number v → n ≢ 1 → Two ≡ v
+is_two One n e h = absurd (h e)
+is_two Two n e h = refl

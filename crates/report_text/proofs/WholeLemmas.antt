@@ -1,0 +1,189 @@
+-- A report is its head, its ends with their dumps, and its races.
+use Rattle.std.proofs.Common.{◌≡◌, ℕ, ◌<◌, ◌≤◌, ◌^◌, List, [], ◌∷◌, ◌++◌, map, length, slice_get, Some, zero, suc, arith, ap, refl, sym, subst, ◌∙◌, append-nil}
+use Rattle.std.specs.Prelude.{codes}
+use Rattle.std.specs.List.{flat_map}
+use Rattle.std.specs.Fmt.{decimal}
+use Rattle.std.proofs.lemmas.List.{length-map}
+use Rattle.sched_core.specs.LogText.{log_text}
+use Rattle.std.proofs.lemmas.Option.{same_Some}
+use Rattle.report_text.specs.Report.{Column, End, Race, Report}
+use Rattle.report_text.specs.ReportText.{line, spaced, cause_word, name_at, column_line, column_lines, end_text, ends_text, race_text, races_text, value_lines, report_text}
+use Rattle.report_text.specs.WellFormed.{Each, IsEnd, IsEndBefore, HaveBytes, IsReport}
+use Rattle.report_text.specs.Inner.Ends.{Ended, ended_text}
+use Rattle.report_text.specs.Inner.Headings.{Heading, heading_before, labelled}
+use Rattle.report_text.specs.Inner.Races.{shown_line}
+use Rattle.report_text.specs.Inner.Wholes.{IsHeadTaken, IsBodyTaken}
+use Rattle.report_text.proofs.EndedLemmas.{part_at, whole_at}
+use Rattle.report_text.proofs.ColumnLemmas.{columns_spelled}
+use Rattle.report_text.proofs.RaceLemmas.{values_spelled, races_spelled}
+use Rattle.report_text.proofs.SpellingLemmas.{heading_of, body_before, report_spelled, ends_spelled, right_le, left_le, labelled_le, heading_le, items_le, item_le, line_some}
+
+abbrev pub IsSized : Ended → Type 0
+IsSized ended = ended.0.bytes ≡ length ended.1
+
+-- ends beside their dumps
+pub record Paired (ends : List End) (dumps : List (List ℕ)) : Type 0 where
+  pub all : List Ended
+  pub ends_are : ends ≡ map (λ e. e.0) all
+  pub dumps_are : dumps ≡ map (λ e. e.1) all
+  pub sized : Each IsSized all
+
+each_more : {A : Type 0} (P : A → Type 0) (x : A) (xs : List A) → P x → Each P xs → Each P (x ∷ xs)
+each_more P x xs p ps zero y e = subst P (same_Some x y e) p
+each_more P x xs p ps (suc i) y e = ps i y e
+
+paired : (ends : List End) (dumps : List (List ℕ)) → HaveBytes ends dumps → Paired ends dumps
+paired [] [] h = record { all = []; ends_are = refl; dumps_are = refl; sized = λ i x e. absurd cc }
+paired [] (d ∷ ds) h = absurd h
+paired (e ∷ es) [] h = absurd h
+paired (e ∷ es) (d ∷ ds) h =
+    let p = paired es ds h.1 in
+    record { all = (e, d) ∷ p.all; ends_are = ap (λ t. e ∷ t) p.ends_are; dumps_are = ap (λ t. d ∷ t) p.dumps_are; sized = each_more IsSized (e, d) p.all h.0 p.sized }
+
+have_bytes : (all : List Ended) → Each IsSized all → HaveBytes (map (λ e. e.0) all) (map (λ e. e.1) all)
+have_bytes [] h = tt
+have_bytes (ended ∷ all) h = (h 0 ended refl, have_bytes all (λ i x at. h (suc i) x at))
+
+abbrev pub report_of : Heading → List Column → List End → List Race → Report
+report_of h columns ends races = record {
+  version = h.version;
+  top = h.top;
+  until = h.until;
+  depart = h.depart;
+  steps = h.steps;
+  grain = h.grain;
+  outcome = h.outcome;
+  variables = columns;
+  ends = ends;
+  races = races;
+}
+
+-- what was read is a report
+pub is_report : (h : Heading) (columns : List Column) (all : List Ended) (races : List Race) (text mid : List ℕ) → IsHeadTaken text h columns mid → IsBodyTaken columns mid all races [] →
+    IsReport (report_of h columns (map (λ e. e.0) all) races) (map (λ e. e.1) all) × (text ≡ report_text (report_of h columns (map (λ e. e.0) all) races) (map (λ e. e.1) all))
+is_report h columns all races text mid head body = (
+  record {
+    head = record { top = head.heading.top; until = head.heading.until; depart = head.heading.depart; some_steps = head.heading.some_steps; few_steps = head.heading.few_steps; grain = head.heading.grain };
+    columns = head.listed.0;
+    names = head.listed.1;
+    ends = λ i x at. (let w = whole_at (λ e. e.0) all i x at in subst (IsEnd columns) w.2 (body.ends.0 i w.0 w.1).0);
+    ends_order = λ i j x y lt at there.
+        let v = whole_at (λ e. e.0) all i x at in
+        let w = whole_at (λ e. e.0) all j y there in
+        let b : IsEndBefore v.0.0 w.0.0 = body.ends.1 i j v.0 w.0 lt v.1 w.1 in
+        subst (λ k. IsEndBefore k y) v.2 (subst (λ k. IsEndBefore v.0.0 k) w.2 b);
+    bytes = have_bytes all (λ i x at. (body.ends.0 i x at).1);
+    races = λ i x at. (body.listed.0 i x at).0;
+    races_order = body.listed.1;
+  },
+  head.whole
+      ∙ ap (λ m. heading_before h (labelled (codes "vars ") (decimal (length columns)) (column_lines columns ++ m)))
+      (body.whole ∙ (λ i. labelled (codes "ends ") (decimal (sym (length-map all (λ e. e.0)) i)) (sym (ends_spelled all) i ++ labelled (codes "races ") (decimal (length races)) (append-nil (races_text columns races) i))))
+      ∙ sym (report_spelled (report_of h columns (map (λ e. e.0) all) races) (map (λ e. e.1) all)),
+)
+
+-- a report as it is read from its text
+pub record IsReadFrom (text : List ℕ) (r : Report) (dumps : List (List ℕ)) : Type 0 where
+  pub all : List Ended
+  pub ends_are : r.ends ≡ map (λ e. e.0) all
+  pub dumps_are : dumps ≡ map (λ e. e.1) all
+  pub head : IsHeadTaken text (heading_of r) r.variables (body_before r dumps)
+  pub body : IsBodyTaken r.variables (body_before r dumps) all r.races []
+
+race_some : (columns : List Column) (race : Race) → length race.values ≤ length (race_text columns race)
+race_some columns race =
+    let front : List ℕ = line (codes "race " ++ spaced (decimal race.time) (spaced (name_at (slice_get columns race.variable)) (decimal (length race.values)))) in
+    let a = right_le front (value_lines race.values) in
+    let b = items_le shown_line race.values (λ shown. line_some (spaced shown.0 (log_text shown.1))) in
+    let c : length (flat_map shown_line race.values) ≡ length (value_lines race.values) = ap length (values_spelled race.values) in
+    omega (arith, a, b, c)
+
+race_one : (columns : List Column) (race : Race) → 1 ≤ length (race_text columns race)
+race_one columns race =
+    let front : List ℕ = codes "race " ++ spaced (decimal race.time) (spaced (name_at (slice_get columns race.variable)) (decimal (length race.values))) in
+    let a = left_le (line front) (value_lines race.values) in
+    let b = line_some front in
+    omega (arith, a, b)
+
+ended_one : (ended : Ended) → 1 ≤ length (ended_text ended)
+ended_one ended =
+    let front : List ℕ = line (codes "end " ++ spaced (decimal ended.0.time) (spaced (cause_word ended.0.cause) (spaced (log_text ended.0.log) (decimal ended.0.bytes)))) in
+    let a = left_le (end_text ended.0) ended.1 in
+    let b = right_le front (line ended.0.line) in
+    let c = line_some ended.0.line in
+    omega (arith, a, b, c)
+
+-- how long what is told of a report is, beside its text
+record HasSizes (n : ℕ) (r : Report) (all : List Ended) : Type 0 where
+  columns : length r.variables ≤ n
+  ends : length all ≤ n
+  races : length r.races ≤ n
+  dumps : (i : ℕ) (x : Ended) → slice_get all i ≡ Some x → length x.1 ≤ n
+  values : (i : ℕ) (x : Race) → slice_get r.races i ≡ Some x → length x.values ≤ n
+
+sizes : (text : List ℕ) (r : Report) (dumps : List (List ℕ)) (all : List Ended) → text ≡ report_text r dumps → ends_text r.ends dumps ≡ flat_map ended_text all → HasSizes (length text) r all
+sizes text r dumps all e f =
+    let whole : length text ≡ length (heading_before (heading_of r) (labelled (codes "vars ") (decimal (length r.variables)) (column_lines r.variables ++ body_before r dumps))) = ap length (e ∙ report_spelled r dumps) in
+    let tail : List ℕ = labelled (codes "races ") (decimal (length r.races)) (races_text r.variables r.races) in
+    let a = heading_le (heading_of r) (labelled (codes "vars ") (decimal (length r.variables)) (column_lines r.variables ++ body_before r dumps)) in
+    let b = labelled_le (codes "vars ") (decimal (length r.variables)) (column_lines r.variables ++ body_before r dumps) in
+    let c = left_le (column_lines r.variables) (body_before r dumps) in
+    let d = right_le (column_lines r.variables) (body_before r dumps) in
+    let g = labelled_le (codes "ends ") (decimal (length r.ends)) (ends_text r.ends dumps ++ tail) in
+    let h = left_le (ends_text r.ends dumps) tail in
+    let k = right_le (ends_text r.ends dumps) tail in
+    let l = labelled_le (codes "races ") (decimal (length r.races)) (races_text r.variables r.races) in
+    let columns_len : length (column_lines r.variables) ≤ length text = omega (arith, whole, a, b, c) in
+    let body_len : length (body_before r dumps) ≤ length text = omega (arith, whole, a, b, d) in
+    let ends_len : length (flat_map ended_text all) ≤ length text = subst (λ t. length t ≤ length text) f (omega (arith, body_len, g, h)) in
+    let races_len : length (flat_map (race_text r.variables) r.races) ≤ length text = subst (λ t. length t ≤ length text) (sym (races_spelled r.variables r.races)) (omega (arith, body_len, g, k, l)) in
+    record {
+      columns =
+          let s = items_le column_line r.variables (λ column. line_some (spaced column.name (decimal column.width))) in
+          let t : length (flat_map column_line r.variables) ≡ length (column_lines r.variables) = ap length (columns_spelled r.variables) in
+          omega (arith, s, t, columns_len);
+      ends = (let s = items_le ended_text all ended_one in omega (arith, s, ends_len));
+      races = (let s = items_le (race_text r.variables) r.races (race_one r.variables) in omega (arith, s, races_len));
+      dumps = λ i x at. (let s = item_le ended_text all i x at in let t = right_le (end_text x.0) x.1 in omega (arith, s, t, ends_len));
+      values = λ i x at. (let s = item_le (race_text r.variables) r.races i x at in let t = race_some r.variables x in omega (arith, s, t, races_len));
+    }
+
+-- each report's text is read so
+pub read_from : (text : List ℕ) (r : Report) (dumps : List (List ℕ)) → length text < 2 ^ 64 → IsReport r dumps → text ≡ report_text r dumps → IsReadFrom text r dumps
+read_from text r dumps small is e =
+    let p = paired r.ends dumps is.bytes in
+    let same : ends_text r.ends dumps ≡ flat_map ended_text p.all = (λ i. ends_text (p.ends_are i) (p.dumps_are i)) ∙ ends_spelled p.all in
+    let s = sizes text r dumps p.all e same in
+    let count : length r.ends ≡ length p.all = ap length p.ends_are ∙ length-map p.all (λ x. x.0) in
+    record {
+      all = p.all;
+      ends_are = p.ends_are;
+      dumps_are = p.dumps_are;
+      head = record {
+        heading = record { top = is.head.top; until = is.head.until; depart = is.head.depart; some_steps = is.head.some_steps; few_steps = is.head.few_steps; grain = is.head.grain };
+        listed = (is.columns, is.names);
+        few = omega (arith, small, s.columns);
+        whole = e ∙ report_spelled r dumps;
+      };
+      body = record {
+        ends = (
+          λ i x at.
+              let end_at : slice_get r.ends i ≡ Some x.0 = ap (λ es. slice_get es i) p.ends_are ∙ part_at (λ k. k.0) p.all i x at in
+              let sized : x.0.bytes ≡ length x.1 = p.sized i x at in
+              let short : length x.1 ≤ length text = s.dumps i x at in
+              let bound : x.0.bytes < 2 ^ 64 = omega (arith, sized, short, small) in
+              (is.ends i x.0 end_at, sized, bound),
+          λ i j x y lt at there.
+              is.ends_order i j x.0 y.0 lt (ap (λ es. slice_get es i) p.ends_are ∙ part_at (λ k. k.0) p.all i x at) (ap (λ es. slice_get es j) p.ends_are ∙ part_at (λ k. k.0) p.all j y there),
+        );
+        few_ends = omega (arith, small, s.ends);
+        listed = (λ i x at. (is.races i x at, (let short : length x.values ≤ length text = s.values i x at in omega (arith, short, small))), is.races_order);
+        few_races = omega (arith, small, s.races);
+        whole = λ i. labelled (codes "ends ") (decimal (count i)) (same i ++ labelled (codes "races ") (decimal (length r.races)) (sym (append-nil (races_text r.variables r.races)) i));
+      };
+    }
+
+-- what was read is the report whose text it is
+pub same_report : (text : List ℕ) (r : Report) (dumps : List (List ℕ)) (f : IsReadFrom text r dumps) (h : Heading) (columns : List Column) (ends : List End) (told : List (List ℕ)) (races : List Race) →
+    h ≡ heading_of r → columns ≡ r.variables → ends ≡ map (λ e. e.0) f.all → told ≡ map (λ e. e.1) f.all → races ≡ r.races → (report_of h columns ends races ≡ r) × (told ≡ dumps)
+same_report text r dumps f h columns ends told races eh ec ee et er = ((λ i. report_of (eh i) (ec i) ((ee ∙ sym f.ends_are) i) (er i)), et ∙ sym f.dumps_are)

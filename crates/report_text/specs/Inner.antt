@@ -1,0 +1,9 @@
+pub mod Fronts
+pub mod Places
+pub mod Headings
+pub mod Lists
+pub mod Names
+pub mod Columns
+pub mod Ends
+pub mod Races
+pub mod Wholes

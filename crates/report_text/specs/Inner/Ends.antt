@@ -1,0 +1,70 @@
+-- Ends, as they are read.
+use Rattle.std.specs.Prelude.{◌≡◌, ℕ, ◌<◌, ◌-◌, ◌^◌, true, List, [], ◌∷◌, ◌++◌, length, slice_get, Some, codes, decimal, map, flat_map}
+use Rattle.vmodel.specs.declared.history.Cause.{Cause}
+use Rattle.report_text.specs.Inner.Fronts.{lacks}
+use Rattle.report_text.specs.Inner.Lists.{Listed}
+use Rattle.report_text.specs.Report.{Column, End}
+use Rattle.report_text.specs.WellFormed.{IsValue, IsEnd, IsEndBefore}
+use Rattle.report_text.specs.ReportText.{cause_word, end_text}
+
+-- the text is a value of this width, and then the rest
+abbrev pub IsAfterValue : ℕ → List ℕ → List ℕ → Type 0
+IsAfterValue width text rest = (value : List ℕ) × IsValue width value × (text ≡ value ++ rest)
+
+-- the text is a space and a value of this width, and then the rest
+abbrev pub IsAfterSpace : ℕ → List ℕ → List ℕ → Type 0
+IsAfterSpace width text rest = (front : List ℕ) × (text ≡ 32 ∷ front) × IsAfterValue width front rest
+
+-- values of these variables, a space before each
+abbrev pub IsMore : List Column → List ℕ → Type 0
+IsMore [] text = text ≡ []
+IsMore (column ∷ columns) text = (rest : List ℕ) × IsAfterSpace column.width text rest × IsMore columns rest
+
+-- an end and its dump
+abbrev pub Ended : Type 0
+Ended = End × List ℕ
+
+abbrev pub ended_text : Ended → List ℕ
+ended_text ended = end_text ended.0 ++ ended.1
+
+abbrev pub IsEnded : List Column → Ended → Type 0
+IsEnded columns ended = IsEnd columns ended.0 × (ended.0.bytes ≡ length ended.1) × (ended.0.bytes < 2 ^ 64)
+
+abbrev pub IsEndedBefore : Ended → Ended → Type 0
+IsEndedBefore a b = IsEndBefore a.0 b.0
+
+-- the end stands behind the last of these
+abbrev pub FollowsLast : List End → End → Type 0
+FollowsLast ends end = (before : End) → slice_get ends (length ends - 1) ≡ Some before → IsEndBefore before end
+
+-- the words of an end, and its dump
+pub record EndSpelling : Type 0 where
+  pub time : ℕ
+  pub cause : Cause
+  pub log : List ℕ
+  pub bytes : ℕ
+  pub line : List ℕ
+  pub dump : List ℕ
+
+-- numbers are of 64 bits, words end at the first space or line feed
+pub record IsSpelling (w : EndSpelling) : Type 0 where
+  pub time : w.time < 2 ^ 64
+  pub log : lacks 32 w.log ≡ true
+  pub small : w.bytes < 2 ^ 64
+  pub line : lacks 10 w.line ≡ true
+  pub bytes : w.bytes ≡ length w.dump
+
+-- these words and the dump, before the rest
+abbrev pub spelled_before : EndSpelling → List ℕ → List ℕ
+spelled_before w rest =
+    codes "end " ++ (decimal w.time ++ 32 ∷ (cause_word w.cause ++ 32 ∷ (w.log ++ 32 ∷ (decimal w.bytes ++ 10 ∷ (w.line ++ 10 ∷ (w.dump ++ rest))))))
+
+-- the text is an end of these variables with its dump, and then the rest
+abbrev pub IsEndedTaken : List Column → List ℕ → Ended → List ℕ → Type 0
+IsEndedTaken columns text ended rest = IsEnded columns ended × (text ≡ ended_text ended ++ rest)
+
+-- the text is these ends, each with its dump, so many and in their order, and then the rest
+abbrev pub AreTaken : List Column → ℕ → List ℕ → List End → List (List ℕ) → List ℕ → Type 0
+AreTaken columns count text ends dumps rest =
+    (all : List Ended) × Listed (IsEnded columns) IsEndedBefore all × (length all ≡ count) × (ends ≡ map (λ e. e.0) all) × (dumps ≡ map (λ e. e.1) all)
+    × (text ≡ flat_map ended_text all ++ rest)

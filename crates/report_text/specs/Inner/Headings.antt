@@ -1,0 +1,64 @@
+-- The lines of a head before its variables.
+use Rattle.std.specs.Prelude.{◌≡◌, ℕ, ◌<◌, ◌≤◌, ◌^◌, true, List, ◌∷◌, ◌++◌, codes, decimal}
+use Rattle.vmodel.specs.declared.history.Grain.{Grain}
+use Rattle.vmodel.specs.declared.history.Grain.TheVariants.{Process}
+use Rattle.report_text.specs.declared.report.Version.{Version}
+use Rattle.report_text.specs.declared.report.Version.TheVariants.{One, Two}
+use Rattle.report_text.specs.declared.report.Outcome.{Outcome}
+use Rattle.report_text.specs.ReportText.{version_number, grain_word, outcome_words}
+use Rattle.report_text.specs.WellFormed.{has_letters_of_name}
+use Rattle.report_text.specs.Inner.Fronts.{lacks}
+
+-- the text is a line of this label and a value, and then the rest
+abbrev pub IsLabelLine : List ℕ → List ℕ → List ℕ → List ℕ → Type 0
+IsLabelLine label text value rest = (lacks 10 value ≡ true) × (text ≡ label ++ (value ++ 10 ∷ rest))
+
+-- the same with a number of 64 bits from low to high
+pub record IsNumberLine (label : List ℕ) (low high : ℕ) (text : List ℕ) (n : ℕ) (rest : List ℕ) : Type 0 where
+  pub small : n < 2 ^ 64
+  pub above : low ≤ n
+  pub below : n ≤ high
+  pub whole : text ≡ label ++ (decimal n ++ 10 ∷ rest)
+
+-- what the head tells before its variables
+pub record Heading : Type 0 where
+  pub version : Version
+  pub top : List ℕ
+  pub until : ℕ
+  pub depart : ℕ
+  pub steps : ℕ
+  pub grain : Grain
+  pub outcome : Outcome
+
+-- a label and a value, before the rest
+abbrev pub labelled : List ℕ → List ℕ → List ℕ → List ℕ
+labelled label value rest = label ++ (value ++ 10 ∷ rest)
+
+abbrev pub grain_before : Version → Grain → List ℕ → List ℕ
+grain_before One grain rest = rest
+grain_before Two grain rest = labelled (codes "grain ") (grain_word grain) rest
+
+-- these lines, before the rest
+abbrev pub heading_before : Heading → List ℕ → List ℕ
+heading_before h rest =
+    labelled (codes "vrace report ") (decimal (version_number h.version))
+    (labelled (codes "top ") h.top
+    (labelled (codes "until ") (decimal h.until)
+    (labelled (codes "depart ") (decimal h.depart)
+    (labelled (codes "steps ") (decimal h.steps)
+    (grain_before h.version h.grain
+    (labelled (codes "state ") (outcome_words h.outcome) rest))))))
+
+pub record IsHeading (h : Heading) : Type 0 where
+  pub top : has_letters_of_name h.top ≡ true
+  pub until : h.until ≤ 4611686018427387903
+  pub depart : h.depart ≤ 4
+  pub some_steps : 1 ≤ h.steps
+  pub few_steps : h.steps ≤ 1000000
+  pub grain : h.version ≡ One → h.grain ≡ Process
+
+abbrev pub IsVersionLine : List ℕ → Version → List ℕ → Type 0
+IsVersionLine text version rest = text ≡ labelled (codes "vrace report ") (decimal (version_number version)) rest
+
+abbrev pub IsOutcomeLine : List ℕ → Outcome → List ℕ → Type 0
+IsOutcomeLine text outcome rest = text ≡ labelled (codes "state ") (outcome_words outcome) rest

@@ -1,0 +1,7 @@
+-- Lists whose things meet a fact one by one and two by two.
+use Rattle.std.specs.Prelude.{List}
+use Rattle.report_text.specs.WellFormed.{Each, EachTwo}
+
+-- the first fact holds of each thing, the second of each two, the earlier one first
+abbrev pub Listed : {A : Type 0} → (A → Type 0) → (A → A → Type 0) → List A → Type 0
+Listed P Q xs = Each P xs × EachTwo Q xs

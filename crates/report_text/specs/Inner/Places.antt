@@ -1,0 +1,27 @@
+-- Where a reader stands in a text.
+use Rattle.std.specs.Prelude.{◌≡◌, ℕ, ◌<◌, ◌^◌, Bool, true, List, ◌∷◌, ◌++◌, decimal}
+
+-- what is left to be read, and whether all that was asked for stood in front of it
+pub record Place : Type 0 where
+  pub ok : Bool
+  pub rest : List ℕ
+
+-- if the reader isn't lost here, then it wasn't there, and the fact holds of what was left there and what is left here
+abbrev pub Took : Place → Place → (List ℕ → List ℕ → Type 0) → Type 0
+Took old new P = new.ok ≡ true → (old.ok ≡ true) × P old.rest new.rest
+
+-- the reader isn't lost, and this is left
+abbrev pub Stands : Place → List ℕ → Type 0
+Stands place rest = (place.ok ≡ true) × (place.rest ≡ rest)
+
+-- this stood there, in this way
+abbrev pub HasTaken : {A : Type 0} → Place → Place → (List ℕ → A → List ℕ → Type 0) → A → Type 0
+HasTaken old new Stood x = Took old new (λ text rest. Stood text x rest)
+
+-- where the reader wasn't lost, whatever stood there in this way is what was taken
+abbrev pub TakesEach : {A : Type 0} → Place → Place → (List ℕ → A → List ℕ → Type 0) → A → Type 0
+TakesEach {A} old new Stood x = (y : A) (rest : List ℕ) → old.ok ≡ true → Stood old.rest y rest → (x ≡ y) × Stands new rest
+
+-- the decimal of a number of 64 bits, then the byte
+abbrev pub IsNumberFront : ℕ → List ℕ → ℕ → List ℕ → Type 0
+IsNumberFront byte text n rest = (n < 2 ^ 64) × (text ≡ decimal n ++ byte ∷ rest)

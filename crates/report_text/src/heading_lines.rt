@@ -1,0 +1,157 @@
+// The lines of a report's head before its variables, read.
+
+ghost use Rattle.std.specs.Prelude.{◌≡◌, ℕ, ◌≤◌, List, true, IsTrue, ◌↔◌, codes, decimal};
+ghost use Rattle.report_text.specs.Inner.Headings.{IsHeading, IsLabelLine, IsNumberLine, grain_before, heading_before, labelled};
+ghost use Rattle.report_text.specs.Inner.Headings as headings;
+ghost use Rattle.report_text.specs.Inner.Places.{HasTaken, Stands, TakesEach, Took};
+ghost use Rattle.report_text.specs.ReportText as spelled;
+ghost use Rattle.report_text.specs.WellFormed.{has_letters_of_name};
+ghost use Rattle.report_text.specs.declared.report.Version as versions;
+ghost use Rattle.report_text.specs.declared.report.Version.TheVariants.{One};
+ghost use Rattle.report_text.specs.declared.report.Outcome as outcomes;
+ghost use Rattle.vmodel.specs.declared.history.Grain as grains;
+ghost use Rattle.vmodel.specs.declared.history.Grain.TheVariants.{Process};
+
+use crate::letters::is_name;
+use crate::reader::Reader;
+use crate::report::{Outcome, Version};
+use crate::words::{grain_of, outcome_of};
+use std::marker::Model;
+use vmodel::history::Grain;
+
+/// The last time limit.
+const LAST_UNTIL: u64 = 4_611_686_018_427_387_903;
+
+/// The most departures.
+const MOST_DEPARTURES: u64 = 4;
+
+/// The most steps.
+const MOST_STEPS: u64 = 1_000_000;
+
+/// What the head of a report tells before its variables.
+#[derive(Drop)]
+pub struct Heading<'a> {
+    pub version: Version,
+    pub top: &'a [u8],
+    pub until: u64,
+    pub depart: u64,
+    pub steps: u64,
+    pub grain: Grain,
+    pub outcome: Outcome,
+}
+
+impl<'a> Model for Heading<'a> {
+    ghost use Rattle.report_text.specs.Inner.Headings as headings;
+
+    ghost Value = { headings.Heading };
+
+    ghost view = { λ h. record {
+      version = h.version;
+      top = h.top.now;
+      until = h.until;
+      depart = h.depart;
+      steps = h.steps;
+      grain = h.grain;
+      outcome = h.outcome;
+    } };
+}
+
+// Whether the number is from low to high.
+fn is_within(n: u64, low: u64, high: u64) -> bool
+    ensures { IsTrue result ↔ ((low ≤ n) × (n ≤ high)) }
+{
+    low <= n && n <= high
+}
+
+// Takes a line of this label and a value.
+fn label_line<'a>(reader: &mut Reader<'a>, label: &[u8]) -> &'a [u8]
+    ensures read { Took reader.old reader.new (λ text rest. IsLabelLine label.now text result.now rest) }
+    ensures each { (value rest : List ℕ) → reader.old.ok ≡ true → IsLabelLine label.now reader.old.rest value rest → (result.now ≡ value) × Stands reader.new rest }
+{
+    reader.prefix(label);
+    reader.word(b'\n')
+}
+
+/// Takes a line of this label and a number from low to high.
+pub fn number_line<'a>(reader: &mut Reader<'a>, label: &[u8], low: u64, high: u64) -> u64
+    ensures read { HasTaken reader.old reader.new (IsNumberLine label.now low high) result }
+    ensures each { TakesEach reader.old reader.new (IsNumberLine label.now low high) result }
+{
+    reader.prefix(label);
+    let n = reader.number(b'\n');
+    reader.require(is_within(n, low, high));
+    n
+}
+
+// Takes the line of the version.
+fn version_line(reader: &mut Reader) -> Version
+    ensures read { HasTaken reader.old reader.new headings.IsVersionLine result }
+    ensures each { TakesEach reader.old reader.new headings.IsVersionLine result }
+{
+    let n = number_line(reader, b"vrace report ", 1, 2);
+    if n == 1 { Version::One } else { Version::Two }
+}
+
+// Takes the line of the top.
+fn top_line<'a>(reader: &mut Reader<'a>) -> &'a [u8]
+    ensures read { Took reader.old reader.new (λ text rest. (has_letters_of_name result.now ≡ true) × (text ≡ labelled (codes "top ") result.now rest)) }
+    ensures each { (top rest : List ℕ) → reader.old.ok ≡ true → has_letters_of_name top ≡ true → reader.old.rest ≡ labelled (codes "top ") top rest → (result.now ≡ top) × Stands reader.new rest }
+{
+    let top = label_line(reader, b"top ");
+    reader.require(is_name(top));
+    top
+}
+
+// Takes the line of the grain, where this version has one; else the grain is process.
+fn grain_line(reader: &mut Reader, version: Version) -> Grain
+    ensures read { Took reader.old reader.new (λ text rest. (version ≡ One → result ≡ Process) × (text ≡ grain_before version result rest)) }
+    ensures each { (grain : grains.Grain) (rest : List ℕ) → reader.old.ok ≡ true → (version ≡ One → grain ≡ Process) → reader.old.rest ≡ grain_before version grain rest → (result ≡ grain) × Stands reader.new rest }
+{
+    match version {
+        Version::One => Grain::Process,
+        Version::Two => match grain_of(label_line(reader, b"grain ")) {
+            Some(grain) => grain,
+            None => {
+                reader.require(false);
+                Grain::Process
+            }
+        },
+    }
+}
+
+// Takes the line of the outcome.
+fn outcome_line(reader: &mut Reader) -> Outcome
+    ensures read { HasTaken reader.old reader.new headings.IsOutcomeLine result }
+    ensures each { TakesEach reader.old reader.new headings.IsOutcomeLine result }
+{
+    match outcome_of(label_line(reader, b"state ")) {
+        Some(outcome) => outcome,
+        None => {
+            reader.require(false);
+            Outcome::Exhausted
+        }
+    }
+}
+
+/// Takes the lines of the head before its variables.
+pub fn read_heading<'a>(reader: &mut Reader<'a>) -> Heading<'a>
+    ensures read { Took reader.old reader.new (λ text rest. IsHeading result × (text ≡ heading_before result rest)) }
+    ensures each { (h : headings.Heading) (rest : List ℕ) → reader.old.ok ≡ true → IsHeading h → reader.old.rest ≡ heading_before h rest → (result ≡ h) × Stands reader.new rest }
+{
+    let version = version_line(reader);
+    let top = top_line(reader);
+    let until = number_line(reader, b"until ", 0, LAST_UNTIL);
+    let depart = number_line(reader, b"depart ", 0, MOST_DEPARTURES);
+    let steps = number_line(reader, b"steps ", 1, MOST_STEPS);
+    let grain = grain_line(reader, version);
+    let outcome = outcome_line(reader);
+    Heading {
+        version,
+        top,
+        until,
+        depart,
+        steps,
+        grain,
+        outcome,
+    }
+}

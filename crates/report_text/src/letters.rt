@@ -1,0 +1,94 @@
+// Tests of the bytes of a word: names, names joined by dots, values.
+
+ghost use Rattle.std.specs.Prelude.{◌≡◌, ◌↔◌, IsTrue};
+ghost use Rattle.std.specs.List.{list_all};
+ghost use Rattle.vast.specs.Words as words;
+ghost use Rattle.report_text.specs.Inner.Fronts.{goes_on};
+ghost use Rattle.report_text.specs.WellFormed as well_formed;
+
+// 3.7: a letter or `_`
+fn begins_name(byte: u8) -> bool
+    ensures { result ≡ words.begins_name byte }
+{
+    byte.is_ascii_alphabetic() || byte == b'_'
+}
+
+// 3.7: a letter, `_`, a digit or `$`
+fn is_in_name(byte: u8) -> bool
+    ensures { result ≡ words.is_in_name byte }
+{
+    begins_name(byte) || byte.is_ascii_digit() || byte == b'$'
+}
+
+// Whether each byte is one of a name.
+fn are_in_name(bytes: &[u8]) -> bool
+    ensures { result ≡ list_all words.is_in_name bytes.now }
+{
+    for byte in bytes {
+        if !is_in_name(*byte) {
+            return false;
+        }
+    }
+    true
+}
+
+/// Whether the word is a name by its letters; a reserved word counts as well.
+pub fn is_name(word: &[u8]) -> bool
+    ensures { result ≡ well_formed.has_letters_of_name word.now }
+{
+    match word.split_first() {
+        Some((first, rest)) => begins_name(*first) && are_in_name(rest),
+        None => false,
+    }
+}
+
+// Whether a name, or names joined by dots, may go on with this byte.
+fn may_follow(begun: bool, byte: u8) -> bool
+    ensures { result ≡ goes_on begun byte }
+{
+    if begun {
+        is_in_name(byte) || byte == b'.'
+    } else {
+        begins_name(byte)
+    }
+}
+
+/// Whether the word is names joined by dots.
+pub fn is_path(word: &[u8]) -> bool
+    ensures { result ≡ well_formed.is_path word.now }
+{
+    let mut begun = false;
+    for byte in word {
+        if !may_follow(begun, *byte) {
+            return false;
+        }
+        begun = *byte != b'.';
+    }
+    begun
+}
+
+// 0, 1, x or z
+fn is_digit(byte: u8) -> bool
+    ensures { result ≡ well_formed.is_digit byte }
+{
+    byte == b'0' || byte == b'1' || byte == b'x' || byte == b'z'
+}
+
+// Whether each byte is a digit of a value.
+fn are_digits(bytes: &[u8]) -> bool
+    ensures { result ≡ list_all well_formed.is_digit bytes.now }
+{
+    for byte in bytes {
+        if !is_digit(*byte) {
+            return false;
+        }
+    }
+    true
+}
+
+/// Whether the word is a value of this width.
+pub fn is_value(width: u32, word: &[u8]) -> bool
+    ensures { IsTrue result ↔ well_formed.IsValue width word.now }
+{
+    word.len() == width as usize && are_digits(word)
+}
