@@ -81,7 +81,7 @@ shaped-written variables [] values h suit = h
 shaped-written variables (Whole number value ∷ parts) values h suit =
     shaped-written variables parts (slice_set values number value) (shaped-set variables values number value h suit.0) suit.1
 
--- 5.4.1, 6.1: the right side is cut to the target's length and marked with the target's sign
+-- 5.4.1, 6.2: the right side is cut or extended to the length of the target, and marked with the target's sign
 resized : (v : Vector) (count : ℕ) → length (resize v count).letters ≡ count
 unfolding resize
 resized v count =
