@@ -5,3 +5,4 @@ pub mod Derives
 pub mod Spellings
 pub mod Inner
 pub mod Design
+pub mod Names

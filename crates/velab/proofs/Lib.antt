@@ -6,3 +6,4 @@ pub mod FaultLemmas
 pub mod StatementLemmas
 pub mod TopLemmas
 mod ProcessLemmas
+mod NamedLemmas

@@ -1,7 +1,7 @@
 -- What a statement lays on the table, statement by statement of a block.
 use Rattle.std.proofs.Common.{◌≡◌, ◌<◌, ◌≤◌, ℕ, ◌+◌, Bool, true, ◌&&◌, List, [], ◌∷◌, ◌++◌, length, drop, get_or, Vec, Global, Result, Ok, Err, OnOk, sym, ap, subst, ◌∙◌, append_assoc, append-nil}
 use Rattle.std.proofs.Math.ListN.{drop_of_length-le}
-use Rattle.vast.specs.Syntax.{StatementTree, StatementTrees, block, first, none}
+use Rattle.vast.specs.Syntax.{StatementTrees, block, first, none}
 use Rattle.vast.specs.Trees.{statement_tree, statement_trees}
 use Rattle.vast.specs.declared.syntax.Stmt.{Stmt, Block}
 use Rattle.vast.proofs.TreeLemmas.{tree_of_block}

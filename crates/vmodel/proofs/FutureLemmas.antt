@@ -1,5 +1,5 @@
 -- The future in order of time: one more process to wake.
-use Rattle.std.proofs.Common.{◌≡◌, ℕ, zero, suc, ◌<◌, ◌≤◌, List, [], ◌∷◌, insert, get_or, Option, refl, sym, ap, subst, ◌∙◌, arith}
+use Rattle.std.proofs.Common.{◌≡◌, ℕ, suc, ◌<◌, ◌≤◌, List, [], ◌∷◌, insert, get_or, Option, refl, sym, ap, subst, ◌∙◌, arith}
 use Rattle.std.specs.Prelude.{slice_get, slice_set}
 use Rattle.vmodel.specs.Queue.{Slot, waking, empty_slot, wake_at}
 use Rattle.vmodel.specs.Inner.{place_of_time, SomeIs, NoneIs}

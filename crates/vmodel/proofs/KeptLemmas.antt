@@ -15,7 +15,7 @@ use Rattle.vmodel.specs.declared.choice.Choice.TheVariants.{Run, Update, Advance
 use Rattle.vmodel.specs.Queue.{Slot, Queue, without_process}
 use Rattle.vmodel.specs.State.{State}
 use Rattle.vmodel.specs.Choices.{in_order, first_update, or_advance, active_choices, offered, queue_choices, choices}
-use Rattle.vmodel.specs.Step.{Did, does, going, closed_by, closed, acted, process_by, turned, takes, goes_from, left_of, process_turn, without_update, updated, advanced_to, turn_of, turn_by, next}
+use Rattle.vmodel.specs.Step.{Did, does, going, closed_by, closed, acted, process_by, turned, takes, goes_from, without_update, updated, advanced_to, turn_of, turn_by, next}
 use Rattle.vmodel.specs.Run.{Setting, busy_from, opening_process, opening_of, state_after}
 use Rattle.vmodel.specs.Played.{opening_is, after_is}
 use Rattle.vmodel.specs.Kept.{RisesFrom, IsInOrder, count_in, asleep, most_places, IsInPlace, IsIdle, IsKept}

@@ -6,5 +6,6 @@ mod PlaceLemmas
 mod MovedLemmas
 mod KeptLemmas
 mod ValuesLemmas
+mod ShapeLemmas
 mod TimesLemmas
 mod EndsLemmas

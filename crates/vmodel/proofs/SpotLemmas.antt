@@ -1,5 +1,5 @@
 -- Lists of spots are the same where they are read backwards.
-use Rattle.std.proofs.Common.{◌≡◌, List, reverse, refl, sym, ap, ◌∙◌, Decides}
+use Rattle.std.proofs.Common.{◌≡◌, List, reverse, sym, ap, ◌∙◌}
 use Rattle.std.specs.Cmp.Lexicographic.{pointwise}
 use Rattle.std.proofs.lemmas.List.{reverse-reverse}
 use Rattle.std.proofs.lemmas.Bool.Decides.{Decides-like, same_from_decides}

@@ -19,7 +19,7 @@ use Rattle.vmodel.specs.declared.choice.Choice.TheVariants.{Run, Update, Advance
 use Rattle.vmodel.specs.State.{State}
 use Rattle.vmodel.specs.Choices.{choices}
 use Rattle.vmodel.specs.Parts.{written}
-use Rattle.vmodel.specs.Step.{Turn, does, closed_by, closed, acted, takes, goes_from, left_of, process_turn, first_of, updated, advanced_to, turn_of, turn_by, next, command_items, idle_items, slot_end_by, slot_end_of, items_of}
+use Rattle.vmodel.specs.Step.{Turn, does, closed_by, closed, acted, takes, goes_from, left_of, first_of, updated, advanced_to, turn_of, turn_by, next, command_items, idle_items, slot_end_by, slot_end_of, items_of}
 use Rattle.vmodel.specs.Run.{Setting, opening_value, opening_of, state_after, given_by}
 use Rattle.vmodel.specs.Played.{opening_is, after_is}
 use Rattle.vmodel.specs.Kept.{HasValues}

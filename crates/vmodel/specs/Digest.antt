@@ -1,6 +1,6 @@
 -- What the hash of a state is fed: one number made of its time, its values and where its processes stand. Equal states
 -- have the same one; no more is asked of it.
-use Rattle.std.specs.Prelude.{◌≡◌, ℕ, suc, ◌+◌, ◌*◌, ◌%◌, ◌^◌, true, List, [], ◌∷◌, Option, Some, None, slice_get}
+use Rattle.std.specs.Prelude.{◌≡◌, ℕ, ◌+◌, ◌*◌, ◌%◌, ◌^◌, true, List, [], ◌∷◌, Option, Some, None, slice_get}
 use Rattle.std.specs.Hash as fed
 use Rattle.std.proofs.Common.{ap}
 use Rattle.vbits.specs.Vectors.{Vector}

@@ -1,5 +1,5 @@
 -- What every state of a run keeps, under every log (IEEE 1364-2005, 11.3, 11.4; docs/SCHEDULING.md).
-use Rattle.std.specs.Prelude.{◌≡◌, ℕ, suc, ◌+◌, ◌≤◌, ◌==◌, cond, List, [], ◌∷◌, length, slice_get, Option, Some, None}
+use Rattle.std.specs.Prelude.{◌≡◌, ℕ, suc, ◌+◌, ◌≤◌, ◌==◌, cond, List, [], ◌∷◌, length, slice_get, None}
 use Rattle.std.specs.Option.{ForSome}
 use Rattle.vmodel.specs.declared.process.Spot.{Spot}
 use Rattle.vmodel.specs.Queue.{Slot, Queue}
@@ -7,6 +7,7 @@ use Rattle.vmodel.specs.State.{Process, State}
 use Rattle.vmodel.specs.Step.{left_of}
 use Rattle.vmodel.specs.Run.{Setting, state_after}
 use Rattle.vbits.specs.Vectors.{Vector}
+use Rattle.vast.specs.Design.{Variable}
 use Rattle.vmodel.specs.declared.history.Item.{Item}
 use Rattle.vmodel.specs.declared.history.Item.TheVariants.{SlotEnd, Dump}
 
@@ -69,6 +70,18 @@ slot_times (Dump command ∷ items) = slot_times items
 abbrev pub HasValues : ℕ → Item → Type 0
 HasValues count (SlotEnd time values) = length values ≡ count
 HasValues count (Dump command) = Unit {0}
+
+-- 4.2.2: a value of the variable's length and sign
+abbrev pub HasShape : Variable → Vector → Type 0
+HasShape variable value = (length value.letters ≡ variable.length) × (value.signed ≡ variable.signed)
+
+-- 5.4.1, 6.2: an assignment cuts or extends its right side to its target, at once or when it is taken to be written later;
+-- so each variable's value has the variable's length and sign
+abbrev pub AreShaped : List Variable → List Vector → Type 0
+AreShaped [] [] = Unit {0}
+AreShaped [] (value ∷ values) = ⊥
+AreShaped (variable ∷ variables) [] = ⊥
+AreShaped (variable ∷ variables) (value ∷ values) = HasShape variable value × AreShaped variables values
 
 -- 11.4: the state is a slot end: nothing is active and the run goes on, at this time and with these values
 pub record IsSlotEnd (time : ℕ) (values : List Vector) (s : State) : Type 0 where

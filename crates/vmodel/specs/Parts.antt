@@ -1,5 +1,5 @@
 -- What a step writes (IEEE 1364-2005, clause 6): parts of variables with their new letters, in order.
-use Rattle.std.specs.Prelude.{ℕ, List, [], ◌∷◌, slice_set}
+use Rattle.std.specs.Prelude.{List, [], ◌∷◌, slice_set}
 use Rattle.vbits.specs.Vectors.{Vector}
 use Rattle.vmodel.specs.declared.part.Part.{Part}
 use Rattle.vmodel.specs.declared.part.Part.TheVariants.{Whole}

@@ -2,6 +2,7 @@ use Rattle.std.proofs.Common.{◌≡◌, Option, Some, sym, ap, ◌∙◌}
 use Rattle.vast.specs.Design.{Design}
 use Rattle.vast.specs.Syntax.{SourceTree, Text, ModuleTree}
 use Rattle.velab.specs.Elaborate.{Elaborates, design_of}
+use Rattle.velab.proofs.NamedLemmas.{named_by}
 use Rattle.velab.proofs.law.elaboration_law.Goals as goal
 
 same_top : (m n : ModuleTree) → Some m ≡ Some n → m ≡ n
@@ -12,4 +13,4 @@ one_design tree top design other d e =
     d.describes ∙ ap design_of (same_top d.unit e.unit (sym d.is_top ∙ e.is_top)) ∙ sym e.describes
 
 pub returns : goal.returns
-returns c = record { one = one_design }
+returns c = record { one = one_design; named = named_by }

@@ -1,4 +1,4 @@
-use Rattle.std.proofs.Common.{◌≡◌, true, false, OnOk, ap, subst}
+use Rattle.std.proofs.Common.{◌≡◌, true, false, OnOk, subst}
 use Rattle.basis.specs.Reasons.{IfFault}
 use Rattle.velab.specs.Elaborate.{Laid}
 use Rattle.velab.specs.Inner.{IsLaid, IsBreach, no_breach}

@@ -1,4 +1,4 @@
-use Rattle.std.proofs.Common.{◌≡◌, ◌++◌, map, subst, OnOk}
+use Rattle.std.proofs.Common.{◌≡◌, ◌++◌, subst, OnOk}
 use Rattle.velab.proofs.VariableLemmas.{item_names, item_variables, item_err}
 use Rattle.velab.proofs.variable.declare_item.Goals as goal
 

@@ -3,6 +3,7 @@ use Rattle.vmodel.specs.RulesLaws.{lawful}
 use Rattle.vmodel.proofs.KeptLemmas.{kept}
 use Rattle.vmodel.proofs.TimesLemmas.{times_rise}
 use Rattle.vmodel.proofs.ValuesLemmas.{as_many, as_many_shown}
+use Rattle.vmodel.proofs.ShapeLemmas.{as_shaped}
 use Rattle.vmodel.proofs.EndsLemmas.{shown_end, end_shown}
 use Rattle.vmodel.proofs.law.run_law.Goals as goal
 
@@ -13,6 +14,7 @@ returns c = record {
   kept = kept;
   times = times_rise;
   values = as_many;
+  shapes = as_shaped;
   shown = as_many_shown;
   ended = shown_end;
   ends = end_shown;

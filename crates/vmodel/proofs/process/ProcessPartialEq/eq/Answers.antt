@@ -1,7 +1,6 @@
-use Rattle.std.proofs.Common.{◌≡◌, Bool, ◌&&◌, nat_eq, ap, ◌∙◌}
+use Rattle.std.proofs.Common.{Bool, ◌&&◌, nat_eq, ap, ◌∙◌}
 use Rattle.std.specs.Option.{option_eq}
 use Rattle.vbits.specs.Vectors.{vector_same}
-use Rattle.vmodel.specs.State.{Process}
 use Rattle.vmodel.specs.Same.{process_same}
 use Rattle.vmodel.proofs.SpotLemmas.{same_backwards}
 use Rattle.vmodel.proofs.process.ProcessPartialEq.eq.Goals as goal

@@ -1,9 +1,7 @@
-use Rattle.std.proofs.Common.{◌≡◌, Option, Some, refl, sym, ap, subst, ◌∙◌}
-use Rattle.std.specs.Prelude.{slice_get}
+use Rattle.std.proofs.Common.{Option, Some, refl, sym, ap, subst, ◌∙◌}
 use Rattle.vmodel.specs.declared.choice.Choice.{Choice}
-use Rattle.vmodel.specs.Choices.{IsWithin, choices}
-use Rattle.vmodel.specs.State.{State}
-use Rattle.vmodel.specs.Step.{Turn, turn_by}
+use Rattle.vmodel.specs.Choices.{IsWithin}
+use Rattle.vmodel.specs.Step.{turn_by}
 use Rattle.vmodel.specs.declared.deed.Deed.{Deed}
 use Rattle.vmodel.proofs.state.SlowState.step.Goals as goal
 

@@ -1,0 +1,146 @@
+-- The names of a design are names where those of its text are: the grammar's names, one for each variable.
+use Rattle.std.proofs.Common.{◌≡◌, ◌≢◌, ℕ, zero, suc, ◌<◌, Bool, true, false, ◌&&◌, ◌==◌, not, List, [], ◌∷◌, ◌++◌, map, length, nat_lt, Option, Some, None, refl, sym, ap, subst, ◌∙◌, true≢false, arith}
+use Rattle.std.specs.Prelude.{slice_get, cond}
+use Rattle.std.specs.List.{list_all, list_any, flat_map, find}
+use Rattle.std.specs.Str.{bytes_eq}
+use Rattle.std.proofs.lemmas.List.{map-append}
+use Rattle.std.proofs.lemmas.List.Folds.{list_all-append}
+use Rattle.std.proofs.lemmas.Slice.Eq.{bytes_eq-Decides}
+use Rattle.basis.proofs.Bools.{and_left, and_right, and_both, or_left, or_right, or_first, or_second}
+use Rattle.vast.specs.Words.{begins_name, is_in_name, is_name, is_reserved}
+use Rattle.vast.specs.Names.{has_letters_of_name, is_path_from, is_path, AreNamed}
+use Rattle.vast.specs.Syntax.{Text, ItemTree, registers, initial, ModuleTree, SourceTree}
+use Rattle.vast.specs.Derives.{Derives, fits, fits_module, fits_item, fits_range}
+use Rattle.vast.specs.Design.{Variable, Design}
+use Rattle.velab.specs.Elaborate.{Declaration, declared, declarations_of, declarations, declared_names, variable_of, has_double, top_of, design_of, Elaborates}
+
+-- ---- letters
+
+letters : (text : Text) → is_name text ≡ true → has_letters_of_name text ≡ true
+letters [] e = e
+letters (c ∷ cs) e = and_left (begins_name c && list_all is_in_name cs) (not (is_reserved (c ∷ cs))) e
+
+-- the rest of the last name of a path
+ends_path : (cs : Text) → list_all is_in_name cs ≡ true → is_path_from true cs ≡ true
+ends_path [] e = refl
+ends_path (c ∷ cs) e =
+    or_first (is_in_name c && is_path_from true cs) (c == 46 && is_path_from false cs)
+    (and_both (is_in_name c) (is_path_from true cs) (and_left (is_in_name c) (list_all is_in_name cs) e) (ends_path cs (and_right (is_in_name c) (list_all is_in_name cs) e)))
+
+-- the rest of a name, a dot and a path
+goes_on : (cs path : Text) → list_all is_in_name cs ≡ true → is_path path ≡ true → is_path_from true (cs ++ 46 ∷ path) ≡ true
+goes_on [] path e h = or_second (is_in_name 46 && is_path_from true path) (46 == 46 && is_path_from false path) h
+goes_on (c ∷ cs) path e h =
+    or_first (is_in_name c && is_path_from true (cs ++ 46 ∷ path)) (c == 46 && is_path_from false (cs ++ 46 ∷ path))
+    (and_both (is_in_name c) (is_path_from true (cs ++ 46 ∷ path)) (and_left (is_in_name c) (list_all is_in_name cs) e)
+    (goes_on cs path (and_right (is_in_name c) (list_all is_in_name cs) e) h))
+
+name_is_path : (text : Text) → has_letters_of_name text ≡ true → is_path text ≡ true
+name_is_path [] e = e
+name_is_path (c ∷ cs) e =
+    and_both (begins_name c) (is_path_from true cs) (and_left (begins_name c) (list_all is_in_name cs) e)
+    (ends_path cs (and_right (begins_name c) (list_all is_in_name cs) e))
+
+dotted_is_path : (scope text : Text) → has_letters_of_name scope ≡ true → has_letters_of_name text ≡ true → is_path (scope ++ 46 ∷ text) ≡ true
+dotted_is_path [] text e h = absurd (true≢false (sym e))
+dotted_is_path (c ∷ cs) text e h =
+    and_both (begins_name c) (is_path_from true (cs ++ 46 ∷ text)) (and_left (begins_name c) (list_all is_in_name cs) e)
+    (goes_on cs text (and_right (begins_name c) (list_all is_in_name cs) e) (name_is_path text h))
+
+-- ---- declared names
+
+abbrev names : List Declaration → List Text
+names = map (λ d. d.name)
+
+names_declared : (range : _) (texts : List Text) → names (map (declared range) texts) ≡ texts
+names_declared range [] = refl
+names_declared range (t ∷ ts) = ap (λ l. t ∷ l) (names_declared range ts)
+
+item_names : (item : ItemTree) → fits_item item ≡ true → list_all is_name (names (declarations_of item)) ≡ true
+item_names (registers range texts) e =
+    ap (list_all is_name) (names_declared range texts)
+    ∙ and_right (fits_range range && nat_lt 0 (length texts)) (list_all is_name texts) e
+item_names (initial statement) e = refl
+
+all_names : (items : List ItemTree) → list_all fits_item items ≡ true → list_all is_name (names (flat_map declarations_of items)) ≡ true
+all_names [] e = refl
+all_names (item ∷ items) e =
+    ap (list_all is_name) (map-append (λ d. d.name) (declarations_of item) (flat_map declarations_of items))
+    ∙ list_all-append is_name (names (declarations_of item)) (names (flat_map declarations_of items))
+    ∙ and_both (list_all is_name (names (declarations_of item))) (list_all is_name (names (flat_map declarations_of items)))
+    (item_names item (and_left (fits_item item) (list_all fits_item items) e))
+    (all_names items (and_right (fits_item item) (list_all fits_item items) e))
+
+-- ---- the variables
+
+paths_of : (top : Text) (ds : List Declaration) → has_letters_of_name top ≡ true → list_all is_name (names ds) ≡ true →
+    (i : ℕ) (v : Variable) → slice_get (map (variable_of top) ds) i ≡ Some v → is_path v.name ≡ true
+paths_of top [] e h i v at = cc
+paths_of top (d ∷ ds) e h zero v at =
+    let is : variable_of top d ≡ v = cc in
+    subst (λ (w : Variable). is_path w.name ≡ true) is
+    (dotted_is_path top d.name e (letters d.name (and_left (is_name d.name) (list_all is_name (names ds)) h)))
+paths_of top (d ∷ ds) e h (suc i) v at = paths_of top ds e (and_right (is_name d.name) (list_all is_name (names ds)) h) i v at
+
+same_end : (top text other : Text) → top ++ 46 ∷ text ≡ top ++ 46 ∷ other → text ≡ other
+same_end [] text other e = cc
+same_end (c ∷ cs) text other e = let rest : cs ++ 46 ∷ text ≡ cs ++ 46 ∷ other = cc in same_end cs text other rest
+
+-- a variable of that name is of that declared name
+among : (top : Text) (ds : List Declaration) (j : ℕ) (w : Variable) (text : Text) → slice_get (map (variable_of top) ds) j ≡ Some w →
+    top ++ 46 ∷ text ≡ w.name → list_any (bytes_eq text) (names ds) ≡ true
+among top [] j w text at e = cc
+among top (d ∷ ds) zero w text at e =
+    let is : w ≡ variable_of top d = cc in
+    or_first (bytes_eq text d.name) (list_any (bytes_eq text) (names ds))
+    ((bytes_eq-Decides text d.name).1 (same_end top text d.name (e ∙ ap (λ (v : Variable). v.name) is)))
+among top (d ∷ ds) (suc j) w text at e =
+    or_second (bytes_eq text d.name) (list_any (bytes_eq text) (names ds)) (among top ds j w text at e)
+
+distinct_of : (top : Text) (ds : List Declaration) → has_double (names ds) ≡ false → (i j : ℕ) (v w : Variable) → i < j →
+    slice_get (map (variable_of top) ds) i ≡ Some v → slice_get (map (variable_of top) ds) j ≡ Some w → v.name ≢ w.name
+distinct_of top [] none i j v w lt first second = cc
+distinct_of top (d ∷ ds) none i zero v w lt first second = absurd (omega (arith, lt))
+distinct_of top (d ∷ ds) none zero (suc j) v w lt first second = λ same.
+    let is : variable_of top d ≡ v = cc in
+    true≢false
+    (
+    sym (among top ds j w d.name second (ap (λ (x : Variable). x.name) is ∙ same))
+    ∙ or_left (list_any (bytes_eq d.name) (names ds)) (has_double (names ds)) none
+    )
+distinct_of top (d ∷ ds) none (suc i) (suc j) v w lt first second =
+    distinct_of top ds (or_right (list_any (bytes_eq d.name) (names ds)) (has_double (names ds)) none) i j v w (omega (arith, lt)) first second
+
+-- ---- the top
+
+found_passes : (p q : ModuleTree → Bool) (modules : List ModuleTree) (m : ModuleTree) → list_all q modules ≡ true → find p modules ≡ Some m → q m ≡ true
+found_passes p q [] m all is = cc
+found_passes p q (x ∷ xs) m all is = by (p x) is (found_passes p q xs m (and_right (q x) (list_all q xs) all))
+  where
+    by : (b : Bool) → cond b (Some x) (find p xs) ≡ Some m → (find p xs ≡ Some m → q m ≡ true) → q m ≡ true
+    by true e later = let same : x ≡ m = cc in subst (λ (y : ModuleTree). q y ≡ true) same (and_left (q x) (list_all q xs) all)
+    by false e later = later e
+
+top_fits : (tree : SourceTree) (top : Option Text) (m : ModuleTree) → fits tree ≡ true → top_of tree top ≡ Some m → fits_module m ≡ true
+top_fits tree (Some text) m e is = found_passes (λ x. bytes_eq x.name text) fits_module tree m e is
+top_fits [] None m e is = cc
+top_fits (x ∷ []) None m e is =
+    let same : x ≡ m = cc in subst (λ (y : ModuleTree). fits_module y ≡ true) same (and_left (fits_module x) true e)
+top_fits (x ∷ y ∷ rest) None m e is = cc
+
+-- ---- the design
+
+module_named : (m : ModuleTree) → fits_module m ≡ true → has_double (declared_names m) ≡ false → AreNamed (design_of m)
+module_named m e none = record {
+  top = top;
+  paths = paths_of m.name (declarations m) top (all_names m.items (and_right (is_name m.name) (list_all fits_item m.items) e));
+  distinct = distinct_of m.name (declarations m) none;
+}
+  where
+    top : has_letters_of_name m.name ≡ true
+    top = letters m.name (and_left (is_name m.name) (list_all fits_item m.items) e)
+
+pub named_by : (words : List Text) (tree : SourceTree) (top : Option Text) (design : Design) → Derives words tree → Elaborates tree top design → AreNamed design
+named_by words tree top design derives elaborates =
+    subst AreNamed (sym elaborates.describes)
+    (module_named elaborates.unit (top_fits tree top elaborates.unit derives.fitting elaborates.is_top) elaborates.right.names_differ)

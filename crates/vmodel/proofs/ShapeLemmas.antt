@@ -1,0 +1,266 @@
+-- Values keep the shape of their variables: what is written or waits to be written has its target's length and sign.
+use Rattle.std.proofs.Common.{◌≡◌, ℕ, zero, suc, ◌==◌, nat_lt, max, cond, Bool, true, false, List, [], ◌∷◌, ◌++◌, length, replicate, map, Option, Some, None, refl, sym, ap, subst, ◌∙◌, length-append, arith}
+use Rattle.std.specs.Prelude.{slice_get, slice_set, unwrap_or}
+use Rattle.std.proofs.lemmas.List.{length-take-le, length-replicate}
+use Rattle.sched_core.specs.Rules.{choice_at}
+use Rattle.vbits.specs.declared.bit4.Bit4.TheVariants.{X}
+use Rattle.vbits.specs.Vectors.{Vector, filled, resize, with_sign, sign_letter}
+use Rattle.vast.specs.Design.{Variable, Design}
+use Rattle.vast.specs.declared.design.Action.{Action}
+use Rattle.vast.specs.declared.design.Action.TheVariants.{Assign, Nonblocking, Delay, DumpVars, Finish}
+use Rattle.vast.specs.declared.design.Expression.{Expression}
+use Rattle.vast.specs.declared.design.Target.{Target}
+use Rattle.vast.specs.declared.design.Target.TheVariants.{Whole as WholeTarget}
+use Rattle.vmodel.specs.declared.history.Cause.{Cause}
+use Rattle.vmodel.specs.declared.deed.Fate.{Fate}
+use Rattle.vmodel.specs.declared.deed.Fate.TheVariants.{GoesOn, Sleeps}
+use Rattle.vmodel.specs.declared.part.Part.{Part}
+use Rattle.vmodel.specs.declared.part.Part.TheVariants.{Whole}
+use Rattle.vmodel.specs.declared.process.Spot.{Spot}
+use Rattle.vmodel.specs.declared.process.Spot.TheVariants.{Doing}
+use Rattle.vmodel.specs.declared.choice.Choice.{Choice}
+use Rattle.vmodel.specs.declared.choice.Choice.TheVariants.{Run, Update, Advance}
+use Rattle.vmodel.specs.Value.{Moment, value_at, value_of, is_signed, size_of, cut_to, assigned}
+use Rattle.vmodel.specs.Parts.{written}
+use Rattle.vmodel.specs.Queue.{Slot, Queue, waking, empty_slot, wake_at}
+use Rattle.vmodel.specs.State.{State}
+use Rattle.vmodel.specs.Choices.{choices}
+use Rattle.vmodel.specs.Step.{Did, does, going, leaves, fares, posts, regions, closed_by, closed, acted, takes, goes_from, left_of, first_of, without_update, updated, advanced_to, turn_of, turn_by, next}
+use Rattle.vmodel.specs.Run.{Setting, opening_value, state_after}
+use Rattle.vmodel.specs.Played.{opening_is, after_is}
+use Rattle.vmodel.specs.Kept.{HasShape, AreShaped}
+use Rattle.vmodel.proofs.MovedLemmas.{sleeps_by}
+
+-- ---- what waits to be written
+
+-- a part's value has the shape of the variable that it is written to, where there is one
+abbrev Suits : List Variable → Part → Type 0
+Suits variables (Whole number value) = (x : Variable) → slice_get variables number ≡ Some x → HasShape x value
+
+abbrev AllSuit : List Variable → List Part → Type 0
+AllSuit variables [] = Unit {0}
+AllSuit variables (part ∷ parts) = Suits variables part × AllSuit variables parts
+
+abbrev UpdatesSuit : List Variable → List (List Part) → Type 0
+UpdatesSuit variables [] = Unit {0}
+UpdatesSuit variables (u ∷ us) = AllSuit variables u × UpdatesSuit variables us
+
+abbrev FutureSuits : List Variable → List (ℕ × Slot) → Type 0
+FutureSuits variables [] = Unit {0}
+FutureSuits variables (e ∷ es) = UpdatesSuit variables e.1.updates × FutureSuits variables es
+
+record QueueSuits (variables : List Variable) (q : Queue) : Type 0 where
+  pub activated : UpdatesSuit variables q.activated
+  pub posted : UpdatesSuit variables q.posted
+  pub future : FutureSuits variables q.future
+
+record IsShaped (variables : List Variable) (s : State) : Type 0 where
+  pub values : AreShaped variables s.values
+  pub queue : QueueSuits variables s.queue
+
+-- ---- values
+
+shape_at : (variables : List Variable) (values : List Vector) (number : ℕ) (x : Variable) (d : Vector) → AreShaped variables values →
+    slice_get variables number ≡ Some x → HasShape x (unwrap_or (slice_get values number) d)
+shape_at [] values number x d h at = cc
+shape_at (y ∷ ys) [] number x d h at = absurd h
+shape_at (y ∷ ys) (v ∷ vs) zero x d h at = let same : y ≡ x = cc in subst (λ (z : Variable). HasShape z v) same h.0
+shape_at (y ∷ ys) (v ∷ vs) (suc number) x d h at = shape_at ys vs number x d h.1 at
+
+shaped-set : (variables : List Variable) (values : List Vector) (number : ℕ) (value : Vector) → AreShaped variables values →
+    Suits variables (Whole number value) → AreShaped variables (slice_set values number value)
+shaped-set [] [] number value h suits = h
+shaped-set [] (v ∷ vs) number value h suits = absurd h
+shaped-set (x ∷ xs) [] number value h suits = absurd h
+shaped-set (x ∷ xs) (v ∷ vs) zero value h suits = (suits x refl, h.1)
+shaped-set (x ∷ xs) (v ∷ vs) (suc number) value h suits = (h.0, shaped-set xs vs number value h.1 suits)
+
+shaped-written : (variables : List Variable) (parts : List Part) (values : List Vector) → AreShaped variables values → AllSuit variables parts →
+    AreShaped variables (written parts values)
+shaped-written variables [] values h suit = h
+shaped-written variables (Whole number value ∷ parts) values h suit =
+    shaped-written variables parts (slice_set values number value) (shaped-set variables values number value h suit.0) suit.1
+
+-- 5.4.1, 6.2: the right side is cut or extended to the length of the target, and marked with the target's sign
+resized : (v : Vector) (count : ℕ) → length (resize v count).letters ≡ count
+unfolding resize
+resized v count =
+    length-take-le count (v.letters ++ replicate count (sign_letter v))
+    (omega (arith, length-append v.letters (replicate count (sign_letter v)), length-replicate count (sign_letter v)))
+
+marked : (v : Vector) (mark : Bool) → ((with_sign v mark).letters ≡ v.letters) × ((with_sign v mark).signed ≡ mark)
+unfolding with_sign
+marked v mark = (refl, refl)
+
+cut-shape : (old : Vector) (e : Expression) (now : Moment) → (length (cut_to old e now).letters ≡ length old.letters) × ((cut_to old e now).signed ≡ old.signed)
+cut-shape old e now =
+    let size = max (length old.letters) (size_of e now) in
+    let right : Vector = resize (value_of e now size (is_signed e now)) (length old.letters) in (
+      ap length (marked right old.signed).0 ∙ resized (value_of e now size (is_signed e now)) (length old.letters),
+      (marked right old.signed).1,
+    )
+
+assigned-suits : (variables : List Variable) (target : Target) (e : Expression) (values : List Vector) → AreShaped variables values →
+    AllSuit variables (assigned target e (record { values = values }))
+assigned-suits variables (WholeTarget number) e values h = (suits, tt)
+  where
+    old : Vector
+    old = value_at (record { values = values }) number
+
+    suits : (x : Variable) → slice_get variables number ≡ Some x → HasShape x (cut_to old e (record { values = values }))
+    suits x at =
+        let shape : HasShape x old = shape_at variables values number x (filled 1 X) h at in
+        let cut = cut-shape old e (record { values = values }) in
+        (cut.0 ∙ shape.0, cut.1 ∙ shape.1)
+
+-- ---- what waits
+
+suits-behind : (variables : List Variable) (us : List (List Part)) (u : List Part) → UpdatesSuit variables us → AllSuit variables u →
+    UpdatesSuit variables (us ++ u ∷ [])
+suits-behind variables [] u h suit = (suit, tt)
+suits-behind variables (first ∷ us) u h suit = (h.0, suits-behind variables us u h.1 suit)
+
+waking-suits : (variables : List Variable) (sleeper : Option ℕ) (slot : Slot) → UpdatesSuit variables slot.updates →
+    UpdatesSuit variables (waking sleeper slot).updates
+waking-suits variables None slot h = h
+waking-suits variables (Some p) slot h = h
+
+wake-suits : (variables : List Variable) (t : ℕ) (sleeper : Option ℕ) (es : List (ℕ × Slot)) → FutureSuits variables es →
+    FutureSuits variables (wake_at t sleeper es)
+wake-suits variables t sleeper [] h = (waking-suits variables sleeper empty_slot tt, tt)
+wake-suits variables t sleeper (e ∷ es) h = by (nat_lt t e.0) (t == e.0) (wake-suits variables t sleeper es h.1)
+  where
+    by : (before at : Bool) → FutureSuits variables (wake_at t sleeper es) →
+        FutureSuits variables
+        (
+        cond before ((t, waking sleeper empty_slot) ∷ e ∷ es)
+        (cond at ((e.0, waking sleeper e.1) ∷ es) (e ∷ wake_at t sleeper es))
+        )
+    by true at rest = (waking-suits variables sleeper empty_slot tt, h)
+    by false true rest = (waking-suits variables sleeper e.1 h.0, h.1)
+    by false false rest = (h.0, rest)
+
+-- ---- a step
+
+posts-suit : (variables : List Variable) (posted : Option (List Part)) (q : Queue) → QueueSuits variables q →
+    ((u : List Part) → posted ≡ Some u → AllSuit variables u) → QueueSuits variables (posts posted q)
+posts-suit variables None q h suit = h
+posts-suit variables (Some u) q h suit =
+    record { activated = h.activated; posted = suits-behind variables q.posted u h.posted (suit u refl); future = h.future }
+
+fares-suit : (variables : List Variable) (p : ℕ) (fate : Fate) (left : Option ℕ) (q : Queue) → QueueSuits variables q →
+    QueueSuits variables (fares p fate left q)
+fares-suit variables p GoesOn None q h = record { activated = h.activated; posted = h.posted; future = h.future }
+fares-suit variables p GoesOn (Some same) q h = record { activated = h.activated; posted = h.posted; future = h.future }
+fares-suit variables p (Sleeps d) left q h =
+    sleeps_by (λ (r : Queue). QueueSuits variables (leaves p r)) d left q
+    (record { activated = h.activated; posted = h.posted; future = h.future })
+    (λ r is. record { activated = h.activated; posted = h.posted; future = h.future })
+    (record { activated = h.activated; posted = h.posted; future = h.future })
+    (λ t later within. record { activated = h.activated; posted = h.posted; future = wake-suits variables t left q.future h.future })
+
+regions-suit : (variables : List Variable) (active : List ℕ) (activated : List (List Part)) (inactive : List ℕ) (posted : List (List Part)) (q : Queue) →
+    QueueSuits variables q → UpdatesSuit variables posted → QueueSuits variables (regions active activated inactive posted q)
+regions-suit variables (p ∷ ps) us is posts q h waits = h
+regions-suit variables [] (u ∷ us) is posts q h waits = h
+regions-suit variables [] [] (i ∷ is) posts q h waits = record { activated = h.activated; posted = h.posted; future = h.future }
+regions-suit variables [] [] [] (u ∷ us) q h waits = record { activated = waits; posted = tt; future = h.future }
+regions-suit variables [] [] [] [] q h waits = h
+
+closed-shaped : (variables : List Variable) (s : State) → IsShaped variables s → IsShaped variables (closed s)
+closed-shaped variables s h = by_cause s.cause
+  where
+    by_cause : (cause : Option Cause) → IsShaped variables (closed_by cause s)
+    by_cause (Some cause) = h
+    by_cause None = record {
+      values = h.values;
+      queue = regions-suit variables s.queue.active s.queue.activated s.queue.inactive s.queue.posted s.queue h.queue h.queue.posted;
+    }
+
+-- what a step writes and posts
+record DeedSuits (variables : List Variable) (did : Did) : Type 0 where
+  pub wrote : AllSuit variables did.deed.wrote
+  pub posted : (u : List Part) → did.deed.posted ≡ Some u → AllSuit variables u
+
+does-suits : (variables : List Variable) (action : Action) (after : List Spot) (values : List Vector) → AreShaped variables values →
+    DeedSuits variables (does action after (record { values = values }))
+does-suits variables (Assign target value) after values h = record { wrote = assigned-suits variables target value values h; posted = λ u is. cc }
+does-suits variables (Nonblocking target value) after values h = record {
+  wrote = tt;
+  posted = λ u is.
+      let same : assigned target value (record { values = values }) ≡ u = cc in
+      subst (AllSuit variables) same (assigned-suits variables target value values h);
+}
+does-suits variables (Delay amount body) after values h = record { wrote = tt; posted = λ u is. cc }
+does-suits variables DumpVars after values h = record { wrote = tt; posted = λ u is. cc }
+does-suits variables Finish after values h = record { wrote = tt; posted = λ u is. cc }
+
+acted-shaped : (variables : List Variable) (p : ℕ) (did : Did) (s : State) → IsShaped variables s → DeedSuits variables did → IsShaped variables (acted p did s)
+acted-shaped variables p did s h suits = record {
+  values = shaped-written variables did.deed.wrote s.values h.values suits.wrote;
+  queue = fares-suit variables p did.deed.fate (going p did.left) (posts did.deed.posted s.queue) (posts-suit variables did.deed.posted s.queue h.queue suits.posted);
+}
+
+takes-shaped : (variables : List Variable) (p : ℕ) (action : Option Action) (after : List Spot) (s : State) → IsShaped variables s →
+    IsShaped variables (takes p action after s).state
+takes-shaped variables p None after s h = h
+takes-shaped variables p (Some action) after s h =
+    let did = does action after (record { values = s.values }) in
+    closed-shaped variables (acted p did s) (acted-shaped variables p did s h (does-suits variables action after s.values h.values))
+
+process-shaped : (variables : List Variable) (actions : List Action) (p : ℕ) (left : List Spot) (s : State) → IsShaped variables s →
+    IsShaped variables (goes_from actions p left s).state
+process-shaped variables actions p [] s h = h
+process-shaped variables actions p (Doing place ∷ after) s h = takes-shaped variables p (slice_get actions place) after s h
+
+updated-shaped : (variables : List Variable) (us : List (List Part)) (s : State) → UpdatesSuit variables us → IsShaped variables s →
+    IsShaped variables (record s { values = written (first_of us) s.values; queue = without_update us s.queue })
+updated-shaped variables [] s suit h = record { values = h.values; queue = h.queue }
+updated-shaped variables (u ∷ us) s suit h = record {
+  values = shaped-written variables u s.values h.values suit.0;
+  queue = record { activated = suit.1; posted = h.queue.posted; future = h.queue.future };
+}
+
+advanced-suits : (variables : List Variable) (future : List (ℕ × Slot)) (q : Queue) → FutureSuits variables future → QueueSuits variables q →
+    QueueSuits variables (advanced_to future q)
+advanced-suits variables [] q suit h = h
+advanced-suits variables (e ∷ es) q suit h = record { activated = h.activated; posted = suit.0; future = suit.1 }
+
+turn-shaped : (variables : List Variable) (design : Design) (c : Choice) (s : State) → IsShaped variables s → IsShaped variables (turn_of design c s).state
+turn-shaped variables design (Run p) s h = process-shaped variables design.actions p (left_of (slice_get s.processes p)) s h
+turn-shaped variables design Update s h = closed-shaped variables (updated s) (updated-shaped variables s.queue.activated s h.queue.activated h)
+turn-shaped variables design Advance s h =
+    closed-shaped variables (record s { queue = advanced_to s.queue.future s.queue })
+    (record { values = h.values; queue = advanced-suits variables s.queue.future s.queue h.queue.future h.queue })
+
+next-shaped : (variables : List Variable) (design : Design) (s : State) (i : ℕ) → IsShaped variables s → IsShaped variables (next design s i).state
+next-shaped variables design s i h = by_choice (slice_get (choices s) i)
+  where
+    by_choice : (o : Option Choice) → IsShaped variables (turn_by design o s).state
+    by_choice None = h
+    by_choice (Some c) = turn-shaped variables design c s h
+
+-- ---- the run
+
+opening-shape : (variable : Variable) → HasShape variable (opening_value variable)
+unfolding filled
+opening-shape variable =
+    let x : Vector = filled variable.length X in
+    (ap length (marked x variable.signed).0 ∙ length-replicate variable.length X, (marked x variable.signed).1)
+
+opening-shaped : (variables : List Variable) → AreShaped variables (map opening_value variables)
+opening-shaped [] = tt
+opening-shaped (x ∷ xs) = (opening-shape x, opening-shaped xs)
+
+shaped-after : (setting : Setting) (log : List (ℕ × ℕ)) (n : ℕ) → IsShaped setting.design.variables (state_after setting log n)
+shaped-after setting log zero =
+    subst (IsShaped setting.design.variables) (sym (opening_is setting))
+    (record { values = opening-shaped setting.design.variables; queue = record { activated = tt; posted = tt; future = tt } })
+shaped-after setting log (suc n) =
+    let s = state_after setting log n in
+    let i = choice_at log n in
+    subst (IsShaped setting.design.variables) (sym (after_is setting s i))
+    (next-shaped setting.design.variables setting.design s i (shaped-after setting log n))
+
+pub as_shaped : (setting : Setting) (log : List (ℕ × ℕ)) (n : ℕ) → AreShaped setting.design.variables (state_after setting log n).values
+as_shaped setting log n = (shaped-after setting log n).values
