@@ -10,7 +10,8 @@ use Rattle.std.proofs.lemmas.Slice.Eq.{bytes_eq-Decides}
 use Rattle.vast.specs.Words.{begins_name, is_in_name}
 use Rattle.report_text.specs.Report.{Column}
 use Rattle.report_text.specs.ReportText.{column_line, column_lines}
-use Rattle.report_text.specs.WellFormed.{IsColumn, is_path, is_path_from}
+use Rattle.report_text.specs.WellFormed.{IsColumn}
+use Rattle.vast.specs.Names.{is_path, is_path_from}
 use Rattle.report_text.specs.Inner.Fronts.{lacks}
 use Rattle.report_text.specs.Inner.Columns.{IsColumnTaken, Differ}
 use Rattle.report_text.specs.Inner.Names.{is_among}

@@ -7,7 +7,7 @@ use Rattle.vast.specs.Words.{begins_name, is_in_name}
 use Rattle.report_text.specs.declared.report.Version.{Version}
 use Rattle.report_text.specs.declared.report.Version.TheVariants.{One, Two}
 use Rattle.report_text.specs.ReportText.{version_number}
-use Rattle.report_text.specs.WellFormed.{has_letters_of_name}
+use Rattle.vast.specs.Names.{has_letters_of_name}
 use Rattle.report_text.specs.Inner.Fronts.{lacks}
 use Rattle.report_text.specs.Inner.Headings.{IsNumberLine, labelled}
 use Rattle.report_text.proofs.FrontLemmas.{and_left, and_right, both}

@@ -7,7 +7,7 @@ use Rattle.std.specs.declared.cmp.Ordering.TheVariants.{Less}
 use Rattle.basis.specs.declared.memory.OrMemory.{OrMemory}
 use Rattle.basis.specs.Reasons.{Because}
 use Rattle.sched_core.specs.Logs.{IsLog}
-use Rattle.vast.specs.Words.{begins_name, is_in_name}
+use Rattle.vast.specs.Names.{has_letters_of_name, is_path}
 use Rattle.vmodel.specs.declared.history.Grain.TheVariants.{Process}
 use Rattle.report_text.specs.declared.report.Version.TheVariants.{One}
 use Rattle.report_text.specs.declared.report.ReportFault.{ReportFault}
@@ -26,21 +26,7 @@ EachTwo {A} P xs = (i j : ℕ) (x y : A) → i < j → slice_get xs i ≡ Some x
 abbrev pub IsTextLess : List ℕ → List ℕ → Type 0
 IsTextLess a b = slice_cmp nat_cmp a b ≡ Less
 
--- ---- names and values
-
--- 3.7: a letter or `_`, then letters, digits, `_` and `$`; a reserved word counts as well
-abbrev pub has_letters_of_name : List ℕ → Bool
-has_letters_of_name [] = false
-has_letters_of_name (c ∷ cs) = begins_name c && list_all is_in_name cs
-
--- such names joined by dots: after each dot, as at the start, a name begins
-abbrev pub is_path_from : Bool → List ℕ → Bool
-is_path_from begun [] = begun
-is_path_from true (c ∷ cs) = (is_in_name c && is_path_from true cs) || (c == 46 && is_path_from false cs)
-is_path_from false (c ∷ cs) = begins_name c && is_path_from true cs
-
-abbrev pub is_path : List ℕ → Bool
-is_path = is_path_from false
+-- ---- values
 
 -- 0, 1, x or z
 abbrev pub is_digit : ℕ → Bool

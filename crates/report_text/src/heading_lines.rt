@@ -5,7 +5,7 @@ ghost use Rattle.report_text.specs.Inner.Headings.{IsHeading, IsLabelLine, IsNum
 ghost use Rattle.report_text.specs.Inner.Headings as headings;
 ghost use Rattle.report_text.specs.Inner.Places.{HasTaken, Stands, TakesEach, Took};
 ghost use Rattle.report_text.specs.ReportText as spelled;
-ghost use Rattle.report_text.specs.WellFormed.{has_letters_of_name};
+ghost use Rattle.vast.specs.Names.{has_letters_of_name};
 ghost use Rattle.report_text.specs.declared.report.Version as versions;
 ghost use Rattle.report_text.specs.declared.report.Version.TheVariants.{One};
 ghost use Rattle.report_text.specs.declared.report.Outcome as outcomes;

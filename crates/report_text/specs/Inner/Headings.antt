@@ -6,7 +6,7 @@ use Rattle.report_text.specs.declared.report.Version.{Version}
 use Rattle.report_text.specs.declared.report.Version.TheVariants.{One, Two}
 use Rattle.report_text.specs.declared.report.Outcome.{Outcome}
 use Rattle.report_text.specs.ReportText.{version_number, grain_word, outcome_words}
-use Rattle.report_text.specs.WellFormed.{has_letters_of_name}
+use Rattle.vast.specs.Names.{has_letters_of_name}
 use Rattle.report_text.specs.Inner.Fronts.{lacks}
 
 -- the text is a line of this label and a value, and then the rest

@@ -1,6 +1,6 @@
 use Rattle.std.proofs.Common.{◌≤◌, ◌++◌, ◌∷◌, ◌∙◌, refl, ap, arith}
 use Rattle.std.specs.Fmt.{decimal}
-use Rattle.report_text.specs.WellFormed.{is_path}
+use Rattle.vast.specs.Names.{is_path}
 use Rattle.report_text.proofs.FrontLemmas.{both}
 use Rattle.report_text.proofs.ColumnLemmas.{path_lacks, column_spelled}
 use Rattle.report_text.proofs.columns.column_line.Goals as goal

@@ -1,5 +1,5 @@
 use Rattle.std.proofs.Common.{◌∙◌, refl, ap}
-use Rattle.report_text.specs.WellFormed.{has_letters_of_name}
+use Rattle.vast.specs.Names.{has_letters_of_name}
 use Rattle.report_text.proofs.FrontLemmas.{both}
 use Rattle.report_text.proofs.HeadingLemmas.{name_lacks}
 use Rattle.report_text.proofs.heading_lines.top_line.Goals as goal

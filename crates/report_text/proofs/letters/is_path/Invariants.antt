@@ -1,5 +1,5 @@
 use Rattle.std.proofs.Common.{◌≡◌, drop}
-use Rattle.report_text.specs.WellFormed.{is_path, is_path_from}
+use Rattle.vast.specs.Names.{is_path, is_path_from}
 use Rattle.report_text.proofs.letters.is_path.Given as goal
 
 abbrev pub invariant-loop-byte : goal.invariant-loop-byte
