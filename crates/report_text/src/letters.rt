@@ -5,6 +5,7 @@ ghost use Rattle.std.specs.List.{list_all};
 ghost use Rattle.vast.specs.Words as words;
 ghost use Rattle.report_text.specs.Inner.Fronts.{goes_on};
 ghost use Rattle.report_text.specs.WellFormed as well_formed;
+ghost use Rattle.vast.specs.Names as names;
 
 // 3.7: a letter or `_`
 fn begins_name(byte: u8) -> bool
@@ -34,7 +35,7 @@ fn are_in_name(bytes: &[u8]) -> bool
 
 /// Whether the word is a name by its letters; a reserved word counts as well.
 pub fn is_name(word: &[u8]) -> bool
-    ensures { result ≡ well_formed.has_letters_of_name word.now }
+    ensures { result ≡ names.has_letters_of_name word.now }
 {
     match word.split_first() {
         Some((first, rest)) => begins_name(*first) && are_in_name(rest),
@@ -55,7 +56,7 @@ fn may_follow(begun: bool, byte: u8) -> bool
 
 /// Whether the word is names joined by dots.
 pub fn is_path(word: &[u8]) -> bool
-    ensures { result ≡ well_formed.is_path word.now }
+    ensures { result ≡ names.is_path word.now }
 {
     let mut begun = false;
     for byte in word {
