@@ -1,0 +1,3 @@
+-- Words for the contracts of calls within, and what the code keeps.
+pub mod Chained
+pub mod Links
