@@ -1,1 +1,4 @@
+pub mod Quests
+pub mod Passes
+pub mod Sights
 pub mod Inner

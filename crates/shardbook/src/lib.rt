@@ -4,3 +4,10 @@
 #![tactic(auto)]
 
 mod chains;
+mod pass;
+mod quest;
+mod seen;
+
+pub use pass::{ALL, Pass};
+pub use quest::{Naming, Quest};
+pub use seen::Seen;
