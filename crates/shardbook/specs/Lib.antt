@@ -1,4 +1,5 @@
 pub mod Quests
+pub mod Finishes
 pub mod Passes
 pub mod Sights
 pub mod Inner

@@ -4,10 +4,14 @@
 #![tactic(auto)]
 
 mod chains;
+mod code;
+mod done;
 mod pass;
+mod push;
 mod quest;
 mod seen;
 
+pub use done::Done;
 pub use pass::{ALL, Pass};
 pub use quest::{Naming, Quest};
 pub use seen::Seen;
