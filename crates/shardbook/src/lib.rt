@@ -6,12 +6,14 @@
 mod chains;
 mod code;
 mod done;
+mod entries;
 mod pass;
 mod push;
 mod quest;
 mod seen;
 
 pub use done::Done;
+pub use entries::Entries;
 pub use pass::{ALL, Pass};
 pub use quest::{Naming, Quest};
 pub use seen::Seen;
