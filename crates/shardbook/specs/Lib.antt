@@ -1,5 +1,6 @@
 pub mod Quests
 pub mod Finishes
+pub mod Meets
 pub mod Passes
 pub mod Sights
 pub mod Inner

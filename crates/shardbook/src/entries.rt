@@ -1,7 +1,6 @@
 // The vector of a book's entries, which every thread reads without a lock.
 
 ghost use Rattle.std.specs.Prelude.{◌≡◌, ℕ, IfSome, IfOk, IfErr};
-
 ghost use Rattle.shardbook.specs.Quests.{IsWanted};
 
 use crate::push::push;

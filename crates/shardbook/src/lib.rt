@@ -7,6 +7,7 @@ mod chains;
 mod code;
 mod done;
 mod entries;
+mod find;
 mod pass;
 mod push;
 mod quest;
