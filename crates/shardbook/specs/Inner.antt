@@ -2,3 +2,4 @@
 pub mod Chained
 pub mod Links
 pub mod Codes
+pub mod Shards

@@ -8,13 +8,17 @@ mod code;
 mod done;
 mod entries;
 mod find;
+mod met;
 mod pass;
 mod push;
 mod quest;
 mod seen;
+mod shard;
+mod slots;
 
 pub use done::Done;
 pub use entries::Entries;
+pub use met::Met;
 pub use pass::{ALL, Pass};
 pub use quest::{Naming, Quest};
 pub use seen::Seen;
