@@ -1,6 +1,7 @@
 pub mod Quests
 pub mod Finishes
 pub mod Meets
+pub mod Names
 pub mod Passes
 pub mod Sights
 pub mod Inner

@@ -12,10 +12,9 @@ use std::alloc::Global;
 use std::marker::{Model, PhantomData};
 use std::sync::Wait;
 
-/// The entries of a book that isn't open yet. A clause sees the name of their vector, by which
-/// the book is picked.
+// The entries of a book. A clause sees the name of their vector.
 #[derive(Drop)]
-pub struct Entries<S, Q: Quest<S>> {
+pub(crate) struct Entries<S, Q: Quest<S>> {
     vec: boxcar::Vec<Kept<S>, Global, Wanted<Q>>,
 }
 
@@ -30,8 +29,8 @@ impl<S, Q: Quest<S>> Model for Entries<S, Q> {
 }
 
 impl<S: Drop, Q: Quest<S>> Entries<S, Q> {
-    /// No entries. The error is want of memory, E901.
-    pub fn new(alloc: Global) -> Result<Entries<S, Q>, NoMemory> {
+    // No entries.
+    pub(crate) fn new(alloc: Global) -> Result<Entries<S, Q>, NoMemory> {
         Ok(Entries {
             vec: boxcar::Vec::with_rule(alloc, Tag::empty())?,
         })

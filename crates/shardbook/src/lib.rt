@@ -3,6 +3,7 @@
 // The law: an entry is new only where none of its shard dominates it; where a closing scan answers true, nothing is missing.
 #![tactic(auto)]
 
+mod book;
 mod chains;
 mod code;
 mod done;
@@ -15,10 +16,12 @@ mod quest;
 mod seen;
 mod shard;
 mod slots;
+mod unopened;
 
+pub use book::Book;
 pub use done::Done;
-pub use entries::Entries;
 pub use met::Met;
 pub use pass::{ALL, Pass};
 pub use quest::{Naming, Quest};
 pub use seen::Seen;
+pub use unopened::Unopened;
