@@ -3,3 +3,4 @@ pub mod Chained
 pub mod Links
 pub mod Codes
 pub mod Shards
+pub mod Scans

@@ -1,5 +1,6 @@
 pub mod Quests
 pub mod Finishes
+pub mod Closing
 pub mod Meets
 pub mod Names
 pub mod Passes

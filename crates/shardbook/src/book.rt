@@ -1,6 +1,7 @@
 // The book that the workers of an explorer share: its entries in shards by their codes, each shard under a lock of its own.
 
-ghost use Rattle.std.specs.Prelude.{◌≡◌, ◌+◌, ◌<◌, ◌^◌, IfSome, IfOk, IfErr, OnErr, OnOk, vec_len};
+ghost use Rattle.std.specs.Prelude.{◌≡◌, ◌+◌, ◌<◌, ◌^◌, IsTrue, IfSome, IfOk, IfErr, OnErr, OnOk, vec_len};
+ghost use Rattle.shardbook.specs.Closing.{Closes};
 ghost use Rattle.shardbook.specs.Meets.{CountsMet, Shows};
 ghost use Rattle.shardbook.specs.Names.{AreNames};
 ghost use Rattle.shardbook.specs.Quests.{IsWanted};
@@ -11,6 +12,7 @@ use crate::entries::Entries;
 use crate::met::Met;
 use crate::pass::{ALL, Pass};
 use crate::quest::{Naming, Quest};
+use crate::scan::{are_done, is_among, is_start};
 use crate::seen::Seen;
 use crate::shard::Shard;
 use crate::slots::Slots;
@@ -139,6 +141,22 @@ impl<S: Eq + Hash, Q: Quest<S>, B: Naming> Book<S, Q, B> {
     {
         let slot = self.entries.kept(done.entry()).slot;
         self.slots.set(slot, done)
+    }
+
+    /// Whether the list, as a set of entries, closes: it has the root's entry, and each member is
+    /// finished and names only members. It takes time linear in the list and in what its members
+    /// name where the list is of all places in order, else quadratic. Where it answers true, these
+    /// entries are a sound book that all its places close.
+    pub fn closed(&self, root: &Seen<S, Q, B>, all: &[Seen<S, Q, B>]) -> bool
+        ensures { IsTrue result → Closes Q.rules Q.depart Q.steps root.now all.now }
+    {
+        if !is_start(self.read(root)) {
+            return false;
+        }
+        if !is_among(&self.entries, all, root) {
+            return false;
+        }
+        are_done(&self.entries, &self.slots, all)
     }
 
     /// One pass in place of two, with the parts and the counts of both.

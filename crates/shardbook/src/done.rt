@@ -46,7 +46,8 @@ impl<S, Q: Quest<S>, B: Naming> Done<S, Q, B> {
 
     /// What it met.
     pub fn next(&self) -> &[Seen<S, Q, B>]
-        ensures { result.now ≡ self.now.next }
+        ensures same { result.now ≡ self.now.next }
+        ensures met { HasMet Q.rules self.now.entry.entry (entries_of self.now.next) }
     {
         self.next.as_slice()
     }

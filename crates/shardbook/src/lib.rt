@@ -13,6 +13,7 @@ mod met;
 mod pass;
 mod push;
 mod quest;
+mod scan;
 mod seen;
 mod shard;
 mod slots;
