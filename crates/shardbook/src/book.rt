@@ -6,6 +6,7 @@ ghost use Rattle.shardbook.specs.Meets.{CountsMet, Shows};
 ghost use Rattle.shardbook.specs.Names.{AreNames};
 ghost use Rattle.shardbook.specs.Quests.{IsWanted};
 
+use crate::audit::lengths;
 use crate::code::code_of;
 use crate::done::Done;
 use crate::entries::Entries;
@@ -14,7 +15,7 @@ use crate::pass::{ALL, Pass};
 use crate::quest::{Naming, Quest};
 use crate::scan::{are_done, is_among, is_start};
 use crate::seen::Seen;
-use crate::shard::Shard;
+use crate::shard::{Lock, Shard};
 use crate::slots::Slots;
 use crate::unopened::Unopened;
 use basis::NoMemory;
@@ -24,9 +25,6 @@ use std::alloc::Global;
 use std::hash::Hash;
 use std::sync::ledger::{Share, Total};
 use std::sync::{Mutex, Wait};
-
-// A shard's lock, away from those of others.
-type Lock<S, Q, B> = CachePadded<Mutex<Shard<S, Q, B>>>;
 
 /// A book of entries that threads share. A thread meets entries by a pass of its own, and waits
 /// only for the lock of the one shard that an entry belongs to; whatever stands in the book is
@@ -157,6 +155,15 @@ impl<S: Eq + Hash, Q: Quest<S>, B: Naming> Book<S, Q, B> {
             return false;
         }
         are_done(&self.entries, &self.slots, all)
+    }
+
+    /// Whether the shards' lists together are as long as the pass has counted. So they are where the
+    /// pass has all parts.
+    pub fn audit(&mut self, pass: &mut Pass<B>) -> bool
+        ensures whole { pass.old.parts ≡ ALL → IsTrue result }
+        ensures same { pass.new ≡ pass.old }
+    {
+        lengths(&mut self.shards, &mut pass.share, &self.total) == pass.count
     }
 
     /// One pass in place of two, with the parts and the counts of both.

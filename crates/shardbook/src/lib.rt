@@ -3,6 +3,7 @@
 // The law: an entry is new only where none of its shard dominates it; where a closing scan answers true, nothing is missing.
 #![tactic(auto)]
 
+mod audit;
 mod book;
 mod chains;
 mod code;

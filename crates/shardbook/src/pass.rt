@@ -18,8 +18,8 @@ const GIVEN: u64 = 1 << 40;
 /// count, and whether there is room for one more.
 #[derive(Drop)]
 pub struct Pass<B: Naming> {
-    share: Share<B>,
-    count: u64,
+    pub(crate) share: Share<B>,
+    pub(crate) count: u64,
     left: u64,
 }
 

@@ -15,20 +15,24 @@ use crate::quest::{Kept, Naming, Quest};
 use crate::seen::Seen;
 use crate::slots::Slots;
 use basis::NoMemory;
+use crossbeam_utils::CachePadded;
 use statebook::Entry;
 use std::alloc::Global;
 use std::hash::Hash;
 use std::marker::Model;
-use std::sync::Wait;
 use std::sync::ledger::Share;
+use std::sync::{Mutex, Wait};
 
 // What lies under a shard's lock. A clause sees the list of its entries.
 #[derive(Drop)]
 pub(crate) struct Shard<S: Eq + Hash, Q: Quest<S>, B: Naming> {
-    seens: Vec<Seen<S, Q, B>>,
-    chains: Chains,
-    share: Share<B>,
+    pub(crate) seens: Vec<Seen<S, Q, B>>,
+    pub(crate) chains: Chains,
+    pub(crate) share: Share<B>,
 }
+
+// A shard's lock, away from those of others.
+pub(crate) type Lock<S, Q, B> = CachePadded<Mutex<Shard<S, Q, B>>>;
 
 impl<S: Eq + Hash, Q: Quest<S>, B: Naming> Model for Shard<S, Q, B> {
     ghost use Rattle.std.specs.Prelude.{List};
