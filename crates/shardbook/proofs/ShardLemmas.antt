@@ -34,11 +34,12 @@ grows {S} same input entries codes parts amount e s none = record {
 }
 
 -- A New answer: what was seen of the entry is put last, and its code; the share has one more.
-pub shard_grows : {S : Type 0} (same : S → S → Bool) (input : S → List (List ℕ)) (seens grown : List (Sight S)) (codes more : List ℕ) (parts amount parts' amount' : ℕ) (e : Entry S) (s : Sight S) (code : ℕ)
+pub shard_grows : {S : Type 0} (same : S → S → Bool) (input : S → List (List ℕ)) (seens held grown : List (Sight S)) (codes kept more : List ℕ) (parts amount parts' amount' : ℕ) (e : Entry S) (s : Sight S) (code : ℕ)
     → IsShard same input (entries_of seens) codes parts amount → HasNone same (entries_of seens) e
-    → s.entry ≡ e → code ≡ code_of_writes (input e.state) → grown ≡ seens ++ s ∷ [] → more ≡ codes ++ code ∷ [] → parts' ≡ parts → amount' ≡ amount + 1
+    → s.entry ≡ e → code ≡ code_of_writes (input e.state) → grown ≡ held ++ s ∷ [] → held ≡ seens → more ≡ kept ++ code ∷ [] → kept ≡ codes → parts' ≡ parts → amount' ≡ amount + 1
     → IsShard same input (entries_of grown) more parts' amount'
-shard_grows {S} same input seens grown codes more parts amount parts' amount' e s code shard none entry is seen coded part count =
-    let entries : entries_of grown ≡ entries_of seens ++ e ∷ [] = ap entries_of seen ∙ map-append_one (λ (x : Sight S). x.entry) seens s ∙ ap (λ x. entries_of seens ++ x ∷ []) entry in
-    let chain : more ≡ codes ++ code_of_writes (input e.state) ∷ [] = coded ∙ ap (λ c. codes ++ c ∷ []) is in
+shard_grows {S} same input seens held grown codes kept more parts amount parts' amount' e s code shard none entry is seen holds coded keeps part count =
+    let entries : entries_of grown ≡ entries_of seens ++ e ∷ [] =
+    ap entries_of seen ∙ map-append_one (λ (x : Sight S). x.entry) held s ∙ ap (λ l. entries_of l ++ s.entry ∷ []) holds ∙ ap (λ x. entries_of seens ++ x ∷ []) entry in
+    let chain : more ≡ codes ++ code_of_writes (input e.state) ∷ [] = coded ∙ ap (λ l. l ++ code ∷ []) keeps ∙ ap (λ c. codes ++ c ∷ []) is in
     rw (entries, chain, part, count) (grows same input (entries_of seens) codes parts amount e shard none)

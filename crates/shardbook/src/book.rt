@@ -104,8 +104,11 @@ impl<S: Eq + Hash + Drop, Q: Quest<S>, B: Naming> Book<S, Q, B> {
         let code = code_of(&entry.state);
         let number = code % self.shards.len() as u64;
         let lock: &Mutex<Shard<S, Q, B>> = &self.shards[number as usize];
-        lock.lock(rt)
-            .meet(rt, &self.entries, &self.slots, pass, entry, code)
+        let (met, untaken) = lock
+            .lock(rt)
+            .meet(rt, &self.entries, &self.slots, pass, entry, code)?;
+        drop(untaken);
+        Ok(met)
     }
 }
 

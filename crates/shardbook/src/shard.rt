@@ -100,7 +100,8 @@ impl<S: Eq + Hash, Q: Quest<S>, B: Naming> Shard<S, Q, B> {
 
 impl<S: Eq + Hash + Drop, Q: Quest<S>, B: Naming> Shard<S, Q, B> {
     // Takes the entry as a new one, only where none of the shard dominates it; else answers with
-    // one that does, and lets the entry go. After want of memory the entry is handed back.
+    // one that does, and gives the entry back, to be let go without the lock. After want of
+    // memory the entry is handed back.
     pub(crate) fn meet<R: Wait>(
         &mut self,
         rt: &R,
@@ -109,18 +110,18 @@ impl<S: Eq + Hash + Drop, Q: Quest<S>, B: Naming> Shard<S, Q, B> {
         pass: &mut Pass<B>,
         entry: Entry<S>,
         code: u64,
-    ) -> Result<Met<S, Q, B>, (NoMemory, Entry<S>)>
+    ) -> Result<(Met<S, Q, B>, Option<Entry<S>>), (NoMemory, Entry<S>)>
         requires named { entries.now ≡ B.entries }
         requires wanted { IsWanted Q.rules Q.depart Q.steps entry }
         requires code { code ≡ code_of_writes (S.hash_input entry.state) }
-        ensures met { IfOk result (λ met. Meets S.eq self.old entry met self.new) }
-        ensures counted { IfOk result (λ met. CountsMet met pass.old pass.new) }
+        ensures met { IfOk result (λ met. Meets S.eq self.old entry met.0 self.new) }
+        ensures counted { IfOk result (λ met. CountsMet met.0 pass.old pass.new) }
         ensures handed_back { IfErr result (λ refused. refused.1 ≡ entry) }
         ensures err { OnErr result (self.new ≡ self.old) }
         ensures uncounted { OnErr result (pass.new ≡ pass.old) }
     {
         if let Some(i) = find(entries, &self.seens, &self.chains, &entry, code) {
-            return Ok(Met::Known(self.seens[i].again()));
+            return Ok((Met::Known(self.seens[i].again()), Some(entry)));
         }
         if !pass.has_room() {
             return Err((refused_growth(*self.seens.allocator()), entry));
@@ -132,6 +133,6 @@ impl<S: Eq + Hash + Drop, Q: Quest<S>, B: Naming> Shard<S, Q, B> {
         self.seens.push_reserved(seen.again());
         self.chains.push_reserved(code);
         pass.spend(&mut self.share);
-        Ok(Met::New(seen))
+        Ok((Met::New(seen), None))
     }
 }
