@@ -1,0 +1,2 @@
+-- Words for the contracts of calls within, and what the code keeps.
+pub mod Rules
