@@ -4,3 +4,4 @@ pub mod Links
 pub mod Codes
 pub mod Shards
 pub mod Scans
+pub mod Ledgers

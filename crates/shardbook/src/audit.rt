@@ -1,6 +1,7 @@
 // The audit of a book: its shards' lists against what the passes have counted.
 
 ghost use Rattle.std.specs.Prelude.{◌≡◌, ◌+◌, ◌^◌, ◌≤◌, vec_len, vec_capacity};
+ghost use Rattle.shardbook.specs.Inner.Ledgers.{AddsUp};
 
 use crate::quest::{Naming, Quest};
 use crate::shard::{Lock, Shard};
@@ -22,7 +23,7 @@ pub(crate) fn lengths<S: Eq + Hash, Q: Quest<S>, B: Naming>(
     ensures parts { all.new.parts ≡ all.old.parts }
     ensures amount { all.new.amount ≡ all.old.amount }
     ensures bound { all.old.amount + result ≤ total.now.amount }
-    ensures whole { all.old.parts + vec_len shards.old ≡ total.now.parts → all.old.amount + result ≡ total.now.amount }
+    ensures whole { AddsUp all.old (vec_len shards.old) result total.now }
 {
     let Some(lock) = shards.pop() else {
         total.audit(all);

@@ -1,4 +1,4 @@
-// The book that the workers of an explorer share: its entries in shards by their codes, each shard under a lock of its own.
+// The book that workers share: its entries in shards by their codes, each under a lock of its own.
 
 ghost use Rattle.std.specs.Prelude.{◌≡◌, ◌+◌, ◌<◌, ◌^◌, IsTrue, IfSome, IfOk, IfErr, OnErr, OnOk, vec_len};
 ghost use Rattle.shardbook.specs.Closing.{Closes};
@@ -160,8 +160,8 @@ impl<S: Eq + Hash, Q: Quest<S>, B: Naming> Book<S, Q, B> {
         are_done(&self.entries, &self.slots, all)
     }
 
-    /// Whether the shards' lists together are as long as the pass has counted. So they are where the
-    /// pass has all parts.
+    /// Whether the shards' lists together are as long as the pass has counted. So they are where
+    /// the pass has all parts.
     pub fn audit(&mut self, pass: &mut Pass<B>) -> bool
         ensures whole { pass.old.parts ≡ ALL → IsTrue result }
         ensures same { pass.new ≡ pass.old }

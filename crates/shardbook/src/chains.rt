@@ -1,7 +1,7 @@
-// The index of a list by the codes of its members: a member is found from the last one of its code backwards.
+// The index of a list by its members' codes: they are found from the last of a code backwards.
 
-ghost use Rattle.std.specs.Prelude.{◌≡◌, ℕ, ◌<◌, Some, true, [], ◌∷◌, ◌++◌, length, slice_get, OnOk};
-ghost use Rattle.shardbook.specs.Inner.Chained.{IsLast};
+ghost use Rattle.std.specs.Prelude.{◌≡◌, ◌<◌, true, [], ◌∷◌, ◌++◌, length, OnOk};
+ghost use Rattle.shardbook.specs.Inner.Chained.{IsLast, IsLastBefore};
 
 use basis::NoMemory;
 use indexmap::IndexMap;
@@ -76,7 +76,7 @@ impl Chains {
     // The last place before this one that has its code.
     pub(crate) fn before(&self, place: usize) -> Option<usize>
         requires { place < length self.now.codes }
-        ensures { (code : ℕ) → slice_get self.now.codes place ≡ Some code → IsLast self.now.codes place code result }
+        ensures { IsLastBefore self.now.codes place result }
     {
         self.links[place].before
     }

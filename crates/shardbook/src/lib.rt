@@ -1,6 +1,6 @@
 // In come the entries that the workers of an explorer meet, from any thread, and what they finish.
 // Out come places in one shared book: new ones, or ones of an entry that dominates the one met.
-// The law: an entry is new only where none of its shard dominates it; where a closing scan answers true, nothing is missing.
+// The law: new entries are dominated by none of their shard; a true closing scan misses nothing.
 #![tactic(auto)]
 
 mod audit;

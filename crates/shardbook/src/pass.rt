@@ -24,14 +24,15 @@ pub struct Pass<B: Naming> {
 }
 
 impl<B: Naming> Model for Pass<B> {
-    ghost use Rattle.std.specs.Prelude.{◌≡◌, ◌+◌, ◌*◌, ◌^◌, ◌≤◌, nat_le};
+    ghost use Rattle.std.specs.Prelude.{nat_le};
+    ghost use Rattle.shardbook.specs.Inner.Ledgers.{IsPass};
     ghost use Rattle.shardbook.specs.Passes.{Counts};
 
     ghost Value = { Counts };
 
     ghost view = { λ p. record { parts = p.share.parts; count = p.count; room = nat_le 2 p.left } };
 
-    ghost invariant = { λ p. (p.share.parts ≡ p.left + 2 * p.count) × (p.share.amount ≡ p.left + p.count) × (p.left + p.count ≤ 2 ^ 62) };
+    ghost invariant = { λ p. IsPass p.share.parts p.share.amount p.count p.left };
 }
 
 impl<B: Naming> Pass<B> {

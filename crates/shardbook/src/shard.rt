@@ -1,4 +1,4 @@
-// A shard: the entries of some codes, in the order of their New answers. It lies under a lock of its own.
+// A shard: the entries of some codes, in the order of their New answers, under a lock of its own.
 
 ghost use Rattle.std.specs.Prelude.{◌≡◌, ◌<◌, true, [], IfOk, IfErr, OnOk, OnErr, vec_len, vec_capacity};
 ghost use Rattle.shardbook.specs.Meets.{Meets, CountsMet};

@@ -1,12 +1,12 @@
 // The rule of the tally's words, and what each step on them tells. Only contracts read these types.
 
-ghost use Rattle.std.specs.Prelude.{◌≡◌, ◌<◌, true};
-ghost use Rattle.workpool.specs.Inner.Rules.{IsTallied, fresh, opened, shut, heard, stopping, split_left, split_right, joined, spent};
+ghost use Rattle.std.specs.Prelude.{◌≡◌};
+ghost use Rattle.workpool.specs.Inner.Rules.{IsTallied, fresh, opened, shut, heard, stopping, split_left, split_right, joined, spent, StaysHeard};
 
 use atomic_table::{Join, Play, Split, TableRule};
 
-// What a seat has counted, how many parts it has of the right to know the whole, and whether it knows
-// of the mark to stop. No value of it is made.
+// What a seat has counted, how many parts it has of the right to know the whole, and whether it
+// knows of the mark to stop. No value of it is made.
 pub struct Counted {
     pub parts: u64,
     pub opens: u64,
@@ -55,7 +55,7 @@ impl Play<(), Counted> for Reads {
 pub struct Hears;
 
 impl Play<(), Counted> for Hears {
-    ghost then = { λ _ me found after. (after ≡ (heard me.0 found, me.1)) × (me.0.stopped ≡ true → 0 < found) };
+    ghost then = { λ _ me found after. (after ≡ (heard me.0 found, me.1)) × StaysHeard me.0 found };
 }
 
 // One part is cut off.

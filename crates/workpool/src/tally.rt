@@ -1,4 +1,4 @@
-// The tally: how many entries were opened and shut, and whether the work is to stop, in three words.
+// The tally: how many entries were opened and shut, and whether to stop, in three words.
 
 ghost use Rattle.std.specs.Prelude.{◌≡◌, ◌+◌, ◌-◌, ◌%◌, ◌^◌, ◌<◌, ◌≤◌, true, IsTrue, IfOk};
 ghost use Rattle.workpool.specs.Tallies.{both};
@@ -18,8 +18,8 @@ const SHUTS: usize = 1;
 
 const STOP: usize = 2;
 
-/// A tally that workers share: the entries opened, the entries shut, and the mark to stop. Each call
-/// is one step on one word, without a lock. A clause sees which tally it is.
+/// A tally that workers share: the entries opened, the entries shut, and the mark to stop. Each
+/// call is one step on one word, without a lock. A clause sees which tally it is.
 #[derive(Drop)]
 pub struct Tally {
     table: Table<(), Counted, (), Tallied, Global>,
@@ -47,10 +47,11 @@ pub struct TallySeat {
 impl Model for TallySeat {
     ghost use Rattle.std.specs.Prelude.{◌≡◌, []};
     ghost use Rattle.workpool.specs.Tallies.{Seated};
+    ghost use Rattle.workpool.specs.Inner.Rules.{seated};
 
     ghost Value = { Seated };
 
-    ghost view = { λ s. record { tally = s.seat.table_id; parts = s.seat.me.0.parts; opens = s.seat.me.0.opens; shuts = s.seat.me.0.shuts; stopped = s.seat.me.0.stopped } };
+    ghost view = { λ s. seated s.seat.table_id s.seat.me.0 };
 
     ghost invariant = { λ s. s.seat.me.1 ≡ [] };
 }
@@ -111,7 +112,7 @@ impl Tally {
         self.table.shared.store::<Stops>(&mut seat.seat, STOP, 1);
     }
 
-    /// Whether the mark is set. A seat that has set it, or has found it set, finds it set from then on.
+    /// Whether the mark is set. A seat that has set it, or has found it set, finds it so from then on.
     pub fn stopped(&self, seat: &mut TallySeat) -> bool
         requires { seat.old.tally ≡ self.now }
         ensures told { seat.new ≡ record seat.old { stopped = result } }

@@ -10,3 +10,7 @@ pub record Chained : Type 0 where
 abbrev pub IsLast : List ℕ → ℕ → ℕ → Option ℕ → Type 0
 IsLast codes n code None = (j : ℕ) → j < n → slice_get codes j ≢ Some code
 IsLast codes n code (Some i) = (i < n) × (slice_get codes i ≡ Some code) × ((j : ℕ) → i < j → j < n → slice_get codes j ≢ Some code)
+
+-- Of the members before the place, it is the last that has the code of the one there.
+abbrev pub IsLastBefore : List ℕ → ℕ → Option ℕ → Type 0
+IsLastBefore codes place found = (code : ℕ) → slice_get codes place ≡ Some code → IsLast codes place code found

@@ -2,7 +2,13 @@
 use Rattle.std.specs.Prelude.{◌≡◌, ℕ, ◌+◌, ◌-◌, ◌%◌, ◌^◌, ◌<◌, true, false, ◌||◌, nat_lt, List, [], ◌∷◌}
 use mathlib.Core.Option.{some}
 use lib.ListN.{get_elem?}
+use Rattle.atomic_table.specs.Seated.{TableId}
+use Rattle.workpool.specs.Tallies.{Seated}
 use Rattle.workpool.specs.declared.rule.Counted.{Counted}
+
+-- a seat at a tally, by what it has counted
+abbrev pub seated : TableId → Counted → Seated
+seated tally v = record { tally = tally; parts = v.parts; opens = v.opens; shuts = v.shuts; stopped = v.stopped }
 
 abbrev pub fresh : ℕ → Counted
 fresh parts = record { parts = parts; opens = 0; shuts = 0; stopped = false }
@@ -19,6 +25,10 @@ stopping v = record { parts = v.parts; opens = v.opens; shuts = v.shuts; stopped
 -- the mark was found to be this
 abbrev pub heard : Counted → ℕ → Counted
 heard v found = record { parts = v.parts; opens = v.opens; shuts = v.shuts; stopped = nat_lt 0 found }
+
+-- who knows of the mark finds it
+abbrev pub StaysHeard : Counted → ℕ → Type 0
+StaysHeard v found = v.stopped ≡ true → 0 < found
 
 -- one part goes, with nothing counted
 abbrev pub split_left : Counted → Counted
