@@ -1,1 +1,3 @@
+pub mod SumLemmas
 pub mod RuleLemmas
+pub mod FairLemmas

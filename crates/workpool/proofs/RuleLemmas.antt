@@ -1,22 +1,14 @@
 -- Why each step keeps the rule of a tally.
 use Rattle.std.proofs.Common.{◌≡◌, ℕ, zero, suc, ◌+◌, ◌%◌, ◌^◌, ◌<◌, ◌≤◌, Bool, true, false, ◌||◌, List, [], ◌∷◌, ◌++◌, set, slice_index, slice_set, arith, ap, refl, sym, ◌∙◌, subst, inl, inr, true≢false, ltb-true}
-use mathlib.Core.Option.{some, some-injective, some-ne-none}
+use mathlib.Core.Option.{some}
 use lib.ListN.{get_elem?}
 use native.Mathlib.Nat.{mod-add-mod}
 use Rattle.atomic_table.proofs.Lists.{at_set, at_snoc}
 use Rattle.atomic_table.specs.Table.{State, Me, Allows, Splits, Joins, Final, Seen, keeps}
 use Rattle.workpool.specs.declared.rule.Counted.{Counted}
-use Rattle.workpool.specs.Inner.Rules.{IsTallied, opened, shut, heard, stopping, split_left, split_right, joined, spent, total}
-
--- the sum after a change of one seat
-pub total_set : (f : Counted → ℕ) (views : List Counted) (seat : ℕ) (v w : Counted) → get_elem? views seat ≡ some v → total f (set views seat w) + f v ≡ total f views + f w
-total_set f [] seat v w at = absurd (some-ne-none v (sym at))
-total_set f (x ∷ views) zero v w at = let same : f x ≡ f v = ap f (some-injective x v at) in omega (arith, same)
-total_set f (x ∷ views) (suc seat) v w at = let rest = total_set f views seat v w at in omega (arith, rest)
-
-pub total_snoc : (f : Counted → ℕ) (views : List Counted) (w : Counted) → total f (views ++ w ∷ []) ≡ total f views + f w
-total_snoc f [] w = omega arith
-total_snoc f (x ∷ views) w = let rest = total_snoc f views w in omega (arith, rest)
+use Rattle.workpool.specs.Inner.Rules.{IsTallied, opened, shut, heard, stopping, split_left, split_right, joined, spent}
+use Rattle.workpool.specs.Inner.Sums.{total}
+use Rattle.workpool.proofs.SumLemmas.{total_set, total_snoc, alone}
 
 -- a seat that changes keeps what all seats keep
 told_set : (views : List Counted) (seat : ℕ) (w : Counted) (mark : ℕ) → (w.stopped ≡ true → 0 < mark) → ((i : ℕ) (v : Counted) → get_elem? views i ≡ some v → v.stopped ≡ true → 0 < mark)
@@ -152,33 +144,6 @@ module _ (words : List ℕ) (views : List Counted) (seat : ℕ) (v : Counted) (a
       or_told true b h f g = f refl
       or_told false b h f g = g h
 
--- where nobody else has a part, nobody else has counted
-all_idle : (f : Counted → ℕ) (views : List Counted) → ((i : ℕ) (u : Counted) → get_elem? views i ≡ some u → u.parts ≡ 0 → f u ≡ 0) → total (λ (x : Counted). x.parts) views ≡ 0 → total f views ≡ 0
-all_idle f [] idle none = refl
-all_idle f (x ∷ views) idle none =
-    let here : f x ≡ 0 = idle 0 x refl (omega (arith, none)) in
-    let rest = all_idle f views (λ i. idle (suc i)) (omega (arith, none)) in
-    omega (arith, here, rest)
-
-part_of : (views : List Counted) (seat : ℕ) (v : Counted) → get_elem? views seat ≡ some v → v.parts ≤ total (λ (x : Counted). x.parts) views
-part_of [] seat v at = absurd (some-ne-none v (sym at))
-part_of (x ∷ views) zero v at = let same : x.parts ≡ v.parts = ap (λ (y : Counted). y.parts) (some-injective x v at) in omega (arith, same)
-part_of (x ∷ views) (suc seat) v at = let rest = part_of views seat v at in omega (arith, rest)
-
-pub alone : (f : Counted → ℕ) (views : List Counted) (seat : ℕ) (v : Counted) → get_elem? views seat ≡ some v → ((i : ℕ) (u : Counted) → get_elem? views i ≡ some u → u.parts ≡ 0 → f u ≡ 0) → total (λ (x : Counted). x.parts) views ≡ v.parts → total f views ≡ f v
-alone f [] seat v at idle all = absurd (some-ne-none v (sym at))
-alone f (x ∷ views) zero v at idle all =
-    let same : x ≡ v = some-injective x v at in
-    let parts : x.parts ≡ v.parts = ap (λ (y : Counted). y.parts) same in
-    let rest = all_idle f views (λ i. idle (suc i)) (omega (arith, parts, all)) in
-    let counted : f x ≡ f v = ap f same in
-    omega (arith, rest, counted)
-alone f (x ∷ views) (suc seat) v at idle all =
-    let most = part_of views seat v at in
-    let here : f x ≡ 0 = idle 0 x refl (omega (arith, most, all)) in
-    let rest = alone f views seat v at (λ i. idle (suc i)) (omega (arith, most, all)) in
-    omega (arith, here, rest)
-
 -- What each call asks of the table.
 abbrev holds : State (Unit {0}) Counted → Type 0
 holds s = IsTallied s.words s.views
@@ -211,6 +176,6 @@ settled words slots id v end all =
     let s = end.0 in
     let kept = end.1.0 in
     let at = end.1.1 in
-    let opens : total (λ (x : Counted). x.opens) s.views ≡ v.opens = alone (λ (x : Counted). x.opens) s.views id v at (λ i u there none. (kept.idle i u there none).0) (kept.parts ∙ sym all) in
-    let shuts : total (λ (x : Counted). x.shuts) s.views ≡ v.shuts = alone (λ (x : Counted). x.shuts) s.views id v at (λ i u there none. (kept.idle i u there none).1) (kept.parts ∙ sym all) in
+    let opens : total (λ (x : Counted). x.opens) s.views ≡ v.opens = alone (λ (x : Counted). x.parts) (λ (x : Counted). x.opens) s.views id v at (λ i u there none. (kept.idle i u there none).0) (kept.parts ∙ sym all) in
+    let shuts : total (λ (x : Counted). x.shuts) s.views ≡ v.shuts = alone (λ (x : Counted). x.parts) (λ (x : Counted). x.shuts) s.views id v at (λ i u there none. (kept.idle i u there none).1) (kept.parts ∙ sym all) in
     (kept.mark, sym end.2 ∙ kept.words_are ∙ three (ap (λ n. n % 2 ^ 64) opens) (ap (λ n. n % 2 ^ 64) shuts) refl)

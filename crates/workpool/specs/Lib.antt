@@ -1,2 +1,3 @@
 pub mod Tallies
+pub mod Jobs
 pub mod Inner

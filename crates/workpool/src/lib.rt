@@ -3,7 +3,10 @@
 // The law: what the tally holds is what the seats have counted, however they took turns.
 #![tactic(auto)]
 
+mod deque;
+mod hand;
 mod rule;
 mod tally;
 
+pub use deque::{Owner, Thief, ends, settle};
 pub use tally::{SEATS, Tally, TallySeat};

@@ -4,6 +4,7 @@ use mathlib.Core.Option.{some}
 use lib.ListN.{get_elem?}
 use Rattle.atomic_table.specs.Seated.{TableId}
 use Rattle.workpool.specs.Tallies.{Seated}
+use Rattle.workpool.specs.Inner.Sums.{total}
 use Rattle.workpool.specs.declared.rule.Counted.{Counted}
 
 -- a seat at a tally, by what it has counted
@@ -43,16 +44,11 @@ joined v w = record { parts = v.parts + w.parts; opens = v.opens + w.opens; shut
 abbrev pub spent : Counted
 spent = fresh 0
 
--- the sum over all seats
-abbrev pub total : (Counted → ℕ) → List Counted → ℕ
-total f [] = 0
-total f (v ∷ vs) = f v + total f vs
-
 -- The words are the sums of what was counted, modulo 2^64, and the mark, which is set where a seat knows of it. All parts are
 -- 64, and who has none has counted nothing.
 pub record IsTallied (words : List ℕ) (views : List Counted) : Type 0 where
   pub mark : ℕ
-  pub words_are : words ≡ (total (λ v. v.opens) views % 2 ^ 64) ∷ (total (λ v. v.shuts) views % 2 ^ 64) ∷ mark ∷ []
+  pub words_are : words ≡ (total (λ (v : Counted). v.opens) views % 2 ^ 64) ∷ (total (λ (v : Counted). v.shuts) views % 2 ^ 64) ∷ mark ∷ []
   pub told : (seat : ℕ) (v : Counted) → get_elem? views seat ≡ some v → v.stopped ≡ true → 0 < mark
-  pub parts : total (λ v. v.parts) views ≡ 64
+  pub parts : total (λ (v : Counted). v.parts) views ≡ 64
   pub idle : (seat : ℕ) (v : Counted) → get_elem? views seat ≡ some v → v.parts ≡ 0 → (v.opens ≡ 0) × (v.shuts ≡ 0)
