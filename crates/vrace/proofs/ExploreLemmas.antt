@@ -20,7 +20,7 @@ use Rattle.vrace.specs.Refusals.{IsOfWriting}
 use Rattle.vrace.specs.RunDumps.{failures_after, fault_of}
 use Rattle.vrace.specs.declared.exploring.Status.{Status}
 use Rattle.vrace.specs.declared.fault.Fault.{Fault}
-use Rattle.vrace.specs.declared.fault.Fault.TheVariants.{NotEnded, BadToken, Growth, NoTree, Outside, TooDeep, NotYet, NoTop, Doubled, Unknown, Width, TooMany, BadLog, NoSuchChoice, TooManySteps, OutOfLimit, Memory, Write, Read, TooLong}
+use Rattle.vrace.specs.declared.fault.Fault.TheVariants.{NotEnded, BadToken, Growth, NoTree, Outside, TooDeep, NotYet, NoTop, Doubled, Unknown, Width, TooMany, BadLog, NoSuchChoice, TooManySteps, OutOfLimit, BadReport, FalseEnd, FalseRace, FalseHead, Memory, Write, Read, TooLong}
 
 of_writing : (cause : OrMemory WriteFault) → IsOfWriting (fault_of cause)
 of_writing (or.Memory m) = tt
@@ -74,6 +74,10 @@ module _ (files : List (List ℕ)) (asked : Asked) (searched : Searched files as
   search_reason NoSuchChoice p = absurd p
   search_reason TooManySteps p = absurd p
   search_reason OutOfLimit p = absurd p
+  search_reason BadReport p = absurd p
+  search_reason (FalseEnd i) p = absurd p
+  search_reason (FalseRace i) p = absurd p
+  search_reason FalseHead p = absurd p
   search_reason Write p = absurd p
   search_reason Read p = absurd p
   search_reason TooLong p = absurd p
@@ -96,6 +100,10 @@ module _ (files : List (List ℕ)) (asked : Asked) (searched : Searched files as
   no_failure NoSuchChoice n p = absurd p
   no_failure TooManySteps n p = absurd p
   no_failure OutOfLimit n p = absurd p
+  no_failure BadReport n p = absurd p
+  no_failure (FalseEnd i) n p = absurd p
+  no_failure (FalseRace i) n p = absurd p
+  no_failure FalseHead n p = absurd p
   no_failure Write n p = absurd p
   no_failure Read n p = absurd p
   no_failure TooLong n p = absurd p
