@@ -1,1 +1,2 @@
 pub mod HeadLemmas
+pub mod EndLemmas

@@ -4,6 +4,7 @@
 #![tactic(auto)]
 
 mod check;
+mod end;
 mod head;
 
 pub use check::FirstBad;
