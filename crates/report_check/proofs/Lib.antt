@@ -1,2 +1,4 @@
 pub mod HeadLemmas
 pub mod EndLemmas
+pub mod WalkLemmas
+pub mod EachLemmas

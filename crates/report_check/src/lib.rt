@@ -6,5 +6,6 @@
 mod check;
 mod end;
 mod head;
+mod race;
 
 pub use check::FirstBad;
