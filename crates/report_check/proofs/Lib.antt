@@ -2,3 +2,4 @@ pub mod HeadLemmas
 pub mod EndLemmas
 pub mod WalkLemmas
 pub mod EachLemmas
+pub mod FirstLemmas

@@ -8,4 +8,4 @@ mod end;
 mod head;
 mod race;
 
-pub use check::FirstBad;
+pub use check::{FirstBad, check_report};
