@@ -2,5 +2,6 @@ mod DesignLemmas
 mod DumpLemmas
 mod ReplayLemmas
 mod ExploreLemmas
+mod CheckLemmas
 mod ReadLemmas
 mod LawLemmas

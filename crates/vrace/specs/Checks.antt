@@ -27,6 +27,11 @@ pub record Checked (files : List (List ℕ)) (text : List ℕ) : Type 0 where
 abbrev pub setting_by : (files : List (List ℕ)) (text : List ℕ) → Checked files text → Setting
 setting_by files text checked = setting_for files (asked_by checked.report) checked.searched
 
+-- the machine is that of the files, as the head of the report asks for it
+pub record IsMachineOf (files : List (List ℕ)) (report : Report) (machine : Setting) : Type 0 where
+  pub searched : Searched files (asked_by report)
+  pub machine_is : machine ≡ setting_for files (asked_by report) searched
+
 -- all that it lists is true of the files
 pub record IsTrueText (files : List (List ℕ)) (text : List ℕ) : Type 0 where
   pub checked : Checked files text
@@ -38,6 +43,12 @@ pub record IsTrueText (files : List (List ℕ)) (text : List ℕ) : Type 0 where
 pub record IsFalseAt (files : List (List ℕ)) (text : List ℕ) (bad : FirstBad) : Type 0 where
   pub checked : Checked files text
   pub first : IsFirstBad (setting_by files text checked) checked.report checked.dumps bad
+
+-- the number of the first item that isn't true
+abbrev pub fault_by : FirstBad → Fault
+fault_by Head = FalseHead
+fault_by (End place) = FalseEnd place
+fault_by (Race place) = FalseRace place
 
 -- what a fault of the report says
 abbrev pub IsReportReason : List (List ℕ) → List ℕ → Fault → Type 0

@@ -6,3 +6,4 @@ pub mod RunDumps
 pub mod Reads
 pub mod Places
 pub mod Explores
+pub mod Checks

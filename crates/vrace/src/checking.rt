@@ -1,14 +1,16 @@
 // Whether a report is true of files.
 
-ghost use Rattle.std.specs.Prelude.{◌≡◌, OnOk, IfErr};
+ghost use Rattle.std.specs.Prelude.{◌≡◌, ℕ, List, Some, length, map, OnOk, IfOk, IfErr};
+ghost use Rattle.report_text.specs.WellFormed.{IsTold};
 ghost use Rattle.vsrc.specs.Source.{file_bytes};
-ghost use Rattle.vrace.specs.Checks.{IsCheckReason, IsTrueText};
+ghost use Rattle.vrace.specs.Checks.{IsCheckReason, IsMachineOf, IsTrueText, fault_by};
+ghost use Rattle.vrace.specs.Refusals.{IsDesignFault};
 
 use crate::design::design_of;
 use crate::fault::Fault;
 use basis::OrMemory;
 use report_check::{FirstBad, check_report};
-use report_text::{ReportFault, read_report};
+use report_text::{Report, ReportFault, read_report};
 use std::alloc::Global;
 use vmachine::Machine;
 
@@ -20,6 +22,43 @@ fn of_bad(bad: FirstBad) -> Fault
         FirstBad::Head => Fault::FalseHead,
         FirstBad::End(place) => Fault::FalseEnd(place),
         FirstBad::Race(place) => Fault::FalseRace(place),
+    }
+}
+
+// The machine that the head of a report asks for.
+fn machine_of(alloc: Global, files: &[Vec<u8>], report: &Report) -> Result<Machine, Fault>
+    ensures ok { IfOk result (IsMachineOf (file_bytes files.now) report.now) }
+    ensures err { IfErr result (IsDesignFault (file_bytes files.now) (Some report.now.top)) }
+{
+    let design = match design_of(alloc, files, Some(&report.top)) {
+        Ok(design) => design,
+        Err(fault) => return Err(fault),
+    };
+    match Machine::new(alloc, design, report.until, report.grain) {
+        Ok(machine) => Ok(machine),
+        Err(refused) => Err(Fault::Memory(refused)),
+    }
+}
+
+// Checks a report that was read.
+fn check_told(
+    alloc: Global,
+    files: &[Vec<u8>],
+    report: &Report,
+    dumps: &[&[u8]],
+) -> Result<(), Fault>
+    requires { length dumps.now ≡ length report.now.ends }
+    ensures ok { (text : List ℕ) → IsTold text (report.now, map (λ dump. dump.now) dumps.now) → OnOk result (IsTrueText (file_bytes files.now) text) }
+    ensures reason { (text : List ℕ) → IsTold text (report.now, map (λ dump. dump.now) dumps.now) → IfErr result (IsCheckReason (file_bytes files.now) text) }
+{
+    let machine = match machine_of(alloc, files, report) {
+        Ok(machine) => machine,
+        Err(fault) => return Err(fault),
+    };
+    match check_report(alloc, &machine, report, dumps) {
+        Ok(()) => Ok(()),
+        Err(OrMemory::Fault(bad)) => Err(of_bad(bad)),
+        Err(OrMemory::Memory(refused)) => Err(Fault::Memory(refused)),
     }
 }
 
@@ -38,17 +77,5 @@ pub fn check_text(alloc: Global, files: &[Vec<u8>], report: &[u8]) -> Result<(),
         Err(OrMemory::Fault(ReportFault::IllFormed)) => return Err(Fault::BadReport),
         Err(OrMemory::Memory(refused)) => return Err(Fault::Memory(refused)),
     };
-    let design = match design_of(alloc, files, Some(&told.report.top)) {
-        Ok(design) => design,
-        Err(fault) => return Err(fault),
-    };
-    let machine = match Machine::new(alloc, design, told.report.until, told.report.grain) {
-        Ok(machine) => machine,
-        Err(refused) => return Err(Fault::Memory(refused)),
-    };
-    match check_report(alloc, &machine, &told.report, &told.dumps) {
-        Ok(()) => Ok(()),
-        Err(OrMemory::Fault(bad)) => Err(of_bad(bad)),
-        Err(OrMemory::Memory(refused)) => Err(Fault::Memory(refused)),
-    }
+    check_told(alloc, files, &told.report, &told.dumps)
 }

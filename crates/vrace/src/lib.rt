@@ -4,6 +4,7 @@
 #![tactic(auto)]
 
 mod asked;
+mod checking;
 mod design;
 mod exploring;
 mod fault;
@@ -13,6 +14,7 @@ mod read;
 mod replay;
 mod unwatched;
 
+pub use checking::check_text;
 pub use exploring::{Status, explore_text_alone};
 pub use fault::{At, Fault};
 pub use options::Options;

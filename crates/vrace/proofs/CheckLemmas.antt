@@ -1,0 +1,55 @@
+-- From the check of a machine to that of files.
+use Rattle.std.proofs.Common.{◌≡◌, inl, inr, ℕ, List, [], ◌∷◌, length, map, Some, refl, sym, ap, subst, ◌∙◌, suc}
+use Rattle.std.proofs.lemmas.List.{length-map}
+use Rattle.report_text.specs.Report.{End, Report}
+use Rattle.report_text.specs.WellFormed.{HaveBytes, IsTold}
+use Rattle.vreport.specs.Truth.{IsTrueReport}
+use Rattle.report_check.specs.FirstBad.{IsFirstBad}
+use Rattle.report_check.specs.declared.check.FirstBad.{FirstBad}
+use Rattle.report_check.specs.declared.check.FirstBad.TheVariants.{Head, End as BadEnd, Race as BadRace}
+use Rattle.vsrc.specs.Source.{joined}
+use Rattle.vast.specs.Design.{Design}
+use Rattle.vmodel.specs.declared.history.Grain.{Grain}
+use Rattle.vrace.specs.Replays.{AreRead, IsDesignOf}
+use Rattle.vmodel.specs.Run.{Setting}
+use Rattle.vrace.specs.Checks.{IsCheckReason, IsMachineOf, IsReportReason, IsTrueText, fault_by}
+use Rattle.vrace.specs.declared.fault.Fault.{Fault}
+
+-- a dump for each end
+pub as_many : (ends : List End) (dumps : List (List ℕ)) → HaveBytes ends dumps → length dumps ≡ length ends
+as_many [] [] h = refl
+as_many [] (dump ∷ dumps) h = absurd h
+as_many (end ∷ ends) [] h = absurd h
+as_many (end ∷ ends) (dump ∷ dumps) h = ap suc (as_many ends dumps h.1)
+
+module _ (files : List (List ℕ)) (text : List ℕ) (report : Report) (dumps : List (List ℕ)) (told : IsTold text (report, dumps)) (machine : Setting) (of : IsMachineOf files report machine) where
+  pub true_text : IsTrueReport machine report dumps → IsTrueText files text
+  true_text truth = record {
+    checked = record { report = report; dumps = dumps; told = told; searched = of.searched };
+    truth = subst (λ (s : Setting). IsTrueReport s report dumps) of.machine_is truth;
+  }
+
+  false_item : (bad : FirstBad) → IsFirstBad machine report dumps bad → IsReportReason files text (fault_by bad)
+  false_item Head first = record {
+    checked = record { report = report; dumps = dumps; told = told; searched = of.searched };
+    first = subst (λ (s : Setting). IsFirstBad s report dumps Head) of.machine_is first;
+  }
+  false_item (BadEnd i) first = record {
+    checked = record { report = report; dumps = dumps; told = told; searched = of.searched };
+    first = subst (λ (s : Setting). IsFirstBad s report dumps (BadEnd i)) of.machine_is first;
+  }
+  false_item (BadRace i) first = record {
+    checked = record { report = report; dumps = dumps; told = told; searched = of.searched };
+    first = subst (λ (s : Setting). IsFirstBad s report dumps (BadRace i)) of.machine_is first;
+  }
+
+  pub false_text : (bad : FirstBad) (fault : Fault) → fault ≡ fault_by bad → IsFirstBad machine report dumps bad → IsCheckReason files text fault
+  false_text bad fault is first = inl (subst (IsReportReason files text) (sym is) (false_item bad first))
+
+-- the machine of a design of the files
+pub machine_made : (files : List (List ℕ)) (report : Report) (top : List ℕ) (until : ℕ) (grain : Grain) (design : Design) (machine : Setting) → top ≡ report.top → until ≡ report.until →
+    grain ≡ report.grain → AreRead files → IsDesignOf (joined files) (Some top) design → machine ≡ record { design = design; until = until; grain = grain } → IsMachineOf files report machine
+machine_made files report top until grain design machine top_is until_is grain_is read of is = record {
+  searched = record { are_read = read; design = design; is_design = subst (λ (t : List ℕ). IsDesignOf (joined files) (Some t) design) top_is of };
+  machine_is = is ∙ (λ i. record { design = design; until = until_is i; grain = grain_is i });
+}

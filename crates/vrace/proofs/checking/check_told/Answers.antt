@@ -1,0 +1,13 @@
+use Rattle.std.proofs.Common.{map}
+use Rattle.vsrc.specs.Source.{file_bytes}
+use Rattle.vrace.proofs.CheckLemmas.{false_text, true_text}
+use Rattle.vrace.proofs.checking.check_told.Goals as goal
+
+pub returns-in-Ok-check_report-clause-ok : goal.returns-in-Ok-check_report-clause-ok
+returns-in-Ok-check_report-clause-ok c = λ text told.
+    true_text (file_bytes c.args.files.now) text c.args.report.now (map (λ dump. dump.now) c.args.dumps.now) told c.in-Ok.machine c.in-Ok.ensures.ok c.in-Ok-check_report.ensures.ok
+
+pub returns-in-Err-Fault-clause-reason : goal.returns-in-Err-Fault-clause-reason
+returns-in-Err-Fault-clause-reason c = λ text told.
+    false_text (file_bytes c.args.files.now) text c.args.report.now (map (λ dump. dump.now) c.args.dumps.now) told c.in-Ok.machine c.in-Ok.ensures.ok c.in-Err-Fault.bad c.of_bad.result
+    c.of_bad.ensures c.in-Err-Fault.ensures.bad
