@@ -1,11 +1,16 @@
 -- The first item of a report that isn't true: its head, an end or a race, counted from 0.
-use Rattle.std.specs.Prelude.{◌≡◌, ℕ, List, take, slice_get, Option, Some, None}
+use Rattle.std.specs.Prelude.{◌≡◌, ℕ, List, map, take, slice_get, Some}
+use Rattle.std.specs.Borrow.{Bor}
 use Rattle.vmodel.specs.Run.{Setting}
 use Rattle.report_text.specs.Report as reports
 use Rattle.report_text.specs.WellFormed.{Each}
 use Rattle.vreport.specs.Truth.{AreTrueEnds, IsTrueEndOf, IsTrueHead, IsTrueRace}
 use Rattle.report_check.specs.declared.check.FirstBad.{FirstBad}
 use Rattle.report_check.specs.declared.check.FirstBad.TheVariants.{Head, End, Race}
+
+-- the texts that are borrowed
+abbrev pub texts_of : List (Bor (List ℕ)) → List (List ℕ)
+texts_of = map (λ text. text.now)
 
 -- the first n ends are true, each with its dump
 abbrev pub AreFirstEndsTrue : Setting → reports.Report → List (List ℕ) → ℕ → Type 0
@@ -28,16 +33,6 @@ pub record IsFalseRace (setting : Setting) (report : reports.Report) (place : �
   pub race : reports.Race
   pub at : slice_get report.races place ≡ Some race
   pub not_true : ¬ IsTrueRace setting report race
-
--- the first end that isn't true, if there is one
-abbrev pub TellsEnds : Setting → reports.Report → List (List ℕ) → Option ℕ → Type 0
-TellsEnds setting report dumps None = AreTrueEnds setting report report.ends dumps
-TellsEnds setting report dumps (Some place) = AreFirstEndsTrue setting report dumps place × IsFalseEnd setting report dumps place
-
--- the first race
-abbrev pub TellsRaces : Setting → reports.Report → Option ℕ → Type 0
-TellsRaces setting report None = Each (IsTrueRace setting report) report.races
-TellsRaces setting report (Some place) = AreFirstRacesTrue setting report place × IsFalseRace setting report place
 
 -- it isn't true, and all items before it are
 abbrev pub IsFirstBad : Setting → reports.Report → List (List ℕ) → FirstBad → Type 0

@@ -1,5 +1,5 @@
 -- Words for the contracts of calls within.
-use Rattle.std.specs.Prelude.{◌≡◌, ℕ, ◌+◌, ◌<◌, ◌≤◌, ◌⊎◌, Bool, true, List, slice_get, Some, Decides}
+use Rattle.std.specs.Prelude.{◌≡◌, ℕ, ◌+◌, ◌<◌, ◌≤◌, ◌⊎◌, Bool, true, List, slice_get, Option, Some, None, Decides}
 use Rattle.sched_core.specs.Rules.{IsRun, NamesBelow}
 use Rattle.vbits.specs.Vectors.{Vector}
 use Rattle.vmodel.specs.State.{State}
@@ -7,9 +7,12 @@ use Rattle.vmodel.specs.Run.{Setting, rules_of, state_after}
 use Rattle.vmachine.specs.declared.standing.Standing.{Standing}
 use Rattle.vmachine.specs.Machines.{Stands}
 use Rattle.vmachine.specs.Reads.{end_in, slot_in}
-use Rattle.report_text.specs.Report.{End}
+use Rattle.report_text.specs.Report.{End, Report}
+use Rattle.report_text.specs.WellFormed.{Each}
 use Rattle.vreport.specs.Ends.{IsEndAfter}
+use Rattle.vreport.specs.Truth.{AreTrueEnds, IsTrueRace}
 use Rattle.vreport.specs.Values.{value_text, values_line}
+use Rattle.report_check.specs.FirstBad.{AreFirstEndsTrue, AreFirstRacesTrue, IsFalseEnd, IsFalseRace}
 
 -- ---- ends
 
@@ -59,3 +62,15 @@ pub record IsSeenWithin (setting : Setting) (limit time variable : ℕ) (seen : 
   pub names : NamesBelow seen.1 steps
   pub within : steps ≤ limit
   pub before : IsSeenBefore setting time variable seen.0 seen.1 (steps + 1)
+
+-- ---- the first that isn't true
+
+-- the first end that isn't true, if there is one
+abbrev pub TellsEnds : Setting → Report → List (List ℕ) → Option ℕ → Type 0
+TellsEnds setting report dumps None = AreTrueEnds setting report report.ends dumps
+TellsEnds setting report dumps (Some place) = AreFirstEndsTrue setting report dumps place × IsFalseEnd setting report dumps place
+
+-- the first race
+abbrev pub TellsRaces : Setting → Report → Option ℕ → Type 0
+TellsRaces setting report None = Each (IsTrueRace setting report) report.races
+TellsRaces setting report (Some place) = AreFirstRacesTrue setting report place × IsFalseRace setting report place

@@ -1,10 +1,11 @@
 // The first item of a report that isn't true.
 
-ghost use Rattle.std.specs.Prelude.{◌≡◌, map, length, OnOk, IfOk};
+ghost use Rattle.std.specs.Prelude.{◌≡◌, length, OnOk, IfOk};
 ghost use Rattle.basis.specs.Reasons.{IfFault};
 ghost use Rattle.vcd_text.specs.DumpText.{header};
 ghost use Rattle.vreport.specs.Truth.{IsTrueReport};
-ghost use Rattle.report_check.specs.FirstBad.{IsFirstBad, TellsEnds, TellsRaces};
+ghost use Rattle.report_check.specs.FirstBad.{IsFirstBad, texts_of};
+ghost use Rattle.report_check.specs.Inner.{TellsEnds, TellsRaces};
 
 use crate::end::is_true_end;
 use crate::head::is_true_head;
@@ -34,7 +35,7 @@ fn first_false_end(
     dumps: &[&[u8]],
 ) -> Result<Option<usize>, NoMemory>
     requires { length dumps.now ≡ length report.now.ends }
-    ensures { IfOk result (TellsEnds machine.now report.now (map (λ dump. dump.now) dumps.now)) }
+    ensures { IfOk result (TellsEnds machine.now report.now (texts_of dumps.now)) }
 {
     let head = Header::new(alloc, machine.design())?;
     for place in 0..report.ends.len() {
@@ -71,8 +72,8 @@ fn first_false_race(
 /// Whether all that the report lists is true of the machine, the dumps being those of its ends, in their order: its head,
 /// each end with its dump, and each value of each race. Whether the report lists all that there is, is not tested.
 ///
-/// The fault is the first item that isn't true (E504, E502, E503); else it is want of memory, E901. Each log is run once,
-/// within the steps that the report's head allows, and no dump is made in memory.
+/// The fault is the first item that isn't true (E504, E502, E503); else it is want of memory, E901. An end's log is
+/// run twice, that of a value once, within the steps that the report's head allows. No dump is made in memory.
 pub fn check_report(
     alloc: Global,
     machine: &Machine,
@@ -80,8 +81,8 @@ pub fn check_report(
     dumps: &[&[u8]],
 ) -> Result<(), OrMemory<FirstBad>>
     requires { length dumps.now ≡ length report.now.ends }
-    ensures ok { OnOk result (IsTrueReport machine.now report.now (map (λ dump. dump.now) dumps.now)) }
-    ensures bad { IfFault result (IsFirstBad machine.now report.now (map (λ dump. dump.now) dumps.now)) }
+    ensures ok { OnOk result (IsTrueReport machine.now report.now (texts_of dumps.now)) }
+    ensures bad { IfFault result (IsFirstBad machine.now report.now (texts_of dumps.now)) }
 {
     if !is_true_head(machine, report) {
         return Err(OrMemory::Fault(FirstBad::Head));
