@@ -15,9 +15,10 @@ use std::io::{BufWriter, Write};
 use std::process::ExitCode;
 use std::{env, io};
 use vcd_text::Metered;
-use vrace::{Fault, Options, Show, Status, explore_text_alone, read_text, replay_text};
+use vrace::{Fault, Options, Show, Status, check_text, explore_text_alone, read_text, replay_text};
 use words::{
-    Request, commands, depart_of, entries_of, has_dashed_log, has_dashed_top, log_of, request_of,
+    Request, commands, depart_of, entries_of, files_of, has_dashed_log, has_dashed_report,
+    has_dashed_top, log_of, report_of, request_of,
 };
 
 // What stands for the limits of exploring, which a replay doesn't read.
@@ -140,6 +141,17 @@ fn explore(
     Ok(status_code(status))
 }
 
+// Checks the report against the files, and says ok where all of it is true.
+fn check(rt: &HostRuntime, report: &str, files: &[&str]) -> Result<ExitCode, Stop> {
+    let report = read_file(rt, report)?;
+    let texts = texts(rt, files)?;
+    check_text(rt.alloc(), &texts, &report)?;
+    match println!(rt; "ok") {
+        Ok(()) => Ok(ExitCode::SUCCESS),
+        Err(_) => Err(Stop::Refused(Fault::Write)),
+    }
+}
+
 // What clap says of words that it doesn't take: help on standard output, or a refusal.
 fn stopped(rt: &HostRuntime, error: &Error) -> Stop {
     if error.kind() == ErrorKind::OutOfMemory {
@@ -216,6 +228,27 @@ fn explore_by<'a>(rt: &HostRuntime, matches: &ArgMatches<'a>) -> Result<ExitCode
     explore(rt, &request, depart_of(matches), entries_of(matches))
 }
 
+// Checks what the words ask for.
+fn check_by<'a>(rt: &HostRuntime, matches: &ArgMatches<'a>) -> Result<ExitCode, Stop> {
+    if has_dashed_report(matches) {
+        return Err(Stop::Usage);
+    }
+    let Ok(files) = files_of(rt.alloc(), matches) else {
+        return Err(Stop::NoMemory);
+    };
+    check(rt, report_of(matches), &files)
+}
+
+// The exit status of a refusal: 1 where an item of a report isn't true.
+fn refused_code(fault: Fault) -> ExitCode {
+    match fault {
+        Fault::FalseEnd(_) => ExitCode::from(1),
+        Fault::FalseRace(_) => ExitCode::from(1),
+        Fault::FalseHead => ExitCode::from(1),
+        _ => ExitCode::from(2),
+    }
+}
+
 // Does what the words ask for.
 fn run<'a>(rt: &HostRuntime, words: &'a [String]) -> Result<ExitCode, Stop> {
     let Ok(commands) = commands(rt.alloc()) else {
@@ -227,6 +260,9 @@ fn run<'a>(rt: &HostRuntime, words: &'a [String]) -> Result<ExitCode, Stop> {
     };
     if let Some(matches) = matches.subcommand_matches("explain") {
         return explain(rt, matches.get_str("NUMBER"));
+    }
+    if let Some(matches) = matches.subcommand_matches("check") {
+        return check_by(rt, matches);
     }
     if let Some(matches) = matches.subcommand_matches("explore") {
         return explore_by(rt, matches);
@@ -255,7 +291,7 @@ fn main(rt: HostRuntime) -> ExitCode {
         }
         Err(Stop::Refused(fault)) => {
             let _ = eprintln!(rt; "vrace: {fault}");
-            ExitCode::from(2)
+            refused_code(fault)
         }
     }
 }

@@ -104,6 +104,15 @@ fn explore_command<'a>(alloc: Global) -> Result<Command<'a>, NoMemory> {
     Ok(command)
 }
 
+fn check_command<'a>(alloc: Global) -> Result<Command<'a>, NoMemory> {
+    let report = option(alloc, "report", "REPORT", "The file of the report").required(true);
+    let command = Command::new(alloc, "check")
+        .about("Runs each log of a report; says ok, or the first item that isn't true")
+        .arg(report)?
+        .arg(files(alloc))?;
+    Ok(command)
+}
+
 fn explain_command<'a>(alloc: Global) -> Result<Command<'a>, NoMemory> {
     let number = Arg::new(alloc, "NUMBER").help("The number, as E203; without it all are listed");
     let command = Command::new(alloc, "explain")
@@ -120,6 +129,7 @@ pub fn commands<'a>(alloc: Global) -> Result<Command<'a>, NoMemory> {
         .version("0.1.0")
         .after_help(PAGES)
         .subcommand_required(true)
+        .subcommand(check_command(alloc)?)?
         .subcommand(explore_command(alloc)?)?
         .subcommand(replay_command(alloc)?)?
         .subcommand(explain_command(alloc)?)?;
@@ -154,6 +164,24 @@ pub fn log_of<'a>(matches: &ArgMatches<'a>) -> &'a str {
     matches.get_str("log").unwrap_or("-")
 }
 
+/// Whether the value of `--report` reads as an option.
+pub fn has_dashed_report(matches: &ArgMatches<'_>) -> bool {
+    is_dashed(matches, "report")
+}
+
+/// The file of the report that is to be checked.
+pub fn report_of<'a>(matches: &ArgMatches<'a>) -> &'a str {
+    matches.get_str("report").unwrap_or("")
+}
+
+/// The files of Verilog.
+pub fn files_of<'a>(alloc: Global, matches: &ArgMatches<'a>) -> Result<Vec<&'a str>, NoMemory> {
+    match matches.get_strs("FILE") {
+        None => Ok(Vec::new(alloc)),
+        Some(names) => Ok(Vec::from_slice(alloc, names)?),
+    }
+}
+
 /// How many departures are looked at.
 pub fn depart_of(matches: &ArgMatches<'_>) -> u64 {
     matches.get_one::<u64>("depart").unwrap_or(0)
@@ -166,10 +194,7 @@ pub fn entries_of(matches: &ArgMatches<'_>) -> u64 {
 
 /// What the words behind `replay` and `explore` ask for alike.
 pub fn request_of<'a>(alloc: Global, matches: &ArgMatches<'a>) -> Result<Request<'a>, NoMemory> {
-    let files = match matches.get_strs("FILE") {
-        None => Vec::new(alloc),
-        Some(names) => Vec::from_slice(alloc, names)?,
-    };
+    let files = files_of(alloc, matches)?;
     let grain = match matches.get_str("grain") {
         Some("statement") => Grain::Statement,
         _ => Grain::Process,
