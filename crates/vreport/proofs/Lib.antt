@@ -7,3 +7,7 @@ pub mod WholeLemmas
 pub mod LeadLemmas
 pub mod WriteLemmas
 pub mod ExploredLemmas
+pub mod MappedLemmas
+pub mod TextOrderLemmas
+pub mod LineLemmas
+pub mod FormedLemmas

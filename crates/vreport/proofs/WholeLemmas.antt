@@ -23,7 +23,7 @@ use Rattle.report_text.specs.WellFormed.{Each}
 use Rattle.vreport.specs.declared.row.Row.{Row}
 use Rattle.vreport.specs.Ends.{HasBytes, IsEndAfter, IsTrueEnd, ListsEnd, ListsEveryEnd}
 use Rattle.vreport.specs.Values.{values_line}
-use Rattle.vreport.specs.Inner.{AreEnds, AreRows, HasEnd, HasRow, IsEndOfRow, IsEndOfSome, IsNoEnd, order_of}
+use Rattle.vreport.specs.Inner.{AreEnds, AreRows, HasEnd, HasTimeAndLog, HasRow, IsEndOfRow, IsEndOfSome, IsNoEnd, order_of}
 use Rattle.vreport.proofs.EndLemmas.{Alike, AllStand, RunThere, row_finishes, told_where_ended}
 use Rattle.vreport.proofs.ListingLemmas.{cause_exact}
 
@@ -63,6 +63,9 @@ module _ (setting : Setting) (alike : Alike setting) (all : AllStand setting) (t
 
   pub ends_bytes : Each (HasBytes setting limits.steps) ends
   ends_bytes = λ i end at. (are.each i end at).of.bytes
+
+  pub ends_kept : Each HasTimeAndLog ends
+  ends_kept = λ i end at. (are.each i end at).of.kept
 
   module _ (here : RunHere setting) (mark_alike : MarkAlike setting) (of_marks : AreRows setting marks rows) where
     row_listed : (found : Standing × List (ℕ × ℕ)) (place : ℕ) (t : State) (time : ℕ) (cause : Cause) (line : List ℕ) (departures : ℕ) → Stands setting found.0 t →
