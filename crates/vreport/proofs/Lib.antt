@@ -11,3 +11,4 @@ pub mod MappedLemmas
 pub mod TextOrderLemmas
 pub mod LineLemmas
 pub mod FormedLemmas
+pub mod TruthLemmas

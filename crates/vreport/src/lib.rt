@@ -6,6 +6,7 @@
 mod dump;
 mod ends;
 mod explored;
+mod law;
 mod report;
 mod row;
 mod values;
@@ -13,6 +14,7 @@ mod write;
 
 pub use dump::write_dump;
 pub use explored::report_alone;
+pub use law::report_law;
 pub use report::report_of;
 pub use values::{line_of_values, text_of_value};
 pub use write::write_report;
