@@ -1,5 +1,5 @@
 -- What an explorer found makes a report that can be read.
-use Rattle.std.proofs.Common.{◌≡◌, ◌≢◌, ℕ, ◌<◌, ◌≤◌, true, List, [], ◌∷◌, length, map, slice_get, Option, Some, option_map, Result, Ok, Err, IfOk, refl, sym, ap, ◌∙◌, subst, arith}
+use Rattle.std.proofs.Common.{◌≡◌, ◌≢◌, ℕ, ◌≤◌, true, List, [], ◌∷◌, map, slice_get, Some, option_map, sym, ap, ◌∙◌, subst, arith}
 use Rattle.std.proofs.lemmas.List.{length-map}
 use Rattle.std.proofs.lemmas.Option.{slice_get-map, same_Some}
 use Rattle.basis.proofs.Lists.{listed_place}
@@ -15,11 +15,11 @@ use Rattle.vmachine.specs.declared.standing.Standing.{Standing}
 use Rattle.racebook.specs.Races as found
 use Rattle.racebook.specs.Order.{AreInTextOrder}
 use Rattle.report_text.specs.declared.report.Version.TheVariants.{One, Two}
-use Rattle.report_text.specs.Report.{Column, End, Race, Report}
-use Rattle.report_text.specs.WellFormed.{Each, EachTwo, HaveBytes, IsColumn, IsEnd, IsEndBefore, IsHead, IsLineOf, IsRace, IsRaceBefore, IsReport, IsTextLess, IsValue}
+use Rattle.report_text.specs.Report.{Column, End, Report}
+use Rattle.report_text.specs.WellFormed.{Each, EachTwo, HaveBytes, IsColumn, IsEnd, IsEndBefore, IsHead, IsLineOf, IsRace, IsRaceBefore, IsTextLess, IsValue}
 use Rattle.vreport.specs.Ends.{IsTrueEnd}
 use Rattle.vreport.specs.Formed.{IsFormed}
-use Rattle.vreport.specs.Inner.{HasLog, HasTimeAndLog, HasTimeAndLogs, HasWidth}
+use Rattle.vreport.specs.Inner.{HasTimeAndLog, HasTimeAndLogs, HasWidth}
 use Rattle.vreport.specs.Reports.{IsHeadOf, ShowsRaces, told_race, told_value}
 use Rattle.vreport.specs.Truth.{column_of}
 use Rattle.vreport.specs.Written.{AreDumps}
@@ -127,8 +127,8 @@ formed setting shaped limits findings report named until head widths true_ends e
     let told : report.races ≡ map told_race races.races = races.told_are in
     let kept : Each HasTimeAndLogs (map told_race races.races) = subst (Each HasTimeAndLogs) told races_kept in
     let each : Each (IsRace (map column_of variables)) (map told_race races.races) = each_mapped told_race (IsRace (map column_of variables)) races.races (λ i race at.
-        formed_race setting limits shaped race (races.each i race at) (races.values_order i race at)
-        (kept i (told_race race) (slice_get-map told_race races.races i ∙ ap (option_map told_race) at))) in
+    formed_race setting limits shaped race (races.each i race at) (races.values_order i race at)
+    (kept i (told_race race) (slice_get-map told_race races.races i ∙ ap (option_map told_race) at))) in
     record {
       head = formed_head setting limits findings.status report head named.top until;
       columns = subst (Each IsColumn) (sym columns) (formed_columns variables named.paths (subst (Each HasWidth) columns widths));

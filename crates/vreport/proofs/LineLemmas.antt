@@ -1,5 +1,5 @@
 -- Values of variables, as lines tell them.
-use Rattle.std.proofs.Common.{◌≡◌, ℕ, zero, suc, true, List, [], ◌∷◌, length, map, reverse, slice_get, Some, refl, sym, subst, append-nil}
+use Rattle.std.proofs.Common.{◌≡◌, ℕ, zero, suc, true, List, [], ◌∷◌, map, reverse, slice_get, Some, refl, sym, subst, append-nil}
 use Rattle.std.specs.List.{list_all}
 use Rattle.std.proofs.lemmas.Option.{same_Some}
 use Rattle.vbits.specs.declared.bit4.Bit4.{Bit4}

@@ -12,7 +12,7 @@ pub mapped_more : {A B : Type 0} (f : A → B) (P : B → Type 0) (now next : Li
     (now ++ map f (drop i xs) ≡ map f xs) × Each P now → (next ++ map f (drop (i + 1) xs) ≡ map f xs) × Each P next
 mapped_more f P now next xs i x y is within items made p (so_far, each) = (
   ap (λ zs. zs ++ map f (drop (i + 1) xs)) items ∙ append_assoc now (y ∷ []) (map f (drop (i + 1) xs)) ∙ ap (λ z. now ++ z ∷ map f (drop (i + 1) xs)) made
-  ∙ ap (λ zs. now ++ map f zs) (left_from xs i x is within) ∙ so_far,
+      ∙ ap (λ zs. now ++ map f zs) (left_from xs i x is within) ∙ so_far,
   subst (Each P) (sym items) (each_more P now y each p),
 )
 

@@ -86,7 +86,7 @@ less_text (x ∷ xs) (y ∷ ys) l h =
           let equal : text_number xs ≡ text_number ys = omega (arith, hx, hy, h, not) in
           let digits : digit_of x < digit_of y = omega (arith, h, equal) in
           let alike : slice_cmp nat_cmp (text xs) (text ys) ≡ Equal =
-              ap (λ zs. slice_cmp nat_cmp (text zs) (text ys)) (text_tells xs ys same equal) ∙ tied_itself nat_list_cmp_total (text ys) in
+          ap (λ zs. slice_cmp nat_cmp (text zs) (text ys)) (text_tells xs ys same equal) ∙ tied_itself nat_list_cmp_total (text ys) in
           by_last xs ys x y Equal Less same alike (digit_less x y digits) refl
     ]
 
