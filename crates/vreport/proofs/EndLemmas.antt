@@ -1,6 +1,5 @@
 -- Ends and the runs that they are of.
-use Rattle.std.proofs.Common.{◌≡◌, ℕ, ◌+◌, ◌-◌, ◌<◌, ◌≤◌, ◌⊎◌, ◌==◌, Bool, true, false, cond, List, [], ◌∷◌, ◌++◌, length, slice_get, get_or, Decides, Option, Some, None, refl, sym, ap, ◌∙◌, subst, inl, inr, arith}
-use Rattle.std.proofs.lemmas.Bool.{cases_lt}
+use Rattle.std.proofs.Common.{◌≡◌, ℕ, ◌+◌, ◌-◌, ◌<◌, ◌==◌, Bool, true, false, cond, List, length, slice_get, get_or, Decides, Some, None, refl, sym, ap, ◌∙◌, subst, arith}
 use Rattle.std.proofs.lemmas.Bool.Decides.{nat_tests}
 use Rattle.std.proofs.lemmas.Option.{same_Some, slice_get-get_or}
 use Rattle.std.specs.Cmp.Lexicographic.{pointwise, bytes_decides}
@@ -10,10 +9,8 @@ use Rattle.basis.specs.Reasons.{Because}
 use Rattle.basis.specs.declared.memory.OrMemory.{OrMemory}
 use Rattle.basis.specs.declared.memory.OrMemory.TheVariants.{Fault, Memory}
 use Rattle.sched_core.specs.Rules.{IsRun, stands}
-use Rattle.sched_core.specs.Replay.{EndsAfter}
-use Rattle.statebook.specs.Covered.{IsCovered}
 use Rattle.statebook.specs.declared.limits.Limits.{Limits}
-use Rattle.explore.specs.Found.{AreFound, IsFound, IsListedMark}
+use Rattle.explore.specs.Found.{AreFound, IsFound}
 use Rattle.vmodel.specs.declared.history.Cause.{Cause}
 use Rattle.vmodel.specs.declared.history.Cause.TheVariants.{Finish, Stop, Quiet, Limit}
 use Rattle.vmodel.specs.declared.history.End.{End}

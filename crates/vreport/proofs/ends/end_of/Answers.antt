@@ -1,4 +1,4 @@
-use Rattle.std.proofs.Common.{◌≡◌, ℕ, List, Some, sym, ap, ◌∙◌, slice_get, option_map, subst}
+use Rattle.std.proofs.Common.{ℕ, List, sym, ap, ◌∙◌, option_map, subst}
 use Rattle.std.specs.Map.Iter.{deref_pair}
 use Rattle.sched_core.specs.Logs.{IsLog}
 use Rattle.vmachine.specs.declared.standing.Standing.{Standing}
