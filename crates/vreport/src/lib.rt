@@ -1,6 +1,7 @@
 // Reports of explorations. In go a machine and what an explorer found of it; out comes the report of its ends and races,
 // its text with the dump of each end, or, of a report that is given, which of its items isn't true.
-// The law: what a report lists is true; where the findings are all, every end and every race is listed.
+// The law: what a report lists is true; where the findings are all, every end and every race is listed; its text can be read
+// again.
 #![tactic(auto)]
 
 mod dump;
