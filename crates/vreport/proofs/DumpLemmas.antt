@@ -1,5 +1,5 @@
 -- What is taken when a run that ends is handed to a fresh sink.
-use Rattle.std.proofs.Common.{◌≡◌, ℕ, List, [], take, drop, refl, sym, ap, subst, ◌∙◌}
+use Rattle.std.proofs.Common.{◌≡◌, ℕ, List, take, drop, refl, sym, ap, subst, ◌∙◌}
 use Rattle.std.proofs.lemmas.List.{take-append-drop}
 use Rattle.sched_core.specs.Replay.{IsReplayReason}
 use Rattle.sched_core.specs.declared.run.ReplayFault.{ReplayFault}
@@ -9,16 +9,16 @@ use Rattle.vmodel.specs.declared.history.Item.{Item}
 use Rattle.vmodel.specs.declared.history.End.{End}
 use Rattle.vmodel.specs.Run.{Setting, rules_of, given_by, history_after}
 use Rattle.vmodel.specs.Played.{Finishes, IsUnderway}
-use Rattle.vmachine.specs.Handed.{IsHanded, IsRunReason, Leaves}
+use Rattle.vmachine.specs.Handed.{IsHanded, Leaves}
 use Rattle.vmachine.specs.declared.run.RunFault.{RunFault}
-use Rattle.vmachine.specs.declared.run.RunFault.TheVariants.{Replay, Sink}
+use Rattle.vmachine.specs.declared.run.RunFault.TheVariants.{Sink}
 use Rattle.basis.specs.declared.memory.NoMemory.{NoMemory}
 use Rattle.basis.specs.declared.memory.OrMemory.{OrMemory}
 use Rattle.basis.specs.declared.memory.OrMemory.TheVariants as or
 use Rattle.vcd_text.specs.DumpText.{dump_below}
 use Rattle.vcd_text.specs.Outlets.{IsOutlet, Stopped}
 use Rattle.vcd_text.specs.declared.progress.Progress.TheVariants.{Idle}
-use Rattle.vcd_text.specs.Sinks.{end_text, text_of, Takes, Fails}
+use Rattle.vcd_text.specs.Sinks.{end_text, Takes, Fails}
 use Rattle.vcd_text.specs.SinkLaws.{fails_after, fails_before}
 use Rattle.vcd_text.specs.DumpLaws.{completes, stops_taking, stops_completing}
 use Rattle.vcd_text.specs.declared.sink.DumpSink.{DumpSink}

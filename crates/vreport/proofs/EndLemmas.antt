@@ -1,6 +1,5 @@
 -- Ends and the runs that they are of.
-use Rattle.std.proofs.Common.{◌≡◌, ℕ, ◌+◌, ◌-◌, ◌<◌, ◌≤◌, ◌⊎◌, ◌==◌, Bool, true, false, cond, List, [], ◌∷◌, ◌++◌, length, slice_get, get_or, Decides, Option, Some, None, refl, sym, ap, ◌∙◌, subst, inl, inr, arith}
-use Rattle.std.proofs.lemmas.Bool.{cases_lt}
+use Rattle.std.proofs.Common.{◌≡◌, ℕ, ◌+◌, ◌-◌, ◌<◌, ◌==◌, Bool, true, false, cond, List, length, slice_get, get_or, Decides, Some, None, refl, sym, ap, ◌∙◌, subst, arith}
 use Rattle.std.proofs.lemmas.Bool.Decides.{nat_tests}
 use Rattle.std.proofs.lemmas.Option.{same_Some, slice_get-get_or}
 use Rattle.std.specs.Cmp.Lexicographic.{pointwise, bytes_decides}
@@ -10,10 +9,8 @@ use Rattle.basis.specs.Reasons.{Because}
 use Rattle.basis.specs.declared.memory.OrMemory.{OrMemory}
 use Rattle.basis.specs.declared.memory.OrMemory.TheVariants.{Fault, Memory}
 use Rattle.sched_core.specs.Rules.{IsRun, stands}
-use Rattle.sched_core.specs.Replay.{EndsAfter}
-use Rattle.statebook.specs.Covered.{IsCovered}
 use Rattle.statebook.specs.declared.limits.Limits.{Limits}
-use Rattle.explore.specs.Found.{AreFound, IsFound, IsListedMark}
+use Rattle.explore.specs.Found.{AreFound, IsFound}
 use Rattle.vmodel.specs.declared.history.Cause.{Cause}
 use Rattle.vmodel.specs.declared.history.Cause.TheVariants.{Finish, Stop, Quiet, Limit}
 use Rattle.vmodel.specs.declared.history.End.{End}
@@ -29,7 +26,7 @@ use Rattle.vreport.specs.declared.row.Row.{Row}
 use Rattle.vreport.specs.Dumps.{HasDump, IsRunDump}
 use Rattle.report_text.specs.Report.{End as Told}
 use Rattle.vreport.specs.Ends.{HasLongDump, HasSomeLongDump}
-use Rattle.vreport.specs.Inner.{CountsDump, IsEndOfRow, IsRow, IsRowAt, IsRowOfSome, Repeats, cause_of, key_cmp, order_of}
+use Rattle.vreport.specs.Inner.{CountsDump, HasTimeAndLog, IsEndOfRow, IsRow, IsRowAt, IsRowOfSome, Repeats, cause_of, key_cmp, order_of}
 use Rattle.vreport.proofs.DumpLemmas.{the_dump}
 use Rattle.vreport.proofs.OrderLemmas.{key_same, same_key}
 
@@ -111,8 +108,8 @@ module _ (setting : Setting) (alike : Alike setting) (all : AllStand setting) (t
 
     -- the end that is made of it
     pub its_end : (head : List ℕ) → head ≡ header setting.design → (end : Told) → end.time ≡ row.time → end.cause ≡ cause_of row.cause → end.line ≡ row.line.items → end.log ≡ mark.1 →
-        CountsDump head setting mark.1 limits.steps end.bytes → IsEndOfRow setting limits marks row end
-    its_end head is end time_is cause_is line_is log_is counts =
+        HasTimeAndLog end → CountsDump head setting mark.1 limits.steps end.bytes → IsEndOfRow setting limits marks row end
+    its_end head is end time_is cause_is line_is log_is kept counts =
         let f = found row.place mark at in
         let t = state_after setting mark.1 f.steps in
         let told = its_row.at_end t (stood mark f) in
@@ -124,6 +121,7 @@ module _ (setting : Setting) (alike : Alike setting) (all : AllStand setting) (t
           cause_is = told.2.cause_is ∙ ap order_of (sym (cause_is ∙ ap cause_of told.2.cause_is ∙ cause_back told.0.cause));
           line_is = line_is;
           log_is = log_is;
+          kept = kept;
           bytes = record {
             dump = counts.0;
             is_dump = subst (λ (h : List ℕ). IsRunDump h setting end.log limits.steps counts.0) is (subst (λ (l : List (ℕ × ℕ)). IsRunDump head setting l limits.steps counts.0) (sym log_is) counts.1);

@@ -1,12 +1,12 @@
 -- What an exploration reports.
-use Rattle.std.proofs.Common.{◌≡◌, ℕ, List, Result, Ok, Err, IfOk, refl, sym, ◌∙◌}
+use Rattle.std.proofs.Common.{◌≡◌, Result, Ok, Err, IfOk, refl, sym, ◌∙◌}
 use Rattle.statebook.specs.declared.limits.Limits.{Limits}
 use Rattle.explore.specs.declared.findings.Findings.{Findings}
 use Rattle.explore.specs.declared.findings.Status.{Status}
 use Rattle.explore.specs.declared.findings.Status.TheVariants.{Exhausted, Cut}
 use Rattle.explore.specs.declared.findings.Reason.TheVariants.{Memory, Entries, Steps}
-use Rattle.explore.specs.Found.{ListsAll, SomeRunExceeds, TellsSteps}
-use Rattle.vmodel.specs.Run.{Setting, rules_of}
+use Rattle.explore.specs.Found.{ListsAll, TellsSteps}
+use Rattle.vmodel.specs.Run.{Setting}
 use Rattle.vmachine.specs.declared.standing.Standing.{Standing}
 use Rattle.vmachine.specs.Machines.{machine_rules}
 use Rattle.racebook.specs.Races.{IsWhole}

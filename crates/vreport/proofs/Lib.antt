@@ -7,3 +7,8 @@ pub mod WholeLemmas
 pub mod LeadLemmas
 pub mod WriteLemmas
 pub mod ExploredLemmas
+pub mod MappedLemmas
+pub mod TextOrderLemmas
+pub mod LineLemmas
+pub mod FormedLemmas
+pub mod TruthLemmas

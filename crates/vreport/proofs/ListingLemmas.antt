@@ -1,8 +1,5 @@
 -- Rows that stand in order, gone through to list each end once.
-use Rattle.std.proofs.Common.{◌≡◌, ℕ, ◌+◌, ◌-◌, ◌<◌, ◌≤◌, ◌⊎◌, List, [], ◌∷◌, ◌++◌, length, slice_get, Option, Some, None, refl, sym, ap, ◌∙◌, subst, inl, inr, arith}
-use Rattle.std.specs.List.{Contains}
-use Rattle.std.specs.Ordering.{nat_cmp}
-use Rattle.std.specs.Cmp.Lexicographic.{slice_cmp}
+use Rattle.std.proofs.Common.{◌≡◌, ℕ, ◌+◌, ◌-◌, ◌<◌, ◌≤◌, ◌⊎◌, List, [], ◌∷◌, ◌++◌, length, slice_get, Some, refl, sym, ap, ◌∙◌, subst, inl, inr, arith}
 use Rattle.std.specs.declared.cmp.Ordering.TheVariants.{Less, Equal}
 use Rattle.std.proofs.lemmas.Bool.{cases_lt}
 use Rattle.basis.proofs.Lists.{last_or_before, listed_place, place_within, stands_in_front, stands_last}
@@ -14,10 +11,10 @@ use Rattle.vmodel.specs.Run.{Setting}
 use Rattle.vmachine.specs.declared.standing.Standing.{Standing}
 use Rattle.report_text.specs.Report.{End as Told}
 use Rattle.report_text.specs.ReportText.{cause_word}
-use Rattle.report_text.specs.WellFormed.{Each, EachTwo, IsEndBefore, IsTextLess}
+use Rattle.report_text.specs.WellFormed.{IsEndBefore, IsTextLess}
 use Rattle.vreport.specs.declared.row.Row.{Row}
-use Rattle.vreport.specs.Inner.{AreEndsBelow, AreSortedRows, HasEnd, IsEndOfRow, IsEndOfSome, IsNotAfter, IsRowOfSome, Repeats, key_cmp, order_of}
-use Rattle.vreport.proofs.OrderLemmas.{SameKey, key_before, key_between, same_key}
+use Rattle.vreport.specs.Inner.{AreEndsBelow, AreSortedRows, HasEnd, IsEndOfRow, IsEndOfSome, IsNotAfter, Repeats, key_cmp, order_of}
+use Rattle.vreport.proofs.OrderLemmas.{key_before, key_between, same_key}
 
 -- ---- the order of causes is that of their words
 

@@ -1,10 +1,9 @@
 -- The ends that are listed are those of runs, and where the findings are all, they are all.
-use Rattle.std.proofs.Common.{◌≡◌, ℕ, ◌<◌, ◌≤◌, ◌⊎◌, true, List, length, slice_get, Option, Some, None, refl, sym, ap, ◌∙◌, subst, inl, inr, arith}
+use Rattle.std.proofs.Common.{◌≡◌, ℕ, ◌≤◌, ◌⊎◌, true, List, length, slice_get, Some, sym, ap, ◌∙◌, subst, inl, inr, arith}
 use Rattle.std.specs.List.{Contains}
 use Rattle.std.proofs.lemmas.Option.{same_Some, slice_get-get_or}
 use Rattle.basis.proofs.Lists.{place_within}
-use Rattle.sched_core.specs.Rules.{IsRun, IsLawful, stands}
-use Rattle.sched_core.specs.Replay.{EndsAfter}
+use Rattle.sched_core.specs.Rules.{IsRun, stands}
 use Rattle.statebook.specs.Covered.{IsCovered}
 use Rattle.statebook.specs.declared.limits.Limits.{Limits}
 use Rattle.explore.specs.Found.{AreFound, IsListedMark}
@@ -12,7 +11,7 @@ use Rattle.vmodel.specs.declared.history.Cause.{Cause}
 use Rattle.vmodel.specs.declared.history.End.{End}
 use Rattle.vmodel.specs.State.{State}
 use Rattle.vmodel.specs.Choices.{choices}
-use Rattle.vmodel.specs.Run.{Setting, rules_of, state_after, end_of}
+use Rattle.vmodel.specs.Run.{Setting, rules_of, state_after}
 use Rattle.vmodel.specs.RulesLaws.{lawful}
 use Rattle.vmodel.specs.Played.{width_is}
 use Rattle.vmachine.specs.declared.standing.Standing.{Standing}
@@ -23,7 +22,7 @@ use Rattle.report_text.specs.WellFormed.{Each}
 use Rattle.vreport.specs.declared.row.Row.{Row}
 use Rattle.vreport.specs.Ends.{HasBytes, IsEndAfter, IsTrueEnd, ListsEnd, ListsEveryEnd}
 use Rattle.vreport.specs.Values.{values_line}
-use Rattle.vreport.specs.Inner.{AreEnds, AreRows, HasEnd, HasRow, IsEndOfRow, IsEndOfSome, IsNoEnd, order_of}
+use Rattle.vreport.specs.Inner.{AreEnds, AreRows, HasTimeAndLog, HasRow, IsEndOfRow, IsNoEnd, order_of}
 use Rattle.vreport.proofs.EndLemmas.{Alike, AllStand, RunThere, row_finishes, told_where_ended}
 use Rattle.vreport.proofs.ListingLemmas.{cause_exact}
 
@@ -63,6 +62,9 @@ module _ (setting : Setting) (alike : Alike setting) (all : AllStand setting) (t
 
   pub ends_bytes : Each (HasBytes setting limits.steps) ends
   ends_bytes = λ i end at. (are.each i end at).of.bytes
+
+  pub ends_kept : Each HasTimeAndLog ends
+  ends_kept = λ i end at. (are.each i end at).of.kept
 
   module _ (here : RunHere setting) (mark_alike : MarkAlike setting) (of_marks : AreRows setting marks rows) where
     row_listed : (found : Standing × List (ℕ × ℕ)) (place : ℕ) (t : State) (time : ℕ) (cause : Cause) (line : List ℕ) (departures : ℕ) → Stands setting found.0 t →

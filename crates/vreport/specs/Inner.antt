@@ -1,10 +1,11 @@
 -- Words for the contracts of calls within: the marks at which runs end, as rows.
-use Rattle.std.specs.Prelude.{◌≡◌, ◌≢◌, ℕ, zero, suc, ◌+◌, ◌<◌, ◌≤◌, ◌⊎◌, List, length, slice_get, Option, Some, None}
+use Rattle.std.specs.Prelude.{◌≡◌, ℕ, zero, suc, ◌+◌, ◌^◌, ◌<◌, ◌≤◌, ◌⊎◌, List, length, slice_get, Option, Some, None}
 use Rattle.std.specs.List.{Contains}
 use Rattle.std.specs.Ordering.{nat_cmp, ordering_then}
 use Rattle.std.specs.declared.cmp.Ordering.{Ordering}
 use Rattle.std.specs.Cmp.Lexicographic.{slice_cmp}
 use Rattle.std.specs.declared.cmp.Ordering.TheVariants.{Less, Equal}
+use Rattle.sched_core.specs.Logs.{IsLog}
 use Rattle.vmodel.specs.declared.history.Cause.{Cause}
 use Rattle.vmodel.specs.declared.history.Cause.TheVariants.{Finish, Stop, Quiet, Limit}
 use Rattle.vmodel.specs.declared.history.End.{End}
@@ -15,7 +16,7 @@ use Rattle.vmachine.specs.Machines.{Stands}
 use Rattle.vmachine.specs.Reads.{end_in}
 use Rattle.vreport.specs.declared.row.Row.{Row}
 use Rattle.statebook.specs.declared.limits.Limits.{Limits}
-use Rattle.report_text.specs.Report.{End as Told}
+use Rattle.report_text.specs.Report.{Column, End as Told, Race}
 use Rattle.report_text.specs.WellFormed.{Each, EachTwo, IsEndBefore}
 use Rattle.vreport.specs.Dumps.{IsRunDump}
 use Rattle.vreport.specs.Ends.{HasBytes}
@@ -96,6 +97,24 @@ pub record Repeats (rows : List Row) (place : ℕ) : Type 0 where
   pub second_at : slice_get rows place ≡ Some second
   pub alike : key_cmp first second ≡ Equal
 
+-- ---- what can be written
+
+-- 4.2.2: so many bits as a variable may have
+abbrev pub HasWidth : Column → Type 0
+HasWidth column = (1 ≤ column.width) × (column.width ≤ 64)
+
+-- the end's time has 64 bits, and its log is one
+abbrev pub HasTimeAndLog : Told → Type 0
+HasTimeAndLog end = (end.time < 2 ^ 64) × IsLog end.log
+
+-- the log of the value is one
+abbrev pub HasLog : List ℕ × List (ℕ × ℕ) → Type 0
+HasLog seen = IsLog seen.1
+
+-- so are those of the race's values, and its time has 64 bits
+abbrev pub HasTimeAndLogs : Race → Type 0
+HasTimeAndLogs race = (race.time < 2 ^ 64) × Each HasLog race.values
+
 -- ---- ends of rows
 
 -- so many bytes as the run's dump has
@@ -111,6 +130,7 @@ pub record IsEndOfRow (setting : Setting) (limits : Limits) (marks : List (Stand
   pub cause_is : row.cause ≡ order_of end.cause
   pub line_is : end.line ≡ row.line.items
   pub log_is : end.log ≡ found.1
+  pub kept : HasTimeAndLog end
   pub bytes : HasBytes setting limits.steps end
 
 -- the row's end is listed, under no more departures

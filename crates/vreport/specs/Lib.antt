@@ -3,6 +3,7 @@ pub mod Ends
 pub mod Truth
 pub mod Reports
 pub mod Written
+pub mod Formed
 pub mod Inner
 pub mod Dumps
 pub mod RunLaws

@@ -1,8 +1,7 @@
 -- When what a report lists is true: its head is that of a setting, and each end and each race is of runs of it within the
 -- limits that the head names.
-use Rattle.std.specs.Prelude.{◌≡◌, ℕ, ◌<◌, ◌≤◌, List, [], ◌∷◌, length, map, slice_get, Some}
+use Rattle.std.specs.Prelude.{◌≡◌, ℕ, ◌≤◌, List, [], ◌∷◌, length, map}
 use Rattle.sched_core.specs.Rules.{IsRun, NamesBelow}
-use Rattle.statebook.specs.declared.limits.Limits.{Limits}
 use Rattle.vbits.specs.Vectors.{Vector}
 use Rattle.vast.specs.Design.{Variable}
 use Rattle.vmodel.specs.Run.{Setting, rules_of}

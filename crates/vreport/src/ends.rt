@@ -1,6 +1,6 @@
 // The ends that an explorer's findings show, each once.
 
-ghost use Rattle.std.specs.Prelude.{◌≡◌, ◌<◌, length, IfOk, Decides};
+ghost use Rattle.std.specs.Prelude.{◌≡◌, ◌<◌, ◌^◌, length, IfOk, Decides};
 ghost use Rattle.std.specs.declared.cmp.Ordering.TheVariants.{Equal};
 ghost use Rattle.basis.specs.Reasons.{IfFault};
 ghost use Rattle.vcd_text.specs.DumpText.{header};
@@ -9,7 +9,7 @@ ghost use Rattle.report_text.specs.WellFormed.{Each, EachTwo, IsEndBefore};
 ghost use Rattle.vmachine.specs.Machines.{machine_rules};
 ghost use Rattle.vreport.specs.Dumps.{HasDump};
 ghost use Rattle.vreport.specs.Ends.{GivesEveryEnd, HasBytes, HasLongDump, HasSomeLongDump, IsTrueEnd};
-ghost use Rattle.vreport.specs.Inner.{AreEnds, AreRows, AreSortedRows, CountsDump, IsEndOfRow, IsRowOfSome, Repeats, key_cmp};
+ghost use Rattle.vreport.specs.Inner.{AreEnds, AreRows, AreSortedRows, CountsDump, HasTimeAndLog, IsEndOfRow, IsRowOfSome, Repeats, key_cmp};
 
 use crate::dump::write_dump;
 use crate::row::{Row, cause_of, rows_in_order};
@@ -65,6 +65,14 @@ fn repeats(rows: &[Row], place: usize) -> bool
     is_same_end(&rows[place - 1], &rows[place])
 }
 
+// The time of a row, a number of 64 bits.
+fn time_of(row: &Row) -> u64
+    ensures same { result ≡ row.now.time }
+    ensures bits { result < 2 ^ 64 }
+{
+    row.time
+}
+
 // The end of a row.
 fn end_of(
     alloc: Global,
@@ -89,7 +97,7 @@ fn end_of(
         Err(fault) => return Err(fault),
     };
     Ok(End {
-        time: row.time,
+        time: time_of(row),
         cause: cause_of(row.cause),
         log: log.copy()?,
         bytes,
@@ -140,6 +148,7 @@ pub fn ends_of(
     ensures true_ends { IfOk result (λ ends. Each (IsTrueEnd machine.now limits.now) ends.items) }
     ensures bytes { IfOk result (λ ends. Each (HasBytes machine.now limits.now.steps) ends.items) }
     ensures all { IfOk result (λ ends. GivesEveryEnd machine.now limits.now findings.now ends.items) }
+    ensures kept { IfOk result (λ ends. Each HasTimeAndLog ends.items) }
     ensures order { IfOk result (λ ends. EachTwo IsEndBefore ends.items) }
     ensures long { IfFault result (λ _. HasSomeLongDump machine.now limits.now) }
 {

@@ -1,11 +1,13 @@
 // Reports of explorations. In go a machine and what an explorer found of it; out comes the report of its ends and races,
 // its text with the dump of each end, or, of a report that is given, which of its items isn't true.
-// The law: what a report lists is true; where the findings are all, every end and every race is listed.
+// The law: what a report lists is true; where the findings are all, every end and every race is listed; its text can be read
+// again.
 #![tactic(auto)]
 
 mod dump;
 mod ends;
 mod explored;
+mod law;
 mod report;
 mod row;
 mod values;
@@ -13,6 +15,7 @@ mod write;
 
 pub use dump::write_dump;
 pub use explored::report_alone;
+pub use law::report_law;
 pub use report::report_of;
 pub use values::{line_of_values, text_of_value};
 pub use write::write_report;

@@ -1,11 +1,14 @@
 // The report of an exploration.
 
-ghost use Rattle.std.specs.Prelude.{◌≡◌, map, IfOk};
+ghost use Rattle.std.specs.Prelude.{◌≡◌, ◌<◌, ◌≤◌, ◌^◌, map, IfOk};
 ghost use Rattle.basis.specs.Reasons.{IfFault};
 ghost use Rattle.explore.specs.Found.{ListsFound};
 ghost use Rattle.report_text.specs.WellFormed.{Each, EachTwo, IsEndBefore};
+ghost use Rattle.vast.specs.Names.{AreNamed};
 ghost use Rattle.vmachine.specs.Machines.{machine_rules};
 ghost use Rattle.vreport.specs.Ends.{GivesEveryEnd, HasBytes, HasSomeLongDump, IsTrueEnd};
+ghost use Rattle.vreport.specs.Formed.{IsFormed};
+ghost use Rattle.vreport.specs.Inner.{HasLog, HasTimeAndLogs, HasWidth};
 ghost use Rattle.vreport.specs.Reports.{IsHeadOf, ShowsRaces, outcome_of as outcome_by_status, told_race, told_value};
 ghost use Rattle.vreport.specs.Truth.{column_of};
 
@@ -20,10 +23,12 @@ use std::alloc::Global;
 use vast::design::Variable;
 use vcd_text::TooMany;
 use vmachine::{Machine, Standing};
+use vmodel::run_law;
 
 // The name and the width of each variable.
 fn columns_of(alloc: Global, variables: &[Variable]) -> Result<Vec<Column>, NoMemory>
-    ensures { IfOk result (λ columns. columns.items ≡ map column_of variables.now) }
+    ensures told { IfOk result (λ columns. columns.items ≡ map column_of variables.now) }
+    ensures widths { IfOk result (λ columns. Each HasWidth columns.items) }
 {
     let mut columns = Vec::with_capacity(alloc, variables.len())?;
     for variable in variables {
@@ -37,7 +42,8 @@ fn columns_of(alloc: Global, variables: &[Variable]) -> Result<Vec<Column>, NoMe
 
 // The values of a race, as texts.
 fn seen_of(alloc: Global, values: &[Sighting]) -> Result<Vec<Seen>, NoMemory>
-    ensures { IfOk result (λ seen. seen.items ≡ map told_value values.now) }
+    ensures told { IfOk result (λ seen. seen.items ≡ map told_value values.now) }
+    ensures logs { IfOk result (λ seen. Each HasLog seen.items) }
 {
     let mut seen = Vec::with_capacity(alloc, values.len())?;
     for sighting in values {
@@ -49,14 +55,23 @@ fn seen_of(alloc: Global, values: &[Sighting]) -> Result<Vec<Seen>, NoMemory>
     Ok(seen)
 }
 
+// The time of a race, a number of 64 bits.
+fn time_of(race: &racebook::Race) -> u64
+    ensures same { result ≡ race.now.time }
+    ensures bits { result < 2 ^ 64 }
+{
+    race.time
+}
+
 // The races, as a report tells them.
 fn told_races(alloc: Global, races: &[racebook::Race]) -> Result<Vec<Race>, NoMemory>
-    ensures { IfOk result (λ told. told.items ≡ map told_race races.now) }
+    ensures told { IfOk result (λ told. told.items ≡ map told_race races.now) }
+    ensures kept { IfOk result (λ told. Each HasTimeAndLogs told.items) }
 {
     let mut told = Vec::with_capacity(alloc, races.len())?;
     for race in races {
         told.push(Race {
-            time: race.time,
+            time: time_of(race),
             variable: race.variable,
             values: seen_of(alloc, &race.values)?,
         })?;
@@ -79,6 +94,8 @@ fn outcome_of(status: Status) -> Outcome
 /// The report of what an explorer found of a machine under limits, without the dumps of its ends: its head, each end once,
 /// each race, and of each the logs of the fewest departures among the marks that show it (docs/FORMATS.md, "Reports").
 ///
+/// Where the names of the design are such as a report tells, and its time limit too, its text can be read again.
+///
 /// E901 where memory was refused. The other fault is that a dump has 2^64 bytes or more.
 pub fn report_of(
     alloc: Global,
@@ -93,8 +110,10 @@ pub fn report_of(
     ensures every_end { IfOk result (λ report. GivesEveryEnd machine.now limits.now findings.now report.ends) }
     ensures ends_order { IfOk result (λ report. EachTwo IsEndBefore report.ends) }
     ensures races { IfOk result (λ report. ShowsRaces machine.now limits.now findings.now report.races) }
+    ensures formed { AreNamed machine.now.design → machine.now.until ≤ 4611686018427387903 → IfOk result (IsFormed machine.now) }
     ensures long { IfFault result (λ _. HasSomeLongDump machine.now limits.now) }
 {
+    run_law();
     let ends = match ends_of(alloc, machine, findings, limits) {
         Ok(ends) => ends,
         Err(fault) => return Err(fault),

@@ -1,5 +1,6 @@
-use Rattle.std.proofs.Common.{◌≡◌, ℕ, List, Some, refl, sym, ap, ◌∙◌, slice_get, option_map}
+use Rattle.std.proofs.Common.{ℕ, List, sym, ap, ◌∙◌, option_map, subst}
 use Rattle.std.specs.Map.Iter.{deref_pair}
+use Rattle.sched_core.specs.Logs.{IsLog}
 use Rattle.vmachine.specs.declared.standing.Standing.{Standing}
 use Rattle.vreport.proofs.EndLemmas.{because, its_dump, its_end, its_long_dump}
 use Rattle.vreport.proofs.ends.end_of.Goals as goal
@@ -28,5 +29,5 @@ returns-clause-ok c =
     let setting = c.args.machine.now in
     let mark : Standing × List (ℕ × ℕ) = (c.in-Some.field-0-0.now, c.in-Some.log.now) in
     its_end setting (law.same setting) (law.stands setting) (law.runs setting) c.args.limits.now c.args.findings.now.marks.entries c.requires.found c.args.row.now c.requires.of
-    mark (sym c.get_index.ensures.entry ∙ ap (option_map deref_pair) c.in-Some.is) c.args.head.now c.requires.head _ refl c.cause_of.ensures
-    (c.in_ok-from_slice.ensures.items ∙ c.deref.ensures.value) c.in_ok-copy.ensures.equal c.in-Ok.ensures.ok
+    mark (sym c.get_index.ensures.entry ∙ ap (option_map deref_pair) c.in-Some.is) c.args.head.now c.requires.head _ c.time_of.ensures.same c.cause_of.ensures
+    (c.in_ok-from_slice.ensures.items ∙ c.deref.ensures.value) c.in_ok-copy.ensures.equal (c.time_of.ensures.bits, subst IsLog (sym c.in_ok-copy.ensures.equal) c.copy.ensures.lawful) c.in-Ok.ensures.ok

@@ -3,8 +3,8 @@ use Rattle.std.proofs.lemmas.Result.{IfOk-weaker}
 use Rattle.report_text.specs.WellFormed.{Each}
 use Rattle.vreport.specs.declared.row.Row.{Row}
 use Rattle.vreport.specs.Ends.{GivesEveryEnd, HasBytes, IsTrueEnd}
-use Rattle.vreport.specs.Inner.{AreEnds, AreRows}
-use Rattle.vreport.proofs.WholeLemmas.{ends_all, ends_bytes, ends_true}
+use Rattle.vreport.specs.Inner.{AreEnds, AreRows, HasTimeAndLog}
+use Rattle.vreport.proofs.WholeLemmas.{ends_all, ends_bytes, ends_kept, ends_true}
 use Rattle.vreport.proofs.ends.ends_of.Goals as goal
 
 pub returns-clause-true_ends : goal.returns-clause-true_ends
@@ -39,3 +39,13 @@ returns-clause-all c =
     IfOk-weaker c.ends_of_rows.result (λ ends. AreEnds setting limits marks rows ends.items) (λ ends. GivesEveryEnd setting limits findings ends.items)
     (λ ends are. λ whole. ends_all setting (law.same setting) (law.stands setting) (law.runs setting) limits marks rows ends.items are (law.runs_back setting) (law.mark setting) of limits.depart
     (whole.1 whole.0)) c.ends_of_rows.ensures.ok
+
+pub returns-clause-kept : goal.returns-clause-kept
+returns-clause-kept c =
+    let setting = c.args.machine.now in
+    let limits = c.args.limits.now in
+    let marks = c.args.findings.now.marks.entries in
+    let rows = c.deref.result.now in
+    let law = c.machine_law.ensures in
+    IfOk-weaker c.ends_of_rows.result (λ ends. AreEnds setting limits marks rows ends.items) (λ ends. Each HasTimeAndLog ends.items)
+    (λ ends are. ends_kept setting (law.same setting) (law.stands setting) (law.runs setting) limits marks rows ends.items are) c.ends_of_rows.ensures.ok

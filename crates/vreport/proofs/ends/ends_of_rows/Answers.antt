@@ -1,4 +1,4 @@
-use Rattle.std.proofs.Common.{Some, sym, ap, ◌∙◌, refl}
+use Rattle.std.proofs.Common.{refl}
 use Rattle.std.proofs.lemmas.Option.{slice_get_read}
 use Rattle.vreport.proofs.ListingLemmas.{lists, skips}
 use Rattle.vreport.proofs.ends.ends_of_rows.Goals as goal

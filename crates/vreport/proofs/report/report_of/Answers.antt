@@ -1,17 +1,25 @@
-use Rattle.std.proofs.Common.{List, sym, subst, ap, ◌∙◌, map}
-use Rattle.racebook.specs.Races as found
-use Rattle.vreport.specs.Reports.{ShowsRaces, told_race}
+use Rattle.std.proofs.Common.{rules, ap, ◌∙◌, map}
+use Rattle.vreport.specs.Reports.{told_race}
+use Rattle.vreport.proofs.FormedLemmas.{formed}
 use Rattle.vreport.proofs.report.report_of.Goals as goal
+
+pub returns-clause-head : goal.returns-clause-head
+returns-clause-head c = search rules
 
 pub returns-clause-races : goal.returns-clause-races
 returns-clause-races c =
     let limits = c.args.limits.now in
     record {
       races = c.in_ok-found.found.items;
-      told_are = c.in_ok-told_races.ensures ∙ ap (map told_race) c.deref-3.ensures.value;
+      told_are = c.in_ok-told_races.ensures.told ∙ ap (map told_race) c.deref-3.ensures.value;
       each = c.in_ok-found.ensures.found limits c.requires.found;
       order = c.in_ok-found.ensures.order;
       values_order = c.in_ok-found.ensures.values;
       every = λ whole. c.in_ok-found.ensures.all limits whole;
       fewest = λ whole. c.in_ok-found.ensures.fewest limits c.requires.found whole;
     }
+
+pub returns-clause-formed : goal.returns-clause-formed
+returns-clause-formed c = λ named until dumps are.
+    formed c.args.machine.now (c.run_law.ensures.shapes c.args.machine.now) c.args.limits.now c.args.findings.now _ named until (returns-clause-head c) c.in_ok-columns_of.ensures.widths c.in-Ok.ensures.true_ends
+    c.in-Ok.ensures.kept c.in-Ok.ensures.order (returns-clause-races c) c.in_ok-told_races.ensures.kept dumps are

@@ -2,8 +2,8 @@ use Rattle.std.proofs.Common.{ap, refl}
 use Rattle.std.proofs.lemmas.Result.{IfErr-weaker, on_ok_weaker}
 use Rattle.report_text.specs.Report.{End}
 use Rattle.report_text.specs.ReportText.{end_text}
-use Rattle.vreport.specs.Dumps.{StopsDump, TakesDump}
-use Rattle.vreport.specs.Written.{StopsEnd, TakesEnd}
+use Rattle.vreport.specs.Dumps.{StopsDump}
+use Rattle.vreport.specs.Written.{StopsEnd}
 use Rattle.vreport.proofs.WriteLemmas.{end_taken, stops_at_lines, stops_in_dump}
 use Rattle.vreport.proofs.write.put_end.Goals as goal
 
