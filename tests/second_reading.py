@@ -74,9 +74,10 @@ class Module:
     lengths: list
     ranges: list
     processes: list = field(default_factory=list)
+    declared: list = field(default_factory=list)
 
     def names(self):
-        return [f"v{i}" for i in range(len(self.lengths))]
+        return self.declared or [f"v{i}" for i in range(len(self.lengths))]
 
 
 def statement(rng, count, depth):
@@ -244,9 +245,9 @@ def change(n, letters):
 
 def header(made):
     yield from ("$version vrace $end", "$timescale 1 ns $end", "$scope module tb $end")
-    for n, (length, bounds) in enumerate(zip(made.lengths, made.ranges)):
+    for n, (name, length, bounds) in enumerate(zip(made.names(), made.lengths, made.ranges)):
         shown = "" if bounds is None else f" [{bounds[0]}:{bounds[1]}]"
-        yield f"$var reg {length} {code(n)} v{n}{shown} $end"
+        yield f"$var reg {length} {code(n)} {name}{shown} $end"
     yield from ("$upscope $end", "$enddefinitions $end")
 
 
