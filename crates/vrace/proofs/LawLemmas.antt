@@ -21,7 +21,7 @@ use Rattle.vrace.specs.Asked.{Asked}
 use Rattle.vrace.specs.Replays.{texts_of, IsTreeOf, IsDesignOf, grain_under, Played, setting_of, IsDump}
 use Rattle.vrace.specs.Refusals.{IsFileReason, IsTextReason, IsRunReason, IsReason, IsOfWriting}
 use Rattle.vrace.specs.declared.fault.Fault.{Fault}
-use Rattle.vrace.specs.declared.fault.Fault.TheVariants.{NotEnded, BadToken, Growth, NoTree, Outside, TooDeep, NotYet, NoTop, Doubled, Unknown, Width, TooMany, BadLog, NoSuchChoice, TooManySteps, OutOfLimit, Memory, Write, Read, TooLong}
+use Rattle.vrace.specs.declared.fault.Fault.TheVariants.{NotEnded, BadToken, Growth, NoTree, Outside, TooDeep, NotYet, NoTop, Doubled, Unknown, Width, TooMany, BadLog, NoSuchChoice, TooManySteps, OutOfLimit, BadReport, FalseEnd, FalseRace, FalseHead, Memory, Write, Read, TooLong}
 use Rattle.vreport.specs.RunLaws.{same_end, never_missing, never_more}
 
 pub record Laws : Type 0 where
@@ -95,6 +95,10 @@ module _ (laws : Laws) where
       not_for_files NoSuchChoice r = absurd r
       not_for_files TooManySteps r = absurd r
       not_for_files OutOfLimit r = absurd r
+      not_for_files BadReport r = absurd r
+      not_for_files (FalseEnd i) r = absurd r
+      not_for_files (FalseRace i) r = absurd r
+      not_for_files FalseHead r = absurd r
       not_for_files Write r = absurd r
       not_for_files Read r = absurd r
 
@@ -116,6 +120,10 @@ module _ (laws : Laws) where
       not_for_text NoSuchChoice r = absurd r
       not_for_text TooManySteps r = absurd r
       not_for_text OutOfLimit r = absurd r
+      not_for_text BadReport r = absurd r
+      not_for_text (FalseEnd i) r = absurd r
+      not_for_text (FalseRace i) r = absurd r
+      not_for_text FalseHead r = absurd r
       not_for_text Write r = absurd r
       not_for_text Read r = absurd r
       not_for_text TooLong r = absurd r
@@ -141,6 +149,10 @@ module _ (laws : Laws) where
       not_for_run (Width at) r = absurd r
       not_for_run (TooMany at) r = absurd r
       not_for_run OutOfLimit r = absurd r
+      not_for_run BadReport r = absurd r
+      not_for_run (FalseEnd i) r = absurd r
+      not_for_run (FalseRace i) r = absurd r
+      not_for_run FalseHead r = absurd r
       not_for_run Read r = absurd r
       not_for_run TooLong r = absurd r
 

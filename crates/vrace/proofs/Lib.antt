@@ -1,5 +1,6 @@
 mod DesignLemmas
 mod DumpLemmas
 mod ReplayLemmas
+mod ExploreLemmas
 mod ReadLemmas
 mod LawLemmas

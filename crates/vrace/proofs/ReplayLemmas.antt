@@ -16,7 +16,7 @@ use Rattle.vrace.specs.Refusals.{IsRunReason, IsReason, IsOfWriting, Leaves}
 use Rattle.vreport.specs.Dumps.{IsRunDump}
 use Rattle.vrace.specs.RunDumps.{IsRunFault, Ends, fault_of, failures_after}
 use Rattle.vrace.specs.declared.fault.Fault.{Fault}
-use Rattle.vrace.specs.declared.fault.Fault.TheVariants.{NotEnded, BadToken, Growth, NoTree, Outside, TooDeep, NotYet, NoTop, Doubled, Unknown, Width, TooMany, BadLog, NoSuchChoice, TooManySteps, OutOfLimit, Memory, Write, Read, TooLong}
+use Rattle.vrace.specs.declared.fault.Fault.TheVariants.{NotEnded, BadToken, Growth, NoTree, Outside, TooDeep, NotYet, NoTop, Doubled, Unknown, Width, TooMany, BadLog, NoSuchChoice, TooManySteps, OutOfLimit, BadReport, FalseEnd, FalseRace, FalseHead, Memory, Write, Read, TooLong}
 
 of_writing : (cause : OrMemory WriteFault) → IsOfWriting (fault_of cause)
 of_writing (or.Memory m) = tt
@@ -58,6 +58,10 @@ module _ (files : List (List ℕ)) (asked : Asked) (log : List ℕ) (played : Pl
   run_reason (TooMany at) p = absurd p
   run_reason BadLog p = absurd p
   run_reason OutOfLimit p = absurd p
+  run_reason BadReport p = absurd p
+  run_reason (FalseEnd i) p = absurd p
+  run_reason (FalseRace i) p = absurd p
+  run_reason FalseHead p = absurd p
   run_reason Write p = absurd p
   run_reason Read p = absurd p
   run_reason TooLong p = absurd p

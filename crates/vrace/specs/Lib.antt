@@ -5,3 +5,4 @@ pub mod Unique
 pub mod RunDumps
 pub mod Reads
 pub mod Places
+pub mod Explores

@@ -78,6 +78,18 @@ pub enum Fault {
     /// A number is out of its limit.
     #[error("E404")]
     OutOfLimit,
+    /// The report is ill formed.
+    #[error("E501")]
+    BadReport,
+    /// An end of the report isn't true: its place among the ends, from 0.
+    #[error("E502 at {0}")]
+    FalseEnd(usize),
+    /// A race of the report isn't true: its place among the races, from 0.
+    #[error("E503 at {0}")]
+    FalseRace(usize),
+    /// The head of the report isn't that of the text.
+    #[error("E504")]
+    FalseHead,
     /// A growth was refused.
     #[error("E901")]
     Memory(NoMemory),

@@ -5,6 +5,7 @@
 
 mod asked;
 mod design;
+mod exploring;
 mod fault;
 pub mod law;
 mod options;
@@ -12,6 +13,7 @@ mod read;
 mod replay;
 mod unwatched;
 
+pub use exploring::{Status, explore_text_alone};
 pub use fault::{At, Fault};
 pub use options::Options;
 pub use read::{LIMIT, read_text};

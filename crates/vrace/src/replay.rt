@@ -52,7 +52,7 @@ fn of_replay(fault: ReplayFault) -> Fault
     }
 }
 
-fn of_writing(fault: OrMemory<WriteFault>) -> Fault
+pub(crate) fn of_writing(fault: OrMemory<WriteFault>) -> Fault
     ensures { result ≡ fault_of fault }
 {
     match fault {

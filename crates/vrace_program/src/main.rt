@@ -1,12 +1,13 @@
-//! The program `vrace`. In go words and Verilog; out comes a value change dump on standard output, or one line with the
-//! number of a fault on standard error. What a replay writes is the contract of `vrace::replay_text`.
+//! The program `vrace`. In go words and Verilog; out comes a report or a value change dump on standard output, or one line
+//! with the number of a fault on standard error. What an exploration writes is the contract of
+//! `vrace::explore_text_alone`, what a replay writes that of `vrace::replay_text`.
 #![tactic(auto)]
 
 mod explanations;
 mod words;
 
 use basis::NoMemory;
-use clap::Error;
+use clap::{ArgMatches, Error};
 use clap::error::ErrorKind;
 use explanations::{explanation_of, show, show_all};
 use std::fs::File;
@@ -14,8 +15,10 @@ use std::io::{BufWriter, Write};
 use std::process::ExitCode;
 use std::{env, io};
 use vcd_text::Metered;
-use vrace::{Fault, Options, Show, read_text, replay_text};
-use words::{Request, commands, has_dashed_value, request_of};
+use vrace::{Fault, Options, Show, Status, explore_text_alone, read_text, replay_text};
+use words::{
+    Request, commands, depart_of, entries_of, has_dashed_log, has_dashed_top, log_of, request_of,
+};
 
 // What stands for the limits of exploring, which a replay doesn't read.
 const DEPART: u64 = 1;
@@ -68,11 +71,18 @@ impl From<Fault> for Stop {
     }
 }
 
+// Writes out what is held back.
+fn finish<W: Write>(writer: &mut Metered<W>) -> Result<(), Stop> {
+    match writer.flush() {
+        Ok(()) => Ok(()),
+        Err(_) => Err(Stop::Refused(Fault::Write)),
+    }
+}
+
 // Replays what is asked for onto standard output.
-fn replay(rt: &HostRuntime, request: &Request<'_>) -> Result<(), Stop> {
-    let top = request.top.map(|name| name.as_bytes());
+fn replay(rt: &HostRuntime, request: &Request<'_>, log: &str) -> Result<ExitCode, Stop> {
     let options = Options::new(
-        top,
+        request.top.map(|name| name.as_bytes()),
         request.until,
         DEPART,
         request.steps,
@@ -88,14 +98,46 @@ fn replay(rt: &HostRuntime, request: &Request<'_>) -> Result<(), Stop> {
         rt.alloc(),
         &texts,
         &options,
-        request.log.as_bytes(),
+        log.as_bytes(),
         Show::Dump,
         &mut writer,
     )?;
-    match writer.flush() {
-        Ok(()) => Ok(()),
-        Err(_) => Err(Stop::Refused(Fault::Write)),
+    finish(&mut writer)?;
+    Ok(ExitCode::SUCCESS)
+}
+
+// The exit status that says what a report says.
+fn status_code(status: Status) -> ExitCode {
+    match status {
+        Status::NoRace => ExitCode::SUCCESS,
+        Status::Raced => ExitCode::from(1),
+        Status::Cut => ExitCode::from(3),
     }
+}
+
+// Writes the report of what is asked for onto standard output.
+fn explore(
+    rt: &HostRuntime,
+    request: &Request<'_>,
+    depart: u64,
+    entries: u64,
+) -> Result<ExitCode, Stop> {
+    let options = Options::new(
+        request.top.map(|name| name.as_bytes()),
+        request.until,
+        depart,
+        request.steps,
+        entries,
+        request.grain,
+    )?;
+    let texts = texts(rt, &request.files)?;
+    let Ok(buffered) = BufWriter::new(rt.alloc(), io::writer(rt)) else {
+        return Err(Stop::NoMemory);
+    };
+    let mut writer = Metered::new(buffered);
+    let status = explore_text_alone(rt.alloc(), &texts, &options, &mut writer)?;
+    finish(&mut writer)?;
+    Ok(status_code(status))
 }
 
 // What clap says of words that it doesn't take: help on standard output, or a refusal.
@@ -138,7 +180,7 @@ fn words_of(rt: &HostRuntime) -> Result<Vec<String>, Stop> {
 }
 
 // Says what a number of a fault means, or all of them.
-fn explain(rt: &HostRuntime, number: Option<&str>) -> Result<(), Stop> {
+fn explain(rt: &HostRuntime, number: Option<&str>) -> Result<ExitCode, Stop> {
     let done = match number {
         None => show_all(rt),
         Some(number) => match explanation_of(number) {
@@ -147,13 +189,35 @@ fn explain(rt: &HostRuntime, number: Option<&str>) -> Result<(), Stop> {
         },
     };
     match done {
-        Ok(()) => Ok(()),
+        Ok(()) => Ok(ExitCode::SUCCESS),
         Err(_) => Err(Stop::Refused(Fault::Write)),
     }
 }
 
+// Replays what the words ask for.
+fn replay_by<'a>(rt: &HostRuntime, matches: &ArgMatches<'a>) -> Result<ExitCode, Stop> {
+    if has_dashed_top(matches) || has_dashed_log(matches) {
+        return Err(Stop::Usage);
+    }
+    let Ok(request) = request_of(rt.alloc(), matches) else {
+        return Err(Stop::NoMemory);
+    };
+    replay(rt, &request, log_of(matches))
+}
+
+// Explores what the words ask for.
+fn explore_by<'a>(rt: &HostRuntime, matches: &ArgMatches<'a>) -> Result<ExitCode, Stop> {
+    if has_dashed_top(matches) {
+        return Err(Stop::Usage);
+    }
+    let Ok(request) = request_of(rt.alloc(), matches) else {
+        return Err(Stop::NoMemory);
+    };
+    explore(rt, &request, depart_of(matches), entries_of(matches))
+}
+
 // Does what the words ask for.
-fn run<'a>(rt: &HostRuntime, words: &'a [String]) -> Result<(), Stop> {
+fn run<'a>(rt: &HostRuntime, words: &'a [String]) -> Result<ExitCode, Stop> {
     let Ok(commands) = commands(rt.alloc()) else {
         return Err(Stop::NoMemory);
     };
@@ -164,16 +228,13 @@ fn run<'a>(rt: &HostRuntime, words: &'a [String]) -> Result<(), Stop> {
     if let Some(matches) = matches.subcommand_matches("explain") {
         return explain(rt, matches.get_str("NUMBER"));
     }
-    let Some(matches) = matches.subcommand_matches("replay") else {
-        return Err(Stop::Usage);
-    };
-    if has_dashed_value(matches) {
-        return Err(Stop::Usage);
+    if let Some(matches) = matches.subcommand_matches("explore") {
+        return explore_by(rt, matches);
     }
-    let Ok(request) = request_of(rt.alloc(), matches) else {
-        return Err(Stop::NoMemory);
-    };
-    replay(rt, &request)
+    match matches.subcommand_matches("replay") {
+        Some(matches) => replay_by(rt, matches),
+        None => Err(Stop::Usage),
+    }
 }
 
 fn main(rt: HostRuntime) -> ExitCode {
@@ -182,7 +243,7 @@ fn main(rt: HostRuntime) -> ExitCode {
         Err(stop) => Err(stop),
     };
     match done {
-        Ok(()) => ExitCode::SUCCESS,
+        Ok(code) => code,
         Err(Stop::Helped) => ExitCode::SUCCESS,
         Err(Stop::Usage) => {
             let _ = eprintln!(rt; "vrace: usage");

@@ -6,16 +6,15 @@ use std::alloc::Global;
 use vmodel::history::Grain;
 
 const PAGES: &str =
-    "Pages, in the folder docs: LANGUAGE.md (what is read, commands, limits), SCHEDULING.md (steps, choices, logs), FORMATS.md (dumps and logs), FAULTS.md (numbers)";
+    "Pages, in the folder docs: LANGUAGE.md (what is read, commands, limits), SCHEDULING.md (steps, choices, logs), RACES.md (reports), FORMATS.md (dumps, logs, reports), FAULTS.md (numbers)";
 
-/// What a replay is asked for.
+/// What is to be run, and how.
 #[derive(Drop)]
 pub struct Request<'a> {
     pub top: Option<&'a str>,
     pub until: u64,
     pub steps: u64,
     pub grain: Grain,
-    pub log: &'a str,
     /// None: standard input.
     pub files: Vec<&'a str>,
 }
@@ -41,18 +40,27 @@ fn files<'a>(alloc: Global) -> Arg<'a> {
         .help("Verilog files in order; none means standard input")
 }
 
-fn replay_command<'a>(alloc: Global) -> Result<Command<'a>, NoMemory> {
-    let until = option(
+fn top<'a>(alloc: Global) -> Arg<'a> {
+    option(alloc, "top", "N", "The top module")
+}
+
+// An option whose value is a number.
+fn number<'a>(alloc: Global, name: &'a str, help: &'a str, default: &'a str) -> Arg<'a> {
+    option(alloc, name, "N", help)
+        .value_parser(value_parser!(u64))
+        .default_value(default)
+}
+
+fn until<'a>(alloc: Global) -> Arg<'a> {
+    number(
         alloc,
         "until",
-        "N",
         "The latest time, in units of the precision",
+        "1000000",
     )
-    .value_parser(value_parser!(u64))
-    .default_value("1000000");
-    let steps = option(alloc, "steps", "N", "The most steps of the run")
-        .value_parser(value_parser!(u64))
-        .default_value("100000");
+}
+
+fn replay_command<'a>(alloc: Global) -> Result<Command<'a>, NoMemory> {
     let log = option(
         alloc,
         "log",
@@ -62,11 +70,36 @@ fn replay_command<'a>(alloc: Global) -> Result<Command<'a>, NoMemory> {
     .default_value("-");
     let command = Command::new(alloc, "replay")
         .about("Writes the value change dump of the run under a log")
-        .arg(option(alloc, "top", "N", "The top module"))?
-        .arg(until)?
-        .arg(steps)?
+        .arg(top(alloc))?
+        .arg(until(alloc))?
+        .arg(number(alloc, "steps", "The most steps of the run", "100000"))?
         .arg(grain(alloc))?
         .arg(log)?
+        .arg(files(alloc))?;
+    Ok(command)
+}
+
+fn explore_command<'a>(alloc: Global) -> Result<Command<'a>, NoMemory> {
+    let depart = number(
+        alloc,
+        "depart",
+        "The most departures from the default order, 0 to 4",
+        "1",
+    );
+    let entries = number(
+        alloc,
+        "entries",
+        "How many states are looked on from before the search is cut",
+        "100000",
+    );
+    let command = Command::new(alloc, "explore")
+        .about("Runs every order within a number of departures; reports each end and each race")
+        .arg(top(alloc))?
+        .arg(until(alloc))?
+        .arg(depart)?
+        .arg(number(alloc, "steps", "The most steps of one run", "100000"))?
+        .arg(entries)?
+        .arg(grain(alloc))?
         .arg(files(alloc))?;
     Ok(command)
 }
@@ -83,10 +116,11 @@ fn explain_command<'a>(alloc: Global) -> Result<Command<'a>, NoMemory> {
 pub fn commands<'a>(alloc: Global) -> Result<Command<'a>, NoMemory> {
     let command = Command::new(alloc, "vrace")
         .bin_name("vrace")?
-        .about("Runs Verilog in the order that a log names. Without words: replays standard input.")
+        .about("Runs Verilog in the orders that the standard leaves open, and finds races. Without words: replays standard input.")
         .version("0.1.0")
         .after_help(PAGES)
         .subcommand_required(true)
+        .subcommand(explore_command(alloc)?)?
         .subcommand(replay_command(alloc)?)?
         .subcommand(explain_command(alloc)?)?;
     Ok(command)
@@ -105,12 +139,32 @@ fn is_dashed(matches: &ArgMatches<'_>, name: &str) -> bool {
     }
 }
 
-/// Whether the value of `--top` or `--log` reads as an option.
-pub fn has_dashed_value(matches: &ArgMatches<'_>) -> bool {
-    is_dashed(matches, "top") || is_dashed(matches, "log")
+/// Whether the value of `--top` reads as an option.
+pub fn has_dashed_top(matches: &ArgMatches<'_>) -> bool {
+    is_dashed(matches, "top")
 }
 
-/// What the words behind `replay` ask for.
+/// Whether the value of `--log` reads as an option.
+pub fn has_dashed_log(matches: &ArgMatches<'_>) -> bool {
+    is_dashed(matches, "log")
+}
+
+/// The log that is to be replayed.
+pub fn log_of<'a>(matches: &ArgMatches<'a>) -> &'a str {
+    matches.get_str("log").unwrap_or("-")
+}
+
+/// How many departures are looked at.
+pub fn depart_of(matches: &ArgMatches<'_>) -> u64 {
+    matches.get_one::<u64>("depart").unwrap_or(0)
+}
+
+/// How many entries cut a search.
+pub fn entries_of(matches: &ArgMatches<'_>) -> u64 {
+    matches.get_one::<u64>("entries").unwrap_or(0)
+}
+
+/// What the words behind `replay` and `explore` ask for alike.
 pub fn request_of<'a>(alloc: Global, matches: &ArgMatches<'a>) -> Result<Request<'a>, NoMemory> {
     let files = match matches.get_strs("FILE") {
         None => Vec::new(alloc),
@@ -125,7 +179,6 @@ pub fn request_of<'a>(alloc: Global, matches: &ArgMatches<'a>) -> Result<Request
         until: matches.get_one::<u64>("until").unwrap_or(0),
         steps: matches.get_one::<u64>("steps").unwrap_or(0),
         grain,
-        log: matches.get_str("log").unwrap_or("-"),
         files,
     })
 }

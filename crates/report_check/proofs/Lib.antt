@@ -1,0 +1,5 @@
+pub mod HeadLemmas
+pub mod EndLemmas
+pub mod WalkLemmas
+pub mod EachLemmas
+pub mod FirstLemmas

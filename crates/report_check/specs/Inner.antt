@@ -1,0 +1,61 @@
+-- Words for the contracts of calls within.
+use Rattle.std.specs.Prelude.{◌≡◌, ℕ, ◌+◌, ◌<◌, ◌≤◌, ◌⊎◌, Bool, true, List, slice_get, Some, Decides}
+use Rattle.sched_core.specs.Rules.{IsRun, NamesBelow}
+use Rattle.vbits.specs.Vectors.{Vector}
+use Rattle.vmodel.specs.State.{State}
+use Rattle.vmodel.specs.Run.{Setting, rules_of, state_after}
+use Rattle.vmachine.specs.declared.standing.Standing.{Standing}
+use Rattle.vmachine.specs.Machines.{Stands}
+use Rattle.vmachine.specs.Reads.{end_in, slot_in}
+use Rattle.report_text.specs.Report.{End}
+use Rattle.vreport.specs.Ends.{IsEndAfter}
+use Rattle.vreport.specs.Values.{value_text, values_line}
+
+-- ---- ends
+
+-- a run has ended here, as is told
+pub record IsToldAt (end : End) (t : State) : Type 0 where
+  pub end_is : end_in t ≡ Some (record { time = end.time; cause = end.cause })
+  pub line_is : end.line ≡ values_line t.values
+
+-- the answer says whether it has
+abbrev pub TellsStanding : Setting → Standing → End → Bool → Type 0
+TellsStanding setting s end answer = (t : State) → Stands setting s t → Decides answer (IsToldAt end t)
+
+-- the run under the log of the end ends within so many steps, as is told
+pub record EndsSo (setting : Setting) (limit : ℕ) (end : End) : Type 0 where
+  pub steps : ℕ
+  pub after : IsEndAfter setting end.log steps end.time end.cause end.line
+  pub within : steps ≤ limit
+
+-- ---- values of races
+
+-- the slot of this time ends here, and this is the text of the variable's value
+pub record IsSeenAt (time variable : ℕ) (text : List ℕ) (t : State) : Type 0 where
+  pub slot_is : slot_in t ≡ Some time
+  pub value : Vector
+  pub value_is : slice_get t.values variable ≡ Some value
+  pub text_is : text ≡ value_text value
+
+-- the answer says whether it is so
+abbrev pub TellsSeen : Setting → Standing → ℕ → ℕ → List ℕ → Bool → Type 0
+TellsSeen setting s time variable text answer = (t : State) → Stands setting s t → Decides answer (IsSeenAt time variable text t)
+
+-- whether it was so before, or is so
+abbrev pub TellsSeenByNow : Bool → Setting → Standing → ℕ → ℕ → List ℕ → Bool → Type 0
+TellsSeenByNow before setting s time variable text answer =
+    (t : State) → Stands setting s t → Decides answer ((before ≡ true) ⊎ IsSeenAt time variable text t)
+
+-- it was so in the run under the log after fewer than n steps
+pub record IsSeenBefore (setting : Setting) (time variable : ℕ) (text : List ℕ) (log : List (ℕ × ℕ)) (n : ℕ) : Type 0 where
+  pub at : ℕ
+  pub earlier : at < n
+  pub seen : IsSeenAt time variable text (state_after setting log at)
+
+-- it was so in the run under the log, which takes all that the log names, both within so many steps
+pub record IsSeenWithin (setting : Setting) (limit time variable : ℕ) (seen : List ℕ × List (ℕ × ℕ)) : Type 0 where
+  pub steps : ℕ
+  pub run : IsRun (rules_of setting) seen.1 steps
+  pub names : NamesBelow seen.1 steps
+  pub within : steps ≤ limit
+  pub before : IsSeenBefore setting time variable seen.0 seen.1 (steps + 1)

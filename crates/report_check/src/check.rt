@@ -1,0 +1,96 @@
+// The first item of a report that isn't true.
+
+ghost use Rattle.std.specs.Prelude.{◌≡◌, map, length, OnOk, IfOk};
+ghost use Rattle.basis.specs.Reasons.{IfFault};
+ghost use Rattle.vcd_text.specs.DumpText.{header};
+ghost use Rattle.vreport.specs.Truth.{IsTrueReport};
+ghost use Rattle.report_check.specs.FirstBad.{IsFirstBad, TellsEnds, TellsRaces};
+
+use crate::end::is_true_end;
+use crate::head::is_true_head;
+use crate::race::is_true_race;
+use basis::{NoMemory, OrMemory};
+use report_text::Report;
+use std::alloc::Global;
+use vcd_text::Header;
+use vmachine::Machine;
+
+/// The first item of a report that isn't true, in the order of the report's own items, counted from 0.
+#[derive(Clone, Copy, Debug, PartialEq, Eq)]
+pub enum FirstBad {
+    /// The top, the time limit, the grain or the variables aren't those of the machine (E504).
+    Head,
+    /// The end at this place isn't that of the run under its log, or its dump isn't (E502).
+    End(usize),
+    /// A value of the race at this place isn't shown by the run under its log (E503).
+    Race(usize),
+}
+
+// The place of the first end that isn't true with its dump, if there is one.
+fn first_false_end(
+    alloc: Global,
+    machine: &Machine,
+    report: &Report,
+    dumps: &[&[u8]],
+) -> Result<Option<usize>, NoMemory>
+    requires { length dumps.now ≡ length report.now.ends }
+    ensures { IfOk result (TellsEnds machine.now report.now (map (λ dump. dump.now) dumps.now)) }
+{
+    let head = Header::new(alloc, machine.design())?;
+    for place in 0..report.ends.len() {
+        if !is_true_end(
+            alloc,
+            machine,
+            report,
+            &head,
+            &report.ends[place],
+            dumps[place],
+        )? {
+            return Ok(Some(place));
+        }
+    }
+    Ok(None)
+}
+
+// The place of the first race that isn't true, if there is one.
+fn first_false_race(
+    alloc: Global,
+    machine: &Machine,
+    report: &Report,
+) -> Result<Option<usize>, NoMemory>
+    ensures { IfOk result (TellsRaces machine.now report.now) }
+{
+    for place in 0..report.races.len() {
+        if !is_true_race(alloc, machine, report, &report.races[place])? {
+            return Ok(Some(place));
+        }
+    }
+    Ok(None)
+}
+
+/// Whether all that the report lists is true of the machine, the dumps being those of its ends, in their order: its head,
+/// each end with its dump, and each value of each race. Whether the report lists all that there is, is not tested.
+///
+/// The fault is the first item that isn't true (E504, E502, E503); else it is want of memory, E901. Each log is run once,
+/// within the steps that the report's head allows, and no dump is made in memory.
+pub fn check_report(
+    alloc: Global,
+    machine: &Machine,
+    report: &Report,
+    dumps: &[&[u8]],
+) -> Result<(), OrMemory<FirstBad>>
+    requires { length dumps.now ≡ length report.now.ends }
+    ensures ok { OnOk result (IsTrueReport machine.now report.now (map (λ dump. dump.now) dumps.now)) }
+    ensures bad { IfFault result (IsFirstBad machine.now report.now (map (λ dump. dump.now) dumps.now)) }
+{
+    if !is_true_head(machine, report) {
+        return Err(OrMemory::Fault(FirstBad::Head));
+    }
+    if let Some(place) = first_false_end(alloc, machine, report, dumps)? {
+        return Err(OrMemory::Fault(FirstBad::End(place)));
+    }
+    if let Some(place) = first_false_race(alloc, machine, report)? {
+        return Err(OrMemory::Fault(FirstBad::Race(place)));
+    }
+    Ok(())
+}

@@ -1,0 +1,131 @@
+// Whether a race of a report is true.
+
+ghost use Rattle.std.specs.Prelude.{◌≡◌, [], true, IfOk, Decides};
+ghost use Rattle.vreport.specs.Truth.{IsTrueRace, IsTrueSighting};
+ghost use Rattle.report_check.specs.Inner.{IsSeenWithin, TellsSeen, TellsSeenByNow};
+
+use basis::NoMemory;
+use report_text::{Race, Report, Seen};
+use sched_core::{Member, Space, next_choice};
+use std::alloc::Global;
+use vmachine::{Machine, Standing, machine_law};
+use vreport::text_of_value;
+
+// Whether the slot of the race's time ends here, and its variable has this value.
+fn shows(
+    alloc: Global,
+    machine: &Machine,
+    standing: &Standing,
+    race: &Race,
+    seen: &Seen,
+) -> Result<bool, NoMemory>
+    ensures { IfOk result (TellsSeen machine.now standing.now race.now.time race.now.variable seen.now.0) }
+{
+    let Some(time) = machine.slot_of(standing) else {
+        return Ok(false);
+    };
+    if time != race.time {
+        return Ok(false);
+    }
+    let Some(value) = machine.values(standing).get(race.variable) else {
+        return Ok(false);
+    };
+    let text = text_of_value(alloc, *value)?;
+    Ok(text == seen.value)
+}
+
+// Whether it was so before, or is so here.
+fn shows_by_now(
+    alloc: Global,
+    machine: &Machine,
+    standing: &Standing,
+    race: &Race,
+    seen: &Seen,
+    before: bool,
+) -> Result<bool, NoMemory>
+    ensures { IfOk result (TellsSeenByNow before machine.now standing.now race.now.time race.now.variable seen.now.0) }
+{
+    if before {
+        return Ok(true);
+    }
+    shows(alloc, machine, standing, race, seen)
+}
+
+// Whether the value was seen and nothing is left of the log.
+fn has_all(found: bool, rest: &[Member]) -> bool
+    ensures { Decides result ((found ≡ true) × (rest.now ≡ [])) }
+{
+    if !found {
+        return false;
+    }
+    rest.is_empty()
+}
+
+// Walks the run under the log, by at most `steps` steps, until the value was seen and nothing is left of the log.
+fn is_seen(
+    alloc: Global,
+    machine: &Machine,
+    steps: u32,
+    race: &Race,
+    seen: &Seen,
+) -> Result<bool, NoMemory>
+    ensures { IfOk result (λ is. Decides is (IsSeenWithin machine.now steps race.now.time race.now.variable seen.now)) }
+{
+    machine_law();
+    let mut state = machine.root()?;
+    let mut rest = seen.log.members();
+    let mut n = 0;
+    let mut found = false;
+    'turns: loop {
+        found = shows_by_now(alloc, machine, &state, race, seen, found)?;
+        if has_all(found, rest) {
+            return Ok(true);
+        }
+        if n == steps {
+            return Ok(false);
+        }
+        let (choice, later) = next_choice(rest, n);
+        if choice >= machine.width(&state) {
+            return Ok(false);
+        }
+        machine.step(&mut state, choice)?;
+        rest = later;
+        n += 1;
+    }
+}
+
+// Whether a value of the race is true: the run under its log has no more departures than the head of the report allows,
+// and within the steps that the head allows it comes to the end of that slot with that value and takes all that the log
+// names.
+fn is_true_sighting(
+    alloc: Global,
+    machine: &Machine,
+    report: &Report,
+    race: &Race,
+    seen: &Seen,
+) -> Result<bool, NoMemory>
+    ensures { IfOk result (λ is. Decides is (IsTrueSighting machine.now report.now race.now.time race.now.variable seen.now)) }
+{
+    if seen.log.members().len() > report.depart as usize {
+        return Ok(false);
+    }
+    is_seen(alloc, machine, report.steps, race, seen)
+}
+
+/// Whether a race of the report is true: each of its values is seen in the run under its log, at the end of that slot.
+/// E901 is the only refusal.
+pub fn is_true_race(
+    alloc: Global,
+    machine: &Machine,
+    report: &Report,
+    race: &Race,
+) -> Result<bool, NoMemory>
+    ensures { IfOk result (λ is. Decides is (IsTrueRace machine.now report.now race.now)) }
+{
+    for seen in &race.values {
+        if !is_true_sighting(alloc, machine, report, race, seen)? {
+            return Ok(false);
+        }
+    }
+    Ok(true)
+}

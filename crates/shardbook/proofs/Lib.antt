@@ -1,0 +1,5 @@
+pub mod ChainLemmas
+pub mod FindLemmas
+pub mod ShardLemmas
+pub mod ScanLemmas
+pub mod ClosingLemmas

@@ -1,0 +1,8 @@
+pub mod Quests
+pub mod Finishes
+pub mod Closing
+pub mod Meets
+pub mod Names
+pub mod Passes
+pub mod Sights
+pub mod Inner

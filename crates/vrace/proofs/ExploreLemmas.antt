@@ -1,0 +1,138 @@
+-- From the exploration of a design to that of files.
+use Rattle.std.proofs.Common.{◌≡◌, inl, inr, ℕ, List, Option, refl, sym, ap, subst, ◌∙◌}
+use Rattle.statebook.specs.declared.limits.Limits.{Limits}
+use Rattle.vmodel.specs.Run.{Setting}
+use Rattle.basis.specs.declared.memory.OrMemory.{OrMemory}
+use Rattle.basis.specs.declared.memory.OrMemory.TheVariants as or
+use Rattle.vcd_text.specs.Metered.{Written, Broken, count_after}
+use Rattle.vcd_text.specs.MeteredLaws.{stops_of}
+use Rattle.vcd_text.specs.declared.metered.Metered.{Metered}
+use Rattle.vcd_text.specs.declared.fault.WriteFault.{WriteFault}
+use Rattle.vcd_text.specs.declared.fault.WriteFault.TheVariants as write
+use Rattle.report_text.specs.Report.{Report}
+use Rattle.report_text.specs.ReportText.{report_text}
+use Rattle.vreport.specs.Ends.{HasSomeLongDump}
+use Rattle.vreport.specs.Reports.{IsExploration}
+use Rattle.vreport.specs.Written.{TakesReport, StopsReport as StopsOutlet}
+use Rattle.vrace.specs.Asked.{Asked}
+use Rattle.vrace.specs.Explores.{EndsSearch, Explores, IsExploreReason, IsReported, IsSearchFault, IsSearchReason, LeavesReport, Reports, Searched, StopsReport, setting_for, status_of}
+use Rattle.vrace.specs.Refusals.{IsOfWriting}
+use Rattle.vrace.specs.RunDumps.{failures_after, fault_of}
+use Rattle.vrace.specs.declared.exploring.Status.{Status}
+use Rattle.vrace.specs.declared.fault.Fault.{Fault}
+use Rattle.vrace.specs.declared.fault.Fault.TheVariants.{NotEnded, BadToken, Growth, NoTree, Outside, TooDeep, NotYet, NoTop, Doubled, Unknown, Width, TooMany, BadLog, NoSuchChoice, TooManySteps, OutOfLimit, BadReport, FalseEnd, FalseRace, FalseHead, Memory, Write, Read, TooLong}
+
+of_writing : (cause : OrMemory WriteFault) → IsOfWriting (fault_of cause)
+of_writing (or.Memory m) = tt
+of_writing (or.Fault write.Write) = tt
+
+count_of_writing : (cause : OrMemory WriteFault) (n : ℕ) → count_after cause n ≡ failures_after (fault_of cause) n
+count_of_writing (or.Memory m) n = refl
+count_of_writing (or.Fault write.Write) n = refl
+
+-- ---- of a setting
+
+module _ {W : Type 0} (contents : W → Option (List ℕ)) (setting : Setting) (limits : Limits) (report : Report) (exploration : IsExploration setting limits report) (old new : Metered W) where
+  pub reported : (status : Status) → status ≡ status_of report → TakesReport (Written contents) setting report old new → Reports contents setting limits status old new
+  reported status is taken = record {
+    report = report;
+    dumps = taken.dumps;
+    is_report = record { exploration = exploration; are_dumps = taken.are_dumps };
+    status_is = is;
+    written = taken.taken;
+  }
+
+  pub report_stops : (cause : OrMemory WriteFault) (fault : Fault) → fault ≡ fault_of cause → StopsOutlet (Written contents) (Broken contents) setting report old cause new →
+      EndsSearch contents setting limits old new fault
+  report_stops cause fault is stopped = inr (record {
+    cause = cause;
+    is = is;
+    report = report;
+    dumps = stopped.dumps;
+    is_report = record { exploration = exploration; are_dumps = stopped.are_dumps };
+    stops = stops_of contents old new (report_text report stopped.dumps) cause stopped.stopped;
+  })
+
+-- ---- of files
+
+module _ (files : List (List ℕ)) (asked : Asked) (searched : Searched files asked) (limits : Limits) (setting : Setting) (same : setting ≡ setting_for files asked searched) where
+  search_reason : (fault : Fault) → IsSearchFault setting limits fault → IsSearchReason files asked limits fault
+  search_reason (Growth at) p = (searched, subst (λ (s : Setting). HasSomeLongDump s limits) same p)
+  search_reason (Memory m) p = tt
+  search_reason (NotEnded at) p = absurd p
+  search_reason (BadToken at) p = absurd p
+  search_reason (NoTree at) p = absurd p
+  search_reason (Outside at) p = absurd p
+  search_reason (TooDeep at) p = absurd p
+  search_reason (NotYet at) p = absurd p
+  search_reason (NoTop at) p = absurd p
+  search_reason (Doubled at) p = absurd p
+  search_reason (Unknown at) p = absurd p
+  search_reason (Width at) p = absurd p
+  search_reason (TooMany at) p = absurd p
+  search_reason BadLog p = absurd p
+  search_reason NoSuchChoice p = absurd p
+  search_reason TooManySteps p = absurd p
+  search_reason OutOfLimit p = absurd p
+  search_reason BadReport p = absurd p
+  search_reason (FalseEnd i) p = absurd p
+  search_reason (FalseRace i) p = absurd p
+  search_reason FalseHead p = absurd p
+  search_reason Write p = absurd p
+  search_reason Read p = absurd p
+  search_reason TooLong p = absurd p
+
+  no_failure : (fault : Fault) (n : ℕ) → IsSearchFault setting limits fault → n ≡ failures_after fault n
+  no_failure (Growth at) n p = refl
+  no_failure (Memory m) n p = refl
+  no_failure (NotEnded at) n p = absurd p
+  no_failure (BadToken at) n p = absurd p
+  no_failure (NoTree at) n p = absurd p
+  no_failure (Outside at) n p = absurd p
+  no_failure (TooDeep at) n p = absurd p
+  no_failure (NotYet at) n p = absurd p
+  no_failure (NoTop at) n p = absurd p
+  no_failure (Doubled at) n p = absurd p
+  no_failure (Unknown at) n p = absurd p
+  no_failure (Width at) n p = absurd p
+  no_failure (TooMany at) n p = absurd p
+  no_failure BadLog n p = absurd p
+  no_failure NoSuchChoice n p = absurd p
+  no_failure TooManySteps n p = absurd p
+  no_failure OutOfLimit n p = absurd p
+  no_failure BadReport n p = absurd p
+  no_failure (FalseEnd i) n p = absurd p
+  no_failure (FalseRace i) n p = absurd p
+  no_failure FalseHead n p = absurd p
+  no_failure Write n p = absurd p
+  no_failure Read n p = absurd p
+  no_failure TooLong n p = absurd p
+
+  reason_of_writing : (report : Report) (dumps : List (List ℕ)) (cause : OrMemory WriteFault) → IsReported (setting_for files asked searched) limits report dumps →
+      IsSearchReason files asked limits (fault_of cause)
+  reason_of_writing report dumps (or.Memory m) is = tt
+  reason_of_writing report dumps (or.Fault write.Write) is = (searched, report, dumps, is)
+
+  module _ {W : Type 0} (contents : W → Option (List ℕ)) (old new : Metered W) where
+    pub explores : (status : Status) → Reports contents setting limits status old new → Explores contents files asked limits status old new
+    explores status r = record { searched = searched; reports = subst (λ (s : Setting). Reports contents s limits status old new) same r }
+
+    pub explore_reason : (fault : Fault) → EndsSearch contents setting limits old new fault → IsExploreReason files asked limits fault
+    explore_reason fault (inl (p, kept)) = inr (search_reason fault p)
+    explore_reason fault (inr s) = inr (subst (IsSearchReason files asked limits) (sym s.is)
+        (reason_of_writing s.report s.dumps s.cause (subst (λ (t : Setting). IsReported t limits s.report s.dumps) same s.is_report)))
+
+    pub explore_left : (fault : Fault) → EndsSearch contents setting limits old new fault → LeavesReport contents files asked limits fault old new
+    explore_left fault (inl (p, kept)) = inl kept
+    explore_left fault (inr s) = inr (subst IsOfWriting (sym s.is) (of_writing s.cause), record {
+      searched = searched;
+      report = s.report;
+      dumps = s.dumps;
+      is_report = subst (λ (t : Setting). IsReported t limits s.report s.dumps) same s.is_report;
+      len = s.stops.0.0;
+      front = s.stops.0.1;
+    })
+
+    pub explore_failures : (fault : Fault) → EndsSearch contents setting limits old new fault → new.failures ≡ failures_after fault old.failures
+    explore_failures fault (inl (p, kept)) = ap (λ (m : Metered W). m.failures) kept ∙ no_failure fault old.failures p
+    explore_failures fault (inr s) = s.stops.1 ∙ count_of_writing s.cause old.failures ∙ ap (λ (f : Fault). failures_after f old.failures) (sym s.is)

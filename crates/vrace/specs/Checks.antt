@@ -1,0 +1,60 @@
+-- When the text of a report is true of files; and when a check is refused.
+use Rattle.std.specs.Prelude.{◌≡◌, ℕ, ◌⊎◌, List, Option, Some}
+use Rattle.report_text.specs.Report.{Report}
+use Rattle.report_text.specs.WellFormed.{IsNoReportText, IsTold}
+use Rattle.vreport.specs.Truth.{IsTrueReport}
+use Rattle.report_check.specs.FirstBad.{IsFirstBad}
+use Rattle.report_check.specs.declared.check.FirstBad.{FirstBad}
+use Rattle.report_check.specs.declared.check.FirstBad.TheVariants.{Head, End, Race}
+use Rattle.vmodel.specs.Run.{Setting}
+use Rattle.vrace.specs.Asked.{Asked}
+use Rattle.vrace.specs.Explores.{Searched, setting_for}
+use Rattle.vrace.specs.Refusals.{IsDesignFault}
+use Rattle.vrace.specs.declared.fault.Fault.{Fault}
+use Rattle.vrace.specs.declared.fault.Fault.TheVariants.{BadReport, FalseEnd, FalseHead, FalseRace, Memory}
+
+-- what the head of a report asks for
+abbrev pub asked_by : Report → Asked
+asked_by report = record { top = Some report.top; until = report.until; steps = report.steps; grain = report.grain }
+
+-- the text is that of a report with its dumps, and the files have a design by its head
+pub record Checked (files : List (List ℕ)) (text : List ℕ) : Type 0 where
+  pub report : Report
+  pub dumps : List (List ℕ)
+  pub told : IsTold text (report, dumps)
+  pub searched : Searched files (asked_by report)
+
+abbrev pub setting_by : (files : List (List ℕ)) (text : List ℕ) → Checked files text → Setting
+setting_by files text checked = setting_for files (asked_by checked.report) checked.searched
+
+-- all that it lists is true of the files
+pub record IsTrueText (files : List (List ℕ)) (text : List ℕ) : Type 0 where
+  pub checked : Checked files text
+  pub truth : IsTrueReport (setting_by files text checked) checked.report checked.dumps
+
+-- ---- refusals
+
+-- this is the first item of the report that isn't true of the files
+pub record IsFalseAt (files : List (List ℕ)) (text : List ℕ) (bad : FirstBad) : Type 0 where
+  pub checked : Checked files text
+  pub first : IsFirstBad (setting_by files text checked) checked.report checked.dumps bad
+
+-- what a fault of the report says
+abbrev pub IsReportReason : List (List ℕ) → List ℕ → Fault → Type 0
+IsReportReason files text BadReport = IsNoReportText text
+IsReportReason files text (FalseEnd place) = IsFalseAt files text (End place)
+IsReportReason files text (FalseRace place) = IsFalseAt files text (Race place)
+IsReportReason files text FalseHead = IsFalseAt files text Head
+IsReportReason files text (Memory m) = Unit {0}
+IsReportReason files text other = ⊥
+
+-- the text is that of a report, and the files have no design by its head
+pub record HasNoSetting (files : List (List ℕ)) (text : List ℕ) (fault : Fault) : Type 0 where
+  pub report : Report
+  pub dumps : List (List ℕ)
+  pub told : IsTold text (report, dumps)
+  pub why : IsDesignFault files (Some report.top) fault
+
+-- why a check is refused: for the report, or for the files
+abbrev pub IsCheckReason : List (List ℕ) → List ℕ → Fault → Type 0
+IsCheckReason files text fault = IsReportReason files text fault ⊎ HasNoSetting files text fault

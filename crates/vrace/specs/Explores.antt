@@ -1,0 +1,114 @@
+-- What an exploration writes, from the bytes of the files to the report; and when it is refused.
+use Rattle.std.specs.Prelude.{◌≡◌, ℕ, nat_lt, ◌⊎◌, cond, List, Option, length, take}
+use Rattle.std.specs.Io.KnownBytes.{Appends}
+use Rattle.basis.specs.declared.memory.OrMemory.{OrMemory}
+use Rattle.statebook.specs.declared.limits.Limits.{Limits}
+use Rattle.vsrc.specs.Source.{joined}
+use Rattle.vast.specs.Design.{Design}
+use Rattle.vmodel.specs.Run.{Setting}
+use Rattle.vcd_text.specs.Metered.{Grows, Stops}
+use Rattle.vcd_text.specs.declared.metered.Metered.{Metered}
+use Rattle.vcd_text.specs.declared.fault.WriteFault.{WriteFault}
+use Rattle.report_text.specs.declared.report.Outcome.{Outcome}
+use Rattle.report_text.specs.declared.report.Outcome.TheVariants as outcome
+use Rattle.report_text.specs.Report.{Report}
+use Rattle.report_text.specs.ReportText.{report_text}
+use Rattle.vreport.specs.Ends.{HasSomeLongDump}
+use Rattle.vreport.specs.Reports.{IsExploration}
+use Rattle.vreport.specs.Written.{AreDumps}
+use Rattle.vrace.specs.Asked.{Asked}
+use Rattle.vrace.specs.Refusals.{IsDesignFault, IsOfWriting}
+use Rattle.vrace.specs.Replays.{AreRead, IsDesignOf}
+use Rattle.vrace.specs.RunDumps.{fault_of}
+use Rattle.vrace.specs.declared.exploring.Status.{Status}
+use Rattle.vrace.specs.declared.exploring.Status.TheVariants.{NoRace, Raced, Cut}
+use Rattle.vrace.specs.declared.fault.Fault.{Fault}
+use Rattle.vrace.specs.declared.fault.Fault.TheVariants.{Growth, Memory, Write}
+
+-- where no race is listed: whether nothing was missed
+abbrev pub status_by : Outcome → Status
+status_by outcome.Exhausted = NoRace
+status_by outcome.CutMemory = Cut
+status_by outcome.CutEntries = Cut
+status_by outcome.CutSteps = Cut
+
+-- what a report says in one word: a race was found; or none was, and nothing was missed, or the exploration was cut
+abbrev pub status_of : Report → Status
+status_of report = cond (nat_lt 0 (length report.races)) Raced (status_by report.outcome)
+
+-- a report of an exploration of the setting under the limits, and the dumps of its ends
+pub record IsReported (setting : Setting) (limits : Limits) (report : Report) (dumps : List (List ℕ)) : Type 0 where
+  pub exploration : IsExploration setting limits report
+  pub are_dumps : AreDumps setting report.steps report.ends dumps
+
+-- ---- of a setting
+
+-- the text of such a report was written, and its status answered
+pub record Reports {W : Type 0} (contents : W → Option (List ℕ)) (setting : Setting) (limits : Limits) (status : Status) (old new : Metered W) : Type 0 where
+  pub report : Report
+  pub dumps : List (List ℕ)
+  pub is_report : IsReported setting limits report dumps
+  pub status_is : status ≡ status_of report
+  pub written : Grows contents old new (report_text report dumps)
+
+-- why there is no report
+abbrev pub IsSearchFault : Setting → Limits → Fault → Type 0
+IsSearchFault setting limits (Growth at) = HasSomeLongDump setting limits
+IsSearchFault setting limits (Memory m) = Unit {0}
+IsSearchFault setting limits other = ⊥
+
+-- the fault came as the report went out
+pub record StopsReport {W : Type 0} (contents : W → Option (List ℕ)) (setting : Setting) (limits : Limits) (old new : Metered W) (fault : Fault) : Type 0 where
+  pub cause : OrMemory WriteFault
+  pub is : fault ≡ fault_of cause
+  pub report : Report
+  pub dumps : List (List ℕ)
+  pub is_report : IsReported setting limits report dumps
+  pub stops : Stops contents old new (report_text report dumps) cause
+
+-- no report was begun, or the fault came as it went out
+abbrev pub EndsSearch : {W : Type 0} → (W → Option (List ℕ)) → Setting → Limits → Metered W → Metered W → Fault → Type 0
+EndsSearch contents setting limits old new fault =
+    (IsSearchFault setting limits fault × (new ≡ old)) ⊎ StopsReport contents setting limits old new fault
+
+-- ---- of files
+
+-- what is explored: the design of the files, under the time limit and in the grain that are asked for
+pub record Searched (files : List (List ℕ)) (asked : Asked) : Type 0 where
+  pub are_read : AreRead files
+  pub design : Design
+  pub is_design : IsDesignOf (joined files) asked.top design
+
+abbrev pub setting_for : (files : List (List ℕ)) (asked : Asked) → Searched files asked → Setting
+setting_for files asked searched = record { design = searched.design; until = asked.until; grain = asked.grain }
+
+-- The report of the files: the writer grew by just its text.
+pub record Explores {W : Type 0} (contents : W → Option (List ℕ)) (files : List (List ℕ)) (asked : Asked) (limits : Limits) (status : Status) (old new : Metered W) : Type 0 where
+  pub searched : Searched files asked
+  pub reports : Reports contents (setting_for files asked searched) limits status old new
+
+-- what a fault of the search or of its report says
+abbrev pub IsSearchReason : List (List ℕ) → Asked → Limits → Fault → Type 0
+IsSearchReason files asked limits (Growth at) = (searched : Searched files asked) × HasSomeLongDump (setting_for files asked searched) limits
+IsSearchReason files asked limits (Memory m) = Unit {0}
+IsSearchReason files asked limits Write =
+    (searched : Searched files asked) × (report : Report) × (dumps : List (List ℕ)) × IsReported (setting_for files asked searched) limits report dumps
+IsSearchReason files asked limits other = ⊥
+
+-- why an exploration is refused: for its files or their text, or in the search
+abbrev pub IsExploreReason : List (List ℕ) → Asked → Limits → Fault → Type 0
+IsExploreReason files asked limits fault = IsDesignFault files asked.top fault ⊎ IsSearchReason files asked limits fault
+
+-- a front of a report stands written
+pub record IsBegunReport (files : List (List ℕ)) (asked : Asked) (limits : Limits) (old new : Option (List ℕ)) : Type 0 where
+  pub searched : Searched files asked
+  pub report : Report
+  pub dumps : List (List ℕ)
+  pub is_report : IsReported (setting_for files asked searched) limits report dumps
+  pub len : ℕ
+  pub front : Appends old new (take len (report_text report dumps))
+
+-- what a refusal leaves: the writer as it was, or a front of a report in it, where memory or the writer failed as it went out
+abbrev pub LeavesReport : {W : Type 0} → (W → Option (List ℕ)) → List (List ℕ) → Asked → Limits → Fault → Metered W → Metered W → Type 0
+LeavesReport contents files asked limits fault old new =
+    (new ≡ old) ⊎ (IsOfWriting fault × IsBegunReport files asked limits (contents old.inner) (contents new.inner))

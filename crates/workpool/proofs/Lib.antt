@@ -1,0 +1,4 @@
+pub mod SumLemmas
+pub mod RuleLemmas
+pub mod FairLemmas
+pub mod RingLemmas

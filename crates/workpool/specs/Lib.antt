@@ -1,0 +1,4 @@
+pub mod Tallies
+pub mod Jobs
+pub mod Rings
+pub mod Inner

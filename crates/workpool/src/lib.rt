@@ -1,0 +1,14 @@
+// In come the steps of workers: a job put or taken, an entry opened or shut, the mark to stop.
+// Out come sums over all workers, once their seats are joined and their deques settled.
+// The law: what was taken, stolen and is left is what was put; the tally is what the seats counted.
+#![tactic(auto)]
+
+mod deque;
+mod hand;
+mod ring;
+mod rule;
+mod tally;
+
+pub use deque::{Owner, Thief, ends, settle};
+pub use ring::{Seat, new_ring, settle_all};
+pub use tally::{SEATS, Tally, TallySeat};
