@@ -104,7 +104,7 @@ const EXPLANATIONS: [Explanation; 20] = [
     Explanation {
         number: "E404",
         meaning: "a number out of its limit",
-        example: "--steps 0",
+        example: "--steps 0, --depart 5",
         advice: "look at docs/LANGUAGE.md, Limits",
     },
     Explanation {
@@ -117,7 +117,7 @@ const EXPLANATIONS: [Explanation; 20] = [
         number: "E902",
         meaning: "standard output failed",
         example: "a full disk, a closed pipe",
-        advice: "what stands written is a prefix of the dump: make room and call again",
+        advice: "what stands written is a prefix of the dump or report: make room and call again",
     },
     Explanation {
         number: "E903",

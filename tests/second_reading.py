@@ -1,0 +1,270 @@
+"""A second reading of docs/SCHEDULING.md and docs/FORMATS.md: numbers, modules made at random, their runs and their dumps. What the
+scripts random-runs and random-reports compare with the program's answers.
+"""
+from copy import copy
+from dataclasses import dataclass, field
+
+UNTIL = 40
+
+
+# ---- numbers (3.5.1): letters lowest first, whether signed, whether the letter spreads
+
+@dataclass
+class Number:
+    text: str
+    letters: str
+    signed: bool = False
+    spreads: bool = False
+
+    def at(self, length):
+        """The number as an expression of this many letters."""
+        last = self.letters[-1]
+        fill = last if self.signed or (self.spreads and last in "xz") else "0"
+        return (self.letters + fill * length)[: max(length, 1)]
+
+
+def digits_of(value, length):
+    return "".join(str(value >> i & 1) for i in range(length))
+
+
+def plain(rng):
+    value = rng.choice([0, 1, 2, 5, 9, 255, 4294967295, 4294967296])
+    return Number(str(value), digits_of(value, 32), signed=True)
+
+
+def spelled(rng, base, width):
+    """Digits of a base of so many bits each, and their letters, lowest first."""
+    known = {1: "01", 3: "01267", 4: "019aBcF"}[width]
+    digits = "".join(rng.choice(known + "xXzZ?") for _ in range(rng.randrange(1, 6)))
+    unknown = {"x": "x", "X": "x", "z": "z", "Z": "z", "?": "z"}
+    letters = "".join(unknown[d] * width if d in unknown else digits_of(int(d, 16), width) for d in reversed(digits))
+    return "_".join(digits) if rng.random() < 0.3 else digits, letters, unknown.get(digits[0], "0")
+
+
+def decimal(rng):
+    """The same of base d, in which x and z stand alone."""
+    if rng.random() < 0.2:
+        digit = rng.choice("xz?")
+        letter = "z" if digit == "?" else digit
+        return digit, letter, letter
+    value = rng.choice([0, 1, 7, 255, 4294967296, 18446744073709551615])
+    return str(value), digits_of(value, 64), "0"
+
+
+def based(rng):
+    size = rng.choice([None, 1, 2, 4, 8, 33, 64])
+    base, width = rng.choice([("b", 1), ("o", 3), ("h", 4), ("H", 4), ("d", 0)])
+    sign = rng.choice(["", "s", "S"])
+    digits, letters, fill = spelled(rng, base, width) if width else decimal(rng)
+    letters = (letters + fill * 64)[: size or 32]
+    spreads = size is None and not sign
+    return Number(f"{'' if size is None else size}'{sign}{base}{digits}", letters, bool(sign), spreads)
+
+
+def amount_of(number):
+    """What a delay amounts to: 64 bits, unsigned; 0 where a letter is unknown."""
+    letters = number.at(64)
+    return 0 if set(letters) - set("01") else int(letters[::-1], 2)
+
+
+# ---- modules
+
+@dataclass
+class Module:
+    lengths: list
+    ranges: list
+    processes: list = field(default_factory=list)
+    declared: list = field(default_factory=list)
+
+    def names(self):
+        return self.declared or [f"v{i}" for i in range(len(self.lengths))]
+
+
+def statement(rng, count, depth):
+    """The text of a statement and what it has to do."""
+    kind = rng.choices(["assign", "post", "delay", "block", "empty", "dump", "finish"], [6, 5, 4, 4 if depth else 0, 1, 1, 0.3])[0]
+    if kind in ("assign", "post"):
+        target = rng.randrange(count)
+        source = rng.randrange(count) if rng.random() < 0.4 else (based if rng.random() < 0.6 else plain)(rng)
+        right = source.text if isinstance(source, Number) else f"v{source}"
+        return f"v{target} {'=' if kind == 'assign' else '<='} {right};", [(kind, target, source)]
+    if kind == "delay":
+        number = rng.choice([Number(str(d), digits_of(d, 32), True) for d in (0, 1, 2, 5, 30)] + [Number("64'hFFFFFFFFFFFFFFFF", "1" * 64), Number("4'sb1111", "1111", True), Number("1'bx", "x"), Number("'bz", "z" * 32, False, True)])
+        text, body = statement(rng, count, depth - 1 if depth else 0)
+        return f"#{number.text} {text}", [("delay", amount_of(number), body)]
+    if kind == "block":
+        parts = [statement(rng, count, depth - 1) for _ in range(rng.randrange(0, 5))]
+        return "begin " + " ".join(p[0] for p in parts) + " end", [action for p in parts for action in p[1]]
+    return {"empty": (";", []), "dump": ("$dumpvars;", [("dump",)]), "finish": ("$finish;", [("finish",)])}[kind]
+
+
+def module(rng):
+    lengths, ranges = [], []
+    for _ in range(rng.choice([1, 2, 2, 3, 3, 100])):
+        length = rng.choice([1, 1, 2, 8, 64])
+        low = rng.randrange(0, 9)
+        bounds = (low + length - 1, low) if rng.random() < 0.5 else (low, low + length - 1)
+        ranges.append(None if length == 1 and rng.random() < 0.7 else bounds)
+        lengths.append(length)
+    made = Module(lengths, ranges)
+    lines = ["module tb;"]
+    lines += [f"  reg {'' if r is None else f'[{r[0]}:{r[1]}] '}{n};" for n, r in zip(made.names(), ranges)]
+    for i in range(rng.randrange(1, 4)):
+        text, actions = statement(rng, len(lengths), 3)
+        if i == 0 and rng.random() < 0.9:
+            text, actions = f"begin $dumpvars; {text} end", [("dump",)] + actions
+        lines.append(f"  initial {text}")
+        made.processes.append(actions)
+    return "\n".join(lines) + "\nendmodule\n", made
+
+
+# ---- runs (clause 11)
+
+class Run:
+    def __init__(self, made, by_process, until=UNTIL):
+        self.made, self.by_process, self.until = made, by_process, until
+        self.values = ["x" * n for n in made.lengths]
+        self.rest = [list(p) for p in made.processes]
+        self.active = {p for p, rest in enumerate(self.rest) if rest}
+        self.inactive, self.activated, self.posted, self.future = set(), [], [], {}
+        self.time, self.last, self.beyond, self.finished, self.items = 0, None, False, False, []
+        if not self.active:
+            self.items.append((0, list(self.values)))
+
+    def copied(self):
+        other = copy(self)
+        other.values, other.items = list(self.values), list(self.items)
+        other.rest = [list(actions) for actions in self.rest]
+        other.active, other.inactive = set(self.active), set(self.inactive)
+        other.activated, other.posted = list(self.activated), list(self.posted)
+        other.future = {time: set(waiting) for time, waiting in self.future.items()}
+        return other
+
+    def cause(self):
+        """Why the run ended, where it has."""
+        return "finish" if self.finished else "limit" if self.beyond else "quiet"
+
+    def choices(self):
+        if self.finished:
+            return []
+        if self.last is not None and self.by_process:
+            return [self.last]
+        first = [] if self.last is None else [self.last]
+        found = first + sorted(self.active - set(first)) + ["update"] * bool(self.activated)
+        return found or ["advance"] * bool(self.future)
+
+    def value(self, source, length):
+        if isinstance(source, Number):
+            return source.at(max(length, len(source.letters)))[:length]
+        return (self.values[source] + "0" * length)[:length]
+
+    def take(self, choice):
+        self.last = None
+        if choice == "advance":
+            self.time = min(self.future)
+            self.active = self.future.pop(self.time)
+        elif choice == "update":
+            target, value = self.activated.pop(0)
+            self.values[target] = value
+        else:
+            self.act(choice)
+        if not self.finished:
+            self.settle()
+
+    def act(self, process):
+        kind, *what = self.rest[process].pop(0)
+        if kind == "assign":
+            self.values[what[0]] = self.value(what[1], self.made.lengths[what[0]])
+        elif kind == "post":
+            self.posted.append((what[0], self.value(what[1], self.made.lengths[what[0]])))
+        elif kind == "delay":
+            return self.suspend(process, *what)
+        elif kind == "dump":
+            self.items.append("dump")
+        else:
+            self.finished = True
+        if self.rest[process]:
+            self.last = process
+        else:
+            self.active.discard(process)
+
+    def suspend(self, process, amount, body):
+        self.rest[process] = body + self.rest[process]
+        self.active.discard(process)
+        waiting = {process} if self.rest[process] else set()
+        if amount == 0:
+            self.inactive |= waiting
+        elif self.time + amount > self.until:
+            self.beyond = True
+        else:
+            self.future.setdefault(self.time + amount, set()).update(waiting)
+
+    def settle(self):
+        if self.active or self.activated:
+            return
+        if self.inactive:
+            self.active, self.inactive = self.inactive, set()
+        elif self.posted:
+            self.activated, self.posted = self.posted, []
+        else:
+            self.items.append((self.time, list(self.values)))
+
+
+def fault_or_run(made, by_process, log, steps, until=UNTIL):
+    """The run under the log, or the number of its fault."""
+    run, named, count = Run(made, by_process, until), dict(log), 0
+    while choices := run.choices():
+        if count == steps:
+            return "E403"
+        index = named.pop(count, 0)
+        if index >= len(choices):
+            return "E402"
+        run.take(choices[index])
+        count += 1
+    return "E402" if named else run
+
+
+# ---- dumps (clause 18)
+
+def code(n):
+    text, n = "", n + 1
+    while n:
+        n, digit = divmod(n - 1, 94)
+        text += chr(33 + digit)
+    return text
+
+
+def change(n, letters):
+    if len(letters) == 1:
+        return letters + code(n)
+    shown = letters[::-1]
+    while len(shown) > 1 and shown[0] == ("0" if shown[1] == "1" else shown[1]):
+        shown = shown[1:]
+    return f"b{shown} {code(n)}"
+
+
+def header(made):
+    yield from ("$version vrace $end", "$timescale 1 ns $end", "$scope module tb $end")
+    for n, (name, length, bounds) in enumerate(zip(made.names(), made.lengths, made.ranges)):
+        shown = "" if bounds is None else f" [{bounds[0]}:{bounds[1]}]"
+        yield f"$var reg {length} {code(n)} {name}{shown} $end"
+    yield from ("$upscope $end", "$enddefinitions $end")
+
+
+def dump(run):
+    lines, asked, old, last = [], False, None, None
+    for item in run.items:
+        if item == "dump":
+            asked = True
+        elif asked:
+            time, values = item
+            changes = [change(n, v) for n, v in enumerate(values) if old is None or v != old[n]]
+            if old is None:
+                lines += [*header(run.made), f"#{time}", "$dumpvars", *changes, "$end"]
+            elif changes:
+                lines += [f"#{time}", *changes]
+            last = time if old is None or changes else last
+            old = values
+    if last is not None and run.time != last:
+        lines.append(f"#{run.time}")
+    return "".join(line + "\n" for line in lines).encode()
