@@ -1,6 +1,7 @@
-"""A second reading of docs/SCHEDULING.md and docs/FORMATS.md: numbers, modules made at random, their runs and their dumps. What the
-scripts random-runs and random-reports compare with the program's answers.
+"""A second reading of docs/SCHEDULING.md and docs/FORMATS.md: numbers, modules made at random or parsed, their runs and their dumps.
+What the scripts random-runs, random-reports and examples compare with the program's answers.
 """
+import re
 from copy import copy
 from dataclasses import dataclass, field
 
@@ -116,6 +117,85 @@ def module(rng):
         lines.append(f"  initial {text}")
         made.processes.append(actions)
     return "\n".join(lines) + "\nendmodule\n", made
+
+
+# ---- texts of one module tb, numbers without x and z
+
+TASKS = {"$dumpvars": "dump", "$finish": "finish"}
+KINDS = {"=": "assign", "<=": "post"}
+
+
+class Words:
+    """The words of a text of the small grammar, numbers without x and z."""
+
+    def __init__(self, text):
+        bare = re.sub("//.*", "", text)
+        self.words = re.findall(r"[0-9]*'[bdh][0-9a-fA-F]+|[0-9]+|\$?[A-Za-z_][A-Za-z0-9_]*|<=|\S", bare)
+
+    def take(self, *wanted):
+        """The next word, if it is wanted."""
+        return self.words.pop(0) if self.words and self.words[0] in wanted else None
+
+    def next(self):
+        return self.words.pop(0)
+
+
+def number_of(word):
+    """The number that is written so."""
+    size, _, digits = word.rpartition("'")
+    if not digits[0].isalpha():
+        return Number(word, digits_of(int(word), 32), True)
+    return Number(word, digits_of(int(digits[1:], {"b": 2, "d": 10, "h": 16}[digits[0]]), int(size or 32)))
+
+
+def parsed_statement(words, names):
+    """What the next statement has to do."""
+    if words.take("begin"):
+        actions = []
+        while not words.take("end"):
+            actions += parsed_statement(words, names)
+        return actions
+    if words.take("#"):
+        return [("delay", amount_of(number_of(words.next())), parsed_statement(words, names))]
+    if words.take(";"):
+        return []
+    word = words.next()
+    if word in TASKS:
+        action = (TASKS[word],)
+    else:
+        kind, source = KINDS[words.next()], words.next()
+        action = kind, names.index(word), names.index(source) if source in names else number_of(source)
+    if not words.take(";"):
+        raise ValueError(f"no semicolon behind {word}")
+    return [action]
+
+
+def declare(words, made):
+    """Adds the variables of the next declaration."""
+    bounds = None
+    if words.take("["):
+        left, _, right, _ = (words.next() for _ in range(4))
+        bounds = int(left), int(right)
+    separator = ","
+    while separator == ",":
+        made.declared.append(words.next())
+        made.ranges.append(bounds)
+        made.lengths.append(abs(bounds[0] - bounds[1]) + 1 if bounds else 1)
+        separator = words.next()
+
+
+def parsed(text):
+    """The module that the text is."""
+    words, made = Words(text), Module([], [])
+    assert [words.next() for _ in range(3)] == ["module", "tb", ";"]
+    while not words.take("endmodule"):
+        if words.take("initial"):
+            made.processes.append(parsed_statement(words, made.declared))
+        elif words.take("reg"):
+            declare(words, made)
+        else:
+            raise ValueError(f"no item: {words.next()}")
+    return made
 
 
 # ---- runs (clause 11)
