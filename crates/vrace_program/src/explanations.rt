@@ -10,7 +10,7 @@ pub struct Explanation {
     advice: &'static str,
 }
 
-const EXPLANATIONS: [Explanation; 20] = [
+const EXPLANATIONS: [Explanation; 24] = [
     Explanation {
         number: "E101",
         meaning: "a comment or a string that begins here isn't ended",
@@ -106,6 +106,30 @@ const EXPLANATIONS: [Explanation; 20] = [
         meaning: "a number out of its limit",
         example: "--steps 0, --depart 5",
         advice: "look at docs/LANGUAGE.md, Limits",
+    },
+    Explanation {
+        number: "E501",
+        meaning: "a report is ill formed",
+        example: "a report that was cut short or edited",
+        advice: "have explore write it anew; docs/FORMATS.md has the form under Reports",
+    },
+    Explanation {
+        number: "E502",
+        meaning: "an end of the report isn't true; at 0 is the first one",
+        example: "the text was changed behind the report",
+        advice: "replay the log of that end and compare time, cause, values and dump; then explore anew",
+    },
+    Explanation {
+        number: "E503",
+        meaning: "a race of the report isn't true; at 0 is the first one",
+        example: "the logs of two values exchanged",
+        advice: "replay the log of each of its values and look at the time of the race; then explore anew",
+    },
+    Explanation {
+        number: "E504",
+        meaning: "the head of the report isn't of this text",
+        example: "the report of another testbench: other variables",
+        advice: "give the files that the report was made of, in their order",
     },
     Explanation {
         number: "E901",
