@@ -124,14 +124,17 @@ module _ (files : List (List ℕ)) (asked : Asked) (searched : Searched files as
 
     pub explore_left : (fault : Fault) → EndsSearch contents setting limits old new fault → LeavesReport contents files asked limits fault old new
     explore_left fault (inl (p, kept)) = inl kept
-    explore_left fault (inr s) = inr (subst IsOfWriting (sym s.is) (of_writing s.cause), record {
-      searched = searched;
-      report = s.report;
-      dumps = s.dumps;
-      is_report = subst (λ (t : Setting). IsReported t limits s.report s.dumps) same s.is_report;
-      len = s.stops.0.0;
-      front = s.stops.0.1;
-    })
+    explore_left fault (inr s) = inr (
+      subst IsOfWriting (sym s.is) (of_writing s.cause),
+      record {
+        searched = searched;
+        report = s.report;
+        dumps = s.dumps;
+        is_report = subst (λ (t : Setting). IsReported t limits s.report s.dumps) same s.is_report;
+        len = s.stops.0.0;
+        front = s.stops.0.1;
+      },
+    )
 
     pub explore_failures : (fault : Fault) → EndsSearch contents setting limits old new fault → new.failures ≡ failures_after fault old.failures
     explore_failures fault (inl (p, kept)) = ap (λ (m : Metered W). m.failures) kept ∙ no_failure fault old.failures p

@@ -7,8 +7,8 @@ mod explanations;
 mod words;
 
 use basis::NoMemory;
-use clap::{ArgMatches, Error};
 use clap::error::ErrorKind;
+use clap::{ArgMatches, Error};
 use explanations::{explanation_of, show, show_all};
 use std::fs::File;
 use std::io::{BufWriter, Write};

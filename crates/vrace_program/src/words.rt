@@ -125,7 +125,9 @@ fn explain_command<'a>(alloc: Global) -> Result<Command<'a>, NoMemory> {
 pub fn commands<'a>(alloc: Global) -> Result<Command<'a>, NoMemory> {
     let command = Command::new(alloc, "vrace")
         .bin_name("vrace")?
-        .about("Runs Verilog in the orders that the standard leaves open, and finds races. Without words: replays standard input.")
+        .about(
+            "Runs Verilog in the orders that the standard leaves open, and finds races. Without words: replays standard input.",
+        )
         .version("0.1.0")
         .after_help(PAGES)
         .subcommand_required(true)
