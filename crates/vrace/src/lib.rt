@@ -12,6 +12,7 @@ pub mod law;
 mod options;
 mod read;
 mod replay;
+mod trace;
 mod unwatched;
 
 pub use checking::check_text;
@@ -20,3 +21,4 @@ pub use fault::{At, Fault};
 pub use options::Options;
 pub use read::{LIMIT, read_text};
 pub use replay::{Show, replay_text};
+pub use trace::trace_text;
