@@ -6,6 +6,7 @@ use std::alloc::Global;
 use vast::design::Design;
 use vbits::Vec4;
 use vcd_text::put_digits;
+use vmodel::SlowState;
 use vmodel::choice::Choice;
 use vmodel::deed::{Deed, Fate};
 use vmodel::history::{Cause, DumpCommand, End};
@@ -30,16 +31,16 @@ impl Origins {
     }
 }
 
-/// What a line tells of a step before what the step did.
+// What a line tells of a step before what the step did.
 #[derive(Clone, Copy)]
-pub(crate) struct Taken {
-    pub number: u32,
-    pub time: u64,
-    pub index: u32,
-    pub width: u32,
-    pub choice: Choice,
+struct Taken {
+    number: u32,
+    time: u64,
+    index: u32,
+    width: u32,
+    choice: Choice,
     // The place in the design's table of the action that its process came to.
-    pub action: Option<usize>,
+    action: Option<usize>,
 }
 
 fn put_number(text: &mut Vec<u8>, n: u64) -> Result<(), NoMemory> {
@@ -66,11 +67,7 @@ fn put_place(text: &mut Vec<u8>, place: Option<Place>) -> Result<(), NoMemory> {
 }
 
 // Who takes the step.
-fn put_choice(
-    text: &mut Vec<u8>,
-    choice: Choice,
-    place: Option<Place>,
-) -> Result<(), NoMemory> {
+fn put_choice(text: &mut Vec<u8>, choice: Choice, place: Option<Place>) -> Result<(), NoMemory> {
     match choice {
         Choice::Run(process) => {
             put_counted(text, b" process ", process as u64)?;
@@ -193,8 +190,8 @@ fn put_done(
     }
 }
 
-/// Puts the line of a step last: what was taken, of the values before it, and what it did; the time is that after it.
-pub(crate) fn put_step(
+// Puts the line of a step last: what was taken, of the values before it, and what it did; the time is that after it.
+fn put_step(
     text: &mut Vec<u8>,
     design: &Design,
     origins: &Origins,
@@ -209,11 +206,83 @@ pub(crate) fn put_step(
     Ok(())
 }
 
-/// Puts the line of a slot end last.
-pub(crate) fn put_slot_end(text: &mut Vec<u8>, time: u64) -> Result<(), NoMemory> {
+// Puts the line of a slot end last.
+fn put_slot_end(text: &mut Vec<u8>, time: u64) -> Result<(), NoMemory> {
     put_counted(text, b"slot ", time)?;
     text.push(b'\n')?;
     Ok(())
+}
+
+// The line of a slot end, where the state is one.
+fn put_mark(text: &mut Vec<u8>, state: &SlowState) -> Result<(), NoMemory> {
+    if state.cause().is_none() && state.is_mark() {
+        put_slot_end(text, state.time())?;
+    }
+    Ok(())
+}
+
+// What is told of the step of this number before it is taken, if there is such a choice.
+fn taken_of(state: &SlowState, number: u32, index: u32) -> Option<Taken> {
+    let choice = state.choice(index)?;
+    let action = match choice {
+        Choice::Run(process) => state.place_of(process),
+        Choice::Update => None,
+        Choice::Advance => None,
+    };
+    Some(Taken {
+        number,
+        time: state.time(),
+        index,
+        width: state.width(),
+        choice,
+        action,
+    })
+}
+
+// The lines of a step that was taken.
+fn lines_of(
+    alloc: Global,
+    design: &Design,
+    origins: &Origins,
+    old: &[Vec4],
+    taken: Taken,
+    deed: &Deed,
+    state: &SlowState,
+) -> Result<Vec<u8>, NoMemory> {
+    let mut text = Vec::new(alloc);
+    put_step(&mut text, design, origins, old, taken, deed, state.time())?;
+    put_mark(&mut text, state)?;
+    Ok(text)
+}
+
+/// Takes a step. The answer is its line, and that of the slot end behind it; none where there is no such choice. The values
+/// before the step are copied, as the step may write any of them.
+pub(crate) fn step(
+    alloc: Global,
+    design: &Design,
+    origins: &Origins,
+    state: &mut SlowState,
+    number: u32,
+    index: u32,
+) -> Result<Option<Vec<u8>>, NoMemory> {
+    let Some(taken) = taken_of(state, number, index) else {
+        return Ok(None);
+    };
+    let values = Vec::from_slice(alloc, state.values())?;
+    match state.step(design, index) {
+        Ok(deed) => {
+            let text = lines_of(alloc, design, origins, &values, taken, &deed, state)?;
+            Ok(Some(text))
+        }
+        Err(refused) => Err(refused),
+    }
+}
+
+/// The line of the opening state, where it is a slot end.
+pub(crate) fn opening_line(alloc: Global, state: &SlowState) -> Result<Vec<u8>, NoMemory> {
+    let mut text = Vec::new(alloc);
+    put_mark(&mut text, state)?;
+    Ok(text)
 }
 
 /// The line of the run's end.
