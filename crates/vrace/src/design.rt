@@ -58,7 +58,7 @@ pub struct Placed {
 
 // The design with the places of the tokens at which its statements begin.
 fn placed(alloc: Global, tokens: &Tokens<'_>, design: Design) -> Result<Placed, Fault>
-    ensures { IfOk result (λ placed. placed.design ≡ design) }
+    ensures same { IfOk result (λ placed. placed.design ≡ design) }
     ensures err { IfErr result IsOfMemory }
 {
     let mut places = Vec::new(alloc);

@@ -44,7 +44,7 @@ either false false c d f g e = absurd (cc)
 
 module _ (setting : Setting) (known : KnowsMachine setting) where
   -- the state that the entry's run comes to
-  moved : Entry Standing → Entry State
+  abbrev pub moved : Entry Standing → Entry State
   moved e = record { state = state_after setting e.log e.steps; budget = e.budget; log = e.log; steps = e.steps }
 
   module _ (k limit : ℕ) (e : Entry Standing) (is : IsEntry (machine_rules setting) k limit e) where
@@ -83,11 +83,11 @@ module _ (setting : Setting) (known : KnowsMachine setting) where
     entries = map moved has.entries;
     count = subst (λ (n : ℕ). limits.entries ≤ n) (sym (length-map has.entries moved)) has.count;
     allowed = λ i e at. (let from = of_mapped moved has.entries i e at in
-        subst (IsEntry (rules_of setting) limits.depart limits.steps) from.2.1 (moved_entry limits.depart limits.steps from.0 (has.allowed i from.0 from.2.0)));
+        subst (IsEntry (rules_of setting) limits.depart limits.steps) from.2 (moved_entry limits.depart limits.steps from.0 (has.allowed i from.0 from.1)));
     differ = λ i j e f before at_e at_f same budgets. (let one = of_mapped moved has.entries i e at_e in let other = of_mapped moved has.entries j f at_f in
-        differs i j one.0 other.0 before one.2.0 other.2.0
-        (subst (λ (x : Entry State). (rules_of setting).same (moved one.0).state x.state ≡ true) (sym other.2.1) (subst (λ (x : Entry State). (rules_of setting).same x.state f.state ≡ true) (sym one.2.1) same))
-        (ap (λ (x : Entry State). x.budget) one.2.1 ∙ budgets ∙ sym (ap (λ (x : Entry State). x.budget) other.2.1)));
+        differs i j one.0 other.0 before one.1 other.1
+        (subst (λ (x : Entry State). (rules_of setting).same (moved one.0).state x.state ≡ true) (sym other.2) (subst (λ (x : Entry State). (rules_of setting).same x.state f.state ≡ true) (sym one.2) same))
+        (ap (λ (x : Entry State). x.budget) one.2 ∙ budgets ∙ sym (ap (λ (x : Entry State). x.budget) other.2)));
   }
     where
       differs : (i j : ℕ) (e f : Entry Standing) → i < j → slice_get has.entries i ≡ Some e → slice_get has.entries j ≡ Some f →
