@@ -11,4 +11,4 @@ returns c =
       one_design = c.elaboration_law.ensures.one;
       one_log = c.log_text_law.ensures.one;
     } in
-    λ files text fault short truth reason. not_refused laws c.report_text_law.ensures files text short truth fault reason
+    record { refused = λ files text fault short truth reason. not_refused laws c.report_text_law.ensures.one files text short truth fault reason }

@@ -1,7 +1,7 @@
 use Rattle.std.proofs.Common.{ap, option_map}
 use Rattle.vsrc.specs.Source.{file_bytes}
 use Rattle.vrace.proofs.DesignLemmas.{err_of_text}
-use Rattle.vrace.proofs.design.design_of.Goals as goal
+use Rattle.vrace.proofs.design.placed_design_of.Goals as goal
 
 pub returns-clause-err : goal.returns-clause-err
 returns-clause-err c =
