@@ -17,7 +17,7 @@ use Rattle.std.proofs.lemmas.Option.{slice_get-map, slice_get_within, get_or_fro
 use Rattle.vbits.specs.declared.bit4.Bit4.TheVariants.{X}
 use Rattle.vbits.specs.Vectors.{Vector, filled}
 use Rattle.racebook.specs.Order.{IsEarlier, AreInTextOrder}
-use Rattle.racebook.specs.Inner.{key_of, key_cmp, HasBestAt, IsBestAt, IsBest, AreBest, HasValue, sighted}
+use Rattle.racebook.specs.Inner.{key_of, key_cmp, HasBestAt, IsBestAt, KeepsBest, AreBest, HasValue, sighted}
 use Rattle.racebook.proofs.KeyLemmas.{key_tells}
 use Rattle.racebook.proofs.ListLemmas.{contains_at, at_contains}
 
@@ -151,7 +151,7 @@ at_entry f [] i s at = absurd (cc)
 at_entry f (e ∷ es) zero s at = (e, refl, same_Some (f e) s at)
 at_entry f (e ∷ es) (suc i) s at = at_entry f es i s at
 
-pub best_entry : (rows : List (Vector × List (ℕ × ℕ))) (m : BTreeMap (ℕ × ℕ) ℕ) → IsBest rows m → IsOrdered key_cmp m → (i : ℕ) (e : (ℕ × ℕ) × ℕ) →
+pub best_entry : (rows : List (Vector × List (ℕ × ℕ))) (m : BTreeMap (ℕ × ℕ) ℕ) → KeepsBest rows m → IsOrdered key_cmp m → (i : ℕ) (e : (ℕ × ℕ) × ℕ) →
     slice_get m.entries i ≡ Some e → IsBestAt rows (length rows) e.0 e.1
 best_entry rows m best order i e at =
     let found : get key_cmp m e.0 ≡ Some e.1 = btree_map_get_place key_total m i e.0 e.1 order at in
@@ -164,7 +164,7 @@ record Listed (rows : List (Vector × List (ℕ × ℕ))) (es : List ((ℕ × �
   best : IsBestAt rows (length rows) entry.0 entry.1
   is : best.row ≡ s
 
-listed : (rows : List (Vector × List (ℕ × ℕ))) (m : BTreeMap (ℕ × ℕ) ℕ) → IsBest rows m → IsOrdered key_cmp m → (i : ℕ) (s : Vector × List (ℕ × ℕ)) →
+listed : (rows : List (Vector × List (ℕ × ℕ))) (m : BTreeMap (ℕ × ℕ) ℕ) → KeepsBest rows m → IsOrdered key_cmp m → (i : ℕ) (s : Vector × List (ℕ × ℕ)) →
     slice_get (map (sighted rows) m.entries) i ≡ Some s → Listed rows m.entries i s
 listed rows m best order i s at =
     let p = at_entry (sighted rows) m.entries i s at in
@@ -194,7 +194,7 @@ keys_rise ks i j a b order lt at at' =
     let less' : key_cmp a (get_or ks j a) ≡ Less = subst (λ (k : ℕ × ℕ). key_cmp k (get_or ks j a) ≡ Less) one less in
     subst (λ (k : ℕ × ℕ). key_cmp a k ≡ Less) other less'
 
-values_in_order : (rows : List (Vector × List (ℕ × ℕ))) (m : BTreeMap (ℕ × ℕ) ℕ) → IsBest rows m → IsOrdered key_cmp m → AreInTextOrder (map (sighted rows) m.entries)
+values_in_order : (rows : List (Vector × List (ℕ × ℕ))) (m : BTreeMap (ℕ × ℕ) ℕ) → KeepsBest rows m → IsOrdered key_cmp m → AreInTextOrder (map (sighted rows) m.entries)
 values_in_order rows m best order = λ i j s t lt at at'.
     let p = listed rows m best order i s at in
     let q = listed rows m best order j t at' in
@@ -207,7 +207,7 @@ values_in_order rows m best order = λ i j s t lt at at'.
     key_earlier (key_of s.0) (key_of t.0) less''
 
 pub list_best : (rows : List (Vector × List (ℕ × ℕ))) (m : BTreeMap (ℕ × ℕ) ℕ) (values : List (Vector × List (ℕ × ℕ))) →
-    values ≡ map (sighted rows) m.entries → IsBest rows m → IsOrdered key_cmp m → AreBest rows values
+    values ≡ map (sighted rows) m.entries → KeepsBest rows m → IsOrdered key_cmp m → AreBest rows values
 list_best rows m values is best order = subst (λ (xs : List (Vector × List (ℕ × ℕ))). AreBest rows xs) (sym is) (record {
   seen = λ i s at.
       (let p = listed rows m best order i s at in

@@ -15,7 +15,7 @@ use Rattle.vmachine.specs.Machines.{Stands}
 use Rattle.vmachine.specs.Reads.{slot_in}
 use Rattle.racebook.specs.declared.glimpse.Glimpse.{Glimpse}
 use Rattle.racebook.specs.Order.{IsEarlier, shape_of, text_number, AreInTextOrder}
-use Rattle.racebook.specs.Races.{Race, EachRace, AreInOrder}
+use Rattle.racebook.specs.Races.{Race, EachRace, AreRacesInOrder}
 
 -- ---- what is seen of a mark
 
@@ -120,8 +120,8 @@ HasBestAt rows count key (Some place) = IsBestAt rows count key place
 abbrev pub IsBestBelow : List (Vector × List (ℕ × ℕ)) → ℕ → BTreeMap (ℕ × ℕ) ℕ → Type 0
 IsBestBelow rows count best = (key : ℕ × ℕ) → HasBestAt rows count key (get key_cmp best key)
 
-abbrev pub IsBest : List (Vector × List (ℕ × ℕ)) → BTreeMap (ℕ × ℕ) ℕ → Type 0
-IsBest rows best = IsBestBelow rows (length rows) best
+abbrev pub KeepsBest : List (Vector × List (ℕ × ℕ)) → BTreeMap (ℕ × ℕ) ℕ → Type 0
+KeepsBest rows best = IsBestBelow rows (length rows) best
 
 -- the row that an entry names
 abbrev pub sighted : List (Vector × List (ℕ × ℕ)) → (ℕ × ℕ) × ℕ → Vector × List (ℕ × ℕ)
@@ -178,13 +178,13 @@ pub record AreUpTo (glimpses : List Glimpse) (races : List Race) (time variable 
   pub each : EachRace (IsRaceAmong glimpses) races
   pub before : EachRace (λ race. IsEarlier race.time race.variable time variable) races
   pub all : (t v : ℕ) → IsEarlier t v time variable → Disagree glimpses t v → ListsRace races t v
-  pub order : AreInOrder races
+  pub order : AreRacesInOrder races
 
 -- and those are all
 pub record AreAll (glimpses : List Glimpse) (races : List Race) : Type 0 where
   pub each : EachRace (IsRaceAmong glimpses) races
   pub all : (t v : ℕ) → Disagree glimpses t v → ListsRace races t v
-  pub order : AreInOrder races
+  pub order : AreRacesInOrder races
 
 -- the slot is of all the glimpses of this time
 pub record IsSlotOf (glimpses slot : List Glimpse) (time : ℕ) : Type 0 where

@@ -90,8 +90,8 @@ HasFewest setting race = (i : ℕ) (s : Vector × List (ℕ × ℕ)) (log : List
     slice_get race.values i ≡ Some s → IsShown setting race.time race.variable s.0 log steps → length s.1 ≤ length log
 
 -- races stand in the order of time, then of variable, each time and variable once
-abbrev pub AreInOrder : List Race → Type 0
-AreInOrder races = (i j : ℕ) (a b : Race) →
+abbrev pub AreRacesInOrder : List Race → Type 0
+AreRacesInOrder races = (i j : ℕ) (a b : Race) →
     i < j → slice_get races i ≡ Some a → slice_get races j ≡ Some b → IsEarlier a.time a.variable b.time b.variable
 
 -- the values of each race stand in the order of their texts

@@ -1,7 +1,7 @@
 // The races of all slots, by time.
 
 ghost use Rattle.std.specs.Prelude.{◌≡◌, ◌<◌, IfOk, length};
-ghost use Rattle.racebook.specs.Races.{AreInOrder, AreValuesInOrder, ListsAllRaces, ListsEveryMark, ListsShortest, GivesFewest, ListsRaces};
+ghost use Rattle.racebook.specs.Races.{AreRacesInOrder, AreValuesInOrder, ListsAllRaces, ListsEveryMark, ListsShortest, GivesFewest, ListsRaces};
 ghost use Rattle.racebook.specs.Inner.{AreAll, AreInTime, AreWide, IsSlotEndAt};
 
 use crate::glimpse::{Glimpse, glimpses_in_time};
@@ -62,7 +62,7 @@ pub fn races(
     ensures fewest { IfOk result (λ races. GivesFewest machine.now findings.now races.items) }
     ensures marked { IfOk result (λ races. ListsEveryMark machine.now findings.now races.items) }
     ensures shortest { IfOk result (λ races. ListsShortest machine.now findings.now races.items) }
-    ensures order { IfOk result (λ races. AreInOrder races.items) }
+    ensures order { IfOk result (λ races. AreRacesInOrder races.items) }
     ensures values { IfOk result (λ races. AreValuesInOrder races.items) }
 {
     machine_law();

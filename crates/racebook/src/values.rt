@@ -1,7 +1,7 @@
 // The different values of one variable in one slot, each with the fewest departures that lead to it.
 
 ghost use Rattle.std.specs.Prelude.{◌≡◌, ◌+◌, ◌<◌, IfOk, OnOk, Some, length, slice_get};
-ghost use Rattle.racebook.specs.Inner.{AreBest, HaveValue, IsBest, IsBestBelow, TellsTwo, rows_of, value_in};
+ghost use Rattle.racebook.specs.Inner.{AreBest, HaveValue, KeepsBest, IsBestBelow, TellsTwo, rows_of, value_in};
 
 use crate::glimpse::Glimpse;
 use crate::key::{Key, key};
@@ -83,7 +83,7 @@ fn best_of(
     variable: usize,
 ) -> Result<BTreeMap<Key, usize>, NoMemory>
     requires { HaveValue variable slot.now }
-    ensures { IfOk result (IsBest (rows_of variable slot.now)) }
+    ensures { IfOk result (KeepsBest (rows_of variable slot.now)) }
 {
     let mut best = BTreeMap::new(alloc);
     for place in 0..slot.len() {
@@ -100,7 +100,7 @@ fn list_of(
     best: &BTreeMap<Key, usize>,
 ) -> Result<Vec<Sighting>, NoMemory>
     requires have { HaveValue variable slot.now }
-    requires best { IsBest (rows_of variable slot.now) best.now }
+    requires best { KeepsBest (rows_of variable slot.now) best.now }
     ensures { IfOk result (λ values. AreBest (rows_of variable slot.now) values.items) }
 {
     let mut values = Vec::new(alloc);

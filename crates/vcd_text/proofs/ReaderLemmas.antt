@@ -10,7 +10,7 @@ use Rattle.vbits.specs.declared.bit4.Bit4.{Bit4}
 use Rattle.vbits.specs.declared.bit4.Bit4.TheVariants.{Zero, One, X, Z}
 use Rattle.vbits.specs.Letters.{is_same}
 use Rattle.vbits.specs.Vectors.{Vector, same_letters}
-use Rattle.vcd_text.specs.DumpText.{Piece, Slot, change, changes, code, digit, framed, is_kept, is_nothing, later_pieces, line, piece_text, pieces, spoken, start, value_lines}
+use Rattle.vcd_text.specs.DumpText.{Piece, ToldSlot, change, changes, code, digit, framed, is_kept, is_nothing, later_pieces, line, piece_text, pieces, spoken, start, value_lines}
 use Rattle.vcd_text.specs.Readers.{AllHave, IsTold, known, letters_of, overlaid}
 
 -- ---- values that are kept
@@ -144,36 +144,36 @@ none_is : {A : Type 0} (x : A) → None ≡ Some x → ⊥
 none_is x e = cc
 
 module _ (count : ℕ) where
-  abbrev pub HasCount : Slot → Type 0
+  abbrev pub HasCount : ToldSlot → Type 0
   HasCount slot = length slot.values ≡ count
 
-  start_told : (slot : Slot) (values : List Vector) → length values ≡ count → HasCount slot → letters_of (overlaid values (start slot).told) ≡ letters_of slot.values
+  start_told : (slot : ToldSlot) (values : List Vector) → length values ≡ count → HasCount slot → letters_of (overlaid values (start slot).told) ≡ letters_of slot.values
   start_told slot values many has = ap letters_of (over_all slot.values values [] 0 refl (many ∙ sym has))
 
-  later_told : (before slot : Slot) (values : List Vector) → HasCount before → HasCount slot → letters_of values ≡ letters_of before.values →
+  later_told : (before slot : ToldSlot) (values : List Vector) → HasCount before → HasCount slot → letters_of values ≡ letters_of before.values →
       letters_of (overlaid values (changes 0 before.values slot.values)) ≡ letters_of slot.values
   later_told before slot values had has same = over_changes before.values slot.values values [] 0 refl (had ∙ sym has) same
 
-  known_later : (later : List Slot) (k : ℕ) (before slot : Slot) (values : List Vector) → HasCount before → AllHave count later → slice_get later k ≡ Some slot →
+  known_later : (later : List ToldSlot) (k : ℕ) (before slot : ToldSlot) (values : List Vector) → HasCount before → AllHave count later → slice_get later k ≡ Some slot →
       letters_of values ≡ letters_of before.values → letters_of (known values (take (suc k) (later_pieces before later))) ≡ letters_of slot.values
   known_later [] k before slot values had all is same = absurd (none_is slot is)
   known_later (next ∷ later) zero before slot values had all is same =
-      later_told before next values had (All-head HasCount next later all) same ∙ ap (λ (s : Slot). letters_of s.values) (some_is next slot is)
+      later_told before next values had (All-head HasCount next later all) same ∙ ap (λ (s : ToldSlot). letters_of s.values) (some_is next slot is)
   known_later (next ∷ later) (suc k) before slot values had all is same =
       let has : HasCount next = All-head HasCount next later all in
       known_later later k next slot (overlaid values (changes 0 before.values next.values)) has (All-tail HasCount next later all) is
       (later_told before next values had has same)
 
-  known_at : (slots : List Slot) (k : ℕ) (slot : Slot) (values : List Vector) → length values ≡ count → AllHave count slots → slice_get slots k ≡ Some slot →
+  known_at : (slots : List ToldSlot) (k : ℕ) (slot : ToldSlot) (values : List Vector) → length values ≡ count → AllHave count slots → slice_get slots k ≡ Some slot →
       letters_of (known values (take (suc k) (pieces slots))) ≡ letters_of slot.values
   known_at [] k slot values many all is = absurd (none_is slot is)
   known_at (first ∷ later) zero slot values many all is =
-      start_told first values many (All-head HasCount first later all) ∙ ap (λ (s : Slot). letters_of s.values) (some_is first slot is)
+      start_told first values many (All-head HasCount first later all) ∙ ap (λ (s : ToldSlot). letters_of s.values) (some_is first slot is)
   known_at (first ∷ later) (suc k) slot values many all is =
       let has : HasCount first = All-head HasCount first later all in
       known_later later k first slot (overlaid values (start first).told) has (All-tail HasCount first later all) is (start_told first values many has)
 
-pub slots_told : (slots : List Slot) → IsTold slots
+pub slots_told : (slots : List ToldSlot) → IsTold slots
 slots_told slots values k slot all is =
     ap (λ (n : ℕ). letters_of (known values (spoken (take n (pieces slots))))) (add-one k)
     ∙ ap letters_of (spoken_known (take (suc k) (pieces slots)) values)

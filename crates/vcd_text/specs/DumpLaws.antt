@@ -7,7 +7,7 @@ use Rattle.vmodel.specs.declared.history.DumpCommand.TheVariants.{Vars}
 use Rattle.vmodel.specs.History.{History}
 use Rattle.vmodel.specs.declared.history.Item.{Item}
 use Rattle.vmodel.specs.declared.history.Item.TheVariants.{SlotEnd, Dump}
-use Rattle.vcd_text.specs.DumpText.{Piece, Slot, below, body, changes, dump_below, dumped, is_nothing, is_start, later_pieces, piece_text, pieces, slots_after, spoken, start, time_line}
+use Rattle.vcd_text.specs.DumpText.{Piece, ToldSlot, below, body, changes, dump_below, dumped, is_nothing, is_start, later_pieces, piece_text, pieces, slots_after, spoken, start, time_line}
 use Rattle.vcd_text.specs.declared.progress.Progress.{Progress}
 use Rattle.vcd_text.specs.declared.progress.Progress.TheVariants.{Idle, Asked, Started}
 use Rattle.vcd_text.specs.Sinks.{end_text, history_text, items_text, last_line, progress_over, timed, text_of, Takes, Fails}
@@ -30,10 +30,10 @@ module _ (head : List ℕ) (end : ℕ) where
   rest p items = items_text head p items ++ end_text (progress_over p items) end
 
   -- what the definition says from a piece on
-  abbrev pub from_piece : Piece → Slot → List Slot → List ℕ
+  abbrev pub from_piece : Piece → ToldSlot → List ToldSlot → List ℕ
   from_piece p slot slots = body (p ∷ spoken (later_pieces slot slots)) end
 
-  later_by_text : (p q : Piece) (slot : Slot) (slots : List Slot) (items : List Item) (text : List ℕ) → piece_text q ≡ text →
+  later_by_text : (p q : Piece) (slot : ToldSlot) (slots : List ToldSlot) (items : List Item) (text : List ℕ) → piece_text q ≡ text →
       ((r : Piece) → from_piece r slot slots ≡ time_line r.time ++ piece_text r ++ rest (Started r.time slot.values) items) →
       body (p ∷ spoken (q ∷ later_pieces slot slots)) end
       ≡ time_line p.time ++ piece_text p ++ (timed q.time text ++ items_text head (Started (last_line p.time q.time text) slot.values) items
@@ -49,12 +49,12 @@ module _ (head : List ℕ) (end : ℕ) where
       ∙ ap (λ (more : List ℕ). time_line p.time ++ piece_text p ++ more)
       (next q ∙ ap (λ (xs : List ℕ). time_line q.time ++ xs ++ (added ++ last)) is ∙ sym (append_assoc (time_line q.time ++ (c ∷ cs)) added last))
 
-  later_text : (p : Piece) (slot : Slot) (commands : List DumpCommand) (items : List Item) →
+  later_text : (p : Piece) (slot : ToldSlot) (commands : List DumpCommand) (items : List Item) →
       from_piece p slot (slots_after commands items) ≡ time_line p.time ++ piece_text p ++ rest (Started p.time slot.values) items
   later_text p slot commands [] = refl
   later_text p slot commands (Dump command ∷ items) = later_text p slot (commands ++ command ∷ []) items
   later_text p slot commands (SlotEnd t values ∷ items) =
-      let next : Slot = record { commands = commands; time = t; values = values } in
+      let next : ToldSlot = record { commands = commands; time = t; values = values } in
       let piece : Piece = record { time = t; word = []; told = changes 0 slot.values values } in
       later_by_text p piece next (slots_after [] items) items (piece_text piece) refl (λ r. later_text r next [] items)
 
@@ -65,8 +65,8 @@ module _ (head : List ℕ) (end : ℕ) where
       asked_text (commands ++ command ∷ []) items
       (list_any-append is_start commands (command ∷ []) ∙ ap (λ (b : Bool). b || list_any is_start (command ∷ [])) has)
   asked_text commands (SlotEnd t values ∷ items) has =
-      let slot : Slot = record { commands = commands; time = t; values = values } in
-      let later : List Slot = slots_after [] items in
+      let slot : ToldSlot = record { commands = commands; time = t; values = values } in
+      let later : List ToldSlot = slots_after [] items in
       let added : List ℕ = items_text head (Started t values) items in
       let last : List ℕ = end_text (progress_over (Started t values) items) end in
       sym (ap (λ (b : Bool). below head (spoken (pieces (cond b (slot ∷ later) (dumped later)))) end) has
@@ -80,8 +80,8 @@ module _ (head : List ℕ) (end : ℕ) where
       asked_text (commands ++ command ∷ []) items
       (list_any-append is_start commands (command ∷ []) ∙ ap (λ (b : Bool). b || list_any is_start (command ∷ [])) none ∙ has_start command)
   idle_text commands (SlotEnd t values ∷ items) none =
-      let slot : Slot = record { commands = commands; time = t; values = values } in
-      let later : List Slot = slots_after [] items in
+      let slot : ToldSlot = record { commands = commands; time = t; values = values } in
+      let later : List ToldSlot = slots_after [] items in
       idle_text [] items refl
       ∙ sym (ap (λ (b : Bool). below head (spoken (pieces (cond b (slot ∷ later) (dumped later)))) end) none)
 

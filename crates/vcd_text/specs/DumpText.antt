@@ -144,13 +144,13 @@ header design =
 -- ---- slots
 
 -- a slot that ended: the dump commands given in it, its time, and the values at its end
-pub record Slot : Type 0 where
+pub record ToldSlot : Type 0 where
   pub commands : List DumpCommand
   pub time : ℕ
   pub values : List Vector
 
 -- the slots of a history, the first of which was given these commands before; one that $finish cuts short has no end
-abbrev pub slots_after : List DumpCommand → List Item → List Slot
+abbrev pub slots_after : List DumpCommand → List Item → List ToldSlot
 slots_after commands [] = []
 slots_after commands (Dump command ∷ items) = slots_after (commands ++ command ∷ []) items
 slots_after commands (SlotEnd t values ∷ items) = record { commands = commands; time = t; values = values } ∷ slots_after [] items
@@ -160,7 +160,7 @@ abbrev pub is_start : DumpCommand → Bool
 is_start Vars = true
 
 -- the slots from the first one with a $dumpvars on: at its end the dump starts (18.1.2)
-abbrev pub dumped : List Slot → List Slot
+abbrev pub dumped : List ToldSlot → List ToldSlot
 dumped [] = []
 dumped (slot ∷ slots) = cond (list_any is_start slot.commands) (slot ∷ slots) (dumped slots)
 
@@ -173,15 +173,15 @@ pub record Piece : Type 0 where
   pub told : List (ℕ × Vector)
 
 -- at the first slot's end all values (18.1.2)
-abbrev pub start : Slot → Piece
+abbrev pub start : ToldSlot → Piece
 start slot = record { time = slot.time; word = codes "$dumpvars"; told = enumerate_from 0 slot.values }
 
 -- at the end of each later one the values that differ from those at the end of the slot before
-abbrev pub later_pieces : Slot → List Slot → List Piece
+abbrev pub later_pieces : ToldSlot → List ToldSlot → List Piece
 later_pieces before [] = []
 later_pieces before (slot ∷ slots) = record { time = slot.time; word = []; told = changes 0 before.values slot.values } ∷ later_pieces slot slots
 
-abbrev pub pieces : List Slot → List Piece
+abbrev pub pieces : List ToldSlot → List Piece
 pieces [] = []
 pieces (first ∷ later) = start first ∷ later_pieces first later
 

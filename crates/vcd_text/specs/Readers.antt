@@ -2,7 +2,7 @@
 use Rattle.std.specs.Prelude.{◌≡◌, ℕ, ◌+◌, ◌-◌, ◌==◌, ◌||◌, cond, List, [], ◌∷◌, ◌++◌, Some, All, get_or, length, map, replicate, slice_get, slice_set, take}
 use Rattle.vbits.specs.declared.bit4.Bit4.{Bit4}
 use Rattle.vbits.specs.Vectors.{Vector}
-use Rattle.vcd_text.specs.DumpText.{Piece, Slot, pieces, spoken}
+use Rattle.vcd_text.specs.DumpText.{Piece, ToldSlot, pieces, spoken}
 
 -- what a reader puts to the left of the digits that stand written (18.2.2): 0 where the leftmost is 0 or 1, x or z where it is that
 abbrev pub left_fill : ℕ → ℕ
@@ -27,11 +27,11 @@ abbrev pub letters_of : List Vector → List (List Bit4)
 letters_of = map (λ v. v.letters)
 
 -- each slot has values of so many variables
-abbrev pub AllHave : ℕ → List Slot → Type 0
+abbrev pub AllHave : ℕ → List ToldSlot → Type 0
 AllHave count = All (λ slot. length slot.values ≡ count)
 
 -- what is written up to a slot's end and with it tells the values at it, whatever values a reader took up before
-abbrev pub IsTold : List Slot → Type 0
+abbrev pub IsTold : List ToldSlot → Type 0
 IsTold slots =
-    (values : List Vector) (k : ℕ) (slot : Slot) → AllHave (length values) slots → slice_get slots k ≡ Some slot →
+    (values : List Vector) (k : ℕ) (slot : ToldSlot) → AllHave (length values) slots → slice_get slots k ≡ Some slot →
     letters_of (known values (spoken (take (k + 1) (pieces slots)))) ≡ letters_of slot.values

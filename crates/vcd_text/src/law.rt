@@ -3,7 +3,7 @@
 ghost use Rattle.std.specs.Prelude.{◌≡◌, ◌+◌, ℕ, List, All, length};
 ghost use Rattle.vcd_text.specs.CodeLaws.{IsDigit, IsNumeral, number_of};
 ghost use Rattle.vcd_text.specs.Comparing.{IsWhole};
-ghost use Rattle.vcd_text.specs.DumpText.{Slot, code, dump_below, shortened};
+ghost use Rattle.vcd_text.specs.DumpText.{ToldSlot, code, dump_below, shortened};
 ghost use Rattle.vcd_text.specs.Readers.{IsTold, extended};
 ghost use Rattle.vcd_text.specs.Sinks.{history_text};
 ghost use Rattle.vmodel.specs.History.{History};
@@ -17,7 +17,7 @@ pub fn dumps_are_readable()
     ensures number { (n : ℕ) → number_of (code n) ≡ n + 1 }
     ensures only { (n : ℕ) (text : List ℕ) → IsNumeral n text → text ≡ code n }
     ensures back { (digits : List ℕ) → extended (length digits) (shortened digits) ≡ digits }
-    ensures values { (slots : List Slot) → IsTold slots }
+    ensures values { (slots : List ToldSlot) → IsTold slots }
 {}
 
 /// The law of sinks, which does nothing: what the items of a history and then its end add to a dump of which nothing has

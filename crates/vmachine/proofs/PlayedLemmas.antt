@@ -12,13 +12,13 @@ use Rattle.vmodel.specs.declared.history.End.{End}
 use Rattle.vmodel.specs.declared.deed.Deed.{Deed}
 use Rattle.vmodel.specs.Step.{Turn, next, items_of}
 use Rattle.vmodel.specs.Run.{Setting, rules_of, opening_of, state_after, given_by, end_of, is_mark}
-use Rattle.vmodel.specs.Played.{Finishes, IsUnderway, opening_is, width_is, after_is}
+use Rattle.vmodel.specs.Played.{Finishes, IsOnItsWay, opening_is, width_is, after_is}
 use Rattle.basis.specs.declared.memory.OrMemory.{OrMemory}
 use Rattle.basis.specs.declared.memory.OrMemory.TheVariants.{Fault, Memory}
 use Rattle.vmodel.specs.RulesLaws.{lawful}
 use Rattle.vmachine.specs.declared.run.RunFault.{RunFault}
 use Rattle.vmachine.specs.declared.run.RunFault.TheVariants.{Replay, Sink}
-use Rattle.vmachine.specs.Handed.{IsHanded, IsFailed, Leaves}
+use Rattle.vmachine.specs.Handed.{IsHanded, IsFailed, LeavesSink}
 use Rattle.vmachine.specs.Inner.{IsOfSink, IsAt}
 
 pub at_opening : (setting : Setting) (log : List (ℕ × ℕ)) (steps : ℕ) (state : State) → IsLogFrom 0 log → state ≡ opening_of setting →
@@ -83,10 +83,10 @@ module _ (setting : Setting) (log rest : List (ℕ × ℕ)) (steps n : ℕ) (sta
         ap (λ (t : Turn). given_by setting log n ++ items_of t) (sym is ∙ next_is)
         ∙ ap (given_by setting log) (sym (add-one n))
 
-pub underway : (setting : Setting) (log rest : List (ℕ × ℕ)) (steps n : ℕ) (state : State) → IsAt setting log rest steps n state → IsUnderway setting log steps n
+pub underway : (setting : Setting) (log rest : List (ℕ × ℕ)) (steps n : ℕ) (state : State) → IsAt setting log rest steps n state → IsOnItsWay setting log steps n
 underway setting log rest steps n state here = record { within = here.within; run = here.run }
 
-pub underway_first : (setting : Setting) (log : List (ℕ × ℕ)) (steps : ℕ) → IsUnderway setting log steps 0
+pub underway_first : (setting : Setting) (log : List (ℕ × ℕ)) (steps : ℕ) → IsOnItsWay setting log steps 0
 underway_first setting log steps = record { within = omega arith; run = λ k lt. absurd (omega arith) }
 
 -- ---- what was handed on
@@ -108,15 +108,15 @@ handed_first takes setting log rest steps n state old new handed waiting here to
 
 -- a fault that `?` hands on, by what it leaves
 pub left_by : {R T F : Type 0} (takes : T → List Item → T → Type 0) (fails : T → List Item → F → T → Type 0) (setting : Setting) (log : List (ℕ × ℕ)) (steps : ℕ) (old new : T)
-    (result : Result R (OrMemory (RunFault F))) (e : OrMemory (RunFault F)) → IsErrAnd result (λ y. y ≡ e) → Leaves takes fails setting log steps old e new →
-    IfErr result (λ fault. Leaves takes fails setting log steps old fault new)
+    (result : Result R (OrMemory (RunFault F))) (e : OrMemory (RunFault F)) → IsErrAnd result (λ y. y ≡ e) → LeavesSink takes fails setting log steps old e new →
+    IfErr result (λ fault. LeavesSink takes fails setting log steps old fault new)
 left_by takes fails setting log steps old new (Ok x) e h left = tt
-left_by takes fails setting log steps old new (Err y) e h left = subst (λ (f : OrMemory _). Leaves takes fails setting log steps old f new) (sym h) left
+left_by takes fails setting log steps old new (Err y) e h left = subst (λ (f : OrMemory _). LeavesSink takes fails setting log steps old f new) (sym h) left
 
 -- the sink's own fault
 pub sink_left : {T F : Type 0} (takes : T → List Item → T → Type 0) (fails : T → List Item → F → T → Type 0) (setting : Setting) (log : List (ℕ × ℕ)) (steps : ℕ) (old new : T)
     (P : F → Type 0) (e : OrMemory (RunFault F)) → ((f : F) → P f → IsFailed fails setting log steps old f new) → IsOfSink P e →
-    Leaves takes fails setting log steps old e new
+    LeavesSink takes fails setting log steps old e new
 sink_left takes fails setting log steps old new P (Fault (Replay fault)) step h = absurd h
 sink_left takes fails setting log steps old new P (Fault (Sink fault)) step h = step fault h
 sink_left takes fails setting log steps old new P (Memory m) step h = absurd h

@@ -4,7 +4,7 @@ use Rattle.sched_core.specs.Replay.{IsReplayReason}
 use Rattle.vmodel.specs.declared.history.End.{End}
 use Rattle.vmodel.specs.declared.history.Item.{Item}
 use Rattle.vmodel.specs.Run.{Setting, rules_of, given_by}
-use Rattle.vmodel.specs.Played.{Finishes, IsUnderway}
+use Rattle.vmodel.specs.Played.{Finishes, IsOnItsWay}
 use Rattle.basis.specs.declared.memory.OrMemory.{OrMemory}
 use Rattle.basis.specs.declared.memory.OrMemory.TheVariants.{Fault, Memory}
 use Rattle.vmachine.specs.declared.run.RunFault.{RunFault}
@@ -17,20 +17,20 @@ RunsInto takes setting log steps old end new = (n : ℕ) × Finishes setting log
 -- the sink took the first items of a run on its way
 abbrev pub IsHanded : {T : Type 0} → (T → List Item → T → Type 0) → Setting → List (ℕ × ℕ) → ℕ → T → T → Type 0
 IsHanded takes setting log steps old new =
-    (n k : ℕ) × IsUnderway setting log steps n × takes old (take k (given_by setting log n)) new
+    (n k : ℕ) × IsOnItsWay setting log steps n × takes old (take k (given_by setting log n)) new
 
 -- the sink failed somewhere in the items of a run on its way
 abbrev pub IsFailed : {T F : Type 0} → (T → List Item → F → T → Type 0) → Setting → List (ℕ × ℕ) → ℕ → T → F → T → Type 0
-IsFailed fails setting log steps old fault new = (n : ℕ) × IsUnderway setting log steps n × fails old (given_by setting log n) fault new
+IsFailed fails setting log steps old fault new = (n : ℕ) × IsOnItsWay setting log steps n × fails old (given_by setting log n) fault new
 
 -- why there is no such run
-abbrev pub IsRunReason : {F : Type 0} → Setting → List (ℕ × ℕ) → ℕ → RunFault F → Type 0
-IsRunReason setting log steps (Replay fault) = IsReplayReason (rules_of setting) log steps fault
-IsRunReason setting log steps (Sink fault) = Unit {0}
+abbrev pub IsNoSuchRun : {F : Type 0} → Setting → List (ℕ × ℕ) → ℕ → RunFault F → Type 0
+IsNoSuchRun setting log steps (Replay fault) = IsReplayReason (rules_of setting) log steps fault
+IsNoSuchRun setting log steps (Sink fault) = Unit {0}
 
 -- what a fault leaves in the sink
-abbrev pub Leaves : {T F : Type 0} → (T → List Item → T → Type 0) → (T → List Item → F → T → Type 0) → Setting → List (ℕ × ℕ) → ℕ
+abbrev pub LeavesSink : {T F : Type 0} → (T → List Item → T → Type 0) → (T → List Item → F → T → Type 0) → Setting → List (ℕ × ℕ) → ℕ
     → T → OrMemory (RunFault F) → T → Type 0
-Leaves takes fails setting log steps old (Fault (Replay fault)) new = IsHanded takes setting log steps old new
-Leaves takes fails setting log steps old (Fault (Sink fault)) new = IsFailed fails setting log steps old fault new
-Leaves takes fails setting log steps old (Memory m) new = IsHanded takes setting log steps old new
+LeavesSink takes fails setting log steps old (Fault (Replay fault)) new = IsHanded takes setting log steps old new
+LeavesSink takes fails setting log steps old (Fault (Sink fault)) new = IsFailed fails setting log steps old fault new
+LeavesSink takes fails setting log steps old (Memory m) new = IsHanded takes setting log steps old new

@@ -4,7 +4,7 @@ ghost use Rattle.std.specs.Prelude.{◌≡◌, ℕ, List, [], true, IfOk, IfErr,
 ghost use Rattle.basis.specs.Reasons.{IfFault};
 ghost use Rattle.basis.specs.declared.memory.OrMemory.TheVariants.{Fault};
 ghost use Rattle.vmachine.specs.declared.run.RunFault.TheVariants.{Replay};
-ghost use Rattle.vmachine.specs.Handed.{RunsInto, IsRunReason, Leaves};
+ghost use Rattle.vmachine.specs.Handed.{RunsInto, IsNoSuchRun, LeavesSink};
 ghost use Rattle.vmachine.specs.Inner.{IsOfSink, IsHandedOn, IsAt, IsChosen};
 ghost use Rattle.sched_core.specs.Logs.{IsLogFrom};
 ghost use Rattle.vmodel.specs.Run.{Setting};
@@ -104,8 +104,8 @@ impl Machine {
         sink: &mut S,
     ) -> Result<End, OrMemory<RunFault<S::Fault>>>
         ensures ends { IfOk result (λ end. RunsInto S.takes self.now log.now steps sink.old end sink.new) }
-        ensures reason { IfFault result (IsRunReason self.now log.now steps) }
-        ensures left { IfErr result (λ fault. Leaves S.takes S.fails self.now log.now steps sink.old fault sink.new) }
+        ensures reason { IfFault result (IsNoSuchRun self.now log.now steps) }
+        ensures left { IfErr result (λ fault. LeavesSink S.takes S.fails self.now log.now steps sink.old fault sink.new) }
     {
         let mut state = opening(self.alloc, &self.design, self.until, self.grain)?;
         let mut pending = Vec::new(self.alloc);

@@ -15,7 +15,7 @@ pub record Finishes (setting : Setting) (log : List (ℕ × ℕ)) (steps n : ℕ
   pub end_is : end ≡ end_of (state_after setting log n)
 
 -- the run under the log takes n steps, no more than allowed
-pub record IsUnderway (setting : Setting) (log : List (ℕ × ℕ)) (steps n : ℕ) : Type 0 where
+pub record IsOnItsWay (setting : Setting) (log : List (ℕ × ℕ)) (steps n : ℕ) : Type 0 where
   pub within : n ≤ steps
   pub run : IsRun (rules_of setting) log n
 

@@ -8,8 +8,8 @@ use Rattle.vmodel.specs.History.{History}
 use Rattle.vmodel.specs.declared.history.Item.{Item}
 use Rattle.vmodel.specs.declared.history.End.{End}
 use Rattle.vmodel.specs.Run.{Setting, rules_of, given_by, history_after}
-use Rattle.vmodel.specs.Played.{Finishes, IsUnderway}
-use Rattle.vmachine.specs.Handed.{IsHanded, Leaves}
+use Rattle.vmodel.specs.Played.{Finishes, IsOnItsWay}
+use Rattle.vmachine.specs.Handed.{IsHanded, LeavesSink}
 use Rattle.vmachine.specs.declared.run.RunFault.{RunFault}
 use Rattle.vmachine.specs.declared.run.RunFault.TheVariants.{Sink}
 use Rattle.basis.specs.declared.memory.NoMemory.{NoMemory}
@@ -61,7 +61,7 @@ module _ {O F : Type 0} (takes : O → List ℕ → O → Type 0) (fails : O →
       (dump_below s.header.now history, the_dump s.header.now setting log limit n end finishes, stops_completing takes fails laws s history fresh t m fault taken late)
 
   -- the fault came as the items went out
-  stops_within : (t : DumpSink O) (fault : OrMemory F) → HasDump s.header.now setting log limit → (n : ℕ) → IsUnderway setting log limit n →
+  stops_within : (t : DumpSink O) (fault : OrMemory F) → HasDump s.header.now setting log limit → (n : ℕ) → IsOnItsWay setting log limit n →
       Fails takes fails s (given_by setting log n) fault t → StopsDump takes fails s.header.now setting log limit s.outlet.now fault t.outlet.now
   stops_within t fault (dump, known) n underway failed =
       let front = given_front setting log n known.steps (not_behind (rules_of setting) log n known.steps underway.run known.finishes.ends) in
@@ -84,7 +84,7 @@ module _ {O F : Type 0} (takes : O → List ℕ → O → Type 0) (fails : O →
       stops_within t (or.Memory refused) known n underway failed
 
   abbrev pub Left : OrMemory (RunFault (OrMemory F)) → DumpSink O → Type 0
-  Left e t = Leaves (Takes takes) (Fails takes fails) setting log limit s e t
+  Left e t = LeavesSink (Takes takes) (Fails takes fails) setting log limit s e t
 
   pub on_memory : (t : DumpSink O) (e : OrMemory (RunFault (OrMemory F))) (refused : NoMemory) → e ≡ or.Memory refused → Left e t →
       HasDump s.header.now setting log limit → StopsDump takes fails s.header.now setting log limit s.outlet.now (or.Memory refused) t.outlet.now

@@ -49,7 +49,7 @@ pub record ShowsRaces (setting : Setting) (limits : Limits) (findings : Findings
   pub races : List found.Race
   pub told_are : told ≡ map told_race races
   pub each : found.EachRace (found.IsRace setting limits) races
-  pub order : found.AreInOrder races
+  pub order : found.AreRacesInOrder races
   pub values_order : found.AreValuesInOrder races
   pub every : found.IsWhole setting limits findings → found.ListsEveryValue setting limits.depart races
   pub fewest : found.IsWhole setting limits findings → found.EachRace (found.HasFewest setting) races
@@ -62,7 +62,7 @@ pub record AreRaces (setting : Setting) (limits : Limits) (report : Report) : Ty
   pub races : List found.Race
   pub told_are : report.races ≡ map told_race races
   pub each : found.EachRace (found.IsRace setting limits) races
-  pub order : found.AreInOrder races
+  pub order : found.AreRacesInOrder races
   pub values_order : found.AreValuesInOrder races
   pub every : report.outcome ≡ outcome.Exhausted → found.ListsEveryValue setting limits.depart races
   pub fewest : report.outcome ≡ outcome.Exhausted → found.EachRace (found.HasFewest setting) races

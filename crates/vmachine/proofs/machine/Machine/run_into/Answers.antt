@@ -9,7 +9,7 @@ use Rattle.vmodel.specs.Run.{Setting, opening_of, given_by}
 use Rattle.vmodel.specs.Played.{Finishes}
 use Rattle.vmachine.specs.declared.run.Chosen.{Chosen}
 use Rattle.vmachine.specs.declared.run.RunFault.{RunFault}
-use Rattle.vmachine.specs.Handed.{Leaves}
+use Rattle.vmachine.specs.Handed.{LeavesSink}
 use Rattle.vmachine.specs.Inner.{IsAt, IsChosen}
 use Rattle.vmachine.proofs.PlayedLemmas.{at_opening, at_next, given_next, underway, handed_first, left_by, sink_left, ended_at_mark, less_differs}
 use Rattle.vmachine.proofs.machine.Machine.run_into.Goals as goal
@@ -73,7 +73,7 @@ returns-in-Err-clause-left g c =
     let took = g.met.S.Sink.joins c.args.sink.now c.turns.sink c.hand.new.sink handed front c.turns.invariant.2 c.in_ok-hand.ensures.ok.1 in
     let all : (handed ++ front) ++ c.hand.new.pending.items ≡ given_by setting log c.turns.n =
     append_assoc handed front c.hand.new.pending.items ∙ ap (λ (xs : List Item). handed ++ xs) c.in_ok-hand.ensures.ok.2 ∙ c.turns.invariant.3 in
-    subst (λ (e : OrMemory (RunFault _)). Leaves g.S.Sink.takes g.S.Sink.fails setting log c.args.steps c.args.sink.now e c.hand.new.sink) (sym c.refused.ensures)
+    subst (λ (e : OrMemory (RunFault _)). LeavesSink g.S.Sink.takes g.S.Sink.fails setting log c.args.steps c.args.sink.now e c.hand.new.sink) (sym c.refused.ensures)
     (handed_first g.S.Sink.takes setting log c.turns.rest.now c.args.steps c.turns.n c.turns.state c.args.sink.now c.hand.new.sink (handed ++ front) c.hand.new.pending.items here took all)
 
 pub returns-in_err-deed-clause-left : goal.returns-in_err-deed-clause-left
