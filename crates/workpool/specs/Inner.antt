@@ -2,3 +2,4 @@
 pub mod Sums
 pub mod Rules
 pub mod Fair
+pub mod Forced

@@ -1,4 +1,5 @@
 pub mod Tallies
 pub mod Jobs
 pub mod Rings
+pub mod Ways
 pub mod Inner

@@ -4,11 +4,15 @@
 #![tactic(auto)]
 
 mod deque;
+mod gate;
 mod hand;
+mod next;
 mod ring;
 mod rule;
 mod tally;
+mod way;
 
 pub use deque::{Owner, Thief, ends, settle};
+pub use gate::{Gate, OpenGate};
 pub use ring::{Seat, new_ring, settle_all};
 pub use tally::{SEATS, Tally, TallySeat};
