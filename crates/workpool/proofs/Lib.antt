@@ -4,3 +4,4 @@ pub mod FairLemmas
 pub mod RingLemmas
 pub mod NextLemmas
 pub mod WayLemmas
+pub mod WorkLemmas

@@ -3,3 +3,4 @@ pub mod Sums
 pub mod Rules
 pub mod Fair
 pub mod Forced
+pub mod Works

@@ -2,4 +2,5 @@ pub mod Tallies
 pub mod Jobs
 pub mod Rings
 pub mod Ways
+pub mod Searches
 pub mod Inner

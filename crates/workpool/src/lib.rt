@@ -6,11 +6,15 @@
 mod deque;
 mod gate;
 mod hand;
+mod job;
+mod meet;
 mod next;
 mod ring;
 mod rule;
 mod tally;
 mod way;
+mod work;
+mod worker;
 
 pub use deque::{Owner, Thief, ends, settle};
 pub use gate::{Gate, OpenGate};
