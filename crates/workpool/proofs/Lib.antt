@@ -5,3 +5,7 @@ pub mod RingLemmas
 pub mod NextLemmas
 pub mod WayLemmas
 pub mod WorkLemmas
+pub mod JoinLemmas
+pub mod RootLemmas
+pub mod TimesLemmas
+pub mod ToldLemmas

@@ -4,3 +4,6 @@ pub mod Rules
 pub mod Fair
 pub mod Forced
 pub mod Works
+pub mod Joined
+pub mod Rooms
+pub mod Told

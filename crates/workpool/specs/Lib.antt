@@ -3,4 +3,5 @@ pub mod Jobs
 pub mod Rings
 pub mod Ways
 pub mod Searches
+pub mod Runs
 pub mod Inner

@@ -25,7 +25,7 @@ fn refused_growth(alloc: Global) -> NoMemory {
 
 // Meets the book with an entry, and answers with what shows one that dominates it, itself where none
 // did. A New answer is counted as an open, and its place is given as a job. Where the deque can't grow
-// for it, want of memory is kept, since that job is lost.
+// for it, that job is lost: want of memory is kept, and all workers are told to stop.
 pub(crate) fn meet<S: Eq + Hash + Drop, Q: Quest<S>, B: Naming, R: Wait>(
     alloc: Global,
     rt: &R,
@@ -49,16 +49,13 @@ pub(crate) fn meet<S: Eq + Hash + Drop, Q: Quest<S>, B: Naming, R: Wait>(
     };
     tally.open(&mut work.tally);
     match work.seat.owner.put(seen.place() as u64) {
-        Ok(()) => {
-            work.given = work.given.wrapping_add(1);
-            Ok(seen)
-        }
+        Ok(()) => work.given = work.given.wrapping_add(1),
         Err(_) => {
-            let refused = refused_growth(alloc);
-            work.refused = Some(refused);
-            Err(refused)
+            work.refused = Some(refused_growth(alloc));
+            tally.stop(&mut work.tally);
         }
     }
+    Ok(seen)
 }
 
 // Takes the job that the worker gave last; else, where it steals, one that another gave.

@@ -3,7 +3,8 @@
 ghost use Rattle.std.specs.Prelude.{◌≡◌};
 ghost use Rattle.workpool.specs.Searches.{IsQuestOf};
 ghost use Rattle.workpool.specs.Inner.Forced.{IsFirst};
-ghost use Rattle.workpool.specs.Inner.Works.{IsCounted, IsSamePlace, IsSeated, TellsPast};
+ghost use Rattle.workpool.specs.Inner.Works.{IsSamePlace};
+ghost use Rattle.workpool.specs.Inner.Joined.{IsReady};
 
 use crate::gate::Gate;
 use crate::job::run_job;
@@ -52,12 +53,9 @@ pub(crate) fn run_worker<P: Space, Q: Quest<P::State>, B: Naming, R: Wait, G: Ga
 )
     requires quest { IsQuestOf Q.rules Q.depart Q.steps (P.rules space.now) limits.now }
     requires root { IsFirst (P.rules space.now) root.now }
-    requires seated { IsSeated tally.now work.old }
-    requires counted { IsCounted work.old }
-    requires told { TellsPast (P.rules space.now) limits.now work.old.past }
-    ensures counted { IsCounted work.new }
+    requires ready { IsReady (P.rules space.now) limits.now tally.now work.old }
+    ensures ready { IsReady (P.rules space.now) limits.now tally.now work.new }
     ensures same { IsSamePlace work.old work.new }
-    ensures told { TellsPast (P.rules space.now) limits.now work.new.past }
 {
     for _ in rt.forever() {
         if is_over(tally, limits, &mut work.tally) {

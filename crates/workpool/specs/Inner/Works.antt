@@ -1,5 +1,5 @@
 -- What a worker holds and has counted.
-use Rattle.std.specs.Prelude.{◌≡◌, ℕ, ◌+◌, ◌%◌, ◌^◌, ◌≤◌, Bool, true, List, length, Option, Some, None}
+use Rattle.std.specs.Prelude.{◌≡◌, ◌+◌, ◌%◌, ◌^◌, ◌≤◌, Bool, true, length, None}
 use Rattle.atomic_table.specs.Seated.{TableId}
 use Rattle.sched_core.specs.Rules.{Rules}
 use Rattle.statebook.specs.declared.limits.Limits.{Limits}

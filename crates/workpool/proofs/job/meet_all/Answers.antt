@@ -1,5 +1,4 @@
-use Rattle.std.proofs.Common.{◌≡◌, ◌++◌, ◌∷◌, [], ◌∙◌, true, false, ap, arith, sym, refl}
-use Rattle.statebook.specs.ExplorerCore.{choices_of}
+use Rattle.std.proofs.Common.{◌≡◌, ◌∙◌, true, false, ap, arith, sym, refl}
 use Rattle.shardbook.specs.Finishes.{IsMetBy}
 use Rattle.workpool.specs.Ways.{ChoiceGoesPast}
 use Rattle.workpool.proofs.NextLemmas.{exceeds}
