@@ -8,7 +8,7 @@ use Rattle.statebook.specs.declared.limits.Limits.{Limits}
 use Rattle.workpool.specs.Jobs.{DequeId}
 use Rattle.workpool.specs.Rings.{AreIdle, IsRing, Links}
 use Rattle.workpool.specs.Tallies.{Seated}
-use Rattle.workpool.specs.Inner.Works.{IsCounted, IsSamePlace, TellsPast}
+use Rattle.workpool.specs.Inner.Works.{IsSamePlace, StaysCounted, TellsPast}
 use Rattle.workpool.specs.Inner.Joined.{AreReady, AreSamePlaces, IsReady, IsSummed, IsSumOf, all_parts, jobs_put, jobs_taken, seats_onto}
 use Rattle.workpool.specs.declared.ring.Seat.{Seat}
 use Rattle.workpool.specs.declared.sum.Sum.{Sum}
@@ -118,6 +118,7 @@ fresh_ready r limits tally all w here seat idle count given taken past =
         all = λ none. put ∙ sym opens;
         given = given ∙ ap (λ n. n % 2 ^ 64) (sym put);
         taken = taken ∙ ap (λ n. n % 2 ^ 64) (sym out);
+        shut = (let shuts : w.tally.shuts ≡ 0 = ap (λ (s : Seated). s.shuts) seat in omega (arith, out, shuts));
       };
       told = λ t. absurd (let no : false ≡ true = sym past ∙ t in cc);
     }
@@ -176,6 +177,7 @@ summed_steps {S} r limits tally start ss old new w h ready sum =
       all = λ none. (let each = sum.refused none in let a = h.all each.0 in let b = ready.counted.all each.1 in omega (arith, put, opens, a, b));
       given = counts_sum old.given w.given new.given (jobs_put ss) (length w.seat.owner.put) (jobs_put (ss ++ w.seat ∷ [])) h.given ready.counted.given sum.given put;
       taken = counts_sum old.taken w.taken new.taken (jobs_taken ss) (length w.seat.owner.taken + length w.seat.thief.taken) (jobs_taken (ss ++ w.seat ∷ [])) h.taken ready.counted.taken sum.taken out;
+      shut = (let shuts : new.tally.shuts ≡ old.tally.shuts + w.tally.shuts = ap (λ (s : Seated). s.shuts) sum.seat in omega (arith, shuts, out, h.shut, ready.counted.shut));
       told = subst P (sym sum.past) (told_either r limits old.past w.past h.told ready.told);
     }
 
@@ -223,12 +225,12 @@ joined {S} {B} r limits tally start all left ss sum h none =
     )
 
 -- worker 0 has met the root, and the others are as they were
-pub root_started : {S B : Type 0} (r : Rules S) (limits : Limits) (tally : TableId) (old rest new : List (Work B)) (v w : Work B) → old ≡ rest ++ v ∷ [] → new ≡ rest ++ w ∷ [] → AreReady r limits tally (length old) old → IsCounted w → IsSamePlace v w → w.past ≡ v.past → AreReady r limits tally (length old) new
+pub root_started : {S B : Type 0} (r : Rules S) (limits : Limits) (tally : TableId) (old rest new : List (Work B)) (v w : Work B) → old ≡ rest ++ v ∷ [] → new ≡ rest ++ w ∷ [] → AreReady r limits tally (length old) old → StaysCounted v w → IsSamePlace v w → w.past ≡ v.past → AreReady r limits tally (length old) new
 root_started {S} {B} r limits tally old rest new v w is now ready counted same past i d lt =
     let P : List (Work B) → Type 0 = λ l. Each (IsReady r limits tally) l in
     let apart = each_front (IsReady r limits tally) rest v (subst P is (each_of (IsReady r limits tally) old ready)) in
     let told : TellsPast r limits w.past = λ t. apart.1.told (sym past ∙ t) in
-    let last : IsReady r limits tally w = record { seated = seated_same tally v w apart.1.seated same; counted = counted; told = told } in
+    let last : IsReady r limits tally w = record { seated = seated_same tally v w apart.1.seated same; counted = counted 0 apart.1.counted; told = told } in
     let was : length old ≡ length rest + 1 = ap length is ∙ length-append rest (v ∷ []) in
     let len : length new ≡ length rest + 1 = ap length now ∙ length-append rest (w ∷ []) in
     each_at (IsReady r limits tally) new (subst P (sym now) (each_snoc (IsReady r limits tally) rest w apart.0 last)) i d (omega (arith, lt, was, len))

@@ -32,9 +32,9 @@ taken_fewer seats count s =
 small : (a b : ℕ) → a ≡ b % 2 ^ 64 → b < 2 ^ 64 → a ≡ b
 small a b is lt = is ∙ mod-eq_of_lt lt
 
-pub sums_told : {S Q B : Type 0} (r : Rules S) (limits : Limits) (tally : TableId) (start : ℕ) (seats : List Seat) (sum : Sum B) (left : ℕ) (refused : Option NoMemory) (ran : Ran S Q B) → IsSummed r limits tally start seats sum → AreSettled seats left → sum.pass.count < 2 ^ 64 → ran.opens ≡ sum.tally.opens % 2 ^ 64 → ran.given ≡ sum.given → ran.taken ≡ sum.taken → ran.pass.count ≡ sum.pass.count
+pub sums_told : {S Q B : Type 0} (r : Rules S) (limits : Limits) (tally : TableId) (start : ℕ) (seats : List Seat) (sum : Sum B) (left : ℕ) (refused : Option NoMemory) (ran : Ran S Q B) → IsSummed r limits tally start seats sum → AreSettled seats left → sum.pass.count < 2 ^ 64 → ran.opens ≡ sum.tally.opens % 2 ^ 64 → ran.given ≡ sum.given → ran.taken ≡ sum.taken → ran.shuts ≡ sum.tally.shuts % 2 ^ 64 → ran.pass.count ≡ sum.pass.count
     → (refused ≡ None → sum.refused ≡ None) → (refused ≡ None) ⊎ IsRefused ran.cut → TellsSums start ran
-sums_told r limits tally start seats sum left refused ran h settled bound opens_is given_is taken_is count_is none cut =
+sums_told r limits tally start seats sum left refused ran h settled bound opens_is given_is taken_is shuts_is count_is none cut =
     let opens : ran.opens ≡ sum.tally.opens = small ran.opens sum.tally.opens opens_is (omega (arith, bound, h.opens)) in
     let given : ran.given ≡ jobs_put seats = small ran.given (jobs_put seats) (given_is ∙ h.given) (omega (arith, bound, h.opens, h.fewer)) in
     let fewer : jobs_taken seats ≤ jobs_put seats = taken_fewer seats left settled in
@@ -49,6 +49,7 @@ sums_told r limits tally start seats sum left refused ran h settled bound opens_
         ];
       };
       taken = omega (arith, taken, given, fewer);
+      shuts = small ran.shuts sum.tally.shuts shuts_is (omega (arith, bound, h.opens, h.fewer, fewer, h.shut)) ∙ h.shut ∙ sym taken;
       jobs = record {
         put = put_list seats;
         out = taken_list seats;

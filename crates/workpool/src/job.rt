@@ -7,7 +7,7 @@ ghost use Rattle.shardbook.specs.Sights.{entries_of};
 ghost use Rattle.workpool.specs.Searches.{IsQuestOf};
 ghost use Rattle.workpool.specs.Ways.{Allows, ChoiceGoesPast, SomeRunExceeds};
 ghost use Rattle.workpool.specs.Inner.Forced.{IfPast, IfReached, IsFirst, MayBeAdded};
-ghost use Rattle.workpool.specs.Inner.Works.{IsCounted, IsSamePlace, IsSeated, TellsPast};
+ghost use Rattle.workpool.specs.Inner.Works.{IsCounted, IsSamePlace, IsSeated, StaysCounted, TellsPast};
 
 use crate::meet::meet;
 use crate::next::next_entry;
@@ -51,10 +51,9 @@ fn meet_choice<P: Space, Q: Quest<P::State>, B: Naming, R: Wait>(
     requires entry { MayBeAdded (P.rules space.now) limits.now entry.now }
     requires choice { Allows (P.rules space.now) entry.now choice }
     requires seated { IsSeated tally.now work.old }
-    requires counted { IsCounted work.old }
     ensures met { IfReached result (λ seen. IsMetBy (P.rules space.now) entry.now choice seen.entry) }
     ensures past { IfPast result (ChoiceGoesPast (P.rules space.now) limits.now entry.now choice) }
-    ensures counted { IsCounted work.new }
+    ensures counted { StaysCounted work.old work.new }
     ensures same { IsSamePlace work.old work.new }
     ensures noted { work.new.past ≡ work.old.past }
 {
@@ -82,10 +81,9 @@ fn meet_all<P: Space, Q: Quest<P::State>, B: Naming, R: Wait>(
     requires root { IsFirst (P.rules space.now) root.now }
     requires entry { MayBeAdded (P.rules space.now) limits.now entry.now }
     requires seated { IsSeated tally.now work.old }
-    requires counted { IsCounted work.old }
     ensures met { IfReached result (λ all. HasMetAll (P.rules space.now) entry.now (entries_of all.items)) }
     ensures past { IfPast result (SomeRunExceeds (P.rules space.now) limits.now) }
-    ensures counted { IsCounted work.new }
+    ensures counted { StaysCounted work.old work.new }
     ensures same { IsSamePlace work.old work.new }
     ensures noted { work.new.past ≡ work.old.past }
 {
@@ -120,9 +118,9 @@ pub(crate) fn run_job<P: Space, Q: Quest<P::State>, B: Naming, R: Wait>(
     requires quest { IsQuestOf Q.rules Q.depart Q.steps (P.rules space.now) limits.now }
     requires root { IsFirst (P.rules space.now) root.now }
     requires seated { IsSeated tally.now work.old }
-    requires counted { IsCounted work.old }
+    requires counted { IsCounted 1 work.old }
     requires told { TellsPast (P.rules space.now) limits.now work.old.past }
-    ensures counted { IsCounted work.new }
+    ensures counted { IsCounted 0 work.new }
     ensures same { IsSamePlace work.old work.new }
     ensures told { TellsPast (P.rules space.now) limits.now work.new.past }
 {

@@ -1,9 +1,9 @@
 // One meeting of a worker with the book, and how it comes by its next job.
 
-ghost use Rattle.std.specs.Prelude.{◌≡◌, IfOk};
+ghost use Rattle.std.specs.Prelude.{◌≡◌, IfNone, IfOk, IfSome};
 ghost use Rattle.statebook.specs.Books.{Dominates};
 ghost use Rattle.shardbook.specs.Quests.{IsWanted};
-ghost use Rattle.workpool.specs.Inner.Works.{IsCounted, IsSamePlace, IsSeated};
+ghost use Rattle.workpool.specs.Inner.Works.{IsCounted, IsSamePlace, IsSeated, StaysCounted};
 
 use crate::tally::Tally;
 use crate::work::Work;
@@ -36,9 +36,8 @@ pub(crate) fn meet<S: Eq + Hash + Drop, Q: Quest<S>, B: Naming, R: Wait>(
 ) -> Result<Seen<S, Q, B>, NoMemory>
     requires wanted { IsWanted Q.rules Q.depart Q.steps entry }
     requires seated { IsSeated tally.now work.old }
-    requires counted { IsCounted work.old }
     ensures found { IfOk result (λ seen. Dominates S.eq seen.entry entry.state entry.budget) }
-    ensures counted { IsCounted work.new }
+    ensures counted { StaysCounted work.old work.new }
     ensures same { IsSamePlace work.old work.new }
     ensures past { work.new.past ≡ work.old.past }
 {
@@ -60,8 +59,9 @@ pub(crate) fn meet<S: Eq + Hash + Drop, Q: Quest<S>, B: Naming, R: Wait>(
 
 // Takes the job that the worker gave last; else, where it steals, one that another gave.
 pub(crate) fn next_job<B: Naming>(work: &mut Work<B>) -> Option<u64>
-    requires { IsCounted work.old }
-    ensures counted { IsCounted work.new }
+    requires { IsCounted 0 work.old }
+    ensures some { IfSome result (λ job. IsCounted 1 work.new) }
+    ensures none { IfNone result (IsCounted 0 work.new) }
     ensures same { IsSamePlace work.old work.new }
     ensures past { work.new.past ≡ work.old.past }
 {

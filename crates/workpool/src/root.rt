@@ -3,7 +3,7 @@
 ghost use Rattle.std.specs.Prelude.{◌≡◌, IfNone, IfOk, IfSome};
 ghost use Rattle.workpool.specs.Searches.{IsQuestOf, IsRootOf, SomeRunComesBack};
 ghost use Rattle.workpool.specs.Inner.Forced.{IsFirst};
-ghost use Rattle.workpool.specs.Inner.Works.{IsCounted, IsSamePlace, IsSeated};
+ghost use Rattle.workpool.specs.Inner.Works.{IsSamePlace, IsSeated, StaysCounted};
 
 use crate::meet::meet;
 use crate::tally::Tally;
@@ -27,9 +27,8 @@ pub(crate) fn meet_root<P: Space, Q: Quest<P::State>, B: Naming, R: Wait>(
 ) -> Result<Seen<P::State, Q, B>, NoMemory>
     requires quest { IsQuestOf Q.rules Q.depart Q.steps (P.rules space.now) limits.now }
     requires seated { IsSeated tally.now work.old }
-    requires counted { IsCounted work.old }
     ensures first { IfOk result (λ seen. IsFirst (P.rules space.now) seen.entry.state) }
-    ensures counted { IsCounted work.new }
+    ensures counted { StaysCounted work.old work.new }
     ensures same { IsSamePlace work.old work.new }
     ensures past { work.new.past ≡ work.old.past }
 {

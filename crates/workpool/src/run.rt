@@ -157,6 +157,7 @@ fn tell<P: Space, Q: Quest<P::State>, B: Naming>(
         refused,
         past,
     } = sum;
+    // The count has 64 bits, so the sum of opens, which it has beyond its start, hasn't wrapped.
     let _ = pass.count();
     let (opens, shuts) = tally.totals(seat);
     let (root, unmet) = match met {
@@ -208,6 +209,7 @@ pub fn run_workers<
     ensures opens { result.pass.count ≡ pass.count + result.opens }
     ensures given { AreGiven result.given result.opens result.cut }
     ensures taken { result.taken ≤ result.given }
+    ensures shuts { result.shuts ≡ result.taken }
     ensures jobs { AreJobs result.given result.taken }
     ensures root { IfSome result.root (λ seen. IsRootOf (P.rules space.now) limits.now seen.entry) }
     ensures none { IfNone result.root (HasNoRoot (P.rules space.now) limits.now result.cut) }

@@ -13,7 +13,7 @@ use Rattle.workpool.specs.declared.work.Work.{Work}
 -- A worker that may work, or has worked.
 pub record IsReady {S B : Type 0} (r : Rules S) (limits : Limits) (tally : TableId) (w : Work B) : Type 0 where
   pub seated : IsSeated tally w
-  pub counted : IsCounted w
+  pub counted : IsCounted 0 w
   pub told : TellsPast r limits w.past
 
 -- the first so many of the list are
@@ -59,4 +59,5 @@ pub record IsSummed {S B : Type 0} (r : Rules S) (limits : Limits) (tally : Tabl
   pub all : sum.refused ≡ None → jobs_put seats ≡ sum.tally.opens
   pub given : sum.given ≡ jobs_put seats % 2 ^ 64
   pub taken : sum.taken ≡ jobs_taken seats % 2 ^ 64
+  pub shut : sum.tally.shuts ≡ jobs_taken seats
   pub told : TellsPast r limits sum.past

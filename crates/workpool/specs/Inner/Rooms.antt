@@ -15,3 +15,4 @@ pub record IsRoomFor {B : Type 0} (count : ℕ) (room : Room B) : Type 0 where
   pub here : room.all.tally ≡ room.tally
   pub parts : room.all.parts ≡ SEATS
   pub opens : room.all.opens ≡ 0
+  pub shuts : room.all.shuts ≡ 0

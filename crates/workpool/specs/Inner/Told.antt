@@ -8,4 +8,5 @@ pub record TellsSums {S Q B : Type 0} (start : ℕ) (ran : Ran S Q B) : Type 0 w
   pub opens : ran.pass.count ≡ start + ran.opens
   pub given : AreGiven ran.given ran.opens ran.cut
   pub taken : ran.taken ≤ ran.given
+  pub shuts : ran.shuts ≡ ran.taken
   pub jobs : AreJobs ran.given ran.taken

@@ -1,5 +1,5 @@
 -- What a worker holds and has counted.
-use Rattle.std.specs.Prelude.{◌≡◌, ◌+◌, ◌%◌, ◌^◌, ◌≤◌, Bool, true, length, None}
+use Rattle.std.specs.Prelude.{◌≡◌, ℕ, ◌+◌, ◌%◌, ◌^◌, ◌≤◌, Bool, true, length, None}
 use Rattle.atomic_table.specs.Seated.{TableId}
 use Rattle.sched_core.specs.Rules.{Rules}
 use Rattle.statebook.specs.declared.limits.Limits.{Limits}
@@ -7,13 +7,19 @@ use Rattle.workpool.specs.Ways.{SomeRunExceeds}
 use Rattle.workpool.specs.declared.work.Work.{Work}
 
 -- Its pass has counted as many New answers as its seat has opens; it gave no more jobs than that, and just as many unless memory
--- was refused; and its counts of jobs given and taken are those of its ends of the deques, modulo 2^64.
-pub record IsCounted {B : Type 0} (w : Work B) : Type 0 where
+-- was refused; its counts of jobs given and taken are those of its ends of the deques, modulo 2^64; and each job that it took is
+-- shut, but so many that it is running.
+pub record IsCounted {B : Type 0} (running : ℕ) (w : Work B) : Type 0 where
   pub opens : w.pass.count ≡ w.tally.opens
   pub fewer : length w.seat.owner.put ≤ w.tally.opens
   pub all : w.refused ≡ None → length w.seat.owner.put ≡ w.tally.opens
   pub given : w.given ≡ length w.seat.owner.put % 2 ^ 64
   pub taken : w.taken ≡ (length w.seat.owner.taken + length w.seat.thief.taken) % 2 ^ 64
+  pub shut : length w.seat.owner.taken + length w.seat.thief.taken ≡ w.tally.shuts + running
+
+-- However many jobs it is running, it stays counted.
+abbrev pub StaysCounted : {B : Type 0} → Work B → Work B → Type 0
+StaysCounted old new = (running : ℕ) → IsCounted running old → IsCounted running new
 
 -- It is at its place: the same deques, the same tally, as many parts of the tally and of the book.
 pub record IsSamePlace {B : Type 0} (old new : Work B) : Type 0 where

@@ -9,7 +9,7 @@ use Rattle.workpool.proofs.job.meet_all.Goals.{in-Some+in_ok-push-in-Some, in-No
 pub loop-choice-init : goal.loop-choice-init
 loop-choice-init g c = record {
   seated = c.requires.seated;
-  counted = c.requires.counted;
+  counted = λ running h. h;
   same = same_itself c.args.work.now;
   noted = refl;
   met = λ t. met_none (g.P.Space.rules c.args.space.now) c.args.entry.now c.new-next.result.items c.new-next.ensures.items;
@@ -28,13 +28,19 @@ returns-in_err-push-in-Some-clause-same g c = same_twice c.args.work.now c.loop-
 pub returns-in_err-push-in-Some-clause-noted : goal.returns-in_err-push-in-Some-clause-noted
 returns-in_err-push-in-Some-clause-noted g c = c.meet_choice.ensures.noted ∙ c.loop-choice.invariant.noted
 
+pub returns-in_err-seen-clause-counted : goal.returns-in_err-seen-clause-counted
+returns-in_err-seen-clause-counted g c = λ running h. c.meet_choice.ensures.counted running (c.loop-choice.invariant.counted running h)
+
+pub returns-in_err-push-in-Some-clause-counted : goal.returns-in_err-push-in-Some-clause-counted
+returns-in_err-push-in-Some-clause-counted g c = λ running h. c.meet_choice.ensures.counted running (c.loop-choice.invariant.counted running h)
+
 pub loop-choice-preserved : goal.loop-choice-preserved
 loop-choice-preserved g c =
     let r = g.P.Space.rules c.args.space.now in
     let i = c.loop-choice.invariant in
     record {
       seated = seated_same c.args.tally.now c.loop-choice.work c.meet_choice.new.work i.seated c.meet_choice.ensures.same;
-      counted = c.meet_choice.ensures.counted;
+      counted = λ running h. c.meet_choice.ensures.counted running (i.counted running h);
       same = same_twice c.args.work.now c.loop-choice.work c.meet_choice.new.work i.same c.meet_choice.ensures.same;
       noted = c.meet_choice.ensures.noted ∙ i.noted;
       met = λ t. elim c.match-branch-2.branch [

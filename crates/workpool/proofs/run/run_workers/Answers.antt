@@ -61,3 +61,6 @@ returns-clause-taken g c = (told g (goal.at.returns-clause-taken g c).After-tell
 
 pub returns-clause-jobs : goal.returns-clause-jobs
 returns-clause-jobs g c = (told g (goal.at.returns-clause-jobs g c).After-tell).jobs
+
+pub returns-clause-shuts : goal.returns-clause-shuts
+returns-clause-shuts g c = (told g (goal.at.returns-clause-shuts g c).After-tell).shuts

@@ -11,7 +11,7 @@ loop-init g c = record { ready = c.requires.ready; same = same_itself c.args.wor
 pub returns-then-is_over-clause-ready : goal.returns-then-is_over-clause-ready
 returns-then-is_over-clause-ready g c = record {
   seated = seated_same c.args.tally.now c.loop.work (hearing c.loop.work c.is_over.new.seat) c.loop.invariant.ready.seated (same_hearing c.loop.work c.is_over.new.seat c.is_over.ensures);
-  counted = counted_hearing c.loop.work c.is_over.new.seat c.is_over.ensures c.loop.invariant.ready.counted;
+  counted = counted_hearing 0 c.loop.work c.is_over.new.seat c.is_over.ensures c.loop.invariant.ready.counted;
   told = c.loop.invariant.ready.told;
 }
 
@@ -20,7 +20,7 @@ returns-then-is_over-clause-same g c =
     same_twice c.args.work.now c.loop.work (hearing c.loop.work c.is_over.new.seat) c.loop.invariant.same (same_hearing c.loop.work c.is_over.new.seat c.is_over.ensures)
 
 pub next_job-requires : goal.next_job-requires
-next_job-requires g c = counted_hearing c.loop.work c.is_over.new.seat c.is_over.ensures c.loop.invariant.ready.counted
+next_job-requires g c = counted_hearing 0 c.loop.work c.is_over.new.seat c.is_over.ensures c.loop.invariant.ready.counted
 
 -- the worker is at its place, whatever it heard and took
 took : (g : Over) (c : After-next_job g) → IsSamePlace c.loop.work c.next_job.new.work
@@ -47,7 +47,7 @@ loop-preserved g c =
     record {
       ready = record {
         seated = seated_same c.args.tally.now c.loop.work c.next_job.new.work c.loop.invariant.ready.seated to;
-        counted = c.next_job.ensures.counted;
+        counted = c.in-None-next_job.ensures.none;
         told = λ t. c.loop.invariant.ready.told (sym c.next_job.ensures.past ∙ t);
       };
       same = same_twice c.args.work.now c.loop.work c.next_job.new.work c.loop.invariant.same to;
