@@ -7,7 +7,7 @@ ghost use Rattle.workpool.specs.Searches.{IsQuestOf, IsRootOf};
 ghost use Rattle.workpool.specs.Ways.{SomeRunExceeds};
 ghost use Rattle.workpool.specs.Inner.Forced.{IsFirst};
 ghost use Rattle.workpool.specs.Inner.Joined.{AreReady, AreSamePlaces, IsSummed};
-ghost use Rattle.workpool.specs.Inner.Told.{TellsSums};
+ghost use Rattle.workpool.specs.Inner.Told.{TellsSums, nothing_run};
 ghost use Rattle.workpool.specs.Inner.Works.{TellsPast};
 
 use crate::gate::Gate;
@@ -44,7 +44,7 @@ fn cut_of(refused: Option<NoMemory>, opens: u64, past: bool, limits: &Limits) ->
 
 // Where memory was refused before the workers began.
 fn not_begun<S, Q: Quest<S>, B: Naming>(pass: Pass<B>, refused: NoMemory) -> Ran<S, Q, B>
-    ensures { result ≡ record { opens = 0; shuts = 0; given = 0; taken = 0; cut = Some (Reason.Memory refused); root = None; pass = pass } }
+    ensures { result ≡ nothing_run pass refused }
 {
     Ran {
         opens: 0,

@@ -97,8 +97,12 @@ pub(crate) fn run_each<
 {
     let last = works.len() - 1;
     let each = |place: usize, work: &mut Work<B>|
-        requires { IsSend P.State.row × IsQuestOf Q.rules Q.depart Q.steps (P.rules space.now) limits.now × IsFirst (P.rules space.now) root.now × IsReady (P.rules space.now) limits.now tally.now work.now }
-        ensures { IsReady (P.rules space.entry.now) limits.entry.now tally.entry.now work.exit.now × IsSamePlace work.entry.now work.exit.now }
+        requires send { IsSend P.State.row }
+        requires quest { IsQuestOf Q.rules Q.depart Q.steps (P.rules space.now) limits.now }
+        requires root { IsFirst (P.rules space.now) root.now }
+        requires ready { IsReady (P.rules space.now) limits.now tally.now work.now }
+        ensures ready { IsReady (P.rules space.entry.now) limits.entry.now tally.entry.now work.exit.now }
+        ensures same { IsSamePlace work.entry.now work.exit.now }
     {
         let worker = number_of(last, place);
         run_worker(
