@@ -2,3 +2,10 @@ pub mod SumLemmas
 pub mod RuleLemmas
 pub mod FairLemmas
 pub mod RingLemmas
+pub mod NextLemmas
+pub mod WayLemmas
+pub mod WorkLemmas
+pub mod JoinLemmas
+pub mod RootLemmas
+pub mod TimesLemmas
+pub mod ToldLemmas

@@ -171,7 +171,7 @@ pub may_join : (id : ℕ) (v : Counted) (other : ℕ) (w : Counted) → Joins ho
 may_join id v other w s kept at apart there = keeps_join s.words s.views id v at kept other w apart there
 
 -- The words at the end, where one seat has all parts.
-pub settled : (words : List ℕ) (slots : List (Unit {0})) (id : ℕ) (v : Counted) → Final (Seen holds id v) words slots → v.parts ≡ 64 → (mark : ℕ) × (words ≡ (v.opens % 2 ^ 64) ∷ (v.shuts % 2 ^ 64) ∷ mark ∷ [])
+pub settled : (words : List ℕ) (slots : List (Unit {0})) (id : ℕ) (v : Counted) → Final (Seen holds id v) words slots → v.parts ≡ 65 → (mark : ℕ) × (words ≡ (v.opens % 2 ^ 64) ∷ (v.shuts % 2 ^ 64) ∷ mark ∷ [])
 settled words slots id v end all =
     let s = end.0 in
     let kept = end.1.0 in

@@ -2,3 +2,8 @@
 pub mod Sums
 pub mod Rules
 pub mod Fair
+pub mod Forced
+pub mod Works
+pub mod Joined
+pub mod Rooms
+pub mod Told

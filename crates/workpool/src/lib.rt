@@ -1,14 +1,30 @@
-// In come the steps of workers: a job put or taken, an entry opened or shut, the mark to stop.
-// Out come sums over all workers, once their seats are joined and their deques settled.
-// The law: what was taken, stolen and is left is what was put; the tally is what the seats counted.
+// In come a lawful space, limits and a book that threads share; out come its entries, met and finished by
+// up to 64 workers, the counts of what they did, and why they stopped short, if they did.
+// The law: what was taken, stolen and is left is what was given; opens are the New answers of the book.
 #![tactic(auto)]
 
 mod deque;
+mod gate;
 mod hand;
+mod job;
+mod meet;
+mod next;
+mod ran;
 mod ring;
+mod room;
+mod root;
 mod rule;
+mod run;
+mod sum;
 mod tally;
+mod way;
+mod work;
+mod worker;
+mod workers;
 
 pub use deque::{Owner, Thief, ends, settle};
+pub use gate::{Gate, OpenGate};
+pub use ran::{Ran, Reason};
 pub use ring::{Seat, new_ring, settle_all};
+pub use run::run_workers;
 pub use tally::{SEATS, Tally, TallySeat};

@@ -20,7 +20,7 @@ pub struct Tallied;
 impl TableRule<(), Counted, ()> for Tallied {
     ghost holds = { λ _ s. IsTallied s.words s.views };
 
-    ghost first = { λ _. fresh 64 };
+    ghost first = { λ _. fresh 65 };
 }
 
 // One entry more was opened.

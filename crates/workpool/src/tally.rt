@@ -9,8 +9,8 @@ use basis::NoMemory;
 use std::alloc::Global;
 use std::marker::Model;
 
-/// How many parts all seats of a tally have together.
-pub const SEATS: u64 = 64;
+/// How many parts all seats of a tally have together: one for each of 64 workers, and one for who starts them.
+pub const SEATS: u64 = 65;
 
 const OPENS: usize = 0;
 

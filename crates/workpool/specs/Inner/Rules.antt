@@ -45,10 +45,10 @@ abbrev pub spent : Counted
 spent = fresh 0
 
 -- The words are the sums of what was counted, modulo 2^64, and the mark, which is set where a seat knows of it. All parts are
--- 64, and who has none has counted nothing.
+-- 65, and who has none has counted nothing.
 pub record IsTallied (words : List ℕ) (views : List Counted) : Type 0 where
   pub mark : ℕ
   pub words_are : words ≡ (total (λ (v : Counted). v.opens) views % 2 ^ 64) ∷ (total (λ (v : Counted). v.shuts) views % 2 ^ 64) ∷ mark ∷ []
   pub told : (seat : ℕ) (v : Counted) → get_elem? views seat ≡ some v → v.stopped ≡ true → 0 < mark
-  pub parts : total (λ (v : Counted). v.parts) views ≡ 64
+  pub parts : total (λ (v : Counted). v.parts) views ≡ 65
   pub idle : (seat : ℕ) (v : Counted) → get_elem? views seat ≡ some v → v.parts ≡ 0 → (v.opens ≡ 0) × (v.shuts ≡ 0)

@@ -1,0 +1,36 @@
+-- What is told when the workers of a search have ended.
+use Rattle.std.specs.Prelude.{◌≡◌, ℕ, ◌+◌, ◌≤◌, ◌⊎◌, List, length, Option, Some}
+use Rattle.basis.specs.declared.memory.NoMemory.{NoMemory}
+use Rattle.sched_core.specs.Rules.{Rules}
+use Rattle.statebook.specs.declared.limits.Limits.{Limits}
+use Rattle.workpool.specs.Inner.Sums.{times}
+use Rattle.workpool.specs.Searches.{SomeRunComesBack}
+use Rattle.workpool.specs.declared.ran.Reason.{Reason}
+use Rattle.workpool.specs.declared.ran.Reason.TheVariants.{Memory, Entries}
+
+-- Memory was refused.
+abbrev pub IsRefused : Option Reason → Type 0
+IsRefused cut = (refused : NoMemory) × (cut ≡ Some (Memory refused))
+
+-- So many jobs were given and so many were taken, as lists: each was given as often as it was taken or is left.
+pub record AreJobs (given taken : ℕ) : Type 0 where
+  pub put : List ℕ
+  pub out : List ℕ
+  pub left : List ℕ
+  pub given_is : given ≡ length put
+  pub taken_is : taken ≡ length out
+  pub fair : (x : ℕ) → times x put ≡ times x out + times x left
+
+-- No more jobs were given than entries were opened, and just as many unless memory was refused.
+pub record AreGiven (given opens : ℕ) (cut : Option Reason) : Type 0 where
+  pub fewer : given ≤ opens
+  pub all : given ≡ opens ⊎ IsRefused cut
+
+-- It is said that as many entries were opened as the limit only where so many were; and then always, if not that memory was refused.
+pub record TellsEntries (opens : ℕ) (limits : Limits) (cut : Option Reason) : Type 0 where
+  pub only : cut ≡ Some Entries → limits.entries ≤ opens
+  pub always : limits.entries ≤ opens → (cut ≡ Some Entries) ⊎ IsRefused cut
+
+-- The root's entry wasn't met: memory was refused, or a run that comes back to its state was met first.
+abbrev pub HasNoRoot : {S : Type 0} → Rules S → Limits → Option Reason → Type 0
+HasNoRoot r limits cut = IsRefused cut ⊎ SomeRunComesBack r limits

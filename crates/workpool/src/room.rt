@@ -1,0 +1,36 @@
+// What the workers of a search need before they begin.
+
+ghost use Rattle.std.specs.Prelude.{◌<◌, IfOk};
+ghost use Rattle.workpool.specs.Inner.Rooms.{IsRoomFor};
+
+use crate::ring::{Seat, new_ring};
+use crate::tally::{Tally, TallySeat};
+use crate::work::Work;
+use basis::NoMemory;
+use shardbook::Naming;
+use std::alloc::Global;
+
+// A tally, its seat with all parts, a ring of deques, and room for as many workers.
+#[derive(Drop)]
+pub(crate) struct Room<B: Naming> {
+    pub(crate) tally: Tally,
+    pub(crate) all: TallySeat,
+    pub(crate) ring: Vec<Seat>,
+    pub(crate) works: Vec<Work<B>>,
+}
+
+// Room for so many workers. It is all that is allocated before they begin.
+pub(crate) fn make_room<B: Naming>(alloc: Global, count: usize) -> Result<Room<B>, NoMemory>
+    requires { 0 < count }
+    ensures { IfOk result (IsRoomFor count) }
+{
+    let ring = new_ring(alloc, count)?;
+    let works = Vec::with_capacity(alloc, count)?;
+    let (tally, all) = Tally::new(alloc)?;
+    Ok(Room {
+        tally,
+        all,
+        ring,
+        works,
+    })
+}
