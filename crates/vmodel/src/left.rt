@@ -37,7 +37,8 @@ impl Left {
         Ok(Left { base, kept, own })
     }
 
-    // The same is left. The spots of the beginning aren't copied.
+    // The same is left. The spots of the beginning aren't copied: one more owner of them is counted, in one atomic step, and
+    // refused only where 2^63 - 1 are counted already.
     pub(crate) fn copy(&self, alloc: Global) -> Result<Left, NoMemory>
         requires { IsWhole self.now }
         ensures whole { IfOk result IsWhole }

@@ -157,6 +157,9 @@ impl Queue {
     }
 }
 
+/// For how many more updates a copy has room, so that the next ones don't double it.
+const SPARE: usize = 4;
+
 /// The same updates in the same order.
 pub(crate) fn copy_updates(
     alloc: Global,
@@ -164,8 +167,12 @@ pub(crate) fn copy_updates(
 ) -> Result<VecDeque<Parts>, NoMemory>
     ensures { IfOk result (λ copied. copied.items ≡ updates.now.items) }
 {
+    if updates.is_empty() {
+        return Ok(VecDeque::new(alloc));
+    }
     let (front, back) = updates.as_slices();
-    let mut copied = Vec::from_slice(alloc, front)?;
+    let mut copied = Vec::with_capacity(alloc, updates.len().saturating_add(SPARE))?;
+    copied.extend_from_slice(front)?;
     copied.extend_from_slice(back)?;
     Ok(VecDeque::from_vec(copied))
 }
