@@ -1,8 +1,17 @@
 -- What the code keeps and its inner functions answer; nothing here has to be believed.
-use Rattle.std.specs.Prelude.{◌≡◌, ℕ, ◌+◌, ◌≤◌, ◌<◌, List, length, drop, slice_index, Option}
+use Rattle.std.specs.Prelude.{◌≡◌, ℕ, ◌+◌, ◌≤◌, ◌<◌, List, length, drop, slice_index, Option, option_map, Vec, Result, Ok, Err}
+use Rattle.std.specs.Map.{lookup}
+use Rattle.std.specs.Str.{bytes_eq}
 use Rattle.std.specs.List.Sorted.{IsNonDecreasing}
 use Rattle.memchr.specs.Find.{is_byte, places}
+use Rattle.std.specs.Borrow.{Bor}
 use Rattle.vsrc.specs.Source.{text_limit}
+use Rattle.vsrc.specs.Words.{Named}
+use Rattle.vsrc.specs.declared.timescale.Scale.{Scale}
+use Rattle.vsrc.specs.declared.timescale.Timescale.{Timescale}
+use Rattle.vsrc.specs.Timescales.{Scaled, Timed}
+use Rattle.vsrc.specs.Macros.{Macros}
+use Rattle.vsrc.specs.declared.refusal.Refusal.{Refusal}
 use Rattle.vsrc.specs.Outside.{further, string_end}
 use Rattle.vsrc.specs.Expansion.{Overflows}
 use Rattle.vsrc.specs.declared.fault.SrcFault.{SrcFault}
@@ -29,3 +38,29 @@ IsGrowth text lead bytes file (Growth place) = (text_limit < length text + lengt
 -- where the string that is open at a place ends, told from the head of the text
 abbrev pub string_end_from : List ℕ → ℕ → Option ℕ
 string_end_from text at = further at (string_end (drop at text))
+
+-- ---- directives
+
+-- a name that was found, with how many bytes it takes
+abbrev pub named_of : Option (Bor (List ℕ) × ℕ) → Option Named
+named_of = option_map (λ found. record { name = found.0.now; len = found.1 })
+
+-- a length of time and a timescale that were found, with how many bytes they take
+abbrev pub scaled_of : Option (Scale × ℕ) → Option Scaled
+scaled_of = option_map (λ found. record { scale = found.0; len = found.1 })
+
+abbrev pub timed_of : Option (Timescale × ℕ) → Option Timed
+timed_of = option_map (λ found. record { timescale = found.0; len = found.1 })
+
+-- the bytes of a macro's text that was found
+abbrev pub text_of : Option (Bor (List ℕ)) → Option (List ℕ)
+text_of = option_map (λ text. text.now)
+
+-- what the entries of a table say of a name
+abbrev pub macros_of : {A : Type 0} → List (Bor (List ℕ) × Vec ℕ A) → Macros
+macros_of entries name = option_map (λ text. text.items) (lookup (λ key. bytes_eq name key.now) entries)
+
+-- the text that was found for a name
+abbrev pub found_text : Result (Bor (List ℕ)) Refusal → Result (List ℕ) Refusal
+found_text (Ok text) = Ok text.now
+found_text (Err refusal) = Err refusal

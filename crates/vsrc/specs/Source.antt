@@ -3,8 +3,8 @@ use Rattle.std.specs.Prelude.{ℕ, ◌+◌, List, [], ◌∷◌, Vec, length, ma
 use Rattle.std.specs.List.{join_by}
 use Rattle.memchr.specs.Find.{is_byte}
 use Rattle.vsrc.specs.declared.expanded.Place.{Place}
-use Rattle.vsrc.specs.declared.expanded.Scale.{Scale}
-use Rattle.vsrc.specs.declared.expanded.Unit.TheVariants.{Nanosecond}
+use Rattle.vsrc.specs.declared.timescale.Scale.{Scale}
+use Rattle.vsrc.specs.declared.timescale.Unit.TheVariants.{Nanosecond}
 
 -- the most bytes that a text may have, 2 ^ 25
 abbrev pub text_limit : ℕ

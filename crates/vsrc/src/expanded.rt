@@ -1,9 +1,10 @@
 // Text with the place of each of its bytes in the files.
 
-ghost use Rattle.std.specs.Prelude.{◌≡◌, ℕ, ◌≤◌, length, codes};
+ghost use Rattle.std.specs.Prelude.{◌≡◌, ℕ, ◌≤◌, length};
 ghost use Rattle.std.specs.List.Sorted.{IsNonDecreasing};
 ghost use Rattle.vsrc.specs.Source.{count_below, text_limit};
 
+use crate::timescale::Scale;
 use std::marker::Model;
 
 /// A place in the files: the number of the file and of the line in it, both from 1.
@@ -11,31 +12,6 @@ use std::marker::Model;
 pub struct Place {
     pub file: usize,
     pub line: usize,
-}
-
-/// A unit of time, as 19.8 of IEEE 1364-2005 names it.
-#[derive(Clone, Copy, Debug, PartialEq, Eq)]
-pub enum Unit {
-    /// `ns`
-    Nanosecond,
-}
-
-impl Unit {
-    /// The unit as a timescale spells it.
-    pub fn name(self) -> &'static str
-        ensures { result.now ≡ codes "ns" }
-    {
-        match self {
-            Unit::Nanosecond => "ns",
-        }
-    }
-}
-
-/// The timescale of a text: time is counted in `count` of `unit`, the precision.
-#[derive(Clone, Copy, Debug, PartialEq, Eq)]
-pub struct Scale {
-    pub count: u8,
-    pub unit: Unit,
 }
 
 /// The text of the files, of at most 33,554,432 bytes, with the place of each byte and the timescale.

@@ -7,9 +7,10 @@ ghost use Rattle.vsrc.specs.Expansion.{HasNoTick, IsSourceReason};
 ghost use Rattle.vsrc.specs.Inner.{IsJoinReason, IsGrowth};
 ghost use Rattle.vsrc.specs.Source.{file_bytes, joined, borders_of, source_of, text_limit};
 
-use crate::expanded::{Expanded, Place, Scale, Unit};
+use crate::expanded::{Expanded, Place};
 use crate::fault::SrcFault;
 use crate::outside::first_tick;
+use crate::timescale::{Scale, Unit};
 use basis::{NoMemory, OrMemory};
 use memchr::memchr_iter;
 use std::alloc::Global;

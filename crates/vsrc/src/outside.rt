@@ -26,8 +26,8 @@ pub fn first_tick(text: &[u8]) -> Option<usize>
     None
 }
 
-// How many bytes belong together at the head.
-fn stretch_len(text: &[u8]) -> usize
+/// How many bytes belong together at the head: a comment, a string, or one byte.
+pub fn stretch_len(text: &[u8]) -> usize
     requires { 0 < length text.now }
     ensures value { result ≡ stretch_len text.now }
     ensures some { 0 < result }
