@@ -1,7 +1,9 @@
 -- One text, one replay: from the laws of each layer.
-use Rattle.std.proofs.Common.{◌≡◌, ℕ, ◌<◌, List, [], length, Option, None, Some, inl, inr, sym, ap, subst, ◌∙◌, arith}
-use Rattle.vsrc.specs.Source.{joined, text_limit}
-use Rattle.vsrc.specs.Laws.{GrowsTooLong}
+use Rattle.std.proofs.Common.{◌≡◌, ℕ, ◌<◌, List, [], length, Option, None, Some, Ok, Err, true, false, inl, inr, sym, ap, subst, ◌∙◌, arith, true≢false}
+use Rattle.vsrc.specs.Source.{Source}
+use Rattle.vsrc.specs.Timescales.{is_usual}
+use Rattle.vsrc.specs.Expansion.{expansion, expanded_text}
+use Rattle.vsrc.specs.declared.fault.SrcFault.{SrcFault}
 use Rattle.vlex.specs.Lexed.{Lexed, Piece}
 use Rattle.vlex.specs.Laws.{CutsOneWay}
 use Rattle.vast.specs.Syntax.{Text, SourceTree}
@@ -21,15 +23,17 @@ use Rattle.vrace.specs.Asked.{Asked}
 use Rattle.vrace.specs.Replays.{texts_of, IsTreeOf, IsDesignOf, grain_under, Played, setting_of, IsDump}
 use Rattle.vrace.specs.Refusals.{IsFileReason, IsTextReason, IsRunReason, IsReason, IsOfWriting}
 use Rattle.vrace.specs.declared.fault.Fault.{Fault}
-use Rattle.vrace.specs.declared.fault.Fault.TheVariants.{NotEnded, BadToken, Growth, NoTree, Outside, TooDeep, NotYet, NoTop, Doubled, Unknown, Width, TooMany, BadLog, NoSuchChoice, TooManySteps, OutOfLimit, BadReport, FalseEnd, FalseRace, FalseHead, Memory, Write, Read, TooLong}
+use Rattle.vrace.specs.declared.fault.Fault.TheVariants.{NotEnded, BadToken, Directive, NoMacro, Growth, LeftOpen, Timescales, NoTree, Outside, TooDeep, NotYet, NoTop, Doubled, Unknown, Width, TooMany, BadLog, NoSuchChoice, TooManySteps, OutOfLimit, BadReport, FalseEnd, FalseRace, FalseHead, Memory, Write, Read, TooLong}
 use Rattle.vreport.specs.RunLaws.{same_end, never_missing, never_more}
 
 pub record Laws : Type 0 where
-  pub growth : GrowsTooLong
   pub one_list : CutsOneWay
   pub reads : ReadsCompletely
   pub one_design : ElaboratesOneWay
   pub one_log : OneLogForText
+
+same_ok : (s t : Source) → Ok {E = SrcFault} s ≡ Ok t → s ≡ t
+same_ok s t e = cc
 
 abbrev whole : SourceTree → Option (SourceTree × List Text)
 whole tree = Some (tree, [])
@@ -55,7 +59,7 @@ module _ (laws : Laws) where
   module _ (files : List (List ℕ)) (asked : Asked) (log : List ℕ) where
     module _ (p q : Played files asked log) where
       designs : p.design ≡ q.design
-      designs = one_design_of (joined files) asked.top p.design q.design p.is_design q.is_design
+      designs = one_design_of (expanded_text files) asked.top p.design q.design p.is_design q.is_design
 
       logs : (p.head ≡ q.head) × (p.members ≡ q.members)
       logs = laws.one_log p.head q.head p.members q.members p.is_log q.is_log (sym p.written ∙ q.written)
@@ -76,9 +80,21 @@ module _ (laws : Laws) where
         d.is_text ∙ (λ i. vcd (designs p q i) (history_after (settings p q i) ((logs p q).1 i) (steps i))) ∙ sym e.is_text
 
     module _ (dump : List ℕ) (d : IsDump files asked log dump) where
+      expands : (fault : SrcFault) → expansion files ≡ Err fault → ⊥
+      expands fault refused = let clash : Ok d.played.are_read.source ≡ Err fault = sym d.played.are_read.expanded ∙ refused in cc
+
+      is_timed : (source : Source) → expansion files ≡ Ok source → is_usual source.timescale ≡ false → ⊥
+      is_timed source expanded odd =
+          let same : d.played.are_read.source ≡ source = same_ok _ _ (sym d.played.are_read.expanded ∙ expanded) in
+          true≢false (sym d.played.are_read.usual ∙ ap (λ (s : Source). is_usual s.timescale) same ∙ odd)
+
       not_for_files : (fault : Fault) → IsFileReason files fault → IsOfWriting fault
-      not_for_files (Growth at) (within, (place, reason)) = absurd (omega (arith, laws.growth files place reason, d.played.are_read.short))
-      not_for_files (NotYet at) (within, (place, (tick, first, is))) = absurd (d.played.are_read.clean tick first)
+      not_for_files (Directive at) (within, (place, refused, told)) = absurd (expands _ refused)
+      not_for_files (NoMacro at) (within, (place, refused, told)) = absurd (expands _ refused)
+      not_for_files (Growth at) (within, (place, refused, told)) = absurd (expands _ refused)
+      not_for_files (LeftOpen at) (within, (place, refused, told)) = absurd (expands _ refused)
+      not_for_files (Timescales at) (within, (place, refused, told)) = absurd (expands _ refused)
+      not_for_files (NotYet at) (within, (source, expanded, odd)) = absurd (is_timed source expanded odd)
       not_for_files (Memory m) r = tt
       not_for_files TooLong r = absurd (omega (arith, r, d.played.are_read.within))
       not_for_files (NotEnded at) r = absurd r
@@ -102,7 +118,7 @@ module _ (laws : Laws) where
       not_for_files Write r = absurd r
       not_for_files Read r = absurd r
 
-      not_for_text : (fault : Fault) → IsTextReason (joined files) asked.top fault → IsOfWriting fault
+      not_for_text : (fault : Fault) → IsTextReason (expanded_text files) asked.top fault → IsOfWriting fault
       not_for_text (NotEnded at) r = absurd (r.0 d.played.is_design.is_tree.pieces d.played.is_design.is_tree.lexed)
       not_for_text (BadToken at) r = absurd (r.0 d.played.is_design.is_tree.pieces d.played.is_design.is_tree.lexed)
       not_for_text (NoTree at) r = absurd (r.1 d.played.is_design.tree d.played.is_design.is_tree)
@@ -114,7 +130,11 @@ module _ (laws : Laws) where
       not_for_text (Width at) (token, (none, broken)) = absurd (none d.played.design d.played.is_design)
       not_for_text (TooMany at) (token, (none, broken)) = absurd (none d.played.design d.played.is_design)
       not_for_text (Memory m) r = tt
+      not_for_text (Directive at) r = absurd r
+      not_for_text (NoMacro at) r = absurd r
       not_for_text (Growth at) r = absurd r
+      not_for_text (LeftOpen at) r = absurd r
+      not_for_text (Timescales at) r = absurd r
       not_for_text (NotYet at) r = absurd r
       not_for_text BadLog r = absurd r
       not_for_text NoSuchChoice r = absurd r
@@ -138,7 +158,11 @@ module _ (laws : Laws) where
       not_for_run Write r = tt
       not_for_run (NotEnded at) r = absurd r
       not_for_run (BadToken at) r = absurd r
+      not_for_run (Directive at) r = absurd r
+      not_for_run (NoMacro at) r = absurd r
       not_for_run (Growth at) r = absurd r
+      not_for_run (LeftOpen at) r = absurd r
+      not_for_run (Timescales at) r = absurd r
       not_for_run (NoTree at) r = absurd r
       not_for_run (Outside at) r = absurd r
       not_for_run (TooDeep at) r = absurd r

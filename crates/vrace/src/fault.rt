@@ -36,9 +36,21 @@ pub enum Fault {
     /// A bad character, number or escape.
     #[error("E102{0}")]
     BadToken(At),
-    /// The text grows too long with this file.
+    /// A directive is ill formed, not first on its line, or without its open conditional.
+    #[error("E110{0}")]
+    Directive(At),
+    /// The name behind a backtick has no macro.
+    #[error("E111{0}")]
+    NoMacro(At),
+    /// Macros or conditionals nest too deep, or the text or the number of uses grows too large.
     #[error("E112{0}")]
     Growth(At),
+    /// A conditional is left open.
+    #[error("E113{0}")]
+    LeftOpen(At),
+    /// A second timescale differs from the first.
+    #[error("E114{0}")]
+    Timescales(At),
     /// No tree derives the words.
     #[error("E201{0}")]
     NoTree(At),
@@ -48,7 +60,7 @@ pub enum Fault {
     /// Statements and expressions nest deeper than 64.
     #[error("E203{0}")]
     TooDeep(At),
-    /// A directive or a macro, and none is read yet.
+    /// A timescale other than 1 ns and 1 ns, and none but that is run yet.
     #[error("E299{0}")]
     NotYet(At),
     /// No module is the top.

@@ -7,5 +7,4 @@ pub mod Conditionals
 pub mod Walk
 pub mod Expansion
 pub mod Inner
-pub mod Laws
 pub mod Walking

@@ -99,3 +99,6 @@ is_like a b = femtoseconds a.unit == femtoseconds b.unit && femtoseconds a.preci
 -- what holds where no timescale stands: 1 ns and 1 ns (own)
 abbrev pub usual_timescale : Timescale
 usual_timescale = record { unit = record { count = 1; unit = Nanosecond }; precision = record { count = 1; unit = Nanosecond } }
+
+abbrev pub is_usual : Timescale → Bool
+is_usual timescale = is_like timescale usual_timescale

@@ -3,7 +3,7 @@
 ghost use Rattle.std.specs.Prelude.{◌≡◌, ◌≤◌, ◌==◌, ◌&&◌, length, IfSome};
 ghost use Rattle.std.specs.List.{prefix_len};
 ghost use Rattle.std.specs.Char.{is_ascii_digit};
-ghost use Rattle.vsrc.specs.Timescales.{count_of, unit_of, unit_femtoseconds, femtoseconds, scale_behind, slash_behind, timescale_behind, is_like};
+ghost use Rattle.vsrc.specs.Timescales.{count_of, unit_of, unit_femtoseconds, femtoseconds, scale_behind, slash_behind, timescale_behind, is_like, usual_timescale};
 ghost use Rattle.vsrc.specs.Inner.{scaled_of, timed_of};
 
 use crate::words::{blanks_len, word_len};
@@ -37,6 +37,17 @@ pub struct Scale {
 pub struct Timescale {
     pub unit: Scale,
     pub precision: Scale,
+}
+
+impl Timescale {
+    ghost use Rattle.vsrc.specs.Timescales.{is_usual};
+
+    /// Whether it is as where no timescale stands: 1 ns and 1 ns.
+    pub fn is_usual(self) -> bool
+        ensures { result ≡ is_usual self }
+    {
+        is_like(self, usual_timescale())
+    }
 }
 
 fn count_of(digits: &[u8]) -> Option<u8>
@@ -156,4 +167,18 @@ pub fn is_like(a: Timescale, b: Timescale) -> bool
     let units = femtoseconds(a.unit) == femtoseconds(b.unit);
     let precisions = femtoseconds(a.precision) == femtoseconds(b.precision);
     units && precisions
+}
+
+/// What holds where no timescale stands: 1 ns and 1 ns.
+pub fn usual_timescale() -> Timescale
+    ensures { result ≡ usual_timescale }
+{
+    let scale = Scale {
+        count: 1,
+        unit: Unit::Nanosecond,
+    };
+    Timescale {
+        unit: scale,
+        precision: scale,
+    }
 }

@@ -7,6 +7,8 @@ ghost use Rattle.vsrc.specs.Words.{name_behind, directive_of};
 ghost use Rattle.vsrc.specs.Macros.{may_be_macro};
 ghost use Rattle.vsrc.specs.Conditionals.{is_read};
 ghost use Rattle.vsrc.specs.Inner.{macros_of};
+ghost use Rattle.vsrc.specs.Expansion.{expanded};
+ghost use Rattle.vsrc.specs.Walking.{state_of};
 ghost use Rattle.vsrc.specs.Timescales.{timescale_behind};
 ghost use Rattle.vsrc.specs.Walk.{begins_arguments, is_conditional, is_fresh, is_nettype, is_met};
 
@@ -39,7 +41,7 @@ pub struct Walk<'t> {
 impl<'t> Walk<'t> {
     ghost use Rattle.vsrc.specs.Walk.{start, step, passed, kept, ticked, met, replaced, heeded, obeyed, defined, undefined, opening, alternative, timed, typed, with_opens};
     ghost use Rattle.vsrc.specs.Conditionals.{turned, closed};
-    ghost use Rattle.vsrc.specs.Walking.{state_of, Did};
+    ghost use Rattle.vsrc.specs.Walking.{Did};
 
     /// Before the first byte.
     pub fn new(alloc: Global) -> Self
@@ -54,6 +56,23 @@ impl<'t> Walk<'t> {
             made: Output::new(alloc),
             alloc,
         }
+    }
+
+    /// What was made, and the timescale if one stood.
+    pub fn into_parts(self) -> (Output, Option<Timescale>)
+        ensures made { result.0 ≡ self.entry.made }
+        ensures timescale { result.1 ≡ self.entry.timescale }
+    {
+        let Walk {
+            at: _,
+            fresh: _,
+            macros: _,
+            opens: _,
+            timescale,
+            made,
+            alloc: _,
+        } = self;
+        (made, timescale)
     }
 
     /// Takes the piece at the head of what is left of the files.
@@ -309,6 +328,23 @@ impl<'t> Walk<'t> {
             return Err(refuse(Why::Directive, self.at));
         }
         Ok(len)
+    }
+}
+
+/// The walk over a whole text. E113 where a conditional is left open at its end.
+pub fn walk_over<'t>(alloc: Global, text: &'t [u8]) -> Result<Walk<'t>, OrMemory<Refusal>>
+    requires { length text.now ≤ text_limit }
+    ensures ok { IfOk result (λ walk. expanded text.now ≡ Ok (state_of walk)) }
+    ensures err { IfFault result (λ refusal. expanded text.now ≡ Err refusal) }
+{
+    let mut walk = Walk::new(alloc);
+    while walk.at < text.len() {
+        let rest = text.split_at(walk.at).1;
+        walk.step(rest)?;
+    }
+    match walk.opens.innermost() {
+        None => Ok(walk),
+        Some(inner) => Err(refuse(Why::Open, inner.at)),
     }
 }
 
