@@ -1,4 +1,4 @@
-"""A second reading of docs/SCHEDULING.md and docs/FORMATS.md: numbers, modules made at random or parsed, their runs and their dumps.
+"""A second reading of docs/SCHEDULING.md and docs/FORMATS.md: numbers, modules made at random or parsed, their runs, dumps and traces.
 What the scripts random-runs, random-reports and examples compare with the program's answers.
 """
 import re
@@ -347,4 +347,59 @@ def dump(run):
             old = values
     if last is not None and run.time != last:
         lines.append(f"#{run.time}")
+    return "".join(line + "\n" for line in lines).encode()
+
+
+# ---- traces
+
+def shown(letters):
+    return letters[::-1]
+
+
+def deed(run, choice):
+    """What a choice is going to do, as a trace tells it."""
+    if choice == "update":
+        target, value = run.activated[0]
+        return f" write tb.{run.made.names()[target]} {shown(run.values[target])} {shown(value)}"
+    kind, *what = run.rest[choice][0]
+    if kind == "delay":
+        return f" delay {what[0]}"
+    if kind in ("dump", "finish"):
+        return {"dump": " dumpvars", "finish": " finish"}[kind]
+    target, source = what
+    value = shown(run.value(source, run.made.lengths[target]))
+    old = f" {shown(run.values[target])}" if kind == "assign" else ""
+    return f" {'write' if kind == 'assign' else 'post'} tb.{run.made.names()[target]}{old} {value}"
+
+
+def step_line(run, count, index, line_of):
+    """The line of the step that takes this choice, which it takes."""
+    choices, time = run.choices(), run.time
+    choice = choices[index]
+    front = f"step {count} time {time} choice {index} of {len(choices)}"
+    if choice == "advance":
+        run.take(choice)
+        return f"{front} advance {run.time}"
+    who = " update" if choice == "update" else f" process {choice} at 1:{line_of(choice)}"
+    line = front + who + deed(run, choice)
+    run.take(choice)
+    return line
+
+
+def trace(made, by_process, log, line_of, until=UNTIL):
+    """The trace of a run that ends, under a log of its choices; each process stands on a line of its own."""
+    run, named, count, told, lines = Run(made, by_process, until), dict(log), 0, 0, []
+
+    def slots():
+        found = [f"slot {item[0]}" for item in run.items[told:] if item != "dump"]
+        return found, len(run.items)
+
+    found, told = slots()
+    lines += found
+    while run.choices():
+        lines.append(step_line(run, count, named.get(count, 0), line_of))
+        found, told = slots()
+        lines += found
+        count += 1
+    lines.append(f"end {run.time} {run.cause()}")
     return "".join(line + "\n" for line in lines).encode()

@@ -17,9 +17,9 @@ use Rattle.basis.proofs.Bools.{or_first}
 use Rattle.basis.proofs.Lists.{listed_place}
 use Rattle.statebook.proofs.CoreLemmas.{closed_listed, sound_add, sound_nothing}
 use Rattle.statebook.proofs.ReachLemmas.{sound_reached}
-use Rattle.explore.specs.Found.{AllFewest, AreFound, HasEntries, IsListedMark}
-use Rattle.explore.specs.Told.{IsBounded, ListsExactly, TellsOfBook, WentThrough}
-use Rattle.explore.specs.Inner.Exploring.{AllFinished, AllVisited, Closes, IsComplete, IsUnderWay, StoppedFull}
+use Rattle.explore.specs.Found.{AllFewest, AreFound, HasEntries, IsListedMark, SomeRunExceeds}
+use Rattle.explore.specs.Told.{IsBounded, ListsExactly, SomeWayGoesPast, TellsOfBook, WentThrough}
+use Rattle.explore.specs.Inner.Exploring.{AllFinished, AllVisited, Closes, CutsShort, IsComplete, IsUnderWay, StoppedFull}
 use Rattle.explore.specs.declared.classes.Full.{Full}
 use Rattle.explore.specs.declared.findings.Findings.{Findings}
 use Rattle.explore.specs.declared.findings.Reason.TheVariants.{Entries, Steps}
@@ -27,6 +27,7 @@ use Rattle.explore.specs.declared.findings.Status.{Status}
 use Rattle.explore.specs.declared.findings.Status.TheVariants.{Exhausted, Cut}
 use Rattle.explore.proofs.ClassLemmas.{all_lead_on, fewer_entries}
 use Rattle.explore.proofs.MarkLemmas.{has_no_shorter, lists_each}
+use Rattle.explore.proofs.NextLemmas.{exceeds}
 
 -- the root's entry
 root_entry : {S : Type 0} (r : Rules S) (limits : Limits) (e : Entry S) → r.same e.state r.first ≡ true → e.budget ≡ limits.depart → e.log ≡ [] → e.steps ≡ 0 → IsEntry r limits.depart limits.steps e
@@ -142,6 +143,7 @@ pub record Left {S : Type 0} (r : Rules S) (limits : Limits) (eq : S → S → B
   pub agree : (s t : S) → r.same s t ≡ eq s t
   pub bounded : IsBounded r limits.entries b.entries
   pub visited_all : OnOk visited (AllVisited r limits b)
+  pub past : IfOk visited (CutsShort r limits b)
   pub full : IfFault visited (λ _. limits.entries ≤ length b.entries)
   pub exhausted : status ≡ Exhausted → visited ≡ Ok true
   pub entries : status ≡ Cut Entries → StoppedFull visited
@@ -150,6 +152,16 @@ pub record Left {S : Type 0} (r : Rules S) (limits : Limits) (eq : S → S → B
 went_through : {S : Type 0} (r : Rules S) (limits : Limits) (eq : S → S → Bool) (b : Book S) (visited : Result Bool (OrMemory Full)) (status : Status) → Left r limits eq b visited status → WentThrough status → AllVisited r limits b
 went_through r limits eq b visited status h (inl exhausted) = through visited true (h.exhausted exhausted) h.visited_all
 went_through r limits eq b visited status h (inr steps) = through visited false (h.steps steps) h.visited_all
+
+-- a search that was cut by the limit of steps has a way that goes past it
+goes_past : {S : Type 0} (r : Rules S) (limits : Limits) (eq : S → S → Bool) (b : Book S) (visited : Result Bool (OrMemory Full)) (status : Status) → Left r limits eq b visited status → status ≡ Cut Steps → SomeWayGoesPast r limits b.entries
+goes_past r limits eq b visited status h t = through_value visited false (CutsShort r limits b) (h.steps t) h.past refl
+
+-- and so some run takes more steps
+pub cut_steps : {S : Type 0} (r : Rules S) → IsLawful r → (limits : Limits) (eq : S → S → Bool) (b : Book S) (visited : Result Bool (OrMemory Full)) (status : Status) → Left r limits eq b visited status → status ≡ Cut Steps → SomeRunExceeds r limits
+cut_steps r law limits eq b visited status h t =
+    let w = goes_past r limits eq b visited status h t in
+    exceeds r law limits w.entry w.past.choice (h.under_way.sound.entry w.place w.entry w.at) w.past.allowed w.past.past
 
 pub tells_of_book : {S : Type 0} (r : Rules S) (limits : Limits) (eq : S → S → Bool) (b : Book S) (visited : Result Bool (OrMemory Full)) (findings : Findings S) → Left r limits eq b visited findings.status → ListsExactly r b findings.marks.entries → TellsOfBook r limits findings
 tells_of_book r limits eq b visited findings h lists = (
@@ -162,6 +174,7 @@ tells_of_book r limits eq b visited findings h lists = (
     bounded = h.bounded;
     full = λ t. stopped visited (h.entries t) h.full;
     fewer = λ t. fewer_entries r limits b (slice_get_within b.entries 0 h.under_way.root.entry h.under_way.root.at) (went_through r limits eq b visited findings.status h t);
+    past = goes_past r limits eq b visited findings.status h;
     steps = λ t. all_lead_on r limits b (went_through r limits eq b visited findings.status h (inr t));
   },
 )

@@ -7,8 +7,7 @@ use Rattle.sched_core.specs.Rules.{Rules}
 use Rattle.statebook.specs.Books.{Book, IsFinished}
 use Rattle.statebook.specs.declared.entry.Entry.{Entry}
 use Rattle.statebook.specs.declared.limits.Limits.{Limits}
-use Rattle.explore.specs.Found.{SomeRunExceeds}
-use Rattle.explore.specs.Told.{AllChoicesLeadOn, AllLeadOn, IsBounded}
+use Rattle.explore.specs.Told.{AllChoicesLeadOn, AllLeadOn, IsBounded, SomeChoiceGoesPast, SomeWayGoesPast}
 use Rattle.explore.specs.Inner.Exploring.{AddsFew, AllVisited, BookGrows, FinishedAt, GrowsFrom, IsUnderWay, LeadsOnAt, VisitedAt, WasVisited, width_limit}
 use Rattle.explore.proofs.VisitLemmas.{grows_twice, leads_later, still_there, true_not_false}
 
@@ -27,7 +26,7 @@ pub record InClass {S : Type 0} (r : Rules S) (limits : Limits) (start now : Boo
   pub grows : BookGrows start now budget
   pub finished : within ≡ true → EachUpTo (IsFinished now) now budget place
   pub visited : EachUpTo (WasVisited r limits now.entries) now budget place
-  pub past : within ≡ false → SomeRunExceeds r limits
+  pub past : within ≡ false → SomeWayGoesPast r limits now.entries
 
 -- what a visit of the entry at the place makes of the book
 pub record Visits {S : Type 0} (r : Rules S) (limits : Limits) (now : Book S) (place : ℕ) (new : Book S) : Type 0 where
@@ -74,6 +73,10 @@ visited_later r limits old new budget g i v = record {
   fewer = v.fewer;
 }
 
+-- a way that goes past the limit does so as the book grows
+pub past_later : {S : Type 0} (r : Rules S) (limits : Limits) (old new : Book S) (budget : ℕ) → BookGrows old new budget → SomeWayGoesPast r limits old.entries → SomeWayGoesPast r limits new.entries
+past_later r limits old new budget g w = record { place = w.place; entry = w.entry; at = g.stays w.place w.entry w.at; past = w.past }
+
 visited_now : {S : Type 0} (r : Rules S) (limits : Limits) (now : Book S) (place : ℕ) (new : Book S) → Visits r limits now place new → WasVisited r limits new.entries place
 visited_now r limits now place new v = record {
   entry = v.entry;
@@ -105,12 +108,12 @@ class_finished r limits start now new budget place within s v same f =
       grows = grows_twice start now new budget s.grows g;
       finished = λ t. one_more (IsFinished now) (IsFinished new) now new budget place g (λ i done. (done.0, g.done i done.0 done.1)) lt (s.finished t) f;
       visited = one_more (WasVisited r limits now.entries) (WasVisited r limits new.entries) now new budget place g (visited_later r limits now new budget g) lt s.visited (visited_now r limits now place new v);
-      past = s.past;
+      past = λ t. past_later r limits now new budget g (s.past t);
     }
 
 -- the entry at the place was visited, and is not finished
-pub class_cut : {S : Type 0} (r : Rules S) (limits : Limits) (start now new : Book S) (budget place : ℕ) (within : Bool) → InClass r limits start now budget place within → (v : Visits r limits now place new) → v.entry.budget ≡ budget → SomeRunExceeds r limits → InClass r limits start new budget (place + 1) false
-class_cut r limits start now new budget place within s v same x =
+pub class_cut : {S : Type 0} (r : Rules S) (limits : Limits) (start now new : Book S) (budget place : ℕ) (within : Bool) → InClass r limits start now budget place within → (v : Visits r limits now place new) → v.entry.budget ≡ budget → ((e : Entry S) → slice_get new.entries place ≡ Some e → SomeChoiceGoesPast r limits e) → InClass r limits start new budget (place + 1) false
+class_cut r limits start now new budget place within s v same p =
     let g = grows_at r limits now place new budget v same in
     let lt = slice_get_within now.entries place v.entry v.at in
     record {
@@ -119,7 +122,7 @@ class_cut r limits start now new budget place within s v same x =
       grows = grows_twice start now new budget s.grows g;
       finished = λ t. absurd (true_not_false (sym t));
       visited = one_more (WasVisited r limits now.entries) (WasVisited r limits new.entries) now new budget place g (visited_later r limits now new budget g) lt s.visited (visited_now r limits now place new v);
-      past = λ t. x;
+      past = λ t. record { place = place; entry = v.entry; at = g.stays place v.entry v.at; past = p v.entry (g.stays place v.entry v.at) };
     }
 
 -- the entry at the place has another budget

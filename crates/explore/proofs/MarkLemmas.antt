@@ -225,6 +225,7 @@ marks_read r limits b place marks m all = record {
     entry = x.entry;
     at = x.at;
     same = x.same;
+    mark = (m.found j p at).mark;
     log = x.log;
     greatest = λ i e at' same. x.greatest i e (all i e at') at' same;
   });

@@ -11,7 +11,7 @@ use Rattle.statebook.specs.declared.entry.Entry.{Entry}
 use Rattle.basis.proofs.Lists.{stands_in_front, stands_last, last_or_before}
 use Rattle.statebook.specs.declared.limits.Limits.{Limits}
 use Rattle.statebook.proofs.CoreLemmas.{sound_add, sound_finish}
-use Rattle.explore.specs.Told.{AllChoicesLeadOn, LeadsOn}
+use Rattle.explore.specs.Told.{AllChoicesLeadOn, LeadsOn, SomeChoiceGoesPast}
 use Rattle.explore.specs.Inner.Exploring.{AddsFew, BookGrows, Follows, IsSameOrAdded, IsUnderWay, LeadsOnAt}
 
 pub found_new : {S : Type 0} (same : S → S → Bool) → IsEquivalence same → (old : Book S) (e : Entry S) (new : Book S) (place : ℕ) → place ≡ length old.entries → new ≡ add old e → IsFoundAt same new.entries e place
@@ -232,6 +232,12 @@ leads_done {S} r limits old place places new (inl h) leads =
 leads_done {S} r limits old place places new (inr h) leads =
     let P : Book S → Type 0 = λ b. LeadsOnAt r limits b place in
     subst P (sym h.1) leads
+
+-- a choice of the entry that goes past the limit does so in the book that has grown
+pub past_at : {S : Type 0} (r : Rules S) (limits : Limits) (old now : Book S) (place : ℕ) (e : Entry S) → SomeChoiceGoesPast r limits e → slice_get old.entries place ≡ Some e → BookGrows old now e.budget → (f : Entry S) → slice_get now.entries place ≡ Some f → SomeChoiceGoesPast r limits f
+past_at {S} r limits old now place e past at g f at' =
+    let P : Entry S → Type 0 = λ x. SomeChoiceGoesPast r limits x in
+    subst P (still_there old now e.budget place e f g at at') past
 
 pub adds_few : {S : Type 0} (r : Rules S) (old new : Book S) (place count : ℕ) (e : Entry S) → slice_get old.entries place ≡ Some e → count ≤ choices_of (r.width e.state) e.budget → length new.entries ≤ length old.entries + count → AddsFew r old place new
 adds_few {S} r old new place count e at le few f at' =

@@ -32,9 +32,13 @@ pub record IsListedMark {S : Type 0} (r : Rules S) (marks : List (S × List (ℕ
   pub same : r.same found.0 s ≡ true
   pub departures : length found.1 ≤ d
 
+-- No run at all that comes to s has fewer than d departures.
+abbrev pub NoneFewer : {S : Type 0} → Rules S → S → ℕ → Type 0
+NoneFewer r s d = (log : List (ℕ × ℕ)) (n : ℕ) → IsRun r log n → r.same s (stands r log n) ≡ true → d ≤ length log
+
 -- No run at all that reaches a listed mark has fewer departures than its log.
 abbrev pub AllFewest : {S : Type 0} → Rules S → List (S × List (ℕ × ℕ)) → Type 0
-AllFewest {S} r marks = (i : ℕ) (found : S × List (ℕ × ℕ)) → slice_get marks i ≡ Some found → (log : List (ℕ × ℕ)) (n : ℕ) → IsRun r log n → r.same found.0 (stands r log n) ≡ true → length found.1 ≤ length log
+AllFewest {S} r marks = (i : ℕ) (found : S × List (ℕ × ℕ)) → slice_get marks i ≡ Some found → NoneFewer r found.0 (length found.1)
 
 -- Some run within the limit of departures takes more steps than the limit.
 pub record SomeRunExceeds {S : Type 0} (r : Rules S) (limits : Limits) : Type 0 where
@@ -44,12 +48,16 @@ pub record SomeRunExceeds {S : Type 0} (r : Rules S) (limits : Limits) : Type 0 
   pub run : IsRun r log steps
   pub more : limits.steps < steps
 
+-- The entries aren't alike in state and budget.
+abbrev pub Differ : {S : Type 0} → Rules S → Entry S → Entry S → Type 0
+Differ r e f = r.same e.state f.state ≡ true → e.budget ≡ f.budget → ⊥
+
 -- At least as many entries as the limit exist that may be added, no two of them alike in state and budget.
 pub record HasEntries {S : Type 0} (r : Rules S) (limits : Limits) : Type 0 where
   pub entries : List (Entry S)
   pub count : limits.entries ≤ length entries
   pub allowed : (i : ℕ) (e : Entry S) → slice_get entries i ≡ Some e → IsEntry r limits.depart limits.steps e
-  pub differ : (i j : ℕ) (e f : Entry S) → i < j → slice_get entries i ≡ Some e → slice_get entries j ≡ Some f → r.same e.state f.state ≡ true → e.budget ≡ f.budget → ⊥
+  pub differ : (i j : ℕ) (e f : Entry S) → i < j → slice_get entries i ≡ Some e → slice_get entries j ≡ Some f → Differ r e f
 
 -- each listed mark is one, under its log
 abbrev pub ListsFound : {S : Type 0} → Rules S → Limits → Findings S → Type 0

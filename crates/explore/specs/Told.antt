@@ -27,6 +27,20 @@ LeadsOn r limits entries e c = ((j : ℕ) × IsMet r entries e c j) ⊎ ChoiceGo
 abbrev pub Allows : {S : Type 0} → Rules S → Entry S → ℕ → Type 0
 Allows r e c = c < choices_of (r.width e.state) e.budget
 
+-- Some choice that the entry's budget allows goes past the step limit: the run under the entry's log that goes on by
+-- this choice, and then by choice 0 alone, comes to no further station up to that limit.
+pub record SomeChoiceGoesPast {S : Type 0} (r : Rules S) (limits : Limits) (e : Entry S) : Type 0 where
+  pub choice : ℕ
+  pub allowed : Allows r e choice
+  pub past : ChoiceGoesPast r limits e choice
+
+-- From one of the entries some choice goes past the step limit.
+pub record SomeWayGoesPast {S : Type 0} (r : Rules S) (limits : Limits) (entries : List (Entry S)) : Type 0 where
+  pub place : ℕ
+  pub entry : Entry S
+  pub at : slice_get entries place ≡ Some entry
+  pub past : SomeChoiceGoesPast r limits entry
+
 -- Each choice that the entry's budget allows leads on.
 abbrev pub AllChoicesLeadOn : {S : Type 0} → Rules S → Limits → List (Entry S) → Entry S → Type 0
 AllChoicesLeadOn r limits entries e = (c : ℕ) → Allows r e c → LeadsOn r limits entries e c
@@ -35,12 +49,13 @@ AllChoicesLeadOn r limits entries e = (c : ℕ) → Allows r e c → LeadsOn r l
 abbrev pub AllLeadOn : {S : Type 0} → Rules S → Limits → List (Entry S) → Type 0
 AllLeadOn {S} r limits entries = (i : ℕ) (e : Entry S) → slice_get entries i ≡ Some e → AllChoicesLeadOn r limits entries e
 
--- The pair is the state and the log of an entry, and none that stands there has a greater budget.
+-- The pair is a mark, and the state and the log of an entry; none that stands there has a greater budget.
 pub record IsBest {S : Type 0} (r : Rules S) (entries : List (Entry S)) (found : S × List (ℕ × ℕ)) : Type 0 where
   pub place : ℕ
   pub entry : Entry S
   pub at : slice_get entries place ≡ Some entry
   pub same : r.same found.0 entry.state ≡ true
+  pub mark : r.mark found.0 ≡ true
   pub log : found.1 ≡ entry.log
   pub greatest : (i : ℕ) (e : Entry S) → slice_get entries i ≡ Some e → r.same found.0 e.state ≡ true → e.budget ≤ entry.budget
 
@@ -71,8 +86,9 @@ WentThrough status = (status ≡ Exhausted) ⊎ (status ≡ Cut Steps)
 -- [reached] Allowed events lead to the book. [root] Its first entry is the root's. [undominated] No entry was
 -- added that an earlier one dominates. [marks] Its marks are those listed. [bounded] It hasn't outgrown the limit.
 -- The first reason that holds is told: [full] by the limit of entries it was cut only with as many entries, and
--- [fewer] with so many it is always cut, for want of memory if not by that limit. [steps] Where it was cut by the
--- limit of steps, each choice of each entry leads on, under that entry's own count of steps.
+-- [fewer] with so many it is always cut, for want of memory if not by that limit. [past] By the limit of steps it was
+-- cut only where a way from one of the entries goes past it, and then [steps] each choice of each entry leads on,
+-- under that entry's own count of steps.
 pub record IsReadFrom {S : Type 0} (r : Rules S) (limits : Limits) (b : Book S) (findings : Findings S) : Type 0 where
   pub reached : IsReached r limits.depart limits.steps b
   pub root : IsRootAt b.entries 0
@@ -81,6 +97,7 @@ pub record IsReadFrom {S : Type 0} (r : Rules S) (limits : Limits) (b : Book S) 
   pub bounded : IsBounded r limits.entries b.entries
   pub full : findings.status ≡ Cut Entries → limits.entries ≤ length b.entries
   pub fewer : WentThrough findings.status → length b.entries < limits.entries
+  pub past : findings.status ≡ Cut Steps → SomeWayGoesPast r limits b.entries
   pub steps : findings.status ≡ Cut Steps → AllLeadOn r limits b.entries
 
 -- There is a book that the answer is read from.

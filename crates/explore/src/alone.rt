@@ -86,8 +86,9 @@ fn status_of<S: Eq + Hash + Drop>(
 /// Where it says `Cut(Entries)`, there are at least `limits.entries` entries; where `Cut(Steps)`, some
 /// run of at most `limits.depart` departures takes more than `limits.steps` steps. Whatever it says,
 /// the marks are those of one book that allowed events lead to, each with the log of the entry of the
-/// greatest budget; after `Cut(Steps)` each choice of each entry of that book leads to an entry of it
-/// or goes past the limit of steps, and there are fewer entries than their limit.
+/// greatest budget. `Cut(Steps)` is said only where some choice of some entry of that book goes past
+/// the limit of steps, and then each choice of each entry leads to an entry or goes past that limit,
+/// and there are fewer entries than their limit.
 ///
 /// Beside the entries it keeps states on forced ways, one in `SPACING` steps and at most `ROOM` more
 /// than there are entries. A way that comes to one of them at such a count of steps isn't walked on.

@@ -31,7 +31,7 @@ fn visit_class<P: Space>(
     requires few { length search.old.book.entries ≤ limits.now.entries + width_limit }
     ensures finished { IfOk result (λ within. within ≡ true → FinishedAt search.new.book budget) }
     ensures all { OnOk result (VisitedAt (P.rules space.now) limits.now search.new.book budget) }
-    ensures past { IfOk result (CutsShort (P.rules space.now) limits.now) }
+    ensures past { IfOk result (CutsShort (P.rules space.now) limits.now search.new.book) }
     ensures full { IfFault result (λ _. limits.now.entries ≤ length search.new.book.entries) }
     ensures searching { IsSearching (P.rules space.now) limits.now search.new }
     ensures grows { BookGrows search.old.book search.new.book budget }
@@ -68,7 +68,7 @@ pub fn visit_all<P: Space>(
     requires few { length search.old.book.entries ≤ limits.now.entries + width_limit }
     ensures finished { IfOk result (λ within. within ≡ true → AllFinished search.new.book) }
     ensures all { OnOk result (AllVisited (P.rules space.now) limits.now search.new.book) }
-    ensures past { IfOk result (CutsShort (P.rules space.now) limits.now) }
+    ensures past { IfOk result (CutsShort (P.rules space.now) limits.now search.new.book) }
     ensures full { IfFault result (λ _. limits.now.entries ≤ length search.new.book.entries) }
     ensures searching { IsSearching (P.rules space.now) limits.now search.new }
     ensures bounded { IsBounded (P.rules space.now) limits.now.entries search.new.book.entries }

@@ -10,8 +10,9 @@ use std::hash::Hash;
 /// order is told.
 ///
 /// That it is true is proved: nobody has a `NoMemory` who wasn't refused a growth, and the other two
-/// are said only where they hold. So is the order of these two: where `Steps` is told no job was left
-/// and there were fewer entries than the limit.
+/// are said only where they hold, `Steps` where a way from an entry of the book goes past the limit. So
+/// is the order of these two: where `Steps` is told no job was left and there were fewer entries than
+/// the limit.
 #[derive(Clone, Copy, Debug, PartialEq, Eq)]
 pub enum Reason {
     Memory(NoMemory),
@@ -31,7 +32,8 @@ pub enum Status {
 /// It is proved of each that it is reached under its log and, where the status is `Exhausted`, that
 /// no run reaches it with fewer departures and that no mark of a run within the limit of departures
 /// is missing. Whatever the status, they are all the marks of one book that the explorer's events
-/// lead to; after `Cut(Steps)` each choice of each entry leads to an entry, or past the limit of steps.
+/// lead to; after `Cut(Steps)` some choice of an entry goes past the limit of steps, and every other
+/// leads to an entry or goes past it too.
 #[derive(Drop)]
 pub struct Findings<S: Eq + Hash> {
     pub marks: IndexMap<S, Log>,

@@ -3,7 +3,7 @@
 ghost use Rattle.std.specs.Prelude.{◌≡◌, ℕ, ◌+◌, ◌<◌, ◌≤◌, true, false, length, slice_get, Some, IfOk, IfSome, IfNone, OnOk, OnErr};
 ghost use Rattle.statebook.specs.ExplorerCore.{choices_of};
 ghost use Rattle.statebook.specs.Books.{IsFinished, IsFoundAt};
-ghost use Rattle.explore.specs.Inner.Exploring.{AddsFew, AllowsAt, CutsShort, GrowsFrom, IsMetAt, IsSameOrAdded, LeadsOnAt, width_limit};
+ghost use Rattle.explore.specs.Inner.Exploring.{AddsFew, AllowsAt, CutsShortAt, GrowsFrom, IsMetAt, IsSameOrAdded, LeadsOnAt, width_limit};
 ghost use Rattle.explore.specs.Inner.Ways.{IfPast, IfReached, IsSearching, PastFrom};
 
 use crate::next::next_entry;
@@ -93,7 +93,7 @@ pub fn visit<P: Space>(
     requires place { place < length search.old.book.entries }
     ensures finished { IfOk result (λ within. within ≡ true → IsFinished search.new.book place) }
     ensures leads { OnOk result (LeadsOnAt (P.rules space.now) limits.now search.new.book place) }
-    ensures past { IfOk result (CutsShort (P.rules space.now) limits.now) }
+    ensures past { IfOk result (CutsShortAt (P.rules space.now) limits.now search.new.book place) }
     ensures searching { IsSearching (P.rules space.now) limits.now search.new }
     ensures grows { GrowsFrom search.old.book search.new.book place }
     ensures few { AddsFew (P.rules space.now) search.old.book place search.new.book }

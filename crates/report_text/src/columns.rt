@@ -1,12 +1,8 @@
 // The lines of the variables of a report, read.
 
-ghost use Rattle.std.specs.Prelude.{◌≡◌, ◌≢◌, ℕ, ◌≤◌, List, ◌++◌, map, true, length, IfOk, IsTrue, ◌↔◌};
-ghost use Rattle.report_text.specs.Inner.Lists.{Listed};
-ghost use Rattle.report_text.specs.Inner.Columns.{IsColumnTaken, Differ};
-ghost use Rattle.report_text.specs.Inner.Places.{HasTaken, Stands, TakesEach, Took};
-ghost use Rattle.report_text.specs.Report as reports;
-ghost use Rattle.report_text.specs.ReportText as spelled;
-ghost use Rattle.report_text.specs.WellFormed.{IsColumn};
+ghost use Rattle.std.specs.Prelude.{◌≡◌, ◌≤◌, IfOk, IsTrue, ◌↔◌};
+ghost use Rattle.report_text.specs.Inner.Columns.{AreColumnsTaken, EachColumns, IsColumnTaken};
+ghost use Rattle.report_text.specs.Inner.Places.{HasTaken, Stands, TakesEach};
 
 use crate::letters::is_path;
 use crate::names::Names;
@@ -56,8 +52,10 @@ pub fn read_columns<'a>(
     reader: &mut Reader<'a>,
     count: u64,
 ) -> Result<(Vec<Column>, Names<'a>), NoMemory>
-    ensures read { IfOk result (λ p. Took reader.old reader.new (λ text rest. Listed IsColumn Differ p.0.items × (length p.0.items ≡ count) × (p.1 ≡ map (λ c. c.name) p.0.items) × (text ≡ spelled.column_lines p.0.items ++ rest))) }
-    ensures each { (columns : List reports.Column) (rest : List ℕ) → reader.old.ok ≡ true → Listed IsColumn Differ columns → length columns ≡ count → reader.old.rest ≡ spelled.column_lines columns ++ rest → IfOk result (λ p. (p.0.items ≡ columns) × Stands reader.new rest) }
+    ensures read { IfOk result (λ p.
+        HasTaken reader.old reader.new (AreColumnsTaken count) (p.0.items, p.1)) }
+    ensures each { EachColumns count reader.old (λ columns rest.
+        IfOk result (λ p. (p.0.items ≡ columns) × Stands reader.new rest)) }
 {
     let mut columns = Vec::new(alloc);
     let mut names = Names::new(alloc);

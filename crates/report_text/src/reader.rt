@@ -3,7 +3,7 @@
 ghost use Rattle.std.specs.Prelude.{◌≡◌, ℕ, List, ◌++◌, ◌&&◌, ◌==◌, true, false, length};
 ghost use Rattle.std.specs.Char.{is_ascii_digit};
 ghost use Rattle.report_text.specs.Inner.Fronts.{IsCut};
-ghost use Rattle.report_text.specs.Inner.Places.{HasTaken, IsNumberFront, Stands, TakesEach, Took};
+ghost use Rattle.report_text.specs.Inner.Places.{EachCut, HasTaken, IsNumberFront, Stands, TakesEach, Took};
 
 use crate::front::{after, cut, number};
 use std::marker::Model;
@@ -71,7 +71,8 @@ impl<'a> Reader<'a> {
     /// Takes what stands before the first such byte, and the byte.
     pub fn word(&mut self, byte: u8) -> &'a [u8]
         ensures read { Took self.old self.new (λ text rest. IsCut byte text result.now rest) }
-        ensures each { (left right : List ℕ) → self.old.ok ≡ true → IsCut byte self.old.rest left right → (result.now ≡ left) × Stands self.new right }
+        ensures each { EachCut byte self.old (λ left right.
+            (result.now ≡ left) × Stands self.new right) }
     {
         match cut(self.rest, byte) {
             Some((left, right)) => {

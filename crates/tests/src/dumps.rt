@@ -100,6 +100,7 @@ fn design(alloc: Global) -> Result<Design, Fail> {
         variables,
         scopes,
         actions: Vec::new(alloc),
+        origins: Vec::new(alloc),
         processes: Vec::new(alloc),
     })
 }

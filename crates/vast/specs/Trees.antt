@@ -24,9 +24,9 @@ abbrev mutual
   statement_tree (Block' shape row) = block (row_trees row)
   statement_tree (Assign target value) = assign (word_text target) (expression_tree value)
   statement_tree (Nonblocking target value) = nonblocking (word_text target) (expression_tree value)
-  statement_tree (Delay' amount place body) = delay (word_text amount) (statement_tree body)
-  statement_tree DumpVars = dump_vars
-  statement_tree Finish = finish
+  statement_tree (Delay' at amount place body) = delay (word_text amount) (statement_tree body)
+  statement_tree (DumpVars at) = dump_vars
+  statement_tree (Finish at) = finish
 
   pub row_trees : {m : _} → Row_of-Stmt m → StatementTrees
   row_trees end_of-Stmt = none

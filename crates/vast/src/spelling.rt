@@ -55,16 +55,16 @@ fn put_statement<'t>(words: &mut Vec<Spelling<'t>>, statement: &Stmt<'t>) -> Res
         Stmt::Block(statements) => put_block(words, statements),
         Stmt::Assign { target, value } => put_assignment(words, target, b"=", value),
         Stmt::Nonblocking { target, value } => put_assignment(words, target, b"<=", value),
-        Stmt::Delay { amount, body } => {
+        Stmt::Delay { amount, body, .. } => {
             put(words, b"#")?;
             put(words, amount.text)?;
             put_statement(words, body)
         }
-        Stmt::DumpVars => {
+        Stmt::DumpVars { .. } => {
             put(words, b"$dumpvars")?;
             put(words, b";")
         }
-        Stmt::Finish => {
+        Stmt::Finish { .. } => {
             put(words, b"$finish")?;
             put(words, b";")
         }

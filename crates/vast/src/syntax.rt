@@ -57,15 +57,16 @@ pub enum Stmt<'t> {
         target: Word<'t>,
         value: Expr<'t>,
     },
-    /// `#amount body` (9.7.1)
+    /// `#amount body` (9.7.1); `at` is the number of its first token
     Delay {
+        at: u32,
         amount: Word<'t>,
         body: Box<Stmt<'t>>,
     },
     /// `$dumpvars;` (18.1.2)
-    DumpVars,
+    DumpVars { at: u32 },
     /// `$finish;` (17.4.1)
-    Finish,
+    Finish { at: u32 },
 }
 
 /// An expression (clause 5).

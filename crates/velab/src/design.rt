@@ -45,13 +45,14 @@ fn design_of(alloc: Global, unit: &Module<'_>) -> Result<Design, OrMemory<ElabFa
     ensures err { IfFault result (BreaksModule (module_tree unit.now)) }
 {
     let Declarations { names, variables } = declare_items(alloc, unit.name.text, &unit.items)?;
-    let ProcessTable { actions, begins } = processes(alloc, &names, &unit.items)?;
+    let ProcessTable { table, begins } = processes(alloc, &names, &unit.items)?;
     Ok(Design {
         top: Vec::from_slice(alloc, unit.name.text)?,
         precision: NANOSECOND,
         variables,
         scopes: scopes(alloc, unit.name.text, names.len() as u32)?,
-        actions,
+        actions: table.actions,
+        origins: table.origins,
         processes: begins,
     })
 }

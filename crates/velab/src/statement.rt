@@ -12,6 +12,7 @@ use crate::names::Names;
 use crate::number::constant_of;
 use basis::OrMemory;
 use std::alloc::Global;
+use std::marker::Model;
 use vast::design::{Action, Expression, Places, Target};
 use vast::syntax::{Expr, Item, Stmt, Word};
 
@@ -49,18 +50,37 @@ fn expression_of(
     }
 }
 
+/// Actions in the order in which they are come to, and for each the number of the token that its statement begins with. A
+/// clause sees the actions.
+#[derive(Drop)]
+pub struct Table {
+    pub actions: Vec<Action>,
+    pub origins: Vec<u32>,
+}
+
+impl Model for Table {
+    ghost use Rattle.std.specs.Prelude.{List};
+    ghost use Rattle.vast.specs.declared.design.Action as declared;
+
+    ghost Value = { List declared.Action };
+
+    ghost view = { λ t. t.actions.items };
+}
+
 // One action more, at the next place.
 fn put(
-    table: &mut Vec<Action>,
+    table: &mut Table,
     into: &mut Vec<usize>,
+    at: u32,
     action: Action,
 ) -> Result<(), OrMemory<ElabFault>>
-    ensures table { OnOk result (table.new.items ≡ table.old.items ++ action ∷ []) }
-    ensures place { OnOk result (into.new.items ≡ into.old.items ++ length table.old.items ∷ []) }
+    ensures table { OnOk result (table.new ≡ table.old ++ action ∷ []) }
+    ensures place { OnOk result (into.new.items ≡ into.old.items ++ length table.old ∷ []) }
     ensures err { IfFault result (IsBreach no_breach) }
 {
-    into.push(table.len())?;
-    table.push(action)?;
+    into.push(table.actions.len())?;
+    table.origins.push(at)?;
+    table.actions.push(action)?;
     Ok(())
 }
 
@@ -70,11 +90,11 @@ fn lay(
     alloc: Global,
     names: &Names<'_>,
     statement: &Stmt<'_>,
-    table: &mut Vec<Action>,
+    table: &mut Table,
     into: &mut Vec<usize>,
 ) -> Result<(), OrMemory<ElabFault>>
     requires { length names.now ≤ 1024 }
-    ensures ok { OnOk result (IsLaid (laid names.now table.old.items (statement_tree statement.now)) into.old.items table.new.items into.new.items) }
+    ensures ok { OnOk result (IsLaid (laid names.now table.old (statement_tree statement.now)) into.old.items table.new into.new.items) }
     ensures known { OnOk result (knows names.now (statement_tree statement.now) ≡ true) }
     ensures err { IfFault result (BreaksStatement names.now (statement_tree statement.now)) }
 {
@@ -82,24 +102,26 @@ fn lay(
         Stmt::Empty => Ok(()),
         Stmt::Block(statements) => lay_all(alloc, names, statements, table, into),
         Stmt::Assign { target, value } => {
+            let at = target.at;
             let target = Target::Whole(number_of(names, target)?);
             let value = expression_of(names, value)?;
-            put(table, into, Action::Assign { target, value })
+            put(table, into, at, Action::Assign { target, value })
         }
         Stmt::Nonblocking { target, value } => {
+            let at = target.at;
             let target = Target::Whole(number_of(names, target)?);
             let value = expression_of(names, value)?;
-            put(table, into, Action::Nonblocking { target, value })
+            put(table, into, at, Action::Nonblocking { target, value })
         }
-        Stmt::Delay { amount, body } => {
+        Stmt::Delay { at, amount, body } => {
             let amount = Expression::Constant(constant_of(amount.text));
             let mut inner = Vec::new(alloc);
             lay(alloc, names, body, table, &mut inner)?;
             let body = Places::new(inner);
-            put(table, into, Action::Delay { amount, body })
+            put(table, into, *at, Action::Delay { amount, body })
         }
-        Stmt::DumpVars => put(table, into, Action::DumpVars),
-        Stmt::Finish => put(table, into, Action::Finish),
+        Stmt::DumpVars { at } => put(table, into, *at, Action::DumpVars),
+        Stmt::Finish { at } => put(table, into, *at, Action::Finish),
     }
 }
 
@@ -108,11 +130,11 @@ fn lay_all(
     alloc: Global,
     names: &Names<'_>,
     statements: &[Stmt<'_>],
-    table: &mut Vec<Action>,
+    table: &mut Table,
     into: &mut Vec<usize>,
 ) -> Result<(), OrMemory<ElabFault>>
     requires { length names.now ≤ 1024 }
-    ensures ok { OnOk result (IsLaid (all_laid names.now table.old.items (statement_trees statements.now)) into.old.items table.new.items into.new.items) }
+    ensures ok { OnOk result (IsLaid (all_laid names.now table.old (statement_trees statements.now)) into.old.items table.new into.new.items) }
     ensures known { OnOk result (knows_all names.now (statement_trees statements.now) ≡ true) }
     ensures err { IfFault result (BreaksStatements names.now (statement_trees statements.now)) }
 {
@@ -127,12 +149,12 @@ fn lay_process(
     alloc: Global,
     names: &Names<'_>,
     item: &Item<'_>,
-    table: &mut Vec<Action>,
+    table: &mut Table,
     into: &mut Vec<Places>,
 ) -> Result<(), OrMemory<ElabFault>>
     requires names { length names.now ≤ 1024 }
     requires few { length into.old.items ≤ 256 }
-    ensures ok { OnOk result (AreLaid (laid_processes names.now table.old.items (initials_of (item_tree item.now))) into.old.items table.new.items into.new.items) }
+    ensures ok { OnOk result (AreLaid (laid_processes names.now table.old (initials_of (item_tree item.now))) into.old.items table.new into.new.items) }
     ensures few { OnOk result (length into.new.items ≤ 256) }
     ensures known { OnOk result (list_all (knows names.now) (initials_of (item_tree item.now)) ≡ true) }
     ensures err { IfFault result (BreaksProcess names.now into.old (item_tree item.now)) }
@@ -154,7 +176,7 @@ fn lay_process(
 /// The actions of all processes, and where each process begins.
 #[derive(Drop)]
 pub struct ProcessTable {
-    pub actions: Vec<Action>,
+    pub table: Table,
     pub begins: Vec<Places>,
 }
 
@@ -165,16 +187,19 @@ pub fn processes(
     items: &[Item<'_>],
 ) -> Result<ProcessTable, OrMemory<ElabFault>>
     requires { length names.now ≤ 1024 }
-    ensures ok { IfOk result (λ ps. AreLaid (laid_processes names.now [] (filter_map statement_of (map item_tree items.now))) [] ps.actions.items ps.begins.items) }
+    ensures ok { IfOk result (λ ps. AreLaid (laid_processes names.now [] (filter_map statement_of (map item_tree items.now))) [] ps.table ps.begins.items) }
     ensures few { IfOk result (λ ps. length ps.begins.items ≤ 256) }
     ensures count { OnOk result (length (filter_map statement_of (map item_tree items.now)) ≤ 256) }
     ensures known { OnOk result (list_all (knows names.now) (filter_map statement_of (map item_tree items.now)) ≡ true) }
     ensures err { IfFault result (BreaksProcesses names.now (map item_tree items.now)) }
 {
-    let mut actions = Vec::new(alloc);
+    let mut table = Table {
+        actions: Vec::new(alloc),
+        origins: Vec::new(alloc),
+    };
     let mut begins = Vec::new(alloc);
     for item in items {
-        lay_process(alloc, names, item, &mut actions, &mut begins)?;
+        lay_process(alloc, names, item, &mut table, &mut begins)?;
     }
-    Ok(ProcessTable { actions, begins })
+    Ok(ProcessTable { table, begins })
 }

@@ -47,7 +47,12 @@ unposted q = record q { posted = take (length q.posted - 1) q.posted }
 
 -- ---- what a process comes to
 
--- the action that the first of the spots names, if there is one
+-- the place that the first of the spots names, if there is one
+abbrev pub first_place : List Spot → Option ℕ
+first_place [] = None
+first_place (Doing place ∷ after) = Some place
+
+-- the action there
 abbrev pub first_action : List Action → List Spot → Option Action
 first_action actions [] = None
 first_action actions (Doing place ∷ after) = slice_get actions place

@@ -6,7 +6,7 @@ ghost use Rattle.vmodel.specs.Step.{spots, going, process_by, fares, posts, clos
 ghost use Rattle.vast.specs.Design.{Design};
 ghost use Rattle.vmodel.specs.Step as spec;
 ghost use Rattle.vmodel.specs.Choices.{choices as choices_of};
-ghost use Rattle.vmodel.specs.Inner.{IsFirstAction};
+ghost use Rattle.vmodel.specs.Inner.{IsFirstAction, first_place};
 
 use crate::choice::Choice;
 use crate::deed::{Deed, Doing, deed_of};
@@ -77,13 +77,23 @@ impl SlowState {
         }
     }
 
+    /// The place in the design's table of the action that a process comes to first, if there is one.
+    pub fn place_of(&self, number: u32) -> Option<usize>
+        ensures { result ≡ first_place (left_of (slice_get self.now.processes number)) }
+    {
+        let process = self.processes.get(number as usize)?;
+        let Spot::Doing(place) = process.first()?;
+        Some(place)
+    }
+
     // The action that a process comes to first, if there is one.
     fn action_of<'d>(&self, design: &'d Design, number: u32) -> Option<&'d Action>
         ensures { IsFirstAction design.now.actions (left_of (slice_get self.now.processes number)) result }
     {
-        let process = self.processes.get(number as usize)?;
-        let Spot::Doing(place) = process.first()?;
-        design.actions.get(place)
+        match self.place_of(number) {
+            Some(place) => design.actions.get(place),
+            None => None,
+        }
     }
 
     // A process takes one step.

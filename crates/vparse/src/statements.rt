@@ -68,22 +68,22 @@ fn assignment<'a>(cursor: &mut Cursor<'_, 'a>, target: Word<'a>) -> Result<Stmt<
     }
 }
 
-// The semicolon behind `$dumpvars` (18.1.2).
-fn dump_vars<'a>(cursor: &mut Cursor<'_, 'a>) -> Result<Stmt<'a>, OrMemory<Stop>>
+// The semicolon behind `$dumpvars`, the token of this number (18.1.2).
+fn dump_vars<'a>(cursor: &mut Cursor<'_, 'a>, at: u32) -> Result<Stmt<'a>, OrMemory<Stop>>
     ensures reads { Answers (task dump_vars) statement_tree cursor.old cursor.new result }
     ensures flat { IsFlat result }
 {
     cursor.symbol(b";")?;
-    Ok(Stmt::DumpVars)
+    Ok(Stmt::DumpVars { at })
 }
 
-// The semicolon behind `$finish` (17.4.1).
-fn finish<'a>(cursor: &mut Cursor<'_, 'a>) -> Result<Stmt<'a>, OrMemory<Stop>>
+// The semicolon behind `$finish`, the token of this number (17.4.1).
+fn finish<'a>(cursor: &mut Cursor<'_, 'a>, at: u32) -> Result<Stmt<'a>, OrMemory<Stop>>
     ensures reads { Answers (task finish) statement_tree cursor.old cursor.new result }
     ensures flat { IsFlat result }
 {
     cursor.symbol(b";")?;
-    Ok(Stmt::Finish)
+    Ok(Stmt::Finish { at })
 }
 
 /// A statement of so many levels at most (clause 9; docs/LANGUAGE.md, "Depth").
@@ -135,15 +135,15 @@ fn led<'a>(
         }
         Beginning::Hash => {
             cursor.pass();
-            delay(alloc, cursor, below)
+            delay(alloc, cursor, word.at, below)
         }
         Beginning::DumpVars => {
             cursor.pass();
-            dump_vars(cursor)
+            dump_vars(cursor, word.at)
         }
         Beginning::Finish => {
             cursor.pass();
-            finish(cursor)
+            finish(cursor, word.at)
         }
         Beginning::Other => Err(OrMemory::Fault(Stop::NoTree)),
     }
@@ -182,11 +182,12 @@ fn statements<'a>(
     Ok(found)
 }
 
-// The number and the statement behind `#` (9.7.1).
+// The number and the statement behind `#`, the token of this number (9.7.1).
 #[cycle(statements)]
 fn delay<'a>(
     alloc: Global,
     cursor: &mut Cursor<'_, 'a>,
+    at: u32,
     levels: u32,
 ) -> Result<Stmt<'a>, OrMemory<Stop>>
     ensures reads { Answers (delay_at levels) statement_tree cursor.old cursor.new result }
@@ -195,6 +196,7 @@ fn delay<'a>(
     let amount = cursor.number()?;
     let body = statement(alloc, cursor, levels)?;
     Ok(Stmt::Delay {
+        at,
         amount,
         body: Box::new(alloc, body)?,
     })

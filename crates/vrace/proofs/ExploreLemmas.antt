@@ -12,6 +12,7 @@ use Rattle.vcd_text.specs.declared.fault.WriteFault.TheVariants as write
 use Rattle.report_text.specs.Report.{Report}
 use Rattle.report_text.specs.ReportText.{report_text}
 use Rattle.vreport.specs.Ends.{HasSomeLongDump}
+use Rattle.vreport.specs.Formed.{IsFormed}
 use Rattle.vreport.specs.Reports.{IsExploration}
 use Rattle.vreport.specs.Written.{TakesReport, StopsReport as StopsOutlet}
 use Rattle.vrace.specs.Asked.{Asked}
@@ -32,12 +33,12 @@ count_of_writing (or.Fault write.Write) n = refl
 
 -- ---- of a setting
 
-module _ {W : Type 0} (contents : W → Option (List ℕ)) (setting : Setting) (limits : Limits) (report : Report) (exploration : IsExploration setting limits report) (old new : Metered W) where
+module _ {W : Type 0} (contents : W → Option (List ℕ)) (setting : Setting) (limits : Limits) (report : Report) (exploration : IsExploration setting limits report) (formed : IsFormed setting report) (old new : Metered W) where
   pub reported : (status : Status) → status ≡ status_of report → TakesReport (Written contents) setting report old new → Reports contents setting limits status old new
   reported status is taken = record {
     report = report;
     dumps = taken.dumps;
-    is_report = record { exploration = exploration; are_dumps = taken.are_dumps };
+    is_report = record { exploration = exploration; are_dumps = taken.are_dumps; formed = formed taken.dumps taken.are_dumps };
     status_is = is;
     written = taken.taken;
   }
@@ -49,7 +50,7 @@ module _ {W : Type 0} (contents : W → Option (List ℕ)) (setting : Setting) (
     is = is;
     report = report;
     dumps = stopped.dumps;
-    is_report = record { exploration = exploration; are_dumps = stopped.are_dumps };
+    is_report = record { exploration = exploration; are_dumps = stopped.are_dumps; formed = formed stopped.dumps stopped.are_dumps };
     stops = stops_of contents old new (report_text report stopped.dumps) cause stopped.stopped;
   })
 

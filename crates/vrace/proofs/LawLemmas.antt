@@ -1,5 +1,5 @@
 -- One text, one replay: from the laws of each layer.
-use Rattle.std.proofs.Common.{◌≡◌, ℕ, ◌<◌, List, [], length, Option, None, Some, Ok, Err, true, false, inl, inr, sym, ap, subst, ◌∙◌, arith, true≢false}
+use Rattle.std.proofs.Common.{◌≡◌, ℕ, ◌<◌, List, [], length, Option, None, Some, inl, inr, sym, ap, subst, ◌∙◌, arith, Ok, Err, true, false, true≢false}
 use Rattle.vsrc.specs.Source.{Source}
 use Rattle.vsrc.specs.Timescales.{is_usual}
 use Rattle.vsrc.specs.Expansion.{expansion, expanded_text}
@@ -20,8 +20,8 @@ use Rattle.sched_core.specs.declared.log.LogHead.{LogHead}
 use Rattle.vmodel.specs.Run.{Setting, rules_of, history_after}
 use Rattle.vcd_text.specs.DumpText.{vcd}
 use Rattle.vrace.specs.Asked.{Asked}
-use Rattle.vrace.specs.Replays.{texts_of, IsTreeOf, IsDesignOf, grain_under, Played, setting_of, IsDump}
-use Rattle.vrace.specs.Refusals.{IsFileReason, IsTextReason, IsRunReason, IsReason, IsOfWriting}
+use Rattle.vrace.specs.Replays.{AreRead, texts_of, IsTreeOf, IsDesignOf, grain_under, Played, setting_of, IsDump}
+use Rattle.vrace.specs.Refusals.{IsDesignFault, IsFileReason, IsTextReason, IsRunReason, IsReason, IsOfMemory, IsOfWriting}
 use Rattle.vrace.specs.declared.fault.Fault.{Fault}
 use Rattle.vrace.specs.declared.fault.Fault.TheVariants.{NotEnded, BadToken, Directive, NoMacro, Growth, LeftOpen, Timescales, NoTree, Outside, TooDeep, NotYet, NoTop, Doubled, Unknown, Width, TooMany, BadLog, NoSuchChoice, TooManySteps, OutOfLimit, BadReport, FalseEnd, FalseRace, FalseHead, Memory, Write, Read, TooLong}
 use Rattle.vreport.specs.RunLaws.{same_end, never_missing, never_more}
@@ -44,6 +44,111 @@ same_tree t u = ap tree_of where
   tree_of None = []
   tree_of (Some read) = read.0
 
+-- where files are read and have a design, only want of memory is told of them
+module _ (laws : Laws) (files : List (List ℕ)) (read : AreRead files) where
+  expands : (fault : SrcFault) → expansion files ≡ Err fault → ⊥
+  expands fault refused = let clash : Ok read.source ≡ Err fault = sym read.expanded ∙ refused in cc
+
+  is_timed : (source : Source) → expansion files ≡ Ok source → is_usual source.timescale ≡ false → ⊥
+  is_timed source expanded odd =
+      let same : read.source ≡ source = same_ok _ _ (sym read.expanded ∙ expanded) in
+      true≢false (sym read.usual ∙ ap (λ (s : Source). is_usual s.timescale) same ∙ odd)
+
+  not_for_files : (fault : Fault) → IsFileReason files fault → IsOfMemory fault
+  not_for_files (Directive at) (within, (place, refused, told)) = absurd (expands _ refused)
+  not_for_files (NoMacro at) (within, (place, refused, told)) = absurd (expands _ refused)
+  not_for_files (Growth at) (within, (place, refused, told)) = absurd (expands _ refused)
+  not_for_files (LeftOpen at) (within, (place, refused, told)) = absurd (expands _ refused)
+  not_for_files (Timescales at) (within, (place, refused, told)) = absurd (expands _ refused)
+  not_for_files (NotYet at) (within, (source, expanded, odd)) = absurd (is_timed source expanded odd)
+  not_for_files (Memory m) r = tt
+  not_for_files TooLong r = absurd (omega (arith, r, read.within))
+  not_for_files (NotEnded at) r = absurd r
+  not_for_files (BadToken at) r = absurd r
+  not_for_files (NoTree at) r = absurd r
+  not_for_files (Outside at) r = absurd r
+  not_for_files (TooDeep at) r = absurd r
+  not_for_files (NoTop at) r = absurd r
+  not_for_files (Doubled at) r = absurd r
+  not_for_files (Unknown at) r = absurd r
+  not_for_files (Width at) r = absurd r
+  not_for_files (TooMany at) r = absurd r
+  not_for_files BadLog r = absurd r
+  not_for_files NoSuchChoice r = absurd r
+  not_for_files TooManySteps r = absurd r
+  not_for_files OutOfLimit r = absurd r
+  not_for_files BadReport r = absurd r
+  not_for_files (FalseEnd i) r = absurd r
+  not_for_files (FalseRace i) r = absurd r
+  not_for_files FalseHead r = absurd r
+  not_for_files Write r = absurd r
+  not_for_files Read r = absurd r
+
+  module _ (top : Option Text) (design : Design) (is_design : IsDesignOf (expanded_text files) top design) where
+    not_for_text : (fault : Fault) → IsTextReason (expanded_text files) top fault → IsOfMemory fault
+    not_for_text (NotEnded at) r = absurd (r.0 is_design.is_tree.pieces is_design.is_tree.lexed)
+    not_for_text (BadToken at) r = absurd (r.0 is_design.is_tree.pieces is_design.is_tree.lexed)
+    not_for_text (NoTree at) r = absurd (r.1 is_design.tree is_design.is_tree)
+    not_for_text (Outside at) r = absurd (r.1 is_design.tree is_design.is_tree)
+    not_for_text (TooDeep at) r = absurd (r.1 is_design.tree is_design.is_tree)
+    not_for_text (NoTop at) (token, (none, broken)) = absurd (none design is_design)
+    not_for_text (Doubled at) (token, (none, broken)) = absurd (none design is_design)
+    not_for_text (Unknown at) (token, (none, broken)) = absurd (none design is_design)
+    not_for_text (Width at) (token, (none, broken)) = absurd (none design is_design)
+    not_for_text (TooMany at) (token, (none, broken)) = absurd (none design is_design)
+    not_for_text (Memory m) r = tt
+    not_for_text (Directive at) r = absurd r
+    not_for_text (NoMacro at) r = absurd r
+    not_for_text (Growth at) r = absurd r
+    not_for_text (LeftOpen at) r = absurd r
+    not_for_text (Timescales at) r = absurd r
+    not_for_text (NotYet at) r = absurd r
+    not_for_text BadLog r = absurd r
+    not_for_text NoSuchChoice r = absurd r
+    not_for_text TooManySteps r = absurd r
+    not_for_text OutOfLimit r = absurd r
+    not_for_text BadReport r = absurd r
+    not_for_text (FalseEnd i) r = absurd r
+    not_for_text (FalseRace i) r = absurd r
+    not_for_text FalseHead r = absurd r
+    not_for_text Write r = absurd r
+    not_for_text Read r = absurd r
+    not_for_text TooLong r = absurd r
+
+    pub not_for_design : (fault : Fault) → IsDesignFault files top fault → IsOfMemory fault
+    not_for_design fault (inl r) = not_for_files fault r
+    not_for_design fault (inr (there, r)) = not_for_text fault r
+
+of_writing : (fault : Fault) → IsOfMemory fault → IsOfWriting fault
+of_writing (Memory m) r = tt
+of_writing (NotEnded at) r = absurd r
+of_writing (BadToken at) r = absurd r
+of_writing (Directive at) r = absurd r
+of_writing (NoMacro at) r = absurd r
+of_writing (Growth at) r = absurd r
+of_writing (LeftOpen at) r = absurd r
+of_writing (Timescales at) r = absurd r
+of_writing (NoTree at) r = absurd r
+of_writing (Outside at) r = absurd r
+of_writing (TooDeep at) r = absurd r
+of_writing (NotYet at) r = absurd r
+of_writing (NoTop at) r = absurd r
+of_writing (Doubled at) r = absurd r
+of_writing (Unknown at) r = absurd r
+of_writing (Width at) r = absurd r
+of_writing (TooMany at) r = absurd r
+of_writing BadLog r = absurd r
+of_writing NoSuchChoice r = absurd r
+of_writing TooManySteps r = absurd r
+of_writing OutOfLimit r = absurd r
+of_writing BadReport r = absurd r
+of_writing (FalseEnd i) r = absurd r
+of_writing (FalseRace i) r = absurd r
+of_writing FalseHead r = absurd r
+of_writing Write r = absurd r
+of_writing Read r = absurd r
+of_writing TooLong r = absurd r
+
 module _ (laws : Laws) where
   one_tree : (text : List ℕ) (t u : SourceTree) → IsTreeOf text t → IsTreeOf text u → t ≡ u
   one_tree text t u a b =
@@ -51,7 +156,7 @@ module _ (laws : Laws) where
       let here = subst (λ ps. Derives (texts_of ps) t) pieces a.derived in
       same_tree t u (sym (laws.reads (texts_of b.pieces) t here) ∙ laws.reads (texts_of b.pieces) u b.derived)
 
-  one_design_of : (text : List ℕ) (top : Option Text) (d e : Design) → IsDesignOf text top d → IsDesignOf text top e → d ≡ e
+  pub one_design_of : (text : List ℕ) (top : Option Text) (d e : Design) → IsDesignOf text top d → IsDesignOf text top e → d ≡ e
   one_design_of text top d e a b =
       let tree = one_tree text a.tree b.tree a.is_tree b.is_tree in
       laws.one_design b.tree top d e (subst (λ t. Elaborates t top d) tree a.elaborated) b.elaborated
@@ -80,74 +185,6 @@ module _ (laws : Laws) where
         d.is_text ∙ (λ i. vcd (designs p q i) (history_after (settings p q i) ((logs p q).1 i) (steps i))) ∙ sym e.is_text
 
     module _ (dump : List ℕ) (d : IsDump files asked log dump) where
-      expands : (fault : SrcFault) → expansion files ≡ Err fault → ⊥
-      expands fault refused = let clash : Ok d.played.are_read.source ≡ Err fault = sym d.played.are_read.expanded ∙ refused in cc
-
-      is_timed : (source : Source) → expansion files ≡ Ok source → is_usual source.timescale ≡ false → ⊥
-      is_timed source expanded odd =
-          let same : d.played.are_read.source ≡ source = same_ok _ _ (sym d.played.are_read.expanded ∙ expanded) in
-          true≢false (sym d.played.are_read.usual ∙ ap (λ (s : Source). is_usual s.timescale) same ∙ odd)
-
-      not_for_files : (fault : Fault) → IsFileReason files fault → IsOfWriting fault
-      not_for_files (Directive at) (within, (place, refused, told)) = absurd (expands _ refused)
-      not_for_files (NoMacro at) (within, (place, refused, told)) = absurd (expands _ refused)
-      not_for_files (Growth at) (within, (place, refused, told)) = absurd (expands _ refused)
-      not_for_files (LeftOpen at) (within, (place, refused, told)) = absurd (expands _ refused)
-      not_for_files (Timescales at) (within, (place, refused, told)) = absurd (expands _ refused)
-      not_for_files (NotYet at) (within, (source, expanded, odd)) = absurd (is_timed source expanded odd)
-      not_for_files (Memory m) r = tt
-      not_for_files TooLong r = absurd (omega (arith, r, d.played.are_read.within))
-      not_for_files (NotEnded at) r = absurd r
-      not_for_files (BadToken at) r = absurd r
-      not_for_files (NoTree at) r = absurd r
-      not_for_files (Outside at) r = absurd r
-      not_for_files (TooDeep at) r = absurd r
-      not_for_files (NoTop at) r = absurd r
-      not_for_files (Doubled at) r = absurd r
-      not_for_files (Unknown at) r = absurd r
-      not_for_files (Width at) r = absurd r
-      not_for_files (TooMany at) r = absurd r
-      not_for_files BadLog r = absurd r
-      not_for_files NoSuchChoice r = absurd r
-      not_for_files TooManySteps r = absurd r
-      not_for_files OutOfLimit r = absurd r
-      not_for_files BadReport r = absurd r
-      not_for_files (FalseEnd i) r = absurd r
-      not_for_files (FalseRace i) r = absurd r
-      not_for_files FalseHead r = absurd r
-      not_for_files Write r = absurd r
-      not_for_files Read r = absurd r
-
-      not_for_text : (fault : Fault) → IsTextReason (expanded_text files) asked.top fault → IsOfWriting fault
-      not_for_text (NotEnded at) r = absurd (r.0 d.played.is_design.is_tree.pieces d.played.is_design.is_tree.lexed)
-      not_for_text (BadToken at) r = absurd (r.0 d.played.is_design.is_tree.pieces d.played.is_design.is_tree.lexed)
-      not_for_text (NoTree at) r = absurd (r.1 d.played.is_design.tree d.played.is_design.is_tree)
-      not_for_text (Outside at) r = absurd (r.1 d.played.is_design.tree d.played.is_design.is_tree)
-      not_for_text (TooDeep at) r = absurd (r.1 d.played.is_design.tree d.played.is_design.is_tree)
-      not_for_text (NoTop at) (token, (none, broken)) = absurd (none d.played.design d.played.is_design)
-      not_for_text (Doubled at) (token, (none, broken)) = absurd (none d.played.design d.played.is_design)
-      not_for_text (Unknown at) (token, (none, broken)) = absurd (none d.played.design d.played.is_design)
-      not_for_text (Width at) (token, (none, broken)) = absurd (none d.played.design d.played.is_design)
-      not_for_text (TooMany at) (token, (none, broken)) = absurd (none d.played.design d.played.is_design)
-      not_for_text (Memory m) r = tt
-      not_for_text (Directive at) r = absurd r
-      not_for_text (NoMacro at) r = absurd r
-      not_for_text (Growth at) r = absurd r
-      not_for_text (LeftOpen at) r = absurd r
-      not_for_text (Timescales at) r = absurd r
-      not_for_text (NotYet at) r = absurd r
-      not_for_text BadLog r = absurd r
-      not_for_text NoSuchChoice r = absurd r
-      not_for_text TooManySteps r = absurd r
-      not_for_text OutOfLimit r = absurd r
-      not_for_text BadReport r = absurd r
-      not_for_text (FalseEnd i) r = absurd r
-      not_for_text (FalseRace i) r = absurd r
-      not_for_text FalseHead r = absurd r
-      not_for_text Write r = absurd r
-      not_for_text Read r = absurd r
-      not_for_text TooLong r = absurd r
-
       not_for_run : (fault : Fault) → IsRunReason files asked log fault → IsOfWriting fault
       not_for_run BadLog (read, design, none) = absurd (none d.played.head d.played.members d.played.is_log d.played.written)
       not_for_run NoSuchChoice (played, missing) =
@@ -181,6 +218,5 @@ module _ (laws : Laws) where
       not_for_run TooLong r = absurd r
 
       pub not_refused : (fault : Fault) → IsReason files asked log fault → IsOfWriting fault
-      not_refused fault (inl (inl r)) = not_for_files fault r
-      not_refused fault (inl (inr (read, r))) = not_for_text fault r
+      not_refused fault (inl r) = of_writing fault (not_for_design laws files d.played.are_read asked.top d.played.design d.played.is_design fault r)
       not_refused fault (inr r) = not_for_run fault r

@@ -5,3 +5,4 @@ mod ExploreLemmas
 mod CheckLemmas
 mod ReadLemmas
 mod LawLemmas
+mod CheckLawLemmas

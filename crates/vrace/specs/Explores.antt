@@ -13,6 +13,7 @@ use Rattle.report_text.specs.declared.report.Outcome.{Outcome}
 use Rattle.report_text.specs.declared.report.Outcome.TheVariants as outcome
 use Rattle.report_text.specs.Report.{Report}
 use Rattle.report_text.specs.ReportText.{report_text}
+use Rattle.report_text.specs.WellFormed.{IsReport}
 use Rattle.vreport.specs.Ends.{HasSomeLongDump}
 use Rattle.vreport.specs.Reports.{IsExploration}
 use Rattle.vreport.specs.Written.{AreDumps}
@@ -36,10 +37,11 @@ status_by outcome.CutSteps = Cut
 abbrev pub status_of : Report → Status
 status_of report = cond (nat_lt 0 (length report.races)) Raced (status_by report.outcome)
 
--- a report of an exploration of the setting under the limits, and the dumps of its ends
+-- a report of an exploration of the setting under the limits, and the dumps of its ends; its text is read again
 pub record IsReported (setting : Setting) (limits : Limits) (report : Report) (dumps : List (List ℕ)) : Type 0 where
   pub exploration : IsExploration setting limits report
   pub are_dumps : AreDumps setting report.steps report.ends dumps
+  pub formed : IsReport report dumps
 
 -- ---- of a setting
 

@@ -5,5 +5,6 @@ pub mod Unique
 pub mod RunDumps
 pub mod Reads
 pub mod Places
+pub mod Numbers
 pub mod Explores
 pub mod Checks

@@ -95,6 +95,12 @@ IsTextReason text top (TooMany at) = (token : Option ℕ) × Breaks text top (el
 IsTextReason text top (Memory m) = Unit {0}
 IsTextReason text top other = ⊥
 
+-- what a fault of the log's text says
+abbrev pub IsLogFault : List ℕ → Fault → Type 0
+IsLogFault log BadLog = IsNoNamedLogText log
+IsLogFault log (Memory m) = Unit {0}
+IsLogFault log other = ⊥
+
 -- what a fault of the log or of its run says; where a writer failed there was a dump to write
 abbrev pub IsRunReason : List (List ℕ) → Asked → List ℕ → Fault → Type 0
 IsRunReason files asked log BadLog = AreRead files × ((design : Design) × IsDesignOf (expanded_text files) asked.top design) × IsNoNamedLogText log
@@ -111,6 +117,11 @@ IsDesignFault files top fault = IsFileReason files fault ⊎ (AreRead files × I
 -- why a replay is refused: for its files or their text, or for the log and its run
 abbrev pub IsReason : List (List ℕ) → Asked → List ℕ → Fault → Type 0
 IsReason files asked log fault = IsDesignFault files asked.top fault ⊎ IsRunReason files asked log fault
+
+-- want of memory
+abbrev pub IsOfMemory : Fault → Type 0
+IsOfMemory (Memory m) = Unit {0}
+IsOfMemory other = ⊥
 
 -- a fault that may come while the dump goes out
 abbrev pub IsOfWriting : Fault → Type 0
@@ -129,3 +140,7 @@ pub record IsBegun (files : List (List ℕ)) (asked : Asked) (log : List ℕ) (o
 abbrev pub Leaves : {W : Type 0} → (W → Option (List ℕ)) → List (List ℕ) → Asked → List ℕ → Fault → Metered W → Metered W → Type 0
 Leaves contents files asked log fault old new =
     (new ≡ old) ⊎ (IsOfWriting fault × IsBegun files asked log (contents old.inner) (contents new.inner))
+
+-- what a refused trace leaves: the writer as it was, unless memory or the writer failed as it went out
+abbrev pub LeavesTrace : {W : Type 0} → Fault → Metered W → Metered W → Type 0
+LeavesTrace fault old new = (new ≡ old) ⊎ IsOfWriting fault

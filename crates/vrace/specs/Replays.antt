@@ -73,6 +73,11 @@ setting_of files asked log played = record {
   grain = grain_under played.head asked.grain;
 }
 
+-- what is run: this setting, under this log
+abbrev pub IsPlay : List (List ℕ) → Asked → List ℕ → Setting → List (ℕ × ℕ) → Type 0
+IsPlay files asked log setting members =
+    (played : Played files asked log) × (setting ≡ setting_of files asked log played) × (members ≡ played.members)
+
 -- The dump of the files under the log: the value change dump of the run to its end.
 pub record IsDump (files : List (List ℕ)) (asked : Asked) (log : List ℕ) (dump : List ℕ) : Type 0 where
   pub played : Played files asked log

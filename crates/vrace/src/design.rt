@@ -1,7 +1,8 @@
 // From the bytes of the files to the design that they stand for.
 
-ghost use Rattle.std.specs.Prelude.{◌≡◌, ◌≤◌, ℕ, nat_lt, true, false, None, Some, List, Option, Ok, Err, IfOk, OnOk, IfErr, option_map};
+ghost use Rattle.std.specs.Prelude.{◌≡◌, ◌≤◌, ℕ, nat_lt, List, Option, IfOk, OnOk, IfErr, option_map, true, false, None, Some, Ok, Err};
 ghost use Rattle.vsrc.specs.Source.{Source, file_bytes};
+ghost use Rattle.vsrc.specs.Timescales.{is_usual};
 ghost use Rattle.vsrc.specs.Expansion.{expansion, expanded_text};
 ghost use Rattle.vlex.specs.Lexed.{HasNoTokens, IsTokenReason};
 ghost use Rattle.vlex.specs.Tokenized.{Tokenized, pieces_of};
@@ -11,16 +12,16 @@ ghost use Rattle.vast.specs.Derives.{HasNoTree};
 ghost use Rattle.vparse.specs.Words.{words_of};
 ghost use Rattle.vparse.specs.Faults.{IsSyntaxReason};
 ghost use Rattle.velab.specs.Reasons.{IsDesignReason, HasNoDesign};
-ghost use Rattle.vsrc.specs.Timescales.{is_usual};
 ghost use Rattle.vrace.specs.declared.fault.Fault.TheVariants.{NotYet};
 ghost use Rattle.vrace.specs.Replays.{limit, total, AreRead, IsDesignOf};
 ghost use Rattle.vrace.specs.Unique.{IsCut, IsReadAs};
-ghost use Rattle.vrace.specs.Refusals.{IsFileReason, IsTextReason, IsDesignFault};
+ghost use Rattle.vrace.specs.Refusals.{IsFileReason, IsTextReason, IsDesignFault, IsOfMemory};
 
 use crate::fault::{At, Fault};
 use crate::read::LIMIT;
-use basis::OrMemory;
+use basis::{NoMemory, OrMemory};
 use std::alloc::Global;
+use trace_text::Origins;
 use vast::design::Design;
 use vast::syntax::Ast;
 use velab::{ElabFault, elaborate};
@@ -36,17 +37,45 @@ fn at(place: Place) -> At
 }
 
 // The place of the token of this number, if there is one.
+fn place_of(tokens: &Tokens<'_>, number: u32) -> Option<Place> {
+    if number as usize <= tokens.len() {
+        Some(tokens.place(number as usize))
+    } else {
+        None
+    }
+}
+
+// The place of the token of this number, if a number is known.
 fn at_token(tokens: &Tokens<'_>, number: Option<u32>) -> At {
     match number {
         None => At(None),
-        Some(number) => {
-            if number as usize <= tokens.len() {
-                At(Some(tokens.place(number as usize)))
-            } else {
-                At(None)
-            }
+        Some(number) => At(place_of(tokens, number)),
+    }
+}
+
+/// A design, and where the statement of each of its actions begins.
+#[derive(Drop)]
+pub struct Placed {
+    pub design: Design,
+    pub origins: Origins,
+}
+
+// The design with the places of the tokens at which its statements begin.
+fn placed(alloc: Global, tokens: &Tokens<'_>, design: Design) -> Result<Placed, Fault>
+    ensures same { IfOk result (λ placed. placed.design ≡ design) }
+    ensures err { IfErr result IsOfMemory }
+{
+    let mut places = Vec::new(alloc);
+    for number in &design.origins {
+        match places.push(place_of(tokens, *number)) {
+            Ok(()) => {}
+            Err(refused) => return Err(Fault::Memory(NoMemory::from(refused))),
         }
     }
+    Ok(Placed {
+        design,
+        origins: Origins::new(places),
+    })
 }
 
 // What stops the expansion of the files.
@@ -148,8 +177,8 @@ fn tree_of<'a>(alloc: Global, tokens: &Tokens<'a>) -> Result<Ast<'a>, Fault>
 }
 
 // The design of the text.
-fn design_of_text(alloc: Global, text: &Expanded, top: Option<&[u8]>) -> Result<Design, Fault>
-    ensures ok { IfOk result (λ design. IsDesignOf text.now.text (option_map (λ name. name.now) top.entry) design) }
+fn design_of_text(alloc: Global, text: &Expanded, top: Option<&[u8]>) -> Result<Placed, Fault>
+    ensures ok { IfOk result (λ placed. IsDesignOf text.now.text (option_map (λ name. name.now) top.entry) placed.design) }
     ensures err { IfErr result (λ fault. IsTextReason text.now.text (option_map (λ name. name.now) top.entry) fault) }
 {
     let tokens = match tokens_of(alloc, text) {
@@ -161,18 +190,23 @@ fn design_of_text(alloc: Global, text: &Expanded, top: Option<&[u8]>) -> Result<
         Err(fault) => return Err(fault),
     };
     match elaborate(alloc, &ast, top) {
-        Ok(design) => Ok(design),
+        Ok(design) => placed(alloc, &tokens, design),
         Err(OrMemory::Fault(fault)) => Err(of_design(&tokens, fault)),
         Err(OrMemory::Memory(refused)) => Err(Fault::Memory(refused)),
     }
 }
 
-/// The design of the top module in the files. E904 where the files together are longer than 16,777,216 bytes; E110 to
-/// E114 where their directives and macros have such a fault; E101, E102, E2xx and E3xx only where the text that they
-/// make has no tokens, no tree, or no design; E299 where its timescale is another than 1 ns and 1 ns; E901.
-pub fn design_of(alloc: Global, files: &[Vec<u8>], top: Option<&[u8]>) -> Result<Design, Fault>
+/// The design of the top module in the files, with the places of its statements. E904 where the
+/// files together are longer than 16,777,216 bytes; E110 to E114 where their directives and macros have such a fault; E101,
+/// E102, E2xx and E3xx only where the text that they make has no tokens, no tree, or no design; E299 where its timescale is
+/// another than 1 ns and 1 ns; E901.
+pub fn placed_design_of(
+    alloc: Global,
+    files: &[Vec<u8>],
+    top: Option<&[u8]>,
+) -> Result<Placed, Fault>
     ensures read { OnOk result (AreRead (file_bytes files.now)) }
-    ensures ok { IfOk result (λ design. IsDesignOf (expanded_text (file_bytes files.now)) (option_map (λ name. name.now) top.entry) design) }
+    ensures ok { IfOk result (λ placed. IsDesignOf (expanded_text (file_bytes files.now)) (option_map (λ name. name.now) top.entry) placed.design) }
     ensures err { IfErr result (λ fault. IsDesignFault (file_bytes files.now) (option_map (λ name. name.now) top.entry) fault) }
 {
     if is_too_long(files) {
@@ -183,6 +217,18 @@ pub fn design_of(alloc: Global, files: &[Vec<u8>], top: Option<&[u8]>) -> Result
         Err(fault) => return Err(fault),
     };
     design_of_text(alloc, &text, top)
+}
+
+/// The same design, where nobody asks for places.
+pub fn design_of(alloc: Global, files: &[Vec<u8>], top: Option<&[u8]>) -> Result<Design, Fault>
+    ensures read { OnOk result (AreRead (file_bytes files.now)) }
+    ensures ok { IfOk result (λ design. IsDesignOf (expanded_text (file_bytes files.now)) (option_map (λ name. name.now) top.entry) design) }
+    ensures err { IfErr result (λ fault. IsDesignFault (file_bytes files.now) (option_map (λ name. name.now) top.entry) fault) }
+{
+    match placed_design_of(alloc, files, top) {
+        Ok(placed) => Ok(placed.design),
+        Err(fault) => Err(fault),
+    }
 }
 
 // Whether the files together are too long.

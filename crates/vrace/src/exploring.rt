@@ -1,7 +1,8 @@
 // From files to the report of an exploration.
 
-ghost use Rattle.std.specs.Prelude.{◌≡◌, IfOk, IfErr};
+ghost use Rattle.std.specs.Prelude.{◌≡◌, ◌≤◌, IfOk, IfErr};
 ghost use Rattle.vsrc.specs.Source.{file_bytes};
+ghost use Rattle.vast.specs.Names.{AreNamed};
 ghost use Rattle.vrace.specs.Asked.{asked};
 ghost use Rattle.vrace.specs.Explores.{EndsSearch, Explores, IsExploreReason, LeavesReport, Reports, status_by as status_by_outcome, status_of as status_of_report};
 ghost use Rattle.vrace.specs.RunDumps.{failures_after};
@@ -16,6 +17,7 @@ use statebook::Limits;
 use std::alloc::Global;
 use std::io::Write;
 use vcd_text::Metered;
+use velab::law::elaboration_law;
 use vmachine::Machine;
 use vreport::{report_alone, write_report};
 
@@ -59,6 +61,8 @@ fn explore_machine<W: Write>(
     limits: &Limits,
     writer: &mut Metered<W>,
 ) -> Result<Status, Fault>
+    requires named { AreNamed machine.now.design }
+    requires until { machine.now.until ≤ 4611686018427387903 }
     ensures ok { IfOk result (λ status. Reports W.contents machine.now limits.now status writer.old writer.new) }
     ensures err { IfErr result (λ fault. EndsSearch W.contents machine.now limits.now writer.old writer.new fault) }
 {
@@ -96,6 +100,7 @@ pub fn explore_text_alone<W: Write>(
     ensures left { IfErr result (λ fault. LeavesReport W.contents (file_bytes files.now) (asked options.now) options.now.limits fault writer.old writer.new) }
     ensures failures { IfErr result (λ fault. writer.new.failures ≡ failures_after fault writer.old.failures) }
 {
+    elaboration_law();
     let design = match design_of(alloc, files, options.top) {
         Ok(design) => design,
         Err(fault) => return Err(fault),

@@ -1,11 +1,12 @@
 // Every refusal, with its number and, where one is known, its place in the files.
 
 ghost use Rattle.std.specs.Prelude.{◌≡◌};
+ghost use Rattle.vrace.specs.Numbers.{detail_of, number_of};
 ghost use Rattle.vrace.specs.declared.fault.Fault.TheVariants.{Memory};
 
 use basis::NoMemory;
+use std::error::Error;
 use std::fmt;
-use thiserror::Error;
 use vsrc::Place;
 
 /// A place in the files, if one is known. It prints as ` at F:L`, the numbers of the file and of its line from 1, or as
@@ -27,94 +28,180 @@ impl fmt::Display for At {
     }
 }
 
-/// A refusal, by its number in docs/FAULTS.md. It prints as the number and the place.
-#[derive(Clone, Copy, Debug, PartialEq, Eq, Error)]
+/// A refusal, by its number in docs/FAULTS.md. It prints as `E`, the number, and the place or the item that it is about.
+#[derive(Clone, Copy, Debug, PartialEq, Eq)]
 pub enum Fault {
     /// A comment or a string isn't ended.
-    #[error("E101{0}")]
     NotEnded(At),
     /// A bad character, number or escape.
-    #[error("E102{0}")]
     BadToken(At),
     /// A directive is ill formed, not first on its line, or without its open conditional.
-    #[error("E110{0}")]
     Directive(At),
     /// The name behind a backtick has no macro.
-    #[error("E111{0}")]
     NoMacro(At),
     /// Macros or conditionals nest too deep, or the text or the number of uses grows too large.
-    #[error("E112{0}")]
     Growth(At),
     /// A conditional is left open.
-    #[error("E113{0}")]
     LeftOpen(At),
     /// A second timescale differs from the first.
-    #[error("E114{0}")]
     Timescales(At),
     /// No tree derives the words.
-    #[error("E201{0}")]
     NoTree(At),
     /// A word, operator or system name outside the profile.
-    #[error("E202{0}")]
     Outside(At),
     /// Statements and expressions nest deeper than 64.
-    #[error("E203{0}")]
     TooDeep(At),
     /// A timescale other than 1 ns and 1 ns, and none but that is run yet.
-    #[error("E299{0}")]
     NotYet(At),
     /// No module is the top.
-    #[error("E301{0}")]
     NoTop(At),
     /// A name is declared twice.
-    #[error("E302{0}")]
     Doubled(At),
     /// A name isn't declared.
-    #[error("E303{0}")]
     Unknown(At),
     /// A width or a bound is out of its limits.
-    #[error("E306{0}")]
     Width(At),
     /// Too many variables or processes.
-    #[error("E309{0}")]
     TooMany(At),
     /// The log is ill formed.
-    #[error("E401")]
     BadLog,
     /// The run has no such step, or not that choice there.
-    #[error("E402")]
     NoSuchChoice,
     /// The run takes more steps than allowed.
-    #[error("E403")]
     TooManySteps,
     /// A number is out of its limit.
-    #[error("E404")]
     OutOfLimit,
     /// The report is ill formed.
-    #[error("E501")]
     BadReport,
     /// An end of the report isn't true: its place among the ends, from 0.
-    #[error("E502 at {0}")]
     FalseEnd(usize),
     /// A race of the report isn't true: its place among the races, from 0.
-    #[error("E503 at {0}")]
     FalseRace(usize),
     /// The head of the report isn't that of the text.
-    #[error("E504")]
     FalseHead,
     /// A growth was refused.
-    #[error("E901")]
     Memory(NoMemory),
     /// The writer failed.
-    #[error("E902")]
     Write,
     /// The reader failed.
-    #[error("E903")]
     Read,
     /// The text is longer than 16,777,216 bytes.
-    #[error("E904")]
     TooLong,
 }
+
+
+/// What is told behind a number.
+#[derive(Clone, Copy, Debug, PartialEq, Eq)]
+pub enum Detail {
+    /// Nothing.
+    Nothing,
+    /// A place in the files.
+    Place(At),
+    /// The place of an item of a report, from 0.
+    Item(usize),
+}
+
+impl Fault {
+    /// Its number in docs/FAULTS.md.
+    pub fn number(&self) -> u16
+        ensures { result ≡ number_of self.now }
+    {
+        match self {
+            Fault::NotEnded(_) => 101,
+            Fault::BadToken(_) => 102,
+            Fault::Directive(_) => 110,
+            Fault::NoMacro(_) => 111,
+            Fault::Growth(_) => 112,
+            Fault::LeftOpen(_) => 113,
+            Fault::Timescales(_) => 114,
+            Fault::NoTree(_) => 201,
+            Fault::Outside(_) => 202,
+            Fault::TooDeep(_) => 203,
+            Fault::NotYet(_) => 299,
+            Fault::NoTop(_) => 301,
+            Fault::Doubled(_) => 302,
+            Fault::Unknown(_) => 303,
+            Fault::Width(_) => 306,
+            Fault::TooMany(_) => 309,
+            Fault::BadLog => 401,
+            Fault::NoSuchChoice => 402,
+            Fault::TooManySteps => 403,
+            Fault::OutOfLimit => 404,
+            Fault::BadReport => 501,
+            Fault::FalseEnd(_) => 502,
+            Fault::FalseRace(_) => 503,
+            Fault::FalseHead => 504,
+            Fault::Memory(_) => 901,
+            Fault::Write => 902,
+            Fault::Read => 903,
+            Fault::TooLong => 904,
+        }
+    }
+
+    /// What is told behind the number.
+    pub fn detail(&self) -> Detail
+        ensures { result ≡ detail_of self.now }
+    {
+        match self {
+            Fault::NotEnded(at) => Detail::Place(*at),
+            Fault::BadToken(at) => Detail::Place(*at),
+            Fault::Directive(at) => Detail::Place(*at),
+            Fault::NoMacro(at) => Detail::Place(*at),
+            Fault::Growth(at) => Detail::Place(*at),
+            Fault::LeftOpen(at) => Detail::Place(*at),
+            Fault::Timescales(at) => Detail::Place(*at),
+            Fault::NoTree(at) => Detail::Place(*at),
+            Fault::Outside(at) => Detail::Place(*at),
+            Fault::TooDeep(at) => Detail::Place(*at),
+            Fault::NotYet(at) => Detail::Place(*at),
+            Fault::NoTop(at) => Detail::Place(*at),
+            Fault::Doubled(at) => Detail::Place(*at),
+            Fault::Unknown(at) => Detail::Place(*at),
+            Fault::Width(at) => Detail::Place(*at),
+            Fault::TooMany(at) => Detail::Place(*at),
+            Fault::FalseEnd(item) => Detail::Item(*item),
+            Fault::FalseRace(item) => Detail::Item(*item),
+            Fault::BadLog => Detail::Nothing,
+            Fault::NoSuchChoice => Detail::Nothing,
+            Fault::TooManySteps => Detail::Nothing,
+            Fault::OutOfLimit => Detail::Nothing,
+            Fault::BadReport => Detail::Nothing,
+            Fault::FalseHead => Detail::Nothing,
+            Fault::Memory(_) => Detail::Nothing,
+            Fault::Write => Detail::Nothing,
+            Fault::Read => Detail::Nothing,
+            Fault::TooLong => Detail::Nothing,
+        }
+    }
+}
+
+impl fmt::Display for Detail {
+    ghost use Rattle.std.specs.Prelude.{Some};
+    ghost use Rattle.vrace.specs.Numbers.{detail_text};
+
+    ghost output = { λ detail. Some (detail_text detail) };
+
+    fn fmt<W: fmt::Write>(&self, f: &mut fmt::Formatter<W>) -> fmt::Result {
+        match self {
+            Detail::Nothing => Ok(()),
+            Detail::Place(at) => write!(f, "{at}"),
+            Detail::Item(item) => write!(f, " at {item}"),
+        }
+    }
+}
+
+impl fmt::Display for Fault {
+    ghost use Rattle.std.specs.Prelude.{Some};
+    ghost use Rattle.vrace.specs.Numbers.{fault_text};
+
+    ghost output = { λ fault. Some (fault_text fault) };
+
+    fn fmt<W: fmt::Write>(&self, f: &mut fmt::Formatter<W>) -> fmt::Result {
+        write!(f, "E{}{}", self.number(), self.detail())
+    }
+}
+
+impl Error for Fault {}
 
 impl From<NoMemory> for Fault {
     ghost from_gives = { λ m e. e ≡ Memory m };

@@ -1,11 +1,13 @@
-// That a text has one replay, and a refusal none.
+// That a text has one replay, and a refusal none; and that a true report isn't refused.
 
-ghost use Rattle.std.specs.Prelude.{◌≡◌, ℕ, List};
+ghost use Rattle.std.specs.Prelude.{◌≡◌, ℕ, ◌<◌, ◌^◌, List, length};
 ghost use Rattle.vrace.specs.Asked.{Asked};
+ghost use Rattle.vrace.specs.Checks.{IsCheckReason, IsTrueText};
 ghost use Rattle.vrace.specs.Replays.{IsDump};
-ghost use Rattle.vrace.specs.Refusals.{IsReason, IsOfWriting};
+ghost use Rattle.vrace.specs.Refusals.{IsReason, IsOfMemory, IsOfWriting};
 ghost use Rattle.vrace.specs.declared.fault.Fault.{Fault};
 
+use report_text::report_text_law;
 use sched_core::law::log_text_law;
 use velab::law::elaboration_law;
 use vlex::law::lexing_law;
@@ -21,4 +23,16 @@ pub fn replay_law()
     reading_law();
     elaboration_law();
     log_text_law();
+}
+
+/// Where all that a text lists is true of files, no fault has its reason but want of memory. So the answers Ok and a refusal
+/// of `check_text` rule each other out, for a text whose bytes can be counted in 64 bits.
+pub fn check_law()
+    ensures refused { (files : List (List ℕ)) (text : List ℕ) (fault : Fault) → length text < 2 ^ 64 → IsTrueText files text → IsCheckReason files text fault → IsOfMemory fault }
+{
+    lexing_law();
+    reading_law();
+    elaboration_law();
+    log_text_law();
+    report_text_law();
 }

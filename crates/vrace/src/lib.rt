@@ -1,6 +1,7 @@
-// The calls of the program: from the bytes of files to the dump of a run. In go files, options and the text of a log;
-// out comes the value change dump of the run under that log, or the number of a fault.
-// The law: what is written is `IsDump` of specs/Replays.antt, and each fault has the reason that specs/Refusals.antt tells.
+// The calls of the program. In go the bytes of files and options; out comes the report of an exploration, the dump of one run
+// under a log, its steps, or whether a given report is true; or the number of a fault.
+// The law: what is written is `Explores` of specs/Explores.antt, or `IsDump` of specs/Replays.antt; a report passes where it is
+// `IsTrueText` of specs/Checks.antt; and each fault has its reason (specs/Refusals.antt).
 #![tactic(auto)]
 
 mod asked;
@@ -12,11 +13,13 @@ pub mod law;
 mod options;
 mod read;
 mod replay;
+mod trace;
 mod unwatched;
 
 pub use checking::check_text;
 pub use exploring::{Status, explore_text_alone};
-pub use fault::{At, Fault};
+pub use fault::{At, Detail, Fault};
 pub use options::Options;
 pub use read::{LIMIT, read_text};
 pub use replay::{Show, replay_text};
+pub use trace::trace_text;

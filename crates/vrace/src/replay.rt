@@ -1,18 +1,19 @@
 // From files and a log to the dump of the run.
 
 ghost use Rattle.std.specs.Prelude.{◌≡◌, ◌⊎◌, ℕ, List, OnOk, IfErr};
+ghost use Rattle.sched_core.specs.LogText.{IsNamedLogText};
 ghost use Rattle.vsrc.specs.Source.{file_bytes};
 ghost use Rattle.vmodel.specs.declared.history.End.{End};
 ghost use Rattle.vmodel.specs.Played.{Finishes};
 ghost use Rattle.vcd_text.specs.DumpText.{header};
 ghost use Rattle.vcd_text.specs.Metered.{Grows};
 ghost use Rattle.vrace.specs.Asked.{asked};
-ghost use Rattle.vrace.specs.Replays.{IsDump, grain_under as grain_by};
-ghost use Rattle.vrace.specs.Refusals.{IsReason, Leaves};
+ghost use Rattle.vrace.specs.Replays.{IsDump, IsPlay, grain_under as grain_by};
+ghost use Rattle.vrace.specs.Refusals.{IsLogFault, IsReason, Leaves};
 ghost use Rattle.vreport.specs.Dumps.{HasDump, IsRunDump};
 ghost use Rattle.vrace.specs.RunDumps.{IsRunFault, StopsDump, Ends, fault_of, replay_fault_of, failures_after};
 
-use crate::design::design_of;
+use crate::design::placed_design_of;
 use crate::fault::Fault;
 use crate::options::Options;
 use crate::unwatched::Unwatched;
@@ -20,6 +21,7 @@ use basis::OrMemory;
 use sched_core::{Log, LogFault, LogHead, ReplayFault, read_named_log};
 use std::alloc::Global;
 use std::io::Write;
+use trace_text::Origins;
 use vcd_text::{Header, Metered, WriteFault};
 use vmachine::{Machine, RunFault};
 use vmodel::history::Grain;
@@ -62,7 +64,7 @@ pub(crate) fn of_writing(fault: OrMemory<WriteFault>) -> Fault
 }
 
 // Runs the design under the log where nobody watches: whether the run ends.
-fn see_end(machine: &Machine, log: &Log, steps: u32) -> Result<(), Fault>
+pub(crate) fn see_end(machine: &Machine, log: &Log, steps: u32) -> Result<(), Fault>
     ensures ends { OnOk result ((n : ℕ) × (end : End) × Finishes machine.now log.now steps n end) }
     ensures reason { IfErr result (λ fault. IsRunFault machine.now log.now steps fault) }
 {
@@ -115,6 +117,55 @@ fn dump_run<W: Write>(
     }
 }
 
+/// What is replayed: a machine, where its statements stand, and a log.
+#[derive(Drop)]
+pub(crate) struct Play {
+    pub machine: Machine,
+    pub origins: Origins,
+    pub members: Log,
+}
+
+// The members of the log, and the grain that it names, if it does.
+fn named_log_of(alloc: Global, log: &[u8]) -> Result<(LogHead, Log), Fault>
+    ensures ok { IfOk result (IsNamedLogText log.now) }
+    ensures err { IfErr result (IsLogFault log.now) }
+{
+    match read_named_log(alloc, log) {
+        Ok(named) => Ok(named),
+        Err(OrMemory::Fault(LogFault::IllFormed)) => Err(Fault::BadLog),
+        Err(OrMemory::Memory(refused)) => Err(Fault::Memory(refused)),
+    }
+}
+
+// What the files, the options and the log's text ask for.
+pub(crate) fn play_of(
+    alloc: Global,
+    files: &[Vec<u8>],
+    options: &Options<'_>,
+    log: &[u8],
+) -> Result<Play, Fault>
+    ensures ok { IfOk result (λ play. IsPlay (file_bytes files.now) (asked options.now) log.now play.machine play.members) }
+    ensures err { IfErr result (λ fault. IsReason (file_bytes files.now) (asked options.now) log.now fault) }
+{
+    let placed = match placed_design_of(alloc, files, options.top) {
+        Ok(placed) => placed,
+        Err(fault) => return Err(fault),
+    };
+    let (head, members) = match named_log_of(alloc, log) {
+        Ok(named) => named,
+        Err(fault) => return Err(fault),
+    };
+    let grain = grain_under(head, options.grain);
+    match Machine::new(alloc, placed.design, options.until, grain) {
+        Ok(machine) => Ok(Play {
+            machine,
+            origins: placed.origins,
+            members,
+        }),
+        Err(refused) => Err(Fault::Memory(refused)),
+    }
+}
+
 /// Writes the value change dump of the run of the files under the log to the writer, slot by slot. The log's text may
 /// name a grain, as `statement/5:1`; else the grain is that of the options.
 ///
@@ -136,25 +187,12 @@ pub fn replay_text<W: Write>(
     ensures left { IfErr result (λ fault. Leaves W.contents (file_bytes files.now) (asked options.now) log.now fault writer.old writer.new) }
     ensures failures { IfErr result (λ fault. writer.new.failures ≡ failures_after fault writer.old.failures) }
 {
-    let design = match design_of(alloc, files, options.top) {
-        Ok(design) => design,
+    let play = match play_of(alloc, files, options, log) {
+        Ok(play) => play,
         Err(fault) => return Err(fault),
     };
-    let (head, members) = match read_named_log(alloc, log) {
-        Ok(named) => named,
-        Err(OrMemory::Fault(LogFault::IllFormed)) => return Err(Fault::BadLog),
-        Err(OrMemory::Memory(refused)) => return Err(Fault::Memory(refused)),
-    };
-    let machine = match Machine::new(
-        alloc,
-        design,
-        options.until,
-        grain_under(head, options.grain),
-    ) {
-        Ok(machine) => machine,
-        Err(refused) => return Err(Fault::Memory(refused)),
-    };
+    let steps = options.limits.steps;
     match show {
-        Show::Dump => dump_run(alloc, &machine, &members, options.limits.steps, writer),
+        Show::Dump => dump_run(alloc, &play.machine, &play.members, steps, writer),
     }
 }

@@ -4,7 +4,7 @@ use std::io;
 
 /// A number, what it means, a text that earns it, and what to do.
 pub struct Explanation {
-    number: &'static str,
+    number: u16,
     meaning: &'static str,
     example: &'static str,
     advice: &'static str,
@@ -12,188 +12,188 @@ pub struct Explanation {
 
 const EXPLANATIONS: [Explanation; 28] = [
     Explanation {
-        number: "E101",
+        number: 101,
         meaning: "a comment or a string that begins here isn't ended",
         example: "/* no end",
         advice: "end it; a string ends on its line",
     },
     Explanation {
-        number: "E102",
+        number: 102,
         meaning: "bad character, number or escape",
         example: "8'b2, 1'b0g",
         advice: "write digits of the base, and a blank before a letter",
     },
     Explanation {
-        number: "E110",
+        number: 110,
         meaning: "a directive is ill formed, not first on its line, or without its open conditional",
         example: "x `define A 1; `else alone",
         advice: "write it first on its line, as docs/LANGUAGE.md says",
     },
     Explanation {
-        number: "E111",
+        number: 111,
         meaning: "the name behind a backtick has no macro",
         example: "`X without a `define X",
         advice: "define it before its use; a directive that docs/LANGUAGE.md doesn't list can't be used",
     },
     Explanation {
-        number: "E112",
-        meaning: "macros or conditionals nest deeper than 32, over 1,000,000 macros are used, or the text grows past 33,554,432 bytes",
+        number: 112,
+        meaning: "macros or conditionals nest deeper than 32, over 1,000,000 macros are used, or the text grows past 33,554,432 bytes; without a place, a dump that a report would hold has 2^64 bytes or more",
         example: "`define A `A and a use of A",
         advice: "take the macro out of its own text, or make less text by macros",
     },
     Explanation {
-        number: "E113",
+        number: 113,
         meaning: "a conditional that begins here is left open",
         example: "`ifdef A and no `endif",
         advice: "end it with `endif",
     },
     Explanation {
-        number: "E114",
+        number: 114,
         meaning: "a second timescale differs from the first",
         example: "`timescale 1ns/1ns and then `timescale 1ns/1ps",
         advice: "write one timescale for the whole text",
     },
     Explanation {
-        number: "E201",
+        number: 201,
         meaning: "no tree: the first token that no rule takes",
         example: "a = 1 and no semicolon; wire w;",
         advice: "look at that token and the one before it; docs/LANGUAGE.md has the grammar of today",
     },
     Explanation {
-        number: "E202",
+        number: 202,
         meaning: "a word, operator or system name outside the profile, where no rule takes it",
         example: "fork, 1 ** 2, $random",
         advice: "write it with what docs/LANGUAGE.md lists",
     },
     Explanation {
-        number: "E203",
+        number: 203,
         meaning: "statements and expressions nest deeper than 64",
         example: "begin 64 times round a statement",
         advice: "take begin and end away where one statement stands between them, or split the process",
     },
     Explanation {
-        number: "E299",
+        number: 299,
         meaning: "not yet run: a timescale other than 1 ns and 1 ns",
         example: "`timescale 1ns/1ps",
         advice: "write delays in units of 1 ns, and leave the timescale out",
     },
     Explanation {
-        number: "E301",
+        number: 301,
         meaning: "no module is the top",
         example: "a text without a module; two modules and no --top; --top of a name that isn't there",
         advice: "name the module: --top NAME",
     },
     Explanation {
-        number: "E302",
+        number: 302,
         meaning: "a name declared twice: two modules, or two variables of the top",
         example: "reg a, a;",
         advice: "rename one",
     },
     Explanation {
-        number: "E303",
+        number: 303,
         meaning: "a name that isn't declared in its module",
         example: "initial b = 1; without a reg b;",
         advice: "declare it; a declaration may stand behind its use",
     },
     Explanation {
-        number: "E306",
+        number: 306,
         meaning: "a bound that isn't 0 to 65,535 or has an unknown bit, or more than 64 bits",
         example: "reg [64:0] a;",
         advice: "split the vector",
     },
     Explanation {
-        number: "E309",
+        number: 309,
         meaning: "over 256 processes or 1,024 variables",
         example: "257 initials; reg v0, v1, .. up to v1024",
         advice: "split the testbench, or put several initials into one",
     },
     Explanation {
-        number: "E401",
+        number: 401,
         meaning: "ill-formed log",
         example: "5:0, 05:1, 9:",
         advice: "write it as docs/FORMATS.md says under Logs",
     },
     Explanation {
-        number: "E402",
+        number: 402,
         meaning: "a step that the log names isn't reached or hasn't that choice",
         example: "99:1 on a run of nine steps",
         advice: "a log is for one text and one grain: was the text changed, or --grain left out?",
     },
     Explanation {
-        number: "E403",
+        number: 403,
         meaning: "the run takes more steps than allowed; tested before E402",
         example: "--steps 2 on three assignments",
         advice: "allow more: --steps N",
     },
     Explanation {
-        number: "E404",
+        number: 404,
         meaning: "a number out of its limit",
         example: "--steps 0, --depart 5",
         advice: "look at docs/LANGUAGE.md, Limits",
     },
     Explanation {
-        number: "E501",
+        number: 501,
         meaning: "a report is ill formed",
         example: "a report that was cut short or edited",
         advice: "have explore write it anew; docs/FORMATS.md has the form under Reports",
     },
     Explanation {
-        number: "E502",
+        number: 502,
         meaning: "an end of the report isn't true; at 0 is the first one",
         example: "the text was changed behind the report",
         advice: "replay the log of that end and compare time, cause, values and dump; then explore anew",
     },
     Explanation {
-        number: "E503",
+        number: 503,
         meaning: "a race of the report isn't true; at 0 is the first one",
         example: "the logs of two values exchanged",
         advice: "replay the log of each of its values and look at the time of the race; then explore anew",
     },
     Explanation {
-        number: "E504",
+        number: 504,
         meaning: "the head of the report isn't of this text",
         example: "the report of another testbench: other variables",
         advice: "give the files that the report was made of, in their order",
     },
     Explanation {
-        number: "E901",
+        number: 901,
         meaning: "a growth of memory was refused",
         example: "a limit of ulimit -v that the text doesn't fit",
-        advice: "give the program more memory: a text takes 17 times its length",
+        advice: "give the program more memory: a text takes 12 times its length",
     },
     Explanation {
-        number: "E902",
+        number: 902,
         meaning: "standard output failed",
         example: "a full disk, a closed pipe",
         advice: "what stands written is a prefix of the dump or report: make room and call again",
     },
     Explanation {
-        number: "E903",
+        number: 903,
         meaning: "a file can't be opened, or reading failed",
         example: "a file that isn't there, a folder",
         advice: "look at the name; files are read in the order of the words",
     },
     Explanation {
-        number: "E904",
+        number: 904,
         meaning: "a file, or all files together, over 16,777,216 bytes",
         example: "a dump given for a testbench",
         advice: "leave out what isn't simulated",
     },
 ];
 
-/// The explanation of a number, if there is one.
-pub fn explanation_of(number: &str) -> Option<&'static Explanation> {
-    for row in &EXPLANATIONS {
-        if row.number == number {
-            return Some(row);
-        }
+/// The explanation of a number as it is shown, `E` and three digits, if there is one.
+pub fn explanation_of(shown: &str) -> Option<&'static Explanation> {
+    let digits = shown.strip_prefix("E")?;
+    if digits.len() != 3 {
+        return None;
     }
-    None
+    let number = digits.parse::<u16>().ok()?;
+    EXPLANATIONS.iter().find(|row| row.number == number)
 }
 
 /// Prints what a number means, an example, and what to do.
 pub fn show(rt: &impl Print, row: &Explanation) -> io::Result<()> {
-    println!(rt; "{}: {}", row.number, row.meaning)?;
+    println!(rt; "E{}: {}", row.number, row.meaning)?;
     println!(rt; "Example: {}", row.example)?;
     println!(rt; "What to do: {}", row.advice)
 }
@@ -201,7 +201,7 @@ pub fn show(rt: &impl Print, row: &Explanation) -> io::Result<()> {
 /// Prints each number with what it means.
 pub fn show_all(rt: &impl Print) -> io::Result<()> {
     for row in &EXPLANATIONS {
-        println!(rt; "{}  {}", row.number, row.meaning)?;
+        println!(rt; "E{}  {}", row.number, row.meaning)?;
     }
     Ok(())
 }

@@ -10,15 +10,18 @@ use basis::NoMemory;
 use clap::error::ErrorKind;
 use clap::{ArgMatches, Error};
 use explanations::{explanation_of, show, show_all};
+use std::alloc::Global;
 use std::fs::File;
 use std::io::{BufWriter, Write};
 use std::process::ExitCode;
 use std::{env, io};
 use vcd_text::Metered;
-use vrace::{Fault, Options, Show, Status, check_text, explore_text_alone, read_text, replay_text};
+use vrace::{
+    Fault, Options, Show, Status, check_text, explore_text_alone, read_text, replay_text, trace_text,
+};
 use words::{
     Request, commands, depart_of, entries_of, files_of, has_dashed_log, has_dashed_report,
-    has_dashed_top, log_of, report_of, request_of,
+    has_dashed_top, is_traced, log_of, report_of, request_of,
 };
 
 // What stands for the limits of exploring, which a replay doesn't read.
@@ -80,8 +83,29 @@ fn finish<W: Write>(writer: &mut Metered<W>) -> Result<(), Stop> {
     }
 }
 
+// Writes the steps of the run, or its dump.
+fn write_run<W: Write>(
+    alloc: Global,
+    texts: &[Vec<u8>],
+    options: &Options<'_>,
+    log: &[u8],
+    traced: bool,
+    writer: &mut Metered<W>,
+) -> Result<(), Fault> {
+    if traced {
+        trace_text(alloc, texts, options, log, writer)
+    } else {
+        replay_text(alloc, texts, options, log, Show::Dump, writer)
+    }
+}
+
 // Replays what is asked for onto standard output.
-fn replay(rt: &HostRuntime, request: &Request<'_>, log: &str) -> Result<ExitCode, Stop> {
+fn replay(
+    rt: &HostRuntime,
+    request: &Request<'_>,
+    log: &str,
+    traced: bool,
+) -> Result<ExitCode, Stop> {
     let options = Options::new(
         request.top.map(|name| name.as_bytes()),
         request.until,
@@ -95,12 +119,12 @@ fn replay(rt: &HostRuntime, request: &Request<'_>, log: &str) -> Result<ExitCode
         return Err(Stop::NoMemory);
     };
     let mut writer = Metered::new(buffered);
-    replay_text(
+    write_run(
         rt.alloc(),
         &texts,
         &options,
         log.as_bytes(),
-        Show::Dump,
+        traced,
         &mut writer,
     )?;
     finish(&mut writer)?;
@@ -214,7 +238,7 @@ fn replay_by<'a>(rt: &HostRuntime, matches: &ArgMatches<'a>) -> Result<ExitCode,
     let Ok(request) = request_of(rt.alloc(), matches) else {
         return Err(Stop::NoMemory);
     };
-    replay(rt, &request, log_of(matches))
+    replay(rt, &request, log_of(matches), is_traced(matches))
 }
 
 // Explores what the words ask for.

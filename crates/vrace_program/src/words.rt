@@ -68,13 +68,18 @@ fn replay_command<'a>(alloc: Global) -> Result<Command<'a>, NoMemory> {
         "The departures, as step:index joined by commas",
     )
     .default_value("-");
+    let trace = Arg::new(alloc, "trace")
+        .long("trace")
+        .action(ArgAction::SetTrue)
+        .help("Prints the steps of the run, a line each, in place of the dump");
     let command = Command::new(alloc, "replay")
-        .about("Writes the value change dump of the run under a log")
+        .about("Writes the value change dump of the run under a log, or its steps")
         .arg(top(alloc))?
         .arg(until(alloc))?
         .arg(number(alloc, "steps", "The most steps of the run", "100000"))?
         .arg(grain(alloc))?
         .arg(log)?
+        .arg(trace)?
         .arg(files(alloc))?;
     Ok(command)
 }
@@ -93,7 +98,7 @@ fn explore_command<'a>(alloc: Global) -> Result<Command<'a>, NoMemory> {
         "100000",
     );
     let command = Command::new(alloc, "explore")
-        .about("Runs every order within a number of departures; reports each end and each race")
+        .about("Runs every schedule of at most so many departures as --depart says; reports each end and each race")
         .arg(top(alloc))?
         .arg(until(alloc))?
         .arg(depart)?
@@ -169,6 +174,11 @@ pub fn log_of<'a>(matches: &ArgMatches<'a>) -> &'a str {
 /// Whether the value of `--report` reads as an option.
 pub fn has_dashed_report(matches: &ArgMatches<'_>) -> bool {
     is_dashed(matches, "report")
+}
+
+/// Whether the steps are asked for in place of the dump.
+pub fn is_traced(matches: &ArgMatches<'_>) -> bool {
+    matches.get_flag("trace")
 }
 
 /// The file of the report that is to be checked.

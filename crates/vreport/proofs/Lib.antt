@@ -2,6 +2,7 @@ pub mod RowLemmas
 pub mod OrderLemmas
 pub mod DumpLemmas
 pub mod EndLemmas
+pub mod EntriesLemmas
 pub mod ListingLemmas
 pub mod WholeLemmas
 pub mod LeadLemmas

@@ -13,7 +13,7 @@ use Rattle.report_text.specs.declared.report.Outcome.{Outcome}
 use Rattle.report_text.specs.declared.report.Outcome.TheVariants as outcome
 use Rattle.report_text.specs.declared.report.Version.TheVariants.{Two}
 use Rattle.report_text.specs.Report.{Race, Report}
-use Rattle.explore.specs.Found.{SomeRunExceeds}
+use Rattle.explore.specs.Found.{HasEntries, SomeRunExceeds}
 use Rattle.report_text.specs.WellFormed.{Each, EachTwo, IsEndBefore}
 use Rattle.vreport.specs.Ends.{IsTrueEnd, ListsEveryEnd}
 use Rattle.vreport.specs.Truth.{IsTrueHead}
@@ -69,7 +69,8 @@ pub record AreRaces (setting : Setting) (limits : Limits) (report : Report) : Ty
 
 -- The report is of this setting, explored under these limits. Each end is that of a run within the limits, each race is
 -- one. Where it says exhausted, every run of at most so many departures that ends does so in a listed end, with no fewer
--- departures than its log. Where it says that it was cut for steps, such a run takes more steps than the limit.
+-- departures than its log. Where it says that it was cut for steps, such a run takes more steps than the limit; where it says
+-- that it was cut for entries, there are so many that the exploration may come to.
 pub record IsExploration (setting : Setting) (limits : Limits) (report : Report) : Type 0 where
   pub version_is : report.version ≡ Two
   pub head : IsTrueHead setting report
@@ -80,3 +81,4 @@ pub record IsExploration (setting : Setting) (limits : Limits) (report : Report)
   pub every_end : report.outcome ≡ outcome.Exhausted → ListsEveryEnd setting limits.depart report.ends
   pub races : AreRaces setting limits report
   pub cut_for_steps : report.outcome ≡ outcome.CutSteps → SomeRunExceeds (rules_of setting) limits
+  pub cut_for_entries : report.outcome ≡ outcome.CutEntries → HasEntries (rules_of setting) limits

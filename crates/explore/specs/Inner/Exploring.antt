@@ -8,8 +8,7 @@ use Rattle.statebook.specs.Books.{Book, IsClosed, IsFinished, IsRootAt, add}
 use Rattle.statebook.specs.ExplorerCore.{IsEntry, IsMet, IsSound, budget_after, choices_of}
 use Rattle.statebook.specs.declared.entry.Entry.{Entry}
 use Rattle.statebook.specs.declared.limits.Limits.{Limits}
-use Rattle.explore.specs.Found.{SomeRunExceeds}
-use Rattle.explore.specs.Told.{AllChoicesLeadOn, Allows}
+use Rattle.explore.specs.Told.{AllChoicesLeadOn, Allows, SomeChoiceGoesPast, SomeWayGoesPast}
 use Rattle.explore.specs.declared.classes.Full.{Full}
 
 -- From s, after some steps, the forced way came to its next station after n steps in all.
@@ -30,9 +29,17 @@ pub record Follows {S : Type 0} (r : Rules S) (e : Entry S) (c : ℕ) (next : En
 abbrev pub MayBeAdded : {S : Type 0} → Rules S → Limits → Entry S → Type 0
 MayBeAdded r limits e = IsEntry r limits.depart limits.steps e
 
--- Where it is said that not every way was within the limit, some run exceeds it.
-abbrev pub CutsShort : {S : Type 0} → Rules S → Limits → Bool → Type 0
-CutsShort r limits within = within ≡ false → SomeRunExceeds r limits
+-- It is so of the entry at the place.
+abbrev pub OfEntry : {S : Type 0} → Book S → ℕ → (Entry S → Type 0) → Type 0
+OfEntry {S} b place P = (e : Entry S) → slice_get b.entries place ≡ Some e → P e
+
+-- Where it is said that not every way was within the limit of steps, a way from one of the entries goes past it.
+abbrev pub CutsShort : {S : Type 0} → Rules S → Limits → Book S → Bool → Type 0
+CutsShort r limits b within = within ≡ false → SomeWayGoesPast r limits b.entries
+
+-- So it is of the ways from the entry at the place.
+abbrev pub CutsShortAt : {S : Type 0} → Rules S → Limits → Book S → ℕ → Bool → Type 0
+CutsShortAt r limits b place within = within ≡ false → OfEntry b place (SomeChoiceGoesPast r limits)
 
 -- The work was stopped by the limit of entries.
 abbrev pub StoppedFull : Result Bool (OrMemory Full) → Type 0
@@ -46,23 +53,23 @@ pub record BookGrows {S : Type 0} (old new : Book S) (budget : ℕ) : Type 0 whe
 
 -- It grew so by the choices of the entry at the place.
 abbrev pub GrowsFrom : {S : Type 0} → Book S → Book S → ℕ → Type 0
-GrowsFrom {S} old new place = (e : Entry S) → slice_get old.entries place ≡ Some e → BookGrows old new e.budget
+GrowsFrom old new place = OfEntry old place (λ e. BookGrows old new e.budget)
 
 -- The entry at the place allows the choice.
 abbrev pub AllowsAt : {S : Type 0} → Rules S → Book S → ℕ → ℕ → Type 0
-AllowsAt {S} r b place c = (e : Entry S) → slice_get b.entries place ≡ Some e → Allows r e c
+AllowsAt r b place c = OfEntry b place (λ e. Allows r e c)
 
 -- The entry at place j dominates the next station after choice c of the entry at the place.
 abbrev pub IsMetAt : {S : Type 0} → Rules S → Book S → ℕ → ℕ → ℕ → Type 0
-IsMetAt {S} r b place c j = (e : Entry S) → slice_get b.entries place ≡ Some e → IsMet r b.entries e c j
+IsMetAt r b place c j = OfEntry b place (λ e. IsMet r b.entries e c j)
 
 -- All choices of the entry at the place lead on.
 abbrev pub LeadsOnAt : {S : Type 0} → Rules S → Limits → Book S → ℕ → Type 0
-LeadsOnAt {S} r limits b place = (e : Entry S) → slice_get b.entries place ≡ Some e → AllChoicesLeadOn r limits b.entries e
+LeadsOnAt r limits b place = OfEntry b place (AllChoicesLeadOn r limits b.entries)
 
 -- No more entries were added than the entry at the place has choices.
 abbrev pub AddsFew : {S : Type 0} → Rules S → Book S → ℕ → Book S → Type 0
-AddsFew {S} r old place new = (e : Entry S) → slice_get old.entries place ≡ Some e → length new.entries ≤ length old.entries + choices_of (r.width e.state) e.budget
+AddsFew r old place new = OfEntry old place (λ e. length new.entries ≤ length old.entries + choices_of (r.width e.state) e.budget)
 
 -- A state's choices are counted by 32 bits, so there are fewer than this.
 abbrev pub width_limit : ℕ
@@ -86,9 +93,13 @@ IsSameOrAdded old e new = (new ≡ old) ⊎ (new ≡ add old e)
 abbrev pub AllFinished : {S : Type 0} → Book S → Type 0
 AllFinished {S} b = (i : ℕ) (e : Entry S) → slice_get b.entries i ≡ Some e → IsFinished b i
 
+-- It is so of each place that has an entry with just this budget.
+abbrev pub EachWith : {S : Type 0} → Book S → ℕ → (ℕ → Type 0) → Type 0
+EachWith {S} b budget P = (i : ℕ) (e : Entry S) → slice_get b.entries i ≡ Some e → e.budget ≡ budget → P i
+
 -- Each entry with just this budget is finished.
 abbrev pub FinishedAt : {S : Type 0} → Book S → ℕ → Type 0
-FinishedAt {S} b budget = (i : ℕ) (e : Entry S) → slice_get b.entries i ≡ Some e → e.budget ≡ budget → IsFinished b i
+FinishedAt b budget = EachWith b budget (IsFinished b)
 
 -- The entry at the place was visited: all its choices lead on, and as it was taken there were fewer entries than the limit.
 pub record WasVisited {S : Type 0} (r : Rules S) (limits : Limits) (entries : List (Entry S)) (place : ℕ) : Type 0 where
@@ -103,13 +114,21 @@ AllVisited {S} r limits b = (i : ℕ) (e : Entry S) → slice_get b.entries i �
 
 -- Each entry with just this budget was visited.
 abbrev pub VisitedAt : {S : Type 0} → Rules S → Limits → Book S → ℕ → Type 0
-VisitedAt {S} r limits b budget = (i : ℕ) (e : Entry S) → slice_get b.entries i ≡ Some e → e.budget ≡ budget → WasVisited r limits b.entries i
+VisitedAt r limits b budget = EachWith b budget (WasVisited r limits b.entries)
 
 -- Some list of places closes the book, from the root's at 0.
 abbrev pub Closes : {S : Type 0} → Book S → Type 0
 Closes b = (all : List ℕ) × IsClosed b 0 all
 
+-- Each of the places is below the count.
+abbrev pub AreBelow : List ℕ → ℕ → Type 0
+AreBelow places count = (c j : ℕ) → slice_get places c ≡ Some j → j < count
+
+-- It is finished at the place, and names only places of entries.
+abbrev pub NamesEntries : {S : Type 0} → Book S → ℕ → Type 0
+NamesEntries b i = (places : List ℕ) × (slice_get b.finished i ≡ Some (Some places)) × AreBelow places (length b.entries)
+
 -- Each entry is finished and names only places of entries.
 pub record IsComplete {S : Type 0} (b : Book S) : Type 0 where
   pub root : IsRootAt b.entries 0
-  pub places : (i : ℕ) → i < length b.entries → (places : List ℕ) × (slice_get b.finished i ≡ Some (Some places)) × ((c j : ℕ) → slice_get places c ≡ Some j → j < length b.entries)
+  pub places : (i : ℕ) → i < length b.entries → NamesEntries b i

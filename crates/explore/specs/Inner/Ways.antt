@@ -5,7 +5,7 @@ use Rattle.statebook.specs.Stations.{is_station, forced}
 use Rattle.statebook.specs.declared.entry.Entry.{Entry}
 use Rattle.statebook.specs.declared.limits.Limits.{Limits}
 use Rattle.explore.specs.Told.{ChoiceGoesPast, GoesPast}
-use Rattle.explore.specs.Inner.Exploring.{ComesTo, IsUnderWay}
+use Rattle.explore.specs.Inner.Exploring.{ComesTo, IsUnderWay, OfEntry}
 use Rattle.explore.specs.declared.search.Onward.{Onward}
 use Rattle.explore.specs.declared.search.Landmark.{Landmark}
 use Rattle.explore.specs.declared.search.Search.{Search}
@@ -40,7 +40,7 @@ AllLead {S} r entries ways = (i : ℕ) (p : S × Onward) → slice_get ways i �
 
 -- After choice c of the entry at the place the way goes past the step limit.
 abbrev pub PastFrom : {S : Type 0} → Rules S → Limits → Search S → ℕ → ℕ → Type 0
-PastFrom {S} r limits s place c = (e : Entry S) → slice_get s.book.entries place ≡ Some e → ChoiceGoesPast r limits e c
+PastFrom r limits s place c = OfEntry s.book place (λ e. ChoiceGoesPast r limits e c)
 
 -- With so many more, no more states are remembered than there are entries and room beside.
 abbrev pub HasRoomFor : {S : Type 0} → Search S → ℕ → Type 0
@@ -60,9 +60,13 @@ IsKnownAs {S} same ways s onward = (i : ℕ) × (p : S × Onward) × (slice_get 
 abbrev pub IsUnknown : {S : Type 0} → (S → S → Bool) → List (S × Onward) → S → Type 0
 IsUnknown {S} same ways s = (i : ℕ) (p : S × Onward) → slice_get ways i ≡ Some p → same s p.0 ≡ false
 
+-- Something is remembered of a state equal to this one.
+abbrev pub IsKnown : {S : Type 0} → (S → S → Bool) → List (S × Onward) → S → Type 0
+IsKnown same ways s = (onward : Onward) × IsKnownAs same ways s onward
+
 -- Something is remembered of each landmark's state.
 abbrev pub AreKnown : {S : Type 0} → (S → S → Bool) → List (Landmark S) → List (S × Onward) → Type 0
-AreKnown {S} same landmarks ways = (i : ℕ) (l : Landmark S) → slice_get landmarks i ≡ Some l → (onward : Onward) × IsKnownAs same ways l.state onward
+AreKnown {S} same landmarks ways = (i : ℕ) (l : Landmark S) → slice_get landmarks i ≡ Some l → IsKnown same ways l.state
 
 -- From each landmark the way comes to t, after n steps in all.
 abbrev pub AllCome : {S : Type 0} → Rules S → List (Landmark S) → S → ℕ → Type 0
@@ -72,9 +76,13 @@ AllCome {S} r landmarks t n = (i : ℕ) (l : Landmark S) → slice_get landmarks
 abbrev pub AllComeTo : {S : Type 0} → Rules S → List (Landmark S) → Entry S → Type 0
 AllComeTo r landmarks e = AllCome r landmarks e.state e.steps
 
+-- The landmark is within the limit of steps, and no station stands on the way from it up to that limit.
+abbrev pub LandmarkGoesPast : {S : Type 0} → Rules S → Limits → Landmark S → Type 0
+LandmarkGoesPast r limits l = (l.taken ≤ limits.steps) × GoesPast r l.state l.taken limits.steps
+
 -- Each landmark is within the limit of steps, and no station stands on the way from it up to that limit.
 abbrev pub AllGoPast : {S : Type 0} → Rules S → List (Landmark S) → Limits → Type 0
-AllGoPast {S} r landmarks limits = (i : ℕ) (l : Landmark S) → slice_get landmarks i ≡ Some l → (l.taken ≤ limits.steps) × GoesPast r l.state l.taken limits.steps
+AllGoPast {S} r landmarks limits = (i : ℕ) (l : Landmark S) → slice_get landmarks i ≡ Some l → LandmarkGoesPast r limits l
 
 -- No landmark stands behind so many steps.
 abbrev pub AllBefore : {S : Type 0} → List (Landmark S) → ℕ → Type 0
@@ -94,9 +102,14 @@ pub record IsOfLandmark {S : Type 0} (same : S → S → Bool) (landmarks : List
   pub equal : same landmark.state known.0 ≡ true
   pub onward : known.1 ≡ record { steps = end - landmark.taken; station = station }
 
--- What is remembered was so before, or is of a landmark.
+-- It was remembered before, or is of a landmark.
+abbrev pub IsOldOrOfLandmark : {S : Type 0} → (S → S → Bool) → List (S × Onward) → List (Landmark S) → ℕ → Option ℕ → S × Onward → Type 0
+IsOldOrOfLandmark same old landmarks end station p = ((j : ℕ) × (slice_get old j ≡ Some p)) ⊎ IsOfLandmark same landmarks end station p
+
+-- So it is of all that is remembered.
 abbrev pub AreRemembered : {S : Type 0} → (S → S → Bool) → List (S × Onward) → List (Landmark S) → ℕ → Option ℕ → List (S × Onward) → Type 0
-AreRemembered {S} same old landmarks end station new = (i : ℕ) (p : S × Onward) → slice_get new i ≡ Some p → ((j : ℕ) × (slice_get old j ≡ Some p)) ⊎ IsOfLandmark same landmarks end station p
+AreRemembered {S} same old landmarks end station new =
+    (i : ℕ) (p : S × Onward) → slice_get new i ≡ Some p → IsOldOrOfLandmark same old landmarks end station p
 
 -- The search remembers nothing more.
 abbrev pub RemembersNoMore : {S : Type 0} → (S → S → Bool) → Search S → List (Landmark S) → ℕ → Option ℕ → Search S → Type 0

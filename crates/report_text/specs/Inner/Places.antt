@@ -1,5 +1,6 @@
 -- Where a reader stands in a text.
 use Rattle.std.specs.Prelude.{◌≡◌, ℕ, ◌<◌, ◌^◌, Bool, true, List, ◌∷◌, ◌++◌, decimal}
+use Rattle.report_text.specs.Inner.Fronts.{IsCut}
 
 -- what is left to be read, and whether all that was asked for stood in front of it
 pub record Place : Type 0 where
@@ -25,3 +26,7 @@ TakesEach {A} old new Stood x = (y : A) (rest : List ℕ) → old.ok ≡ true �
 -- the decimal of a number of 64 bits, then the byte
 abbrev pub IsNumberFront : ℕ → List ℕ → ℕ → List ℕ → Type 0
 IsNumberFront byte text n rest = (n < 2 ^ 64) × (text ≡ decimal n ++ byte ∷ rest)
+
+-- where the reader wasn't lost, the fact holds of the two sides of the first such byte of what stood there
+abbrev pub EachCut : ℕ → Place → (List ℕ → List ℕ → Type 0) → Type 0
+EachCut byte old P = (left right : List ℕ) → old.ok ≡ true → IsCut byte old.rest left right → P left right

@@ -1,7 +1,7 @@
-use Rattle.std.proofs.Common.{◌≡◌, length, subst, refl, true, false}
+use Rattle.std.proofs.Common.{◌≡◌, length, subst, refl, true}
 use Rattle.statebook.specs.Books.{Book, IsUndominated}
-use Rattle.explore.specs.Inner.Exploring.{AllFinished, CutsShort}
-use Rattle.explore.proofs.AloneLemmas.{Left, complete, exhausted, fewest, has_entries, root_is_bounded, stopped, tells_of_book, through_value}
+use Rattle.explore.specs.Inner.Exploring.{AllFinished}
+use Rattle.explore.proofs.AloneLemmas.{Left, complete, cut_steps, exhausted, fewest, has_entries, root_is_bounded, stopped, tells_of_book, through_value}
 use Rattle.explore.proofs.alone.explore_alone.Given.{Over}
 use Rattle.explore.proofs.alone.explore_alone.Goals as goal
 
@@ -26,6 +26,7 @@ left g c =
       agree = g.met.P.Space.same_is_eq c.args.space.now;
       bounded = c.visit_all-visited.ensures.bounded;
       visited_all = c.visit_all-visited.ensures.all;
+      past = c.visit_all-visited.ensures.past;
       full = c.visit_all-visited.ensures.full;
       exhausted = c.status_of-status.ensures.exhausted;
       entries = c.status_of-status.ensures.entries;
@@ -48,8 +49,8 @@ returns-clause-entries g c = λ t.
     has_entries (g.P.Space.rules c.args.space.now) c.args.limits.now g.P.State.PartialEq.eq h.agree c.visit_all-visited.new.search.book h.under_way h.apart (stopped c.visit_all-visited.result (c.status_of-status.ensures.entries t) h.full)
 
 pub returns-clause-steps : goal.returns-clause-steps
-returns-clause-steps g c = λ t.
-    through_value c.visit_all-visited.result false (CutsShort (g.P.Space.rules c.args.space.now) c.args.limits.now) (c.status_of-status.ensures.steps t) c.visit_all-visited.ensures.past refl
+returns-clause-steps g c =
+    cut_steps (g.P.Space.rules c.args.space.now) (g.met.P.Space.lawful c.args.space.now) c.args.limits.now g.P.State.PartialEq.eq c.visit_all-visited.new.search.book c.visit_all-visited.result _ (left g c)
 
 pub returns-clause-book : goal.returns-clause-book
 returns-clause-book g c = tells_of_book (g.P.Space.rules c.args.space.now) c.args.limits.now g.P.State.PartialEq.eq c.visit_all-visited.new.search.book c.visit_all-visited.result _ (left g c) c.in_ok-marks.ensures.read

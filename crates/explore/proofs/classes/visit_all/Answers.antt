@@ -1,7 +1,7 @@
 use Rattle.std.proofs.Common.{◌≡◌, ◌+◌, ◌-◌, ◌∙◌, ℕ, sym, arith}
 use Rattle.statebook.specs.Books.{IsFinished}
 use Rattle.explore.specs.Inner.Exploring.{WasVisited}
-use Rattle.explore.proofs.ClassLemmas.{from_next, none_over, visited_later}
+use Rattle.explore.proofs.ClassLemmas.{from_next, none_over, past_later, visited_later}
 use Rattle.explore.proofs.VisitLemmas.{true_not_false}
 use Rattle.explore.proofs.classes.visit_all.Goals as goal
 use Rattle.explore.proofs.classes.visit_all.Goals.{then-not-branch, else-not-branch}
@@ -44,7 +44,7 @@ loop-departures-preserved g c =
       visited = from_next (WasVisited r limits old.entries) (WasVisited r limits new.entries) old new before budget after next here (visited_later r limits old new budget grows) grows i.visited c.in_ok-visit_class.ensures.all;
       past = λ t. elim c.if-not-branch.branch [
         | then-not-branch w ↦ c.in_ok-visit_class.ensures.past w.if-not-branch.true
-        | else-not-branch w ↦ i.past (sym w.within-is ∙ t)
+        | else-not-branch w ↦ past_later r limits old new budget grows (i.past (sym w.within-is ∙ t))
       ];
     }
 

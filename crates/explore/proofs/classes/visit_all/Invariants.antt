@@ -1,7 +1,6 @@
 use Rattle.std.proofs.Common.{◌≡◌, ◌+◌, ◌-◌, ◌≤◌, true, false, length}
 use Rattle.statebook.specs.Books.{IsFinished}
-use Rattle.explore.specs.Found.{SomeRunExceeds}
-use Rattle.explore.specs.Told.{IsBounded}
+use Rattle.explore.specs.Told.{IsBounded, SomeWayGoesPast}
 use Rattle.explore.specs.Inner.Exploring.{WasVisited, width_limit}
 use Rattle.explore.specs.Inner.Ways.{IsSearching}
 use Rattle.explore.proofs.ClassLemmas.{EachFrom}
@@ -14,5 +13,5 @@ invariant-loop-departures g l = record {
   bounded : IsBounded (g.P.Space.rules l.space) l.limits.entries l.search.book.entries;
   finished : l.within ≡ true → EachFrom (IsFinished l.search.book) l.search.book (l.limits.depart + 1 - l.departures);
   visited : EachFrom (WasVisited (g.P.Space.rules l.space) l.limits l.search.book.entries) l.search.book (l.limits.depart + 1 - l.departures);
-  past : l.within ≡ false → SomeRunExceeds (g.P.Space.rules l.space) l.limits;
+  past : l.within ≡ false → SomeWayGoesPast (g.P.Space.rules l.space) l.limits l.search.book.entries;
 }

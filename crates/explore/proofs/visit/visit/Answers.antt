@@ -1,12 +1,12 @@
 use Rattle.std.proofs.Common.{length, ◌≡◌, ◌+◌, ◌<◌, ◌++◌, ◌∷◌, [], ◌∙◌, sym, subst, arith, slice_get, Some, List, ℕ, ap, inl, inr}
+use Rattle.std.proofs.lemmas.Option.{same_Some}
 use Rattle.statebook.specs.ExplorerCore.{AllMet, choices_of}
 use Rattle.statebook.specs.declared.entry.Entry.{Entry}
-use Rattle.explore.specs.Told.{LeadsOn}
+use Rattle.explore.specs.Told.{Allows, LeadsOn}
 use Rattle.explore.specs.Inner.Exploring.{BookGrows, IsMetAt}
 use Rattle.explore.specs.Inner.Ways.{PastFrom}
 use Rattle.explore.specs.declared.ways.TheConstants.{ROOM}
-use Rattle.explore.proofs.NextLemmas.{exceeds}
-use Rattle.explore.proofs.VisitLemmas.{HasMet, Finishes, finishes, finished_now, leads_all, leads_done, leads_more, under_way_done, grows_done, grows_twice, grows_on, all_met, met_more, place_within, still_there, true_not_false, room_done}
+use Rattle.explore.proofs.VisitLemmas.{HasMet, Finishes, finishes, finished_now, leads_all, leads_done, leads_more, under_way_done, grows_done, grows_twice, grows_on, all_met, met_more, past_at, place_within, still_there, true_not_false, room_done}
 use Rattle.explore.proofs.WaysLemmas.{lead_later}
 use Rattle.explore.proofs.visit.visit.Given.{Over}
 use Rattle.explore.proofs.visit.visit.Goals as goal
@@ -68,13 +68,25 @@ loop-choice-preserved g c =
       leads = leads_more r c.args.limits.now c.args.search.now.book c.loop-choice.search.book c.meet_choice.new.search.book c.args.place c.loop-choice.choice i.leads growth (leads_on g c);
       past = λ t. elim c.match-branch-2.branch [
         | in-Some+in_ok-push-in-Some w ↦ i.past (sym w.within-is ∙ t)
-        | in-None w ↦ (
-            let e = c.read.result.now in
-            let P : PastFrom r c.args.limits.now c.meet_choice.new.search c.args.place c.loop-choice.choice = rw w.in-None.is at c.in_ok-at.ensures.past in
-            exceeds r (g.met.P.Space.lawful c.args.space.now) c.args.limits.now e c.loop-choice.choice (c.requires.searching.under_way.sound.entry c.args.place e c.read.ensures)
-            (omega (arith, c.loop-choice-test.true, c.choice_count-count.ensures)) (P e (there g c e c.read.ensures)))
+        | in-None w ↦ (λ e at.
+            (let P : PastFrom r c.args.limits.now c.meet_choice.new.search c.args.place c.loop-choice.choice = rw w.in-None.is at c.in_ok-at.ensures.past in
+            let itself : c.read.result.now ≡ e = same_Some _ _ (sym c.read.ensures ∙ at) in
+            let A : Entry g.row.P-State.Denot → Type 0 = λ x. Allows r x c.loop-choice.choice in
+            record {
+              choice = c.loop-choice.choice;
+              allowed = subst A itself (omega (arith, c.loop-choice-test.true, c.choice_count-count.ensures));
+              past = P e (there g c e at);
+            }))
       ];
     }
+
+pub returns-then-within-clause-past : goal.returns-then-within-clause-past
+returns-then-within-clause-past g c = λ t. absurd (true_not_false (sym c.if-within.true ∙ t))
+
+pub returns-else-within-clause-past : goal.returns-else-within-clause-past
+returns-else-within-clause-past g c = λ t.
+    past_at (g.P.Space.rules c.args.space.now) c.args.limits.now c.args.search.now.book c.loop-choice.search.book c.args.place c.read.result.now (c.loop-choice.invariant.past t c.read.result.now c.read.ensures) c.read.ensures
+    (c.loop-choice.invariant.grows c.read.result.now c.read.ensures)
 
 pub finish-requires : goal.finish-requires
 finish-requires g c =

@@ -1,5 +1,6 @@
-use Rattle.std.proofs.Common.{◌≡◌, ◌+◌, ◌≤◌, true, false, length}
-use Rattle.explore.specs.Found.{SomeRunExceeds}
+use Rattle.std.proofs.Common.{◌≡◌, ◌+◌, ◌≤◌, true, false, length, slice_get, Some}
+use Rattle.statebook.specs.declared.entry.Entry.{Entry}
+use Rattle.explore.specs.Told.{SomeChoiceGoesPast}
 use Rattle.explore.specs.Inner.Exploring.{GrowsFrom}
 use Rattle.explore.specs.Inner.Ways.{IsSearching}
 use Rattle.explore.proofs.VisitLemmas.{HasMet, LeadUpTo}
@@ -12,5 +13,5 @@ invariant-loop-choice g l = record {
   grows : GrowsFrom l.initial.search.book l.search.book l.place;
   met : l.within ≡ true → HasMet (g.P.Space.rules l.space) l.initial.search.book l.search.book l.place l.choice l.next.items;
   leads : LeadUpTo (g.P.Space.rules l.space) l.limits l.initial.search.book l.search.book l.place l.choice;
-  past : l.within ≡ false → SomeRunExceeds (g.P.Space.rules l.space) l.limits;
+  past : l.within ≡ false → (e : Entry g.row.P-State.Denot) → slice_get l.initial.search.book.entries l.place ≡ Some e → SomeChoiceGoesPast (g.P.Space.rules l.space) l.limits e;
 }

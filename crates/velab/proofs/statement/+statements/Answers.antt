@@ -7,8 +7,8 @@ use Rattle.velab.proofs.statement.+statements.Goals as goal
 
 pub lay-returns-in-Block-clause-ok : goal.lay-returns-in-Block-clause-ok
 lay-returns-in-Block-clause-ok t c =
-    subst (λ (x : Laid). OnOk c.lay_all.result (IsLaid x c.args.into.now.items c.lay_all.new.table.items c.lay_all.new.into.items))
-    (block_laid c.args.names.now c.args.statement.now c.in-Block.statements c.deref.result.now c.in-Block.is c.deref.ensures.value c.args.table.now.items)
+    subst (λ (x : Laid). OnOk c.lay_all.result (IsLaid x c.args.into.now.items c.lay_all.new.table c.lay_all.new.into.items))
+    (block_laid c.args.names.now c.args.statement.now c.in-Block.statements c.deref.result.now c.in-Block.is c.deref.ensures.value c.args.table.now)
     c.lay_all.ensures.ok
 
 pub lay-returns-in-Block-clause-known : goal.lay-returns-in-Block-clause-known

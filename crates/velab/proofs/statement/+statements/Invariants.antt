@@ -6,7 +6,7 @@ use Rattle.velab.proofs.statement.+statements.Given as goal
 
 abbrev pub invariant-lay_all-loop-statement : goal.invariant-lay_all-loop-statement
 invariant-lay_all-loop-statement l = record {
-  ok : Leads l.names l.table.items l.into.items (statement_trees (drop l.statement-index l.statements))
-      (all_laid l.names l.initial.table.items (statement_trees l.statements)) l.initial.into.items;
+  ok : Leads l.names l.table l.into.items (statement_trees (drop l.statement-index l.statements))
+      (all_laid l.names l.initial.table (statement_trees l.statements)) l.initial.into.items;
   known : knows_all l.names (statement_trees (drop l.statement-index l.statements)) ≡ knows_all l.names (statement_trees l.statements);
 }

@@ -7,7 +7,7 @@ use Rattle.velab.proofs.statement.processes.Given as goal
 
 abbrev pub invariant-loop-item : goal.invariant-loop-item
 invariant-loop-item l = record {
-  ok : LeadTo l.names l.actions.items l.begins.items (filter_map statement_of (map item_tree (drop l.item-index l.items)))
+  ok : LeadTo l.names l.table l.begins.items (filter_map statement_of (map item_tree (drop l.item-index l.items)))
       (laid_processes l.names [] (filter_map statement_of (map item_tree l.items)));
   known : list_all (knows l.names) (filter_map statement_of (map item_tree (drop l.item-index l.items)))
       ≡ list_all (knows l.names) (filter_map statement_of (map item_tree l.items));

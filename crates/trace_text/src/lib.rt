@@ -1,0 +1,10 @@
+// The trace of a run: a line for each step, a line for each slot end, and a line for the run's end (docs/FORMATS.md,
+// "Traces"). In go a machine, a log and the places of the statements; out come bytes in a writer.
+// No clause says which bytes: a trace is for people, and cases compare it.
+#![tactic(auto)]
+
+mod line;
+mod write;
+
+pub use line::Origins;
+pub use write::write_trace;

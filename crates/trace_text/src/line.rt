@@ -1,0 +1,295 @@
+// The lines of a trace, word by word.
+
+use basis::NoMemory;
+use itoa::Buffer;
+use std::alloc::Global;
+use vast::design::Design;
+use vbits::Vec4;
+use vcd_text::put_digits;
+use vmodel::SlowState;
+use vmodel::choice::Choice;
+use vmodel::deed::{Deed, Fate};
+use vmodel::history::{Cause, DumpCommand, End};
+use vmodel::part::Part;
+use vsrc::Place;
+
+/// Where the statement of each action of a design begins, by its place in the design's table.
+#[derive(Drop)]
+pub struct Origins {
+    places: Vec<Option<Place>>,
+}
+
+impl Origins {
+    /// These places, none where one isn't known.
+    pub fn new(places: Vec<Option<Place>>) -> Origins {
+        Origins { places }
+    }
+
+    // The place of the action of this number, if it is known.
+    fn place(&self, action: Option<usize>) -> Option<Place> {
+        *self.places.get(action?)?
+    }
+}
+
+// What a line tells of a step before what the step did.
+#[derive(Clone, Copy)]
+struct Taken {
+    number: u32,
+    time: u64,
+    index: u32,
+    width: u32,
+    choice: Choice,
+    // The place in the design's table of the action that its process came to.
+    action: Option<usize>,
+}
+
+fn put_number(text: &mut Vec<u8>, n: u64) -> Result<(), NoMemory> {
+    let mut buffer = Buffer::new();
+    text.extend_from_slice(buffer.format(n).as_bytes())?;
+    Ok(())
+}
+
+// A word, and a number behind it.
+fn put_counted(text: &mut Vec<u8>, word: &[u8], n: u64) -> Result<(), NoMemory> {
+    text.extend_from_slice(word)?;
+    put_number(text, n)
+}
+
+// ` at F:L`, where the place is known.
+fn put_place(text: &mut Vec<u8>, place: Option<Place>) -> Result<(), NoMemory> {
+    match place {
+        None => Ok(()),
+        Some(place) => {
+            put_counted(text, b" at ", place.file as u64)?;
+            put_counted(text, b":", place.line as u64)
+        }
+    }
+}
+
+// Who takes the step.
+fn put_choice(text: &mut Vec<u8>, choice: Choice, place: Option<Place>) -> Result<(), NoMemory> {
+    match choice {
+        Choice::Run(process) => {
+            put_counted(text, b" process ", process as u64)?;
+            put_place(text, place)
+        }
+        Choice::Update => {
+            text.extend_from_slice(b" update")?;
+            Ok(())
+        }
+        Choice::Advance => Ok(()),
+    }
+}
+
+// The front of a step's line.
+fn put_taken(text: &mut Vec<u8>, taken: Taken, origins: &Origins) -> Result<(), NoMemory> {
+    put_counted(text, b"step ", taken.number as u64)?;
+    put_counted(text, b" time ", taken.time)?;
+    put_counted(text, b" choice ", taken.index as u64)?;
+    put_counted(text, b" of ", taken.width as u64)?;
+    put_choice(text, taken.choice, origins.place(taken.action))
+}
+
+// The name of a variable.
+fn put_name(text: &mut Vec<u8>, design: &Design, variable: u32) -> Result<(), NoMemory> {
+    text.push(b' ')?;
+    match design.variables.get(variable as usize) {
+        None => Ok(()),
+        Some(variable) => {
+            text.extend_from_slice(&variable.name)?;
+            Ok(())
+        }
+    }
+}
+
+fn put_value(text: &mut Vec<u8>, value: Vec4) -> Result<(), NoMemory> {
+    text.push(b' ')?;
+    put_digits(text, value)
+}
+
+// A written part: the variable, its value before and its value from now on.
+fn put_write(
+    text: &mut Vec<u8>,
+    design: &Design,
+    old: &[Vec4],
+    part: Part,
+) -> Result<(), NoMemory> {
+    let Part::Whole { variable, value } = part;
+    text.extend_from_slice(b" write")?;
+    put_name(text, design, variable)?;
+    if let Some(before) = old.get(variable as usize) {
+        put_value(text, *before)?;
+    }
+    put_value(text, value)
+}
+
+// An update that is posted: the variable, and the value that it will get.
+fn put_post(text: &mut Vec<u8>, design: &Design, part: Part) -> Result<(), NoMemory> {
+    let Part::Whole { variable, value } = part;
+    text.extend_from_slice(b" post")?;
+    put_name(text, design, variable)?;
+    put_value(text, value)
+}
+
+fn put_command(text: &mut Vec<u8>, command: DumpCommand) -> Result<(), NoMemory> {
+    match command {
+        DumpCommand::Vars => text.extend_from_slice(b" dumpvars")?,
+    }
+    Ok(())
+}
+
+fn cause_word(cause: Cause) -> &'static [u8] {
+    match cause {
+        Cause::Finish => b" finish",
+        Cause::Stop => b" stop",
+        Cause::Quiet => b" quiet",
+        Cause::Limit => b" limit",
+    }
+}
+
+// What a step did.
+fn put_deed(
+    text: &mut Vec<u8>,
+    design: &Design,
+    old: &[Vec4],
+    deed: &Deed,
+) -> Result<(), NoMemory> {
+    if let Some(part) = deed.wrote.first() {
+        put_write(text, design, old, part)?;
+    }
+    if let Some(posted) = deed.posted {
+        if let Some(part) = posted.first() {
+            put_post(text, design, part)?;
+        }
+    }
+    if let Fate::Sleeps(amount) = deed.fate {
+        put_counted(text, b" delay ", amount)?;
+    }
+    if let Some(command) = deed.command {
+        put_command(text, command)?;
+    }
+    if let Some(cause) = deed.cause {
+        text.extend_from_slice(cause_word(cause))?;
+    }
+    Ok(())
+}
+
+// What the step did, or how far the time went on.
+fn put_done(
+    text: &mut Vec<u8>,
+    design: &Design,
+    old: &[Vec4],
+    taken: Taken,
+    deed: &Deed,
+    time: u64,
+) -> Result<(), NoMemory> {
+    match taken.choice {
+        Choice::Advance => put_counted(text, b" advance ", time),
+        Choice::Run(_) => put_deed(text, design, old, deed),
+        Choice::Update => put_deed(text, design, old, deed),
+    }
+}
+
+// Puts the line of a step last: what was taken, of the values before it, and what it did; the time is that after it.
+fn put_step(
+    text: &mut Vec<u8>,
+    design: &Design,
+    origins: &Origins,
+    old: &[Vec4],
+    taken: Taken,
+    deed: &Deed,
+    time: u64,
+) -> Result<(), NoMemory> {
+    put_taken(text, taken, origins)?;
+    put_done(text, design, old, taken, deed, time)?;
+    text.push(b'\n')?;
+    Ok(())
+}
+
+// Puts the line of a slot end last.
+fn put_slot_end(text: &mut Vec<u8>, time: u64) -> Result<(), NoMemory> {
+    put_counted(text, b"slot ", time)?;
+    text.push(b'\n')?;
+    Ok(())
+}
+
+// The line of a slot end, where the state is one.
+fn put_mark(text: &mut Vec<u8>, state: &SlowState) -> Result<(), NoMemory> {
+    if state.cause().is_none() && state.is_mark() {
+        put_slot_end(text, state.time())?;
+    }
+    Ok(())
+}
+
+// What is told of the step of this number before it is taken, if there is such a choice.
+fn taken_of(state: &SlowState, number: u32, index: u32) -> Option<Taken> {
+    let choice = state.choice(index)?;
+    let action = match choice {
+        Choice::Run(process) => state.place_of(process),
+        Choice::Update => None,
+        Choice::Advance => None,
+    };
+    Some(Taken {
+        number,
+        time: state.time(),
+        index,
+        width: state.width(),
+        choice,
+        action,
+    })
+}
+
+// The lines of a step that was taken.
+fn lines_of(
+    alloc: Global,
+    design: &Design,
+    origins: &Origins,
+    old: &[Vec4],
+    taken: Taken,
+    deed: &Deed,
+    state: &SlowState,
+) -> Result<Vec<u8>, NoMemory> {
+    let mut text = Vec::new(alloc);
+    put_step(&mut text, design, origins, old, taken, deed, state.time())?;
+    put_mark(&mut text, state)?;
+    Ok(text)
+}
+
+/// Takes a step. The answer is its line, and that of the slot end behind it; none where there is no such choice. The values
+/// before the step are copied, as the step may write any of them.
+pub(crate) fn step(
+    alloc: Global,
+    design: &Design,
+    origins: &Origins,
+    state: &mut SlowState,
+    number: u32,
+    index: u32,
+) -> Result<Option<Vec<u8>>, NoMemory> {
+    let Some(taken) = taken_of(state, number, index) else {
+        return Ok(None);
+    };
+    let values = Vec::from_slice(alloc, state.values())?;
+    match state.step(design, index) {
+        Ok(deed) => {
+            let text = lines_of(alloc, design, origins, &values, taken, &deed, state)?;
+            Ok(Some(text))
+        }
+        Err(refused) => Err(refused),
+    }
+}
+
+/// The line of the opening state, where it is a slot end.
+pub(crate) fn opening_line(alloc: Global, state: &SlowState) -> Result<Vec<u8>, NoMemory> {
+    let mut text = Vec::new(alloc);
+    put_mark(&mut text, state)?;
+    Ok(text)
+}
+
+/// The line of the run's end.
+pub(crate) fn end_line(alloc: Global, end: End) -> Result<Vec<u8>, NoMemory> {
+    let mut text = Vec::new(alloc);
+    put_counted(&mut text, b"end ", end.time)?;
+    text.extend_from_slice(cause_word(end.cause))?;
+    text.push(b'\n')?;
+    Ok(text)
+}

@@ -1,0 +1,46 @@
+// From files and a log to the trace of the run.
+
+ghost use Rattle.std.specs.Prelude.{◌≡◌, IfErr};
+ghost use Rattle.vsrc.specs.Source.{file_bytes};
+ghost use Rattle.vrace.specs.Asked.{asked};
+ghost use Rattle.vrace.specs.Refusals.{IsReason, LeavesTrace};
+ghost use Rattle.vrace.specs.RunDumps.{failures_after};
+
+use crate::fault::Fault;
+use crate::options::Options;
+use crate::replay::{of_writing, play_of, see_end};
+use std::alloc::Global;
+use std::io::Write;
+use trace_text::write_trace;
+use vcd_text::Metered;
+
+/// Writes the trace of the run of the files under the log to the writer, step by step: a line for each step, each slot end
+/// and the run's end (docs/FORMATS.md, "Traces"). No clause says which bytes.
+///
+/// Refusals are those of `replay_text`, in the same order: nothing is written but on E901 and E902, as the run is seen to
+/// end before its first line goes out.
+pub fn trace_text<W: Write>(
+    alloc: Global,
+    files: &[Vec<u8>],
+    options: &Options<'_>,
+    log: &[u8],
+    writer: &mut Metered<W>,
+) -> Result<(), Fault>
+    ensures reason { IfErr result (λ fault. IsReason (file_bytes files.now) (asked options.now) log.now fault) }
+    ensures left { IfErr result (λ fault. LeavesTrace fault writer.old writer.new) }
+    ensures failures { IfErr result (λ fault. writer.new.failures ≡ failures_after fault writer.old.failures) }
+{
+    let play = match play_of(alloc, files, options, log) {
+        Ok(play) => play,
+        Err(fault) => return Err(fault),
+    };
+    let steps = options.limits.steps;
+    match see_end(&play.machine, &play.members, steps) {
+        Ok(()) => {}
+        Err(fault) => return Err(fault),
+    }
+    match write_trace(alloc, &play.machine, &play.origins, &play.members, steps, writer) {
+        Ok(()) => Ok(()),
+        Err(fault) => Err(of_writing(fault)),
+    }
+}
