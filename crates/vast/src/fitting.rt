@@ -42,7 +42,8 @@ fn statement_fits(statement: &Stmt<'_>, levels: u32) -> bool
         Stmt::Block(statements) => statements_fit(statements, levels - 1),
         Stmt::Assign { target, value } => assignment_fits(target, value, levels),
         Stmt::Nonblocking { target, value } => assignment_fits(target, value, levels),
-        Stmt::Delay { amount, body, .. } => is_number(amount.text) && statement_fits(body, levels - 1),
+        Stmt::Delay { amount, body, .. } => is_number(amount.text)
+            && statement_fits(body, levels - 1),
         Stmt::DumpVars { .. } => true,
         Stmt::Finish { .. } => true,
     }

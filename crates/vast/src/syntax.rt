@@ -64,9 +64,13 @@ pub enum Stmt<'t> {
         body: Box<Stmt<'t>>,
     },
     /// `$dumpvars;` (18.1.2)
-    DumpVars { at: u32 },
+    DumpVars {
+        at: u32,
+    },
     /// `$finish;` (17.4.1)
-    Finish { at: u32 },
+    Finish {
+        at: u32,
+    },
 }
 
 /// An expression (clause 5).

@@ -1,5 +1,6 @@
 mod ProcessLemmas
 mod SpotLemmas
+mod LeftLemmas
 mod FutureLemmas
 mod OpeningLemmas
 mod PlaceLemmas

@@ -14,3 +14,4 @@ pub mod Played
 pub mod Kept
 pub mod RulesLaws
 pub mod Inner
+pub mod InnerLeft

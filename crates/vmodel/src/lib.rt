@@ -10,6 +10,7 @@ mod digest;
 mod future;
 pub mod history;
 mod law;
+mod left;
 mod open;
 pub mod part;
 pub mod process;

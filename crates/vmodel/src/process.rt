@@ -4,6 +4,7 @@ ghost use Rattle.std.specs.Prelude.{◌≡◌, ◌+◌, ◌≤◌, reverse, leng
 ghost use Rattle.vmodel.specs.Step.{spots};
 ghost use Rattle.vmodel.specs.Run.{opening_process};
 
+use crate::left::Left;
 use basis::NoMemory;
 use std::alloc::Global;
 use std::marker::Model;
@@ -41,19 +42,20 @@ impl Eq for Spot {
 /// What a process stands at. A clause sees the spots that are left first one first.
 #[derive(Drop)]
 pub struct Process {
-    /// The first one last.
-    pub(crate) left: Vec<Spot>,
+    pub(crate) left: Left,
     pub(crate) held: Option<Vec4>,
     pub(crate) waits: Option<usize>,
 }
 
 impl Model for Process {
-    ghost use Rattle.std.specs.Prelude.{reverse};
     ghost use Rattle.vmodel.specs.State as state;
+    ghost use Rattle.vmodel.specs.InnerLeft.{IsWhole, left_spots};
 
     ghost Value = { state.Process };
 
-    ghost view = { λ p. record { left = reverse p.left.items; held = p.held; waits = p.waits } };
+    ghost view = { λ p. record { left = left_spots p.left; held = p.held; waits = p.waits } };
+
+    ghost invariant = { λ p. IsWhole p.left };
 }
 
 /// Two are equal where they hold the same.
@@ -67,8 +69,8 @@ impl PartialEq for Process {
     ghost laws = { partial_equiv_from_equiv processes_equivalent };
 
     fn eq(&self, other: &Process) -> bool {
-        let held = (&self.left, &self.held, &self.waits);
-        held == (&other.left, &other.held, &other.waits)
+        let held = (&self.held, &self.waits);
+        held == (&other.held, &other.waits) && self.left.is_like(&other.left)
     }
 }
 
@@ -83,11 +85,8 @@ impl Process {
     pub fn at(alloc: Global, places: &[usize]) -> Result<Process, NoMemory>
         ensures { IfOk result (λ process. process ≡ opening_process places.now) }
     {
-        let mut left = Vec::new(alloc);
-        left.reserve(places.len())?;
-        put_spots(&mut left, places);
         Ok(Process {
-            left,
+            left: Left::at(alloc, places)?,
             held: None,
             waits: None,
         })
@@ -97,7 +96,7 @@ impl Process {
     pub fn first(&self) -> Option<Spot>
         ensures { result ≡ slice_get self.now.left 0 }
     {
-        self.left.last().copied()
+        self.left.first()
     }
 
     /// A process that stands at the same.
@@ -105,7 +104,7 @@ impl Process {
         ensures { IfOk result (λ process. process ≡ self.now) }
     {
         Ok(Process {
-            left: Vec::from_slice(alloc, &self.left)?,
+            left: self.left.copy(alloc)?,
             held: self.held,
             waits: self.waits,
         })

@@ -11,7 +11,7 @@ ghost use Rattle.vmodel.specs.Inner.{IsFirstAction, first_place};
 use crate::choice::Choice;
 use crate::deed::{Deed, Doing, deed_of};
 use crate::history::Item;
-use crate::process::{Process, Spot, put_spots};
+use crate::process::{Process, Spot};
 use crate::queue::Queue;
 use crate::state::SlowState;
 use basis::NoMemory;
@@ -34,15 +34,14 @@ fn move_process(
     ensures err_queue { OnErr result (queue.new ≡ queue.old) }
 {
     let left = &mut process.left;
-    left.reserve(next.len())?;
+    left.own.reserve(next.len())?;
     let goes = if left.len() > 1 || !next.is_empty() {
         Some(number)
     } else {
         None
     };
     queue.move_by(number, deed.fate, deed.posted, goes)?;
-    left.pop();
-    put_spots(left, next);
+    left.go(next);
     process.held = deed.held;
     process.waits = None;
     Ok(())

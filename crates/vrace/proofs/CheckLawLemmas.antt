@@ -1,11 +1,9 @@
 -- One text, one report, one answer to whether it is true.
-use Rattle.std.proofs.Common.{◌≡◌, ℕ, zero, suc, ◌<◌, ◌^◌, List, [], ◌∷◌, length, slice_get, Option, Some, inl, inr, sym, ap, subst, ◌∙◌, refl}
+use Rattle.std.proofs.Common.{◌≡◌, ℕ, zero, suc, ◌<◌, ◌^◌, List, [], ◌∷◌, length, slice_get, Some, inl, inr, sym, subst, ◌∙◌}
 use Rattle.std.proofs.lemmas.Option.{same_Some}
 use Rattle.vsrc.specs.Expansion.{expanded_text}
-use Rattle.vast.specs.Design.{Design}
 use Rattle.vmodel.specs.Run.{Setting}
 use Rattle.report_text.specs.Report.{End, Report}
-use Rattle.report_text.specs.ReportText.{report_text}
 use Rattle.report_text.specs.WellFormed.{IsTold, OneReportForText}
 use Rattle.vreport.specs.Truth.{AreTrueEnds, IsTrueEndOf, IsTrueReport}
 use Rattle.report_check.specs.FirstBad.{IsFirstBad}

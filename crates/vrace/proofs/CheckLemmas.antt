@@ -1,6 +1,5 @@
 -- From the check of a machine to that of files.
-use Rattle.std.proofs.Common.{◌≡◌, inl, inr, ℕ, List, [], ◌∷◌, length, map, Some, refl, sym, ap, subst, ◌∙◌, suc}
-use Rattle.std.proofs.lemmas.List.{length-map}
+use Rattle.std.proofs.Common.{◌≡◌, inl, ℕ, List, [], ◌∷◌, length, Some, refl, sym, ap, subst, ◌∙◌, suc}
 use Rattle.report_text.specs.Report.{End, Report}
 use Rattle.report_text.specs.WellFormed.{HaveBytes, IsTold}
 use Rattle.vreport.specs.Truth.{IsTrueReport}

@@ -16,7 +16,7 @@ use Rattle.vreport.specs.Formed.{IsFormed}
 use Rattle.vreport.specs.Reports.{IsExploration}
 use Rattle.vreport.specs.Written.{TakesReport, StopsReport as StopsOutlet}
 use Rattle.vrace.specs.Asked.{Asked}
-use Rattle.vrace.specs.Explores.{EndsSearch, Explores, IsExploreReason, IsReported, IsSearchFault, IsSearchReason, LeavesReport, Reports, Searched, StopsReport, setting_for, status_of}
+use Rattle.vrace.specs.Explores.{EndsSearch, Explores, IsExploreReason, IsReported, IsSearchFault, IsSearchReason, LeavesReport, Reports, Searched, setting_for, status_of}
 use Rattle.vrace.specs.Refusals.{IsOfWriting}
 use Rattle.vrace.specs.RunDumps.{failures_after, fault_of}
 use Rattle.vrace.specs.declared.exploring.Status.{Status}

@@ -1,22 +1,18 @@
 -- One text, one replay: from the laws of each layer.
-use Rattle.std.proofs.Common.{◌≡◌, ℕ, ◌<◌, List, [], length, Option, None, Some, inl, inr, sym, ap, subst, ◌∙◌, arith, Ok, Err, true, false, true≢false}
+use Rattle.std.proofs.Common.{◌≡◌, ℕ, List, [], Option, None, Some, Ok, Err, true, false, inl, inr, sym, ap, subst, ◌∙◌, arith, true≢false}
 use Rattle.vsrc.specs.Source.{Source}
 use Rattle.vsrc.specs.Timescales.{is_usual}
 use Rattle.vsrc.specs.Expansion.{expansion, expanded_text}
 use Rattle.vsrc.specs.declared.fault.SrcFault.{SrcFault}
-use Rattle.vlex.specs.Lexed.{Lexed, Piece}
 use Rattle.vlex.specs.Laws.{CutsOneWay}
 use Rattle.vast.specs.Syntax.{Text, SourceTree}
 use Rattle.vast.specs.Derives.{Derives}
 use Rattle.vast.specs.Design.{Design}
-use Rattle.vparse.specs.Inner.Reading.{source}
 use Rattle.vparse.specs.Laws.{ReadsCompletely}
 use Rattle.velab.specs.Elaborate.{Elaborates}
 use Rattle.velab.specs.Laws.{ElaboratesOneWay}
-use Rattle.sched_core.specs.Logs.{IsLog}
-use Rattle.sched_core.specs.LogText.{named_log_text, OneLogForText}
+use Rattle.sched_core.specs.LogText.{OneLogForText}
 use Rattle.sched_core.specs.Replay.{EndsAfter}
-use Rattle.sched_core.specs.declared.log.LogHead.{LogHead}
 use Rattle.vmodel.specs.Run.{Setting, rules_of, history_after}
 use Rattle.vcd_text.specs.DumpText.{vcd}
 use Rattle.vrace.specs.Asked.{Asked}

@@ -1,6 +1,7 @@
 -- From the run of a design to the replay of files.
 use Rattle.std.proofs.Common.{◌≡◌, inl, inr, ℕ, List, Option, refl, sym, ap, subst, ◌∙◌}
 use Rattle.vmodel.specs.Run.{Setting, rules_of, history_after}
+use Rattle.vmodel.specs.declared.history.End.{End}
 use Rattle.vmodel.specs.Played.{Finishes}
 use Rattle.sched_core.specs.Replay.{IsMissing, TakesMore}
 use Rattle.vcd_text.specs.DumpText.{header, vcd}
@@ -14,6 +15,7 @@ use Rattle.vrace.specs.Asked.{Asked}
 use Rattle.vrace.specs.Replays.{Played, setting_of, IsDump}
 use Rattle.vrace.specs.Refusals.{IsRunReason, IsReason, IsOfWriting, Leaves}
 use Rattle.vreport.specs.Dumps.{IsRunDump}
+use Rattle.vrace.proofs.DumpLemmas.{the_dump}
 use Rattle.vrace.specs.RunDumps.{IsRunFault, Ends, fault_of, failures_after}
 use Rattle.vrace.specs.declared.fault.Fault.{Fault}
 use Rattle.vrace.specs.declared.fault.Fault.TheVariants.{NotEnded, BadToken, Directive, NoMacro, Growth, LeftOpen, Timescales, NoTree, Outside, TooDeep, NotYet, NoTop, Doubled, Unknown, Width, TooMany, BadLog, NoSuchChoice, TooManySteps, OutOfLimit, BadReport, FalseEnd, FalseRace, FalseHead, Memory, Write, Read, TooLong}
@@ -40,7 +42,7 @@ module _ (files : List (List ℕ)) (asked : Asked) (log : List ℕ) (played : Pl
     is_text = d.is_text ∙ ap (λ (s : Setting). vcd s.design (history_after s played.members d.steps)) same;
   }
 
-  run_reason : (fault : Fault) → IsRunFault setting played.members asked.steps fault → IsRunReason files asked log fault
+  pub run_reason : (fault : Fault) → IsRunFault setting played.members asked.steps fault → IsRunReason files asked log fault
   run_reason NoSuchChoice p = (played, subst (λ (s : Setting). IsMissing (rules_of s) played.members asked.steps) same p)
   run_reason TooManySteps p = (played, subst (λ (s : Setting). TakesMore (rules_of s) played.members asked.steps) same p)
   run_reason (Memory m) p = tt
@@ -69,6 +71,12 @@ module _ (files : List (List ℕ)) (asked : Asked) (log : List ℕ) (played : Pl
   run_reason Write p = absurd p
   run_reason Read p = absurd p
   run_reason TooLong p = absurd p
+
+  -- where the run ends there is a dump, so that a writer that fails has its reason
+  pub writing_reason : (n : ℕ) (end : End) → Finishes setting played.members asked.steps n end → (cause : OrMemory WriteFault) → IsReason files asked log (fault_of cause)
+  writing_reason n end finishes cause =
+      let dump = the_dump (header setting.design) setting played.members asked.steps n end finishes in
+      inr (reason_of_writing files asked log _ cause (dumped _ dump))
 
   module _ {W : Type 0} (contents : W → Option (List ℕ)) (old new : Metered W) where
     pub reason : (fault : Fault) → Ends contents (header setting.design) setting played.members asked.steps old new fault → IsReason files asked log fault

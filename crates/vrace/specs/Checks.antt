@@ -1,5 +1,5 @@
 -- When the text of a report is true of files; and when a check is refused.
-use Rattle.std.specs.Prelude.{◌≡◌, ℕ, ◌⊎◌, List, Option, Some}
+use Rattle.std.specs.Prelude.{◌≡◌, ℕ, ◌⊎◌, List, Some}
 use Rattle.report_text.specs.Report.{Report}
 use Rattle.report_text.specs.WellFormed.{IsNoReportText, IsTold}
 use Rattle.vreport.specs.Truth.{IsTrueReport}

@@ -3,10 +3,7 @@ use Rattle.std.specs.Prelude.{◌≡◌, ◌⊎◌, ℕ, List, Option}
 use Rattle.sched_core.specs.Replay.{IsMissing, TakesMore}
 use Rattle.sched_core.specs.declared.run.ReplayFault.{ReplayFault}
 use Rattle.sched_core.specs.declared.run.ReplayFault.TheVariants as replay
-use Rattle.vmodel.specs.declared.history.End.{End}
-use Rattle.vmodel.specs.Run.{Setting, rules_of, history_after}
-use Rattle.vmodel.specs.Played.{Finishes}
-use Rattle.vcd_text.specs.DumpText.{dump_below}
+use Rattle.vmodel.specs.Run.{Setting, rules_of}
 use Rattle.vcd_text.specs.Metered.{Stops, one_more}
 use Rattle.vcd_text.specs.declared.metered.Metered.{Metered}
 use Rattle.vcd_text.specs.declared.fault.WriteFault.{WriteFault}
@@ -40,6 +37,10 @@ pub record StopsDump {W : Type 0} (contents : W → Option (List ℕ)) (head : L
 abbrev pub failures_after : Fault → ℕ → ℕ
 failures_after Write n = one_more n
 failures_after other n = n
+
+-- no failure of a writer is told
+abbrev pub IsUnwritten : Fault → Type 0
+IsUnwritten fault = (n : ℕ) → n ≡ failures_after fault n
 
 -- the number of a fault of the run
 abbrev pub replay_fault_of : ReplayFault → Fault

@@ -11,11 +11,12 @@ ghost use Rattle.vast.specs.Trees.{source_tree};
 ghost use Rattle.vast.specs.Derives.{HasNoTree};
 ghost use Rattle.vparse.specs.Words.{words_of};
 ghost use Rattle.vparse.specs.Faults.{IsSyntaxReason};
+ghost use Rattle.velab.specs.Elaborate.{Elaborates};
 ghost use Rattle.velab.specs.Reasons.{IsDesignReason, HasNoDesign};
 ghost use Rattle.vrace.specs.declared.fault.Fault.TheVariants.{NotYet};
 ghost use Rattle.vrace.specs.Replays.{limit, total, AreRead, IsDesignOf};
 ghost use Rattle.vrace.specs.Unique.{IsCut, IsReadAs};
-ghost use Rattle.vrace.specs.Refusals.{IsFileReason, IsTextReason, IsDesignFault, IsOfMemory};
+ghost use Rattle.vrace.specs.Refusals.{IsFileReason, IsTextReason, IsDesignFault};
 
 use crate::fault::{At, Fault};
 use crate::read::LIMIT;
@@ -61,9 +62,9 @@ pub struct Placed {
 }
 
 // The design with the places of the tokens at which its statements begin.
-fn placed(alloc: Global, tokens: &Tokens<'_>, design: Design) -> Result<Placed, Fault>
+fn with_places(alloc: Global, tokens: &Tokens<'_>, design: Design) -> Result<Placed, Fault>
     ensures same { IfOk result (λ placed. placed.design ≡ design) }
-    ensures err { IfErr result IsOfMemory }
+    ensures err { (text : List ℕ) (top : Option (List ℕ)) → IfErr result (IsTextReason text top) }
 {
     let mut places = Vec::new(alloc);
     for number in &design.origins {
@@ -176,10 +177,31 @@ fn tree_of<'a>(alloc: Global, tokens: &Tokens<'a>) -> Result<Ast<'a>, Fault>
     }
 }
 
+// The design of the tree.
+fn design_of_tree(
+    alloc: Global,
+    tokens: &Tokens<'_>,
+    ast: &Ast<'_>,
+    top: Option<&[u8]>,
+) -> Result<Design, Fault>
+    ensures ok { IfOk result (λ design.
+        Elaborates (source_tree ast.now) (option_map (λ name. name.now) top.entry) design) }
+    ensures err { (text : List ℕ) → IsReadAs text (source_tree ast.now) →
+        IfErr result (IsTextReason text (option_map (λ name. name.now) top.entry)) }
+{
+    match elaborate(alloc, ast, top) {
+        Ok(design) => Ok(design),
+        Err(OrMemory::Fault(fault)) => Err(of_design(tokens, fault)),
+        Err(OrMemory::Memory(refused)) => Err(Fault::Memory(refused)),
+    }
+}
+
 // The design of the text.
 fn design_of_text(alloc: Global, text: &Expanded, top: Option<&[u8]>) -> Result<Placed, Fault>
-    ensures ok { IfOk result (λ placed. IsDesignOf text.now.text (option_map (λ name. name.now) top.entry) placed.design) }
-    ensures err { IfErr result (λ fault. IsTextReason text.now.text (option_map (λ name. name.now) top.entry) fault) }
+    ensures ok { IfOk result (λ placed.
+        IsDesignOf text.now.text (option_map (λ name. name.now) top.entry) placed.design) }
+    ensures err { IfErr result (λ fault.
+        IsTextReason text.now.text (option_map (λ name. name.now) top.entry) fault) }
 {
     let tokens = match tokens_of(alloc, text) {
         Ok(tokens) => tokens,
@@ -189,11 +211,11 @@ fn design_of_text(alloc: Global, text: &Expanded, top: Option<&[u8]>) -> Result<
         Ok(ast) => ast,
         Err(fault) => return Err(fault),
     };
-    match elaborate(alloc, &ast, top) {
-        Ok(design) => placed(alloc, &tokens, design),
-        Err(OrMemory::Fault(fault)) => Err(of_design(&tokens, fault)),
-        Err(OrMemory::Memory(refused)) => Err(Fault::Memory(refused)),
-    }
+    let design = match design_of_tree(alloc, &tokens, &ast, top) {
+        Ok(design) => design,
+        Err(fault) => return Err(fault),
+    };
+    with_places(alloc, &tokens, design)
 }
 
 /// The design of the top module in the files, with the places of its statements. E904 where the

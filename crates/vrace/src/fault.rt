@@ -89,7 +89,6 @@ pub enum Fault {
     TooLong,
 }
 
-
 /// What is told behind a number.
 #[derive(Clone, Copy, Debug, PartialEq, Eq)]
 pub enum Detail {

@@ -1,6 +1,6 @@
 // From files and a log to the dump of the run.
 
-ghost use Rattle.std.specs.Prelude.{◌≡◌, ◌⊎◌, ℕ, List, OnOk, IfErr};
+ghost use Rattle.std.specs.Prelude.{◌≡◌, ◌⊎◌, ℕ, List, OnOk, IfOk, IfErr};
 ghost use Rattle.sched_core.specs.LogText.{IsNamedLogText};
 ghost use Rattle.vsrc.specs.Source.{file_bytes};
 ghost use Rattle.vmodel.specs.declared.history.End.{End};
@@ -11,7 +11,7 @@ ghost use Rattle.vrace.specs.Asked.{asked};
 ghost use Rattle.vrace.specs.Replays.{IsDump, IsPlay, grain_under as grain_by};
 ghost use Rattle.vrace.specs.Refusals.{IsLogFault, IsReason, Leaves};
 ghost use Rattle.vreport.specs.Dumps.{HasDump, IsRunDump};
-ghost use Rattle.vrace.specs.RunDumps.{IsRunFault, StopsDump, Ends, fault_of, replay_fault_of, failures_after};
+ghost use Rattle.vrace.specs.RunDumps.{IsRunFault, IsUnwritten, StopsDump, Ends, fault_of, replay_fault_of, failures_after};
 
 use crate::design::placed_design_of;
 use crate::fault::Fault;
@@ -146,6 +146,7 @@ pub(crate) fn play_of(
 ) -> Result<Play, Fault>
     ensures ok { IfOk result (λ play. IsPlay (file_bytes files.now) (asked options.now) log.now play.machine play.members) }
     ensures err { IfErr result (λ fault. IsReason (file_bytes files.now) (asked options.now) log.now fault) }
+    ensures unwritten { IfErr result IsUnwritten }
 {
     let placed = match placed_design_of(alloc, files, options.top) {
         Ok(placed) => placed,

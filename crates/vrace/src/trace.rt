@@ -39,8 +39,16 @@ pub fn trace_text<W: Write>(
         Ok(()) => {}
         Err(fault) => return Err(fault),
     }
-    match write_trace(alloc, &play.machine, &play.origins, &play.members, steps, writer) {
-        Ok(()) => Ok(()),
-        Err(fault) => Err(of_writing(fault)),
+    match write_trace(
+        alloc,
+        &play.machine,
+        &play.origins,
+        &play.members,
+        steps,
+        writer,
+    ) {
+        Ok(()) => {}
+        Err(fault) => return Err(of_writing(fault)),
     }
+    Ok(())
 }

@@ -17,7 +17,8 @@ use std::process::ExitCode;
 use std::{env, io};
 use vcd_text::Metered;
 use vrace::{
-    Fault, Options, Show, Status, check_text, explore_text_alone, read_text, replay_text, trace_text,
+    Fault, Options, Show, Status, check_text, explore_text_alone, read_text, replay_text,
+    trace_text,
 };
 use words::{
     Request, commands, depart_of, entries_of, files_of, has_dashed_log, has_dashed_report,

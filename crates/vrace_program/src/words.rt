@@ -98,7 +98,9 @@ fn explore_command<'a>(alloc: Global) -> Result<Command<'a>, NoMemory> {
         "100000",
     );
     let command = Command::new(alloc, "explore")
-        .about("Runs every schedule of at most so many departures as --depart says; reports each end and each race")
+        .about(
+            "Runs every schedule of at most so many departures as --depart says; reports each end and each race",
+        )
         .arg(top(alloc))?
         .arg(until(alloc))?
         .arg(depart)?

@@ -1,7 +1,10 @@
-use Rattle.std.proofs.Common.{ap, ◌∙◌}
+use Rattle.std.proofs.Common.{option_map, subst, sym}
 use Rattle.std.proofs.lemmas.Result.{IfErr-weaker, IfOk-weaker}
 use Rattle.vsrc.specs.Source.{file_bytes}
+use Rattle.vast.specs.Names.{AreNamed}
+use Rattle.vmodel.specs.Run.{Setting}
 use Rattle.vrace.specs.Asked.{asked}
+use Rattle.vrace.specs.Replays.{texts_of}
 use Rattle.vrace.specs.Explores.{EndsSearch, Explores, IsExploreReason, LeavesReport, Reports, Searched}
 use Rattle.vrace.proofs.ExploreLemmas.{explore_left, explore_reason, explores}
 use Rattle.vrace.proofs.exploring.explore_text_alone.Goals as goal
@@ -29,3 +32,10 @@ returns-clause-left g c =
     (λ fault. LeavesReport g.W.Write.contents (file_bytes c.args.files.now) (asked c.args.options.now) c.args.options.now.limits fault c.args.writer.now c.explore_machine.new.writer)
     (explore_left (file_bytes c.args.files.now) (asked c.args.options.now) searched c.args.options.now.limits c.in-Ok-new.machine c.in-Ok-new.ensures g.W.Write.contents
     c.args.writer.now c.explore_machine.new.writer) c.explore_machine.ensures.err
+
+pub explore_machine-requires-clause-named : goal.explore_machine-requires-clause-named
+explore_machine-requires-clause-named g c =
+    let known = c.in-Ok.ensures.ok in
+    let top = option_map (λ name. name.now) c.args.options.now.top in
+    subst (λ (s : Setting). AreNamed s.design) (sym c.in-Ok-new.ensures)
+    (c.elaboration_law.ensures.named (texts_of known.is_tree.pieces) known.tree top c.in-Ok.design known.is_tree.derived known.elaborated)

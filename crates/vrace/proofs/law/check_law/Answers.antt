@@ -5,9 +5,9 @@ use Rattle.vrace.proofs.law.check_law.Goals as goal
 pub returns : goal.returns
 returns c =
     let laws : Laws = record {
-      one_list = c.lexing_law.ensures;
+      one_list = c.lexing_law.ensures.one;
       reads = c.reading_law.ensures.complete;
       one_design = c.elaboration_law.ensures.one;
       one_log = c.log_text_law.ensures.one;
     } in
-    λ files text fault short truth reason. not_refused laws c.report_text_law.ensures files text short truth fault reason
+    record { refused = λ files text fault short truth reason. not_refused laws c.report_text_law.ensures.one files text short truth fault reason }

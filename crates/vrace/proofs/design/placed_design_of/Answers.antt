@@ -2,7 +2,7 @@ use Rattle.std.proofs.Common.{◌≡◌, ℕ, List, ap, sym, option_map}
 use Rattle.vsrc.specs.Source.{file_bytes}
 use Rattle.vsrc.specs.Expansion.{text_of, expanded_text}
 use Rattle.vrace.proofs.DesignLemmas.{err_of_text}
-use Rattle.vrace.proofs.design.design_of.Goals as goal
+use Rattle.vrace.proofs.design.placed_design_of.Goals as goal
 
 pub returns-clause-err : goal.returns-clause-err
 returns-clause-err c =

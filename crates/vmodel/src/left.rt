@@ -1,0 +1,120 @@
+// What a process has left, kept as a stack above a list that states share.
+
+ghost use Rattle.std.specs.Prelude.{◌≡◌, ◌≤◌, ◌<◌, ◌+◌, [], IfOk, drop, length, slice_get, vec_len, vec_capacity};
+ghost use Rattle.std.specs.Cmp.Lexicographic.{pointwise};
+ghost use Rattle.vmodel.specs.Same.{spot_same};
+ghost use Rattle.vmodel.specs.Step.{spots};
+ghost use Rattle.vmodel.specs.InnerLeft.{IsWhole, stack, left_spots};
+
+use crate::process::{Spot, put_spots};
+use basis::NoMemory;
+use std::alloc::Global;
+use std::sync::ArcSlice;
+
+/// What a process has left. The first spot stands last.
+#[derive(Drop)]
+pub(crate) struct Left {
+    // The spots that it began with. They never change, and the states of a run share them.
+    pub(crate) base: ArcSlice<Spot>,
+    // How many of those are left: the front of them.
+    pub(crate) kept: usize,
+    // What stands above them.
+    pub(crate) own: Vec<Spot>,
+}
+
+impl Left {
+    // What is left of a process that begins at these places.
+    pub(crate) fn at(alloc: Global, places: &[usize]) -> Result<Left, NoMemory>
+        ensures whole { IfOk result IsWhole }
+        ensures value { IfOk result (λ left. left_spots left ≡ spots places.now []) }
+    {
+        let mut list = Vec::new(alloc);
+        list.reserve(places.len())?;
+        put_spots(&mut list, places);
+        let kept = list.len();
+        let base = ArcSlice::from_vec(list)?;
+        let own = Vec::new(alloc);
+        Ok(Left { base, kept, own })
+    }
+
+    // The same is left. The spots of the beginning aren't copied.
+    pub(crate) fn copy(&self, alloc: Global) -> Result<Left, NoMemory>
+        requires { IsWhole self.now }
+        ensures whole { IfOk result IsWhole }
+        ensures value { IfOk result (λ left. left_spots left ≡ left_spots self.now) }
+    {
+        let base = self.base.clone()?;
+        let own = Vec::from_slice(alloc, &self.own)?;
+        let kept = self.kept;
+        Ok(Left { base, kept, own })
+    }
+
+    // How many spots are left.
+    pub(crate) fn len(&self) -> usize
+        requires { IsWhole self.now }
+        ensures { result ≡ length (left_spots self.now) }
+    {
+        let _within = self.base.len();
+        self.kept + self.own.len()
+    }
+
+    // The spot that stands there, counted from the last one to come.
+    fn at_depth(&self, depth: usize) -> Spot
+        requires whole { IsWhole self.now }
+        requires within { depth < length (stack self.now) }
+        ensures { slice_get (stack self.now) depth ≡ Some result }
+    {
+        if depth < self.kept {
+            self.base.as_slice()[depth]
+        } else {
+            self.own[depth - self.kept]
+        }
+    }
+
+    // The first, if something is left.
+    pub(crate) fn first(&self) -> Option<Spot>
+        requires { IsWhole self.now }
+        ensures { result ≡ slice_get (left_spots self.now) 0 }
+    {
+        let len = self.len();
+        if len == 0 {
+            None
+        } else {
+            Some(self.at_depth(len - 1))
+        }
+    }
+
+    // Whether the same is left.
+    pub(crate) fn is_like(&self, other: &Left) -> bool
+        requires whole { IsWhole self.now }
+        requires other { IsWhole other.now }
+        ensures { result ≡ pointwise spot_same (left_spots self.now) (left_spots other.now) }
+    {
+        let len = self.len();
+        if other.len() != len {
+            return false;
+        }
+        let mut depth = 0;
+        while depth < len {
+            if self.at_depth(depth) != other.at_depth(depth) {
+                return false;
+            }
+            depth += 1;
+        }
+        true
+    }
+
+    // The first is done, and these places come before the rest. There is room for them.
+    pub(crate) fn go(&mut self, places: &[usize])
+        requires whole { IsWhole self.old }
+        requires some { 0 < length (left_spots self.old) }
+        requires room { vec_len self.old.own + length places.now ≤ vec_capacity self.old.own }
+        ensures whole { IsWhole self.new }
+        ensures value { left_spots self.new ≡ spots places.now (drop 1 (left_spots self.old)) }
+    {
+        if self.own.pop().is_none() {
+            self.kept -= 1;
+        }
+        put_spots(&mut self.own, places);
+    }
+}
