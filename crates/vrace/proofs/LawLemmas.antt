@@ -1,5 +1,5 @@
 -- One text, one replay: from the laws of each layer.
-use Rattle.std.proofs.Common.{◌≡◌, ℕ, List, [], Option, None, Some, Ok, Err, true, false, inl, inr, sym, ap, subst, ◌∙◌, arith, true≢false}
+use Rattle.std.proofs.Common.{◌≡◌, ℕ, List, [], Option, None, Some, Result, Ok, Err, true, false, inl, inr, sym, ap, subst, ◌∙◌, arith, true≢false}
 use Rattle.vsrc.specs.Source.{Source}
 use Rattle.vsrc.specs.Timescales.{is_usual}
 use Rattle.vsrc.specs.Expansion.{expansion, expanded_text}
@@ -28,8 +28,12 @@ pub record Laws : Type 0 where
   pub one_design : ElaboratesOneWay
   pub one_log : OneLogForText
 
-same_ok : (s t : Source) → Ok {E = SrcFault} s ≡ Ok t → s ≡ t
-same_ok s t e = cc
+abbrev read_of : Result Source SrcFault → Source → Source
+read_of (Ok source) other = source
+read_of (Err fault) other = other
+
+same_ok : (s t : Source) (r : Result Source SrcFault) → r ≡ Ok s → r ≡ Ok t → s ≡ t
+same_ok s t r e f = ap (λ (q : Result Source SrcFault). read_of q s) (sym e ∙ f)
 
 abbrev whole : SourceTree → Option (SourceTree × List Text)
 whole tree = Some (tree, [])
@@ -47,7 +51,7 @@ module _ (laws : Laws) (files : List (List ℕ)) (read : AreRead files) where
 
   is_timed : (source : Source) → expansion files ≡ Ok source → is_usual source.timescale ≡ false → ⊥
   is_timed source expanded odd =
-      let same : read.source ≡ source = same_ok _ _ (sym read.expanded ∙ expanded) in
+      let same : read.source ≡ source = same_ok read.source source (expansion files) read.expanded expanded in
       true≢false (sym read.usual ∙ ap (λ (s : Source). is_usual s.timescale) same ∙ odd)
 
   not_for_files : (fault : Fault) → IsFileReason files fault → IsOfMemory fault
