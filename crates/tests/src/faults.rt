@@ -6,10 +6,14 @@ use vrace::{At, Fault};
 use vsrc::Place;
 
 // Each refusal but want of memory, which nobody here can make, with the number that docs/FAULTS.md gives it.
-const NUMBERS: [(Fault, &str); 19] = [
+const NUMBERS: [(Fault, &str); 23] = [
     (Fault::NotEnded(At(None)), "E101"),
     (Fault::BadToken(At(None)), "E102"),
+    (Fault::Directive(At(None)), "E110"),
+    (Fault::NoMacro(At(None)), "E111"),
     (Fault::Growth(At(None)), "E112"),
+    (Fault::LeftOpen(At(None)), "E113"),
+    (Fault::Timescales(At(None)), "E114"),
     (Fault::NoTree(At(None)), "E201"),
     (Fault::Outside(At(None)), "E202"),
     (Fault::TooDeep(At(None)), "E203"),

@@ -5,6 +5,8 @@
 #[cfg(test)]
 mod books;
 #[cfg(test)]
+mod directives;
+#[cfg(test)]
 mod dumps;
 #[cfg(test)]
 mod faults;

@@ -44,8 +44,7 @@ fn joins_files(rt: HostRuntime) -> Result<(), Fail> {
         assert!(rt; at <= source.text().len());
         assert_eq!(rt; source.place(at), Place { file, line }, "at {at}");
     }
-    assert_eq!(rt; source.scale().count, 1);
-    assert_eq!(rt; source.scale().unit.name(), "ns");
+    assert!(rt; source.timescale().is_usual());
     Ok(())
 }
 

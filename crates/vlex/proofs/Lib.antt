@@ -8,5 +8,3 @@ mod Ends
 mod Escapes
 mod Comments
 pub mod Leads
-mod Calm
-mod Ticks

@@ -1,10 +1,8 @@
-// That a text is cut into tokens in one way, and that no text with tokens uses a directive.
+// That a text is cut into tokens in one way.
 
-ghost use Rattle.vlex.specs.Laws.{CutsOneWay, NoTickInTokens};
+ghost use Rattle.vlex.specs.Laws.{CutsOneWay};
 
-/// A text has at most one list of tokens (IEEE 1364-2005, clause 3). If it has one, no backtick stands outside its
-/// comments and strings, so that no text with tokens is refused for a directive (E299).
+/// A text has at most one list of tokens (IEEE 1364-2005, clause 3).
 pub fn lexing_law()
     ensures one { CutsOneWay }
-    ensures tickless { NoTickInTokens }
 {}

@@ -1,7 +1,9 @@
 -- One text, one replay: from the laws of each layer.
-use Rattle.std.proofs.Common.{◌≡◌, ℕ, List, [], Option, None, Some, inl, inr, sym, ap, subst, ◌∙◌, arith}
-use Rattle.vsrc.specs.Source.{joined}
-use Rattle.vsrc.specs.Laws.{GrowsTooLong}
+use Rattle.std.proofs.Common.{◌≡◌, ℕ, List, [], Option, None, Some, Result, Ok, Err, true, false, inl, inr, sym, ap, subst, ◌∙◌, arith, true≢false}
+use Rattle.vsrc.specs.Source.{Source}
+use Rattle.vsrc.specs.Timescales.{is_usual}
+use Rattle.vsrc.specs.Expansion.{expansion, expanded_text}
+use Rattle.vsrc.specs.declared.fault.SrcFault.{SrcFault}
 use Rattle.vlex.specs.Laws.{CutsOneWay}
 use Rattle.vast.specs.Syntax.{Text, SourceTree}
 use Rattle.vast.specs.Derives.{Derives}
@@ -17,15 +19,21 @@ use Rattle.vrace.specs.Asked.{Asked}
 use Rattle.vrace.specs.Replays.{AreRead, texts_of, IsTreeOf, IsDesignOf, grain_under, Played, setting_of, IsDump}
 use Rattle.vrace.specs.Refusals.{IsDesignFault, IsFileReason, IsTextReason, IsRunReason, IsReason, IsOfMemory, IsOfWriting}
 use Rattle.vrace.specs.declared.fault.Fault.{Fault}
-use Rattle.vrace.specs.declared.fault.Fault.TheVariants.{NotEnded, BadToken, Growth, NoTree, Outside, TooDeep, NotYet, NoTop, Doubled, Unknown, Width, TooMany, BadLog, NoSuchChoice, TooManySteps, OutOfLimit, BadReport, FalseEnd, FalseRace, FalseHead, Memory, Write, Read, TooLong}
+use Rattle.vrace.specs.declared.fault.Fault.TheVariants.{NotEnded, BadToken, Directive, NoMacro, Growth, LeftOpen, Timescales, NoTree, Outside, TooDeep, NotYet, NoTop, Doubled, Unknown, Width, TooMany, BadLog, NoSuchChoice, TooManySteps, OutOfLimit, BadReport, FalseEnd, FalseRace, FalseHead, Memory, Write, Read, TooLong}
 use Rattle.vreport.specs.RunLaws.{same_end, never_missing, never_more}
 
 pub record Laws : Type 0 where
-  pub growth : GrowsTooLong
   pub one_list : CutsOneWay
   pub reads : ReadsCompletely
   pub one_design : ElaboratesOneWay
   pub one_log : OneLogForText
+
+abbrev read_of : Result Source SrcFault → Source → Source
+read_of (Ok source) other = source
+read_of (Err fault) other = other
+
+same_ok : (s t : Source) (r : Result Source SrcFault) → r ≡ Ok s → r ≡ Ok t → s ≡ t
+same_ok s t r e f = ap (λ (q : Result Source SrcFault). read_of q s) (sym e ∙ f)
 
 abbrev whole : SourceTree → Option (SourceTree × List Text)
 whole tree = Some (tree, [])
@@ -38,9 +46,21 @@ same_tree t u = ap tree_of where
 
 -- where files are read and have a design, only want of memory is told of them
 module _ (laws : Laws) (files : List (List ℕ)) (read : AreRead files) where
+  expands : (fault : SrcFault) → expansion files ≡ Err fault → ⊥
+  expands fault refused = let clash : Ok read.source ≡ Err fault = sym read.expanded ∙ refused in cc
+
+  is_timed : (source : Source) → expansion files ≡ Ok source → is_usual source.timescale ≡ false → ⊥
+  is_timed source expanded odd =
+      let same : read.source ≡ source = same_ok read.source source (expansion files) read.expanded expanded in
+      true≢false (sym read.usual ∙ ap (λ (s : Source). is_usual s.timescale) same ∙ odd)
+
   not_for_files : (fault : Fault) → IsFileReason files fault → IsOfMemory fault
-  not_for_files (Growth at) (within, (place, reason)) = absurd (omega (arith, laws.growth files place reason, read.short))
-  not_for_files (NotYet at) (within, (place, (tick, first, is))) = absurd (read.clean tick first)
+  not_for_files (Directive at) (within, (place, refused, told)) = absurd (expands _ refused)
+  not_for_files (NoMacro at) (within, (place, refused, told)) = absurd (expands _ refused)
+  not_for_files (Growth at) (within, (place, refused, told)) = absurd (expands _ refused)
+  not_for_files (LeftOpen at) (within, (place, refused, told)) = absurd (expands _ refused)
+  not_for_files (Timescales at) (within, (place, refused, told)) = absurd (expands _ refused)
+  not_for_files (NotYet at) (within, (source, expanded, odd)) = absurd (is_timed source expanded odd)
   not_for_files (Memory m) r = tt
   not_for_files TooLong r = absurd (omega (arith, r, read.within))
   not_for_files (NotEnded at) r = absurd r
@@ -64,8 +84,8 @@ module _ (laws : Laws) (files : List (List ℕ)) (read : AreRead files) where
   not_for_files Write r = absurd r
   not_for_files Read r = absurd r
 
-  module _ (top : Option Text) (design : Design) (is_design : IsDesignOf (joined files) top design) where
-    not_for_text : (fault : Fault) → IsTextReason (joined files) top fault → IsOfMemory fault
+  module _ (top : Option Text) (design : Design) (is_design : IsDesignOf (expanded_text files) top design) where
+    not_for_text : (fault : Fault) → IsTextReason (expanded_text files) top fault → IsOfMemory fault
     not_for_text (NotEnded at) r = absurd (r.0 is_design.is_tree.pieces is_design.is_tree.lexed)
     not_for_text (BadToken at) r = absurd (r.0 is_design.is_tree.pieces is_design.is_tree.lexed)
     not_for_text (NoTree at) r = absurd (r.1 is_design.tree is_design.is_tree)
@@ -77,7 +97,11 @@ module _ (laws : Laws) (files : List (List ℕ)) (read : AreRead files) where
     not_for_text (Width at) (token, (none, broken)) = absurd (none design is_design)
     not_for_text (TooMany at) (token, (none, broken)) = absurd (none design is_design)
     not_for_text (Memory m) r = tt
+    not_for_text (Directive at) r = absurd r
+    not_for_text (NoMacro at) r = absurd r
     not_for_text (Growth at) r = absurd r
+    not_for_text (LeftOpen at) r = absurd r
+    not_for_text (Timescales at) r = absurd r
     not_for_text (NotYet at) r = absurd r
     not_for_text BadLog r = absurd r
     not_for_text NoSuchChoice r = absurd r
@@ -99,7 +123,11 @@ of_writing : (fault : Fault) → IsOfMemory fault → IsOfWriting fault
 of_writing (Memory m) r = tt
 of_writing (NotEnded at) r = absurd r
 of_writing (BadToken at) r = absurd r
+of_writing (Directive at) r = absurd r
+of_writing (NoMacro at) r = absurd r
 of_writing (Growth at) r = absurd r
+of_writing (LeftOpen at) r = absurd r
+of_writing (Timescales at) r = absurd r
 of_writing (NoTree at) r = absurd r
 of_writing (Outside at) r = absurd r
 of_writing (TooDeep at) r = absurd r
@@ -136,7 +164,7 @@ module _ (laws : Laws) where
   module _ (files : List (List ℕ)) (asked : Asked) (log : List ℕ) where
     module _ (p q : Played files asked log) where
       designs : p.design ≡ q.design
-      designs = one_design_of (joined files) asked.top p.design q.design p.is_design q.is_design
+      designs = one_design_of (expanded_text files) asked.top p.design q.design p.is_design q.is_design
 
       logs : (p.head ≡ q.head) × (p.members ≡ q.members)
       logs = laws.one_log p.head q.head p.members q.members p.is_log q.is_log (sym p.written ∙ q.written)
@@ -167,7 +195,11 @@ module _ (laws : Laws) where
       not_for_run Write r = tt
       not_for_run (NotEnded at) r = absurd r
       not_for_run (BadToken at) r = absurd r
+      not_for_run (Directive at) r = absurd r
+      not_for_run (NoMacro at) r = absurd r
       not_for_run (Growth at) r = absurd r
+      not_for_run (LeftOpen at) r = absurd r
+      not_for_run (Timescales at) r = absurd r
       not_for_run (NoTree at) r = absurd r
       not_for_run (Outside at) r = absurd r
       not_for_run (TooDeep at) r = absurd r

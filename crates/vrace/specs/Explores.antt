@@ -3,7 +3,7 @@ use Rattle.std.specs.Prelude.{◌≡◌, ℕ, nat_lt, ◌⊎◌, cond, List, Opt
 use Rattle.std.specs.Io.KnownBytes.{Appends}
 use Rattle.basis.specs.declared.memory.OrMemory.{OrMemory}
 use Rattle.statebook.specs.declared.limits.Limits.{Limits}
-use Rattle.vsrc.specs.Source.{joined}
+use Rattle.vsrc.specs.Expansion.{expanded_text}
 use Rattle.vast.specs.Design.{Design}
 use Rattle.vmodel.specs.Run.{Setting}
 use Rattle.vcd_text.specs.Metered.{Grows, Stops}
@@ -79,7 +79,7 @@ EndsSearch contents setting limits old new fault =
 pub record Searched (files : List (List ℕ)) (asked : Asked) : Type 0 where
   pub are_read : AreRead files
   pub design : Design
-  pub is_design : IsDesignOf (joined files) asked.top design
+  pub is_design : IsDesignOf (expanded_text files) asked.top design
 
 abbrev pub setting_for : (files : List (List ℕ)) (asked : Asked) → Searched files asked → Setting
 setting_for files asked searched = record { design = searched.design; until = asked.until; grain = asked.grain }

@@ -4,12 +4,16 @@ use Rattle.vrace.specs.Places.{place_text}
 use Rattle.vrace.specs.declared.fault.Detail.{Detail}
 use Rattle.vrace.specs.declared.fault.Detail.TheVariants.{Nothing, Place, Item}
 use Rattle.vrace.specs.declared.fault.Fault.{Fault}
-use Rattle.vrace.specs.declared.fault.Fault.TheVariants.{NotEnded, BadToken, Growth, NoTree, Outside, TooDeep, NotYet, NoTop, Doubled, Unknown, Width, TooMany, BadLog, NoSuchChoice, TooManySteps, OutOfLimit, BadReport, FalseEnd, FalseRace, FalseHead, Memory, Write, Read, TooLong}
+use Rattle.vrace.specs.declared.fault.Fault.TheVariants.{NotEnded, BadToken, Directive, NoMacro, Growth, LeftOpen, Timescales, NoTree, Outside, TooDeep, NotYet, NoTop, Doubled, Unknown, Width, TooMany, BadLog, NoSuchChoice, TooManySteps, OutOfLimit, BadReport, FalseEnd, FalseRace, FalseHead, Memory, Write, Read, TooLong}
 
 abbrev pub number_of : Fault → ℕ
 number_of (NotEnded at) = 101
 number_of (BadToken at) = 102
+number_of (Directive at) = 110
+number_of (NoMacro at) = 111
 number_of (Growth at) = 112
+number_of (LeftOpen at) = 113
+number_of (Timescales at) = 114
 number_of (NoTree at) = 201
 number_of (Outside at) = 202
 number_of (TooDeep at) = 203
@@ -36,7 +40,11 @@ number_of TooLong = 904
 abbrev pub detail_of : Fault → Detail
 detail_of (NotEnded at) = Place at
 detail_of (BadToken at) = Place at
+detail_of (Directive at) = Place at
+detail_of (NoMacro at) = Place at
 detail_of (Growth at) = Place at
+detail_of (LeftOpen at) = Place at
+detail_of (Timescales at) = Place at
 detail_of (NoTree at) = Place at
 detail_of (Outside at) = Place at
 detail_of (TooDeep at) = Place at

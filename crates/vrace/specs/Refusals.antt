@@ -1,8 +1,10 @@
 -- When a replay is refused, and what then stands written.
-use Rattle.std.specs.Prelude.{◌≡◌, ℕ, ◌<◌, ◌≤◌, ◌⊎◌, List, Option, Some, true, length, take, drop, slice_get}
+use Rattle.std.specs.Prelude.{◌≡◌, ℕ, ◌<◌, ◌≤◌, ◌⊎◌, List, Option, Some, Ok, Err, true, false, length, take, drop, slice_get}
 use Rattle.std.specs.Io.KnownBytes.{Appends}
-use Rattle.vsrc.specs.Source.{joined}
-use Rattle.vsrc.specs.Expansion.{IsSourceReason}
+use Rattle.vsrc.specs.Source.{Source}
+use Rattle.vsrc.specs.Timescales.{is_usual}
+use Rattle.vsrc.specs.Expansion.{expansion, expanded_text}
+use Rattle.vsrc.specs.declared.fault.SrcFault.{SrcFault}
 use Rattle.vsrc.specs.declared.fault.SrcFault.TheVariants as source
 use Rattle.vsrc.specs.declared.expanded.Place.{Place}
 use Rattle.vlex.specs.Lexed.{Lexed, Piece, HasNoTokens, StopsAt, IsOpen}
@@ -19,8 +21,9 @@ use Rattle.vparse.specs.Profile.{is_outside}
 use Rattle.vcd_text.specs.declared.metered.Metered.{Metered}
 use Rattle.vrace.specs.Asked.{Asked}
 use Rattle.vrace.specs.Replays.{limit, total, AreRead, texts_of, IsTreeOf, IsDesignOf, Played, setting_of, IsDump}
+use Rattle.vrace.specs.declared.fault.At.{At}
 use Rattle.vrace.specs.declared.fault.Fault.{Fault}
-use Rattle.vrace.specs.declared.fault.Fault.TheVariants.{NotEnded, BadToken, Growth, NoTree, Outside, TooDeep, NotYet, NoTop, Doubled, Unknown, Width, TooMany, BadLog, NoSuchChoice, TooManySteps, Memory, Write, TooLong}
+use Rattle.vrace.specs.declared.fault.Fault.TheVariants.{NotEnded, BadToken, Directive, NoMacro, Growth, LeftOpen, Timescales, NoTree, Outside, TooDeep, NotYet, NoTop, Doubled, Unknown, Width, TooMany, BadLog, NoSuchChoice, TooManySteps, Memory, Write, TooLong}
 
 abbrev pub HasTokens : List ℕ → Type 0
 HasTokens text = (pieces : List Piece) × Lexed text pieces
@@ -59,10 +62,20 @@ pub record HasDepth (text : List ℕ) : Type 0 where
   pub within : index ≤ length pieces
   pub deep : 63 ≤ openings (take index (texts_of pieces))
 
--- what a fault of the files says of them; here as below the place of a fault is shown, and not told
+-- the directives and macros of the files have this fault, at this place
+abbrev pub IsRefusedBy : (Place → SrcFault) → List (List ℕ) → At → Type 0
+IsRefusedBy fault files at =
+    (total files ≤ limit) × ((place : Place) × (expansion files ≡ Err (fault place)) × (at ≡ record { 0 = Some place }))
+
+-- what a fault of the files says of them; below the place of a fault is shown, and not told
 abbrev pub IsFileReason : List (List ℕ) → Fault → Type 0
-IsFileReason files (Growth at) = (total files ≤ limit) × ((place : Place) × IsSourceReason files (source.Growth place))
-IsFileReason files (NotYet at) = (total files ≤ limit) × ((place : Place) × IsSourceReason files (source.NotYet place))
+IsFileReason files (Directive at) = IsRefusedBy source.Directive files at
+IsFileReason files (NoMacro at) = IsRefusedBy source.NoMacro files at
+IsFileReason files (Growth at) = IsRefusedBy source.Growth files at
+IsFileReason files (LeftOpen at) = IsRefusedBy source.LeftOpen files at
+IsFileReason files (Timescales at) = IsRefusedBy source.Timescales files at
+IsFileReason files (NotYet at) =
+    (total files ≤ limit) × ((source : Source) × (expansion files ≡ Ok source) × (is_usual source.timescale ≡ false))
 IsFileReason files (Memory m) = Unit {0}
 IsFileReason files TooLong = limit < total files
 IsFileReason files other = ⊥
@@ -90,7 +103,7 @@ IsLogFault log other = ⊥
 
 -- what a fault of the log or of its run says; where a writer failed there was a dump to write
 abbrev pub IsRunReason : List (List ℕ) → Asked → List ℕ → Fault → Type 0
-IsRunReason files asked log BadLog = AreRead files × ((design : Design) × IsDesignOf (joined files) asked.top design) × IsNoNamedLogText log
+IsRunReason files asked log BadLog = AreRead files × ((design : Design) × IsDesignOf (expanded_text files) asked.top design) × IsNoNamedLogText log
 IsRunReason files asked log NoSuchChoice = (played : Played files asked log) × IsMissing (rules_of (setting_of files asked log played)) played.members asked.steps
 IsRunReason files asked log TooManySteps = (played : Played files asked log) × TakesMore (rules_of (setting_of files asked log played)) played.members asked.steps
 IsRunReason files asked log (Memory m) = Unit {0}
@@ -99,7 +112,7 @@ IsRunReason files asked log other = ⊥
 
 -- a fault of the files, or of the text that they make
 abbrev pub IsDesignFault : List (List ℕ) → Option (List ℕ) → Fault → Type 0
-IsDesignFault files top fault = IsFileReason files fault ⊎ (AreRead files × IsTextReason (joined files) top fault)
+IsDesignFault files top fault = IsFileReason files fault ⊎ (AreRead files × IsTextReason (expanded_text files) top fault)
 
 -- why a replay is refused: for its files or their text, or for the log and its run
 abbrev pub IsReason : List (List ℕ) → Asked → List ℕ → Fault → Type 0

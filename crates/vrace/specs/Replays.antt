@@ -1,7 +1,8 @@
 -- What a replay writes, from the bytes of the files to the dump of the run.
-use Rattle.std.specs.Prelude.{◌≡◌, ℕ, ◌≤◌, List, Option, length, map, sum_by}
-use Rattle.vsrc.specs.Source.{joined, text_limit}
-use Rattle.vsrc.specs.Expansion.{HasNoTick}
+use Rattle.std.specs.Prelude.{◌≡◌, ℕ, ◌≤◌, true, List, Option, Ok, length, map, sum_by}
+use Rattle.vsrc.specs.Source.{Source}
+use Rattle.vsrc.specs.Timescales.{is_usual}
+use Rattle.vsrc.specs.Expansion.{expansion, expanded_text}
 use Rattle.vlex.specs.Lexed.{Lexed, Piece}
 use Rattle.vast.specs.Syntax.{Text, SourceTree}
 use Rattle.vast.specs.Derives.{Derives}
@@ -26,11 +27,13 @@ limit = 16777216
 abbrev pub total : List (List ℕ) → ℕ
 total = sum_by length
 
--- The files make a text that is read: neither they nor their text are too long, and they use no directive and no macro.
+-- The files make a text that is read: they aren't too long, their directives and macros have no fault, and no timescale
+-- but 1 ns and 1 ns stands in them.
 pub record AreRead (files : List (List ℕ)) : Type 0 where
   pub within : total files ≤ limit
-  pub short : length (joined files) ≤ text_limit
-  pub clean : HasNoTick (joined files)
+  pub source : Source
+  pub expanded : expansion files ≡ Ok source
+  pub usual : is_usual source.timescale ≡ true
 
 abbrev pub texts_of : List Piece → List Text
 texts_of = map (λ piece. piece.text)
@@ -57,7 +60,7 @@ grain_under head.Statement grain = grains.Statement
 pub record Played (files : List (List ℕ)) (asked : Asked) (log : List ℕ) : Type 0 where
   pub are_read : AreRead files
   pub design : Design
-  pub is_design : IsDesignOf (joined files) asked.top design
+  pub is_design : IsDesignOf (expanded_text files) asked.top design
   pub head : LogHead
   pub members : List (ℕ × ℕ)
   pub is_log : IsLog members

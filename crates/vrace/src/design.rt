@@ -1,8 +1,9 @@
 // From the bytes of the files to the design that they stand for.
 
-ghost use Rattle.std.specs.Prelude.{◌≡◌, ◌≤◌, ℕ, nat_lt, List, Option, IfOk, OnOk, IfErr, option_map};
-ghost use Rattle.vsrc.specs.Source.{Source, file_bytes, joined, source_of};
-ghost use Rattle.vsrc.specs.Expansion.{IsSourceReason};
+ghost use Rattle.std.specs.Prelude.{◌≡◌, ◌≤◌, ℕ, nat_lt, List, Option, IfOk, OnOk, IfErr, option_map, true, false, None, Some, Ok, Err};
+ghost use Rattle.vsrc.specs.Source.{Source, file_bytes};
+ghost use Rattle.vsrc.specs.Timescales.{is_usual};
+ghost use Rattle.vsrc.specs.Expansion.{expansion, expanded_text};
 ghost use Rattle.vlex.specs.Lexed.{HasNoTokens, IsTokenReason};
 ghost use Rattle.vlex.specs.Tokenized.{Tokenized, pieces_of};
 ghost use Rattle.vast.specs.Syntax.{SourceTree};
@@ -12,6 +13,7 @@ ghost use Rattle.vparse.specs.Words.{words_of};
 ghost use Rattle.vparse.specs.Faults.{IsSyntaxReason};
 ghost use Rattle.velab.specs.Elaborate.{Elaborates};
 ghost use Rattle.velab.specs.Reasons.{IsDesignReason, HasNoDesign};
+ghost use Rattle.vrace.specs.declared.fault.Fault.TheVariants.{NotYet};
 ghost use Rattle.vrace.specs.Replays.{limit, total, AreRead, IsDesignOf};
 ghost use Rattle.vrace.specs.Unique.{IsCut, IsReadAs};
 ghost use Rattle.vrace.specs.Refusals.{IsFileReason, IsTextReason, IsDesignFault};
@@ -29,7 +31,9 @@ use vparse::{SyntaxFault, parse};
 use vsrc::{Expanded, Place, SrcFault, expand};
 
 // The place that a fault was found at.
-fn at(place: Place) -> At {
+fn at(place: Place) -> At
+    ensures { result ≡ record { 0 = Some place } }
+{
     At(Some(place))
 }
 
@@ -77,11 +81,14 @@ fn with_places(alloc: Global, tokens: &Tokens<'_>, design: Design) -> Result<Pla
 
 // What stops the expansion of the files.
 fn of_source(fault: SrcFault) -> Fault
-    ensures { (files : List (List ℕ)) → total files ≤ limit → IsSourceReason files fault → IsFileReason files result }
+    ensures { (files : List (List ℕ)) → total files ≤ limit → expansion files ≡ Err fault → IsFileReason files result }
 {
     match fault {
-        SrcFault::NotYet { place } => Fault::NotYet(at(place)),
+        SrcFault::Directive { place } => Fault::Directive(at(place)),
+        SrcFault::NoMacro { place } => Fault::NoMacro(at(place)),
         SrcFault::Growth { place } => Fault::Growth(at(place)),
+        SrcFault::LeftOpen { place } => Fault::LeftOpen(at(place)),
+        SrcFault::Timescales { place } => Fault::Timescales(at(place)),
     }
 }
 
@@ -119,15 +126,28 @@ fn of_design(tokens: &Tokens<'_>, fault: ElabFault) -> Fault
     }
 }
 
+// A text, unless its timescale is another than 1 ns and 1 ns.
+fn unless_timed(text: Expanded) -> Result<Expanded, Fault>
+    ensures ok { IfOk result (λ expanded. expanded ≡ text) }
+    ensures usual { OnOk result (is_usual text.timescale ≡ true) }
+    ensures err { IfErr result (λ fault. (fault ≡ NotYet (record { 0 = None })) × (is_usual text.timescale ≡ false)) }
+{
+    if text.timescale().is_usual() {
+        Ok(text)
+    } else {
+        Err(Fault::NotYet(At(None)))
+    }
+}
+
 // The text of the files.
 fn text_of(alloc: Global, files: &[Vec<u8>]) -> Result<Expanded, Fault>
     requires { total (file_bytes files.now) ≤ limit }
-    ensures ok { IfOk result (λ expanded. expanded ≡ source_of (file_bytes files.now)) }
+    ensures ok { IfOk result (λ expanded. expansion (file_bytes files.now) ≡ Ok expanded) }
     ensures read { OnOk result (AreRead (file_bytes files.now)) }
     ensures err { IfErr result (λ fault. IsFileReason (file_bytes files.now) fault) }
 {
     match expand(alloc, files) {
-        Ok(expanded) => Ok(expanded),
+        Ok(expanded) => unless_timed(expanded),
         Err(OrMemory::Fault(fault)) => Err(of_source(fault)),
         Err(OrMemory::Memory(refused)) => Err(Fault::Memory(refused)),
     }
@@ -198,16 +218,17 @@ fn design_of_text(alloc: Global, text: &Expanded, top: Option<&[u8]>) -> Result<
     with_places(alloc, &tokens, design)
 }
 
-/// The design of the top module in the files, with the places of its statements. E904 where the files together are longer than 16,777,216 bytes; E1xx,
-/// E2xx and E3xx only where their text has no tokens, no tree, or no design; E299 where it uses a directive or a macro;
-/// E901.
+/// The design of the top module in the files, with the places of its statements. E904 where the
+/// files together are longer than 16,777,216 bytes; E110 to E114 where their directives and macros have such a fault; E101,
+/// E102, E2xx and E3xx only where the text that they make has no tokens, no tree, or no design; E299 where its timescale is
+/// another than 1 ns and 1 ns; E901.
 pub fn placed_design_of(
     alloc: Global,
     files: &[Vec<u8>],
     top: Option<&[u8]>,
 ) -> Result<Placed, Fault>
     ensures read { OnOk result (AreRead (file_bytes files.now)) }
-    ensures ok { IfOk result (λ placed. IsDesignOf (joined (file_bytes files.now)) (option_map (λ name. name.now) top.entry) placed.design) }
+    ensures ok { IfOk result (λ placed. IsDesignOf (expanded_text (file_bytes files.now)) (option_map (λ name. name.now) top.entry) placed.design) }
     ensures err { IfErr result (λ fault. IsDesignFault (file_bytes files.now) (option_map (λ name. name.now) top.entry) fault) }
 {
     if is_too_long(files) {
@@ -223,7 +244,7 @@ pub fn placed_design_of(
 /// The same design, where nobody asks for places.
 pub fn design_of(alloc: Global, files: &[Vec<u8>], top: Option<&[u8]>) -> Result<Design, Fault>
     ensures read { OnOk result (AreRead (file_bytes files.now)) }
-    ensures ok { IfOk result (λ design. IsDesignOf (joined (file_bytes files.now)) (option_map (λ name. name.now) top.entry) design) }
+    ensures ok { IfOk result (λ design. IsDesignOf (expanded_text (file_bytes files.now)) (option_map (λ name. name.now) top.entry) design) }
     ensures err { IfErr result (λ fault. IsDesignFault (file_bytes files.now) (option_map (λ name. name.now) top.entry) fault) }
 {
     match placed_design_of(alloc, files, top) {

@@ -35,15 +35,23 @@ pub enum Fault {
     NotEnded(At),
     /// A bad character, number or escape.
     BadToken(At),
-    /// The text grows too long with this file.
+    /// A directive is ill formed, not first on its line, or without its open conditional.
+    Directive(At),
+    /// The name behind a backtick has no macro.
+    NoMacro(At),
+    /// Macros or conditionals nest too deep, or the text or the number of uses grows too large.
     Growth(At),
+    /// A conditional is left open.
+    LeftOpen(At),
+    /// A second timescale differs from the first.
+    Timescales(At),
     /// No tree derives the words.
     NoTree(At),
     /// A word, operator or system name outside the profile.
     Outside(At),
     /// Statements and expressions nest deeper than 64.
     TooDeep(At),
-    /// A directive or a macro, and none is read yet.
+    /// A timescale other than 1 ns and 1 ns, and none but that is run yet.
     NotYet(At),
     /// No module is the top.
     NoTop(At),
@@ -100,7 +108,11 @@ impl Fault {
         match self {
             Fault::NotEnded(_) => 101,
             Fault::BadToken(_) => 102,
+            Fault::Directive(_) => 110,
+            Fault::NoMacro(_) => 111,
             Fault::Growth(_) => 112,
+            Fault::LeftOpen(_) => 113,
+            Fault::Timescales(_) => 114,
             Fault::NoTree(_) => 201,
             Fault::Outside(_) => 202,
             Fault::TooDeep(_) => 203,
@@ -132,7 +144,11 @@ impl Fault {
         match self {
             Fault::NotEnded(at) => Detail::Place(*at),
             Fault::BadToken(at) => Detail::Place(*at),
+            Fault::Directive(at) => Detail::Place(*at),
+            Fault::NoMacro(at) => Detail::Place(*at),
             Fault::Growth(at) => Detail::Place(*at),
+            Fault::LeftOpen(at) => Detail::Place(*at),
+            Fault::Timescales(at) => Detail::Place(*at),
             Fault::NoTree(at) => Detail::Place(*at),
             Fault::Outside(at) => Detail::Place(*at),
             Fault::TooDeep(at) => Detail::Place(*at),

@@ -12,7 +12,6 @@ use sched_core::law::log_text_law;
 use velab::law::elaboration_law;
 use vlex::law::lexing_law;
 use vparse::law::reading_law;
-use vsrc::law::expansion_law;
 
 /// Files have at most one dump under a log, whatever is asked for, and where they have one no fault has its reason
 /// but want of memory and a failed writer. So a dump and each refusal but E901 and E902 rule each other out.
@@ -20,7 +19,6 @@ pub fn replay_law()
     ensures one { (files : List (List ℕ)) (asked : Asked) (log dump other : List ℕ) → IsDump files asked log dump → IsDump files asked log other → dump ≡ other }
     ensures refused { (files : List (List ℕ)) (asked : Asked) (log dump : List ℕ) (fault : Fault) → IsDump files asked log dump → IsReason files asked log fault → IsOfWriting fault }
 {
-    expansion_law();
     lexing_law();
     reading_law();
     elaboration_law();
@@ -32,7 +30,6 @@ pub fn replay_law()
 pub fn check_law()
     ensures refused { (files : List (List ℕ)) (text : List ℕ) (fault : Fault) → length text < 2 ^ 64 → IsTrueText files text → IsCheckReason files text fault → IsOfMemory fault }
 {
-    expansion_law();
     lexing_law();
     reading_law();
     elaboration_law();

@@ -10,7 +10,7 @@ pub struct Explanation {
     advice: &'static str,
 }
 
-const EXPLANATIONS: [Explanation; 24] = [
+const EXPLANATIONS: [Explanation; 28] = [
     Explanation {
         number: 101,
         meaning: "a comment or a string that begins here isn't ended",
@@ -24,10 +24,34 @@ const EXPLANATIONS: [Explanation; 24] = [
         advice: "write digits of the base, and a blank before a letter",
     },
     Explanation {
+        number: 110,
+        meaning: "a directive is ill formed, not first on its line, or without its open conditional",
+        example: "x `define A 1; `else alone",
+        advice: "write it first on its line, as docs/LANGUAGE.md says",
+    },
+    Explanation {
+        number: 111,
+        meaning: "the name behind a backtick has no macro",
+        example: "`X without a `define X",
+        advice: "define it before its use; a directive that docs/LANGUAGE.md doesn't list can't be used",
+    },
+    Explanation {
         number: 112,
-        meaning: "with this file the text grows past 33,554,432 bytes; without a place, a dump that a report would hold has 2^64 bytes or more",
-        example: "over 16 million files",
-        advice: "give fewer files",
+        meaning: "macros or conditionals nest deeper than 32, over 1,000,000 macros are used, or the text grows past 33,554,432 bytes; without a place, a dump that a report would hold has 2^64 bytes or more",
+        example: "`define A `A and a use of A",
+        advice: "take the macro out of its own text, or make less text by macros",
+    },
+    Explanation {
+        number: 113,
+        meaning: "a conditional that begins here is left open",
+        example: "`ifdef A and no `endif",
+        advice: "end it with `endif",
+    },
+    Explanation {
+        number: 114,
+        meaning: "a second timescale differs from the first",
+        example: "`timescale 1ns/1ns and then `timescale 1ns/1ps",
+        advice: "write one timescale for the whole text",
     },
     Explanation {
         number: 201,
@@ -49,9 +73,9 @@ const EXPLANATIONS: [Explanation; 24] = [
     },
     Explanation {
         number: 299,
-        meaning: "not yet run: a backtick outside comments and strings",
-        example: "`timescale 1ns/1ns",
-        advice: "leave directives and macros out for now",
+        meaning: "not yet run: a timescale other than 1 ns and 1 ns",
+        example: "`timescale 1ns/1ps",
+        advice: "write delays in units of 1 ns, and leave the timescale out",
     },
     Explanation {
         number: 301,

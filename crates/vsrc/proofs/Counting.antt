@@ -1,12 +1,12 @@
 -- Counts of places: a partition point is a count, and so is the number of listed places below a place.
-use Rattle.std.proofs.Common.{◌≡◌, ℕ, zero, suc, ◌+◌, ◌-◌, ◌≤◌, Bool, true, false, cond, List, [], ◌∷◌, length, take, drop, get_or, nat_lt, refl, sym, ◌∙◌, ap, arith}
+use Rattle.std.proofs.Common.{◌≡◌, ℕ, zero, suc, ◌+◌, ◌-◌, ◌≤◌, Bool, true, false, cond, List, [], ◌∷◌, length, get_or, nat_lt, refl, ◌∙◌, ap, arith}
 use Rattle.std.specs.List.{count_by, AllWithin}
 use Rattle.std.specs.List.Sorted.{IsNonDecreasing}
-use Rattle.std.proofs.Common.{All, slice_index, drop-cons}
+use Rattle.std.proofs.Common.{All, slice_index}
 use Rattle.std.proofs.lemmas.Bool.{cond_both, lt-ltb, le-ltb, ltb-true, ltb-false}
 use Rattle.std.proofs.lemmas.List.Elements.{All-nil, All-cons, All-head, All-tail}
-use Rattle.std.proofs.lemmas.List.Sums.{sum_by-cons, sum_by-take-drop, count_by-le-length}
-use Rattle.memchr.specs.Find.{places_from, places, is_byte}
+use Rattle.std.proofs.lemmas.List.Sums.{sum_by-cons, count_by-le-length}
+use Rattle.memchr.specs.Find.{places_from, places}
 use Rattle.vsrc.specs.Source.{count_below, file_start}
 
 pub count_by-yes : {X : Type 0} (p : X → Bool) (x : X) (xs : List X) → p x ≡ true → count_by p (x ∷ xs) ≡ 1 + count_by p xs
@@ -47,34 +47,6 @@ module _ (test : ℕ → Bool) (hay : List ℕ) where
       cond_both (test (slice_index hay i)) (i ∷ places_from test hay (i + 1) n) (places_from test hay (i + 1) n) (All P)
       (λ _. All-cons P i _ low later) (λ _. later)
 
-  -- a list of places from i on, those below i + k against the bytes there
-  count_from : (i n k : ℕ) → k ≤ n → i + n ≤ length hay → count_by (λ p. nat_lt p (i + k)) (places_from test hay i n) ≡ count_by test (take k (drop i hay))
-  unfolding places_from
-  count_from i n zero short within = none_below (i + 0) _ (places_not_below i n (i + 0) (omega arith)) ∙ refl
-  count_from i zero (suc k) short within = absurd (omega arith)
-  count_from i (suc n) (suc k) short within =
-      let at : i + suc k ≡ i + 1 + k = omega arith in
-      let x : ℕ = get_or hay i 0 in
-      let later : List ℕ = places_from test hay (i + 1) n in
-      let left : List ℕ = drop (i + 1) hay in
-      let rest : count_by (λ p. nat_lt p (i + suc k)) later ≡ count_by test (take k left) =
-      ap (λ m. count_by (λ p. nat_lt p m) later) at ∙ count_from (i + 1) n k (omega arith) (omega arith) in
-      let next : suc i ≡ i + 1 = omega arith in
-      let cut : drop i hay ≡ x ∷ left = drop-cons hay i 0 (omega arith) ∙ ap (λ m. x ∷ drop m hay) next in
-      let whole : count_by test (take (suc k) (drop i hay)) ≡ count_by test (x ∷ take k left) = ap (λ l. count_by test (take (suc k) l)) cut in
-      cond_both (test x) (i ∷ later) later (λ l. count_by (λ p. nat_lt p (i + suc k)) l ≡ count_by test (take (suc k) (drop i hay)))
-      (λ h. count_by-yes _ i later (lt-ltb i (i + suc k) (omega arith)) ∙ ap (λ m. 1 + m) rest ∙ sym (count_by-yes test x (take k left) h) ∙ sym whole)
-      (λ h. rest ∙ sym (count_by-no test x (take k left) h) ∙ sym whole)
-
-  -- the listed places below a place are as many as the bytes before it that pass
-  pub count_places : (at : ℕ) → at ≤ length hay → count_by (λ p. nat_lt p at) (places test hay) ≡ count_by test (take at hay)
-  count_places at within =
-      let same : at ≡ 0 + at = omega arith in
-      let all : length hay - 0 ≡ length hay = omega arith in
-      ap (λ m. count_by (λ p. nat_lt p m) (places test hay)) same
-      ∙ ap (λ n. count_by (λ p. nat_lt p (0 + at)) (places_from test hay 0 n)) all
-      ∙ count_from 0 (length hay) at within (omega arith)
-
   places_rise : (i n : ℕ) → IsNonDecreasing (places_from test hay i n)
   unfolding places_from
   places_rise i zero = λ a b d low high. absurd (omega arith)
@@ -92,22 +64,20 @@ rises-tail x xs rise i j d le within = rise (suc i) (suc j) d (omega arith) (ome
 rises-head : (x : ℕ) (xs : List ℕ) → IsNonDecreasing (x ∷ xs) → All (λ y. x ≤ y) xs
 rises-head x xs rise j d within = rise zero (suc j) d (omega arith) (omega arith)
 
-take-take : (i j : ℕ) (xs : List ℕ) → i ≤ j → take i (take j xs) ≡ take i xs
-take-take zero j xs le = refl
-take-take (suc i) zero xs le = absurd (omega arith)
-take-take (suc i) (suc j) [] le = refl
-take-take (suc i) (suc j) (x ∷ xs) le = ap (λ l. x ∷ l) (take-take i j xs (omega arith))
+one_rises : (x a b : ℕ) → a ≤ b → cond (nat_lt x a) 1 0 ≤ cond (nat_lt x b) 1 0
+one_rises x a b le = by (nat_lt x a) refl
+  where
+    by : (t : Bool) → nat_lt x a ≡ t → cond t 1 0 ≤ cond (nat_lt x b) 1 0
+    by false e = omega arith
+    by true e = let h : nat_lt x b ≡ true = lt-ltb x b (omega (arith, ltb-true x a e)) in let n : ℕ = cond (nat_lt x b) 1 0 in let same : n ≡ 1 = ap (λ t. cond t 1 0) h in omega (arith, same)
 
--- the line feeds before a place are those before an earlier one and those between
-pub feeds_between : (text feeds : List ℕ) (from at : ℕ) → feeds ≡ places (is_byte 10) text → from ≤ at → at ≤ length text
-    → count_below feeds from + count_by (is_byte 10) (drop from (take at text)) ≡ count_below feeds at
-feeds_between text feeds from at all before within =
-    let first : count_below feeds from ≡ count_by (is_byte 10) (take from text) =
-    ap (λ l. count_below l from) all ∙ count_places (is_byte 10) text from (omega arith) in
-    let both : count_below feeds at ≡ count_by (is_byte 10) (take at text) = ap (λ l. count_below l at) all ∙ count_places (is_byte 10) text at within in
-    let cut : count_by (is_byte 10) (take from (take at text)) + count_by (is_byte 10) (drop from (take at text)) ≡ count_by (is_byte 10) (take at text) =
-    sum_by-take-drop (λ x. cond (is_byte 10 x) 1 0) (take at text) from in
-    ap (λ n. n + count_by (is_byte 10) (drop from (take at text))) (first ∙ ap (count_by (is_byte 10)) (sym (take-take from at text before))) ∙ cut ∙ sym both
+-- as many places stand before a place as before an earlier one, or more
+pub count_below-rises : (places : List ℕ) (a b : ℕ) → a ≤ b → count_below places a ≤ count_below places b
+count_below-rises [] a b le = omega arith
+count_below-rises (x ∷ xs) a b le =
+    let first = sum_by-cons (λ y. cond (nat_lt y a) 1 0) x xs in
+    let second = sum_by-cons (λ y. cond (nat_lt y b) 1 0) x xs in
+    omega (arith, first, second, one_rises x a b le, count_below-rises xs a b le)
 
 -- a file begins no later than what stands in it
 pub file_start-le : (start : ℕ) (borders : List ℕ) (at : ℕ) → start ≤ at → file_start start borders at ≤ at

@@ -1,18 +1,17 @@
 -- Adding a file to a text that is joined, and where its borders stand.
-use Rattle.std.proofs.Common.{◌≡◌, ℕ, zero, suc, ◌+◌, ◌<◌, ◌≤◌, List, [], ◌∷◌, ◌++◌, length, take, drop, map, get_or, refl, sym, ◌∙◌, ap, subst, arith, append_assoc}
+use Rattle.std.proofs.Common.{◌≡◌, ℕ, zero, suc, ◌+◌, ◌<◌, ◌≤◌, true, false, cond, nat_lt, Option, Some, List, [], ◌∷◌, ◌++◌, length, drop, map, get_or, refl, sym, ◌∙◌, ap, subst, arith, append_assoc}
 use Rattle.std.specs.List.{flat_map, All}
 use Rattle.std.specs.List.Sorted.{IsNonDecreasing}
-use Rattle.std.proofs.lemmas.List.{length-append, append-nil}
-use Rattle.std.proofs.lemmas.Grind.{flat_map-append}
+use Rattle.std.proofs.lemmas.List.{length-append}
 use Rattle.std.proofs.lemmas.List.Elements.{All-nil, All-cons}
-use Rattle.memchr.specs.Find.{is_byte, places}
+use Rattle.std.proofs.lemmas.Bool.{lt-ltb, le-ltb}
+use Rattle.memchr.specs.Find.{is_byte}
 use Rattle.basis.specs.declared.memory.OrMemory.{OrMemory}
 use Rattle.basis.specs.declared.memory.OrMemory.TheVariants.{Fault, Memory}
 use Rattle.basis.specs.Reasons.{Because}
 use Rattle.vsrc.specs.declared.fault.SrcFault.{SrcFault}
-use Rattle.vsrc.specs.declared.fault.SrcFault.TheVariants.{NotYet, Growth}
-use Rattle.vsrc.specs.Inner.{IsGrowth, IsIndexed, IsJoinReason}
-use Rattle.vsrc.specs.Source.{joined, borders_of, borders_from, text_limit}
+use Rattle.vsrc.specs.Inner.{IsGrowth, IsLong, AreLines}
+use Rattle.vsrc.specs.Source.{joined, borders_of, borders_from, feeds_of, too_long, too_long_from, text_limit}
 use Rattle.vsrc.proofs.Counting.{rises-cons, places_sorted}
 
 -- a file and the line feed before it
@@ -41,45 +40,45 @@ borders_grow whole borders text file files i here h =
     ∙ ap (λ n. borders ++ length text ∷ borders_from n (drop (i + 1) files)) len
     ∙ sym (ap (λ l. borders ++ borders_from (length text) l) here) ∙ h
 
-take_next : (files : List (List ℕ)) (i : ℕ) (file : List ℕ) (later : List (List ℕ)) → drop i files ≡ file ∷ later → take (i + 1) files ≡ take i files ++ file ∷ []
-take_next files zero file later here = ap (take 1) here
-take_next [] (suc i) file later here = cc
-take_next (x ∷ xs) (suc i) file later here =
-    let sum : suc i + 1 ≡ suc (i + 1) = omega arith in ap (λ n. take n (x ∷ xs)) sum ∙ ap (λ l. x ∷ l) (take_next xs i file later here)
+-- the first file and a further one, where they fit
+pub long_first : (first : List ℕ) (files : List (List ℕ)) → length first ≤ text_limit → too_long_from 2 (length first + 1) files ≡ too_long (first ∷ files)
+long_first first files fits =
+    let low : nat_lt text_limit (0 + length first) ≡ false = le-ltb text_limit (0 + length first) (omega arith) in
+    let same : length first + 1 ≡ 0 + length first + 1 = omega arith in
+    ap (λ n. too_long_from 2 n files) same ∙ sym (ap (λ b. cond b (Some 1) (too_long_from 2 (0 + length first + 1) files)) low)
 
-regroup : (first made file : List ℕ) → first ++ (made ++ ((10 ∷ file) ++ [])) ≡ ((first ++ made) ++ 10 ∷ []) ++ file
-regroup first made file = simp (append_assoc, append-nil)
+long_next : (number before : ℕ) (file : List ℕ) (files : List (List ℕ)) → before + length file ≤ text_limit
+    → too_long_from number before (file ∷ files) ≡ too_long_from (number + 1) (before + length file + 1) files
+long_next number before file files fits =
+    ap (λ b. cond b (Some number) (too_long_from (number + 1) (before + length file + 1) files)) (le-ltb text_limit (before + length file) fits)
 
-joined_more : (first file : List ℕ) (files later : List (List ℕ)) (i : ℕ) → drop i files ≡ file ∷ later
-    → joined (take (i + 1 + 1) (first ∷ files)) ≡ (joined (take (i + 1) (first ∷ files)) ++ 10 ∷ []) ++ file
-joined_more first file files later i here =
-    let more : i + 1 + 1 ≡ suc (i + 1) = omega arith in
-    let one : suc i ≡ i + 1 = omega arith in
-    ap (λ n. joined (take n (first ∷ files))) more ∙ ap (λ l. first ++ flat_map after_feed l) (take_next files i file later here)
-    ∙ ap (λ l. first ++ l) (flat_map-append after_feed (take i files) (file ∷ [])) ∙ regroup first (flat_map after_feed (take i files)) file
-    ∙ ap (λ n. (joined (take n (first ∷ files)) ++ 10 ∷ []) ++ file) one
-
--- the text so far, with one more file
-pub joined_next : (all : List (List ℕ)) (first file : List ℕ) (files later : List (List ℕ)) (text : List ℕ) (i : ℕ) → all ≡ first ∷ files → drop i files ≡ file ∷ later
-    → text ≡ joined (take (i + 1) all) → joined (take (i + 1 + 1) all) ≡ (text ++ 10 ∷ []) ++ file
-joined_next all first file files later text i whole here sofar =
-    ap (λ fs. joined (take (i + 1 + 1) fs)) whole ∙ joined_more first file files later i here
-    ∙ ap (λ l. (l ++ 10 ∷ []) ++ file) (ap (λ fs. joined (take (i + 1) fs)) (sym whole) ∙ sym sofar)
+pub long_more : (whole : Option ℕ) (text file : List ℕ) (files : List (List ℕ)) (i : ℕ) → drop i files ≡ file ∷ drop (i + 1) files → length text + 1 + length file ≤ text_limit
+    → too_long_from (i + 2) (length text + 1) (drop i files) ≡ whole
+    → too_long_from (i + 1 + 2) (length ((text ++ 10 ∷ []) ++ file) + 1) (drop (i + 1) files) ≡ whole
+long_more whole text file files i here fits h =
+    let number : i + 1 + 2 ≡ i + 2 + 1 = omega arith in
+    let len : length ((text ++ 10 ∷ []) ++ file) + 1 ≡ length text + 1 + length file + 1 = simp length-append refl in
+    ap (λ n. too_long_from n (length ((text ++ 10 ∷ []) ++ file) + 1) (drop (i + 1) files)) number
+    ∙ ap (λ n. too_long_from (i + 2 + 1) n (drop (i + 1) files)) len
+    ∙ sym (long_next (i + 2) (length text + 1) file (drop (i + 1) files) fits) ∙ ap (too_long_from (i + 2) (length text + 1)) (sym here) ∙ h
 
 -- why a file isn't joined, told of all the files
-pub overflows_at : (files : List (List ℕ)) (text lead bytes : List ℕ) (n file : ℕ) (e : OrMemory SrcFault) → text ≡ joined (take n files) → length text ≤ text_limit
-    → length text + length lead + length bytes ≡ length (joined (take (n + 1) files)) → file ≡ n + 1
-    → Because (IsGrowth text lead bytes file) e → Because (IsJoinReason files) e
-overflows_at files text lead bytes n file (Fault (NotYet place)) made short sum number h = h
-overflows_at files text lead bytes n file (Fault (Growth place)) made short sum number h = (
-  n,
-  record {
-    place_is = h.1 ∙ ap (λ k. record { file = k; line = 1 }) number;
-    before = omega (arith, ap length made);
-    behind = omega (arith, h.0);
-  },
-)
-overflows_at files text lead bytes n file (Memory m) made short sum number h = tt
+pub long_with : (whole : Option ℕ) (text bytes file : List ℕ) (files : List (List ℕ)) (i : ℕ) (e : OrMemory SrcFault) → bytes ≡ file → drop i files ≡ file ∷ drop (i + 1) files
+    → too_long_from (i + 2) (length text + 1) (drop i files) ≡ whole → Because (IsGrowth text (10 ∷ []) bytes (i + 2)) e → Because (IsLong whole) e
+long_with whole text bytes file files i (Fault fault) same here h g =
+    let high : nat_lt text_limit (length text + 1 + length file) ≡ true = lt-ltb text_limit (length text + 1 + length file) (omega (arith, g.0, ap length same)) in (
+      i + 2,
+      sym h ∙ ap (too_long_from (i + 2) (length text + 1)) here
+          ∙ ap (λ b. cond b (Some (i + 2)) (too_long_from (i + 2 + 1) (length text + 1 + length file + 1) (drop (i + 1) files))) high,
+      g.1,
+    )
+long_with whole text bytes file files i (Memory m) same here h g = tt
+
+pub long_at_once : (first : List ℕ) (bytes : List ℕ) (files : List (List ℕ)) (e : OrMemory SrcFault) → bytes ≡ first → Because (IsGrowth [] [] bytes 1) e → Because (IsLong (too_long (first ∷ files))) e
+long_at_once first bytes files (Fault fault) same g =
+    let high : nat_lt text_limit (0 + length first) ≡ true = lt-ltb text_limit (0 + length first) (omega (arith, g.0, ap length same)) in
+    (1, ap (λ b. cond b (Some 1) (too_long_from 2 (0 + length first + 1) files)) high, g.1)
+long_at_once first bytes files (Memory m) same g = tt
 
 borders_low : (end : ℕ) (files : List (List ℕ)) (least : ℕ) → least ≤ end → All (λ b. least ≤ b) (borders_from end files)
 borders_low end [] least le = All-nil (λ b. least ≤ b)
@@ -107,16 +106,14 @@ borders_within (file ∷ files) =
     let P : ℕ → Type 0 = λ n. All (λ b. b < n) (borders_from (length file) files) in
     subst P (sym (length-append file (flat_map after_feed files))) (borders_high (length file) files)
 
--- what files make is indexed by their borders and the places of the line feeds
-pub joined_indexed : (files : List (List ℕ)) (text borders feeds : List ℕ) → text ≡ joined files → borders ≡ borders_of files → feeds ≡ places (is_byte 10) text
-    → length text ≤ text_limit → IsIndexed text borders feeds
-joined_indexed files text borders feeds made cut all short =
+-- the lines of files
+pub joined_lines : (files : List (List ℕ)) (text borders feeds : List ℕ) → text ≡ joined files → borders ≡ borders_of files → feeds ≡ feeds_of text
+    → length text ≤ text_limit → AreLines borders feeds
+joined_lines files text borders feeds made cut all short =
     let Within : List ℕ → List ℕ → Type 0 = λ t bs. All (λ b. b < length t) bs in
     let within : Within text borders = rw (made, cut) (borders_within files) in
     record {
       rising = subst IsNonDecreasing (sym cut) (borders_sorted files);
-      within = λ k low. within k 0 low;
+      within = λ k low. omega (arith, within k 0 low);
       feeds_rising = subst IsNonDecreasing (sym all) (places_sorted (is_byte 10) text);
-      all = all;
-      short = short;
     }

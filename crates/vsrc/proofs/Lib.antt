@@ -1,4 +1,6 @@
 mod Counting
 mod Joining
 pub mod Stretches
-mod Ticks
+pub mod MacroLines
+pub mod MacroText
+pub mod Whole

@@ -1,31 +1,68 @@
 -- What the code keeps and its inner functions answer; nothing here has to be believed.
-use Rattle.std.specs.Prelude.{◌≡◌, ℕ, ◌+◌, ◌≤◌, ◌<◌, List, length, drop, slice_index, Option}
+use Rattle.std.specs.Prelude.{◌≡◌, ℕ, ◌+◌, ◌<◌, List, length, drop, slice_index, Option, Some, option_map, Vec, Result, Ok, Err}
+use Rattle.std.specs.Map.{lookup}
+use Rattle.std.specs.Str.{bytes_eq}
 use Rattle.std.specs.List.Sorted.{IsNonDecreasing}
-use Rattle.memchr.specs.Find.{is_byte, places}
+use Rattle.std.specs.Borrow.{Bor}
 use Rattle.vsrc.specs.Source.{text_limit}
+use Rattle.vsrc.specs.Words.{Named}
+use Rattle.vsrc.specs.declared.timescale.Scale.{Scale}
+use Rattle.vsrc.specs.declared.timescale.Timescale.{Timescale}
+use Rattle.vsrc.specs.Timescales.{Scaled, Timed}
+use Rattle.vsrc.specs.Macros.{Macros}
+use Rattle.vsrc.specs.declared.refusal.Refusal.{Refusal}
 use Rattle.vsrc.specs.Outside.{further, string_end}
-use Rattle.vsrc.specs.Expansion.{Overflows}
 use Rattle.vsrc.specs.declared.fault.SrcFault.{SrcFault}
-use Rattle.vsrc.specs.declared.fault.SrcFault.TheVariants.{NotYet, Growth}
+use Rattle.vsrc.specs.declared.fault.SrcFault.TheVariants.{Growth}
 
--- borders rise and stand in the text; feeds are the places of all its line feeds; the text is not too long
-pub record IsIndexed (text borders feeds : List ℕ) : Type 0 where
+-- where the lines of files begin: the line feeds between files, and all of them
+pub record LinesOf : Type 0 where
+  pub borders : List ℕ
+  pub feeds : List ℕ
+
+-- both rise, and the borders stand in a text that isn't too long
+pub record AreLines (borders feeds : List ℕ) : Type 0 where
   pub rising : IsNonDecreasing borders
-  pub within : (k : ℕ) → k < length borders → slice_index borders k < length text
+  pub within : (k : ℕ) → k < length borders → slice_index borders k < text_limit
   pub feeds_rising : IsNonDecreasing feeds
-  pub all : feeds ≡ places (is_byte 10) text
-  pub short : length text ≤ text_limit
 
--- what joining the files may answer
-abbrev pub IsJoinReason : List (List ℕ) → SrcFault → Type 0
-IsJoinReason files (NotYet place) = ⊥
-IsJoinReason files (Growth place) = (n : ℕ) × Overflows files place n
+-- a fault of files that are too long together, told by the number of the file with which they get so
+abbrev pub is_long_with : ℕ → SrcFault
+is_long_with number = Growth (record { file = number; line = 1 })
+
+abbrev pub IsLong : Option ℕ → SrcFault → Type 0
+IsLong first fault = (number : ℕ) × (first ≡ Some number) × (fault ≡ is_long_with number)
 
 -- the text is too long with what leads this file and the file's bytes
 abbrev pub IsGrowth : List ℕ → List ℕ → List ℕ → ℕ → SrcFault → Type 0
-IsGrowth text lead bytes file (NotYet place) = ⊥
-IsGrowth text lead bytes file (Growth place) = (text_limit < length text + length lead + length bytes) × (place ≡ record { file = file; line = 1 })
+IsGrowth text lead bytes file fault = (text_limit < length text + length lead + length bytes) × (fault ≡ is_long_with file)
 
 -- where the string that is open at a place ends, told from the head of the text
 abbrev pub string_end_from : List ℕ → ℕ → Option ℕ
 string_end_from text at = further at (string_end (drop at text))
+
+-- ---- directives
+
+-- a name that was found, with how many bytes it takes
+abbrev pub named_of : Option (Bor (List ℕ) × ℕ) → Option Named
+named_of = option_map (λ found. record { name = found.0.now; len = found.1 })
+
+-- a length of time and a timescale that were found, with how many bytes they take
+abbrev pub scaled_of : Option (Scale × ℕ) → Option Scaled
+scaled_of = option_map (λ found. record { scale = found.0; len = found.1 })
+
+abbrev pub timed_of : Option (Timescale × ℕ) → Option Timed
+timed_of = option_map (λ found. record { timescale = found.0; len = found.1 })
+
+-- the bytes of a macro's text that was found
+abbrev pub text_of : Option (Bor (List ℕ)) → Option (List ℕ)
+text_of = option_map (λ text. text.now)
+
+-- what the entries of a table say of a name
+abbrev pub macros_of : {A : Type 0} → List (Bor (List ℕ) × Vec ℕ A) → Macros
+macros_of entries name = option_map (λ text. text.items) (lookup (λ key. bytes_eq name key.now) entries)
+
+-- the text that was found for a name
+abbrev pub found_text : Result (Bor (List ℕ)) Refusal → Result (List ℕ) Refusal
+found_text (Ok text) = Ok text.now
+found_text (Err refusal) = Err refusal

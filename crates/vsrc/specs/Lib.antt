@@ -1,5 +1,10 @@
 pub mod Source
 pub mod Outside
+pub mod Words
+pub mod Timescales
+pub mod Macros
+pub mod Conditionals
+pub mod Walk
 pub mod Expansion
 pub mod Inner
-pub mod Laws
+pub mod Walking

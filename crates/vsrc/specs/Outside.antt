@@ -1,5 +1,5 @@
--- Where comments and strings end (IEEE 1364-2005, 3.3 and 3.6), and where a backtick stands outside them.
-use Rattle.std.specs.Prelude.{◌≢◌, ℕ, ◌+◌, ◌==◌, ◌&&◌, not, List, [], ◌∷◌, length, drop, Option, None, Some, unwrap_or, option_map, if◌then◌else◌}
+-- Where comments and strings end (IEEE 1364-2005, 3.3 and 3.6).
+use Rattle.std.specs.Prelude.{ℕ, ◌+◌, ◌==◌, ◌&&◌, not, List, [], ◌∷◌, length, Option, None, Some, unwrap_or, option_map, if◌then◌else◌}
 use Rattle.std.specs.List.{position_or_len}
 use Rattle.memchr.specs.Find.{is_byte}
 
@@ -50,9 +50,3 @@ stretch_len (c ∷ cs) =
     if c == 34 then 1 + string_len cs
     else if c == 47 then slash_len cs
     else 1
-
--- the first backtick outside comments and strings stands at this place
-pub data IsFirstTick : List ℕ → ℕ → Type 0 where
-  here : (cs : List ℕ) → IsFirstTick (96 ∷ cs) 0
-  later : (c : ℕ) (cs : List ℕ) (at : ℕ) → c ≢ 96 → IsFirstTick (drop (stretch_len (c ∷ cs)) (c ∷ cs)) at
-      → IsFirstTick (c ∷ cs) (stretch_len (c ∷ cs) + at)

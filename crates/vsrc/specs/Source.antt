@@ -1,20 +1,16 @@
--- The text that files make, and the file and line of each place in it.
-use Rattle.std.specs.Prelude.{ℕ, ◌+◌, List, [], ◌∷◌, Vec, length, map, take, drop, count_by, nat_lt, if◌then◌else◌}
+-- The text that files make together, and the file and line of each place in it.
+use Rattle.std.specs.Prelude.{ℕ, ◌+◌, ◌-◌, List, [], ◌∷◌, Vec, length, map, count_by, nat_lt, if◌then◌else◌, Option, None, Some}
 use Rattle.std.specs.List.{join_by}
-use Rattle.memchr.specs.Find.{is_byte}
+use Rattle.std.specs.List.{slice_index_or}
+use Rattle.memchr.specs.Find.{is_byte, places}
 use Rattle.vsrc.specs.declared.expanded.Place.{Place}
-use Rattle.vsrc.specs.declared.expanded.Scale.{Scale}
-use Rattle.vsrc.specs.declared.expanded.Unit.TheVariants.{Nanosecond}
+use Rattle.vsrc.specs.declared.timescale.Timescale.{Timescale}
 
 -- the most bytes that a text may have, 2 ^ 25
 abbrev pub text_limit : ℕ
 text_limit = 33554432
 
--- a text, the places of the line feeds that were put between its files, and its timescale
-pub record Source : Type 0 where
-  pub text : List ℕ
-  pub borders : List ℕ
-  pub scale : Scale
+-- ---- files in a row
 
 -- the bytes of files that the program was given
 abbrev pub file_bytes : {A : Type 0} → List (Vec ℕ A) → List (List ℕ)
@@ -24,7 +20,18 @@ file_bytes = map (λ file. file.items)
 abbrev pub joined : List (List ℕ) → List ℕ
 joined files = join_by (λ file. file) (10 ∷ []) files
 
--- the places of those line feeds, where the first file ends at `end`
+-- The first file with which they get too long, by its number: the next file has this number, and so many bytes stand
+-- before it, the line feed included.
+abbrev pub too_long_from : ℕ → ℕ → List (List ℕ) → Option ℕ
+too_long_from number before [] = None
+too_long_from number before (file ∷ files) =
+    if nat_lt text_limit (before + length file) then Some number
+    else too_long_from (number + 1) (before + length file + 1) files
+
+abbrev pub too_long : List (List ℕ) → Option ℕ
+too_long files = too_long_from 1 0 files
+
+-- the places of the line feeds that were put between them, where the first file ends at `end`
 abbrev pub borders_from : ℕ → List (List ℕ) → List ℕ
 borders_from end [] = []
 borders_from end (file ∷ files) = end ∷ borders_from (end + 1 + length file) files
@@ -33,9 +40,11 @@ abbrev pub borders_of : List (List ℕ) → List ℕ
 borders_of [] = []
 borders_of (file ∷ files) = borders_from (length file) files
 
--- what files stand for: as no directive sets the timescale, it is 1 ns
-abbrev pub source_of : List (List ℕ) → Source
-source_of files = record { text = joined files; borders = borders_of files; scale = record { count = 1; unit = Nanosecond } }
+-- the places of all line feeds of a text
+abbrev pub feeds_of : List ℕ → List ℕ
+feeds_of text = places (is_byte 10) text
+
+-- ---- where a byte stands
 
 -- how many of the places stand before `at`
 abbrev pub count_below : List ℕ → ℕ → ℕ
@@ -46,10 +55,27 @@ abbrev pub file_start : ℕ → List ℕ → ℕ → ℕ
 file_start start [] at = start
 file_start start (border ∷ borders) at = if nat_lt border at then file_start (border + 1) borders at else start
 
--- The file is one more than the borders before the place, the line one more than the line feeds
--- between the file's start and the place.
-abbrev pub place_of : Source → ℕ → Place
-place_of source at = record {
-  file = 1 + count_below source.borders at;
-  line = 1 + count_by (is_byte 10) (drop (file_start 0 source.borders at) (take at source.text));
+-- The file is one more than the borders before the place, the line one more than the line feeds before it, those
+-- before its file left out.
+abbrev pub place_by : List ℕ → List ℕ → ℕ → Place
+place_by borders feeds at = record {
+  file = 1 + count_below borders at;
+  line = 1 + (count_below feeds at - count_below feeds (file_start 0 borders at));
 }
+
+-- the file and line of a place in the joined files
+abbrev pub place_in : List (List ℕ) → ℕ → Place
+place_in files = place_by (borders_of files) (feeds_of (joined files))
+
+-- ---- what files are expanded to
+
+-- A text, for each of its bytes the file and line that it comes from, those of its end, and the timescale.
+pub record Source : Type 0 where
+  pub text : List ℕ
+  pub places : List Place
+  pub end : Place
+  pub timescale : Timescale
+
+-- the file and line of the byte at `at`, and at the text's length those of its end
+abbrev pub place_of : Source → ℕ → Place
+place_of source at = slice_index_or source.places at source.end

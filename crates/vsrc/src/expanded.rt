@@ -1,9 +1,10 @@
 // Text with the place of each of its bytes in the files.
 
-ghost use Rattle.std.specs.Prelude.{◌≡◌, ℕ, ◌≤◌, length, codes};
+ghost use Rattle.std.specs.Prelude.{◌≡◌, ◌≤◌, length, map};
 ghost use Rattle.std.specs.List.Sorted.{IsNonDecreasing};
-ghost use Rattle.vsrc.specs.Source.{count_below, text_limit};
+ghost use Rattle.vsrc.specs.Source.{count_below, place_by, text_limit};
 
+use crate::timescale::Timescale;
 use std::marker::Model;
 
 /// A place in the files: the number of the file and of the line in it, both from 1.
@@ -13,71 +14,103 @@ pub struct Place {
     pub line: usize,
 }
 
-/// A unit of time, as 19.8 of IEEE 1364-2005 names it.
-#[derive(Clone, Copy, Debug, PartialEq, Eq)]
-pub enum Unit {
-    /// `ns`
-    Nanosecond,
-}
-
-impl Unit {
-    /// The unit as a timescale spells it.
-    pub fn name(self) -> &'static str
-        ensures { result.now ≡ codes "ns" }
-    {
-        match self {
-            Unit::Nanosecond => "ns",
-        }
-    }
-}
-
-/// The timescale of a text: time is counted in `count` of `unit`, the precision.
-#[derive(Clone, Copy, Debug, PartialEq, Eq)]
-pub struct Scale {
-    pub count: u8,
-    pub unit: Unit,
-}
-
-/// The text of the files, of at most 33,554,432 bytes, with the place of each byte and the timescale.
+/// The text that files are expanded to, of at most 33,554,432 bytes, with the place of each byte and the timescale.
 #[derive(Drop)]
 pub struct Expanded {
     text: Vec<u8>,
+    // for each byte where in the joined files it comes from, and where those end
+    origins: Vec<u32>,
+    end: usize,
+    lines: Lines,
+    timescale: Timescale,
+}
+
+/// Where in the joined files the lines of the files begin.
+#[derive(Drop)]
+pub struct Lines {
     // the places of the line feeds put between files
     borders: Vec<usize>,
     // the places of all line feeds
     feeds: Vec<usize>,
-    scale: Scale,
+}
+
+impl Model for Lines {
+    ghost use Rattle.vsrc.specs.Inner.{LinesOf, AreLines};
+
+    ghost Value = { LinesOf };
+
+    ghost view = { λ l. record { borders = l.borders.items; feeds = l.feeds.items } };
+
+    ghost invariant = { λ l. AreLines l.borders.items l.feeds.items };
+}
+
+impl Lines {
+    ghost use Rattle.vsrc.specs.Inner.{AreLines};
+
+    /// The lines of these borders and line feeds.
+    pub fn new(borders: Vec<usize>, feeds: Vec<usize>) -> Lines
+        requires { AreLines borders.items feeds.items }
+        ensures { result ≡ record { borders = borders.items; feeds = feeds.items } }
+    {
+        Lines { borders, feeds }
+    }
+
+    /// The file and the line of a place in the joined files.
+    pub fn place(&self, at: usize) -> Place
+        ensures { result ≡ place_by self.now.borders self.now.feeds at }
+    {
+        let file = below(&self.borders, at);
+        let begins = if file == 0 {
+            0
+        } else {
+            self.borders[file - 1] + 1
+        };
+        let line = below(&self.feeds, at) - below(&self.feeds, begins);
+        Place {
+            file: file + 1,
+            line: line + 1,
+        }
+    }
 }
 
 impl Model for Expanded {
-    ghost use Rattle.vsrc.specs.Source.{Source};
-    ghost use Rattle.vsrc.specs.Inner.{IsIndexed};
+    ghost use Rattle.std.specs.Prelude.{◌≤◌, length, map};
+    ghost use Rattle.vsrc.specs.Source.{Source, place_by, text_limit};
 
     ghost Value = { Source };
 
-    ghost view = { λ e. record { text = e.text.items; borders = e.borders.items; scale = e.scale } };
+    ghost view = { λ e. record {
+      text = e.text.items;
+      places = map (place_by e.lines.borders e.lines.feeds) e.origins.items;
+      end = place_by e.lines.borders e.lines.feeds e.end;
+      timescale = e.timescale;
+    } };
 
-    ghost invariant = { λ e. IsIndexed e.text.items e.borders.items e.feeds.items };
+    ghost invariant = { λ e. length e.text.items ≤ text_limit };
 }
 
 impl Expanded {
     ghost use Rattle.vsrc.specs.Source.{place_of};
-    ghost use Rattle.vsrc.specs.Inner.{IsIndexed};
 
     pub(crate) fn new(
         text: Vec<u8>,
-        borders: Vec<usize>,
-        feeds: Vec<usize>,
-        scale: Scale,
+        origins: Vec<u32>,
+        end: usize,
+        lines: Lines,
+        timescale: Timescale,
     ) -> Expanded
-        requires { IsIndexed text.items borders.items feeds.items }
-        ensures { result ≡ record { text = text.items; borders = borders.items; scale = scale } }
+        requires { length text.items ≤ text_limit }
+        ensures text { result.text ≡ text.items }
+        ensures places { result.places ≡ map (place_by lines.borders lines.feeds) origins.items }
+        ensures end { result.end ≡ place_by lines.borders lines.feeds end }
+        ensures timescale { result.timescale ≡ timescale }
     {
         Expanded {
             text,
-            borders,
-            feeds,
-            scale,
+            origins,
+            end,
+            lines,
+            timescale,
         }
     }
 
@@ -94,24 +127,18 @@ impl Expanded {
         requires { at ≤ length self.now.text }
         ensures { result ≡ place_of self.now at }
     {
-        let file = below(&self.borders, at);
-        let begins = if file == 0 {
-            0
+        if at < self.origins.len() {
+            self.lines.place(self.origins[at] as usize)
         } else {
-            self.borders[file - 1] + 1
-        };
-        let line = below(&self.feeds, at) - below(&self.feeds, begins);
-        Place {
-            file: file + 1,
-            line: line + 1,
+            self.lines.place(self.end)
         }
     }
 
     /// The timescale.
-    pub fn scale(&self) -> Scale
-        ensures { result ≡ self.now.scale }
+    pub fn timescale(&self) -> Timescale
+        ensures { result ≡ self.now.timescale }
     {
-        self.scale
+        self.timescale
     }
 }
 

@@ -1,44 +1,54 @@
-// Files to one text: joining them, and finding the first backtick.
+// Files to one text: joining them, and the walk over what they are together.
 
-ghost use Rattle.std.specs.Prelude.{◌≡◌, ◌≤◌, ◌++◌, length, IfOk, OnOk};
-ghost use Rattle.memchr.specs.Find.{is_byte, places};
+ghost use Rattle.std.specs.Prelude.{◌≡◌, ◌≤◌, ◌+◌, ◌++◌, length, None, IfOk, OnOk, Ok, Err};
 ghost use Rattle.basis.specs.Reasons.{IfFault};
-ghost use Rattle.vsrc.specs.Expansion.{HasNoTick, IsSourceReason};
-ghost use Rattle.vsrc.specs.Inner.{IsJoinReason, IsGrowth};
-ghost use Rattle.vsrc.specs.Source.{file_bytes, joined, borders_of, source_of, text_limit};
+ghost use Rattle.vsrc.specs.Expansion.{expansion, fault_at};
+ghost use Rattle.vsrc.specs.Inner.{IsGrowth, IsLong};
+ghost use Rattle.vsrc.specs.Source.{file_bytes, joined, borders_of, feeds_of, place_by, too_long, text_limit};
 
-use crate::expanded::{Expanded, Place, Scale, Unit};
+use crate::expanded::{Expanded, Lines, Place};
 use crate::fault::SrcFault;
-use crate::outside::first_tick;
+use crate::output::TEXT_LIMIT;
+use crate::refusal::{Refusal, Why};
+use crate::timescale::usual_timescale;
+use crate::walk::walk_over;
 use basis::{NoMemory, OrMemory};
 use memchr::memchr_iter;
 use std::alloc::Global;
 
-// The most bytes that a text may have.
-const LIMIT: usize = 33_554_432;
-
-/// The text of the files in order, with a line feed between each two; no file gives the empty text.
-/// E299 at the first backtick outside comments and strings, E112 where the text would have over
-/// 33,554,432 bytes, E901 where a growth was refused.
+/// What directives and macros make of the files in order; no file gives the empty text. E110 to E114 where that has such
+/// a fault, with its place; E901 where a growth was refused.
 pub fn expand(alloc: Global, files: &[Vec<u8>]) -> Result<Expanded, OrMemory<SrcFault>>
-    ensures ok { IfOk result (λ expanded. expanded ≡ source_of (file_bytes files.now)) }
-    ensures short { OnOk result (length (joined (file_bytes files.now)) ≤ text_limit) }
-    ensures clean { OnOk result (HasNoTick (joined (file_bytes files.now))) }
-    ensures err { IfFault result (λ fault. IsSourceReason (file_bytes files.now) fault) }
+    ensures ok { IfOk result (λ expanded. expansion (file_bytes files.now) ≡ Ok expanded) }
+    ensures err { IfFault result (λ fault. expansion (file_bytes files.now) ≡ Err fault) }
 {
     let (text, borders) = join(alloc, files)?;
     let feeds = feeds_of(alloc, &text)?;
-    let tick = first_tick(&text);
-    let scale = Scale {
-        count: 1,
-        unit: Unit::Nanosecond,
-    };
-    let expanded = Expanded::new(text, borders, feeds, scale);
-    match tick {
-        Some(at) => Err(OrMemory::Fault(SrcFault::NotYet {
-            place: expanded.place(at),
-        })),
-        None => Ok(expanded),
+    let end = text.len();
+    let lines = Lines::new(borders, feeds);
+    match walk_over(alloc, &text) {
+        Ok(walk) => {
+            let (made, timescale) = walk.into_parts();
+            let (expanded, origins) = made.into_parts();
+            let timescale = timescale.unwrap_or(usual_timescale());
+            Ok(Expanded::new(expanded, origins, end, lines, timescale))
+        }
+        Err(OrMemory::Fault(refusal)) => Err(OrMemory::Fault(fault_of(&lines, refusal))),
+        Err(OrMemory::Memory(refused)) => Err(OrMemory::Memory(refused)),
+    }
+}
+
+// A refusal as the fault of its number, with its file and line.
+fn fault_of(lines: &Lines, refusal: Refusal) -> SrcFault
+    ensures { result ≡ fault_at refusal.why (place_by lines.now.borders lines.now.feeds refusal.at) }
+{
+    let place = lines.place(refusal.at);
+    match refusal.why {
+        Why::Directive => SrcFault::Directive { place },
+        Why::Macro => SrcFault::NoMacro { place },
+        Why::Limit => SrcFault::Growth { place },
+        Why::Open => SrcFault::LeftOpen { place },
+        Why::Timescales => SrcFault::Timescales { place },
     }
 }
 
@@ -47,7 +57,8 @@ fn join(alloc: Global, files: &[Vec<u8>]) -> Result<(Vec<u8>, Vec<usize>), OrMem
     ensures text { IfOk result (λ made. made.0.items ≡ joined (file_bytes files.now)) }
     ensures borders { IfOk result (λ made. made.1.items ≡ borders_of (file_bytes files.now)) }
     ensures short { IfOk result (λ made. length made.0.items ≤ text_limit) }
-    ensures err { IfFault result (λ fault. IsJoinReason (file_bytes files.now) fault) }
+    ensures whole { OnOk result (too_long (file_bytes files.now) ≡ None) }
+    ensures err { IfFault result (IsLong (too_long (file_bytes files.now))) }
 {
     let mut text = Vec::new(alloc);
     let mut borders = Vec::new(alloc);
@@ -73,9 +84,10 @@ fn append(
     requires lead { length lead.now ≤ 1 }
     ensures ok { OnOk result (text.new.items ≡ (text.old.items ++ lead.now) ++ bytes.now) }
     ensures short { OnOk result (length text.new.items ≤ text_limit) }
+    ensures fits { OnOk result (length text.old.items + length lead.now + length bytes.now ≤ text_limit) }
     ensures err { IfFault result (IsGrowth text.old.items lead.now bytes.now file) }
 {
-    if bytes.len() > LIMIT || text.len() + lead.len() > LIMIT - bytes.len() {
+    if bytes.len() > TEXT_LIMIT || text.len() + lead.len() > TEXT_LIMIT - bytes.len() {
         return Err(OrMemory::Fault(SrcFault::Growth {
             place: Place { file, line: 1 },
         }));
@@ -87,7 +99,7 @@ fn append(
 
 // The places of the line feeds.
 fn feeds_of(alloc: Global, text: &[u8]) -> Result<Vec<usize>, NoMemory>
-    ensures { IfOk result (λ feeds. feeds.items ≡ places (is_byte 10) text.now) }
+    ensures { IfOk result (λ feeds. feeds.items ≡ feeds_of text.now) }
 {
     Ok(memchr_iter(b'\n', text).collect(alloc)?)
 }

@@ -1,33 +1,13 @@
-// Where comments and strings end, and the first backtick outside them.
+// Where comments and strings end.
 
-ghost use Rattle.std.specs.Prelude.{◌≡◌, ◌+◌, ◌==◌, ◌&&◌, ◌<◌, ◌≤◌, ℕ, length, drop, slice_index, IfSome, MatchOption};
-ghost use Rattle.vsrc.specs.Expansion.{HasNoTick};
+ghost use Rattle.std.specs.Prelude.{◌≡◌, ◌+◌, ◌==◌, ◌&&◌, ◌<◌, ◌≤◌, ℕ, length, drop, slice_index, IfSome};
 ghost use Rattle.vsrc.specs.Inner.{string_end_from};
-ghost use Rattle.vsrc.specs.Outside.{block_end, string_end, line_len, block_len, string_len, slash_len, stretch_len, IsFirstTick};
+ghost use Rattle.vsrc.specs.Outside.{block_end, string_end, line_len, block_len, string_len, slash_len, stretch_len};
 
 use memchr::memchr;
 
-/// The place of the first backtick that stands outside comments and strings.
-pub fn first_tick(text: &[u8]) -> Option<usize>
-    ensures tick { MatchOption result (HasNoTick text.now) (IsFirstTick text.now) }
-    ensures within { IfSome result (λ at. at < length text.now) }
-{
-    let Some(_) = memchr(b'`', text) else {
-        return None;
-    };
-    let mut at = 0;
-    while at < text.len() {
-        let rest = text.split_at(at).1;
-        if rest[0] == b'`' {
-            return Some(at);
-        }
-        at += stretch_len(rest);
-    }
-    None
-}
-
-// How many bytes belong together at the head.
-fn stretch_len(text: &[u8]) -> usize
+/// How many bytes belong together at the head: a comment, a string, or one byte.
+pub fn stretch_len(text: &[u8]) -> usize
     requires { 0 < length text.now }
     ensures value { result ≡ stretch_len text.now }
     ensures some { 0 < result }

@@ -1,6 +1,5 @@
 use Rattle.vlex.proofs.Cuts.{one_list}
-use Rattle.vlex.proofs.Ticks.{no_tick}
 use Rattle.vlex.proofs.law.lexing_law.Goals as goal
 
 pub returns : goal.returns
-returns c = record { one = one_list; tickless = no_tick }
+returns c = record { one = one_list }

@@ -5,7 +5,6 @@ use Rattle.vrace.proofs.law.check_law.Goals as goal
 pub returns : goal.returns
 returns c =
     let laws : Laws = record {
-      growth = c.expansion_law.ensures.growth;
       one_list = c.lexing_law.ensures.one;
       reads = c.reading_law.ensures.complete;
       one_design = c.elaboration_law.ensures.one;

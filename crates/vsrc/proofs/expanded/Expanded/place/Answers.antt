@@ -1,59 +1,16 @@
-use Rattle.std.proofs.Common.{◌≡◌, ◌+◌, ◌-◌, ◌≤◌, ◌<◌, ℕ, List, suc, arith, get_or, length, drop, take, count_by, sym, ◌∙◌, ap}
+use Rattle.std.proofs.Common.{◌≡◌, ◌<◌, ℕ, List, length, get_or, vec_len, ap, sym, ◌∙◌, arith, rules}
 use Rattle.std.proofs.lemmas.Grind.{get_or_default_zero}
-use Rattle.memchr.specs.Find.{is_byte}
-use Rattle.vsrc.specs.Source.{count_below, file_start, place_of}
+use Rattle.std.proofs.lemmas.List.{get_or-map}
+use Rattle.vsrc.specs.Source.{Source, place_by, place_of}
 use Rattle.vsrc.specs.declared.expanded.Place.{Place}
-use Rattle.vsrc.proofs.Counting.{feeds_between, file_start-le, file_start-none, file_start-some, count_below-le}
 use Rattle.vsrc.proofs.expanded.Expanded.place.Goals as goal
-use Rattle.vsrc.proofs.expanded.Expanded.place.Goals.{then-file-eq0, else-file-eq0}
 
-pub overflow_add-begins : goal.overflow_add-begins
-overflow_add-begins c =
-    let borders : List ℕ = c.self.inside.borders.items in
-    let counted : c.below-file.result ≡ count_below borders c.args.at = c.below-file.ensures ∙ ap (λ l. count_below l c.args.at) c.deref.ensures.value in
-    let few : c.below-file.result ≤ length borders = omega (arith, counted, count_below-le borders c.args.at) in
-    let last : c.below-file.result - 1 < length borders = omega arith in
-    let read : c.index.result.now ≡ get_or borders (c.below-file.result - 1) 0 = c.index.ensures ∙ get_or_default_zero borders (c.below-file.result - 1) c.index.result.now last in
-    omega (arith, read, c.self.invariant.within (c.below-file.result - 1) last, c.self.invariant.short)
-
--- where the file begins
-begins : (c : goal.After-below-2) → c.if-file-eq0.begins ≡ file_start 0 c.self.inside.borders.items c.args.at
-begins c =
-    let borders : List ℕ = c.self.inside.borders.items in
-    let counted : c.below-file.result ≡ count_below borders c.args.at = c.below-file.ensures ∙ ap (λ l. count_below l c.args.at) c.deref.ensures.value in
-    elim c.if-file-eq0.branch [
-      | then-file-eq0 w ↦
-          let none : count_below borders c.args.at ≡ 0 = sym counted ∙ w.if-file-eq0.true in
-          w.begins-is ∙ sym (file_start-none 0 borders c.args.at none)
-      | else-file-eq0 w ↦
-          let some : count_below borders c.args.at ≡ suc (c.below-file.result - 1) = omega (arith, counted) in
-          let last : c.below-file.result - 1 < length borders = omega (arith, counted, count_below-le borders c.args.at) in
-          w.begins-is ∙ ap (λ n. n + 1) (w.index.ensures ∙ get_or_default_zero borders (c.below-file.result - 1) w.index.result.now last)
-          ∙ sym (file_start-some 0 borders c.args.at (c.below-file.result - 1) c.self.invariant.rising some)
-    ]
-
--- the line feeds before the place, by those before the file
-lines : (c : goal.After-below-2) → c.below-2.result + count_by (is_byte 10) (drop (file_start 0 c.self.inside.borders.items c.args.at) (take c.args.at c.self.inside.text.items)) ≡ c.below.result
-lines c =
-    let feeds : List ℕ = c.self.inside.feeds.items in
-    let start : ℕ = file_start 0 c.self.inside.borders.items c.args.at in
-    let first : c.below-2.result ≡ count_below feeds start =
-    c.below-2.ensures ∙ ap (λ l. count_below l c.if-file-eq0.begins) c.deref-3.ensures.value ∙ ap (count_below feeds) (begins c) in
-    let both : c.below.result ≡ count_below feeds c.args.at = c.below.ensures ∙ ap (λ l. count_below l c.args.at) c.deref-2.ensures.value in
-    let within : c.args.at ≤ length c.self.inside.text.items = omega (arith, c.requires, ap (λ s. length s.text) c.self.view_is) in
-    ap (λ n. n + count_by (is_byte 10) (drop start (take c.args.at c.self.inside.text.items))) first
-    ∙ feeds_between c.self.inside.text.items feeds start c.args.at c.self.invariant.all (file_start-le 0 c.self.inside.borders.items c.args.at (omega arith)) within
-    ∙ sym both
-
-pub overflow_sub-line : goal.overflow_sub-line
-overflow_sub-line c = omega (arith, lines c)
-
-pub returns : goal.returns
-returns c =
-    let borders : List ℕ = c.self.inside.borders.items in
-    let file : c.below-file.result + 1 ≡ 1 + count_below borders c.args.at =
-    omega (arith, c.below-file.ensures ∙ ap (λ l. count_below l c.args.at) c.deref.ensures.value) in
-    let line : c.below.result - c.below-2.result + 1 ≡ 1 + count_by (is_byte 10) (drop (file_start 0 borders c.args.at) (take c.args.at c.self.inside.text.items)) =
-    omega (arith, lines c) in
-    let placed : Place = record { file = c.below-file.result + 1; line = c.below.result - c.below-2.result + 1 } in
-    (λ i. record { file = file i; line = line i }) ∙ ap (λ s. place_of s c.args.at) c.self.view_is
+pub returns-then-at-len : goal.returns-then-at-len
+returns-then-at-len c =
+    let origins : List ℕ = c.self.inside.origins.items in
+    let place : ℕ → Place = place_by c.self.inside.lines.borders c.self.inside.lines.feeds in
+    let len : vec_len c.self.inside.origins ≡ length origins = search rules in
+    let within : c.args.at < length origins = omega arith in
+    let read : c.index.result.now ≡ get_or origins c.args.at 0 = c.index.ensures ∙ get_or_default_zero origins c.args.at c.index.result.now within in
+    c.place.ensures ∙ ap place read ∙ sym (get_or-map place origins c.args.at 0 (place c.self.inside.end) within)
+    ∙ ap (λ (s : Source). place_of s c.args.at) c.self.view_is

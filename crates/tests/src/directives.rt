@@ -1,0 +1,208 @@
+// What directives and macros make of files: values worked out by hand from docs/LANGUAGE.md, "Directives".
+
+use basis::OrMemory;
+use std::alloc::Global;
+use std::test::Fail;
+use vsrc::{Expanded, Place, Scale, SrcFault, Timescale, Unit, expand};
+
+fn expanded(alloc: Global, texts: &[&[u8]]) -> Result<Result<Expanded, OrMemory<SrcFault>>, Fail> {
+    let mut files = Vec::new(alloc);
+    for text in texts {
+        files.push(Vec::from_slice(alloc, text)?)?;
+    }
+    Ok(expand(alloc, &files))
+}
+
+// Files, and the text that they are expanded to.
+const TEXTS: [(&[u8], &[u8]); 40] = [
+    (b"", b""),
+    (b"a // `x\n/* ` */ \"`\" b", b"a // `x\n/* ` */ \"`\" b"),
+    (b"\"a `\n\"` b\"", b"\"a `\n\"` b\""),
+    (b"`define A b\na `A c", b"\na b c"),
+    (b" \t`define A b\n`A", b" \t\nb"),
+    (b"`define A b\r\n`A;", b"\nb\r;"),
+    (b"`define A  b  \n`A.", b"\nb  ."),
+    (b"`define A\n`A.", b"\n."),
+    (b"`define A+1\n`A", b"\n+1"),
+    (b"`define A b // c\n`A.", b"\nb ."),
+    (b"`define A b /* c */ d\n`A.", b"\nb /* c */ d."),
+    (b"`define A \"//\" // c\n`A.", b"\n\"//\" ."),
+    (b"`define A b\\\nc\n`A.", b"\nb\nc."),
+    (b"`define A b // d\\\nc\n`A.", b"\nb \nc."),
+    (b"`define A b\\", b""),
+    (b"`define A /* b\n`A `A */", b"\n/* b /* b */"),
+    (b"`define A \" b\n`A `A", b"\n\" b \" b"),
+    (b"`define A y\nx`A", b"\nxy"),
+    (b"`define A 'b1\n4`A", b"\n4'b1"),
+    (b"`define A `B`B\n`define B b\n`A", b"\n\nbb"),
+    (b"`define A b\n`define A c\n`A", b"\n\nc"),
+    (b"`define module 1\n`module", b"\n1"),
+    (b"`define include 1\n`include", b"\n1"),
+    (b"`define B `A `\n`undef A\n", b"\n\n"),
+    (b"`undef define\nx", b"\nx"),
+    (b"`ifdef A\na\n`else\nb\n`endif\nc", b"\nb\n\nc"),
+    (b"`ifndef A\na\n`else\nb\n`endif\nc", b"\na\n\nc"),
+    (b"`define A\n`ifdef A a\n`else b\n`endif c", b"\n a\n c"),
+    (b"`define B\n`ifdef A\na\n`elsif B\nb\n`elsif B\nc\n`else\nd\n`endif", b"\n\nb\n"),
+    (b"`ifdef A\n`ifndef A\na\n`else\nb\n`endif\nc\n`endif\nd", b"\nd"),
+    (b"`ifdef A\n`X ` `define `undef\n x `define B\n`endif d", b" d"),
+    (b"`ifdef A\n/*\n`endif */ \"`endif\"\n' `x // `else\n`endif d", b" d"),
+    (b"`ifdef A\n\" `endif\n`endif d", b" d"),
+    (b"`define A b\n`ifdef A\n`undef A\n`endif\n`ifdef A\na\n`endif", b"\n\n\n\n"),
+    (b"`timescale 1ns/1ps\nx", b"\nx"),
+    (b"`timescale 10 us /100ns x", b" x"),
+    (b"`timescale 1ns/1ps\n`timescale 1 ns / 1 ps\n", b"\n\n"),
+    (b"`default_nettype none\n`default_nettype wire x", b"\n x"),
+    (b"`ifdef A\n`timescale 1\n`default_nettype x\n`endif", b""),
+    (b"/* a\n*/ b\n`define A c\n`A", b"/* a\n*/ b\n\nc"),
+];
+
+#[test]
+fn expands_texts(rt: HostRuntime) -> Result<(), Fail> {
+    for (file, text) in TEXTS {
+        match expanded(rt.alloc(), &[file])? {
+            Ok(found) => assert_eq!(rt; found.text(), text, "{file:?}"),
+            Err(_) => assert!(rt; false, "{file:?}"),
+        }
+    }
+    Ok(())
+}
+
+fn directive(line: usize) -> SrcFault {
+    SrcFault::Directive {
+        place: Place { file: 1, line },
+    }
+}
+
+fn no_macro(line: usize) -> SrcFault {
+    SrcFault::NoMacro {
+        place: Place { file: 1, line },
+    }
+}
+
+fn growth(line: usize) -> SrcFault {
+    SrcFault::Growth {
+        place: Place { file: 1, line },
+    }
+}
+
+fn left_open(line: usize) -> SrcFault {
+    SrcFault::LeftOpen {
+        place: Place { file: 1, line },
+    }
+}
+
+fn timescales(line: usize) -> SrcFault {
+    SrcFault::Timescales {
+        place: Place { file: 1, line },
+    }
+}
+
+#[test]
+fn refuses_texts(rt: HostRuntime) -> Result<(), Fail> {
+    let rows: [(&[u8], SrcFault); 44] = [
+        (b"\n`X", no_macro(2)),
+        (b"`include \"a\"", no_macro(1)),
+        (b"`timescale1ns/1ns", no_macro(1)),
+        (b"a ` b", directive(1)),
+        (b"`define X(a) a", directive(1)),
+        (b"`define", directive(1)),
+        (b"`define /**/ A b", directive(1)),
+        (b"`define\nA", directive(1)),
+        (b"`define 1", directive(1)),
+        (b"`define define 1", directive(1)),
+        (b"`define timescale 1", directive(1)),
+        (b"x `define A b", directive(1)),
+        (b"/**/ `define A b", directive(1)),
+        (b"/*\n*/ `define A b", directive(2)),
+        (b"`define A\n`A `undef A", directive(2)),
+        (b"`undef A `undef A", directive(1)),
+        (b"`undef", directive(1)),
+        (b"`ifdef", directive(1)),
+        (b"`ifdef A\n`ifdef\n", directive(2)),
+        (b"`ifdef A\n x `ifdef B\n", directive(2)),
+        (b"`ifndef A `define B 1", directive(1)),
+        (b"`else", directive(1)),
+        (b"`endif", directive(1)),
+        (b"`elsif A", directive(1)),
+        (b"`ifdef A\n`else\n`else\n`endif", directive(3)),
+        (b"`ifdef A\n`else\n`elsif A\n`endif", directive(3)),
+        (b"`ifdef A\n`elsif\n`endif", directive(2)),
+        (b"`define A `undef A\n\n`A", directive(3)),
+        (b"`define A `\n`A", directive(2)),
+        (b"`define A `B\n`A", no_macro(2)),
+        (b"`define A `A\n`A", growth(2)),
+        (b"`ifdef A\n`ifdef B\n", left_open(2)),
+        (b"\n`ifndef A\na", left_open(2)),
+        (b"`timescale 1ns/1ns\n`timescale 1ns/1ps", timescales(2)),
+        (b"`timescale 01ns/1ns", directive(1)),
+        (b"`timescale 1nsx/1ns", directive(1)),
+        (b"`timescale 1ns/1nsx", directive(1)),
+        (b"`timescale 2ns/1ns", directive(1)),
+        (b"`timescale 1ns 1ns", directive(1)),
+        (b"`timescale 1ns/\n1ns", directive(1)),
+        (b"`timescale 1ns/10ns", directive(1)),
+        (b"`timescale 1ns/1us", directive(1)),
+        (b"`default_nettype tri", directive(1)),
+        (b"`default_nettype", directive(1)),
+    ];
+    for (file, fault) in rows {
+        match expanded(rt.alloc(), &[file])? {
+            Err(OrMemory::Fault(found)) => assert_eq!(rt; found, fault, "{file:?}"),
+            Err(OrMemory::Memory(_)) => assert!(rt; false, "{file:?}"),
+            Ok(_) => assert!(rt; false, "{file:?}"),
+        }
+    }
+    Ok(())
+}
+
+#[test]
+fn goes_on_over_files(rt: HostRuntime) -> Result<(), Fail> {
+    let files: [&[u8]; 4] = [
+        b"`define A b \\",
+        b"c\n`define B d // e",
+        b"`A /*\n",
+        b"*/ `B\n`timescale 100 us/10 ps",
+    ];
+    let Ok(found) = expanded(rt.alloc(), &files)? else {
+        return Err(Fail::from("expands"));
+    };
+    assert_eq!(rt; found.text(), b"\n\nb \nc /*\n\n*/ d \n".as_slice());
+    // what a macro gave comes from its use
+    let places = [
+        (2, 1),
+        (2, 2),
+        (3, 1),
+        (3, 1),
+        (3, 1),
+        (3, 1),
+        (3, 1),
+        (3, 1),
+        (3, 1),
+        (3, 1),
+        (3, 2),
+        (4, 1),
+        (4, 1),
+        (4, 1),
+        (4, 1),
+        (4, 1),
+        (4, 1),
+        (4, 2),
+    ];
+    for (at, (file, line)) in places.into_iter().enumerate() {
+        assert!(rt; at <= found.text().len());
+        assert_eq!(rt; found.place(at), Place { file, line }, "at {at}");
+    }
+    let timescale = Timescale {
+        unit: Scale {
+            count: 100,
+            unit: Unit::Microsecond,
+        },
+        precision: Scale {
+            count: 10,
+            unit: Unit::Picosecond,
+        },
+    };
+    assert_eq!(rt; found.timescale(), timescale);
+    Ok(())
+}

@@ -1,0 +1,175 @@
+-- The walk over the joined files, piece by piece (IEEE 1364-2005, clause 19).
+use Rattle.std.specs.Prelude.{ℕ, zero, suc, ◌+◌, ◌==◌, ◌&&◌, ◌||◌, Bool, true, false, not, if◌then◌else◌, nat_lt, List, [], ◌∷◌, length, take, drop, Option, None, Some, is_some, Result, Ok, Err, codes}
+use Rattle.std.specs.Str.{bytes_eq}
+use Rattle.vsrc.specs.declared.refusal.Refusal.{Refusal}
+use Rattle.vsrc.specs.declared.refusal.Why.TheVariants.{Directive, Timescales}
+use Rattle.vsrc.specs.declared.words.Word.{Word}
+use Rattle.vsrc.specs.declared.words.Word.TheVariants as word
+use Rattle.vsrc.specs.declared.conditionals.Open.{Open}
+use Rattle.vsrc.specs.declared.timescale.Timescale.{Timescale}
+use Rattle.vsrc.specs.Outside.{stretch_len}
+use Rattle.vsrc.specs.Words.{Named, is_blank, blanks_len, name_len, name_behind, directive_of}
+use Rattle.vsrc.specs.Timescales.{Timed, timescale_behind, is_like}
+use Rattle.vsrc.specs.Macros.{Macros, Made, and_then, refused_at, lines_len, macro_text, may_be_macro, redefined, put_copied, used, level_limit, no_macros, nothing_made}
+use Rattle.vsrc.specs.Conditionals.{is_read, opened, turned, closed}
+
+-- What is known between two pieces: how far the walk has come, whether only blanks stand before that place on its
+-- line, the macros, the open conditionals with the innermost first, the timescale if one stood, and what was made.
+pub record State : Type 0 where
+  pub at : ℕ
+  pub fresh : Bool
+  pub macros : Macros
+  pub opens : List Open
+  pub timescale : Option Timescale
+  pub made : Made
+
+abbrev pub start : State
+start = record { at = 0; fresh = true; macros = no_macros; opens = []; timescale = None; made = nothing_made }
+
+-- what a directive or a use does, and how many bytes behind its word it takes
+pub record Done : Type 0 where
+  pub state : State
+  pub len : ℕ
+
+abbrev pub done : ℕ → State → Result Done Refusal
+done len state = Ok (record { state = state; len = len })
+
+-- a fault of what stands at the place that the walk has come to
+abbrev pub ill_formed : {A : Type 0} → State → Result A Refusal
+ill_formed state = Err (refused_at state.at Directive)
+
+-- ---- directives: what stands behind the word, and the state
+
+-- 19.3.1: `define NAME text. A parenthesis at once behind the name would begin the arguments, which are left out (own).
+abbrev pub begins_arguments : List ℕ → Bool
+begins_arguments [] = false
+begins_arguments (c ∷ cs) = c == 40
+
+abbrev pub defined : Option Named → List ℕ → State → Result Done Refusal
+defined None rest state = ill_formed state
+defined (Some named) rest state =
+    let behind = drop named.len rest in
+    let text = drop (blanks_len behind) behind in
+    if may_be_macro named.name && not (begins_arguments behind) then
+    done (named.len + blanks_len behind + lines_len text) (record state { macros = redefined named.name (Some (macro_text text)) state.macros })
+    else ill_formed state
+
+-- 19.3.2: `undef NAME
+abbrev pub undefined : Option Named → State → Result Done Refusal
+undefined None state = ill_formed state
+undefined (Some named) state = done named.len (record state { macros = redefined named.name None state.macros })
+
+-- 19.4: `ifdef NAME (wanted) and `ifndef NAME (not wanted)
+abbrev pub is_met : Bool → Bool → Bool
+is_met true there = there
+is_met false there = not there
+
+abbrev pub holds : Bool → Named → State → Bool
+holds wanted named state = is_met wanted (is_some (state.macros named.name))
+
+abbrev pub with_opens : ℕ → State → Result (List Open) Refusal → Result Done Refusal
+with_opens len state opens = and_then opens (λ left. done len (record state { opens = left }))
+
+abbrev pub opening : Bool → Option Named → State → Result Done Refusal
+opening wanted None state = ill_formed state
+opening wanted (Some named) state = with_opens named.len state (opened (holds wanted named state) state.at state.opens)
+
+-- 19.4: `elsif NAME
+abbrev pub alternative : Option Named → State → Result Done Refusal
+alternative None state = ill_formed state
+alternative (Some named) state = with_opens named.len state (turned (holds true named state) false state.at state.opens)
+
+-- 19.8: `timescale unit/precision. One holds for the whole text; a second must be like it (own).
+abbrev pub agreed : Option Timescale → Timescale → ℕ → Result Timescale Refusal
+agreed None timescale at = Ok timescale
+agreed (Some first) timescale at = if is_like first timescale then Ok first else Err (refused_at at Timescales)
+
+abbrev pub timed : Option Timed → State → Result Done Refusal
+timed None state = ill_formed state
+timed (Some found) state =
+    and_then (agreed state.timescale found.timescale state.at) (λ timescale. done found.len (record state { timescale = Some timescale }))
+
+-- 19.2: `default_nettype none and `default_nettype wire, which change nothing (own)
+abbrev pub is_nettype : List ℕ → Bool
+is_nettype name = bytes_eq name (codes "none") || bytes_eq name (codes "wire")
+
+abbrev pub typed : Option Named → State → Result Done Refusal
+typed None state = ill_formed state
+typed (Some named) state = if is_nettype named.name then done named.len state else ill_formed state
+
+abbrev pub obeyed : Word → List ℕ → State → Result Done Refusal
+obeyed word.Define rest state = defined (name_behind rest) rest state
+obeyed word.Undef rest state = undefined (name_behind rest) state
+obeyed word.Ifdef rest state = opening true (name_behind rest) state
+obeyed word.Ifndef rest state = opening false (name_behind rest) state
+obeyed word.Elsif rest state = alternative (name_behind rest) state
+obeyed word.Else rest state = with_opens 0 state (turned true true state.at state.opens)
+obeyed word.Endif rest state = with_opens 0 state (closed state.at state.opens)
+obeyed word.Timescale rest state = timed (timescale_behind rest) state
+obeyed word.DefaultNettype rest state = typed (name_behind rest) state
+
+-- ---- what stands behind a backtick
+
+-- in a part that is skipped only these are read
+abbrev pub is_conditional : Word → Bool
+is_conditional word.Define = false
+is_conditional word.Undef = false
+is_conditional word.Ifdef = true
+is_conditional word.Ifndef = true
+is_conditional word.Elsif = true
+is_conditional word.Else = true
+is_conditional word.Endif = true
+is_conditional word.Timescale = false
+is_conditional word.DefaultNettype = false
+
+-- a directive is the first thing on its line after blanks (own)
+abbrev pub heeded : Word → List ℕ → State → Result Done Refusal
+heeded word rest state =
+    if is_read state.opens || is_conditional word then (if state.fresh then obeyed word rest state else ill_formed state)
+    else done 0 state
+
+-- any other name is a use of a macro
+abbrev pub replaced : List ℕ → State → Result Done Refusal
+replaced name state =
+    if is_read state.opens then and_then (used level_limit state.macros state.at name state.made) (λ made. done 0 (record state { made = made }))
+    else done 0 state
+
+abbrev pub met : Option Word → List ℕ → List ℕ → State → Result Done Refusal
+met None name rest state = replaced name state
+met (Some word) name rest state = heeded word rest state
+
+-- a backtick, the name behind it and what that takes; neither leaves its line fresh
+abbrev pub moved : ℕ → State → State
+moved len state = record state { at = state.at + len; fresh = false }
+
+abbrev pub ticked : List ℕ → State → Result State Refusal
+ticked behind state =
+    let len = name_len behind in
+    and_then (met (directive_of (take len behind)) (take len behind) (drop len behind) state) (λ found. Ok (moved (1 + len + found.len) found.state))
+
+-- ---- all else
+
+-- a line feed outside comments begins a line, and blanks leave it fresh
+abbrev pub is_fresh : Bool → ℕ → Bool
+is_fresh fresh c = c == 10 || (fresh && is_blank c)
+
+-- a comment, a string or a byte stays where its part is read
+abbrev pub kept : List ℕ → State → Result Made Refusal
+kept bytes state = if is_read state.opens then put_copied bytes state.at state.made else Ok state.made
+
+abbrev pub passed : ℕ → List ℕ → State → Result State Refusal
+passed c rest state =
+    let len = stretch_len rest in
+    and_then (kept (take len rest) state) (λ made. Ok (record state { at = state.at + len; fresh = is_fresh state.fresh c; made = made }))
+
+-- ---- the walk
+
+-- one piece, told from what is left of the text
+abbrev pub step : List ℕ → State → Result State Refusal
+step [] state = Ok state
+step (c ∷ cs) state = if c == 96 then ticked cs state else passed c (c ∷ cs) state
+
+-- The walk to the end of the text; n, the bytes that are left or more, bounds the pieces.
+unfoldable pub walked : List ℕ → ℕ → State → Result State Refusal
+walked text zero state = Ok state
+walked text (suc n) state = if nat_lt state.at (length text) then and_then (step (drop state.at text) state) (walked text n) else Ok state

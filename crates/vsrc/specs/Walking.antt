@@ -1,0 +1,21 @@
+-- What the code of the walk keeps and answers; nothing here has to be believed.
+use Rattle.std.specs.Prelude.{◌≡◌, ℕ, Result, Ok}
+use Rattle.vsrc.specs.declared.walk.Walk.{Walk}
+use Rattle.vsrc.specs.declared.refusal.Refusal.{Refusal}
+use Rattle.vsrc.specs.Walk.{State, Done}
+use Rattle.vsrc.specs.Inner.{macros_of}
+
+-- what the code's walk knows
+abbrev pub state_of : Walk → State
+state_of walk = record {
+  at = walk.at;
+  fresh = walk.fresh;
+  macros = macros_of walk.macros.texts.entries;
+  opens = walk.opens;
+  timescale = walk.timescale;
+  made = walk.made;
+}
+
+-- this was done, with this state and so many bytes behind the word
+abbrev pub Did : Result Done Refusal → State → ℕ → Type 0
+Did outcome state len = outcome ≡ Ok (record { state = state; len = len })
