@@ -43,12 +43,27 @@ const TEXTS: [(&[u8], &[u8]); 40] = [
     (b"`ifdef A\na\n`else\nb\n`endif\nc", b"\nb\n\nc"),
     (b"`ifndef A\na\n`else\nb\n`endif\nc", b"\na\n\nc"),
     (b"`define A\n`ifdef A a\n`else b\n`endif c", b"\n a\n c"),
-    (b"`define B\n`ifdef A\na\n`elsif B\nb\n`elsif B\nc\n`else\nd\n`endif", b"\n\nb\n"),
-    (b"`ifdef A\n`ifndef A\na\n`else\nb\n`endif\nc\n`endif\nd", b"\nd"),
-    (b"`ifdef A\n`X ` `define `undef\n x `define B\n`endif d", b" d"),
-    (b"`ifdef A\n/*\n`endif */ \"`endif\"\n' `x // `else\n`endif d", b" d"),
+    (
+        b"`define B\n`ifdef A\na\n`elsif B\nb\n`elsif B\nc\n`else\nd\n`endif",
+        b"\n\nb\n",
+    ),
+    (
+        b"`ifdef A\n`ifndef A\na\n`else\nb\n`endif\nc\n`endif\nd",
+        b"\nd",
+    ),
+    (
+        b"`ifdef A\n`X ` `define `undef\n x `define B\n`endif d",
+        b" d",
+    ),
+    (
+        b"`ifdef A\n/*\n`endif */ \"`endif\"\n' `x // `else\n`endif d",
+        b" d",
+    ),
     (b"`ifdef A\n\" `endif\n`endif d", b" d"),
-    (b"`define A b\n`ifdef A\n`undef A\n`endif\n`ifdef A\na\n`endif", b"\n\n\n\n"),
+    (
+        b"`define A b\n`ifdef A\n`undef A\n`endif\n`ifdef A\na\n`endif",
+        b"\n\n\n\n",
+    ),
     (b"`timescale 1ns/1ps\nx", b"\nx"),
     (b"`timescale 10 us /100ns x", b" x"),
     (b"`timescale 1ns/1ps\n`timescale 1 ns / 1 ps\n", b"\n\n"),
