@@ -55,9 +55,9 @@ const EXPLANATIONS: [Explanation; 28] = [
     },
     Explanation {
         number: 201,
-        meaning: "no tree: the first token that no rule takes",
+        meaning: "the grammar takes no such text: this is the first word, or the end of the text, that no rule takes",
         example: "a = 1 and no semicolon; wire w;",
-        advice: "look at that token and the one before it; docs/LANGUAGE.md has the grammar of today",
+        advice: "look at that word and the one before it; docs/LANGUAGE.md has the grammar of today",
     },
     Explanation {
         number: 202,
