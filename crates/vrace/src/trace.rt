@@ -1,8 +1,10 @@
 // From files and a log to the trace of the run.
 
-ghost use Rattle.std.specs.Prelude.{◌≡◌, IfErr};
+ghost use Rattle.std.specs.Prelude.{◌≡◌, ℕ, List, IfErr, OnOk};
 ghost use Rattle.vsrc.specs.Source.{file_bytes};
 ghost use Rattle.vrace.specs.Asked.{asked};
+ghost use Rattle.trace_text.specs.Traces.{HasGrown};
+ghost use Rattle.vrace.specs.Replays.{IsDump};
 ghost use Rattle.vrace.specs.Refusals.{IsReason, LeavesTrace};
 ghost use Rattle.vrace.specs.RunDumps.{failures_after};
 
@@ -26,6 +28,8 @@ pub fn trace_text<W: Write>(
     log: &[u8],
     writer: &mut Metered<W>,
 ) -> Result<(), Fault>
+    ensures ran { OnOk result ((dump : List ℕ) × IsDump (file_bytes files.now) (asked options.now) log.now dump) }
+    ensures grown { OnOk result (HasGrown W.contents writer.old writer.new) }
     ensures reason { IfErr result (λ fault. IsReason (file_bytes files.now) (asked options.now) log.now fault) }
     ensures left { IfErr result (λ fault. LeavesTrace fault writer.old writer.new) }
     ensures failures { IfErr result (λ fault. writer.new.failures ≡ failures_after fault writer.old.failures) }

@@ -165,7 +165,7 @@ const EXPLANATIONS: [Explanation; 28] = [
         number: 902,
         meaning: "standard output failed",
         example: "a full disk, a closed pipe",
-        advice: "what stands written is a prefix of the dump or report: make room and call again",
+        advice: "what stands written is a prefix of what was asked for: make room and call again",
     },
     Explanation {
         number: 903,

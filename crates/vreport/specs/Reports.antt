@@ -44,7 +44,7 @@ abbrev pub told_race : found.Race → Race
 told_race race = record { time = race.time; variable = race.variable; values = map told_value race.values }
 
 -- the races told are races, in order, with their values in the order of their digits; where the findings are all, no race
--- and no value of one is missing, and each log has the fewest departures
+-- and no value of one is missing, and each log has the fewest departures; whatever the status, so it is of what the marks show
 pub record ShowsRaces (setting : Setting) (limits : Limits) (findings : Findings Standing) (told : List Race) : Type 0 where
   pub races : List found.Race
   pub told_are : told ≡ map told_race races
@@ -53,6 +53,8 @@ pub record ShowsRaces (setting : Setting) (limits : Limits) (findings : Findings
   pub values_order : found.AreValuesInOrder races
   pub every : found.IsWhole setting limits findings → found.ListsEveryValue setting limits.depart races
   pub fewest : found.IsWhole setting limits findings → found.EachRace (found.HasFewest setting) races
+  pub marked : found.ListsEveryMark setting findings races
+  pub shortest : found.ListsShortest setting findings races
 
 -- ---- what an exploration reports
 

@@ -23,7 +23,7 @@ use vmachine::{Machine, machine_law};
 /// Where the names of the design are such as a report tells, and its time limit too, its text can be read again.
 ///
 /// E901 where memory was refused before anything was found, or for the report. The other fault is that the dump of a run
-/// that is listed has 2^64 bytes or more.
+/// within the limits has 2^64 bytes or more.
 pub fn report_alone(
     alloc: Global,
     machine: &Machine,

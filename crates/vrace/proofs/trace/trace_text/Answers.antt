@@ -4,7 +4,9 @@ use Rattle.vmodel.specs.Played.{Finishes}
 use Rattle.vrace.specs.Asked.{asked}
 use Rattle.vrace.specs.Refusals.{IsReason}
 use Rattle.vrace.specs.RunDumps.{IsRunFault}
-use Rattle.vrace.proofs.ReplayLemmas.{run_reason, writing_reason}
+use Rattle.vrace.proofs.ReplayLemmas.{dumped, run_reason, writing_reason}
+use Rattle.vcd_text.specs.DumpText.{header}
+use Rattle.vrace.proofs.DumpLemmas.{the_dump}
 use Rattle.vrace.proofs.trace.trace_text.Goals as goal
 
 pub returns-in-Err-see_end-clause-reason : goal.returns-in-Err-see_end-clause-reason
@@ -22,3 +24,11 @@ returns-in-Err-write_trace-clause-reason g c =
     subst (IsReason (file_bytes c.args.files.now) (asked c.args.options.now) c.args.log.now) (sym c.of_writing.ensures)
     (writing_reason (file_bytes c.args.files.now) (asked c.args.options.now) c.args.log.now played machine same n end
     (subst (λ log. Finishes machine log c.args.options.now.limits.steps n end) members finishes) c.in-Err-write_trace.fault)
+
+pub returns-clause-ran : goal.returns-clause-ran
+returns-clause-ran g c =
+    let machine = c.in-Ok.play.machine in
+    let (played, same, members) = c.in-Ok.ensures.ok in
+    let (n, end, finishes) = c.in-Ok-see_end.ensures.ends in
+    let there : Finishes machine played.members c.args.options.now.limits.steps n end = subst (λ log. Finishes machine log c.args.options.now.limits.steps n end) members finishes in
+    (_, dumped (file_bytes c.args.files.now) (asked c.args.options.now) c.args.log.now played machine same _ (the_dump (header machine.design) machine played.members c.args.options.now.limits.steps n end there))

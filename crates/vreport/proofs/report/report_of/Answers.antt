@@ -17,6 +17,8 @@ returns-clause-races c =
       values_order = c.in_ok-found.ensures.values;
       every = λ whole. c.in_ok-found.ensures.all limits whole;
       fewest = λ whole. c.in_ok-found.ensures.fewest limits c.requires.found whole;
+      marked = c.in_ok-found.ensures.marked;
+      shortest = c.in_ok-found.ensures.shortest;
     }
 
 pub returns-clause-formed : goal.returns-clause-formed
