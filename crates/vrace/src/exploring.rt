@@ -86,9 +86,9 @@ fn explore_machine<W: Write>(
 /// listed with all its values, and no log has more departures than needed.
 ///
 /// Refusals, in the order in which they are looked for: E904 where the files together are longer than 16,777,216 bytes;
-/// E1xx to E3xx where their text has no tokens, no tree or no design; E112 also where the dump of a run within the
-/// limits has 2^64 bytes or more. Then nothing is written. E902 where the writer failed, and E901 where memory was refused: then a prefix of a report
-/// may stand written.
+/// E1xx to E3xx where their text has no tokens, no tree or no design; E112 also where the dump of a run within the limits
+/// has 2^64 bytes or more. Then nothing is written. E902 where the writer failed, and E901 where memory was refused: then a
+/// prefix of a report may stand written.
 pub fn explore_text_alone<W: Write>(
     alloc: Global,
     files: &[Vec<u8>],
