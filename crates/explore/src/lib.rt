@@ -6,12 +6,15 @@
 mod alone;
 mod classes;
 mod findings;
+mod listing;
 mod marks;
 mod next;
 mod search;
 mod visit;
 mod way;
 mod ways;
+mod workers;
 
 pub use alone::explore_alone;
 pub use findings::{Findings, Reason, Status};
+pub use workers::explore;
