@@ -7,7 +7,7 @@ ghost use Rattle.shardbook.specs.Names.{AreNames};
 ghost use Rattle.workpool.specs.Searches.{IsQuestOf};
 ghost use Rattle.explore.specs.Found.{ListsAll, ListsFewest, ListsFound, TellsSteps};
 ghost use Rattle.explore.specs.Inner.Listing.{InPlace};
-ghost use Rattle.explore.specs.Inner.Shared.{StopsForSteps, TellsWhy};
+ghost use Rattle.explore.specs.Inner.Shared.{StopsForEntries, StopsForSteps, TellsWhy};
 ghost use Rattle.explore.specs.Inner.Ways.{IfReached};
 
 use crate::alone::explore_alone;
@@ -29,7 +29,8 @@ const SHARDS: usize = 16;
 
 // The same reason, as findings tell it.
 fn reason_of(cut: workpool::Reason) -> Reason
-    ensures { result ≡ Reason.Steps → StopsForSteps (Some cut) }
+    ensures entries { result ≡ Reason.Entries → StopsForEntries (Some cut) }
+    ensures steps { result ≡ Reason.Steps → StopsForSteps (Some cut) }
 {
     match cut {
         workpool::Reason::Memory(refused) => Reason::Memory(refused),
@@ -47,6 +48,7 @@ fn status_of<S: Eq + Hash + Drop, Q: Quest<S>, B: Naming>(
     cut: Option<workpool::Reason>,
 ) -> Option<Status>
     ensures closed { result ≡ Some Status.Exhausted → Closes Q.rules Q.depart Q.steps root.now all.now }
+    ensures entries { result ≡ Some (Status.Cut Reason.Entries) → StopsForEntries cut }
     ensures steps { result ≡ Some (Status.Cut Reason.Steps) → StopsForSteps cut }
 {
     if book.closed(root, all) {
