@@ -77,7 +77,7 @@ inserted eq itself [] k v = record {
 inserted eq itself (e ∷ es) k v = inserted_at eq e es k v (inserted eq itself es k v) (eq k e.0) refl
 
 -- of distinct keys two that are equal have one value
-value_at : {K V : Type 0} (eq : K → K → Bool) → IsEquivalence eq → (es : List (K × V)) → IsDistinct eq (keys_of es) → (i : ℕ) (p : K × V) → slice_get es i ≡ Some p → lookup (eq p.0) es ≡ Some p.1
+pub value_at : {K V : Type 0} (eq : K → K → Bool) → IsEquivalence eq → (es : List (K × V)) → IsDistinct eq (keys_of es) → (i : ℕ) (p : K × V) → slice_get es i ≡ Some p → lookup (eq p.0) es ≡ Some p.1
 value_at eq laws es apart i p at = lookup-from_Contains laws p.0 p.1 es apart (i, slice_get_within es i p at, get_or_from_slice_get es i p p at)
 
 pub same_value : {K V : Type 0} (eq : K → K → Bool) → IsEquivalence eq → (es : List (K × V)) → IsDistinct eq (keys_of es) → (i j : ℕ) (p q : K × V) → slice_get es i ≡ Some p → slice_get es j ≡ Some q → eq p.0 q.0 ≡ true → p.1 ≡ q.1

@@ -7,3 +7,5 @@ pub mod CloseLemmas
 pub mod InsertLemmas
 pub mod MarkLemmas
 pub mod AloneLemmas
+pub mod ListingLemmas
+pub mod SharedLemmas

@@ -86,7 +86,7 @@ greater r eq agree entries u i j e x lt at at' same = elim (cases_lt e.budget x.
 ]
 
 -- the pair that was put in is the mark's
-found_new : {S : Type 0} (r : Rules S) → IsLawful r → (limits : Limits) (x : Entry S) (p : S × List (ℕ × ℕ)) → IsEntry r limits.depart limits.steps x → r.mark x.state ≡ true → r.same p.0 x.state ≡ true → p.1 ≡ x.log → IsFound r limits p
+pub found_new : {S : Type 0} (r : Rules S) → IsLawful r → (limits : Limits) (x : Entry S) (p : S × List (ℕ × ℕ)) → IsEntry r limits.depart limits.steps x → r.mark x.state ≡ true → r.same p.0 x.state ≡ true → p.1 ≡ x.log → IsFound r limits p
 found_new {S} r law limits x p is mark same log =
     let R : List (ℕ × ℕ) → Type 0 = λ l. IsRun r l x.steps in
     let A : List (ℕ × ℕ) → Type 0 = λ l. r.same p.0 (stands r l x.steps) ≡ true in

@@ -1,3 +1,5 @@
 -- Words for the contracts of calls within, and what the code keeps.
 pub mod Exploring
 pub mod Ways
+pub mod Listing
+pub mod Shared

@@ -1,4 +1,4 @@
-// In come a lawful space and limits: departures, steps of one run, entries.
+// In come a lawful space and limits: departures, steps of one run, entries; and how many workers, of which one is the caller.
 // Out come the marks that were met, each under a log that reaches it, and whether that is all.
 // The law: exhausted means that every mark of every run of at most K departures is listed, with the fewest departures.
 #![tactic(auto)]
@@ -6,12 +6,15 @@
 mod alone;
 mod classes;
 mod findings;
+mod listing;
 mod marks;
 mod next;
 mod search;
 mod visit;
 mod way;
 mod ways;
+mod workers;
 
 pub use alone::explore_alone;
 pub use findings::{Findings, Reason, Status};
+pub use workers::explore;

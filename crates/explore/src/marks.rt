@@ -13,8 +13,8 @@ use statebook::{Limits, PlainBook};
 use std::alloc::Global;
 use std::hash::Hash;
 
-// Notes the mark under its log, in place of the log that was noted before.
-fn note<S: Eq + Hash + Drop>(
+/// Notes the mark under its log, in place of the log that was noted before.
+pub fn note<S: Eq + Hash + Drop>(
     marks: &mut IndexMap<S, Log>,
     state: S,
     log: Log,
