@@ -177,6 +177,7 @@ fn delayed(alloc: Global, delays: u32) -> Result<Ast<'static>, Fail> {
     let mut statement = Stmt::Empty;
     for _ in 0..delays {
         statement = Stmt::Delay {
+            at: 0,
             amount: Word { text: b"1", at: 0 },
             body: Box::new(alloc, statement)?,
         };
