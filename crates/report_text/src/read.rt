@@ -34,8 +34,11 @@ fn read_head<'a>(
     alloc: Global,
     reader: &mut Reader<'a>,
 ) -> Result<(Heading<'a>, Vec<Column>, Names<'a>), NoMemory>
-    ensures read { IfOk result (λ p. Took reader.old reader.new (λ text rest. IsHeadTaken text p.0 p.1.items rest × (p.2 ≡ map (λ c. c.name) p.1.items))) }
-    ensures each { (h : headings.Heading) (columns : List reports.Column) (rest : List ℕ) → reader.old.ok ≡ true → IsHeadTaken reader.old.rest h columns rest → IfOk result (λ p. (p.0 ≡ h) × (p.1.items ≡ columns) × Stands reader.new rest) }
+    ensures read { IfOk result (λ p. Took reader.old reader.new (λ text rest.
+        IsHeadTaken text p.0 p.1.items rest × (p.2 ≡ map (λ c. c.name) p.1.items))) }
+    ensures each { (h : headings.Heading) (columns : List reports.Column) (rest : List ℕ) →
+        reader.old.ok ≡ true → IsHeadTaken reader.old.rest h columns rest →
+        IfOk result (λ p. (p.0 ≡ h) × (p.1.items ≡ columns) × Stands reader.new rest) }
 {
     let heading = read_heading(reader);
     let count = number_line(reader, b"vars ", 0, u64::MAX);

@@ -3,7 +3,7 @@
 ghost use Rattle.std.specs.Prelude.{◌≡◌, ℕ, List, ◌++◌, ◌&&◌, ◌==◌, true, false, length};
 ghost use Rattle.std.specs.Char.{is_ascii_digit};
 ghost use Rattle.report_text.specs.Inner.Fronts.{IsCut};
-ghost use Rattle.report_text.specs.Inner.Places.{EachCut, HasTaken, IsNumberFront, Stands, TakesEach, Took};
+ghost use Rattle.report_text.specs.Inner.Places.{EachBytes, EachCut, HasTaken, IsNumberFront, Stands, TakesEach, Took};
 
 use crate::front::{after, cut, number};
 use std::marker::Model;
@@ -89,7 +89,8 @@ impl<'a> Reader<'a> {
     /// Takes so many bytes.
     pub fn bytes(&mut self, count: u64) -> &'a [u8]
         ensures read { Took self.old self.new (λ text rest. (count ≡ length result.now) × (text ≡ result.now ++ rest)) }
-        ensures each { (bytes rest : List ℕ) → self.old.ok ≡ true → count ≡ length bytes → self.old.rest ≡ bytes ++ rest → (result.now ≡ bytes) × Stands self.new rest }
+        ensures each { EachBytes count self.old (λ bytes rest.
+            (result.now ≡ bytes) × Stands self.new rest) }
     {
         if count > self.rest.len() as u64 {
             self.ok = false;

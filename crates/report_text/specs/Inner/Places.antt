@@ -1,5 +1,5 @@
 -- Where a reader stands in a text.
-use Rattle.std.specs.Prelude.{◌≡◌, ℕ, ◌<◌, ◌^◌, Bool, true, List, ◌∷◌, ◌++◌, decimal}
+use Rattle.std.specs.Prelude.{◌≡◌, ℕ, ◌<◌, ◌^◌, Bool, true, List, ◌∷◌, ◌++◌, decimal, length}
 use Rattle.report_text.specs.Inner.Fronts.{IsCut}
 
 -- what is left to be read, and whether all that was asked for stood in front of it
@@ -30,3 +30,7 @@ IsNumberFront byte text n rest = (n < 2 ^ 64) × (text ≡ decimal n ++ byte ∷
 -- where the reader wasn't lost, the fact holds of the two sides of the first such byte of what stood there
 abbrev pub EachCut : ℕ → Place → (List ℕ → List ℕ → Type 0) → Type 0
 EachCut byte old P = (left right : List ℕ) → old.ok ≡ true → IsCut byte old.rest left right → P left right
+
+-- where the reader wasn't lost, the fact holds of so many bytes that stood there, and of the rest
+abbrev pub EachBytes : ℕ → Place → (List ℕ → List ℕ → Type 0) → Type 0
+EachBytes count old P = (bytes rest : List ℕ) → old.ok ≡ true → count ≡ length bytes → old.rest ≡ bytes ++ rest → P bytes rest
