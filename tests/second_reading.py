@@ -76,6 +76,8 @@ class Module:
     ranges: list
     processes: list = field(default_factory=list)
     declared: list = field(default_factory=list)
+    factor: int = 1
+    precision: str = "1 ns"
 
     def names(self):
         return self.declared or [f"v{i}" for i in range(len(self.lengths))]
@@ -99,6 +101,16 @@ def statement(rng, count, depth):
     return {"empty": (";", []), "dump": ("$dumpvars;", [("dump",)]), "finish": ("$finish;", [("finish",)])}[kind]
 
 
+# timescales, as a text spells them, with the units of the precision in one unit of time, and the precision as a dump spells it
+TIMESCALES = [
+    ("`timescale 1ns/1ns", 1, "1 ns"),
+    ("`timescale 1ns/100ps", 10, "100 ps"),
+    ("`timescale 10 us / 10us", 1, "10 us"),
+    ("`timescale 100ms /1 ms // slow", 100, "1 ms"),
+    ("`timescale 100 s/1fs", 10**17, "1 fs"),
+]
+
+
 def module(rng):
     lengths, ranges = [], []
     for _ in range(rng.choice([1, 2, 2, 3, 3, 100])):
@@ -109,6 +121,9 @@ def module(rng):
         lengths.append(length)
     made = Module(lengths, ranges)
     lines = ["module tb;"]
+    if rng.random() < 0.3:
+        line, made.factor, made.precision = rng.choice(TIMESCALES)
+        lines.insert(0, line)
     lines += [f"  reg {'' if r is None else f'[{r[0]}:{r[1]}] '}{n};" for n, r in zip(made.names(), ranges)]
     for i in range(rng.randrange(1, 4)):
         text, actions = statement(rng, len(lengths), 3)
@@ -258,7 +273,7 @@ class Run:
         elif kind == "post":
             self.posted.append((what[0], self.value(what[1], self.made.lengths[what[0]])))
         elif kind == "delay":
-            return self.suspend(process, *what)
+            return self.suspend(process, what[0] * self.made.factor, what[1])
         elif kind == "dump":
             self.items.append("dump")
         else:
@@ -324,7 +339,7 @@ def change(n, letters):
 
 
 def header(made):
-    yield from ("$version vrace $end", "$timescale 1 ns $end", "$scope module tb $end")
+    yield from ("$version vrace $end", f"$timescale {made.precision} $end", "$scope module tb $end")
     for n, (name, length, bounds) in enumerate(zip(made.names(), made.lengths, made.ranges)):
         shown = "" if bounds is None else f" [{bounds[0]}:{bounds[1]}]"
         yield f"$var reg {length} {code(n)} {name}{shown} $end"
@@ -363,7 +378,7 @@ def deed(run, choice):
         return f" write tb.{run.made.names()[target]} {shown(run.values[target])} {shown(value)}"
     kind, *what = run.rest[choice][0]
     if kind == "delay":
-        return f" delay {what[0]}"
+        return f" delay {what[0] * run.made.factor}"
     if kind in ("dump", "finish"):
         return {"dump": " dumpvars", "finish": " finish"}[kind]
     target, source = what

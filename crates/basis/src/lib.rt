@@ -7,4 +7,4 @@ mod memory;
 mod timescale;
 
 pub use memory::{NoMemory, OrMemory};
-pub use timescale::{Span, Unit};
+pub use timescale::{Count, Span, Timescale, Unit};

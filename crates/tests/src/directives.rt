@@ -1,9 +1,9 @@
 // What directives and macros make of files: values worked out by hand from docs/LANGUAGE.md, "Directives".
 
-use basis::OrMemory;
+use basis::{Count, OrMemory, Span, Timescale, Unit};
 use std::alloc::Global;
 use std::test::Fail;
-use vsrc::{Expanded, Place, Scale, SrcFault, Timescale, Unit, expand};
+use vsrc::{Expanded, Place, SrcFault, expand};
 
 fn expanded(alloc: Global, texts: &[&[u8]]) -> Result<Result<Expanded, OrMemory<SrcFault>>, Fail> {
     let mut files = Vec::new(alloc);
@@ -209,12 +209,12 @@ fn goes_on_over_files(rt: HostRuntime) -> Result<(), Fail> {
         assert_eq!(rt; found.place(at), Place { file, line }, "at {at}");
     }
     let timescale = Timescale {
-        unit: Scale {
-            count: 100,
+        unit: Span {
+            count: Count::Hundred,
             unit: Unit::Microsecond,
         },
-        precision: Scale {
-            count: 10,
+        precision: Span {
+            count: Count::Ten,
             unit: Unit::Picosecond,
         },
     };

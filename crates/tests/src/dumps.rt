@@ -2,7 +2,7 @@
 
 ghost use Rattle.std.specs.Prelude.{◌≤◌};
 
-use basis::{Span, Unit};
+use basis::{Count, Span, Timescale, Unit};
 use std::alloc::Global;
 use std::io;
 use std::io::{Read, Write};
@@ -93,9 +93,15 @@ fn design(alloc: Global) -> Result<Design, Fail> {
     scopes.push(scope(alloc, b"right", 1, 0)?)?;
     Ok(Design {
         top: Vec::from_slice(alloc, b"top")?,
-        precision: Span {
-            count: 1,
-            unit: Unit::Nanosecond,
+        scale: Timescale {
+            unit: Span {
+                count: Count::Hundred,
+                unit: Unit::Nanosecond,
+            },
+            precision: Span {
+                count: Count::Ten,
+                unit: Unit::Picosecond,
+            },
         },
         variables,
         scopes,
@@ -130,7 +136,7 @@ fn history(alloc: Global, end: u64) -> Result<History, Fail> {
 
 // By hand, after 18.2.1 to 18.2.3.
 const TEXT: &str =
-    "$version vrace $end\n$timescale 1 ns $end\n$scope module top $end\n$var reg 1 ! go $end\n\
+    "$version vrace $end\n$timescale 10 ps $end\n$scope module top $end\n$var reg 1 ! go $end\n\
 $var reg 8 \" sum [7:0] $end\n$scope module left $end\n$var reg 4 # n $end\n$upscope $end\n\
 $scope module right $end\n$upscope $end\n$upscope $end\n$enddefinitions $end\n\
 #3\n$dumpvars\n0!\nb101 \"\nbx #\n$end\n#7\n1!\nbz #\n";

@@ -17,7 +17,6 @@ const NUMBERS: [(Fault, &str); 23] = [
     (Fault::NoTree(At(None)), "E201"),
     (Fault::Outside(At(None)), "E202"),
     (Fault::TooDeep(At(None)), "E203"),
-    (Fault::NotYet(At(None)), "E299"),
     (Fault::NoTop(At(None)), "E301"),
     (Fault::Doubled(At(None)), "E302"),
     (Fault::Unknown(At(None)), "E303"),

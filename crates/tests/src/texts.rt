@@ -44,7 +44,7 @@ fn joins_files(rt: HostRuntime) -> Result<(), Fail> {
         assert!(rt; at <= source.text().len());
         assert_eq!(rt; source.place(at), Place { file, line }, "at {at}");
     }
-    assert!(rt; source.timescale().is_usual());
+    assert_eq!(rt; source.timescale(), Timescale::usual());
     Ok(())
 }
 

@@ -55,6 +55,14 @@ fn put_counted(text: &mut Vec<u8>, word: &[u8], n: u64) -> Result<(), NoMemory> 
     put_number(text, n)
 }
 
+// ` delay D`, in units of the precision.
+fn put_delay(text: &mut Vec<u8>, amount: u128) -> Result<(), NoMemory> {
+    let mut digits = Buffer::new();
+    text.extend_from_slice(b" delay ")?;
+    text.extend_from_slice(digits.format(amount).as_bytes())?;
+    Ok(())
+}
+
 // ` at F:L`, where the place is known.
 fn put_place(text: &mut Vec<u8>, place: Option<Place>) -> Result<(), NoMemory> {
     match place {
@@ -163,7 +171,7 @@ fn put_deed(
         }
     }
     if let Fate::Sleeps(amount) = deed.fate {
-        put_counted(text, b" delay ", amount)?;
+        put_delay(text, amount)?;
     }
     if let Some(command) = deed.command {
         put_command(text, command)?;

@@ -1,6 +1,6 @@
 -- A design as the definitions see it (IEEE 1364-2005, clause 12): variables, scopes, and one table of actions.
 use Rattle.std.specs.Prelude.{ℕ, Bool, List, Option}
-use Rattle.basis.specs.declared.timescale.Span.{Span}
+use Rattle.basis.specs.declared.timescale.Timescale.{Timescale}
 use Rattle.vast.specs.declared.design.Kind.{Kind}
 use Rattle.vast.specs.declared.design.Bounds.{Bounds}
 use Rattle.vast.specs.declared.design.Action.{Action}
@@ -22,7 +22,7 @@ pub record Scope : Type 0 where
 -- variables, scopes, actions and processes go by their numbers, from 0; an action's number is its place
 pub record Design : Type 0 where
   pub top : List ℕ
-  pub precision : Span  -- 19.8
+  pub scale : Timescale  -- 19.8
   pub variables : List Variable
   pub scopes : List Scope
   pub actions : List Action

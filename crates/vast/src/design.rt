@@ -3,7 +3,7 @@
 
 ghost use Rattle.std.specs.Prelude.{◌≤◌, ◌≡◌, List, ℕ, length};
 
-use basis::Span;
+use basis::Timescale;
 use std::marker::Model;
 use vbits::Vec4;
 
@@ -41,8 +41,8 @@ impl Places {
 pub struct Design {
     /// The name of the top module.
     pub top: Vec<u8>,
-    /// The unit in which time is counted, the precision (19.8).
-    pub precision: Span,
+    /// The unit in which delays are written, and the precision, in units of which time is counted (19.8).
+    pub scale: Timescale,
     pub variables: Vec<Variable>,
     pub scopes: Vec<Scope>,
     /// Every action of every process; an action goes by its place in this list, from 0.
@@ -62,7 +62,7 @@ impl Model for Design {
 
     ghost view = { λ d. record {
       top = d.top.items;
-      precision = d.precision;
+      scale = d.scale;
       variables = d.variables.items;
       scopes = d.scopes.items;
       actions = d.actions.items;

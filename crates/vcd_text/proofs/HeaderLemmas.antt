@@ -7,9 +7,8 @@ use Rattle.std.proofs.lemmas.Bool.{cases_lt}
 use Rattle.std.proofs.Math.Seq.{take-nil, drop-nil}
 use Rattle.vast.specs.Design.{Variable, Scope}
 use Rattle.basis.specs.declared.timescale.Span.{Span}
-use Rattle.basis.specs.declared.timescale.Unit.{Unit}
-use Rattle.basis.specs.declared.timescale.Unit.TheVariants.{Nanosecond}
-use Rattle.vcd_text.specs.DumpText.{timescale_line, unit_word, bounds_text, closings, code, kind_word, line, following, named_variable_line, scope_line, scope_lines, variable_lines}
+use Rattle.basis.specs.Timescales.{count_number, unit_word}
+use Rattle.vcd_text.specs.DumpText.{timescale_line, bounds_text, closings, code, kind_word, line, following, named_variable_line, scope_line, scope_lines, variable_lines}
 
 -- what stands in a name's last part
 abbrev pub is_no_dot : ℕ → Bool
@@ -86,24 +85,20 @@ variable_put text t1 t2 t3 t4 t5 t6 t7 t8 t9 t10 t11 name v s1 s2 s3 s4 s5 s6 s7
     let p10 = piece_more text (codes "$var " ++ kind_word v.kind ++ codes " " ++ decimal v.length ++ codes " " ++ name ++ codes " " ++ after_last (λ c. c == 46) v.name ++ bounds_text v.bounds) t9 t10 (codes " $end") p9 s10 in
     piece_more text (codes "$var " ++ kind_word v.kind ++ codes " " ++ decimal v.length ++ codes " " ++ name ++ codes " " ++ after_last (λ c. c == 46) v.name ++ bounds_text v.bounds ++ codes " $end") t10 t11 (10 ∷ []) p10 s11
 
-unit_is : (unit : Unit) → unit_word unit ≡ codes "ns"
-unit_is Nanosecond = refl
-
 pub precision_put : (text t1 t2 t3 t4 t5 t6 name : List ℕ) (p : Span) → t1 ≡ text ++ codes "$timescale " →
-    t2 ≡ t1 ++ decimal p.count →
+    t2 ≡ t1 ++ decimal (count_number p.count) →
     t3 ≡ t2 ++ codes " " →
     t4 ≡ t3 ++ name →
-    name ≡ codes "ns" →
+    name ≡ unit_word p.unit →
     t5 ≡ t4 ++ codes " $end" →
     t6 ≡ t5 ++ 10 ∷ [] →
     t6 ≡ text ++ timescale_line p
 precision_put text t1 t2 t3 t4 t5 t6 name p s1 s2 s3 s4 is s5 s6 =
-    let unit : name ≡ unit_word p.unit = is ∙ sym (unit_is p.unit) in
-    let p2 = piece_more text (codes "$timescale ") t1 t2 (decimal p.count) s1 s2 in
-    let p3 = piece_more text (codes "$timescale " ++ decimal p.count) t2 t3 (codes " ") p2 s3 in
-    let p4 = piece_more text (codes "$timescale " ++ decimal p.count ++ codes " ") t3 t4 (unit_word p.unit) p3 (s4 ∙ ap (λ (x : List ℕ). t3 ++ x) unit) in
-    let p5 = piece_more text (codes "$timescale " ++ decimal p.count ++ codes " " ++ unit_word p.unit) t4 t5 (codes " $end") p4 s5 in
-    piece_more text (codes "$timescale " ++ decimal p.count ++ codes " " ++ unit_word p.unit ++ codes " $end") t5 t6 (10 ∷ []) p5 s6
+    let p2 = piece_more text (codes "$timescale ") t1 t2 (decimal (count_number p.count)) s1 s2 in
+    let p3 = piece_more text (codes "$timescale " ++ decimal (count_number p.count)) t2 t3 (codes " ") p2 s3 in
+    let p4 = piece_more text (codes "$timescale " ++ decimal (count_number p.count) ++ codes " ") t3 t4 (unit_word p.unit) p3 (s4 ∙ ap (λ (x : List ℕ). t3 ++ x) is) in
+    let p5 = piece_more text (codes "$timescale " ++ decimal (count_number p.count) ++ codes " " ++ unit_word p.unit) t4 t5 (codes " $end") p4 s5 in
+    piece_more text (codes "$timescale " ++ decimal (count_number p.count) ++ codes " " ++ unit_word p.unit ++ codes " $end") t5 t6 (10 ∷ []) p5 s6
 
 -- one closing line more
 pub closing_more : (text more whole : List ℕ) (count i : ℕ) → i < count → more ≡ text ++ line (codes "$upscope $end") → text ++ closings (count - i) ≡ whole →

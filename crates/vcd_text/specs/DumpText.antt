@@ -5,8 +5,7 @@ use Rattle.vbits.specs.declared.bit4.Bit4.{Bit4}
 use Rattle.vbits.specs.declared.bit4.Bit4.TheVariants.{Zero, One, X, Z}
 use Rattle.vbits.specs.Vectors.{Vector, same_letters}
 use Rattle.basis.specs.declared.timescale.Span.{Span}
-use Rattle.basis.specs.declared.timescale.Unit.{Unit}
-use Rattle.basis.specs.declared.timescale.Unit.TheVariants.{Nanosecond}
+use Rattle.basis.specs.Timescales.{count_number, unit_word}
 use Rattle.vast.specs.declared.design.Bounds.{Bounds}
 use Rattle.vast.specs.declared.design.Kind.{Kind}
 use Rattle.vast.specs.declared.design.Kind.TheVariants.{Reg}
@@ -127,17 +126,15 @@ scope_lines around n (s ∷ scopes) variables =
     ++ variable_lines n (take s.variables variables)
     ++ scope_lines (suc s.depth) (n + s.variables) scopes (drop s.variables variables)
 
-abbrev pub unit_word : Unit → List ℕ
-unit_word Nanosecond = codes "ns"
-
 -- the unit in which times are counted (19.8)
 abbrev pub timescale_line : Span → List ℕ
-timescale_line precision = line (codes "$timescale " ++ decimal precision.count ++ codes " " ++ unit_word precision.unit ++ codes " $end")
+timescale_line precision =
+    line (codes "$timescale " ++ decimal (count_number precision.count) ++ codes " " ++ unit_word precision.unit ++ codes " $end")
 
 abbrev pub header : Design → List ℕ
 header design =
     line (codes "$version vrace $end")
-    ++ timescale_line design.precision
+    ++ timescale_line design.scale.precision
     ++ scope_lines 0 0 design.scopes design.variables
     ++ line (codes "$enddefinitions $end")
 

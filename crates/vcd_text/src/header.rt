@@ -33,7 +33,7 @@ impl Header {
         ensures { IfOk result (λ header. header ≡ header_text design.now) }
     {
         let mut text = Vec::from_slice(alloc, b"$version vrace $end\n")?;
-        put_precision(&mut text, design.precision)?;
+        put_precision(&mut text, design.scale.precision)?;
         put_scopes(alloc, &mut text, &design.scopes, &design.variables)?;
         text.extend_from_slice(b"$enddefinitions $end\n")?;
         Ok(Header { text })
@@ -52,7 +52,7 @@ fn put_precision(text: &mut Vec<u8>, precision: Span) -> Result<(), NoMemory>
     ensures { OnOk result (text.new.items ≡ text.old.items ++ timescale_line precision) }
 {
     text.extend_from_slice(b"$timescale ")?;
-    put_number(text, u32::from(precision.count))?;
+    put_number(text, u32::from(precision.count.number()))?;
     text.extend_from_slice(b" ")?;
     text.extend_from_slice(precision.unit.name().as_bytes())?;
     text.extend_from_slice(b" $end")?;

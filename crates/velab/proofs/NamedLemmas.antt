@@ -7,6 +7,7 @@ use Rattle.std.proofs.lemmas.List.{map-append}
 use Rattle.std.proofs.lemmas.List.Folds.{list_all-append}
 use Rattle.std.proofs.lemmas.Slice.Eq.{bytes_eq-Decides}
 use Rattle.basis.proofs.Bools.{and_left, and_right, and_both, or_left, or_right, or_first, or_second}
+use Rattle.basis.specs.declared.timescale.Timescale.{Timescale}
 use Rattle.vast.specs.Words.{begins_name, is_in_name, is_name, is_reserved}
 use Rattle.vast.specs.Names.{has_letters_of_name, is_path_from, is_path, AreNamed}
 use Rattle.vast.specs.Syntax.{Text, ItemTree, registers, initial, ModuleTree, SourceTree}
@@ -130,8 +131,9 @@ top_fits (x ∷ y ∷ rest) None m e is = cc
 
 -- ---- the design
 
-module_named : (m : ModuleTree) → fits_module m ≡ true → has_double (declared_names m) ≡ false → AreNamed (design_of m)
-module_named m e none = record {
+module_named : (scale : Timescale) (m : ModuleTree) → fits_module m ≡ true → has_double (declared_names m) ≡ false →
+    AreNamed (design_of scale m)
+module_named scale m e none = record {
   top = top;
   paths = paths_of m.name (declarations m) top (all_names m.items (and_right (is_name m.name) (list_all fits_item m.items) e));
   distinct = distinct_of m.name (declarations m) none;
@@ -140,7 +142,8 @@ module_named m e none = record {
     top : has_letters_of_name m.name ≡ true
     top = letters m.name (and_left (is_name m.name) (list_all fits_item m.items) e)
 
-pub named_by : (words : List Text) (tree : SourceTree) (top : Option Text) (design : Design) → Derives words tree → Elaborates tree top design → AreNamed design
-named_by words tree top design derives elaborates =
+pub named_by : (words : List Text) (tree : SourceTree) (top : Option Text) (scale : Timescale) (design : Design) →
+    Derives words tree → Elaborates tree top scale design → AreNamed design
+named_by words tree top scale design derives elaborates =
     subst AreNamed (sym elaborates.describes)
-    (module_named elaborates.unit (top_fits tree top elaborates.unit derives.fitting elaborates.is_top) elaborates.right.names_differ)
+    (module_named scale elaborates.unit (top_fits tree top elaborates.unit derives.fitting elaborates.is_top) elaborates.right.names_differ)

@@ -1,6 +1,7 @@
--- `Elaborates tree top design`: the design that a text stands for (IEEE 1364-2005, clause 12).
+-- `Elaborates tree top scale design`: the design that a text stands for (IEEE 1364-2005, clause 12).
 use Rattle.std.specs.Prelude.{◌≡◌, ◌≤◌, ℕ, ◌+◌, ◌-◌, max, min, nat_le, Bool, true, false, ◌&&◌, ◌||◌, cond, List, [], ◌∷◌, ◌++◌, map, length, Option, None, Some, is_some, unwrap_or, option_map, option_and_then}
 use Rattle.std.specs.List.{list_any, list_all, flat_map, filter_map, find, position_or_len}
+use Rattle.std.specs.Borrow.{Bor}
 use Rattle.std.specs.Str.{bytes_eq}
 use Rattle.vbits.specs.Letters.{is_one}
 use Rattle.vbits.specs.Numbers as numbers
@@ -10,8 +11,7 @@ use Rattle.vast.specs.Design as design
 use Rattle.vast.specs.declared.design.Action.{Action}
 use Rattle.vast.specs.declared.design.Action.TheVariants.{Assign, Nonblocking, Delay, DumpVars, Finish}
 use Rattle.vast.specs.declared.design.Target.TheVariants.{Whole}
-use Rattle.basis.specs.declared.timescale.Span.{Span}
-use Rattle.basis.specs.declared.timescale.Unit.TheVariants.{Nanosecond}
+use Rattle.basis.specs.declared.timescale.Timescale.{Timescale}
 use Rattle.vast.specs.declared.design.Kind.TheVariants.{Reg}
 use Rattle.vast.specs.declared.design.Bounds.{Bounds}
 use Rattle.vast.specs.declared.design.Expression.{Expression}
@@ -27,6 +27,10 @@ has_double (x ∷ xs) = list_any (bytes_eq x) xs || has_double xs
 
 abbrev pub module_names : SourceTree → List Text
 module_names = map (λ m. m.name)
+
+-- the text of a name that was given
+abbrev pub named_text : Option (Bor Text) → Option Text
+named_text = option_map (λ name. name.now)
 
 abbrev pub only_of : SourceTree → Option ModuleTree
 only_of (m ∷ []) = Some m
@@ -190,16 +194,13 @@ initials m = filter_map statement_of m.items
 abbrev pub scope_by : Text → ℕ → design.Scope
 scope_by top variables = record { name = top; depth = 0; variables = variables }
 
--- 19.8: time is counted in nanoseconds where no timescale is set (own)
-abbrev pub nanosecond : Span
-nanosecond = record { count = 1; unit = Nanosecond }
-
-abbrev pub design_of : ModuleTree → design.Design
-design_of m =
+-- under the timescale of the text (19.8)
+abbrev pub design_of : Timescale → ModuleTree → design.Design
+design_of scale m =
     let processes = laid_processes (declared_names m) [] (initials m) in
     record {
       top = m.name;
-      precision = nanosecond;
+      scale = scale;
       variables = map (variable_of m.name) (declarations m);
       scopes = scope_by m.name (length (declarations m)) ∷ [];
       actions = processes.table;
@@ -215,9 +216,9 @@ pub record IsRight (m : ModuleTree) : Type 0 where
   pub few_processes : length (initials m) ≤ 256
 
 -- The text has a top, its modules have names of their own, the top is right, and the design is the one that it describes.
-pub record Elaborates (tree : SourceTree) (top : Option Text) (design : design.Design) : Type 0 where
+pub record Elaborates (tree : SourceTree) (top : Option Text) (scale : Timescale) (design : design.Design) : Type 0 where
   pub unit : ModuleTree
   pub is_top : top_of tree top ≡ Some unit
   pub modules_differ : has_double (module_names tree) ≡ false
   pub right : IsRight unit
-  pub describes : design ≡ design_of unit
+  pub describes : design ≡ design_of scale unit

@@ -36,12 +36,9 @@ pub record AreLaid (what : Processes) (before : List (List ℕ)) (table_after : 
   pub table : table_after ≡ what.table
   pub begins : begins_after ≡ before ++ what.begins
 
--- the tree of a module that was found, and the text of a name that was given
+-- the tree of a module that was found
 abbrev pub unit_tree : Option (Bor Parsed) → Option ModuleTree
 unit_tree = option_map (λ unit. module_tree unit.now)
-
-abbrev pub named_text : Option (Bor Text) → Option Text
-named_text = option_map (λ name. name.now)
 
 -- ---- numbers
 

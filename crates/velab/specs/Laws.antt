@@ -2,14 +2,17 @@
 use Rattle.std.specs.Prelude.{◌≡◌, List, Option}
 use Rattle.vast.specs.Syntax.{Text, SourceTree}
 use Rattle.vast.specs.Derives.{Derives}
+use Rattle.basis.specs.declared.timescale.Timescale.{Timescale}
 use Rattle.vast.specs.Design.{Design}
 use Rattle.vast.specs.Names.{AreNamed}
 use Rattle.velab.specs.Elaborate.{Elaborates}
 
--- a tree and the name of its top stand for one design at most
+-- a tree, the name of its top and a timescale stand for one design at most
 abbrev pub ElaboratesOneWay : Type 0
-ElaboratesOneWay = (tree : SourceTree) (top : Option Text) (design other : Design) → Elaborates tree top design → Elaborates tree top other → design ≡ other
+ElaboratesOneWay = (tree : SourceTree) (top : Option Text) (scale : Timescale) (design other : Design) →
+    Elaborates tree top scale design → Elaborates tree top scale other → design ≡ other
 
 -- 3.7: where the words of a text derive the tree, the names of its design are names
 abbrev pub ElaboratesNamed : Type 0
-ElaboratesNamed = (words : List Text) (tree : SourceTree) (top : Option Text) (design : Design) → Derives words tree → Elaborates tree top design → AreNamed design
+ElaboratesNamed = (words : List Text) (tree : SourceTree) (top : Option Text) (scale : Timescale) (design : Design) →
+    Derives words tree → Elaborates tree top scale design → AreNamed design

@@ -2,6 +2,7 @@
 use Rattle.std.specs.Prelude.{◌≡◌, ◌<◌, ◌⊎◌, true, false, length, Option, None, Some}
 use Rattle.std.specs.List.{list_all}
 use Rattle.vast.specs.Syntax.{Text, ModuleTree, SourceTree}
+use Rattle.basis.specs.declared.timescale.Timescale.{Timescale}
 use Rattle.vast.specs.Design.{Design}
 use Rattle.velab.specs.declared.fault.ElabFault.{ElabFault}
 use Rattle.velab.specs.declared.fault.ElabFault.TheVariants.{Module, Doubled, Unknown, Width, TooMany}
@@ -19,6 +20,10 @@ IsDesignReason tree top (Unknown at) = OfTop tree top (λ m. list_all (knows (de
 IsDesignReason tree top (Width at) = OfTop tree top (λ m. list_all has_range m.items ≡ false)
 IsDesignReason tree top (TooMany at) = OfTop tree top (λ m. (1024 < length (declarations m)) ⊎ (256 < length (initials m)))
 
--- no design is the text's
+-- no design is the text's, under no timescale
 abbrev pub HasNoDesign : SourceTree → Option Text → Type 0
-HasNoDesign tree top = (design : Design) → Elaborates tree top design → ⊥
+HasNoDesign tree top = (scale : Timescale) (design : Design) → Elaborates tree top scale design → ⊥
+
+-- a design is the text's only one under the timescale
+abbrev pub IsOnlyDesign : SourceTree → Option Text → Timescale → Design → Type 0
+IsOnlyDesign tree top scale design = (other : Design) → Elaborates tree top scale other → other ≡ design

@@ -1,28 +1,22 @@
 // The design of a text.
 
-ghost use Rattle.std.specs.Prelude.{◌≡◌, ◌≤◌, ◌∷◌, [], ℕ, map, IfOk, OnOk, option_map};
+ghost use Rattle.std.specs.Prelude.{◌≡◌, ◌≤◌, ◌∷◌, [], ℕ, map, IfOk, OnOk};
 ghost use Rattle.basis.specs.Reasons.{IfFault};
 ghost use Rattle.vast.specs.Design.{Design};
 ghost use Rattle.vast.specs.Trees.{source_tree, module_tree};
 ghost use Rattle.velab.specs.Elaborate as spec;
-ghost use Rattle.velab.specs.Elaborate.{Elaborates, IsRight};
-ghost use Rattle.velab.specs.Reasons.{IsDesignReason, HasNoDesign};
+ghost use Rattle.velab.specs.Elaborate.{Elaborates, IsRight, named_text};
+ghost use Rattle.velab.specs.Reasons.{IsDesignReason, IsOnlyDesign, HasNoDesign};
 ghost use Rattle.velab.specs.Inner.{BreaksModule};
 
 use crate::fault::ElabFault;
 use crate::statement::{ProcessTable, processes};
 use crate::top::{check_names, top_of};
 use crate::variable::{Declarations, declare_items};
-use basis::{NoMemory, OrMemory, Span, Unit};
+use basis::{NoMemory, OrMemory, Timescale};
 use std::alloc::Global;
 use vast::design::{Design, Scope};
 use vast::syntax::{Ast, Module};
-
-/// The precision of a text that sets no timescale.
-const NANOSECOND: Span = Span {
-    count: 1,
-    unit: Unit::Nanosecond,
-};
 
 // The only scope: the top's.
 fn scopes(alloc: Global, name: &[u8], variables: u32) -> Result<Vec<Scope>, NoMemory>
@@ -39,8 +33,12 @@ fn scopes(alloc: Global, name: &[u8], variables: u32) -> Result<Vec<Scope>, NoMe
 }
 
 // The design that a module describes, where it is right.
-fn design_of(alloc: Global, unit: &Module<'_>) -> Result<Design, OrMemory<ElabFault>>
-    ensures ok { IfOk result (λ design. design ≡ spec.design_of (module_tree unit.now)) }
+fn design_of(
+    alloc: Global,
+    unit: &Module<'_>,
+    scale: Timescale,
+) -> Result<Design, OrMemory<ElabFault>>
+    ensures ok { IfOk result (λ design. design ≡ spec.design_of scale (module_tree unit.now)) }
     ensures right { OnOk result (IsRight (module_tree unit.now)) }
     ensures err { IfFault result (BreaksModule (module_tree unit.now)) }
 {
@@ -48,7 +46,7 @@ fn design_of(alloc: Global, unit: &Module<'_>) -> Result<Design, OrMemory<ElabFa
     let ProcessTable { table, begins } = processes(alloc, &names, &unit.items)?;
     Ok(Design {
         top: Vec::from_slice(alloc, unit.name.text)?,
-        precision: NANOSECOND,
+        scale,
         variables,
         scopes: scopes(alloc, unit.name.text, names.len() as u32)?,
         actions: table.actions,
@@ -57,22 +55,24 @@ fn design_of(alloc: Global, unit: &Module<'_>) -> Result<Design, OrMemory<ElabFa
     })
 }
 
-/// The design that the text stands for. `top` names its top module; without it the text's only module is the top.
+/// The design that the text stands for, under its timescale. `top` names its top module; without it the text's only module
+/// is the top.
 /// Errors: E301, E302, E303, E306 and E309, each only where its rule is broken, and E901. Of several faults
 /// any one may be answered. Modules other than the top are not looked into (12.1).
 pub fn elaborate(
     alloc: Global,
     ast: &Ast<'_>,
     top: Option<&[u8]>,
+    scale: Timescale,
 ) -> Result<Design, OrMemory<ElabFault>>
-    ensures design { IfOk result (λ design. Elaborates (source_tree ast.now) (option_map (λ t. t.now) top.entry) design) }
-    ensures only { IfOk result (λ design. (other : Design) → Elaborates (source_tree ast.now) (option_map (λ t. t.now) top.entry) other → other ≡ design) }
-    ensures reason { IfFault result (IsDesignReason (source_tree ast.now) (option_map (λ t. t.now) top.entry)) }
-    ensures none { IfFault result (λ fault. HasNoDesign (source_tree ast.now) (option_map (λ t. t.now) top.entry)) }
+    ensures design { IfOk result (Elaborates (source_tree ast.now) (named_text top.entry) scale) }
+    ensures only { IfOk result (IsOnlyDesign (source_tree ast.now) (named_text top.entry) scale) }
+    ensures reason { IfFault result (IsDesignReason (source_tree ast.now) (named_text top.entry)) }
+    ensures none { IfFault result (λ _. HasNoDesign (source_tree ast.now) (named_text top.entry)) }
 {
     check_names(alloc, &ast.modules)?;
     match top_of(&ast.modules, top) {
-        Some(unit) => design_of(alloc, unit),
+        Some(unit) => design_of(alloc, unit, scale),
         None => Err(OrMemory::Fault(ElabFault::Module {
             at: second(&ast.modules, top),
         })),

@@ -3,8 +3,8 @@ ghost use Rattle.std.specs.Prelude.{◌≡◌, false, map, OnOk, Some};
 ghost use Rattle.basis.specs.Reasons.{IfFault};
 ghost use Rattle.vast.specs.Trees.{module_tree};
 ghost use Rattle.velab.specs.Elaborate as spec;
-ghost use Rattle.velab.specs.Elaborate.{has_double, module_names};
-ghost use Rattle.velab.specs.Inner.{BreaksModules, unit_tree, named_text};
+ghost use Rattle.velab.specs.Elaborate.{has_double, module_names, named_text};
+ghost use Rattle.velab.specs.Inner.{BreaksModules, unit_tree};
 
 use crate::fault::ElabFault;
 use crate::names::Names;

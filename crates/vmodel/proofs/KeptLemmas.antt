@@ -15,7 +15,7 @@ use Rattle.vmodel.specs.declared.choice.Choice.TheVariants.{Run, Update, Advance
 use Rattle.vmodel.specs.Queue.{Slot, Queue, without_process}
 use Rattle.vmodel.specs.State.{State}
 use Rattle.vmodel.specs.Choices.{in_order, first_update, or_advance, active_choices, offered, queue_choices, choices}
-use Rattle.vmodel.specs.Step.{Did, does, going, closed_by, closed, acted, process_by, turned, takes, goes_from, without_update, updated, advanced_to, turn_of, turn_by, next}
+use Rattle.vmodel.specs.Step.{moment_of, Did, does, going, closed_by, closed, acted, process_by, turned, takes, goes_from, without_update, updated, advanced_to, turn_of, turn_by, next}
 use Rattle.vmodel.specs.Run.{Setting, busy_from, opening_process, opening_of, state_after}
 use Rattle.vmodel.specs.Played.{opening_is, after_is}
 use Rattle.vmodel.specs.Kept.{RisesFrom, IsInOrder, count_in, asleep, most_places, IsInPlace, IsIdle, IsKept}
@@ -145,19 +145,19 @@ turned-kept p did s kept active lt =
     closed-kept (acted p did s) (order-moved p did.deed.fate did.deed.posted (going p did.left) s.queue kept.order)
     (place-moved p did.deed.fate did.deed.posted (process_by did) s.queue s.processes kept.place active lt)
 
-takes-kept : (p : ℕ) (action : Option Action) (after : List Spot) (s : State) → IsKept s → 1 ≤ count_in p s.queue.active →
-    p < length s.processes → IsKept (takes p action after s).state
-takes-kept p None after s kept active lt = kept
-takes-kept p (Some action) after s kept active lt = turned-kept p (does action after (record { values = s.values })) s kept active lt
+takes-kept : (design : Design) (p : ℕ) (action : Option Action) (after : List Spot) (s : State) → IsKept s → 1 ≤ count_in p s.queue.active →
+    p < length s.processes → IsKept (takes design p action after s).state
+takes-kept design p None after s kept active lt = kept
+takes-kept design p (Some action) after s kept active lt = turned-kept p (does action after (moment_of design s)) s kept active lt
 
-process-kept : (actions : List Action) (p : ℕ) (left : List Spot) (s : State) → IsKept s → left_at s.processes p ≡ left →
-    1 ≤ count_in p s.queue.active → IsKept (goes_from actions p left s).state
-process-kept actions p [] s kept is active = kept
-process-kept actions p (Doing place ∷ after) s kept is active =
-    takes-kept p (slice_get actions place) after s kept active (is_there s.processes p (Doing place) after is)
+process-kept : (design : Design) (p : ℕ) (left : List Spot) (s : State) → IsKept s → left_at s.processes p ≡ left →
+    1 ≤ count_in p s.queue.active → IsKept (goes_from design p left s).state
+process-kept design p [] s kept is active = kept
+process-kept design p (Doing place ∷ after) s kept is active =
+    takes-kept design p (slice_get design.actions place) after s kept active (is_there s.processes p (Doing place) after is)
 
 turn-kept : (design : Design) (c : Choice) (s : State) → IsKept s → IsOpen c s.queue → IsKept (turn_of design c s).state
-turn-kept design (Run p) s kept active = process-kept design.actions p (left_at s.processes p) s kept refl active
+turn-kept design (Run p) s kept active = process-kept design p (left_at s.processes p) s kept refl active
 turn-kept design Update s kept allowed =
     let h = updated-kept s s.queue.activated kept in closed-kept (updated s) h.0 h.1
 turn-kept design Advance s kept allowed =

@@ -25,7 +25,7 @@ use Rattle.vmodel.specs.Parts.{written}
 use Rattle.vmodel.specs.Queue.{Slot, Queue, waking, empty_slot, wake_at}
 use Rattle.vmodel.specs.State.{State}
 use Rattle.vmodel.specs.Choices.{choices}
-use Rattle.vmodel.specs.Step.{Did, does, going, leaves, fares, posts, regions, closed_by, closed, acted, takes, goes_from, left_of, first_of, without_update, updated, advanced_to, turn_of, turn_by, next}
+use Rattle.vmodel.specs.Step.{moment_of, Did, does, going, leaves, fares, posts, regions, closed_by, closed, acted, takes, goes_from, left_of, first_of, without_update, updated, advanced_to, turn_of, turn_by, next}
 use Rattle.vmodel.specs.Run.{Setting, opening_value, state_after}
 use Rattle.vmodel.specs.Played.{opening_is, after_is}
 use Rattle.vmodel.specs.Kept.{HasShape, AreShaped}
@@ -100,17 +100,17 @@ cut-shape old e now =
       (marked right old.signed).1,
     )
 
-assigned-suits : (variables : List Variable) (target : Target) (e : Expression) (values : List Vector) → AreShaped variables values →
-    AllSuit variables (assigned target e (record { values = values }))
-assigned-suits variables (WholeTarget number) e values h = (suits, tt)
+assigned-suits : (variables : List Variable) (target : Target) (e : Expression) (now : Moment) → AreShaped variables now.values →
+    AllSuit variables (assigned target e now)
+assigned-suits variables (WholeTarget number) e now h = (suits, tt)
   where
     old : Vector
-    old = value_at (record { values = values }) number
+    old = value_at now number
 
-    suits : (x : Variable) → slice_get variables number ≡ Some x → HasShape x (cut_to old e (record { values = values }))
+    suits : (x : Variable) → slice_get variables number ≡ Some x → HasShape x (cut_to old e now)
     suits x at =
-        let shape : HasShape x old = shape_at variables values number x (filled 1 X) h at in
-        let cut = cut-shape old e (record { values = values }) in
+        let shape : HasShape x old = shape_at variables now.values number x (filled 1 X) h at in
+        let cut = cut-shape old e now in
         (cut.0 ∙ shape.0, cut.1 ∙ shape.1)
 
 -- ---- what waits
@@ -182,18 +182,18 @@ record DeedSuits (variables : List Variable) (did : Did) : Type 0 where
   pub wrote : AllSuit variables did.deed.wrote
   pub posted : (u : List Part) → did.deed.posted ≡ Some u → AllSuit variables u
 
-does-suits : (variables : List Variable) (action : Action) (after : List Spot) (values : List Vector) → AreShaped variables values →
-    DeedSuits variables (does action after (record { values = values }))
-does-suits variables (Assign target value) after values h = record { wrote = assigned-suits variables target value values h; posted = λ u is. cc }
-does-suits variables (Nonblocking target value) after values h = record {
+does-suits : (variables : List Variable) (action : Action) (after : List Spot) (now : Moment) → AreShaped variables now.values →
+    DeedSuits variables (does action after now)
+does-suits variables (Assign target value) after now h = record { wrote = assigned-suits variables target value now h; posted = λ u is. cc }
+does-suits variables (Nonblocking target value) after now h = record {
   wrote = tt;
   posted = λ u is.
-      let same : assigned target value (record { values = values }) ≡ u = cc in
-      subst (AllSuit variables) same (assigned-suits variables target value values h);
+      let same : assigned target value now ≡ u = cc in
+      subst (AllSuit variables) same (assigned-suits variables target value now h);
 }
-does-suits variables (Delay amount body) after values h = record { wrote = tt; posted = λ u is. cc }
-does-suits variables DumpVars after values h = record { wrote = tt; posted = λ u is. cc }
-does-suits variables Finish after values h = record { wrote = tt; posted = λ u is. cc }
+does-suits variables (Delay amount body) after now h = record { wrote = tt; posted = λ u is. cc }
+does-suits variables DumpVars after now h = record { wrote = tt; posted = λ u is. cc }
+does-suits variables Finish after now h = record { wrote = tt; posted = λ u is. cc }
 
 acted-shaped : (variables : List Variable) (p : ℕ) (did : Did) (s : State) → IsShaped variables s → DeedSuits variables did → IsShaped variables (acted p did s)
 acted-shaped variables p did s h suits = record {
@@ -201,17 +201,17 @@ acted-shaped variables p did s h suits = record {
   queue = fares-suit variables p did.deed.fate (going p did.left) (posts did.deed.posted s.queue) (posts-suit variables did.deed.posted s.queue h.queue suits.posted);
 }
 
-takes-shaped : (variables : List Variable) (p : ℕ) (action : Option Action) (after : List Spot) (s : State) → IsShaped variables s →
-    IsShaped variables (takes p action after s).state
-takes-shaped variables p None after s h = h
-takes-shaped variables p (Some action) after s h =
-    let did = does action after (record { values = s.values }) in
-    closed-shaped variables (acted p did s) (acted-shaped variables p did s h (does-suits variables action after s.values h.values))
+takes-shaped : (variables : List Variable) (design : Design) (p : ℕ) (action : Option Action) (after : List Spot) (s : State) → IsShaped variables s →
+    IsShaped variables (takes design p action after s).state
+takes-shaped variables design p None after s h = h
+takes-shaped variables design p (Some action) after s h =
+    let did = does action after (moment_of design s) in
+    closed-shaped variables (acted p did s) (acted-shaped variables p did s h (does-suits variables action after (moment_of design s) h.values))
 
-process-shaped : (variables : List Variable) (actions : List Action) (p : ℕ) (left : List Spot) (s : State) → IsShaped variables s →
-    IsShaped variables (goes_from actions p left s).state
-process-shaped variables actions p [] s h = h
-process-shaped variables actions p (Doing place ∷ after) s h = takes-shaped variables p (slice_get actions place) after s h
+process-shaped : (variables : List Variable) (design : Design) (p : ℕ) (left : List Spot) (s : State) → IsShaped variables s →
+    IsShaped variables (goes_from design p left s).state
+process-shaped variables design p [] s h = h
+process-shaped variables design p (Doing place ∷ after) s h = takes-shaped variables design p (slice_get design.actions place) after s h
 
 updated-shaped : (variables : List Variable) (us : List (List Part)) (s : State) → UpdatesSuit variables us → IsShaped variables s →
     IsShaped variables (record s { values = written (first_of us) s.values; queue = without_update us s.queue })
@@ -227,7 +227,7 @@ advanced-suits variables [] q suit h = h
 advanced-suits variables (e ∷ es) q suit h = record { activated = h.activated; posted = suit.0; future = suit.1 }
 
 turn-shaped : (variables : List Variable) (design : Design) (c : Choice) (s : State) → IsShaped variables s → IsShaped variables (turn_of design c s).state
-turn-shaped variables design (Run p) s h = process-shaped variables design.actions p (left_of (slice_get s.processes p)) s h
+turn-shaped variables design (Run p) s h = process-shaped variables design p (left_of (slice_get s.processes p)) s h
 turn-shaped variables design Update s h = closed-shaped variables (updated s) (updated-shaped variables s.queue.activated s h.queue.activated h)
 turn-shaped variables design Advance s h =
     closed-shaped variables (record s { queue = advanced_to s.queue.future s.queue })

@@ -19,7 +19,7 @@ use Rattle.vmodel.specs.declared.choice.Choice.TheVariants.{Run, Update, Advance
 use Rattle.vmodel.specs.Queue.{Slot, Queue}
 use Rattle.vmodel.specs.State.{State}
 use Rattle.vmodel.specs.Choices.{choices}
-use Rattle.vmodel.specs.Step.{Turn, Did, does, going, goes_on, fares, posts, settled, closed_by, closed, acted, turned, takes, goes_from, left_of, without_update, updated, advanced_to, turn_of, turn_by, next, command_items, idle_items, slot_end_by, slot_end_of, items_of}
+use Rattle.vmodel.specs.Step.{moment_of, Turn, Did, does, going, goes_on, fares, posts, settled, closed_by, closed, acted, turned, takes, goes_from, left_of, without_update, updated, advanced_to, turn_of, turn_by, next, command_items, idle_items, slot_end_by, slot_end_of, items_of}
 use Rattle.vmodel.specs.Run.{Setting, rules_of, opening_of, state_after, given_by}
 use Rattle.vmodel.specs.Played.{opening_is, after_is, width_is}
 use Rattle.vmodel.specs.Kept.{RisesFrom, IsIdle, IsKept, slot_times, count_in}
@@ -123,13 +123,13 @@ time-turned p did s =
     ∙ time-fares p did.deed.fate (going p did.left) (posts did.deed.posted s.queue)
     ∙ time-posts did.deed.posted s.queue
 
-time-takes : (p : ℕ) (action : Option Action) (after : List Spot) (s : State) → (takes p action after s).state.queue.time ≡ s.queue.time
-time-takes p None after s = refl
-time-takes p (Some action) after s = time-turned p (does action after (record { values = s.values })) s
+time-takes : (design : Design) (p : ℕ) (action : Option Action) (after : List Spot) (s : State) → (takes design p action after s).state.queue.time ≡ s.queue.time
+time-takes design p None after s = refl
+time-takes design p (Some action) after s = time-turned p (does action after (moment_of design s)) s
 
-time-process : (actions : List Action) (p : ℕ) (left : List Spot) (s : State) → (goes_from actions p left s).state.queue.time ≡ s.queue.time
-time-process actions p [] s = refl
-time-process actions p (Doing place ∷ after) s = time-takes p (slice_get actions place) after s
+time-process : (design : Design) (p : ℕ) (left : List Spot) (s : State) → (goes_from design p left s).state.queue.time ≡ s.queue.time
+time-process design p [] s = refl
+time-process design p (Doing place ∷ after) s = time-takes design p (slice_get design.actions place) after s
 
 time-updated : (us : List (List Part)) (q : Queue) → (without_update us q).time ≡ q.time
 time-updated [] q = refl
@@ -148,7 +148,7 @@ turn-timed design times (Run p) s kept none active timed =
     (omega (
       arith,
       timed.before none (λ idle. absurd (omega (arith, active, ap (count_in p) idle.0))),
-      time-process design.actions p (left_of (slice_get s.processes p)) s,
+      time-process design p (left_of (slice_get s.processes p)) s,
     ))
 turn-timed design times Update s kept none some timed =
     timed_turn times (turn_of design Update s) timed.rises

@@ -1,6 +1,7 @@
 -- `Step` (IEEE 1364-2005, 11.3, 11.4, 11.6; docs/SCHEDULING.md): the one step of a choice, then the region moves.
 use Rattle.std.specs.Prelude.{ℕ, zero, suc, List, [], ◌∷◌, ◌++◌, Option, Some, None, map, slice_get, slice_set}
 use Rattle.vbits.specs.Vectors.{Vector}
+use Rattle.basis.specs.Timescales.{factor}
 use Rattle.vast.specs.Design.{Design}
 use Rattle.vast.specs.declared.design.Action.{Action}
 use Rattle.vast.specs.declared.design.Action.TheVariants.{Assign, Nonblocking, Delay, DumpVars, Finish}
@@ -135,22 +136,26 @@ turned p did s = record { state = closed (acted p did s); deed = did.deed }
 abbrev pub unmoved : State → Turn
 unmoved s = record { state = s; deed = quiet }
 
+-- what is known in a state
+abbrev pub moment_of : Design → State → Moment
+moment_of design s = record { values = s.values; factor = factor design.scale }
+
 -- the process takes the action, if there is one
-abbrev pub takes : ℕ → Option Action → List Spot → State → Turn
-takes p None after s = unmoved s
-takes p (Some action) after s = turned p (does action after (record { values = s.values })) s
+abbrev pub takes : Design → ℕ → Option Action → List Spot → State → Turn
+takes design p None after s = unmoved s
+takes design p (Some action) after s = turned p (does action after (moment_of design s)) s
 
 -- it takes the action at the first of what it has left. One with nothing left is never active (specs/Kept.antt)
-abbrev pub goes_from : List Action → ℕ → List Spot → State → Turn
-goes_from actions p [] s = unmoved s
-goes_from actions p (Doing place ∷ after) s = takes p (slice_get actions place) after s
+abbrev pub goes_from : Design → ℕ → List Spot → State → Turn
+goes_from design p [] s = unmoved s
+goes_from design p (Doing place ∷ after) s = takes design p (slice_get design.actions place) after s
 
 abbrev pub left_of : Option Process → List Spot
 left_of None = []
 left_of (Some process) = process.left
 
-abbrev pub process_turn : List Action → ℕ → State → Turn
-process_turn actions p s = goes_from actions p (left_of (slice_get s.processes p)) s
+abbrev pub process_turn : Design → ℕ → State → Turn
+process_turn design p s = goes_from design p (left_of (slice_get s.processes p)) s
 
 -- the first activated update is written (11.4.1)
 abbrev pub first_of : List (List Part) → List Part
@@ -174,7 +179,7 @@ advanced_to (e ∷ es) q =
     record q { time = e.0; last = None; active = e.1.processes; posted = e.1.updates; future = es }
 
 abbrev pub turn_of : Design → Choice → State → Turn
-turn_of design (Run p) s = process_turn design.actions p s
+turn_of design (Run p) s = process_turn design p s
 turn_of design Update s =
     record { state = closed (updated s); deed = record quiet { wrote = first_of s.queue.activated } }
 turn_of design Advance s =

@@ -1,6 +1,6 @@
 -- What an expression is worth (IEEE 1364-2005, 3.5.1, 5.4, 5.5): its own size and sign, and its value at the size
 -- and sign of what it stands in.
-use Rattle.std.specs.Prelude.{ℕ, Bool, ◌||◌, max, List, [], ◌∷◌, unwrap_or, length, slice_get}
+use Rattle.std.specs.Prelude.{ℕ, Bool, ◌*◌, ◌||◌, max, List, [], ◌∷◌, unwrap_or, length, slice_get}
 use Rattle.vbits.specs.declared.bit4.Bit4.TheVariants.{X}
 use Rattle.vbits.specs.Vectors.{Vector, filled, resize, with_sign}
 use Rattle.vbits.specs.Numbers.{number}
@@ -11,9 +11,11 @@ use Rattle.vast.specs.declared.design.Target.TheVariants.{Whole}
 use Rattle.vmodel.specs.declared.part.Part.{Part}
 use Rattle.vmodel.specs.declared.part.Part.TheVariants.{Whole as WholePart}
 
--- what is known when an expression is evaluated: the values of the variables, by number
+-- What is known when an expression is evaluated: the values of the variables, by number, and how many units of the precision
+-- make one in which delays are written (19.8).
 pub record Moment : Type 0 where
   pub values : List Vector
+  pub factor : ℕ
 
 -- the value of the variable of this number; x, one bit wide, where there is none
 abbrev pub value_at : Moment → ℕ → Vector
@@ -49,6 +51,10 @@ cut_to old e now =
 abbrev pub assigned : Target → Expression → Moment → List Part
 assigned (Whole variable) e now = WholePart variable (cut_to (value_at now variable) e now) ∷ []
 
--- 9.7.1: a delay, extended to 64 bits by its own sign and read as unsigned; an unknown one is 0
+-- 9.7.1: the number of a delay, extended to 64 bits by its own sign and read as unsigned; an unknown one is 0
+abbrev pub amount_of : Expression → Moment → ℕ
+amount_of e now = unwrap_or (number (resize (value_of e now (size_of e now) (is_signed e now)) 64).letters) 0
+
+-- 19.8: the delay in units of the precision
 abbrev pub delay_of : Expression → Moment → ℕ
-delay_of e now = unwrap_or (number (resize (value_of e now (size_of e now) (is_signed e now)) 64).letters) 0
+delay_of e now = amount_of e now * now.factor

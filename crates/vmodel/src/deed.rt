@@ -7,7 +7,7 @@ ghost use Rattle.vmodel.specs.Step.{does, spots};
 
 use crate::history::{Cause, DumpCommand};
 use crate::part::Parts;
-use crate::value::{assigned, delay_of};
+use crate::value::{Moment, assigned, delay_of};
 use vast::design::Action;
 use vbits::Vec4;
 
@@ -17,7 +17,7 @@ pub enum Fate {
     /// It goes on, or has ended where it has nothing left.
     GoesOn,
     /// It sleeps so long, in units of the precision (9.7.1).
-    Sleeps(u64),
+    Sleeps(u128),
 }
 
 /// What a step does, beside what its process has left.
@@ -59,30 +59,30 @@ pub struct Doing<'d> {
     pub deed: Deed,
 }
 
-/// What the action does where the variables have these values.
-pub fn deed_of<'d>(action: &'d Action, values: &[Vec4]) -> Doing<'d>
-    ensures { (after : List Spot) → does action.now after (record { values = values.now }) ≡ record { left = spots result.next.now after; deed = result.deed } }
+/// What the action does at this moment.
+pub fn deed_of<'d>(action: &'d Action, moment: &Moment<'_>) -> Doing<'d>
+    ensures { (after : List Spot) → does action.now after moment.now ≡ record { left = spots result.next.now after; deed = result.deed } }
 {
     let quiet = Deed::quiet();
     match action {
         Action::Assign { target, value } => Doing {
             next: &[],
             deed: Deed {
-                wrote: assigned(*target, value, values),
+                wrote: assigned(*target, value, moment),
                 ..quiet
             },
         },
         Action::Nonblocking { target, value } => Doing {
             next: &[],
             deed: Deed {
-                posted: Some(assigned(*target, value, values)),
+                posted: Some(assigned(*target, value, moment)),
                 ..quiet
             },
         },
         Action::Delay { amount, body } => Doing {
             next: body.as_slice(),
             deed: Deed {
-                fate: Fate::Sleeps(delay_of(amount, values)),
+                fate: Fate::Sleeps(delay_of(amount, moment)),
                 ..quiet
             },
         },

@@ -91,6 +91,31 @@ impl Left {
         requires other { IsWhole other.now }
         ensures { result ≡ pointwise spot_same (left_spots self.now) (left_spots other.now) }
     {
+        if self.kept == other.kept {
+            self.has_like_parts(other)
+        } else {
+            self.is_like_spot_by_spot(other)
+        }
+    }
+
+    // The same, where as much of the beginning is left in both, as in nearly all states that are alike: two slices are compared.
+    fn has_like_parts(&self, other: &Left) -> bool
+        requires whole { IsWhole self.now }
+        requires other { IsWhole other.now }
+        requires kept { self.now.kept ≡ other.now.kept }
+        ensures { result ≡ pointwise spot_same (left_spots self.now) (left_spots other.now) }
+    {
+        let front = self.base.as_slice().split_at(self.kept).0;
+        let like = other.base.as_slice().split_at(other.kept).0;
+        front == like && self.own == other.own
+    }
+
+    // The same, however much is left.
+    fn is_like_spot_by_spot(&self, other: &Left) -> bool
+        requires whole { IsWhole self.now }
+        requires other { IsWhole other.now }
+        ensures { result ≡ pointwise spot_same (left_spots self.now) (left_spots other.now) }
+    {
         let len = self.len();
         if other.len() != len {
             return false;

@@ -16,16 +16,16 @@ use std::mem;
 
 impl Queue {
     /// One more process to wake after a delay above 0; past the limit nothing is kept but that something is there.
-    fn wake_after(&mut self, delay: u64, sleeper: Option<u32>) -> Result<(), NoMemory>
+    fn wake_after(&mut self, delay: u128, sleeper: Option<u32>) -> Result<(), NoMemory>
         requires { ForSome sleeper (λ p. p < 256) }
         ensures ok { OnOk result (self.new ≡ queue_wake_after delay sleeper self.old) }
         ensures err { OnErr result (self.new ≡ self.old) }
     {
-        if self.until < self.time || delay > self.until - self.time {
+        if self.until < self.time || delay > u128::from(self.until - self.time) {
             self.beyond = true;
             return Ok(());
         }
-        let time = self.time + delay;
+        let time = self.time + delay as u64;
         wake_at(&mut self.future, time, sleeper)
     }
 
@@ -49,7 +49,7 @@ impl Queue {
     }
 
     /// The process sleeps: inactive after a delay of 0, else in the future.
-    fn sleep(&mut self, delay: u64, sleeper: Option<u32>) -> Result<(), NoMemory>
+    fn sleep(&mut self, delay: u128, sleeper: Option<u32>) -> Result<(), NoMemory>
         requires { ForSome sleeper (λ p. p < 256) }
         ensures ok { OnOk result (self.new ≡ sleeps delay sleeper self.old) }
         ensures err { OnErr result (self.new ≡ self.old) }

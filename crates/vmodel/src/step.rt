@@ -2,7 +2,7 @@
 
 ghost use Rattle.std.specs.Prelude.{◌≡◌, ◌<◌, ◌++◌, [], IfOk, OnOk, OnErr, IfSome, IfNone, length, slice_get, slice_set, drop};
 ghost use Rattle.std.specs.Option.{option_to_list};
-ghost use Rattle.vmodel.specs.Step.{spots, going, process_by, fares, posts, closed, left_of, process_turn, turn_of, next, slot_end_of, items_of};
+ghost use Rattle.vmodel.specs.Step.{spots, going, process_by, fares, posts, closed, left_of, moment_of, process_turn, turn_of, next, slot_end_of, items_of};
 ghost use Rattle.vast.specs.Design.{Design};
 ghost use Rattle.vmodel.specs.Step as spec;
 ghost use Rattle.vmodel.specs.Choices.{choices as choices_of};
@@ -14,6 +14,7 @@ use crate::history::Item;
 use crate::process::{Process, Spot};
 use crate::queue::Queue;
 use crate::state::SlowState;
+use crate::value::Moment;
 use basis::NoMemory;
 use std::alloc::Global;
 use vast::design::{Action, Design};
@@ -95,16 +96,26 @@ impl SlowState {
         }
     }
 
+    // What is known now.
+    fn moment<'m>(&'m self, design: &Design) -> Moment<'m>
+        ensures { result ≡ moment_of design.now self.now }
+    {
+        Moment {
+            values: self.values.as_slice(),
+            factor: design.scale.factor(),
+        }
+    }
+
     // A process takes one step.
     fn run(&mut self, design: &Design, number: u32) -> Result<Deed, NoMemory>
         requires { number < 256 }
-        ensures ok { IfOk result (λ deed. process_turn design.now.actions number self.old ≡ record { state = self.new; deed = deed }) }
+        ensures ok { IfOk result (λ deed. process_turn design.now number self.old ≡ record { state = self.new; deed = deed }) }
         ensures err { OnErr result (self.new ≡ self.old) }
     {
         let Some(action) = self.action_of(design, number) else {
             return Ok(Deed::quiet());
         };
-        let Doing { next, deed } = deed_of(action, self.values.as_slice());
+        let Doing { next, deed } = deed_of(action, &self.moment(design));
         move_one(&mut self.processes, &mut self.queue, number, next, &deed)?;
         self.values.write_all(deed.wrote);
         self.cause = deed.cause;

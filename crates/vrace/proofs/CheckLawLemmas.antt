@@ -1,7 +1,7 @@
 -- One text, one report, one answer to whether it is true.
 use Rattle.std.proofs.Common.{◌≡◌, ℕ, zero, suc, ◌<◌, ◌^◌, List, [], ◌∷◌, length, slice_get, Some, inl, inr, sym, subst, ◌∙◌}
 use Rattle.std.proofs.lemmas.Option.{same_Some}
-use Rattle.vsrc.specs.Expansion.{expanded_text}
+use Rattle.vsrc.specs.Expansion.{expanded_text, expanded_timescale}
 use Rattle.vmodel.specs.Run.{Setting}
 use Rattle.report_text.specs.Report.{End, Report}
 use Rattle.report_text.specs.WellFormed.{IsTold, OneReportForText}
@@ -11,9 +11,9 @@ use Rattle.report_check.specs.declared.check.FirstBad.{FirstBad}
 use Rattle.report_check.specs.declared.check.FirstBad.TheVariants as bad
 use Rattle.vrace.specs.Checks.{Checked, HasNoSetting, IsCheckReason, IsFalseAt, IsReportReason, IsTrueText, setting_by}
 use Rattle.vrace.specs.Refusals.{IsOfMemory}
-use Rattle.vrace.specs.Replays.{IsDesignOf}
+use Rattle.vrace.specs.Replays.{IsDesignOf, IsDesignOfFiles}
 use Rattle.vrace.specs.declared.fault.Fault.{Fault}
-use Rattle.vrace.specs.declared.fault.Fault.TheVariants.{NotEnded, BadToken, Directive, NoMacro, Growth, LeftOpen, Timescales, NoTree, Outside, TooDeep, NotYet, NoTop, Doubled, Unknown, Width, TooMany, BadLog, NoSuchChoice, TooManySteps, OutOfLimit, BadReport, FalseEnd, FalseRace, FalseHead, Memory, Write, Read, TooLong}
+use Rattle.vrace.specs.declared.fault.Fault.TheVariants.{NotEnded, BadToken, Directive, NoMacro, Growth, LeftOpen, Timescales, NoTree, Outside, TooDeep, NoTop, Doubled, Unknown, Width, TooMany, BadLog, NoSuchChoice, TooManySteps, OutOfLimit, BadReport, FalseEnd, FalseRace, FalseHead, Memory, Write, Read, TooLong}
 use Rattle.vrace.proofs.LawLemmas.{Laws, not_for_design, one_design_of}
 
 -- of a list of true ends each is true, with its dump
@@ -45,8 +45,8 @@ module _ (laws : Laws) (one_report : OneReportForText) (files : List (List ℕ))
 
     designs : p.searched.design ≡ q.searched.design
     designs =
-        one_design_of laws (expanded_text files) (Some q.report.top) p.searched.design q.searched.design
-        (subst (λ (r : Report). IsDesignOf (expanded_text files) (Some r.top) p.searched.design) same.0 p.searched.is_design) q.searched.is_design
+        one_design_of laws (expanded_text files) (expanded_timescale files) (Some q.report.top) p.searched.design q.searched.design
+        (subst (λ (r : Report). IsDesignOfFiles files (Some r.top) p.searched.design) same.0 p.searched.is_design) q.searched.is_design
 
     settings : setting_by files text p ≡ setting_by files text q
     settings = λ i. record { design = designs i; until = (same.0 i).until; grain = (same.0 i).grain }
@@ -77,7 +77,6 @@ module _ (laws : Laws) (one_report : OneReportForText) (files : List (List ℕ))
     not_for_report (NoTree at) r = absurd r
     not_for_report (Outside at) r = absurd r
     not_for_report (TooDeep at) r = absurd r
-    not_for_report (NotYet at) r = absurd r
     not_for_report (NoTop at) r = absurd r
     not_for_report (Doubled at) r = absurd r
     not_for_report (Unknown at) r = absurd r
@@ -97,7 +96,7 @@ module _ (laws : Laws) (one_report : OneReportForText) (files : List (List ℕ))
         let here : Checked files text = truth.checked in
         let there = same_report here.report none.report here.dumps none.dumps here.told none.told in
         not_for_design laws files here.searched.are_read (Some none.report.top) here.searched.design
-        (subst (λ (r : Report). IsDesignOf (expanded_text files) (Some r.top) here.searched.design) there.0 here.searched.is_design) fault none.why
+        (subst (λ (r : Report). IsDesignOfFiles files (Some r.top) here.searched.design) there.0 here.searched.is_design) fault none.why
 
     pub not_refused : (fault : Fault) → IsCheckReason files text fault → IsOfMemory fault
     not_refused fault (inl r) = not_for_report fault r

@@ -13,7 +13,7 @@ use Rattle.vrace.specs.declared.fault.Fault.{Fault}
 pub breaks : (text : List ℕ) (tree : SourceTree) (top : Option (List ℕ)) (fault : ElabFault) → IsReadAs text tree →
     IsDesignReason tree top fault → HasNoDesign tree top → Breaks text top fault
 breaks text tree top fault read reason none = (
-  (λ design is. none design (subst (λ t. Elaborates t top design) (read.only is.tree is.is_tree) is.elaborated)),
+  (λ scale design is. none scale design (subst (λ t. Elaborates t top scale design) (read.only is.tree is.is_tree) is.elaborated)),
   (tree, read.is_tree, reason),
 )
 

@@ -1,8 +1,8 @@
 -- One text, one replay: from the laws of each layer.
 use Rattle.std.proofs.Common.{◌≡◌, ℕ, List, [], Option, None, Some, Result, Ok, Err, true, false, inl, inr, sym, ap, subst, ◌∙◌, arith, true≢false}
 use Rattle.vsrc.specs.Source.{Source}
-use Rattle.vsrc.specs.Timescales.{is_usual}
-use Rattle.vsrc.specs.Expansion.{expansion, expanded_text}
+use Rattle.basis.specs.declared.timescale.Timescale.{Timescale}
+use Rattle.vsrc.specs.Expansion.{expansion, expanded_text, expanded_timescale}
 use Rattle.vsrc.specs.declared.fault.SrcFault.{SrcFault}
 use Rattle.vlex.specs.Laws.{CutsOneWay}
 use Rattle.vast.specs.Syntax.{Text, SourceTree}
@@ -16,10 +16,10 @@ use Rattle.sched_core.specs.Replay.{EndsAfter}
 use Rattle.vmodel.specs.Run.{Setting, rules_of, history_after}
 use Rattle.vcd_text.specs.DumpText.{vcd}
 use Rattle.vrace.specs.Asked.{Asked}
-use Rattle.vrace.specs.Replays.{AreRead, texts_of, IsTreeOf, IsDesignOf, grain_under, Played, setting_of, IsDump}
+use Rattle.vrace.specs.Replays.{AreRead, texts_of, IsTreeOf, IsDesignOf, IsDesignOfFiles, grain_under, Played, setting_of, IsDump}
 use Rattle.vrace.specs.Refusals.{IsDesignFault, IsFileReason, IsTextReason, IsRunReason, IsReason, IsOfMemory, IsOfWriting}
 use Rattle.vrace.specs.declared.fault.Fault.{Fault}
-use Rattle.vrace.specs.declared.fault.Fault.TheVariants.{NotEnded, BadToken, Directive, NoMacro, Growth, LeftOpen, Timescales, NoTree, Outside, TooDeep, NotYet, NoTop, Doubled, Unknown, Width, TooMany, BadLog, NoSuchChoice, TooManySteps, OutOfLimit, BadReport, FalseEnd, FalseRace, FalseHead, Memory, Write, Read, TooLong}
+use Rattle.vrace.specs.declared.fault.Fault.TheVariants.{NotEnded, BadToken, Directive, NoMacro, Growth, LeftOpen, Timescales, NoTree, Outside, TooDeep, NoTop, Doubled, Unknown, Width, TooMany, BadLog, NoSuchChoice, TooManySteps, OutOfLimit, BadReport, FalseEnd, FalseRace, FalseHead, Memory, Write, Read, TooLong}
 use Rattle.vreport.specs.RunLaws.{same_end, never_missing, never_more}
 
 pub record Laws : Type 0 where
@@ -49,18 +49,12 @@ module _ (laws : Laws) (files : List (List ℕ)) (read : AreRead files) where
   expands : (fault : SrcFault) → expansion files ≡ Err fault → ⊥
   expands fault refused = let clash : Ok read.source ≡ Err fault = sym read.expanded ∙ refused in cc
 
-  is_timed : (source : Source) → expansion files ≡ Ok source → is_usual source.timescale ≡ false → ⊥
-  is_timed source expanded odd =
-      let same : read.source ≡ source = same_ok read.source source (expansion files) read.expanded expanded in
-      true≢false (sym read.usual ∙ ap (λ (s : Source). is_usual s.timescale) same ∙ odd)
-
   not_for_files : (fault : Fault) → IsFileReason files fault → IsOfMemory fault
   not_for_files (Directive at) (within, (place, refused, told)) = absurd (expands _ refused)
   not_for_files (NoMacro at) (within, (place, refused, told)) = absurd (expands _ refused)
   not_for_files (Growth at) (within, (place, refused, told)) = absurd (expands _ refused)
   not_for_files (LeftOpen at) (within, (place, refused, told)) = absurd (expands _ refused)
   not_for_files (Timescales at) (within, (place, refused, told)) = absurd (expands _ refused)
-  not_for_files (NotYet at) (within, (source, expanded, odd)) = absurd (is_timed source expanded odd)
   not_for_files (Memory m) r = tt
   not_for_files TooLong r = absurd (omega (arith, r, read.within))
   not_for_files (NotEnded at) r = absurd r
@@ -84,25 +78,24 @@ module _ (laws : Laws) (files : List (List ℕ)) (read : AreRead files) where
   not_for_files Write r = absurd r
   not_for_files Read r = absurd r
 
-  module _ (top : Option Text) (design : Design) (is_design : IsDesignOf (expanded_text files) top design) where
+  module _ (top : Option Text) (design : Design) (is_design : IsDesignOfFiles files top design) where
     not_for_text : (fault : Fault) → IsTextReason (expanded_text files) top fault → IsOfMemory fault
     not_for_text (NotEnded at) r = absurd (r.0 is_design.is_tree.pieces is_design.is_tree.lexed)
     not_for_text (BadToken at) r = absurd (r.0 is_design.is_tree.pieces is_design.is_tree.lexed)
     not_for_text (NoTree at) r = absurd (r.1 is_design.tree is_design.is_tree)
     not_for_text (Outside at) r = absurd (r.1 is_design.tree is_design.is_tree)
     not_for_text (TooDeep at) r = absurd (r.1 is_design.tree is_design.is_tree)
-    not_for_text (NoTop at) (token, (none, broken)) = absurd (none design is_design)
-    not_for_text (Doubled at) (token, (none, broken)) = absurd (none design is_design)
-    not_for_text (Unknown at) (token, (none, broken)) = absurd (none design is_design)
-    not_for_text (Width at) (token, (none, broken)) = absurd (none design is_design)
-    not_for_text (TooMany at) (token, (none, broken)) = absurd (none design is_design)
+    not_for_text (NoTop at) (token, (none, broken)) = absurd (none (expanded_timescale files) design is_design)
+    not_for_text (Doubled at) (token, (none, broken)) = absurd (none (expanded_timescale files) design is_design)
+    not_for_text (Unknown at) (token, (none, broken)) = absurd (none (expanded_timescale files) design is_design)
+    not_for_text (Width at) (token, (none, broken)) = absurd (none (expanded_timescale files) design is_design)
+    not_for_text (TooMany at) (token, (none, broken)) = absurd (none (expanded_timescale files) design is_design)
     not_for_text (Memory m) r = tt
     not_for_text (Directive at) r = absurd r
     not_for_text (NoMacro at) r = absurd r
     not_for_text (Growth at) r = absurd r
     not_for_text (LeftOpen at) r = absurd r
     not_for_text (Timescales at) r = absurd r
-    not_for_text (NotYet at) r = absurd r
     not_for_text BadLog r = absurd r
     not_for_text NoSuchChoice r = absurd r
     not_for_text TooManySteps r = absurd r
@@ -131,7 +124,6 @@ of_writing (Timescales at) r = absurd r
 of_writing (NoTree at) r = absurd r
 of_writing (Outside at) r = absurd r
 of_writing (TooDeep at) r = absurd r
-of_writing (NotYet at) r = absurd r
 of_writing (NoTop at) r = absurd r
 of_writing (Doubled at) r = absurd r
 of_writing (Unknown at) r = absurd r
@@ -156,15 +148,16 @@ module _ (laws : Laws) where
       let here = subst (λ ps. Derives (texts_of ps) t) pieces a.derived in
       same_tree t u (sym (laws.reads (texts_of b.pieces) t here) ∙ laws.reads (texts_of b.pieces) u b.derived)
 
-  pub one_design_of : (text : List ℕ) (top : Option Text) (d e : Design) → IsDesignOf text top d → IsDesignOf text top e → d ≡ e
-  one_design_of text top d e a b =
+  pub one_design_of : (text : List ℕ) (scale : Timescale) (top : Option Text) (d e : Design) →
+      IsDesignOf text scale top d → IsDesignOf text scale top e → d ≡ e
+  one_design_of text scale top d e a b =
       let tree = one_tree text a.tree b.tree a.is_tree b.is_tree in
-      laws.one_design b.tree top d e (subst (λ t. Elaborates t top d) tree a.elaborated) b.elaborated
+      laws.one_design b.tree top scale d e (subst (λ t. Elaborates t top scale d) tree a.elaborated) b.elaborated
 
   module _ (files : List (List ℕ)) (asked : Asked) (log : List ℕ) where
     module _ (p q : Played files asked log) where
       designs : p.design ≡ q.design
-      designs = one_design_of (expanded_text files) asked.top p.design q.design p.is_design q.is_design
+      designs = one_design_of (expanded_text files) (expanded_timescale files) asked.top p.design q.design p.is_design q.is_design
 
       logs : (p.head ≡ q.head) × (p.members ≡ q.members)
       logs = laws.one_log p.head q.head p.members q.members p.is_log q.is_log (sym p.written ∙ q.written)
@@ -203,7 +196,6 @@ module _ (laws : Laws) where
       not_for_run (NoTree at) r = absurd r
       not_for_run (Outside at) r = absurd r
       not_for_run (TooDeep at) r = absurd r
-      not_for_run (NotYet at) r = absurd r
       not_for_run (NoTop at) r = absurd r
       not_for_run (Doubled at) r = absurd r
       not_for_run (Unknown at) r = absurd r

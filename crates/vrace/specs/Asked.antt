@@ -1,5 +1,6 @@
 -- What is asked of a replay: the top module's name, the time limit, the steps of one run, and the grain.
-use Rattle.std.specs.Prelude.{ℕ, ◌≤◌, List, Option, option_map}
+use Rattle.std.specs.Prelude.{ℕ, ◌≤◌, List, Option}
+use Rattle.velab.specs.Elaborate.{named_text}
 use Rattle.vmodel.specs.declared.history.Grain.{Grain}
 use Rattle.vrace.specs.declared.options.Options.{Options}
 
@@ -11,7 +12,7 @@ pub record Asked : Type 0 where
 
 abbrev pub asked : Options → Asked
 asked options = record {
-  top = option_map (λ name. name.now) options.top;
+  top = named_text options.top;
   until = options.until;
   steps = options.limits.steps;
   grain = options.grain;

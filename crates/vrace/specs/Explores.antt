@@ -3,7 +3,7 @@ use Rattle.std.specs.Prelude.{◌≡◌, ℕ, nat_lt, ◌⊎◌, cond, List, Opt
 use Rattle.std.specs.Io.KnownBytes.{Appends}
 use Rattle.basis.specs.declared.memory.OrMemory.{OrMemory}
 use Rattle.statebook.specs.declared.limits.Limits.{Limits}
-use Rattle.vsrc.specs.Expansion.{expanded_text}
+use Rattle.vsrc.specs.Expansion.{expanded_text, expanded_timescale}
 use Rattle.vast.specs.Design.{Design}
 use Rattle.vmodel.specs.Run.{Setting}
 use Rattle.vcd_text.specs.Metered.{Grows, Stops}
@@ -19,7 +19,7 @@ use Rattle.vreport.specs.Reports.{IsExploration}
 use Rattle.vreport.specs.Written.{AreDumps}
 use Rattle.vrace.specs.Asked.{Asked}
 use Rattle.vrace.specs.Refusals.{IsDesignFault, IsOfWriting}
-use Rattle.vrace.specs.Replays.{AreRead, IsDesignOf}
+use Rattle.vrace.specs.Replays.{AreRead, IsDesignOf, IsDesignOfFiles}
 use Rattle.vrace.specs.RunDumps.{fault_of}
 use Rattle.vrace.specs.declared.exploring.Status.{Status}
 use Rattle.vrace.specs.declared.exploring.Status.TheVariants.{NoRace, Raced, Cut}
@@ -79,7 +79,7 @@ EndsSearch contents setting limits old new fault =
 pub record Searched (files : List (List ℕ)) (asked : Asked) : Type 0 where
   pub are_read : AreRead files
   pub design : Design
-  pub is_design : IsDesignOf (expanded_text files) asked.top design
+  pub is_design : IsDesignOfFiles files asked.top design
 
 abbrev pub setting_for : (files : List (List ℕ)) (asked : Asked) → Searched files asked → Setting
 setting_for files asked searched = record { design = searched.design; until = asked.until; grain = asked.grain }

@@ -1,9 +1,8 @@
 -- When a replay is refused, and what then stands written.
 use Rattle.std.specs.Prelude.{◌≡◌, ℕ, ◌<◌, ◌≤◌, ◌⊎◌, List, Option, Some, Ok, Err, true, false, length, take, drop, slice_get}
 use Rattle.std.specs.Io.KnownBytes.{Appends}
-use Rattle.vsrc.specs.Source.{Source}
-use Rattle.vsrc.specs.Timescales.{is_usual}
-use Rattle.vsrc.specs.Expansion.{expansion, expanded_text}
+use Rattle.basis.specs.declared.timescale.Timescale.{Timescale}
+use Rattle.vsrc.specs.Expansion.{expansion, expanded_text, expanded_timescale}
 use Rattle.vsrc.specs.declared.fault.SrcFault.{SrcFault}
 use Rattle.vsrc.specs.declared.fault.SrcFault.TheVariants as source
 use Rattle.vsrc.specs.declared.expanded.Place.{Place}
@@ -20,10 +19,10 @@ use Rattle.vparse.specs.Levels.{openings}
 use Rattle.vparse.specs.Profile.{is_outside}
 use Rattle.vcd_text.specs.declared.metered.Metered.{Metered}
 use Rattle.vrace.specs.Asked.{Asked}
-use Rattle.vrace.specs.Replays.{limit, total, AreRead, texts_of, IsTreeOf, IsDesignOf, Played, setting_of, IsDump}
+use Rattle.vrace.specs.Replays.{limit, total, AreRead, texts_of, IsTreeOf, IsDesignOf, IsDesignOfFiles, Played, setting_of, IsDump}
 use Rattle.vrace.specs.declared.fault.At.{At}
 use Rattle.vrace.specs.declared.fault.Fault.{Fault}
-use Rattle.vrace.specs.declared.fault.Fault.TheVariants.{NotEnded, BadToken, Directive, NoMacro, Growth, LeftOpen, Timescales, NoTree, Outside, TooDeep, NotYet, NoTop, Doubled, Unknown, Width, TooMany, BadLog, NoSuchChoice, TooManySteps, Memory, Write, TooLong}
+use Rattle.vrace.specs.declared.fault.Fault.TheVariants.{NotEnded, BadToken, Directive, NoMacro, Growth, LeftOpen, Timescales, NoTree, Outside, TooDeep, NoTop, Doubled, Unknown, Width, TooMany, BadLog, NoSuchChoice, TooManySteps, Memory, Write, TooLong}
 
 abbrev pub HasTokens : List ℕ → Type 0
 HasTokens text = (pieces : List Piece) × Lexed text pieces
@@ -39,7 +38,7 @@ abbrev pub IsTreeless : List ℕ → Type 0
 IsTreeless text = (tree : SourceTree) → IsTreeOf text tree → ⊥
 
 abbrev pub IsDesignless : List ℕ → Option (List ℕ) → Type 0
-IsDesignless text top = (design : Design) → IsDesignOf text top design → ⊥
+IsDesignless text top = (scale : Timescale) (design : Design) → IsDesignOf text scale top design → ⊥
 
 -- the text has a tree, and a rule of its design is broken there
 abbrev pub Breaks : List ℕ → Option (List ℕ) → ElabFault → Type 0
@@ -74,8 +73,6 @@ IsFileReason files (NoMacro at) = IsRefusedBy source.NoMacro files at
 IsFileReason files (Growth at) = IsRefusedBy source.Growth files at
 IsFileReason files (LeftOpen at) = IsRefusedBy source.LeftOpen files at
 IsFileReason files (Timescales at) = IsRefusedBy source.Timescales files at
-IsFileReason files (NotYet at) =
-    (total files ≤ limit) × ((source : Source) × (expansion files ≡ Ok source) × (is_usual source.timescale ≡ false))
 IsFileReason files (Memory m) = Unit {0}
 IsFileReason files TooLong = limit < total files
 IsFileReason files other = ⊥
@@ -103,7 +100,8 @@ IsLogFault log other = ⊥
 
 -- what a fault of the log or of its run says; where a writer failed there was a dump to write
 abbrev pub IsRunReason : List (List ℕ) → Asked → List ℕ → Fault → Type 0
-IsRunReason files asked log BadLog = AreRead files × ((design : Design) × IsDesignOf (expanded_text files) asked.top design) × IsNoNamedLogText log
+IsRunReason files asked log BadLog =
+    AreRead files × ((design : Design) × IsDesignOfFiles files asked.top design) × IsNoNamedLogText log
 IsRunReason files asked log NoSuchChoice = (played : Played files asked log) × IsMissing (rules_of (setting_of files asked log played)) played.members asked.steps
 IsRunReason files asked log TooManySteps = (played : Played files asked log) × TakesMore (rules_of (setting_of files asked log played)) played.members asked.steps
 IsRunReason files asked log (Memory m) = Unit {0}

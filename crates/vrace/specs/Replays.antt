@@ -1,8 +1,8 @@
 -- What a replay writes, from the bytes of the files to the dump of the run.
-use Rattle.std.specs.Prelude.{◌≡◌, ℕ, ◌≤◌, true, List, Option, Ok, length, map, sum_by}
+use Rattle.std.specs.Prelude.{◌≡◌, ℕ, ◌≤◌, List, Option, Ok, length, map, sum_by}
+use Rattle.basis.specs.declared.timescale.Timescale.{Timescale}
 use Rattle.vsrc.specs.Source.{Source}
-use Rattle.vsrc.specs.Timescales.{is_usual}
-use Rattle.vsrc.specs.Expansion.{expansion, expanded_text}
+use Rattle.vsrc.specs.Expansion.{expansion, expanded_text, expanded_timescale}
 use Rattle.vlex.specs.Lexed.{Lexed, Piece}
 use Rattle.vast.specs.Syntax.{Text, SourceTree}
 use Rattle.vast.specs.Derives.{Derives}
@@ -27,13 +27,11 @@ limit = 16777216
 abbrev pub total : List (List ℕ) → ℕ
 total = sum_by length
 
--- The files make a text that is read: they aren't too long, their directives and macros have no fault, and no timescale
--- but 1 ns and 1 ns stands in them.
+-- The files make a text that is read: they aren't too long, and their directives and macros have no fault.
 pub record AreRead (files : List (List ℕ)) : Type 0 where
   pub within : total files ≤ limit
   pub source : Source
   pub expanded : expansion files ≡ Ok source
-  pub usual : is_usual source.timescale ≡ true
 
 abbrev pub texts_of : List Piece → List Text
 texts_of = map (λ piece. piece.text)
@@ -44,11 +42,15 @@ pub record IsTreeOf (text : List ℕ) (tree : SourceTree) : Type 0 where
   pub lexed : Lexed text pieces
   pub derived : Derives (texts_of pieces) tree
 
--- A text stands for a design: that of the top module in its tree.
-pub record IsDesignOf (text : List ℕ) (top : Option Text) (design : Design) : Type 0 where
+-- A text stands for a design: that of the top module in its tree, under its timescale.
+pub record IsDesignOf (text : List ℕ) (scale : Timescale) (top : Option Text) (design : Design) : Type 0 where
   pub tree : SourceTree
   pub is_tree : IsTreeOf text tree
-  pub elaborated : Elaborates tree top design
+  pub elaborated : Elaborates tree top scale design
+
+-- and so do files, by the text and the timescale that they are expanded to
+abbrev pub IsDesignOfFiles : List (List ℕ) → Option Text → Design → Type 0
+IsDesignOfFiles files = IsDesignOf (expanded_text files) (expanded_timescale files)
 
 -- the grain that the log names, or else the one that is asked for
 abbrev pub grain_under : LogHead → Grain → Grain
@@ -60,7 +62,7 @@ grain_under head.Statement grain = grains.Statement
 pub record Played (files : List (List ℕ)) (asked : Asked) (log : List ℕ) : Type 0 where
   pub are_read : AreRead files
   pub design : Design
-  pub is_design : IsDesignOf (expanded_text files) asked.top design
+  pub is_design : IsDesignOfFiles files asked.top design
   pub head : LogHead
   pub members : List (ℕ × ℕ)
   pub is_log : IsLog members

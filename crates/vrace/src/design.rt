@@ -2,8 +2,7 @@
 
 ghost use Rattle.std.specs.Prelude.{◌≡◌, ◌≤◌, ℕ, nat_lt, List, Option, IfOk, OnOk, IfErr, option_map, true, false, None, Some, Ok, Err};
 ghost use Rattle.vsrc.specs.Source.{Source, file_bytes};
-ghost use Rattle.vsrc.specs.Timescales.{is_usual};
-ghost use Rattle.vsrc.specs.Expansion.{expansion, expanded_text};
+ghost use Rattle.vsrc.specs.Expansion.{expansion, expanded_text, expanded_timescale};
 ghost use Rattle.vlex.specs.Lexed.{HasNoTokens, IsTokenReason};
 ghost use Rattle.vlex.specs.Tokenized.{Tokenized, pieces_of};
 ghost use Rattle.vast.specs.Syntax.{SourceTree};
@@ -11,16 +10,15 @@ ghost use Rattle.vast.specs.Trees.{source_tree};
 ghost use Rattle.vast.specs.Derives.{HasNoTree};
 ghost use Rattle.vparse.specs.Words.{words_of};
 ghost use Rattle.vparse.specs.Faults.{IsSyntaxReason};
-ghost use Rattle.velab.specs.Elaborate.{Elaborates};
+ghost use Rattle.velab.specs.Elaborate.{Elaborates, named_text};
 ghost use Rattle.velab.specs.Reasons.{IsDesignReason, HasNoDesign};
-ghost use Rattle.vrace.specs.declared.fault.Fault.TheVariants.{NotYet};
-ghost use Rattle.vrace.specs.Replays.{limit, total, AreRead, IsDesignOf};
+ghost use Rattle.vrace.specs.Replays.{limit, total, AreRead, IsDesignOf, IsDesignOfFiles};
 ghost use Rattle.vrace.specs.Unique.{IsCut, IsReadAs};
 ghost use Rattle.vrace.specs.Refusals.{IsFileReason, IsTextReason, IsDesignFault};
 
 use crate::fault::{At, Fault};
 use crate::read::LIMIT;
-use basis::{NoMemory, OrMemory};
+use basis::{NoMemory, OrMemory, Timescale};
 use std::alloc::Global;
 use trace_text::Origins;
 use vast::design::Design;
@@ -126,19 +124,6 @@ fn of_design(tokens: &Tokens<'_>, fault: ElabFault) -> Fault
     }
 }
 
-// A text, unless its timescale is another than 1 ns and 1 ns.
-fn unless_timed(text: Expanded) -> Result<Expanded, Fault>
-    ensures ok { IfOk result (λ expanded. expanded ≡ text) }
-    ensures usual { OnOk result (is_usual text.timescale ≡ true) }
-    ensures err { IfErr result (λ fault. (fault ≡ NotYet (record { 0 = None })) × (is_usual text.timescale ≡ false)) }
-{
-    if text.timescale().is_usual() {
-        Ok(text)
-    } else {
-        Err(Fault::NotYet(At(None)))
-    }
-}
-
 // The text of the files.
 fn text_of(alloc: Global, files: &[Vec<u8>]) -> Result<Expanded, Fault>
     requires { total (file_bytes files.now) ≤ limit }
@@ -147,7 +132,7 @@ fn text_of(alloc: Global, files: &[Vec<u8>]) -> Result<Expanded, Fault>
     ensures err { IfErr result (λ fault. IsFileReason (file_bytes files.now) fault) }
 {
     match expand(alloc, files) {
-        Ok(expanded) => unless_timed(expanded),
+        Ok(expanded) => Ok(expanded),
         Err(OrMemory::Fault(fault)) => Err(of_source(fault)),
         Err(OrMemory::Memory(refused)) => Err(Fault::Memory(refused)),
     }
@@ -183,13 +168,13 @@ fn design_of_tree(
     tokens: &Tokens<'_>,
     ast: &Ast<'_>,
     top: Option<&[u8]>,
+    scale: Timescale,
 ) -> Result<Design, Fault>
-    ensures ok { IfOk result (λ design.
-        Elaborates (source_tree ast.now) (option_map (λ name. name.now) top.entry) design) }
+    ensures ok { IfOk result (Elaborates (source_tree ast.now) (named_text top.entry) scale) }
     ensures err { (text : List ℕ) → IsReadAs text (source_tree ast.now) →
-        IfErr result (IsTextReason text (option_map (λ name. name.now) top.entry)) }
+        IfErr result (IsTextReason text (named_text top.entry)) }
 {
-    match elaborate(alloc, ast, top) {
+    match elaborate(alloc, ast, top, scale) {
         Ok(design) => Ok(design),
         Err(OrMemory::Fault(fault)) => Err(of_design(tokens, fault)),
         Err(OrMemory::Memory(refused)) => Err(Fault::Memory(refused)),
@@ -198,10 +183,8 @@ fn design_of_tree(
 
 // The design of the text.
 fn design_of_text(alloc: Global, text: &Expanded, top: Option<&[u8]>) -> Result<Placed, Fault>
-    ensures ok { IfOk result (λ placed.
-        IsDesignOf text.now.text (option_map (λ name. name.now) top.entry) placed.design) }
-    ensures err { IfErr result (λ fault.
-        IsTextReason text.now.text (option_map (λ name. name.now) top.entry) fault) }
+    ensures ok { IfOk result (λ placed. IsDesignOf text.now.text text.now.timescale (named_text top.entry) placed.design) }
+    ensures err { IfErr result (IsTextReason text.now.text (named_text top.entry)) }
 {
     let tokens = match tokens_of(alloc, text) {
         Ok(tokens) => tokens,
@@ -211,7 +194,7 @@ fn design_of_text(alloc: Global, text: &Expanded, top: Option<&[u8]>) -> Result<
         Ok(ast) => ast,
         Err(fault) => return Err(fault),
     };
-    let design = match design_of_tree(alloc, &tokens, &ast, top) {
+    let design = match design_of_tree(alloc, &tokens, &ast, top, text.timescale()) {
         Ok(design) => design,
         Err(fault) => return Err(fault),
     };
@@ -220,16 +203,15 @@ fn design_of_text(alloc: Global, text: &Expanded, top: Option<&[u8]>) -> Result<
 
 /// The design of the top module in the files, with the places of its statements. E904 where the
 /// files together are longer than 16,777,216 bytes; E110 to E114 where their directives and macros have such a fault; E101,
-/// E102, E2xx and E3xx only where the text that they make has no tokens, no tree, or no design; E299 where its timescale is
-/// another than 1 ns and 1 ns; E901.
+/// E102, E2xx and E3xx only where the text that they make has no tokens, no tree, or no design; E901.
 pub fn placed_design_of(
     alloc: Global,
     files: &[Vec<u8>],
     top: Option<&[u8]>,
 ) -> Result<Placed, Fault>
     ensures read { OnOk result (AreRead (file_bytes files.now)) }
-    ensures ok { IfOk result (λ placed. IsDesignOf (expanded_text (file_bytes files.now)) (option_map (λ name. name.now) top.entry) placed.design) }
-    ensures err { IfErr result (λ fault. IsDesignFault (file_bytes files.now) (option_map (λ name. name.now) top.entry) fault) }
+    ensures ok { IfOk result (λ placed. IsDesignOfFiles (file_bytes files.now) (named_text top.entry) placed.design) }
+    ensures err { IfErr result (λ fault. IsDesignFault (file_bytes files.now) (named_text top.entry) fault) }
 {
     if is_too_long(files) {
         return Err(Fault::TooLong);
@@ -244,8 +226,8 @@ pub fn placed_design_of(
 /// The same design, where nobody asks for places.
 pub fn design_of(alloc: Global, files: &[Vec<u8>], top: Option<&[u8]>) -> Result<Design, Fault>
     ensures read { OnOk result (AreRead (file_bytes files.now)) }
-    ensures ok { IfOk result (λ design. IsDesignOf (expanded_text (file_bytes files.now)) (option_map (λ name. name.now) top.entry) design) }
-    ensures err { IfErr result (λ fault. IsDesignFault (file_bytes files.now) (option_map (λ name. name.now) top.entry) fault) }
+    ensures ok { IfOk result (λ design. IsDesignOfFiles (file_bytes files.now) (named_text top.entry) design) }
+    ensures err { IfErr result (λ fault. IsDesignFault (file_bytes files.now) (named_text top.entry) fault) }
 {
     match placed_design_of(alloc, files, top) {
         Ok(placed) => Ok(placed.design),

@@ -72,12 +72,6 @@ const EXPLANATIONS: [Explanation; 28] = [
         advice: "take begin and end away where one statement stands between them, or split the process",
     },
     Explanation {
-        number: 299,
-        meaning: "not yet run: a timescale other than 1 ns and 1 ns",
-        example: "`timescale 1ns/1ps",
-        advice: "write delays in units of 1 ns, and leave the timescale out",
-    },
-    Explanation {
         number: 301,
         meaning: "no module is the top",
         example: "a text without a module; two modules and no --top; --top of a name that isn't there",

@@ -4,3 +4,4 @@ pub mod Stretches
 pub mod MacroLines
 pub mod MacroText
 pub mod Whole
+pub mod Placed

@@ -8,7 +8,7 @@ use Rattle.vsrc.specs.declared.conditionals.Open.{Open}
 use Rattle.vsrc.specs.declared.refusal.Why.TheVariants as why
 use Rattle.vsrc.specs.declared.refusal.Refusal.{Refusal}
 use Rattle.vsrc.specs.Source.{Source, borders_of, feeds_of, joined, place_by, place_in, too_long}
-use Rattle.vsrc.specs.Timescales.{usual_timescale}
+use Rattle.basis.specs.Timescales.{usual_timescale}
 use Rattle.vsrc.specs.Macros.{and_then, refused_at}
 use Rattle.vsrc.specs.Walk.{State, start, step, walked}
 use Rattle.vsrc.specs.Expansion.{ended, left_open, expanded, expansion, fault_at, source_of}

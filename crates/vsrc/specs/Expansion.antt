@@ -36,6 +36,7 @@
 --
 -- So there is one expansion of files, or one fault: `expansion` is a function.
 use Rattle.std.specs.Prelude.{ℕ, List, [], ◌∷◌, length, map, Option, None, Some, unwrap_or, Result, Ok, Err}
+use Rattle.basis.specs.declared.timescale.Timescale.{Timescale}
 use Rattle.vsrc.specs.declared.expanded.Place.{Place}
 use Rattle.vsrc.specs.declared.conditionals.Open.{Open}
 use Rattle.vsrc.specs.declared.refusal.Refusal.{Refusal}
@@ -44,7 +45,7 @@ use Rattle.vsrc.specs.declared.refusal.Why.TheVariants as why
 use Rattle.vsrc.specs.declared.fault.SrcFault.{SrcFault}
 use Rattle.vsrc.specs.declared.fault.SrcFault.TheVariants.{Directive, NoMacro, Growth, LeftOpen, Timescales}
 use Rattle.vsrc.specs.Source.{Source, joined, place_in, too_long}
-use Rattle.vsrc.specs.Timescales.{usual_timescale}
+use Rattle.basis.specs.Timescales.{usual_timescale}
 use Rattle.vsrc.specs.Macros.{and_then, refused_at}
 use Rattle.vsrc.specs.Walk.{State, start, walked}
 
@@ -90,10 +91,18 @@ unless_long (Some number) result = Err (Growth (record { file = number; line = 1
 unfoldable pub expansion : List (List ℕ) → Result Source SrcFault
 expansion files = unless_long (too_long files) (told files (expanded (joined files)))
 
--- the text of the expansion, empty where there is a fault
+-- the text of an expansion, empty where there is a fault
 abbrev pub text_of : Result Source SrcFault → List ℕ
 text_of (Ok source) = source.text
 text_of (Err fault) = []
 
 abbrev pub expanded_text : List (List ℕ) → List ℕ
 expanded_text files = text_of (expansion files)
+
+-- its timescale, the usual one where there is a fault
+abbrev pub timescale_of : Result Source SrcFault → Timescale
+timescale_of (Ok source) = source.timescale
+timescale_of (Err fault) = usual_timescale
+
+abbrev pub expanded_timescale : List (List ℕ) → Timescale
+expanded_timescale files = timescale_of (expansion files)

@@ -6,9 +6,9 @@ use Rattle.std.specs.List.Sorted.{IsNonDecreasing}
 use Rattle.std.specs.Borrow.{Bor}
 use Rattle.vsrc.specs.Source.{text_limit}
 use Rattle.vsrc.specs.Words.{Named}
-use Rattle.vsrc.specs.declared.timescale.Scale.{Scale}
-use Rattle.vsrc.specs.declared.timescale.Timescale.{Timescale}
-use Rattle.vsrc.specs.Timescales.{Scaled, Timed}
+use Rattle.basis.specs.declared.timescale.Span.{Span}
+use Rattle.basis.specs.declared.timescale.Timescale.{Timescale}
+use Rattle.vsrc.specs.Timescales.{Spanned, Timed}
 use Rattle.vsrc.specs.Macros.{Macros}
 use Rattle.vsrc.specs.declared.refusal.Refusal.{Refusal}
 use Rattle.vsrc.specs.Outside.{further, string_end}
@@ -48,8 +48,8 @@ abbrev pub named_of : Option (Bor (List ℕ) × ℕ) → Option Named
 named_of = option_map (λ found. record { name = found.0.now; len = found.1 })
 
 -- a length of time and a timescale that were found, with how many bytes they take
-abbrev pub scaled_of : Option (Scale × ℕ) → Option Scaled
-scaled_of = option_map (λ found. record { scale = found.0; len = found.1 })
+abbrev pub spanned_of : Option (Span × ℕ) → Option Spanned
+spanned_of = option_map (λ found. record { span = found.0; len = found.1 })
 
 abbrev pub timed_of : Option (Timescale × ℕ) → Option Timed
 timed_of = option_map (λ found. record { timescale = found.0; len = found.1 })

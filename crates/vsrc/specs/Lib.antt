@@ -8,3 +8,4 @@ pub mod Walk
 pub mod Expansion
 pub mod Inner
 pub mod Walking
+pub mod Laws

@@ -4,7 +4,7 @@ use Rattle.std.specs.List.{join_by}
 use Rattle.std.specs.List.{slice_index_or}
 use Rattle.memchr.specs.Find.{is_byte, places}
 use Rattle.vsrc.specs.declared.expanded.Place.{Place}
-use Rattle.vsrc.specs.declared.timescale.Timescale.{Timescale}
+use Rattle.basis.specs.declared.timescale.Timescale.{Timescale}
 
 -- the most bytes that a text may have, 2 ^ 25
 abbrev pub text_limit : ℕ

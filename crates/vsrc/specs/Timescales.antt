@@ -3,18 +3,21 @@ use Rattle.std.specs.Prelude.{ℕ, ◌+◌, ◌*◌, ◌==◌, ◌&&◌, Bool, i
 use Rattle.std.specs.List.{prefix_len}
 use Rattle.std.specs.Str.{bytes_eq}
 use Rattle.std.specs.Char.{is_ascii_digit}
-use Rattle.vsrc.specs.declared.timescale.Unit.{Unit}
-use Rattle.vsrc.specs.declared.timescale.Unit.TheVariants.{Second, Millisecond, Microsecond, Nanosecond, Picosecond, Femtosecond}
-use Rattle.vsrc.specs.declared.timescale.Scale.{Scale}
-use Rattle.vsrc.specs.declared.timescale.Timescale.{Timescale}
+use Rattle.basis.specs.declared.timescale.Count.{Count}
+use Rattle.basis.specs.declared.timescale.Count.TheVariants.{One, Ten, Hundred}
+use Rattle.basis.specs.declared.timescale.Unit.{Unit}
+use Rattle.basis.specs.declared.timescale.Unit.TheVariants.{Second, Millisecond, Microsecond, Nanosecond, Picosecond, Femtosecond}
+use Rattle.basis.specs.declared.timescale.Span.{Span}
+use Rattle.basis.specs.declared.timescale.Timescale.{Timescale}
+use Rattle.basis.specs.Timescales.{femtoseconds}
 use Rattle.vsrc.specs.Words.{is_in_name, blanks_len}
 
 -- the numbers and the units that may stand in a timescale
-abbrev pub count_of : List ℕ → Option ℕ
+abbrev pub count_of : List ℕ → Option Count
 count_of digits =
-    if bytes_eq digits (codes "1") then Some 1
-    else if bytes_eq digits (codes "10") then Some 10
-    else if bytes_eq digits (codes "100") then Some 100
+    if bytes_eq digits (codes "1") then Some One
+    else if bytes_eq digits (codes "10") then Some Ten
+    else if bytes_eq digits (codes "100") then Some Hundred
     else None
 
 abbrev pub unit_of : List ℕ → Option Unit
@@ -27,42 +30,30 @@ unit_of word =
     else if bytes_eq word (codes "fs") then Some Femtosecond
     else None
 
--- units and lengths of time in femtoseconds
-abbrev pub unit_femtoseconds : Unit → ℕ
-unit_femtoseconds Second = 1000000000000000
-unit_femtoseconds Millisecond = 1000000000000
-unit_femtoseconds Microsecond = 1000000000
-unit_femtoseconds Nanosecond = 1000000
-unit_femtoseconds Picosecond = 1000
-unit_femtoseconds Femtosecond = 1
-
-abbrev pub femtoseconds : Scale → ℕ
-femtoseconds scale = scale.count * unit_femtoseconds scale.unit
-
 -- a length of time, and how many bytes spell it
-pub record Scaled : Type 0 where
-  pub scale : Scale
+pub record Spanned : Type 0 where
+  pub span : Span
   pub len : ℕ
 
-abbrev pub scaled : ℕ → Option ℕ → Option Unit → Option Scaled
-scaled len None unit = None
-scaled len (Some count) None = None
-scaled len (Some count) (Some unit) = Some (record { scale = record { count = count; unit = unit }; len = len })
+abbrev pub spanned : ℕ → Option Count → Option Unit → Option Spanned
+spanned len None unit = None
+spanned len (Some count) None = None
+spanned len (Some count) (Some unit) = Some (record { span = record { count = count; unit = unit }; len = len })
 
 -- behind the digits of a number and blanks, all letters, digits, _ and $ are the unit's word
-abbrev pub unit_behind : List ℕ → ℕ → List ℕ → Option Scaled
+abbrev pub unit_behind : List ℕ → ℕ → List ℕ → Option Spanned
 unit_behind digits len behind =
     let word = drop (blanks_len behind) behind in
-    scaled (len + blanks_len behind + prefix_len is_in_name word) (count_of digits) (unit_of (take (prefix_len is_in_name word) word))
+    spanned (len + blanks_len behind + prefix_len is_in_name word) (count_of digits) (unit_of (take (prefix_len is_in_name word) word))
 
 -- the length of time at the head: its digits, blanks or none, its unit
-abbrev pub scale_at : ℕ → List ℕ → Option Scaled
-scale_at before text =
+abbrev pub span_at : ℕ → List ℕ → Option Spanned
+span_at before text =
     let digits = prefix_len is_ascii_digit text in unit_behind (take digits text) (before + digits) (drop digits text)
 
 -- the length of time behind blanks, and the slash behind blanks
-abbrev pub scale_behind : List ℕ → Option Scaled
-scale_behind text = scale_at (blanks_len text) (drop (blanks_len text) text)
+abbrev pub span_behind : List ℕ → Option Spanned
+span_behind text = span_at (blanks_len text) (drop (blanks_len text) text)
 
 abbrev pub slash_at : ℕ → List ℕ → Option ℕ
 slash_at before [] = None
@@ -77,7 +68,7 @@ pub record Timed : Type 0 where
   pub len : ℕ
 
 -- the precision isn't longer than the unit
-abbrev pub timed : ℕ → Scale → Scale → Option Timed
+abbrev pub timed : ℕ → Span → Span → Option Timed
 timed len unit precision =
     if nat_lt (femtoseconds unit) (femtoseconds precision) then None
     else Some (record { timescale = record { unit = unit; precision = precision }; len = len })
@@ -87,18 +78,7 @@ abbrev pub timescale_behind : List ℕ → Option Timed
 timescale_behind text =
     option_and_then (λ unit.
     option_and_then (λ slash.
-    option_and_then (λ precision. timed (unit.len + slash + precision.len) unit.scale precision.scale)
-    (scale_behind (drop (unit.len + slash) text)))
+    option_and_then (λ precision. timed (unit.len + slash + precision.len) unit.span precision.span)
+    (span_behind (drop (unit.len + slash) text)))
     (slash_behind (drop unit.len text)))
-    (scale_behind text)
-
--- two timescales are alike where unit and precision have the same lengths
-abbrev pub is_like : Timescale → Timescale → Bool
-is_like a b = femtoseconds a.unit == femtoseconds b.unit && femtoseconds a.precision == femtoseconds b.precision
-
--- what holds where no timescale stands: 1 ns and 1 ns (own)
-abbrev pub usual_timescale : Timescale
-usual_timescale = record { unit = record { count = 1; unit = Nanosecond }; precision = record { count = 1; unit = Nanosecond } }
-
-abbrev pub is_usual : Timescale → Bool
-is_usual timescale = is_like timescale usual_timescale
+    (span_behind text)

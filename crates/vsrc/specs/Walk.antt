@@ -6,10 +6,11 @@ use Rattle.vsrc.specs.declared.refusal.Why.TheVariants.{Directive, Timescales}
 use Rattle.vsrc.specs.declared.words.Word.{Word}
 use Rattle.vsrc.specs.declared.words.Word.TheVariants as word
 use Rattle.vsrc.specs.declared.conditionals.Open.{Open}
-use Rattle.vsrc.specs.declared.timescale.Timescale.{Timescale}
+use Rattle.basis.specs.declared.timescale.Timescale.{Timescale}
 use Rattle.vsrc.specs.Outside.{stretch_len}
 use Rattle.vsrc.specs.Words.{Named, is_blank, blanks_len, name_len, name_behind, directive_of}
-use Rattle.vsrc.specs.Timescales.{Timed, timescale_behind, is_like}
+use Rattle.vsrc.specs.Timescales.{Timed, timescale_behind}
+use Rattle.basis.specs.Timescales.{is_like}
 use Rattle.vsrc.specs.Macros.{Macros, Made, and_then, refused_at, lines_len, macro_text, may_be_macro, redefined, put_copied, used, level_limit, no_macros, nothing_made}
 use Rattle.vsrc.specs.Conditionals.{is_read, opened, turned, closed}
 

@@ -4,7 +4,7 @@ ghost use Rattle.std.specs.Prelude.{◌≡◌, ◌≤◌, length, map};
 ghost use Rattle.std.specs.List.Sorted.{IsNonDecreasing};
 ghost use Rattle.vsrc.specs.Source.{count_below, place_by, text_limit};
 
-use crate::timescale::Timescale;
+use basis::Timescale;
 use std::marker::Model;
 
 /// A place in the files: the number of the file and of the line in it, both from 1.

@@ -1,64 +1,24 @@
 // Timescales (IEEE 1364-2005, 19.8).
 
-ghost use Rattle.std.specs.Prelude.{◌≡◌, ◌≤◌, ◌==◌, ◌&&◌, length, IfSome};
+ghost use Rattle.std.specs.Prelude.{◌≡◌, ◌≤◌, length, IfSome};
 ghost use Rattle.std.specs.List.{prefix_len};
 ghost use Rattle.std.specs.Char.{is_ascii_digit};
-ghost use Rattle.vsrc.specs.Timescales.{count_of, unit_of, unit_femtoseconds, femtoseconds, scale_behind, slash_behind, timescale_behind, is_like, usual_timescale};
-ghost use Rattle.vsrc.specs.Inner.{scaled_of, timed_of};
+ghost use Rattle.vsrc.specs.Timescales.{count_of, unit_of, span_behind, slash_behind, timescale_behind};
+ghost use Rattle.vsrc.specs.Timescales as spec;
+ghost use Rattle.vsrc.specs.Inner.{spanned_of, timed_of};
 
 use crate::words::{blanks_len, word_len};
+use basis::{Count, Span, Timescale, Unit};
 
-/// A unit of time.
-#[derive(Clone, Copy, Debug, PartialEq, Eq)]
-pub enum Unit {
-    /// `s`
-    Second,
-    /// `ms`
-    Millisecond,
-    /// `us`
-    Microsecond,
-    /// `ns`
-    Nanosecond,
-    /// `ps`
-    Picosecond,
-    /// `fs`
-    Femtosecond,
-}
-
-/// A length of time: `count`, 1, 10 or 100, of a unit.
-#[derive(Clone, Copy, Debug, PartialEq, Eq)]
-pub struct Scale {
-    pub count: u8,
-    pub unit: Unit,
-}
-
-/// The unit that times are written in, and the precision in units of which time is counted.
-#[derive(Clone, Copy, Debug, PartialEq, Eq)]
-pub struct Timescale {
-    pub unit: Scale,
-    pub precision: Scale,
-}
-
-impl Timescale {
-    ghost use Rattle.vsrc.specs.Timescales.{is_usual};
-
-    /// Whether it is as where no timescale stands: 1 ns and 1 ns.
-    pub fn is_usual(self) -> bool
-        ensures { result ≡ is_usual self }
-    {
-        is_like(self, usual_timescale())
-    }
-}
-
-fn count_of(digits: &[u8]) -> Option<u8>
+fn count_of(digits: &[u8]) -> Option<Count>
     ensures { result ≡ count_of digits.now }
 {
     if digits == b"1".as_slice() {
-        Some(1)
+        Some(Count::One)
     } else if digits == b"10".as_slice() {
-        Some(10)
+        Some(Count::Ten)
     } else if digits == b"100".as_slice() {
-        Some(100)
+        Some(Count::Hundred)
     } else {
         None
     }
@@ -84,26 +44,6 @@ fn unit_of(word: &[u8]) -> Option<Unit>
     }
 }
 
-fn unit_femtoseconds(unit: Unit) -> u64
-    ensures value { result ≡ unit_femtoseconds unit }
-    ensures small { result ≤ 1000000000000000 }
-{
-    match unit {
-        Unit::Second => 1_000_000_000_000_000,
-        Unit::Millisecond => 1_000_000_000_000,
-        Unit::Microsecond => 1_000_000_000,
-        Unit::Nanosecond => 1_000_000,
-        Unit::Picosecond => 1_000,
-        Unit::Femtosecond => 1,
-    }
-}
-
-fn femtoseconds(scale: Scale) -> u64
-    ensures { result ≡ femtoseconds scale }
-{
-    u64::from(scale.count) * unit_femtoseconds(scale.unit)
-}
-
 fn digits_len(text: &[u8]) -> usize
     ensures value { result ≡ prefix_len is_ascii_digit text.now }
     ensures within { result ≤ length text.now }
@@ -117,8 +57,8 @@ fn digits_len(text: &[u8]) -> usize
 }
 
 // The length of time behind blanks, and how many bytes both take.
-fn scale_behind(text: &[u8]) -> Option<(Scale, usize)>
-    ensures value { scaled_of result ≡ scale_behind text.now }
+fn span_behind(text: &[u8]) -> Option<(Span, usize)>
+    ensures value { spanned_of result ≡ span_behind text.now }
     ensures within { IfSome result (λ found. found.1 ≤ length text.now) }
 {
     let before = blanks_len(text);
@@ -130,7 +70,7 @@ fn scale_behind(text: &[u8]) -> Option<(Scale, usize)>
     let len = word_len(word);
     let count = count_of(number.split_at(digits).0)?;
     let unit = unit_of(word.split_at(len).0)?;
-    Some((Scale { count, unit }, before + digits + blanks + len))
+    Some((Span { count, unit }, before + digits + blanks + len))
 }
 
 // How many bytes a slash takes with the blanks before it, if one stands there.
@@ -146,39 +86,24 @@ fn slash_behind(text: &[u8]) -> Option<usize>
     Some(blanks + 1)
 }
 
+// The timescale of these lengths, unless the precision is longer than the unit; and how many bytes it takes.
+fn timed(len: usize, unit: Span, precision: Span) -> Option<(Timescale, usize)>
+    ensures value { timed_of result ≡ spec.timed len unit precision }
+    ensures len { IfSome result (λ found. found.1 ≡ len) }
+{
+    if unit.femtoseconds() < precision.femtoseconds() {
+        return None;
+    }
+    Some((Timescale { unit, precision }, len))
+}
+
 /// The timescale on the rest of the line, and how many bytes it takes.
 pub fn timescale_behind(text: &[u8]) -> Option<(Timescale, usize)>
     ensures value { timed_of result ≡ timescale_behind text.now }
     ensures within { IfSome result (λ found. found.1 ≤ length text.now) }
 {
-    let (unit, first) = scale_behind(text)?;
+    let (unit, first) = span_behind(text)?;
     let slash = slash_behind(text.split_at(first).1)?;
-    let (precision, second) = scale_behind(text.split_at(first + slash).1)?;
-    if femtoseconds(unit) < femtoseconds(precision) {
-        return None;
-    }
-    Some((Timescale { unit, precision }, first + slash + second))
-}
-
-/// Whether unit and precision have the same lengths in both.
-pub fn is_like(a: Timescale, b: Timescale) -> bool
-    ensures { result ≡ is_like a b }
-{
-    let units = femtoseconds(a.unit) == femtoseconds(b.unit);
-    let precisions = femtoseconds(a.precision) == femtoseconds(b.precision);
-    units && precisions
-}
-
-/// What holds where no timescale stands: 1 ns and 1 ns.
-pub fn usual_timescale() -> Timescale
-    ensures { result ≡ usual_timescale }
-{
-    let scale = Scale {
-        count: 1,
-        unit: Unit::Nanosecond,
-    };
-    Timescale {
-        unit: scale,
-        precision: scale,
-    }
+    let (precision, second) = span_behind(text.split_at(first + slash).1)?;
+    timed(first + slash + second, unit, precision)
 }

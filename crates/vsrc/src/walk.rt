@@ -18,9 +18,9 @@ use crate::macros::{Table, may_be_macro, put_use};
 use crate::output::Output;
 use crate::outside::stretch_len;
 use crate::refusal::{Refusal, Why, refuse};
-use crate::timescale::{Timescale, is_like, timescale_behind};
+use crate::timescale::timescale_behind;
 use crate::words::{Word, blanks_len, directive_of, is_blank, name_behind, name_len};
-use basis::OrMemory;
+use basis::{OrMemory, Timescale};
 use std::alloc::Global;
 
 // The most levels of macros in macros.
@@ -307,7 +307,7 @@ impl<'t> Walk<'t> {
         match self.timescale {
             None => self.timescale = Some(timescale),
             Some(first) => {
-                if !is_like(first, timescale) {
+                if !first.is_like(timescale) {
                     return Err(refuse(Why::Timescales, self.at));
                 }
             }

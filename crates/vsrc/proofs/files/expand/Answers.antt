@@ -38,7 +38,7 @@ returns-in-Ok-clause-ok c =
     (c.new.ensures.text ∙ c.into_parts-expanded.ensures.text ∙ ap (λ m. m.text) c.into_parts-made.ensures.made)
     (c.new.ensures.places ∙ ap (map (place_by c.new-lines.result.borders c.new-lines.result.feeds)) (c.into_parts-expanded.ensures.origins ∙ ap (λ m. m.origins) c.into_parts-made.ensures.made))
     c.new.ensures.end
-    (c.new.ensures.timescale ∙ c.unwrap_or-timescale.ensures ∙ (λ i. unwrap_or (c.into_parts-made.ensures.timescale i) (c.usual_timescale.ensures i))))
+    (c.new.ensures.timescale ∙ c.unwrap_or-timescale.ensures ∙ (λ i. unwrap_or (c.into_parts-made.ensures.timescale i) (c.usual.ensures i))))
 
 pub returns-in-Err-Fault-clause-err : goal.returns-in-Err-Fault-clause-err
 returns-in-Err-Fault-clause-err c =

@@ -2,7 +2,7 @@ use Rattle.std.proofs.Common.{◌-◌, ◌≡◌, ◌≤◌, length, drop}
 use Rattle.std.specs.Cmp.Lexicographic.{pointwise}
 use Rattle.vmodel.specs.Same.{spot_same}
 use Rattle.vmodel.specs.InnerLeft.{stack}
-use Rattle.vmodel.proofs.left.Left.is_like.Given as goal
+use Rattle.vmodel.proofs.left.Left.is_like_spot_by_spot.Given as goal
 
 abbrev pub invariant-loop-depth : goal.invariant-loop-depth
 invariant-loop-depth l =

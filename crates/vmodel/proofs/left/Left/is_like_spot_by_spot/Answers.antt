@@ -2,7 +2,7 @@ use Rattle.std.proofs.Common.{refl, sym, ◌∙◌, arith}
 use Rattle.std.proofs.lemmas.List.{length-reverse}
 use Rattle.vmodel.specs.InnerLeft.{stack}
 use Rattle.vmodel.proofs.LeftLemmas.{differs_there, same_above, same_throughout}
-use Rattle.vmodel.proofs.left.Left.is_like.Goals as goal
+use Rattle.vmodel.proofs.left.Left.is_like_spot_by_spot.Goals as goal
 
 pub loop-depth-init : goal.loop-depth-init
 loop-depth-init c = (
