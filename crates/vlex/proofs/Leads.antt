@@ -5,7 +5,7 @@ use Rattle.vlex.specs.declared.bytes.Set.TheVariants.{Blanks}
 use Rattle.vlex.specs.declared.bytes.Lead.{Lead}
 use Rattle.vlex.specs.declared.bytes.Lead.TheVariants as lead
 use Rattle.std.specs.Char.{is_ascii_digit, is_ascii_alphabetic}
-use Rattle.vlex.specs.Bytes.{is_in, is_mark, lead_of}
+use Rattle.vlex.specs.Bytes.{is_in, is_punctuation, lead_of}
 
 -- what begins neither a name nor a number
 pub record BeginsNeither (c : ℕ) : Type 0 where
@@ -21,14 +21,14 @@ Says lead.Digit c = is_ascii_digit c ≡ true
 Says lead.Apostrophe c = c ≡ 39
 Says lead.Quote c = c ≡ 34
 Says lead.Slash c = c ≡ 47
-Says lead.Mark c = BeginsNeither c
+Says lead.Punctuation c = BeginsNeither c
 Says lead.Other c = BeginsNeither c
 
 by_tests : (blank letter dollar digit apostrophe quote slash mark : Bool) (c : ℕ)
     → is_in Blanks c ≡ blank → (is_ascii_alphabetic c || nat_eq c 95) ≡ letter → nat_eq c 36 ≡ dollar → is_ascii_digit c ≡ digit → nat_eq c 39 ≡ apostrophe
     → nat_eq c 34 ≡ quote → nat_eq c 47 ≡ slash
     → Says (cond blank lead.Blank (cond letter lead.Letter (cond dollar lead.Dollar (cond digit lead.Digit (cond apostrophe lead.Apostrophe
-    (cond quote lead.Quote (cond slash lead.Slash (cond mark lead.Mark lead.Other)))))))) c
+    (cond quote lead.Quote (cond slash lead.Slash (cond mark lead.Punctuation lead.Other)))))))) c
 by_tests true l d n a q s m c blank letter dollar digit apostrophe quote slash = blank
 by_tests false true d n a q s m c blank letter dollar digit apostrophe quote slash = letter
 by_tests false false true n a q s m c blank letter dollar digit apostrophe quote slash = eqb-true c 36 dollar
@@ -42,4 +42,4 @@ by_tests false false false false false false false false c blank letter dollar d
     record { letter = letter; digit = digit; apostrophe = eqb-false c 39 apostrophe }
 
 pub says : (c : ℕ) (l : Lead) → lead_of c ≡ l → Says l c
-says c l e = subst (λ k. Says k c) e (by_tests _ _ _ _ _ _ _ (is_mark c) c refl refl refl refl refl refl refl)
+says c l e = subst (λ k. Says k c) e (by_tests _ _ _ _ _ _ _ (is_punctuation c) c refl refl refl refl refl refl refl)

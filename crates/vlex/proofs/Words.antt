@@ -85,8 +85,8 @@ apostrophe_alone c cs e never = stuck_by c cs is_based (Token Based) (told_by c 
 -- Symbols
 
 -- a mark is no slash, so that nothing is barred behind it
-mark_not_slash : (c : ℕ) → lead_of c ≡ lead.Mark → c ≢ 47
-mark_not_slash c e same = let clash : lead.Slash ≡ lead.Mark = sym (ap lead_of same) ∙ e in cc
+punctuation_not_slash : (c : ℕ) → lead_of c ≡ lead.Punctuation → c ≢ 47
+punctuation_not_slash c e same = let clash : lead.Slash ≡ lead.Punctuation = sym (ap lead_of same) ∙ e in cc
 
 free_symbol : (c : ℕ) (rest : List ℕ) → c ≢ 47 → is_free (Token Symbol) c rest ≡ true
 free_symbol c [] other = refl
@@ -115,8 +115,8 @@ longer_symbol a (x ∷ []) (suc (suc zero)) h lt le = absurd (omega arith)
 longer_symbol a (x ∷ y ∷ cs) (suc (suc zero)) h lt le = h
 longer_symbol a cs (suc (suc (suc n))) h lt le = long_symbol a cs (suc (suc (suc n))) (omega arith) le
 
-pub symbol_by : (c : ℕ) (cs : List ℕ) (len whole : ℕ) → lead_of c ≡ lead.Mark → whole ≡ suc len → IsLongest (is_symbol c) cs len → IsFront (c ∷ cs) (Token Symbol) whole
-symbol_by c cs len whole e sum l = piece_by c cs (is_symbol c) (Token Symbol) (told_by c lead.Mark e) len whole sum l (free_symbol c _ (mark_not_slash c e))
+pub symbol_by : (c : ℕ) (cs : List ℕ) (len whole : ℕ) → lead_of c ≡ lead.Punctuation → whole ≡ suc len → IsLongest (is_symbol c) cs len → IsFront (c ∷ cs) (Token Symbol) whole
+symbol_by c cs len whole e sum l = piece_by c cs (is_symbol c) (Token Symbol) (told_by c lead.Punctuation e) len whole sum l (free_symbol c _ (punctuation_not_slash c e))
 
 pub triple_longest : (a : ℕ) (cs : List ℕ) → is_triple a (get_or cs 0 0) (get_or cs 1 0) ≡ true → IsLongest (is_symbol a) cs 2
 triple_longest a [] h = let clash : false ≡ true = sym (no_triple_zero a 0) ∙ h in cc

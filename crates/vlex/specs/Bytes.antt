@@ -5,7 +5,7 @@ use Rattle.std.specs.Char.{is_ascii_digit, is_ascii_alphabetic, is_ascii_hexdigi
 use Rattle.vlex.specs.declared.bytes.Set.{Set}
 use Rattle.vlex.specs.declared.bytes.Set.TheVariants.{Blanks, Words, Decimals, Binaries, Octals, Hexadecimals, Underscores, LineBytes}
 use Rattle.vlex.specs.declared.bytes.Lead.{Lead}
-use Rattle.vlex.specs.declared.bytes.Lead.TheVariants.{Blank, Letter, Dollar, Digit, Apostrophe, Quote, Slash, Mark, Other}
+use Rattle.vlex.specs.declared.bytes.Lead.TheVariants.{Blank, Letter, Dollar, Digit, Apostrophe, Quote, Slash, Punctuation, Other}
 
 -- 3.5.1: x in either case
 abbrev pub is_x_digit : ℕ → Bool
@@ -41,8 +41,8 @@ is_in Underscores c = c == 95
 is_in LineBytes c = not (c == 10)
 
 -- 3.4, 5.1: the symbols of one byte, save the slash
-abbrev pub is_mark : ℕ → Bool
-is_mark c = list_any (λ mark. mark == c) (codes "+-*%&|^~!?:=<>@#()[]{},;.")
+abbrev pub is_punctuation : ℕ → Bool
+is_punctuation c = list_any (λ symbol. symbol == c) (codes "+-*%&|^~!?:=<>@#()[]{},;.")
 
 -- what a byte begins
 abbrev pub lead_of : ℕ → Lead
@@ -54,5 +54,5 @@ lead_of c =
     else if is_apostrophe c then Apostrophe
     else if c == 34 then Quote
     else if c == 47 then Slash
-    else if is_mark c then Mark
+    else if is_punctuation c then Punctuation
     else Other

@@ -122,7 +122,7 @@ form_by lead.Digit c cs = number_form (c ∷ cs)
 form_by lead.Apostrophe c cs = only_if (is_based cs) (Token Based)
 form_by lead.Quote c cs = only_if (ends_string cs && has_good_escapes cs) (Token Text)
 form_by lead.Slash c cs = slash_form cs
-form_by lead.Mark c cs = only_if (is_symbol c cs) (Token Symbol)
+form_by lead.Punctuation c cs = only_if (is_symbol c cs) (Token Symbol)
 form_by lead.Other c cs = None
 
 abbrev pub form_of : List ℕ → Option Form

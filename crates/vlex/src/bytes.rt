@@ -3,7 +3,7 @@
 ghost use Rattle.std.specs.Prelude.{◌≡◌, ◌≤◌, true, length, slice_index};
 ghost use Rattle.std.specs.List.{prefix_len};
 ghost use Rattle.std.specs.Char.{is_ascii_digit};
-ghost use Rattle.vlex.specs.Bytes.{is_mark, is_in, lead_of};
+ghost use Rattle.vlex.specs.Bytes.{is_punctuation, is_in, lead_of};
 
 use crate::digits::is_unknown;
 
@@ -30,12 +30,12 @@ pub enum Lead {
     Apostrophe,
     Quote,
     Slash,
-    Mark,
+    Punctuation,
     Other,
 }
 
-fn is_mark(byte: u8) -> bool
-    ensures { result ≡ is_mark byte }
+fn is_punctuation(byte: u8) -> bool
+    ensures { result ≡ is_punctuation byte }
 {
     b"+-*%&|^~!?:=<>@#()[]{},;.".contains(&byte)
 }
@@ -84,8 +84,8 @@ pub fn lead_of(byte: u8) -> Lead
         Lead::Quote
     } else if byte == b'/' {
         Lead::Slash
-    } else if is_mark(byte) {
-        Lead::Mark
+    } else if is_punctuation(byte) {
+        Lead::Punctuation
     } else {
         Lead::Other
     }

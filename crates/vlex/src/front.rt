@@ -30,7 +30,7 @@ fn front_by(first: u8, rest: &[u8]) -> Front
         Lead::Apostrophe => based(first, rest),
         Lead::Quote => string(first, rest),
         Lead::Slash => slash(first, rest),
-        Lead::Mark => symbol(first, rest),
+        Lead::Punctuation => symbol(first, rest),
         Lead::Other => Front::Bad,
     }
 }
@@ -50,7 +50,7 @@ fn system(first: u8, rest: &[u8]) -> Front
 
 // The symbol that begins with a mark: the longest of up to three bytes.
 fn symbol(first: u8, rest: &[u8]) -> Front
-    requires { lead_of first ≡ Lead.Mark }
+    requires { lead_of first ≡ Lead.Punctuation }
     ensures { IsAnswer (first ∷ rest.now) result }
 {
     let (second, third) = (byte_at(rest, 0), byte_at(rest, 1));

@@ -1,28 +1,30 @@
 -- Each byte that is made has an origin.
-use Rattle.std.proofs.Common.{◌≡◌, ℕ, zero, suc, ◌+◌, Bool, true, false, List, [], ◌∷◌, ◌++◌, length, map, take, drop, Option, Some, None, Result, Ok, Err, IfOk, refl, sym, ◌∙◌, ap, subst, arith}
-use Rattle.std.specs.Prelude.{if◌then◌else◌, nat_lt, nat_le}
+use Rattle.std.proofs.Common.{◌≡◌, ℕ, zero, suc, ◌+◌, Bool, true, false, List, [], ◌∷◌, ◌++◌, length, map, take, drop, Option, Some, None, Result, Ok, Err, IfOk, refl, sym, ◌∙◌, subst, arith}
+use Rattle.std.specs.Prelude.{if◌then◌else◌, nat_lt, nat_le, ◌==◌, ◌&&◌, ◌||◌, not}
+use Rattle.std.specs.List.{range_with_len}
 use Rattle.std.proofs.lemmas.List.{length-append, length-map}
 use Rattle.std.proofs.lemmas.List.FromFn.{length-range_with_len}
-use Rattle.basis.specs.declared.timescale.Timescale.{Timescale}
 use Rattle.vsrc.specs.declared.conditionals.Open.{Open}
 use Rattle.vsrc.specs.declared.refusal.Refusal.{Refusal}
+use Rattle.vsrc.specs.declared.refusal.Why.TheVariants.{Limit}
 use Rattle.vsrc.specs.declared.words.Word.{Word}
 use Rattle.vsrc.specs.declared.words.Word.TheVariants as word
 use Rattle.vsrc.specs.declared.fault.SrcFault.{SrcFault}
-use Rattle.vsrc.specs.Source.{Source, joined, place_in, too_long}
-use Rattle.vsrc.specs.Words.{Named, name_behind}
+use Rattle.vsrc.specs.Source.{Source, joined, place_in, text_limit, too_long}
+use Rattle.vsrc.specs.Words.{Named, name_behind, name_len, blanks_len, directive_of}
+use Rattle.vsrc.specs.Outside.{stretch_len}
 use Rattle.vsrc.specs.Timescales.{Timed, timescale_behind}
-use Rattle.vsrc.specs.Conditionals.{opened, turned, closed}
-use Rattle.vsrc.specs.Macros.{Macros, Made, and_then, put, put_copied, put_given, piece, given, used, text_for, counted}
-use Rattle.vsrc.specs.Walk.{State, Done, start, defined, undefined, opening, alternative, with_opens, agreed, timed, typed, obeyed, heeded, replaced, met, ticked, kept, passed, step, walked, holds}
-use Rattle.vsrc.specs.Expansion.{left_open, expanded, source_of, told, unless_long, expansion}
+use Rattle.vsrc.specs.Conditionals.{is_read, opened, turned, closed}
+use Rattle.vsrc.specs.Macros.{Macros, Made, and_then, refused_at, put, put_copied, put_given, piece, piece_len, given, used, text_for, counted, may_be_macro, redefined, macro_text, lines_len, level_limit, use_limit}
+use Rattle.vsrc.specs.Walk.{State, Done, start, done, ill_formed, begins_arguments, is_nettype, is_conditional, is_fresh, moved, ticked, defined, undefined, opening, alternative, with_opens, agreed, timed, typed, obeyed, met, kept, passed, step, walked, holds}
+use Rattle.vsrc.specs.Expansion.{left_open, expanded, source_of, told, unless_long, ended, expansion}
 
 -- ---- results
 
-then : {A B : Type 0} (r : Result A Refusal) (next : A → Result B Refusal) (P : A → Type 0) (Q : B → Type 0) →
+chain : {A B : Type 0} (r : Result A Refusal) (next : A → Result B Refusal) (P : A → Type 0) (Q : B → Type 0) →
     IfOk r P → ((a : A) → P a → IfOk (next a) Q) → IfOk (and_then r next) Q
-then (Ok a) next P Q h k = k a h
-then (Err e) next P Q h k = tt
+chain (Ok a) next P Q h k = k a h
+chain (Err e) next P Q h k = tt
 
 any : {A : Type 0} (r : Result A Refusal) → IfOk r (λ _. Unit {0})
 any (Ok a) = tt
@@ -40,33 +42,47 @@ IsPlaced made = length made.origins ≡ length made.text
 put-placed : (bytes origins : List ℕ) (at : ℕ) (made : Made) → length origins ≡ length bytes → IsPlaced made →
     IfOk (put bytes origins at made) IsPlaced
 put-placed bytes origins at made same placed =
-    either _ _ _ IsPlaced tt (omega (arith, same, placed, length-append made.text bytes, length-append made.origins origins))
+    either (nat_lt text_limit (length made.text + length bytes)) (Err (refused_at at Limit))
+    (Ok (record { text = made.text ++ bytes; origins = made.origins ++ origins; uses = made.uses })) IsPlaced tt grown
+  where
+    grown : length (made.origins ++ origins) ≡ length (made.text ++ bytes)
+    grown = omega (arith, same, placed, length-append made.text bytes, length-append made.origins origins)
 
 copied-placed : (bytes : List ℕ) (at : ℕ) (made : Made) → IsPlaced made → IfOk (put_copied bytes at made) IsPlaced
-copied-placed bytes at made = put-placed bytes _ at made (length-range_with_len at (length bytes))
+copied-placed bytes at made = put-placed bytes (range_with_len at (length bytes)) at made (length-range_with_len at (length bytes))
 
 given-bytes : (bytes : List ℕ) (at : ℕ) (made : Made) → IsPlaced made → IfOk (put_given bytes at made) IsPlaced
-given-bytes bytes at made = put-placed bytes _ at made (length-map (λ _. at) bytes)
+given-bytes bytes at made = put-placed bytes (map (λ _. at) bytes) at made (length-map bytes (λ _. at))
 
 module _ (nested : List ℕ → Made → Result Made Refusal) (is : (name : List ℕ) (made : Made) → IsPlaced made → IfOk (nested name made) IsPlaced) where
   piece-placed : (at : ℕ) (text : List ℕ) (made : Made) → IsPlaced made → IfOk (piece nested at text made) IsPlaced
   piece-placed at [] made placed = placed
-  piece-placed at (c ∷ cs) made placed = either _ _ _ IsPlaced (is _ made placed) (given-bytes _ at made placed)
+  piece-placed at (c ∷ cs) made placed =
+      let name = take (name_len cs) cs in
+      let bytes = take (stretch_len (c ∷ cs)) (c ∷ cs) in
+      either (c == 96) (nested name made) (put_given bytes at made) IsPlaced (is name made placed) (given-bytes bytes at made placed)
 
   given-placed : (at n : ℕ) (text : List ℕ) (made : Made) → IsPlaced made → IfOk (given nested at n text made) IsPlaced
   given-placed at zero text made placed = placed
   given-placed at (suc n) text made placed =
-      then (piece nested at text made) _ IsPlaced IsPlaced (piece-placed at text made placed) (λ next. given-placed at n _ next)
+      chain (piece nested at text made) (given nested at n (drop (piece_len text) text)) IsPlaced IsPlaced
+      (piece-placed at text made placed) (given-placed at n (drop (piece_len text) text))
 
 used-placed : (levels : ℕ) (macros : Macros) (at : ℕ) (name : List ℕ) (made : Made) → IsPlaced made →
     IfOk (used levels macros at name made) IsPlaced
 unfolding used
 used-placed zero macros at name made placed =
-    then (text_for macros at name) _ (λ _. Unit {0}) IsPlaced (any (text_for macros at name)) (λ _ _. tt)
+    chain (text_for macros at name) (λ text. Err (refused_at at Limit)) (λ _. Unit {0}) IsPlaced (any (text_for macros at name)) (λ _ _. tt)
 used-placed (suc levels) macros at name made placed =
-    then (text_for macros at name) _ (λ _. Unit {0}) IsPlaced (any (text_for macros at name)) (λ text _.
-    either _ _ _ IsPlaced tt
+    chain (text_for macros at name) next (λ _. Unit {0}) IsPlaced (any (text_for macros at name)) (λ text _.
+    either (nat_le use_limit made.uses) (Err (refused_at at Limit)) (within text) IsPlaced tt
     (given-placed (used levels macros at) (λ other more. used-placed levels macros at other more) at (length text) text (counted made) placed))
+  where
+    within : List ℕ → Result Made Refusal
+    within text = given (used levels macros at) at (length text) text (counted made)
+
+    next : List ℕ → Result Made Refusal
+    next text = if nat_le use_limit made.uses then Err (refused_at at Limit) else within text
 
 -- ---- directives make nothing
 
@@ -74,11 +90,16 @@ abbrev KeepsMade : State → Done → Type 0
 KeepsMade state found = found.state.made ≡ state.made
 
 opens-kept : (len : ℕ) (state : State) (opens : Result (List Open) Refusal) → IfOk (with_opens len state opens) (KeepsMade state)
-opens-kept len state opens = then opens _ (λ _. Unit {0}) (KeepsMade state) (any opens) (λ _ _. refl)
+opens-kept len state opens = chain opens (λ left. done len (record state { opens = left })) (λ _. Unit {0}) (KeepsMade state) (any opens) (λ _ _. refl)
 
 defined-kept : (named : Option Named) (rest : List ℕ) (state : State) → IfOk (defined named rest state) (KeepsMade state)
 defined-kept None rest state = tt
-defined-kept (Some named) rest state = either _ _ _ (KeepsMade state) refl tt
+defined-kept (Some named) rest state =
+    let behind = drop named.len rest in
+    let text = drop (blanks_len behind) behind in
+    either (may_be_macro named.name && not (begins_arguments behind))
+    (done (named.len + blanks_len behind + lines_len text) (record state { macros = redefined named.name (Some (macro_text text)) state.macros }))
+    (ill_formed state) (KeepsMade state) refl tt
 
 undefined-kept : (named : Option Named) (state : State) → IfOk (undefined named state) (KeepsMade state)
 undefined-kept None state = tt
@@ -96,11 +117,11 @@ timed-kept : (found : Option Timed) (state : State) → IfOk (timed found state)
 timed-kept None state = tt
 timed-kept (Some found) state =
     let one = agreed state.timescale found.timescale state.at in
-    then one _ (λ _. Unit {0}) (KeepsMade state) (any one) (λ _ _. refl)
+    chain one (λ timescale. done found.len (record state { timescale = Some timescale })) (λ _. Unit {0}) (KeepsMade state) (any one) (λ _ _. refl)
 
 typed-kept : (named : Option Named) (state : State) → IfOk (typed named state) (KeepsMade state)
 typed-kept None state = tt
-typed-kept (Some named) state = either _ _ _ (KeepsMade state) refl tt
+typed-kept (Some named) state = either (is_nettype named.name) (done named.len state) (ill_formed state) (KeepsMade state) refl tt
 
 obeyed-kept : (w : Word) (rest : List ℕ) (state : State) → IfOk (obeyed w rest state) (KeepsMade state)
 obeyed-kept word.Define rest state = defined-kept (name_behind rest) rest state
@@ -127,27 +148,45 @@ after state (Err e) placed same = tt
 
 met-placed : (w : Option Word) (name rest : List ℕ) (state : State) → IsPlacedIn state → IfOk (met w name rest state) IsPlacedAfter
 met-placed None name rest state placed =
-    either _ _ _ IsPlacedAfter
-    (then (used _ state.macros state.at name state.made) _ IsPlaced IsPlacedAfter (used-placed _ state.macros state.at name state.made placed) (λ _ is. is))
+    let uses = used level_limit state.macros state.at name state.made in
+    let next : Made → Result Done Refusal = λ made. done 0 (record state { made = made }) in
+    either (is_read state.opens) (and_then uses next) (done 0 state) IsPlacedAfter
+    (chain uses next IsPlaced IsPlacedAfter (used-placed level_limit state.macros state.at name state.made placed) (λ _ is. is))
     placed
 met-placed (Some w) name rest state placed =
-    either _ _ _ IsPlacedAfter
-    (either _ _ _ IsPlacedAfter (after state (obeyed w rest state) placed (obeyed-kept w rest state)) tt)
+    either (is_read state.opens || is_conditional w) (if state.fresh then obeyed w rest state else ill_formed state) (done 0 state) IsPlacedAfter
+    (either state.fresh (obeyed w rest state) (ill_formed state) IsPlacedAfter (after state (obeyed w rest state) placed (obeyed-kept w rest state)) tt)
     placed
+
+ticked-placed : (behind : List ℕ) (state : State) → IsPlacedIn state → IfOk (ticked behind state) IsPlacedIn
+ticked-placed behind state placed =
+    let len = name_len behind in
+    let name = take len behind in
+    let next : Done → Result State Refusal = λ found. Ok (moved (1 + len + found.len) found.state) in
+    chain (met (directive_of name) name (drop len behind) state) next IsPlacedAfter IsPlacedIn
+    (met-placed (directive_of name) name (drop len behind) state placed) (λ _ is. is)
+
+passed-placed : (c : ℕ) (rest : List ℕ) (state : State) → IsPlacedIn state → IfOk (passed c rest state) IsPlacedIn
+passed-placed c rest state placed =
+    let len = stretch_len rest in
+    let bytes = take len rest in
+    let next : Made → Result State Refusal = λ made. Ok (record state { at = state.at + len; fresh = is_fresh state.fresh c; made = made }) in
+    chain (kept bytes state) next IsPlaced IsPlacedIn
+    (either (is_read state.opens) (put_copied bytes state.at state.made) (Ok state.made) IsPlaced (copied-placed bytes state.at state.made placed) placed)
+    (λ _ is. is)
 
 step-placed : (text : List ℕ) (state : State) → IsPlacedIn state → IfOk (step text state) IsPlacedIn
 step-placed [] state placed = placed
 step-placed (c ∷ cs) state placed =
-    either _ _ _ IsPlacedIn
-    (then (met _ _ _ state) _ IsPlacedAfter IsPlacedIn (met-placed _ _ _ state placed) (λ _ is. is))
-    (then (kept _ state) _ IsPlaced IsPlacedIn (either _ _ _ IsPlaced (copied-placed _ state.at state.made placed) placed) (λ _ is. is))
+    either (c == 96) (ticked cs state) (passed c (c ∷ cs) state) IsPlacedIn (ticked-placed cs state placed) (passed-placed c (c ∷ cs) state placed)
 
 pub walked-placed : (text : List ℕ) (n : ℕ) (state : State) → IsPlacedIn state → IfOk (walked text n state) IsPlacedIn
 unfolding walked
 walked-placed text zero state placed = placed
 walked-placed text (suc n) state placed =
-    either _ _ _ IsPlacedIn
-    (then (step _ state) (walked text n) IsPlacedIn IsPlacedIn (step-placed _ state placed) (λ next. walked-placed text n next))
+    let one = step (drop state.at text) state in
+    either (nat_lt state.at (length text)) (and_then one (walked text n)) (Ok state) IsPlacedIn
+    (chain one (walked text n) IsPlacedIn IsPlacedIn (step-placed (drop state.at text) state placed) (walked-placed text n))
     placed
 
 closed-placed : (opens : List Open) (state : State) → IsPlacedIn state → IfOk (left_open opens state) IsPlacedIn
@@ -156,14 +195,14 @@ closed-placed (inner ∷ opens) state placed = tt
 
 expanded-placed : (text : List ℕ) → IfOk (expanded text) IsPlacedIn
 expanded-placed text =
-    then (walked text (length text) start) _ IsPlacedIn IsPlacedIn (walked-placed text (length text) start refl)
+    chain (walked text (length text) start) ended IsPlacedIn IsPlacedIn (walked-placed text (length text) start refl)
     (λ state placed. closed-placed state.opens state placed)
 
 told-placed : (files : List (List ℕ)) (long : Option ℕ) (r : Result State Refusal) (source : Source) → IfOk r IsPlacedIn →
     unless_long long (told files r) ≡ Ok source → length source.places ≡ length source.text
 told-placed files None (Ok state) source placed is =
     let same : source_of files state ≡ source = cc in
-    subst (λ (s : Source). length s.places ≡ length s.text) same (length-map (place_in files) state.made.origins ∙ placed)
+    subst (λ (s : Source). length s.places ≡ length s.text) same (length-map state.made.origins (place_in files) ∙ placed)
 told-placed files None (Err refusal) source placed is = absurd (not_ok is) where
   not_ok : {f : SrcFault} → Err f ≡ Ok source → ⊥
   not_ok e = cc

@@ -2,4 +2,4 @@ use Rattle.vsrc.proofs.Placed.{each_placed}
 use Rattle.vsrc.proofs.law.expansion_law.Goals as goal
 
 pub returns : goal.returns
-returns c = each_placed
+returns c = record { places = each_placed }
