@@ -105,10 +105,17 @@ races_text columns (race ∷ races) = race_text columns race ++ races_text colum
 
 -- ---- the whole
 
+-- the lines that count the ends and the races
+abbrev pub ends_line : Report → List ℕ
+ends_line r = number_line (codes "ends") (length r.ends)
+
+abbrev pub races_line : Report → List ℕ
+races_line r = number_line (codes "races") (length r.races)
+
 abbrev pub report_text : Report → List (List ℕ) → List ℕ
 report_text r dumps =
     head_text r
-    ++ number_line (codes "ends") (length r.ends)
+    ++ ends_line r
     ++ ends_text r.ends dumps
-    ++ number_line (codes "races") (length r.races)
+    ++ races_line r
     ++ races_text r.variables r.races

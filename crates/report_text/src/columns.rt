@@ -1,7 +1,7 @@
 // The lines of the variables of a report, read.
 
 ghost use Rattle.std.specs.Prelude.{◌≡◌, ◌≤◌, IfOk, IsTrue, ◌↔◌};
-ghost use Rattle.report_text.specs.Inner.Columns.{AreColumnsTaken, EachColumns, IsColumnTaken};
+ghost use Rattle.report_text.specs.Inner.Columns.{column_by, AreColumnsTaken, EachColumns, IsColumnTaken};
 ghost use Rattle.report_text.specs.Inner.Places.{HasTaken, Stands, TakesEach};
 
 use crate::letters::is_path;
@@ -36,8 +36,8 @@ pub fn copy_of(alloc: Global, bytes: &[u8]) -> Result<Vec<u8>, NoMemory>
 
 // Takes the line of a variable, its name and its width.
 fn column_line<'a>(reader: &mut Reader<'a>) -> (&'a [u8], u32)
-    ensures read { HasTaken reader.old reader.new IsColumnTaken (record { name = result.0.now; width = result.1 }) }
-    ensures each { TakesEach reader.old reader.new IsColumnTaken (record { name = result.0.now; width = result.1 }) }
+    ensures read { HasTaken reader.old reader.new IsColumnTaken (column_by result.0.now result.1) }
+    ensures each { TakesEach reader.old reader.new IsColumnTaken (column_by result.0.now result.1) }
 {
     let name = reader.word(b' ');
     let width = reader.number(b'\n');

@@ -6,7 +6,8 @@ ghost use Rattle.sched_core.specs.Logs.{IsLog};
 ghost use Rattle.vmodel.specs.declared.history.Cause as causes;
 ghost use Rattle.report_text.specs.Inner.Ends as inner;
 ghost use Rattle.report_text.specs.Inner.Lists.{Listed};
-ghost use Rattle.report_text.specs.Inner.Places.{Stands, Took};
+ghost use Rattle.report_text.specs.Inner.Fronts.{EachRest};
+ghost use Rattle.report_text.specs.Inner.Places.{HasSpelled, HasTaken, Stands, TakesEach, TakesSpelled, Took};
 ghost use Rattle.report_text.specs.Report as reports;
 ghost use Rattle.report_text.specs.ReportText as spelled;
 ghost use Rattle.report_text.specs.WellFormed.{IsEnd, IsEndBefore, IsLineOf, IsTextLess};
@@ -27,8 +28,8 @@ use vmodel::history::Cause;
 /// Reads the word as a log. Where it is none the reader is lost. The error is want of memory, E901.
 pub fn take_log(alloc: Global, reader: &mut Reader, word: &[u8]) -> Result<Log, NoMemory>
     ensures rest { IfOk result (λ log. reader.new.rest ≡ reader.old.rest) }
-    ensures read { IfOk result (λ log. reader.new.ok ≡ true → (reader.old.ok ≡ true) × IsLog log × (word.now ≡ log_text log)) }
-    ensures each { (log : List (ℕ × ℕ)) → reader.old.ok ≡ true → IsLog log → word.now ≡ log_text log → IfOk result (λ read. (read ≡ log) × (reader.new.ok ≡ true)) }
+    ensures read { IfOk result (inner.HasLog reader.old reader.new word.now) }
+    ensures each { inner.EachLog reader.old reader.new word.now result }
 {
     match read_log(alloc, word) {
         Ok(log) => Ok(log),
@@ -42,8 +43,8 @@ pub fn take_log(alloc: Global, reader: &mut Reader, word: &[u8]) -> Result<Log, 
 
 // Takes a cause and the space behind it.
 fn take_cause(reader: &mut Reader) -> Cause
-    ensures read { Took reader.old reader.new (λ text rest. text ≡ spelled.cause_word result ++ 32 ∷ rest) }
-    ensures each { (cause : causes.Cause) (rest : List ℕ) → reader.old.ok ≡ true → reader.old.rest ≡ spelled.cause_word cause ++ 32 ∷ rest → (result ≡ cause) × Stands reader.new rest }
+    ensures read { HasTaken reader.old reader.new inner.IsCauseTaken result }
+    ensures each { TakesEach reader.old reader.new inner.IsCauseTaken result }
 {
     match cause_of(reader.word(b' ')) {
         Some(cause) => cause,
@@ -57,7 +58,7 @@ fn take_cause(reader: &mut Reader) -> Cause
 // What follows the digits of a value of this width at the front.
 fn after_value(text: &[u8], width: u32) -> Option<&[u8]>
     ensures read { IfSome result (λ rest. inner.IsAfterValue width text.now rest.now) }
-    ensures each { (rest : List ℕ) → inner.IsAfterValue width text.now rest → MatchOption result ⊥ (λ r. r.now ≡ rest) }
+    ensures each { EachRest (inner.IsAfterValue width text.now) result }
 {
     if width as usize > text.len() {
         return None;
@@ -92,7 +93,7 @@ fn is_line_of(columns: &[Column], line: &[u8]) -> bool
 // What follows a space and the digits of a value of this width at the front.
 fn after_space(text: &[u8], width: u32) -> Option<&[u8]>
     ensures read { IfSome result (λ rest. inner.IsAfterSpace width text.now rest.now) }
-    ensures each { (rest : List ℕ) → inner.IsAfterSpace width text.now rest → MatchOption result ⊥ (λ r. r.now ≡ rest) }
+    ensures each { EachRest (inner.IsAfterSpace width text.now) result }
 {
     after_value(after(text, b" ")?, width)
 }
@@ -156,8 +157,8 @@ impl<'a> Model for EndWords<'a> {
 
 // Takes the words of an end, and its dump.
 fn end_words<'a>(reader: &mut Reader<'a>) -> EndWords<'a>
-    ensures read { Took reader.old reader.new (λ text rest. inner.IsSpelling result × (text ≡ inner.spelled_before result rest)) }
-    ensures each { (w : inner.EndSpelling) (rest : List ℕ) → reader.old.ok ≡ true → inner.IsSpelling w → reader.old.rest ≡ inner.spelled_before w rest → (result ≡ w) × Stands reader.new rest }
+    ensures read { HasSpelled reader.old reader.new inner.IsSpelling inner.spelled_before result }
+    ensures each { TakesSpelled reader.old reader.new inner.IsSpelling inner.spelled_before result }
 {
     reader.prefix(b"end ");
     let time = reader.number(b' ');
@@ -182,8 +183,8 @@ fn take_end<'a>(
     reader: &mut Reader<'a>,
     columns: &[Column],
 ) -> Result<(End, &'a [u8]), NoMemory>
-    ensures read { IfOk result (λ p. Took reader.old reader.new (λ text rest. inner.IsEndedTaken columns.now text (p.0, p.1.now) rest)) }
-    ensures each { (ended : inner.Ended) (rest : List ℕ) → reader.old.ok ≡ true → inner.IsEndedTaken columns.now reader.old.rest ended rest → IfOk result (λ p. (p.0 ≡ ended.0) × (p.1.now ≡ ended.1) × Stands reader.new rest) }
+    ensures read { IfOk result (λ p. HasTaken reader.old reader.new (inner.IsEndedTaken columns.now) (p.0, p.1.now)) }
+    ensures each { inner.EachEnd columns.now reader.old reader.new result }
 {
     let words = end_words(reader);
     reader.require(is_line_of(columns, words.line));
@@ -206,8 +207,8 @@ pub fn read_ends<'a>(
     columns: &[Column],
     count: u64,
 ) -> Result<(Vec<End>, Vec<&'a [u8]>), NoMemory>
-    ensures read { IfOk result (λ p. Took reader.old reader.new (λ text rest. inner.AreTaken columns.now count text p.0.items (map (λ dump. dump.now) p.1.items) rest)) }
-    ensures each { (all : List inner.Ended) (rest : List ℕ) → reader.old.ok ≡ true → Listed (inner.IsEnded columns.now) inner.IsEndedBefore all → length all ≡ count → reader.old.rest ≡ flat_map inner.ended_text all ++ rest → IfOk result (λ p. (p.0.items ≡ map (λ e. e.0) all) × (map (λ dump. dump.now) p.1.items ≡ map (λ e. e.1) all) × Stands reader.new rest) }
+    ensures read { IfOk result (λ p. inner.HasEnds columns.now count reader.old reader.new p.0.items p.1.items) }
+    ensures each { inner.EachEnds columns.now count reader.old reader.new result }
 {
     let mut ends = Vec::new(alloc);
     let mut dumps = Vec::new(alloc);

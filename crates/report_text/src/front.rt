@@ -2,14 +2,14 @@
 
 ghost use Rattle.std.specs.Prelude.{◌≡◌, ℕ, List, ◌++◌, true, Some, IfSome, IfNone, MatchOption};
 ghost use Rattle.std.specs.Str.{all_ascii_digits};
-ghost use Rattle.report_text.specs.Inner.Fronts.{IsCut, IsNumber};
+ghost use Rattle.report_text.specs.Inner.Fronts.{EachRest, EachSides, IsCut, IsNumber};
 
 use memchr::memchr;
 
 /// What stands before the first such byte, and what follows it.
 pub fn cut(text: &[u8], byte: u8) -> Option<(&[u8], &[u8])>
     ensures read { IfSome result (λ p. IsCut byte text.now p.0.now p.1.now) }
-    ensures each { (left right : List ℕ) → IsCut byte text.now left right → MatchOption result ⊥ (λ p. (p.0.now ≡ left) × (p.1.now ≡ right)) }
+    ensures each { EachSides byte text.now result }
 {
     let place = memchr(byte, text)?;
     Some((&text[..place], &text[place + 1..]))
@@ -18,7 +18,7 @@ pub fn cut(text: &[u8], byte: u8) -> Option<(&[u8], &[u8])>
 /// What follows these bytes at the front.
 pub fn after<'a>(text: &'a [u8], prefix: &[u8]) -> Option<&'a [u8]>
     ensures read { IfSome result (λ rest. text.now ≡ prefix.now ++ rest.now) }
-    ensures each { (rest : List ℕ) → text.now ≡ prefix.now ++ rest → MatchOption result ⊥ (λ r. r.now ≡ rest) }
+    ensures each { EachRest (λ rest. text.now ≡ prefix.now ++ rest) result }
 {
     text.strip_prefix(prefix)
 }

@@ -1,9 +1,10 @@
 // The lines of a report's head before its variables, read.
 
 ghost use Rattle.std.specs.Prelude.{◌≡◌, ℕ, ◌≤◌, List, true, IsTrue, ◌↔◌, codes, decimal};
-ghost use Rattle.report_text.specs.Inner.Headings.{IsHeading, IsLabelLine, IsNumberLine, grain_before, heading_before, labelled};
+ghost use Rattle.report_text.specs.Inner.Headings.{IsGrainIn, IsHeading, IsLabelLine, IsNumberLine, IsTop};
+ghost use Rattle.report_text.specs.Inner.Headings.{grain_before, heading_before, labelled};
 ghost use Rattle.report_text.specs.Inner.Headings as headings;
-ghost use Rattle.report_text.specs.Inner.Places.{HasTaken, Stands, TakesEach, Took};
+ghost use Rattle.report_text.specs.Inner.Places.{HasSpelled, HasTaken, Stands, TakesEach, TakesSpelled, Took};
 ghost use Rattle.report_text.specs.ReportText as spelled;
 ghost use Rattle.vast.specs.Names.{has_letters_of_name};
 ghost use Rattle.report_text.specs.declared.report.Version as versions;
@@ -65,8 +66,8 @@ fn is_within(n: u64, low: u64, high: u64) -> bool
 
 // Takes a line of this label and a value.
 fn label_line<'a>(reader: &mut Reader<'a>, label: &[u8]) -> &'a [u8]
-    ensures read { Took reader.old reader.new (λ text rest. IsLabelLine label.now text result.now rest) }
-    ensures each { (value rest : List ℕ) → reader.old.ok ≡ true → IsLabelLine label.now reader.old.rest value rest → (result.now ≡ value) × Stands reader.new rest }
+    ensures read { HasTaken reader.old reader.new (IsLabelLine label.now) result.now }
+    ensures each { TakesEach reader.old reader.new (IsLabelLine label.now) result.now }
 {
     reader.prefix(label);
     reader.word(b'\n')
@@ -94,8 +95,8 @@ fn version_line(reader: &mut Reader) -> Version
 
 // Takes the line of the top.
 fn top_line<'a>(reader: &mut Reader<'a>) -> &'a [u8]
-    ensures read { Took reader.old reader.new (λ text rest. (has_letters_of_name result.now ≡ true) × (text ≡ labelled (codes "top ") result.now rest)) }
-    ensures each { (top rest : List ℕ) → reader.old.ok ≡ true → has_letters_of_name top ≡ true → reader.old.rest ≡ labelled (codes "top ") top rest → (result.now ≡ top) × Stands reader.new rest }
+    ensures read { HasSpelled reader.old reader.new IsTop (labelled (codes "top ")) result.now }
+    ensures each { TakesSpelled reader.old reader.new IsTop (labelled (codes "top ")) result.now }
 {
     let top = label_line(reader, b"top ");
     reader.require(is_name(top));
@@ -104,8 +105,8 @@ fn top_line<'a>(reader: &mut Reader<'a>) -> &'a [u8]
 
 // Takes the line of the grain, where this version has one; else the grain is process.
 fn grain_line(reader: &mut Reader, version: Version) -> Grain
-    ensures read { Took reader.old reader.new (λ text rest. (version ≡ One → result ≡ Process) × (text ≡ grain_before version result rest)) }
-    ensures each { (grain : grains.Grain) (rest : List ℕ) → reader.old.ok ≡ true → (version ≡ One → grain ≡ Process) → reader.old.rest ≡ grain_before version grain rest → (result ≡ grain) × Stands reader.new rest }
+    ensures read { HasSpelled reader.old reader.new (IsGrainIn version) (grain_before version) result }
+    ensures each { TakesSpelled reader.old reader.new (IsGrainIn version) (grain_before version) result }
 {
     match version {
         Version::One => Grain::Process,
@@ -135,8 +136,8 @@ fn outcome_line(reader: &mut Reader) -> Outcome
 
 /// Takes the lines of the head before its variables.
 pub fn read_heading<'a>(reader: &mut Reader<'a>) -> Heading<'a>
-    ensures read { Took reader.old reader.new (λ text rest. IsHeading result × (text ≡ heading_before result rest)) }
-    ensures each { (h : headings.Heading) (rest : List ℕ) → reader.old.ok ≡ true → IsHeading h → reader.old.rest ≡ heading_before h rest → (result ≡ h) × Stands reader.new rest }
+    ensures read { HasSpelled reader.old reader.new IsHeading heading_before result }
+    ensures each { TakesSpelled reader.old reader.new IsHeading heading_before result }
 {
     let version = version_line(reader);
     let top = top_line(reader);

@@ -1,6 +1,7 @@
 // The pieces of a report's text, for one who writes it piece by piece: the dumps of the ends stand between them.
 
-ghost use Rattle.std.specs.Prelude.{◌≡◌, ◌++◌, ◌∷◌, [], codes, decimal, length, slice_get, IfOk, OnOk};
+ghost use Rattle.std.specs.Prelude.{◌≡◌, ◌++◌, ◌∷◌, [], codes, decimal, slice_get, IfOk};
+ghost use Rattle.report_text.specs.Inner.Lists.{PutsBytes};
 ghost use Rattle.report_text.specs.ReportText as spec;
 
 use crate::report::{Column, End, Race, Report, Seen, Version};
@@ -12,7 +13,7 @@ use std::alloc::Global;
 
 // Puts the word last, and a space.
 fn put_word(text: &mut Vec<u8>, word: &[u8]) -> Result<(), NoMemory>
-    ensures { OnOk result (text.new.items ≡ text.old.items ++ word.now ++ 32 ∷ []) }
+    ensures { PutsBytes text.old text.new result (word.now ++ 32 ∷ []) }
 {
     text.extend_from_slice(word)?;
     text.push(b' ')?;
@@ -21,7 +22,7 @@ fn put_word(text: &mut Vec<u8>, word: &[u8]) -> Result<(), NoMemory>
 
 // Puts the number last.
 fn put_number(text: &mut Vec<u8>, n: u64) -> Result<(), NoMemory>
-    ensures { OnOk result (text.new.items ≡ text.old.items ++ decimal n) }
+    ensures { PutsBytes text.old text.new result (decimal n) }
 {
     let mut buffer = Buffer::new();
     text.extend_from_slice(buffer.format(n).as_bytes())?;
@@ -30,7 +31,7 @@ fn put_number(text: &mut Vec<u8>, n: u64) -> Result<(), NoMemory>
 
 // Puts a line of a word and a number last.
 fn put_number_line(text: &mut Vec<u8>, word: &[u8], n: u64) -> Result<(), NoMemory>
-    ensures { OnOk result (text.new.items ≡ text.old.items ++ spec.number_line word.now n) }
+    ensures { PutsBytes text.old text.new result (spec.number_line word.now n) }
 {
     put_word(text, word)?;
     put_number(text, n)?;
@@ -40,7 +41,7 @@ fn put_number_line(text: &mut Vec<u8>, word: &[u8], n: u64) -> Result<(), NoMemo
 
 // Puts a line of two words last.
 fn put_word_line(text: &mut Vec<u8>, word: &[u8], value: &[u8]) -> Result<(), NoMemory>
-    ensures { OnOk result (text.new.items ≡ text.old.items ++ spec.line (spec.spaced word.now value.now)) }
+    ensures { PutsBytes text.old text.new result (spec.line (spec.spaced word.now value.now)) }
 {
     put_word(text, word)?;
     text.extend_from_slice(value)?;
@@ -50,7 +51,7 @@ fn put_word_line(text: &mut Vec<u8>, word: &[u8], value: &[u8]) -> Result<(), No
 
 // Puts a line for each column last.
 fn put_columns(text: &mut Vec<u8>, columns: &[Column]) -> Result<(), NoMemory>
-    ensures { OnOk result (text.new.items ≡ text.old.items ++ spec.column_lines columns.now) }
+    ensures { PutsBytes text.old text.new result (spec.column_lines columns.now) }
 {
     for column in columns {
         put_number_line(text, &column.name, column.width as u64)?;
@@ -60,7 +61,7 @@ fn put_columns(text: &mut Vec<u8>, columns: &[Column]) -> Result<(), NoMemory>
 
 // Puts the line of the grain last, where this version has one.
 fn put_grain(text: &mut Vec<u8>, report: &Report) -> Result<(), NoMemory>
-    ensures { OnOk result (text.new.items ≡ text.old.items ++ spec.grain_lines report.now.version report.now.grain) }
+    ensures { PutsBytes text.old text.new result (spec.grain_lines report.now.version report.now.grain) }
 {
     match report.version {
         Version::One => Ok(()),
@@ -70,7 +71,7 @@ fn put_grain(text: &mut Vec<u8>, report: &Report) -> Result<(), NoMemory>
 
 /// The lines of the head, and the line that counts the ends. The error is want of memory, E901.
 pub fn head_lines(alloc: Global, report: &Report) -> Result<Vec<u8>, NoMemory>
-    ensures { IfOk result (λ text. text.items ≡ spec.head_text report.now ++ spec.number_line (codes "ends") (length report.now.ends)) }
+    ensures { IfOk result (λ text. text.items ≡ spec.head_text report.now ++ spec.ends_line report.now) }
 {
     let mut text = Vec::new(alloc);
     put_number_line(&mut text, b"vrace report", version_number(report.version))?;
@@ -106,7 +107,7 @@ pub fn end_lines(alloc: Global, end: &End) -> Result<Vec<u8>, NoMemory>
 
 /// The line that counts the races. The error is want of memory, E901.
 pub fn race_count_line(alloc: Global, report: &Report) -> Result<Vec<u8>, NoMemory>
-    ensures { IfOk result (λ text. text.items ≡ spec.number_line (codes "races") (length report.now.races)) }
+    ensures { IfOk result (λ text. text.items ≡ spec.races_line report.now) }
 {
     let mut text = Vec::new(alloc);
     put_number_line(&mut text, b"races", report.races.len() as u64)?;
@@ -115,7 +116,7 @@ pub fn race_count_line(alloc: Global, report: &Report) -> Result<Vec<u8>, NoMemo
 
 // Puts a line for each value last.
 fn put_values(text: &mut Vec<u8>, values: &[Seen]) -> Result<(), NoMemory>
-    ensures { OnOk result (text.new.items ≡ text.old.items ++ spec.value_lines values.now) }
+    ensures { PutsBytes text.old text.new result (spec.value_lines values.now) }
 {
     for seen in values {
         put_word(text, &seen.value)?;

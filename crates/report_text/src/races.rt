@@ -48,8 +48,8 @@ fn take_values(
     width: u32,
     count: u64,
 ) -> Result<Vec<Seen>, NoMemory>
-    ensures read { IfOk result (λ values. Took reader.old reader.new (λ text rest. Listed (inner.IsShown width) inner.IsShownBefore values.items × (length values.items ≡ count) × (text ≡ spelled.value_lines values.items ++ rest))) }
-    ensures each { (all : List inner.Shown) (rest : List ℕ) → reader.old.ok ≡ true → Listed (inner.IsShown width) inner.IsShownBefore all → length all ≡ count → reader.old.rest ≡ spelled.value_lines all ++ rest → IfOk result (λ values. (values.items ≡ all) × Stands reader.new rest) }
+    ensures read { IfOk result (λ values. inner.HasShown width count reader.old reader.new values.items) }
+    ensures each { inner.EachShown width count reader.old reader.new result }
 {
     let mut values = Vec::new(alloc);
     for place in 0..count {
@@ -67,8 +67,8 @@ fn take_values(
 fn find(columns: &[Column], names: &Names, name: &[u8]) -> Option<(usize, u32)>
     requires shown { names.now ≡ map (λ c. c.name) columns.now }
     requires differ { EachTwo Differ columns.now }
-    ensures read { IfSome result (λ p. (column : reports.Column) × (slice_get columns.now p.0 ≡ Some column) × (column.name ≡ name.now) × (p.1 ≡ column.width)) }
-    ensures each { (variable : ℕ) (column : reports.Column) → slice_get columns.now variable ≡ Some column → column.name ≡ name.now → MatchOption result ⊥ (λ p. (p.0 ≡ variable) × (p.1 ≡ column.width)) }
+    ensures read { IfSome result (inner.IsFound columns.now name.now) }
+    ensures each { inner.EachFound columns.now name.now result }
 {
     let variable = names.place(name)?;
     let column = columns.get(variable)?;
@@ -88,8 +88,8 @@ struct RaceLine {
 fn race_line(reader: &mut Reader, columns: &[Column], names: &Names) -> RaceLine
     requires shown { names.now ≡ map (λ c. c.name) columns.now }
     requires columns { Listed IsColumn Differ columns.now }
-    ensures read { Took reader.old reader.new (λ text rest. (column : reports.Column) × (result.width ≡ column.width) × inner.IsRaceLine columns.now text result.time result.variable result.count column rest) }
-    ensures each { (time variable count : ℕ) (column : reports.Column) (rest : List ℕ) → reader.old.ok ≡ true → inner.IsRaceLine columns.now reader.old.rest time variable count column rest → (result.time ≡ time) × (result.variable ≡ variable) × (result.width ≡ column.width) × (result.count ≡ count) × Stands reader.new rest }
+    ensures read { HasTaken reader.old reader.new (inner.IsLineOf columns.now) result }
+    ensures each { inner.EachLine columns.now reader.old reader.new result }
 {
     reader.prefix(b"race ");
     let time = reader.number(b' ');
@@ -157,8 +157,8 @@ pub fn read_races(
 ) -> Result<Vec<Race>, NoMemory>
     requires shown { names.now ≡ map (λ c. c.name) columns.now }
     requires columns { Listed IsColumn Differ columns.now }
-    ensures read { IfOk result (λ races. Took reader.old reader.new (λ text rest. Listed (inner.IsCounted columns.now) IsRaceBefore races.items × (length races.items ≡ count) × (text ≡ spelled.races_text columns.now races.items ++ rest))) }
-    ensures each { (all : List reports.Race) (rest : List ℕ) → reader.old.ok ≡ true → Listed (inner.IsCounted columns.now) IsRaceBefore all → length all ≡ count → reader.old.rest ≡ spelled.races_text columns.now all ++ rest → IfOk result (λ races. (races.items ≡ all) × Stands reader.new rest) }
+    ensures read { IfOk result (λ races. inner.HasRaces columns.now count reader.old reader.new races.items) }
+    ensures each { inner.EachRaces columns.now count reader.old reader.new result }
 {
     let mut races = Vec::new(alloc);
     for place in 0..count {

@@ -6,7 +6,7 @@ ghost use Rattle.report_text.specs.Inner.Ends as ends;
 ghost use Rattle.report_text.specs.Inner.Headings as headings;
 ghost use Rattle.report_text.specs.Inner.Lists.{Listed};
 ghost use Rattle.report_text.specs.Inner.Places.{Stands, Took};
-ghost use Rattle.report_text.specs.Inner.Wholes.{IsBodyTaken, IsHeadTaken};
+ghost use Rattle.report_text.specs.Inner.Wholes.{EachBody, HasBody, IsHeadTaken};
 ghost use Rattle.report_text.specs.Report as reports;
 ghost use Rattle.basis.specs.Reasons.{IfFault};
 ghost use Rattle.report_text.specs.WellFormed.{IsColumn, IsNoReportText, IsTold, ReadsEachReport};
@@ -55,8 +55,8 @@ fn read_body<'a>(
 ) -> Result<(Vec<End>, Vec<&'a [u8]>, Vec<Race>), NoMemory>
     requires shown { names.now ≡ map (λ c. c.name) columns.now }
     requires columns { Listed IsColumn Differ columns.now }
-    ensures read { IfOk result (λ p. Took reader.old reader.new (λ text rest. (all : List ends.Ended) × IsBodyTaken columns.now text all p.2.items rest × (p.0.items ≡ map (λ e. e.0) all) × (map (λ dump. dump.now) p.1.items ≡ map (λ e. e.1) all))) }
-    ensures each { (all : List ends.Ended) (races : List reports.Race) (rest : List ℕ) → reader.old.ok ≡ true → IsBodyTaken columns.now reader.old.rest all races rest → IfOk result (λ p. (p.0.items ≡ map (λ e. e.0) all) × (map (λ dump. dump.now) p.1.items ≡ map (λ e. e.1) all) × (p.2.items ≡ races) × Stands reader.new rest) }
+    ensures read { IfOk result (λ p. HasBody columns.now reader.old reader.new p.0.items p.1.items p.2.items) }
+    ensures each { EachBody columns.now reader.old reader.new result }
 {
     let count = number_line(reader, b"ends ", 0, u64::MAX);
     let (ends, dumps) = read_ends(alloc, reader, columns, count)?;

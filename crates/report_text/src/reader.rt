@@ -3,7 +3,7 @@
 ghost use Rattle.std.specs.Prelude.{◌≡◌, ℕ, List, ◌++◌, ◌&&◌, ◌==◌, true, false, length};
 ghost use Rattle.std.specs.Char.{is_ascii_digit};
 ghost use Rattle.report_text.specs.Inner.Fronts.{IsCut};
-ghost use Rattle.report_text.specs.Inner.Places.{EachBytes, EachCut, HasTaken, IsNumberFront, Stands, TakesEach, Took};
+ghost use Rattle.report_text.specs.Inner.Places.{AreBytes, EachBytes, EachCut, HasTaken, IsNumberFront, PassesEach, Stands, TakesEach, Took};
 
 use crate::front::{after, cut, number};
 use std::marker::Model;
@@ -60,7 +60,7 @@ impl<'a> Reader<'a> {
     /// Takes these bytes.
     pub fn prefix(&mut self, bytes: &[u8])
         ensures read { Took self.old self.new (λ text rest. text ≡ bytes.now ++ rest) }
-        ensures each { (rest : List ℕ) → self.old.ok ≡ true → self.old.rest ≡ bytes.now ++ rest → Stands self.new rest }
+        ensures each { PassesEach self.old self.new bytes.now }
     {
         match after(self.rest, bytes) {
             Some(rest) => self.rest = rest,
@@ -88,7 +88,7 @@ impl<'a> Reader<'a> {
 
     /// Takes so many bytes.
     pub fn bytes(&mut self, count: u64) -> &'a [u8]
-        ensures read { Took self.old self.new (λ text rest. (count ≡ length result.now) × (text ≡ result.now ++ rest)) }
+        ensures read { HasTaken self.old self.new (AreBytes count) result.now }
         ensures each { EachBytes count self.old (λ bytes rest.
             (result.now ≡ bytes) × Stands self.new rest) }
     {

@@ -6,6 +6,9 @@ use Rattle.report_text.specs.WellFormed.{IsColumn}
 use Rattle.report_text.specs.Inner.Lists.{Listed}
 use Rattle.report_text.specs.Inner.Places.{Place}
 
+abbrev pub column_by : List ℕ → ℕ → Column
+column_by name width = record { name = name; width = width }
+
 -- the text is the line of this variable, and then the rest
 abbrev pub IsColumnTaken : List ℕ → Column → List ℕ → Type 0
 IsColumnTaken text column rest = IsColumn column × (text ≡ column_line column ++ rest)

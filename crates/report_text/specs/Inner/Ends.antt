@@ -1,8 +1,12 @@
 -- Ends, as they are read.
-use Rattle.std.specs.Prelude.{◌≡◌, ℕ, ◌<◌, ◌-◌, ◌^◌, true, List, [], ◌∷◌, ◌++◌, length, slice_get, Some, codes, decimal, map, flat_map}
+use Rattle.std.specs.Prelude.{◌≡◌, ℕ, ◌<◌, ◌-◌, ◌^◌, true, List, [], ◌∷◌, ◌++◌, length, slice_get, Some, codes, decimal, map, flat_map, Vec, Result, IfOk}
+use Rattle.std.specs.Borrow.{Bor}
+use Rattle.sched_core.specs.Logs.{IsLog}
+use Rattle.sched_core.specs.LogText.{log_text}
 use Rattle.vmodel.specs.declared.history.Cause.{Cause}
 use Rattle.report_text.specs.Inner.Fronts.{lacks}
 use Rattle.report_text.specs.Inner.Lists.{Listed}
+use Rattle.report_text.specs.Inner.Places.{Place, Stands, Took}
 use Rattle.report_text.specs.Report.{Column, End}
 use Rattle.report_text.specs.WellFormed.{IsValue, IsEnd, IsEndBefore}
 use Rattle.report_text.specs.ReportText.{cause_word, end_text}
@@ -68,3 +72,31 @@ abbrev pub AreTaken : List Column → ℕ → List ℕ → List End → List (Li
 AreTaken columns count text ends dumps rest =
     (all : List Ended) × Listed (IsEnded columns) IsEndedBefore all × (length all ≡ count) × (ends ≡ map (λ e. e.0) all) × (dumps ≡ map (λ e. e.1) all)
     × (text ≡ flat_map ended_text all ++ rest)
+
+-- the text is the word of this cause and a space, and then the rest
+abbrev pub IsCauseTaken : List ℕ → Cause → List ℕ → Type 0
+IsCauseTaken text cause rest = text ≡ cause_word cause ++ 32 ∷ rest
+
+-- if the reader isn't lost here, then it wasn't there, and the word is the text of this log
+abbrev pub HasLog : Place → Place → List ℕ → List (ℕ × ℕ) → Type 0
+HasLog old new word log = new.ok ≡ true → (old.ok ≡ true) × IsLog log × (word ≡ log_text log)
+
+-- where the reader wasn't lost, each log of which the word is the text is what was answered
+abbrev pub EachLog : {E : Type 0} → Place → Place → List ℕ → Result Log E → Type 0
+EachLog old new word result = (log : List (ℕ × ℕ)) →
+    old.ok ≡ true → IsLog log → word ≡ log_text log → IfOk result (λ read. (read ≡ log) × (new.ok ≡ true))
+
+-- where the reader wasn't lost, each end that stood there with its dump is what was answered
+abbrev pub EachEnd : {E : Type 0} → List Column → Place → Place → Result (End × Bor (List ℕ)) E → Type 0
+EachEnd columns old new result = (ended : Ended) (rest : List ℕ) →
+    old.ok ≡ true → IsEndedTaken columns old.rest ended rest → IfOk result (λ p. (p.0 ≡ ended.0) × (p.1.now ≡ ended.1) × Stands new rest)
+
+-- these ends with these dumps stood there, so many
+abbrev pub HasEnds : List Column → ℕ → Place → Place → List End → List (Bor (List ℕ)) → Type 0
+HasEnds columns count old new ends dumps = Took old new (λ text rest. AreTaken columns count text ends (map (λ dump. dump.now) dumps) rest)
+
+-- where the reader wasn't lost, whatever ends stood there with their dumps, so many, are what was answered
+abbrev pub EachEnds : {D A E : Type 0} → List Column → ℕ → Place → Place → Result (Vec End A × Vec (Bor (List ℕ)) D) E → Type 0
+EachEnds columns count old new result = (all : List Ended) (rest : List ℕ) →
+    old.ok ≡ true → Listed (IsEnded columns) IsEndedBefore all → length all ≡ count → old.rest ≡ flat_map ended_text all ++ rest →
+    IfOk result (λ p. (p.0.items ≡ map (λ e. e.0) all) × (map (λ dump. dump.now) p.1.items ≡ map (λ e. e.1) all) × Stands new rest)

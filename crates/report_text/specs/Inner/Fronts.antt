@@ -1,5 +1,6 @@
 -- What stands at the front of a text, and how it is told from what follows.
-use Rattle.std.specs.Prelude.{◌≡◌, ℕ, ◌<◌, ◌^◌, ◌==◌, Bool, true, false, not, ◌||◌, List, ◌∷◌, ◌++◌, decimal}
+use Rattle.std.specs.Prelude.{◌≡◌, ℕ, ◌<◌, ◌^◌, ◌==◌, Bool, true, false, not, ◌||◌, List, ◌∷◌, ◌++◌, Option, MatchOption, decimal}
+use Rattle.std.specs.Borrow.{Bor}
 use Rattle.std.specs.List.{list_all}
 use Rattle.vast.specs.Words.{begins_name, is_in_name}
 
@@ -19,3 +20,11 @@ IsNumber word n = (n < 2 ^ 64) × (word ≡ decimal n)
 abbrev pub goes_on : Bool → ℕ → Bool
 goes_on true c = is_in_name c || (c == 46)
 goes_on false c = begins_name c
+
+-- each rest of which this holds is what was answered
+abbrev pub EachRest : (List ℕ → Type 0) → Option (Bor (List ℕ)) → Type 0
+EachRest Is result = (rest : List ℕ) → Is rest → MatchOption result ⊥ (λ r. r.now ≡ rest)
+
+-- the two sides of the first such byte are what was answered
+abbrev pub EachSides : ℕ → List ℕ → Option (Bor (List ℕ) × Bor (List ℕ)) → Type 0
+EachSides byte text result = (left right : List ℕ) → IsCut byte text left right → MatchOption result ⊥ (λ p. (p.0.now ≡ left) × (p.1.now ≡ right))

@@ -62,3 +62,11 @@ IsVersionLine text version rest = text ≡ labelled (codes "vrace report ") (dec
 
 abbrev pub IsOutcomeLine : List ℕ → Outcome → List ℕ → Type 0
 IsOutcomeLine text outcome rest = text ≡ labelled (codes "state ") (outcome_words outcome) rest
+
+-- the name of a top module
+abbrev pub IsTop : List ℕ → Type 0
+IsTop top = has_letters_of_name top ≡ true
+
+-- a report of the first version is of grain process
+abbrev pub IsGrainIn : Version → Grain → Type 0
+IsGrainIn version grain = version ≡ One → grain ≡ Process

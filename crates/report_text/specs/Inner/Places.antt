@@ -34,3 +34,19 @@ EachCut byte old P = (left right : List ℕ) → old.ok ≡ true → IsCut byte 
 -- where the reader wasn't lost, the fact holds of so many bytes that stood there, and of the rest
 abbrev pub EachBytes : ℕ → Place → (List ℕ → List ℕ → Type 0) → Type 0
 EachBytes count old P = (bytes rest : List ℕ) → old.ok ≡ true → count ≡ length bytes → old.rest ≡ bytes ++ rest → P bytes rest
+
+-- what passes the test stood there, spelled so before the rest
+abbrev pub HasSpelled : {A : Type 0} → Place → Place → (A → Type 0) → (A → List ℕ → List ℕ) → A → Type 0
+HasSpelled old new Is spelled x = Took old new (λ text rest. Is x × (text ≡ spelled x rest))
+
+-- where the reader wasn't lost, whatever passes the test and stood there, spelled so, is what was taken
+abbrev pub TakesSpelled : {A : Type 0} → Place → Place → (A → Type 0) → (A → List ℕ → List ℕ) → A → Type 0
+TakesSpelled {A} old new Is spelled x = (y : A) (rest : List ℕ) → old.ok ≡ true → Is y → old.rest ≡ spelled y rest → (x ≡ y) × Stands new rest
+
+-- where the reader wasn't lost and these bytes stood there, it stands behind them
+abbrev pub PassesEach : Place → Place → List ℕ → Type 0
+PassesEach old new bytes = (rest : List ℕ) → old.ok ≡ true → old.rest ≡ bytes ++ rest → Stands new rest
+
+-- the text is so many bytes, and then the rest
+abbrev pub AreBytes : ℕ → List ℕ → List ℕ → List ℕ → Type 0
+AreBytes count text bytes rest = (count ≡ length bytes) × (text ≡ bytes ++ rest)

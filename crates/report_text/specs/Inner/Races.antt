@@ -1,9 +1,12 @@
 -- Races, as they are read.
-use Rattle.std.specs.Prelude.{◌≡◌, ℕ, ◌<◌, ◌≤◌, ◌-◌, ◌^◌, List, ◌∷◌, ◌++◌, length, slice_get, Some, codes, decimal}
+use Rattle.std.specs.Prelude.{◌≡◌, ℕ, ◌<◌, ◌≤◌, ◌-◌, ◌^◌, List, ◌∷◌, ◌++◌, length, slice_get, Option, Some, MatchOption, Vec, Result, IfOk, true, codes, decimal}
 use Rattle.sched_core.specs.Logs.{IsLog}
 use Rattle.sched_core.specs.LogText.{log_text}
 use Rattle.report_text.specs.Report.{Column, Race}
-use Rattle.report_text.specs.ReportText.{line, spaced, race_text}
+use Rattle.report_text.specs.ReportText.{line, spaced, race_text, races_text, value_lines}
+use Rattle.report_text.specs.declared.races.RaceLine.{RaceLine}
+use Rattle.report_text.specs.Inner.Lists.{Listed}
+use Rattle.report_text.specs.Inner.Places.{Place, Stands, Took}
 use Rattle.report_text.specs.WellFormed.{IsValue, IsRace, IsRaceBefore, IsTextLess}
 
 -- a value and the log of a run that shows it
@@ -46,3 +49,45 @@ pub record IsRaceLine (columns : List Column) (text : List ℕ) (time variable c
   pub two : 2 ≤ count
   pub few : count < 2 ^ 64
   pub whole : text ≡ codes "race " ++ (decimal time ++ 32 ∷ (column.name ++ 32 ∷ (decimal count ++ 10 ∷ rest)))
+
+-- so many lines of values of this width stood there
+abbrev pub HasShown : ℕ → ℕ → Place → Place → List Shown → Type 0
+HasShown width count old new values =
+    Took old new (λ text rest. Listed (IsShown width) IsShownBefore values × (length values ≡ count) × (text ≡ value_lines values ++ rest))
+
+-- where the reader wasn't lost, whatever lines of values stood there, so many, are what was answered
+abbrev pub EachShown : {A E : Type 0} → ℕ → ℕ → Place → Place → Result (Vec Shown A) E → Type 0
+EachShown width count old new result = (all : List Shown) (rest : List ℕ) →
+    old.ok ≡ true → Listed (IsShown width) IsShownBefore all → length all ≡ count → old.rest ≡ value_lines all ++ rest →
+    IfOk result (λ values. (values.items ≡ all) × Stands new rest)
+
+-- the variable of this name stands at this place and has this width
+abbrev pub IsFound : List Column → List ℕ → ℕ × ℕ → Type 0
+IsFound columns name found = (column : Column) × (slice_get columns found.0 ≡ Some column) × (column.name ≡ name) × (found.1 ≡ column.width)
+
+-- each variable of this name is what was answered
+abbrev pub EachFound : List Column → List ℕ → Option (ℕ × ℕ) → Type 0
+EachFound columns name result = (variable : ℕ) (column : Column) →
+    slice_get columns variable ≡ Some column → column.name ≡ name → MatchOption result ⊥ (λ p. (p.0 ≡ variable) × (p.1 ≡ column.width))
+
+-- the text is the first line of a race of a variable of this width, and then the rest
+abbrev pub IsLineOf : List Column → List ℕ → RaceLine → List ℕ → Type 0
+IsLineOf columns text line rest =
+    (column : Column) × (line.width ≡ column.width) × IsRaceLine columns text line.time line.variable line.count column rest
+
+-- where the reader wasn't lost, whatever first line of a race stood there is what was answered
+abbrev pub EachLine : List Column → Place → Place → RaceLine → Type 0
+EachLine columns old new line = (time variable count : ℕ) (column : Column) (rest : List ℕ) →
+    old.ok ≡ true → IsRaceLine columns old.rest time variable count column rest →
+    (line.time ≡ time) × (line.variable ≡ variable) × (line.width ≡ column.width) × (line.count ≡ count) × Stands new rest
+
+-- so many races of these variables stood there
+abbrev pub HasRaces : List Column → ℕ → Place → Place → List Race → Type 0
+HasRaces columns count old new races =
+    Took old new (λ text rest. Listed (IsCounted columns) IsRaceBefore races × (length races ≡ count) × (text ≡ races_text columns races ++ rest))
+
+-- where the reader wasn't lost, whatever races stood there, so many, are what was answered
+abbrev pub EachRaces : {A E : Type 0} → List Column → ℕ → Place → Place → Result (Vec Race A) E → Type 0
+EachRaces columns count old new result = (all : List Race) (rest : List ℕ) →
+    old.ok ≡ true → Listed (IsCounted columns) IsRaceBefore all → length all ≡ count → old.rest ≡ races_text columns all ++ rest →
+    IfOk result (λ races. (races.items ≡ all) × Stands new rest)
