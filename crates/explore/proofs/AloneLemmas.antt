@@ -17,17 +17,18 @@ use Rattle.basis.proofs.Bools.{or_first}
 use Rattle.basis.proofs.Lists.{listed_place}
 use Rattle.statebook.proofs.CoreLemmas.{closed_listed, sound_add, sound_nothing}
 use Rattle.statebook.proofs.ReachLemmas.{sound_reached}
-use Rattle.explore.specs.Found.{AllFewest, AreFound, HasEntries, IsListedMark, SomeRunExceeds}
+use Rattle.statebook.specs.Ways.{SomeRunExceeds}
+use Rattle.explore.specs.Found.{AllFewest, AreFound, HasEntries, IsListedMark}
 use Rattle.explore.specs.Told.{IsBounded, ListsExactly, SomeWayGoesPast, TellsOfBook, WentThrough}
 use Rattle.explore.specs.Inner.Exploring.{AllFinished, AllVisited, Closes, CutsShort, IsComplete, IsUnderWay, StoppedFull}
 use Rattle.explore.specs.declared.classes.Full.{Full}
 use Rattle.explore.specs.declared.findings.Findings.{Findings}
-use Rattle.explore.specs.declared.findings.Reason.TheVariants.{Entries, Steps}
+use Rattle.statebook.specs.declared.reason.Reason.TheVariants.{Entries, Steps}
 use Rattle.explore.specs.declared.findings.Status.{Status}
 use Rattle.explore.specs.declared.findings.Status.TheVariants.{Exhausted, Cut}
 use Rattle.explore.proofs.ClassLemmas.{all_lead_on, fewer_entries}
 use Rattle.explore.proofs.MarkLemmas.{has_no_shorter, lists_each}
-use Rattle.explore.proofs.NextLemmas.{exceeds}
+use Rattle.statebook.proofs.NextLemmas.{exceeds}
 
 -- the root's entry
 root_entry : {S : Type 0} (r : Rules S) (limits : Limits) (e : Entry S) → r.same e.state r.first ≡ true → e.budget ≡ limits.depart → e.log ≡ [] → e.steps ≡ 0 → IsEntry r limits.depart limits.steps e

@@ -1,6 +1,5 @@
 pub mod WayLemmas
 pub mod WaysLemmas
-pub mod NextLemmas
 pub mod VisitLemmas
 pub mod ClassLemmas
 pub mod CloseLemmas

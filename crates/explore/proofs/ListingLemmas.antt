@@ -19,7 +19,7 @@ use Rattle.shardbook.proofs.ScanLemmas.{EachBelow, each_more}
 use Rattle.shardbook.specs.Closing.{Closes, Closing}
 use Rattle.shardbook.specs.Sights.{Sight, entries_of}
 use Rattle.explore.specs.Found.{AllFewest, AreFound, IsListedMark}
-use Rattle.explore.specs.Inner.Exploring.{MayBeAdded}
+use Rattle.statebook.specs.Inner.Forced.{MayBeAdded}
 use Rattle.explore.specs.Inner.Listing.{AreLong, IsShort, KeepsListed, ListsEach, ListsEntry}
 use Rattle.workpool.specs.Searches.{IsQuestOf}
 use Rattle.explore.proofs.InsertLemmas.{Inserted, inserted, same_value, value_at}

@@ -1,18 +1,8 @@
 -- What workers leave: the places that are read, and why they stopped short.
-use Rattle.std.proofs.Common.{◌≡◌, ℕ, ◌+◌, List, [], ◌∷◌, ◌++◌, length, length-append, Option, Some, arith, ap, sym, subst, inl, inr}
+use Rattle.std.proofs.Common.{◌≡◌, ℕ, ◌+◌, List, [], ◌∷◌, ◌++◌, length, length-append, arith, ap, sym, subst, inl, inr}
 use Rattle.basis.proofs.Lists.{last_or_before}
-use Rattle.sched_core.specs.Rules.{Rules}
-use Rattle.statebook.specs.declared.limits.Limits.{Limits}
 use Rattle.shardbook.specs.Sights.{Sight}
-use Rattle.workpool.specs.declared.ran.Reason.{Reason}
-use Rattle.workpool.specs.declared.ran.Reason.TheVariants.{Steps}
-use Rattle.workpool.specs.Ways as pool
 use Rattle.explore.specs.Inner.Listing.{InPlace}
-use Rattle.explore.specs.Inner.Shared.{TellsWhy}
-
--- the same words of both crates
-pub tells_why : {S : Type 0} (r : Rules S) (limits : Limits) (cut : Option Reason) → (cut ≡ Some Steps → pool.SomeRunExceeds r limits) → TellsWhy r limits cut
-tells_why r limits cut told = λ t. (let x = told t in record { log = x.log; steps = x.steps; short = x.short; run = x.run; more = x.more })
 
 -- the places before one are read, in order
 pub record SeenUpTo {S : Type 0} (all : List (Sight S)) (place : ℕ) : Type 0 where

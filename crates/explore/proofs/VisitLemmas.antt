@@ -12,7 +12,8 @@ use Rattle.basis.proofs.Lists.{stands_in_front, stands_last, last_or_before}
 use Rattle.statebook.specs.declared.limits.Limits.{Limits}
 use Rattle.statebook.proofs.CoreLemmas.{sound_add, sound_finish}
 use Rattle.explore.specs.Told.{AllChoicesLeadOn, LeadsOn, SomeChoiceGoesPast}
-use Rattle.explore.specs.Inner.Exploring.{AddsFew, BookGrows, Follows, IsSameOrAdded, IsUnderWay, LeadsOnAt}
+use Rattle.statebook.specs.Inner.Forced.{Follows}
+use Rattle.explore.specs.Inner.Exploring.{AddsFew, BookGrows, IsSameOrAdded, IsUnderWay, LeadsOnAt}
 
 pub found_new : {S : Type 0} (same : S → S → Bool) → IsEquivalence same → (old : Book S) (e : Entry S) (new : Book S) (place : ℕ) → place ≡ length old.entries → new ≡ add old e → IsFoundAt same new.entries e place
 found_new {S} same eq old e new place at grown =

@@ -4,30 +4,14 @@ use Rattle.statebook.specs.declared.entry.Entry.{Entry}
 use Rattle.std.proofs.lemmas.Bool.{cases_lt}
 use Rattle.sched_core.specs.Rules.{Rules, IsLawful}
 use Rattle.statebook.specs.Stations.{is_station, forced}
-use Rattle.statebook.proofs.RunLemmas.{is_station_same, width_between}
+use Rattle.statebook.proofs.RunLemmas.{is_station_same}
 use Rattle.statebook.specs.declared.limits.Limits.{Limits}
-use Rattle.explore.specs.Told.{GoesPast}
-use Rattle.explore.specs.Inner.Exploring.{ComesTo}
-use Rattle.explore.specs.Inner.Ways.{AllCome, AllGoPast, LeadsTo, Passes}
+use Rattle.statebook.specs.Ways.{GoesPast}
+use Rattle.statebook.specs.Inner.Forced.{ComesTo, Passes}
+use Rattle.explore.specs.Inner.Ways.{AllCome, AllGoPast, LeadsTo}
 use Rattle.explore.specs.declared.search.Landmark.{Landmark}
 use Rattle.basis.proofs.Lists.{last_or_before}
-use Rattle.explore.proofs.NextLemmas.{forced_same}
-
-pub passes_one : {S : Type 0} (r : Rules S) → IsLawful r → (s t u : S) (m : ℕ) → Passes r s t m → is_station r t ≡ false → r.same u (r.after t 0) ≡ true → Passes r s u (suc m)
-passes_one r law s t u m p none e =
-    let one : r.width t ≡ 1 = width_between r t none in
-    let step : r.same (r.after t 0) (r.after (forced r s m) 0) ≡ true = law.after_same t (forced r s m) 0 p.same (omega arith) in
-    let here : is_station r (forced r s m) ≡ false = sym (is_station_same r law t (forced r s m) p.same) ∙ none in
-    record {
-      same = law.transitive u (r.after t 0) (forced r s (suc m)) e step;
-      passes = λ j lt. elim (cases_lt j m) [
-        | inl less ↦ p.passes j less
-        | inr ge ↦ (
-            let P : ℕ → Type 0 = λ i. is_station r (forced r s i) ≡ false in
-            let at : m ≡ j = omega arith in
-            subst P at here)
-      ];
-    }
+use Rattle.statebook.proofs.NextLemmas.{forced_same}
 
 -- forced steps after forced steps
 forced_on : {S : Type 0} (r : Rules S) (s : S) (m i : ℕ) → forced r (forced r s m) i ≡ forced r s (m + i)
@@ -80,10 +64,6 @@ past_on r law s t m taken n limit p count within past j le =
 -- a state has come to one that is equal in no step
 pub comes_itself : {S : Type 0} (r : Rules S) (s t : S) → r.same t s ≡ true → Passes r s t 0
 comes_itself r s t e = record { same = e; passes = λ j lt. absurd (omega (arith, lt)) }
-
--- from equal states the way goes past the limit alike
-pub past_same : {S : Type 0} (r : Rules S) → IsLawful r → (s t : S) (taken limit : ℕ) → r.same t s ≡ true → taken ≤ limit → GoesPast r t taken limit → GoesPast r s taken limit
-past_same r law s t taken limit e within past = past_on r law s t 0 taken taken limit (comes_itself r s t e) (omega arith) within past
 
 -- equal states lead to the same
 pub leads_same : {S : Type 0} (r : Rules S) → IsLawful r → (entries : List (Entry S)) (s t : S) (steps : ℕ) (station : Option ℕ) → r.same t s ≡ true → LeadsTo r entries t steps station → LeadsTo r entries s steps station

@@ -11,7 +11,8 @@ use Rattle.statebook.specs.declared.entry.Entry.{Entry}
 use Rattle.statebook.specs.Stations.{forced}
 use Rattle.statebook.specs.Books.{Book, IsFoundAt}
 use Rattle.statebook.specs.declared.limits.Limits.{Limits}
-use Rattle.explore.specs.Inner.Exploring.{ComesTo, IsSameOrAdded}
+use Rattle.statebook.specs.Inner.Forced.{ComesTo}
+use Rattle.explore.specs.Inner.Exploring.{IsSameOrAdded}
 use Rattle.explore.specs.Inner.Ways.{AllCome, AllGoPast, AllLead, AreRemembered, IsKnownAs, LeadsTo}
 use Rattle.explore.proofs.InsertLemmas.{Inserted, inserted}
 use Rattle.explore.proofs.WayLemmas.{leads_same}

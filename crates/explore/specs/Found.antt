@@ -5,8 +5,9 @@ use Rattle.statebook.specs.Covered.{IsCovered}
 use Rattle.statebook.specs.ExplorerCore.{IsEntry}
 use Rattle.statebook.specs.declared.entry.Entry.{Entry}
 use Rattle.statebook.specs.declared.limits.Limits.{Limits}
+use Rattle.statebook.specs.Ways.{SomeRunExceeds}
 use Rattle.explore.specs.declared.findings.Findings.{Findings}
-use Rattle.explore.specs.declared.findings.Reason.TheVariants.{Entries, Steps}
+use Rattle.statebook.specs.declared.reason.Reason.TheVariants.{Entries, Steps}
 use Rattle.explore.specs.declared.findings.Status.TheVariants.{Exhausted, Cut}
 
 -- The pair is a mark with its log: the run under the log is within the limits, takes all that the log
@@ -39,14 +40,6 @@ NoneFewer r s d = (log : List (ℕ × ℕ)) (n : ℕ) → IsRun r log n → r.sa
 -- No run at all that reaches a listed mark has fewer departures than its log.
 abbrev pub AllFewest : {S : Type 0} → Rules S → List (S × List (ℕ × ℕ)) → Type 0
 AllFewest {S} r marks = (i : ℕ) (found : S × List (ℕ × ℕ)) → slice_get marks i ≡ Some found → NoneFewer r found.0 (length found.1)
-
--- Some run within the limit of departures takes more steps than the limit.
-pub record SomeRunExceeds {S : Type 0} (r : Rules S) (limits : Limits) : Type 0 where
-  pub log : List (ℕ × ℕ)
-  pub steps : ℕ
-  pub short : length log ≤ limits.depart
-  pub run : IsRun r log steps
-  pub more : limits.steps < steps
 
 -- The entries aren't alike in state and budget.
 abbrev pub Differ : {S : Type 0} → Rules S → Entry S → Entry S → Type 0

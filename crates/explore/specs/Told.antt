@@ -1,31 +1,19 @@
 -- What an answer tells of the book that the search left: whatever the status, the marks are read from such a book.
-use Rattle.std.specs.Prelude.{◌≡◌, ℕ, ◌+◌, ◌<◌, ◌≤◌, ◌⊎◌, true, false, List, length, slice_get, Some}
+use Rattle.std.specs.Prelude.{◌≡◌, ℕ, ◌+◌, ◌<◌, ◌≤◌, ◌⊎◌, true, List, length, slice_get, Some}
 use Rattle.sched_core.specs.Rules.{Rules}
 use Rattle.statebook.specs.Books.{Book, IsRootAt, IsUndominated}
 use Rattle.statebook.specs.ExplorerCore.{IsMet, IsReached, choices_of}
-use Rattle.statebook.specs.Stations.{is_station, forced}
 use Rattle.statebook.specs.declared.entry.Entry.{Entry}
 use Rattle.statebook.specs.declared.limits.Limits.{Limits}
+use Rattle.statebook.specs.Ways.{Allows, ChoiceGoesPast}
 use Rattle.explore.specs.declared.findings.Findings.{Findings}
-use Rattle.explore.specs.declared.findings.Reason.TheVariants.{Entries, Steps}
+use Rattle.statebook.specs.declared.reason.Reason.TheVariants.{Entries, Steps}
 use Rattle.explore.specs.declared.findings.Status.{Status}
 use Rattle.explore.specs.declared.findings.Status.TheVariants.{Exhausted, Cut}
-
--- From s, after some steps, the forced way has no station up to the step limit.
-abbrev pub GoesPast : {S : Type 0} → Rules S → S → ℕ → ℕ → Type 0
-GoesPast r s taken limit = (j : ℕ) → taken + j ≤ limit → is_station r (forced r s j) ≡ false
-
--- So it is after choice c of the entry.
-abbrev pub ChoiceGoesPast : {S : Type 0} → Rules S → Limits → Entry S → ℕ → Type 0
-ChoiceGoesPast r limits e c = GoesPast r (r.after e.state c) (e.steps + 1) limits.steps
 
 -- After choice c the way leads to an entry that dominates its next station, or goes past the step limit.
 abbrev pub LeadsOn : {S : Type 0} → Rules S → Limits → List (Entry S) → Entry S → ℕ → Type 0
 LeadsOn r limits entries e c = ((j : ℕ) × IsMet r entries e c j) ⊎ ChoiceGoesPast r limits e c
-
--- The entry's budget allows choice c.
-abbrev pub Allows : {S : Type 0} → Rules S → Entry S → ℕ → Type 0
-Allows r e c = c < choices_of (r.width e.state) e.budget
 
 -- Some choice that the entry's budget allows goes past the step limit: the run under the entry's log that goes on by
 -- this choice, and then by choice 0 alone, comes to no further station up to that limit.

@@ -7,13 +7,13 @@ ghost use Rattle.explore.specs.Told.{TellsOfBook};
 ghost use Rattle.explore.specs.Inner.Exploring.{Closes, IsComplete, IsUnderWay, StoppedFull};
 
 use crate::classes::{Full, visit_all};
-use crate::findings::{Findings, Reason, Status};
+use crate::findings::{Findings, Status};
 use crate::marks::list_marks;
 use crate::search::Search;
 use basis::{NoMemory, OrMemory};
 use indexmap::IndexMap;
 use sched_core::{Log, Space};
-use statebook::{Entry, Limits, PlainBook};
+use statebook::{Entry, Limits, PlainBook, Reason};
 use std::alloc::Global;
 use std::hash::Hash;
 

@@ -1,24 +1,9 @@
 // What an explorer answers: the marks, and whether they are all.
 
-use basis::NoMemory;
 use indexmap::IndexMap;
 use sched_core::Log;
+use statebook::Reason;
 use std::hash::Hash;
-
-/// Why an explorer stopped short: a growth was refused; there were as many entries as the limit
-/// before a job was taken; or a run takes more steps than the limit. The first of these in this
-/// order is told.
-///
-/// That it is true is proved: nobody has a `NoMemory` who wasn't refused a growth, and the other two
-/// are said only where they hold, `Steps` where a way from an entry of the book goes past the limit. So
-/// is the order of these two: where `Steps` is told no job was left and there were fewer entries than
-/// the limit.
-#[derive(Clone, Copy, Debug, PartialEq, Eq)]
-pub enum Reason {
-    Memory(NoMemory),
-    Entries,
-    Steps,
-}
 
 /// Whether the list of marks is whole. It is proved that `Exhausted` is said only where it is.
 #[derive(Clone, Copy, Debug, PartialEq, Eq)]

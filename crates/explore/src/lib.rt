@@ -16,5 +16,6 @@ mod ways;
 mod workers;
 
 pub use alone::explore_alone;
-pub use findings::{Findings, Reason, Status};
+pub use findings::{Findings, Status};
+pub use statebook::Reason;
 pub use workers::explore;

@@ -5,7 +5,7 @@ ghost use Rattle.indexmap.specs.IndexMap.{IsUnique};
 ghost use Rattle.shardbook.specs.Sights.{entries_of};
 ghost use Rattle.workpool.specs.Searches.{IsQuestOf};
 ghost use Rattle.explore.specs.Found.{AreFound};
-ghost use Rattle.explore.specs.Inner.Exploring.{MayBeAdded};
+ghost use Rattle.statebook.specs.Inner.Forced.{MayBeAdded};
 ghost use Rattle.explore.specs.Inner.Listing.{AreLong, IsShort, KeepsListed, ListsEach, ListsEntry};
 
 use crate::marks::note;

@@ -3,9 +3,9 @@
 ghost use Rattle.std.specs.Prelude.{◌≡◌, ◌<◌, ◌≤◌, [], IfOk, IfSome, IfNone};
 ghost use Rattle.sched_core.specs.Rules.{NamesBelow};
 ghost use Rattle.statebook.specs.ExplorerCore.{budget_after};
-ghost use Rattle.explore.specs.Told.{Allows, ChoiceGoesPast};
-ghost use Rattle.explore.specs.Inner.Exploring.{Follows, MayBeAdded, log_of};
-ghost use Rattle.explore.specs.Inner.Ways.{AllComeTo, AllGoPast, IfPast, IfReached, IsSearching};
+ghost use Rattle.statebook.specs.Ways.{Allows, ChoiceGoesPast};
+ghost use Rattle.statebook.specs.Inner.Forced.{Follows, IfPast, IfReached, MayBeAdded, log_of};
+ghost use Rattle.explore.specs.Inner.Ways.{AllComeTo, AllGoPast, IsSearching};
 
 use crate::search::{Landmark, Search};
 use crate::way::to_station;

@@ -4,7 +4,8 @@ ghost use Rattle.std.specs.Prelude.{◌≡◌, ℕ, ◌+◌, ◌<◌, ◌≤◌,
 ghost use Rattle.statebook.specs.ExplorerCore.{choices_of};
 ghost use Rattle.statebook.specs.Books.{IsFinished, IsFoundAt};
 ghost use Rattle.explore.specs.Inner.Exploring.{AddsFew, AllowsAt, CutsShortAt, GrowsFrom, IsMetAt, IsSameOrAdded, LeadsOnAt, width_limit};
-ghost use Rattle.explore.specs.Inner.Ways.{IfPast, IfReached, IsSearching, PastFrom};
+ghost use Rattle.statebook.specs.Inner.Forced.{IfPast, IfReached};
+ghost use Rattle.explore.specs.Inner.Ways.{IsSearching, PastFrom};
 
 use crate::next::next_entry;
 use crate::search::Search;

@@ -2,9 +2,9 @@
 
 ghost use Rattle.std.specs.Prelude.{◌≡◌, ◌<◌, ◌≤◌, ◌↔◌, ◌+◌, ◌-◌, [], true, IfOk, IfSome, IfNone, IsTrue, OnErr};
 ghost use Rattle.statebook.specs.Stations.{is_station};
-ghost use Rattle.explore.specs.Told.{GoesPast};
-ghost use Rattle.explore.specs.Inner.Exploring.{ComesTo};
-ghost use Rattle.explore.specs.Inner.Ways.{AllCome, AllGoPast, IfPast, IfReached, IsAhead, IsForced, IsSearching};
+ghost use Rattle.statebook.specs.Ways.{GoesPast};
+ghost use Rattle.statebook.specs.Inner.Forced.{ComesTo, IfPast, IfReached};
+ghost use Rattle.explore.specs.Inner.Ways.{AllCome, AllGoPast, IsAhead, IsForced, IsSearching};
 
 use crate::search::{Landmark, Search};
 use crate::ways::known;

@@ -8,15 +8,15 @@ ghost use Rattle.workpool.specs.Searches.{IsQuestOf};
 ghost use Rattle.explore.specs.Found.{ListsAll, ListsFewest, ListsFound, TellsSteps};
 ghost use Rattle.explore.specs.Inner.Listing.{InPlace};
 ghost use Rattle.explore.specs.Inner.Shared.{StopsForEntries, StopsForSteps, TellsWhy};
-ghost use Rattle.explore.specs.Inner.Ways.{IfReached};
+ghost use Rattle.statebook.specs.Inner.Forced.{IfReached};
 
 use crate::alone::explore_alone;
-use crate::findings::{Findings, Reason, Status};
+use crate::findings::{Findings, Status};
 use crate::listing::list_seen;
 use basis::NoMemory;
 use sched_core::Space;
 use shardbook::{Book, Naming, Quest, Seen, Unopened};
-use statebook::Limits;
+use statebook::{Limits, Reason};
 use std::alloc::Global;
 use std::hash::Hash;
 use std::marker::Brand;
@@ -27,25 +27,13 @@ use workpool::{Gate, Ran, run_workers};
 /// The shards of a book that workers share.
 const SHARDS: usize = 16;
 
-// The same reason, as findings tell it.
-fn reason_of(cut: workpool::Reason) -> Reason
-    ensures entries { result ≡ Reason.Entries → StopsForEntries (Some cut) }
-    ensures steps { result ≡ Reason.Steps → StopsForSteps (Some cut) }
-{
-    match cut {
-        workpool::Reason::Memory(refused) => Reason::Memory(refused),
-        workpool::Reason::Entries => Reason::Entries,
-        workpool::Reason::Steps => Reason::Steps,
-    }
-}
-
 // What is to be said of entries that were seen: exhausted where they close, else the reason for which
 // the workers stopped short; None where there is none.
 fn status_of<S: Eq + Hash + Drop, Q: Quest<S>, B: Naming>(
     book: &Book<S, Q, B>,
     root: &Seen<S, Q, B>,
     all: &[Seen<S, Q, B>],
-    cut: Option<workpool::Reason>,
+    cut: Option<Reason>,
 ) -> Option<Status>
     ensures closed { result ≡ Some Status.Exhausted → Closes Q.rules Q.depart Q.steps root.now all.now }
     ensures entries { result ≡ Some (Status.Cut Reason.Entries) → StopsForEntries cut }
@@ -55,7 +43,7 @@ fn status_of<S: Eq + Hash + Drop, Q: Quest<S>, B: Naming>(
         return Some(Status::Exhausted);
     }
     match cut {
-        Some(reason) => Some(Status::Cut(reason_of(reason))),
+        Some(reason) => Some(Status::Cut(reason)),
         None => None,
     }
 }
@@ -69,7 +57,7 @@ fn read_findings<P: Space, Q: Quest<P::State>, B: Naming>(
     book: &Book<P::State, Q, B>,
     root: &Seen<P::State, Q, B>,
     all: &[Seen<P::State, Q, B>],
-    cut: Option<workpool::Reason>,
+    cut: Option<Reason>,
 ) -> Result<Option<Findings<P::State>>, NoMemory>
     requires quest { IsQuestOf Q.rules Q.depart Q.steps (P.rules space.now) limits.now }
     requires steps { TellsWhy (P.rules space.now) limits.now cut }
@@ -106,15 +94,13 @@ fn all_seen<S: Eq + Hash + Drop, Q: Quest<S>, B: Naming>(
 }
 
 // Where the root's entry wasn't met: want of memory, if that is why.
-fn without_root<S: Eq + Hash>(
-    cut: Option<workpool::Reason>,
-) -> Result<Option<Findings<S>>, NoMemory>
+fn without_root<S: Eq + Hash>(cut: Option<Reason>) -> Result<Option<Findings<S>>, NoMemory>
     ensures { IfReached result (λ _. ⊥) }
 {
     match cut {
-        Some(workpool::Reason::Memory(refused)) => Err(refused),
-        Some(workpool::Reason::Entries) => Ok(None),
-        Some(workpool::Reason::Steps) => Ok(None),
+        Some(Reason::Memory(refused)) => Err(refused),
+        Some(Reason::Entries) => Ok(None),
+        Some(Reason::Steps) => Ok(None),
         None => Ok(None),
     }
 }

@@ -2,3 +2,5 @@ pub mod RunLemmas
 pub mod CoreLemmas
 pub mod BookLemmas
 pub mod ReachLemmas
+pub mod NextLemmas
+pub mod WayLemmas

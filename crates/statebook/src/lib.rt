@@ -7,8 +7,10 @@ mod book;
 mod entry;
 mod law;
 mod limits;
+mod reason;
 
 pub use book::{Done, Met, PlainBook};
 pub use entry::Entry;
 pub use law::{book_stays_sound, closed_covers};
 pub use limits::Limits;
+pub use reason::Reason;

@@ -4,7 +4,7 @@ use Rattle.statebook.specs.declared.limits.Limits.{Limits}
 use Rattle.explore.specs.declared.findings.Findings.{Findings}
 use Rattle.explore.specs.declared.findings.Status.{Status}
 use Rattle.explore.specs.declared.findings.Status.TheVariants.{Exhausted, Cut}
-use Rattle.explore.specs.declared.findings.Reason.TheVariants.{Memory, Entries, Steps}
+use Rattle.statebook.specs.declared.reason.Reason.TheVariants.{Memory, Entries, Steps}
 use Rattle.explore.specs.Found.{ListsAll, TellsEntries, TellsSteps}
 use Rattle.vmodel.specs.Run.{Setting}
 use Rattle.vmachine.specs.declared.standing.Standing.{Standing}

@@ -4,7 +4,7 @@ use Rattle.statebook.specs.declared.limits.Limits.{Limits}
 use Rattle.explore.specs.declared.findings.Findings.{Findings}
 use Rattle.explore.specs.declared.findings.Status.{Status}
 use Rattle.explore.specs.declared.findings.Status.TheVariants.{Exhausted, Cut}
-use Rattle.explore.specs.declared.findings.Reason.TheVariants.{Memory, Entries, Steps}
+use Rattle.statebook.specs.declared.reason.Reason.TheVariants.{Memory, Entries, Steps}
 use Rattle.vbits.specs.Vectors.{Vector}
 use Rattle.vmodel.specs.Run.{Setting, rules_of}
 use Rattle.vmachine.specs.declared.standing.Standing.{Standing}
@@ -13,7 +13,8 @@ use Rattle.report_text.specs.declared.report.Outcome.{Outcome}
 use Rattle.report_text.specs.declared.report.Outcome.TheVariants as outcome
 use Rattle.report_text.specs.declared.report.Version.TheVariants.{Two}
 use Rattle.report_text.specs.Report.{Race, Report}
-use Rattle.explore.specs.Found.{HasEntries, SomeRunExceeds}
+use Rattle.statebook.specs.Ways.{SomeRunExceeds}
+use Rattle.explore.specs.Found.{HasEntries}
 use Rattle.report_text.specs.WellFormed.{Each, EachTwo, IsEndBefore}
 use Rattle.vreport.specs.Ends.{IsTrueEnd, ListsEveryEnd}
 use Rattle.vreport.specs.Truth.{IsTrueHead}

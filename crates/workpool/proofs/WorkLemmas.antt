@@ -14,7 +14,7 @@ use Rattle.statebook.specs.declared.entry.Entry.{Entry}
 use Rattle.shardbook.specs.Finishes.{HasMetAll, IsMetBy}
 use Rattle.shardbook.specs.Sights.{Sight, entries_of}
 use Rattle.workpool.specs.Tallies.{Seated}
-use Rattle.workpool.specs.Inner.Forced.{Follows}
+use Rattle.statebook.specs.Inner.Forced.{Follows}
 use Rattle.workpool.specs.Inner.Works.{IsCounted, IsSamePlace, IsSeated}
 use Rattle.workpool.specs.declared.work.Work.{Work}
 

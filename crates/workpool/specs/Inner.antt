@@ -2,7 +2,6 @@
 pub mod Sums
 pub mod Rules
 pub mod Fair
-pub mod Forced
 pub mod Works
 pub mod Joined
 pub mod Rooms

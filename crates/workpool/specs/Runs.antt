@@ -5,8 +5,8 @@ use Rattle.sched_core.specs.Rules.{Rules}
 use Rattle.statebook.specs.declared.limits.Limits.{Limits}
 use Rattle.workpool.specs.Inner.Sums.{times}
 use Rattle.workpool.specs.Searches.{SomeRunComesBack}
-use Rattle.workpool.specs.declared.ran.Reason.{Reason}
-use Rattle.workpool.specs.declared.ran.Reason.TheVariants.{Memory, Entries}
+use Rattle.statebook.specs.declared.reason.Reason.{Reason}
+use Rattle.statebook.specs.declared.reason.Reason.TheVariants.{Memory, Entries}
 
 -- Memory was refused.
 abbrev pub IsRefused : Option Reason → Type 0

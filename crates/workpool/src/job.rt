@@ -5,8 +5,8 @@ ghost use Rattle.statebook.specs.ExplorerCore.{choices_of};
 ghost use Rattle.shardbook.specs.Finishes.{HasMetAll, IsMetBy};
 ghost use Rattle.shardbook.specs.Sights.{entries_of};
 ghost use Rattle.workpool.specs.Searches.{IsQuestOf};
-ghost use Rattle.workpool.specs.Ways.{Allows, ChoiceGoesPast, SomeRunExceeds};
-ghost use Rattle.workpool.specs.Inner.Forced.{IfPast, IfReached, IsFirst, MayBeAdded};
+ghost use Rattle.statebook.specs.Ways.{Allows, ChoiceGoesPast, SomeRunExceeds};
+ghost use Rattle.statebook.specs.Inner.Forced.{IfPast, IfReached, IsFirst, MayBeAdded};
 ghost use Rattle.workpool.specs.Inner.Works.{IsCounted, IsSamePlace, IsSeated, StaysCounted, TellsPast};
 
 use crate::meet::meet;

@@ -24,7 +24,7 @@ mod workers;
 
 pub use deque::{Owner, Thief, ends, settle};
 pub use gate::{Gate, OpenGate};
-pub use ran::{Ran, Reason};
+pub use ran::Ran;
 pub use ring::{Seat, new_ring, settle_all};
 pub use run::run_workers;
 pub use tally::{SEATS, Tally, TallySeat};

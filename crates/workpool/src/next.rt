@@ -3,8 +3,8 @@
 ghost use Rattle.std.specs.Prelude.{◌≡◌, ◌≤◌, IfOk};
 ghost use Rattle.sched_core.specs.Rules.{NamesBelow};
 ghost use Rattle.statebook.specs.ExplorerCore.{budget_after};
-ghost use Rattle.workpool.specs.Ways.{Allows, ChoiceGoesPast};
-ghost use Rattle.workpool.specs.Inner.Forced.{Follows, IfPast, IfReached, IsFirst, MayBeAdded, log_of};
+ghost use Rattle.statebook.specs.Ways.{Allows, ChoiceGoesPast};
+ghost use Rattle.statebook.specs.Inner.Forced.{Follows, IfPast, IfReached, IsFirst, MayBeAdded, log_of};
 
 use crate::way::walk;
 use basis::NoMemory;

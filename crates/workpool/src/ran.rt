@@ -1,16 +1,7 @@
 // What is left when the workers of a search have ended.
 
-use basis::NoMemory;
 use shardbook::{Naming, Pass, Quest, Seen};
-
-/// Why workers stopped short: a growth was refused; there were as many entries as the limit; or a
-/// run takes more steps than the limit. The first of these in this order is told.
-#[derive(Clone, Copy, Debug, PartialEq, Eq)]
-pub enum Reason {
-    Memory(NoMemory),
-    Entries,
-    Steps,
-}
+use statebook::Reason;
 
 /// What is left when the workers of a search have ended: how many entries they opened and shut; how
 /// many jobs they gave and took; why they stopped short, if they did; what shows the root's entry;

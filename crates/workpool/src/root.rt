@@ -2,7 +2,7 @@
 
 ghost use Rattle.std.specs.Prelude.{◌≡◌, IfNone, IfOk, IfSome};
 ghost use Rattle.workpool.specs.Searches.{IsQuestOf, IsRootOf, SomeRunComesBack};
-ghost use Rattle.workpool.specs.Inner.Forced.{IsFirst};
+ghost use Rattle.statebook.specs.Inner.Forced.{IsFirst};
 ghost use Rattle.workpool.specs.Inner.Works.{IsSamePlace, IsSeated, StaysCounted};
 
 use crate::meet::meet;

@@ -4,14 +4,14 @@ ghost use Rattle.std.specs.Prelude.{◌≡◌, ℕ, ◌+◌, ◌<◌, ◌≤◌,
 ghost use Rattle.workpool.specs.Rings.{IsRing};
 ghost use Rattle.workpool.specs.Runs.{AreGiven, AreJobs, HasNoRoot, IsRefused, TellsEntries};
 ghost use Rattle.workpool.specs.Searches.{IsQuestOf, IsRootOf};
-ghost use Rattle.workpool.specs.Ways.{SomeRunExceeds};
-ghost use Rattle.workpool.specs.Inner.Forced.{IsFirst};
+ghost use Rattle.statebook.specs.Ways.{SomeRunExceeds};
+ghost use Rattle.statebook.specs.Inner.Forced.{IsFirst};
 ghost use Rattle.workpool.specs.Inner.Joined.{AreReady, AreSamePlaces, IsSummed};
 ghost use Rattle.workpool.specs.Inner.Told.{TellsSums, nothing_run};
 ghost use Rattle.workpool.specs.Inner.Works.{TellsPast};
 
 use crate::gate::Gate;
-use crate::ran::{Ran, Reason};
+use crate::ran::Ran;
 use crate::ring::{Seat, settle_all};
 use crate::room::{Room, make_room};
 use crate::root::{meet_root, root_of};
@@ -22,7 +22,7 @@ use crate::workers::{join_workers, run_each, seat_workers};
 use basis::NoMemory;
 use sched_core::Space;
 use shardbook::{Book, Naming, Pass, Quest, Seen};
-use statebook::Limits;
+use statebook::{Limits, Reason};
 use std::alloc::Global;
 use std::sync::Wait;
 use std::thread::Threads;

@@ -2,8 +2,8 @@
 
 ghost use Rattle.std.specs.Prelude.{◌≡◌, ◌≤◌};
 ghost use Rattle.statebook.specs.Stations.{is_station};
-ghost use Rattle.workpool.specs.Ways.{GoesPast};
-ghost use Rattle.workpool.specs.Inner.Forced.{ComesTo, IfPast, IfReached, IsFirst};
+ghost use Rattle.statebook.specs.Ways.{GoesPast};
+ghost use Rattle.statebook.specs.Inner.Forced.{ComesTo, IfPast, IfReached, IsFirst};
 
 use basis::NoMemory;
 use sched_core::Space;

@@ -2,7 +2,7 @@
 
 ghost use Rattle.std.specs.Prelude.{◌≡◌};
 ghost use Rattle.workpool.specs.Searches.{IsQuestOf};
-ghost use Rattle.workpool.specs.Inner.Forced.{IsFirst};
+ghost use Rattle.statebook.specs.Inner.Forced.{IsFirst};
 ghost use Rattle.workpool.specs.Inner.Works.{IsSamePlace};
 ghost use Rattle.workpool.specs.Inner.Joined.{IsReady};
 

@@ -3,7 +3,7 @@
 ghost use Rattle.std.specs.Prelude.{◌≡◌, ◌+◌, ◌-◌, ◌<◌, ◌≤◌, [], length, vec_len, vec_capacity};
 ghost use Rattle.workpool.specs.Rings.{AreIdle};
 ghost use Rattle.workpool.specs.Searches.{IsQuestOf};
-ghost use Rattle.workpool.specs.Inner.Forced.{IsFirst};
+ghost use Rattle.statebook.specs.Inner.Forced.{IsFirst};
 ghost use Rattle.workpool.specs.Inner.Joined.{AreReady, AreSamePlaces, IsReady, IsSummed, all_parts, seats_onto};
 ghost use Rattle.workpool.specs.Inner.Works.{IsSamePlace};
 ghost use Rattle.std.specs.Thread.{IsSend};

@@ -1,33 +1,15 @@
 -- What the parts of the explorer keep as they go on.
-use Rattle.std.specs.Prelude.{◌≡◌, ℕ, ◌+◌, ◌^◌, ◌<◌, ◌≤◌, ◌⊎◌, zero, suc, Bool, true, false, List, [], ◌∷◌, ◌++◌, length, slice_get, Some, Result, Err}
+use Rattle.std.specs.Prelude.{◌≡◌, ℕ, ◌+◌, ◌^◌, ◌<◌, ◌≤◌, ◌⊎◌, Bool, false, List, length, slice_get, Some, Result, Err}
 use Rattle.basis.specs.declared.memory.OrMemory.{OrMemory}
 use Rattle.basis.specs.declared.memory.OrMemory.TheVariants.{Fault}
 use Rattle.sched_core.specs.Rules.{Rules}
-use Rattle.statebook.specs.Stations.{forced, IsNextStation}
 use Rattle.statebook.specs.Books.{Book, IsClosed, IsFinished, IsRootAt, add}
-use Rattle.statebook.specs.ExplorerCore.{IsEntry, IsMet, IsSound, budget_after, choices_of}
+use Rattle.statebook.specs.ExplorerCore.{IsMet, IsSound, choices_of}
 use Rattle.statebook.specs.declared.entry.Entry.{Entry}
 use Rattle.statebook.specs.declared.limits.Limits.{Limits}
-use Rattle.explore.specs.Told.{AllChoicesLeadOn, Allows, SomeChoiceGoesPast, SomeWayGoesPast}
+use Rattle.statebook.specs.Ways.{Allows}
+use Rattle.explore.specs.Told.{AllChoicesLeadOn, SomeChoiceGoesPast, SomeWayGoesPast}
 use Rattle.explore.specs.declared.classes.Full.{Full}
-
--- From s, after some steps, the forced way came to its next station after n steps in all.
-pub record ComesTo {S : Type 0} (r : Rules S) (s : S) (taken : ℕ) (t : S) (n : ℕ) : Type 0 where
-  pub forced_steps : ℕ
-  pub count : n ≡ taken + forced_steps
-  pub next : IsNextStation r s forced_steps
-  pub same : r.same t (forced r s forced_steps) ≡ true
-
--- The entry is that of the next station after choice c of e.
-pub record Follows {S : Type 0} (r : Rules S) (e : Entry S) (c : ℕ) (next : Entry S) : Type 0 where
-  pub steps : ℕ
-  pub station : IsNextStation r (r.after e.state c) steps
-  pub same : r.same next.state (forced r (r.after e.state c) steps) ≡ true
-  pub budget : next.budget ≡ budget_after e.budget c
-
--- The entry is one that may be added within the limits.
-abbrev pub MayBeAdded : {S : Type 0} → Rules S → Limits → Entry S → Type 0
-MayBeAdded r limits e = IsEntry r limits.depart limits.steps e
 
 -- It is so of the entry at the place.
 abbrev pub OfEntry : {S : Type 0} → Book S → ℕ → (Entry S → Type 0) → Type 0
@@ -74,11 +56,6 @@ AddsFew r old place new = OfEntry old place (λ e. length new.entries ≤ length
 -- A state's choices are counted by 32 bits, so there are fewer than this.
 abbrev pub width_limit : ℕ
 width_limit = 2 ^ 32
-
--- The log of a run that goes on by this choice at this step.
-abbrev pub log_of : List (ℕ × ℕ) → ℕ → ℕ → List (ℕ × ℕ)
-log_of log step zero = log
-log_of log step (suc c) = log ++ (step, suc c) ∷ []
 
 -- What an explorer's book is at any time: sound, and its first entry the root's.
 pub record IsUnderWay {S : Type 0} (r : Rules S) (limits : Limits) (b : Book S) : Type 0 where

@@ -2,9 +2,9 @@
 use Rattle.std.specs.Prelude.{◌≡◌, Option, Some}
 use Rattle.sched_core.specs.Rules.{Rules}
 use Rattle.statebook.specs.declared.limits.Limits.{Limits}
-use Rattle.workpool.specs.declared.ran.Reason.{Reason}
-use Rattle.workpool.specs.declared.ran.Reason.TheVariants.{Entries, Steps}
-use Rattle.explore.specs.Found.{SomeRunExceeds}
+use Rattle.statebook.specs.declared.reason.Reason.{Reason}
+use Rattle.statebook.specs.declared.reason.Reason.TheVariants.{Entries, Steps}
+use Rattle.statebook.specs.Ways.{SomeRunExceeds}
 
 -- The workers stopped short by the limit of steps.
 abbrev pub StopsForSteps : Option Reason → Type 0

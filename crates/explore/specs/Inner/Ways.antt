@@ -1,11 +1,12 @@
 -- What an explorer remembers of forced ways, so that ways that join needn't each be walked to the end.
-use Rattle.std.specs.Prelude.{◌≡◌, ℕ, ◌+◌, ◌-◌, ◌<◌, ◌≤◌, ◌⊎◌, Bool, true, false, List, length, Option, Some, None, IfSome, IfNone, slice_get, Result, IfOk}
+use Rattle.std.specs.Prelude.{◌≡◌, ℕ, ◌+◌, ◌-◌, ◌<◌, ◌≤◌, ◌⊎◌, Bool, true, false, List, length, Option, Some, None, slice_get}
 use Rattle.sched_core.specs.Rules.{Rules}
 use Rattle.statebook.specs.Stations.{is_station, forced}
 use Rattle.statebook.specs.declared.entry.Entry.{Entry}
 use Rattle.statebook.specs.declared.limits.Limits.{Limits}
-use Rattle.explore.specs.Told.{ChoiceGoesPast, GoesPast}
-use Rattle.explore.specs.Inner.Exploring.{ComesTo, IsUnderWay, OfEntry}
+use Rattle.statebook.specs.Ways.{ChoiceGoesPast, GoesPast}
+use Rattle.statebook.specs.Inner.Forced.{ComesTo}
+use Rattle.explore.specs.Inner.Exploring.{IsUnderWay, OfEntry}
 use Rattle.explore.specs.declared.search.Onward.{Onward}
 use Rattle.explore.specs.declared.search.Landmark.{Landmark}
 use Rattle.explore.specs.declared.search.Search.{Search}
@@ -13,21 +14,9 @@ use Rattle.explore.specs.declared.ways.TheConstants.{ROOM}
 use Rattle.explore.specs.declared.way.Ahead.{Ahead}
 use Rattle.explore.specs.declared.way.Ahead.TheVariants.{Station, Past, Unknown}
 
--- what an answer says where it has a value, and where it has none
-abbrev pub IfReached : {A E : Type 0} → Result (Option A) E → (A → Type 0) → Type 0
-IfReached answer P = IfOk answer (λ reached. IfSome reached P)
-
-abbrev pub IfPast : {A E : Type 0} → Result (Option A) E → Type 0 → Type 0
-IfPast answer P = IfOk answer (λ reached. IfNone reached P)
-
 -- The state stands so many forced steps from s.
 abbrev pub IsForced : {S : Type 0} → Rules S → S → ℕ → S → Type 0
 IsForced r s n t = r.same t (forced r s n) ≡ true
-
--- The forced way from s comes to t in m steps, and passes no station before.
-pub record Passes {S : Type 0} (r : Rules S) (s t : S) (m : ℕ) : Type 0 where
-  pub same : r.same t (forced r s m) ≡ true
-  pub passes : (j : ℕ) → j < m → is_station r (forced r s j) ≡ false
 
 -- From s on there is no station for so many steps; with a place, there is one then, the state of the entry at the place.
 abbrev pub LeadsTo : {S : Type 0} → Rules S → List (Entry S) → S → ℕ → Option ℕ → Type 0

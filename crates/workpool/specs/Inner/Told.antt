@@ -4,7 +4,7 @@ use Rattle.basis.specs.declared.memory.NoMemory.{NoMemory}
 use Rattle.shardbook.specs.Passes.{Counts}
 use Rattle.workpool.specs.Runs.{AreGiven, AreJobs}
 use Rattle.workpool.specs.declared.ran.Ran.{Ran}
-use Rattle.workpool.specs.declared.ran.Reason.TheVariants.{Memory}
+use Rattle.statebook.specs.declared.reason.Reason.TheVariants.{Memory}
 
 -- Memory was refused before the workers began.
 abbrev pub nothing_run : {S Q B : Type 0} → Counts → NoMemory → Ran S Q B

@@ -3,7 +3,7 @@ use Rattle.std.specs.Prelude.{◌≡◌, ℕ, ◌+◌, ◌%◌, ◌^◌, ◌≤�
 use Rattle.atomic_table.specs.Seated.{TableId}
 use Rattle.sched_core.specs.Rules.{Rules}
 use Rattle.statebook.specs.declared.limits.Limits.{Limits}
-use Rattle.workpool.specs.Ways.{SomeRunExceeds}
+use Rattle.statebook.specs.Ways.{SomeRunExceeds}
 use Rattle.workpool.specs.declared.work.Work.{Work}
 
 -- Its pass has counted as many New answers as its seat has opens; it gave no more jobs than that, and just as many unless memory

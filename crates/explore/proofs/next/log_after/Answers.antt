@@ -1,6 +1,6 @@
 use Rattle.std.proofs.Common.{◌++◌, ◌∷◌, [], sym, subst, arith, List, ℕ}
 use Rattle.sched_core.specs.Logs.{IsLog}
-use Rattle.explore.proofs.NextLemmas.{push_is_log}
+use Rattle.statebook.proofs.NextLemmas.{push_is_log}
 use Rattle.explore.proofs.next.log_after.Goals as goal
 
 pub push-requires : goal.push-requires

@@ -1,6 +1,6 @@
 use Rattle.std.proofs.Common.{◌≡◌, ◌+◌, arith, true}
-use Rattle.explore.proofs.NextLemmas.{allowed_width, follows_from, entry_from, stepped}
-use Rattle.explore.proofs.WayLemmas.{past_same}
+use Rattle.statebook.proofs.NextLemmas.{allowed_width, follows_from, entry_from, stepped}
+use Rattle.statebook.proofs.WayLemmas.{past_same}
 use Rattle.explore.proofs.next.next_entry.Given.{Over}
 use Rattle.explore.proofs.next.next_entry.Goals as goal
 use Rattle.explore.proofs.next.next_entry.Goals.{In_ok-steps}
@@ -20,7 +20,6 @@ returns-in-None-clause-past g c =
     let law = g.met.P.Space.lawful c.args.space.now in
     past_same r law (r.after c.args.entry.now.state c.args.choice) c.step.new.s (c.args.entry.now.steps + 1) c.args.limits.now.steps
     (taken g (goal.at.returns-in-None-clause-past g c).In_ok-steps)
-    (let w = c.requires.entry.within in let n = c.if-entry-limits.false in omega arith)
     (rw c.in-None.is at c.in_ok-steps.ensures.past)
 
 pub returns-in-Some-clause-follows : goal.returns-in-Some-clause-follows

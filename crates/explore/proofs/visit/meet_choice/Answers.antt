@@ -2,7 +2,8 @@ use Rattle.std.proofs.Common.{◌≡◌, ◌+◌, ◌≤◌, ◌∙◌, Some, No
 use Rattle.std.proofs.lemmas.Option.{same_Some}
 use Rattle.statebook.specs.ExplorerCore.{IsMet}
 use Rattle.statebook.specs.declared.entry.Entry.{Entry}
-use Rattle.explore.specs.Inner.Exploring.{BookGrows, Follows, IsUnderWay}
+use Rattle.statebook.specs.Inner.Forced.{Follows}
+use Rattle.explore.specs.Inner.Exploring.{BookGrows, IsUnderWay}
 use Rattle.statebook.specs.Books.{Book}
 use Rattle.explore.specs.Inner.Ways.{AllLead, IsSearching}
 use Rattle.explore.specs.declared.ways.TheConstants.{ROOM}

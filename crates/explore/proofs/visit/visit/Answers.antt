@@ -2,7 +2,8 @@ use Rattle.std.proofs.Common.{length, ◌≡◌, ◌+◌, ◌<◌, ◌++◌, ◌
 use Rattle.std.proofs.lemmas.Option.{same_Some}
 use Rattle.statebook.specs.ExplorerCore.{AllMet, choices_of}
 use Rattle.statebook.specs.declared.entry.Entry.{Entry}
-use Rattle.explore.specs.Told.{Allows, LeadsOn}
+use Rattle.statebook.specs.Ways.{Allows}
+use Rattle.explore.specs.Told.{LeadsOn}
 use Rattle.explore.specs.Inner.Exploring.{BookGrows, IsMetAt}
 use Rattle.explore.specs.Inner.Ways.{PastFrom}
 use Rattle.explore.specs.declared.ways.TheConstants.{ROOM}

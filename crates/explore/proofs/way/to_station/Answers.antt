@@ -1,7 +1,7 @@
 use Rattle.std.proofs.Common.{arith, ◌≡◌, ◌-◌, ◌≤◌, ℕ, subst, sym}
-use Rattle.explore.specs.Told.{GoesPast}
-use Rattle.explore.specs.Inner.Exploring.{ComesTo}
-use Rattle.explore.specs.Inner.Ways.{IsAhead, Passes}
+use Rattle.statebook.specs.Ways.{GoesPast}
+use Rattle.statebook.specs.Inner.Forced.{ComesTo, Passes}
+use Rattle.explore.specs.Inner.Ways.{IsAhead}
 use Rattle.explore.specs.declared.way.Ahead.TheVariants.{Station}
 use Rattle.explore.proofs.VisitLemmas.{root_state}
 use Rattle.explore.proofs.WayLemmas.{OnWay, way_opens, way_goes_on, way_marked, way_comes, marks_come, way_past, marks_past}

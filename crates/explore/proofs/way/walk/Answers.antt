@@ -1,7 +1,7 @@
 use Rattle.std.proofs.Common.{◌≡◌, ◌+◌, ◌-◌, ◌∙◌, suc, sym, subst, arith, ℕ, false}
 use Rattle.statebook.specs.Stations.{is_station}
-use Rattle.explore.specs.Inner.Ways.{Passes}
-use Rattle.explore.proofs.WayLemmas.{passes_one}
+use Rattle.statebook.specs.Inner.Forced.{Passes}
+use Rattle.statebook.proofs.WayLemmas.{passes_one}
 use Rattle.explore.proofs.way.walk.Goals as goal
 
 pub loop-taken-preserved : goal.loop-taken-preserved

@@ -1,5 +1,5 @@
 use Rattle.std.proofs.Common.{◌≤◌, ◌-◌}
-use Rattle.explore.specs.Inner.Ways.{Passes}
+use Rattle.statebook.specs.Inner.Forced.{Passes}
 use Rattle.explore.proofs.way.walk.Given as goal
 
 abbrev pub invariant-loop-taken : goal.invariant-loop-taken

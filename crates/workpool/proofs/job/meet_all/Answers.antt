@@ -1,7 +1,7 @@
 use Rattle.std.proofs.Common.{◌≡◌, ◌∙◌, true, false, ap, arith, sym, refl}
 use Rattle.shardbook.specs.Finishes.{IsMetBy}
-use Rattle.workpool.specs.Ways.{ChoiceGoesPast}
-use Rattle.workpool.proofs.NextLemmas.{exceeds}
+use Rattle.statebook.specs.Ways.{ChoiceGoesPast}
+use Rattle.statebook.proofs.NextLemmas.{exceeds}
 use Rattle.workpool.proofs.WorkLemmas.{met_none, met_more, met_all, same_itself, same_twice, seated_same}
 use Rattle.workpool.proofs.job.meet_all.Goals as goal
 use Rattle.workpool.proofs.job.meet_all.Goals.{in-Some+in_ok-push-in-Some, in-None, then-within, else-within}

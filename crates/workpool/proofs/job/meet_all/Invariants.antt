@@ -1,6 +1,6 @@
 use Rattle.std.proofs.Common.{◌≡◌, true, false}
 use Rattle.shardbook.specs.Sights.{entries_of}
-use Rattle.workpool.specs.Ways.{SomeRunExceeds}
+use Rattle.statebook.specs.Ways.{SomeRunExceeds}
 use Rattle.workpool.specs.Inner.Works.{IsSamePlace, IsSeated, StaysCounted}
 use Rattle.workpool.proofs.WorkLemmas.{HasMetUpTo}
 use Rattle.workpool.proofs.job.meet_all.Given as goal

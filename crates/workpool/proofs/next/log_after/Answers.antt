@@ -1,6 +1,6 @@
 use Rattle.std.proofs.Common.{◌++◌, ◌∷◌, [], sym, subst, arith, List, ℕ}
 use Rattle.sched_core.specs.Logs.{IsLog}
-use Rattle.workpool.proofs.NextLemmas.{push_is_log}
+use Rattle.statebook.proofs.NextLemmas.{push_is_log}
 use Rattle.workpool.proofs.next.log_after.Goals as goal
 
 pub push-requires : goal.push-requires

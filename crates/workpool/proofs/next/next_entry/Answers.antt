@@ -1,6 +1,6 @@
 use Rattle.std.proofs.Common.{◌≡◌, ◌+◌, arith, true}
-use Rattle.workpool.proofs.NextLemmas.{allowed_width, follows_from, entry_from, stepped}
-use Rattle.workpool.proofs.WayLemmas.{past_same}
+use Rattle.statebook.proofs.NextLemmas.{allowed_width, follows_from, entry_from, stepped}
+use Rattle.statebook.proofs.WayLemmas.{past_same}
 use Rattle.workpool.proofs.next.next_entry.Given.{Over}
 use Rattle.workpool.proofs.next.next_entry.Goals as goal
 use Rattle.workpool.proofs.next.next_entry.Goals.{In_ok-steps}

@@ -11,9 +11,8 @@ use Rattle.statebook.specs.ExplorerCore.{IsEntry, choices_of, budget_after}
 use Rattle.statebook.specs.declared.entry.Entry.{Entry}
 use Rattle.statebook.proofs.RunLemmas.{departs, is_station_same, width_between}
 use Rattle.statebook.specs.declared.limits.Limits.{Limits}
-use Rattle.explore.specs.Found.{SomeRunExceeds}
-use Rattle.explore.specs.Told.{Allows, ChoiceGoesPast, GoesPast}
-use Rattle.explore.specs.Inner.Exploring.{ComesTo, Follows, log_of}
+use Rattle.statebook.specs.Ways.{Allows, ChoiceGoesPast, GoesPast, SomeRunExceeds}
+use Rattle.statebook.specs.Inner.Forced.{ComesTo, Follows, log_of}
 
 -- a log that names only steps below n can go on at n
 next_from_below : (low n : ℕ) (log : List (ℕ × ℕ)) → low ≤ n → NamesBelow log n → next_from low log ≤ n

@@ -4,9 +4,9 @@ use Rattle.std.proofs.lemmas.Bool.{cases_lt}
 use Rattle.sched_core.specs.Rules.{Rules, IsLawful}
 use Rattle.statebook.specs.Stations.{is_station, forced}
 use Rattle.statebook.proofs.RunLemmas.{is_station_same, width_between}
-use Rattle.workpool.specs.Ways.{GoesPast}
-use Rattle.workpool.specs.Inner.Forced.{Passes}
-use Rattle.workpool.proofs.NextLemmas.{forced_same}
+use Rattle.statebook.specs.Ways.{GoesPast}
+use Rattle.statebook.specs.Inner.Forced.{Passes}
+use Rattle.statebook.proofs.NextLemmas.{forced_same}
 
 pub passes_one : {S : Type 0} (r : Rules S) → IsLawful r → (s t u : S) (m : ℕ) → Passes r s t m → is_station r t ≡ false → r.same u (r.after t 0) ≡ true → Passes r s u (suc m)
 passes_one r law s t u m p none e =
