@@ -1,6 +1,6 @@
 // The pieces of a report's text, for one who writes it piece by piece: the dumps of the ends stand between them.
 
-ghost use Rattle.std.specs.Prelude.{◌≡◌, ◌++◌, ◌∷◌, [], codes, decimal, slice_get, IfOk};
+ghost use Rattle.std.specs.Prelude.{◌≡◌, ◌++◌, ◌∷◌, [], codes, decimal, slice_get, IfOk, OnOk};
 ghost use Rattle.report_text.specs.Inner.Lists.{PutsBytes};
 ghost use Rattle.report_text.specs.ReportText as spec;
 
@@ -13,7 +13,7 @@ use std::alloc::Global;
 
 // Puts the word last, and a space.
 fn put_word(text: &mut Vec<u8>, word: &[u8]) -> Result<(), NoMemory>
-    ensures { PutsBytes text.old text.new result (word.now ++ 32 ∷ []) }
+    ensures { OnOk result (text.new.items ≡ text.old.items ++ word.now ++ 32 ∷ []) }
 {
     text.extend_from_slice(word)?;
     text.push(b' ')?;

@@ -1,17 +1,25 @@
 -- What the steps of elaboration are told by and answer; nothing here has to be believed.
-use Rattle.std.specs.Prelude.{◌≡◌, ◌<◌, ◌≤◌, ◌⊎◌, ℕ, ◌+◌, ◌-◌, true, false, cond, List, [], ◌++◌, Vec, map, length, take, Option, None, option_map}
+use Rattle.std.specs.Prelude.{◌≡◌, ◌<◌, ◌≤◌, ◌⊎◌, ℕ, ◌+◌, ◌-◌, true, false, cond, List, [], ◌++◌, Vec, map, length, take, Option, None, option_map, Result, OnOk}
 use Rattle.std.specs.Borrow.{Bor}
 use Rattle.std.specs.List.{list_all, flat_map, filter_map, cons_option}
 use Rattle.vbits.specs.declared.bit4.Bit4.{Bit4}
 use Rattle.vast.specs.declared.syntax.Module.{Module as Parsed}
+use Rattle.vast.specs.declared.syntax.Expr.{Expr}
+use Rattle.vast.specs.declared.syntax.Stmt.{Stmt}
+use Rattle.vast.specs.declared.syntax.Item.{Item}
+use Rattle.vast.specs.declared.syntax.Range.{Range}
+use Rattle.vast.specs.declared.syntax.Word.{Word}
+use Rattle.vast.specs.declared.design.Bounds.{Bounds}
+use Rattle.vast.specs.declared.design.Expression.{Expression}
+use Rattle.vast.specs.Design as design
 use Rattle.vlex.specs.Bytes.{is_underscore}
 use Rattle.vast.specs.Syntax.{Text, ExpressionTree, StatementTree, StatementTrees, RangeTree, ItemTree, ModuleTree, SourceTree}
-use Rattle.vast.specs.Trees.{module_tree}
+use Rattle.vast.specs.Trees.{module_tree, word_text, expression_tree, statement_tree, statement_trees, range_tree, item_tree}
 use Rattle.velab.specs.declared.fault.ElabFault.{ElabFault}
 use Rattle.velab.specs.declared.fault.ElabFault.TheVariants.{Module, Doubled, Unknown, Width, TooMany}
 use Rattle.velab.specs.Literals.{digit_letters}
 use Rattle.vast.specs.declared.design.Action.{Action}
-use Rattle.velab.specs.Elaborate.{Laid, Processes, has_double, module_names, declarations_of, declared_names, declarations, statement_of, initials, bound_of, is_range, has_range, is_declared, knows_expression, knows, knows_all}
+use Rattle.velab.specs.Elaborate.{Laid, Processes, has_double, module_names, declarations_of, declared_names, declarations, statement_of, initials, bound_of, is_range, has_range, is_declared, knows_expression, knows, knows_all, expression_of, laid, all_laid, laid_processes, bounds_of, variable_by, variable_of}
 
 -- ---- parts of a module
 
@@ -135,3 +143,52 @@ BreaksProcesses names items = IsBreach (record no_breach {
   unknown = list_all (knows names) (filter_map statement_of items) ≡ false;
   many = 256 < length (filter_map statement_of items);
 })
+
+-- ---- what the parts of a text are made to, told of the program's values
+
+abbrev pub expression_for : List Text → Expr → Expression
+expression_for names expression = expression_of names (expression_tree expression)
+
+abbrev pub Knows : List Text → Expr → Type 0
+Knows names expression = knows_expression names (expression_tree expression) ≡ true
+
+abbrev pub KnowsAll : List Text → List StatementTree → Type 0
+KnowsAll names statements = list_all (knows names) statements ≡ true
+
+-- a statement laid on a table, statements, and the statement of an item
+abbrev pub laid_of : List Text → List Action → Stmt → Laid
+laid_of names table statement = laid names table (statement_tree statement)
+
+abbrev pub all_laid_of : List Text → List Action → List Stmt → Laid
+all_laid_of names table statements = all_laid names table (statement_trees statements)
+
+abbrev pub laid_of_item : List Text → List Action → Item → Processes
+laid_of_item names table item = laid_processes names table (initials_of (item_tree item))
+
+-- the statements of items, and the processes that they describe
+abbrev pub initials_in : List Item → List StatementTree
+initials_in items = filter_map statement_of (map item_tree items)
+
+abbrev pub processes_of : List Text → List Item → Processes
+processes_of names items = laid_processes names [] (initials_in items)
+
+-- where there was no fault, these were laid
+abbrev pub HasLaid : {A B T E : Type 0} → Result T E → Laid → Vec ℕ A → List Action → Vec ℕ B → Type 0
+HasLaid result what before table after = OnOk result (IsLaid what before.items table after.items)
+
+abbrev pub HaveLaid : {A B T E : Type 0} → Result T E → Processes → Vec (List ℕ) A → List Action → Vec (List ℕ) B → Type 0
+HaveLaid result what before table after = OnOk result (AreLaid what before.items table after.items)
+
+-- the bounds of a range, where there is one
+abbrev pub bounds_for : Option Range → Option Bounds
+bounds_for range = option_map bounds_of (option_map range_tree range)
+
+-- the variables of words declared with these bounds, of an item, and of items
+abbrev pub variables_by : List ℕ → Option Bounds → List Word → List design.Variable
+variables_by scope bounds words = map (variable_by scope bounds) (map word_text words)
+
+abbrev pub variables_for : List ℕ → Item → List design.Variable
+variables_for scope item = map (variable_of scope) (declarations_of (item_tree item))
+
+abbrev pub variables_of : List ℕ → List Item → List design.Variable
+variables_of scope items = map (variable_of scope) (flat_map declarations_of (map item_tree items))

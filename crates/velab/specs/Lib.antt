@@ -3,3 +3,4 @@ pub mod Elaborate
 pub mod Reasons
 pub mod Laws
 pub mod Inner
+pub mod InnerVariables

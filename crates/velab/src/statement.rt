@@ -5,7 +5,8 @@ ghost use Rattle.basis.specs.Reasons.{IfFault};
 ghost use Rattle.vast.specs.Trees.{word_text, expression_tree, statement_tree, statement_trees, item_tree};
 ghost use Rattle.velab.specs.Elaborate as spec;
 ghost use Rattle.velab.specs.Elaborate.{laid, all_laid, laid_processes, is_declared, knows, knows_all, knows_expression, place_of, statement_of};
-ghost use Rattle.velab.specs.Inner.{initials_of, IsLaid, AreLaid, IsBreach, no_breach, BreaksUse, BreaksExpression, BreaksStatement, BreaksStatements, BreaksProcess, BreaksProcesses};
+ghost use Rattle.velab.specs.Inner.{expression_for, laid_of, all_laid_of, laid_of_item, processes_of, initials_of, initials_in, AreLaid, HasLaid, HaveLaid};
+ghost use Rattle.velab.specs.Inner.{Knows, KnowsAll, IsBreach, no_breach, BreaksUse, BreaksExpression, BreaksStatement, BreaksStatements, BreaksProcess, BreaksProcesses};
 
 use crate::fault::ElabFault;
 use crate::names::Names;
@@ -37,8 +38,8 @@ fn expression_of(
     expression: &Expr<'_>,
 ) -> Result<Expression, OrMemory<ElabFault>>
     requires { length names.now ≤ 1024 }
-    ensures ok { IfOk result (λ e. e ≡ spec.expression_of names.now (expression_tree expression.now)) }
-    ensures known { OnOk result (knows_expression names.now (expression_tree expression.now) ≡ true) }
+    ensures ok { IfOk result (λ e. e ≡ expression_for names.now expression.now) }
+    ensures known { OnOk result (Knows names.now expression.now) }
     ensures err { IfFault result (BreaksExpression names.now (expression_tree expression.now)) }
 {
     match expression {
@@ -94,7 +95,7 @@ fn lay(
     into: &mut Vec<usize>,
 ) -> Result<(), OrMemory<ElabFault>>
     requires { length names.now ≤ 1024 }
-    ensures ok { OnOk result (IsLaid (laid names.now table.old (statement_tree statement.now)) into.old.items table.new into.new.items) }
+    ensures ok { HasLaid result (laid_of names.now table.old statement.now) into.old table.new into.new }
     ensures known { OnOk result (knows names.now (statement_tree statement.now) ≡ true) }
     ensures err { IfFault result (BreaksStatement names.now (statement_tree statement.now)) }
 {
@@ -134,7 +135,7 @@ fn lay_all(
     into: &mut Vec<usize>,
 ) -> Result<(), OrMemory<ElabFault>>
     requires { length names.now ≤ 1024 }
-    ensures ok { OnOk result (IsLaid (all_laid names.now table.old (statement_trees statements.now)) into.old.items table.new into.new.items) }
+    ensures ok { HasLaid result (all_laid_of names.now table.old statements.now) into.old table.new into.new }
     ensures known { OnOk result (knows_all names.now (statement_trees statements.now) ≡ true) }
     ensures err { IfFault result (BreaksStatements names.now (statement_trees statements.now)) }
 {
@@ -154,9 +155,9 @@ fn lay_process(
 ) -> Result<(), OrMemory<ElabFault>>
     requires names { length names.now ≤ 1024 }
     requires few { length into.old.items ≤ 256 }
-    ensures ok { OnOk result (AreLaid (laid_processes names.now table.old (initials_of (item_tree item.now))) into.old.items table.new into.new.items) }
+    ensures ok { HaveLaid result (laid_of_item names.now table.old item.now) into.old table.new into.new }
     ensures few { OnOk result (length into.new.items ≤ 256) }
-    ensures known { OnOk result (list_all (knows names.now) (initials_of (item_tree item.now)) ≡ true) }
+    ensures known { OnOk result (KnowsAll names.now (initials_of (item_tree item.now))) }
     ensures err { IfFault result (BreaksProcess names.now into.old (item_tree item.now)) }
 {
     match item {
@@ -187,10 +188,10 @@ pub fn processes(
     items: &[Item<'_>],
 ) -> Result<ProcessTable, OrMemory<ElabFault>>
     requires { length names.now ≤ 1024 }
-    ensures ok { IfOk result (λ ps. AreLaid (laid_processes names.now [] (filter_map statement_of (map item_tree items.now))) [] ps.table ps.begins.items) }
+    ensures ok { IfOk result (λ ps. AreLaid (processes_of names.now items.now) [] ps.table ps.begins.items) }
     ensures few { IfOk result (λ ps. length ps.begins.items ≤ 256) }
-    ensures count { OnOk result (length (filter_map statement_of (map item_tree items.now)) ≤ 256) }
-    ensures known { OnOk result (list_all (knows names.now) (filter_map statement_of (map item_tree items.now)) ≡ true) }
+    ensures count { OnOk result (length (initials_in items.now) ≤ 256) }
+    ensures known { OnOk result (KnowsAll names.now (initials_in items.now)) }
     ensures err { IfFault result (BreaksProcesses names.now (map item_tree items.now)) }
 {
     let mut table = Table {

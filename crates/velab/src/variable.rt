@@ -6,6 +6,8 @@ ghost use Rattle.vbits.specs.Letters as letters;
 ghost use Rattle.vast.specs.Trees.{word_text, range_tree, item_tree, module_tree};
 ghost use Rattle.velab.specs.Elaborate as spec;
 ghost use Rattle.velab.specs.Elaborate.{has_double, has_range, is_declared, is_range, variable_by, variable_of, declarations_of, declarations, declared_names, length_of};
+ghost use Rattle.velab.specs.Inner.{bounds_for, variables_by, variables_for, variables_of};
+ghost use Rattle.velab.specs.InnerVariables.{PutsVariables};
 ghost use Rattle.velab.specs.Inner.{names_in, names_of, BreaksBound, BreaksRange, BreaksDeclaration, BreaksNames, BreaksItem, BreaksItems};
 
 use crate::fault::ElabFault;
@@ -105,7 +107,7 @@ fn bounds_of(range: &Range<'_>) -> Result<Bounds, OrMemory<ElabFault>>
 
 // The bounds of a declaration's range, where it has one.
 fn range_bounds(range: &Option<Range<'_>>) -> Result<Option<Bounds>, OrMemory<ElabFault>>
-    ensures ok { IfOk result (λ bounds. bounds ≡ option_map spec.bounds_of (option_map range_tree range.now)) }
+    ensures ok { IfOk result (λ bounds. bounds ≡ bounds_for range.now) }
     ensures range { OnOk result (is_range (option_map range_tree range.now) ≡ true) }
     ensures few { IfOk result (λ bounds. length_of bounds ≤ 64) }
     ensures err { IfFault result (BreaksRange (option_map range_tree range.now)) }
@@ -168,7 +170,7 @@ fn declare<'t>(
 ) -> Result<(), OrMemory<ElabFault>>
     requires { spec.length_of bounds ≤ 64 }
     ensures names { OnOk result (into.new.names ≡ into.old.names ++ word_text word.now ∷ []) }
-    ensures variables { OnOk result (into.new.variables.items ≡ into.old.variables.items ++ variable_by scope.now bounds (word_text word.now) ∷ []) }
+    ensures variables { PutsVariables into.old into.new result (variable_by scope.now bounds (word_text word.now) ∷ []) }
     ensures few { OnOk result (length into.new.names ≤ 1024) }
     ensures err { IfFault result (BreaksDeclaration into.old.names (word_text word.now)) }
 {
@@ -192,7 +194,7 @@ fn declare_all<'t>(
     requires bits { spec.length_of bounds ≤ 64 }
     requires few { length into.old.names ≤ 1024 }
     ensures names { OnOk result (into.new.names ≡ into.old.names ++ map word_text words.now) }
-    ensures variables { OnOk result (into.new.variables.items ≡ into.old.variables.items ++ map (variable_by scope.now bounds) (map word_text words.now)) }
+    ensures variables { PutsVariables into.old into.new result (variables_by scope.now bounds words.now) }
     ensures few { OnOk result (length into.new.names ≤ 1024) }
     ensures err { IfFault result (BreaksNames (into.old.names ++ map word_text words.now)) }
 {
@@ -211,7 +213,7 @@ fn declare_item<'t>(
 ) -> Result<(), OrMemory<ElabFault>>
     requires { length into.old.names ≤ 1024 }
     ensures names { OnOk result (into.new.names ≡ into.old.names ++ names_of (item_tree item.now)) }
-    ensures variables { OnOk result (into.new.variables.items ≡ into.old.variables.items ++ map (variable_of scope.now) (declarations_of (item_tree item.now))) }
+    ensures variables { PutsVariables into.old into.new result (variables_for scope.now item.now) }
     ensures few { OnOk result (length into.new.names ≤ 1024) }
     ensures range { OnOk result (has_range (item_tree item.now) ≡ true) }
     ensures err { IfFault result (BreaksItem into.old.names (item_tree item.now)) }
@@ -232,7 +234,7 @@ pub fn declare_items<'t>(
     items: &[Item<'t>],
 ) -> Result<Declarations<'t>, OrMemory<ElabFault>>
     ensures names { IfOk result (λ d. d.names ≡ names_in (map item_tree items.now)) }
-    ensures variables { IfOk result (λ d. d.variables.items ≡ map (variable_of scope.now) (flat_map declarations_of (map item_tree items.now))) }
+    ensures variables { IfOk result (λ d. d.variables.items ≡ variables_of scope.now items.now) }
     ensures few { IfOk result (λ d. length d.names ≤ 1024) }
     ensures ranges { OnOk result (list_all has_range (map item_tree items.now) ≡ true) }
     ensures err { IfFault result (BreaksItems (map item_tree items.now)) }

@@ -1,4 +1,5 @@
 pub mod Machines
+pub mod MachineLaws
 pub mod Reads
 pub mod Handed
 pub mod Inner

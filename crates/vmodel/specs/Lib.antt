@@ -12,6 +12,8 @@ pub mod Digest
 pub mod Run
 pub mod Played
 pub mod Kept
+pub mod RunLaws
 pub mod RulesLaws
 pub mod Inner
 pub mod InnerLeft
+pub mod InnerStep

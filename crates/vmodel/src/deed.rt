@@ -3,7 +3,8 @@
 ghost use Rattle.std.specs.Prelude.{◌≡◌, List};
 ghost use Rattle.vmodel.specs.declared.process.Spot.{Spot};
 ghost use Rattle.vmodel.specs.Step as spec;
-ghost use Rattle.vmodel.specs.Step.{does, spots};
+ghost use Rattle.vmodel.specs.Step.{does};
+ghost use Rattle.vmodel.specs.InnerStep.{did_so};
 
 use crate::history::{Cause, DumpCommand};
 use crate::part::Parts;
@@ -61,7 +62,7 @@ pub struct Doing<'d> {
 
 /// What the action does at this moment.
 pub fn deed_of<'d>(action: &'d Action, moment: &Moment<'_>) -> Doing<'d>
-    ensures { (after : List Spot) → does action.now after moment.now ≡ record { left = spots result.next.now after; deed = result.deed } }
+    ensures { (after : List Spot) → does action.now after moment.now ≡ did_so result.next.now after result.deed }
 {
     let quiet = Deed::quiet();
     match action {

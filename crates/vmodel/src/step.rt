@@ -7,6 +7,7 @@ ghost use Rattle.vast.specs.Design.{Design};
 ghost use Rattle.vmodel.specs.Step as spec;
 ghost use Rattle.vmodel.specs.Choices.{choices as choices_of};
 ghost use Rattle.vmodel.specs.Inner.{IsFirstAction, first_place};
+ghost use Rattle.vmodel.specs.InnerStep.{left_in, moved, moved_by, turn_to, with_moved};
 
 use crate::choice::Choice;
 use crate::deed::{Deed, Doing, deed_of};
@@ -29,8 +30,8 @@ fn move_process(
 ) -> Result<(), NoMemory>
     requires few { number < 256 }
     requires some { 0 < length process.old.left }
-    ensures ok { OnOk result (process.new ≡ process_by (record { left = spots next.now (drop 1 process.old.left); deed = deed.now })) }
-    ensures queue { OnOk result (queue.new ≡ fares number deed.now.fate (going number (spots next.now (drop 1 process.old.left))) (posts deed.now.posted queue.old)) }
+    ensures ok { OnOk result (process.new ≡ moved process.old.left next.now deed.now) }
+    ensures queue { OnOk result (queue.new ≡ moved_by number process.old.left next.now deed.now queue.old) }
     ensures err { OnErr result (process.new ≡ process.old) }
     ensures err_queue { OnErr result (queue.new ≡ queue.old) }
 {
@@ -57,9 +58,9 @@ fn move_one(
     deed: &Deed,
 ) -> Result<(), NoMemory>
     requires few { number < 256 }
-    requires some { 0 < length (left_of (slice_get processes.old.items number)) }
-    ensures ok { OnOk result (processes.new.items ≡ slice_set processes.old.items number (process_by (record { left = spots next.now (drop 1 (left_of (slice_get processes.old.items number))); deed = deed.now }))) }
-    ensures queue { OnOk result (queue.new ≡ fares number deed.now.fate (going number (spots next.now (drop 1 (left_of (slice_get processes.old.items number))))) (posts deed.now.posted queue.old)) }
+    requires some { 0 < length (left_in processes.old.items number) }
+    ensures ok { OnOk result (processes.new.items ≡ with_moved number processes.old.items next.now deed.now) }
+    ensures queue { OnOk result (queue.new ≡ moved_by number (left_in processes.old.items number) next.now deed.now queue.old) }
     ensures err { OnErr result (processes.new.items ≡ processes.old.items) }
     ensures err_queue { OnErr result (queue.new ≡ queue.old) }
 {
@@ -79,7 +80,7 @@ impl SlowState {
 
     /// The place in the design's table of the action that a process comes to first, if there is one.
     pub fn place_of(&self, number: u32) -> Option<usize>
-        ensures { result ≡ first_place (left_of (slice_get self.now.processes number)) }
+        ensures { result ≡ first_place (left_in self.now.processes number) }
     {
         let process = self.processes.get(number as usize)?;
         let Spot::Doing(place) = process.first()?;
@@ -88,7 +89,7 @@ impl SlowState {
 
     // The action that a process comes to first, if there is one.
     fn action_of<'d>(&self, design: &'d Design, number: u32) -> Option<&'d Action>
-        ensures { IsFirstAction design.now.actions (left_of (slice_get self.now.processes number)) result }
+        ensures { IsFirstAction design.now.actions (left_in self.now.processes number) result }
     {
         match self.place_of(number) {
             Some(place) => design.actions.get(place),
@@ -109,7 +110,7 @@ impl SlowState {
     // A process takes one step.
     fn run(&mut self, design: &Design, number: u32) -> Result<Deed, NoMemory>
         requires { number < 256 }
-        ensures ok { IfOk result (λ deed. process_turn design.now number self.old ≡ record { state = self.new; deed = deed }) }
+        ensures ok { IfOk result (λ deed. process_turn design.now number self.old ≡ turn_to self.new deed) }
         ensures err { OnErr result (self.new ≡ self.old) }
     {
         let Some(action) = self.action_of(design, number) else {
@@ -125,7 +126,7 @@ impl SlowState {
 
     // The first activated update is written (11.4.1).
     fn update(&mut self) -> Deed
-        ensures { (design : Design) → turn_of design Choice.Update self.old ≡ record { state = self.new; deed = result } }
+        ensures { (design : Design) → turn_of design Choice.Update self.old ≡ turn_to self.new result }
     {
         let mut deed = Deed::quiet();
         if let Some(update) = self.queue.take_update() {
@@ -138,7 +139,7 @@ impl SlowState {
 
     // The time goes on to the next future time.
     fn advance(&mut self)
-        ensures { (design : Design) → turn_of design Choice.Advance self.old ≡ record { state = self.new; deed = spec.quiet } }
+        ensures { (design : Design) → turn_of design Choice.Advance self.old ≡ turn_to self.new spec.quiet }
     {
         self.queue.advance();
         self.close();
@@ -148,7 +149,7 @@ impl SlowState {
     /// region moves after it (11.3, 11.4). The answer is what the step did. Where there is no such choice nothing
     /// happens. E901 is the only refusal, and leaves the state as it was.
     pub fn step(&mut self, design: &Design, i: u32) -> Result<Deed, NoMemory>
-        ensures ok { IfOk result (λ deed. next design.now self.old i ≡ record { state = self.new; deed = deed }) }
+        ensures ok { IfOk result (λ deed. next design.now self.old i ≡ turn_to self.new deed) }
         ensures err { OnErr result (self.new ≡ self.old) }
     {
         match self.choice(i) {
@@ -190,7 +191,7 @@ impl SlowState {
 /// Puts behind others what a step gives to the history, in order: what it showed, and the slot end where the state after
 /// it is one.
 pub fn put_items(items: &mut Vec<Item>, state: &SlowState, deed: &Deed) -> Result<(), NoMemory>
-    ensures { OnOk result (items.new.items ≡ items.old.items ++ items_of (record { state = state.now; deed = deed.now })) }
+    ensures { OnOk result (items.new.items ≡ items.old.items ++ items_of (turn_to state.now deed.now)) }
 {
     if let Some(command) = deed.command {
         items.push(Item::Dump(command))?;

@@ -82,7 +82,7 @@ abbrev pub HasLog : Place → Place → List ℕ → List (ℕ × ℕ) → Type 
 HasLog old new word log = new.ok ≡ true → (old.ok ≡ true) × IsLog log × (word ≡ log_text log)
 
 -- where the reader wasn't lost, each log of which the word is the text is what was answered
-abbrev pub EachLog : {E : Type 0} → Place → Place → List ℕ → Result Log E → Type 0
+abbrev pub EachLog : {E : Type 0} → Place → Place → List ℕ → Result (List (ℕ × ℕ)) E → Type 0
 EachLog old new word result = (log : List (ℕ × ℕ)) →
     old.ok ≡ true → IsLog log → word ≡ log_text log → IfOk result (λ read. (read ≡ log) × (new.ok ≡ true))
 

@@ -1,0 +1,52 @@
+-- What holds of the runs of every setting, log and number of steps; `run_law` proves each.
+use Rattle.std.specs.Prelude.{◌≡◌, ℕ, List, All, length, Decides}
+use Rattle.std.specs.List.{Contains}
+use Rattle.sched_core.specs.Rules.{IsLawful, IsRun}
+use Rattle.vbits.specs.Vectors.{Vector}
+use Rattle.vmodel.specs.State.{State}
+use Rattle.vmodel.specs.Same.{state_same}
+use Rattle.vmodel.specs.Run.{Setting, rules_of, state_after, given_by}
+use Rattle.vmodel.specs.declared.history.Item.TheVariants.{SlotEnd}
+use Rattle.vmodel.specs.Kept.{IsKept, RisesFrom, slot_times, AreShaped, HasValues, HasSlotEnd}
+
+-- the test that an explorer takes for two states is their equality
+abbrev pub TestsEquality : Type 0
+TestsEquality = (s t : State) → Decides (state_same s t) (s ≡ t)
+
+-- so the rules of a run are lawful
+abbrev pub HasLawfulRuns : Type 0
+HasLawfulRuns = (setting : Setting) → IsLawful (rules_of setting)
+
+-- each state keeps what specs/Kept.antt says
+abbrev pub IsAlwaysKept : Type 0
+IsAlwaysKept = (setting : Setting) (log : List (ℕ × ℕ)) (n : ℕ) → IsKept (state_after setting log n)
+
+-- no two slots of a run end at one time, and later ones end later
+abbrev pub HasRisingSlots : Type 0
+HasRisingSlots = (setting : Setting) (log : List (ℕ × ℕ)) (n : ℕ) →
+    IsRun (rules_of setting) log n → RisesFrom 0 (slot_times (given_by setting log n))
+
+-- each state has as many values as the design has variables
+abbrev pub IsAlwaysFull : Type 0
+IsAlwaysFull = (setting : Setting) (log : List (ℕ × ℕ)) (n : ℕ) →
+    length (state_after setting log n).values ≡ length setting.design.variables
+
+-- and each value has the length and the sign of its variable (4.2.2)
+abbrev pub IsAlwaysShaped : Type 0
+IsAlwaysShaped = (setting : Setting) (log : List (ℕ × ℕ)) (n : ℕ) →
+    AreShaped setting.design.variables (state_after setting log n).values
+
+-- each slot end has as many values as the design has variables
+abbrev pub ShowsFullSlots : Type 0
+ShowsFullSlots = (setting : Setting) (log : List (ℕ × ℕ)) (n : ℕ) →
+    All (HasValues (length setting.design.variables)) (given_by setting log n)
+
+-- a slot end that a history shows is one that its run was at
+abbrev pub ShowsOnlySlotEnds : Type 0
+ShowsOnlySlotEnds = (setting : Setting) (log : List (ℕ × ℕ)) (n time : ℕ) (values : List Vector) →
+    Contains (given_by setting log n) (SlotEnd time values) → HasSlotEnd setting log n time values
+
+-- and it shows each
+abbrev pub ShowsEachSlotEnd : Type 0
+ShowsEachSlotEnd = (setting : Setting) (log : List (ℕ × ℕ)) (n time : ℕ) (values : List Vector) →
+    HasSlotEnd setting log n time values → Contains (given_by setting log n) (SlotEnd time values)
