@@ -15,6 +15,8 @@ mod logs;
 #[cfg(test)]
 mod searches;
 #[cfg(test)]
+mod shared_reports;
+#[cfg(test)]
 mod texts;
 #[cfg(test)]
 mod wheel;

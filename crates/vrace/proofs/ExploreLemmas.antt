@@ -16,7 +16,7 @@ use Rattle.vreport.specs.Formed.{IsFormed}
 use Rattle.vreport.specs.Reports.{IsExploration}
 use Rattle.vreport.specs.Written.{TakesReport, StopsReport as StopsOutlet}
 use Rattle.vrace.specs.Asked.{Asked}
-use Rattle.vrace.specs.Explores.{EndsSearch, Explores, IsExploreReason, IsReported, IsSearchFault, IsSearchReason, LeavesReport, Reports, Searched, setting_for, status_of}
+use Rattle.vrace.specs.Explores.{AreWorkers, EndsSearch, Explores, FilesHaveEntriesWhereCut, HasEntriesWhereCut, IsExploreReason, IsReported, IsSearchFault, IsSearchReason, IsSharedReason, IsStatusOf, LeavesReport, Reports, Searched, setting_for}
 use Rattle.vrace.specs.Refusals.{IsOfWriting}
 use Rattle.vrace.specs.RunDumps.{failures_after, fault_of}
 use Rattle.vrace.specs.declared.exploring.Status.{Status}
@@ -34,7 +34,7 @@ count_of_writing (or.Fault write.Write) n = refl
 -- ---- of a setting
 
 module _ {W : Type 0} (contents : W → Option (List ℕ)) (setting : Setting) (limits : Limits) (report : Report) (exploration : IsExploration setting limits report) (formed : IsFormed setting report) (old new : Metered W) where
-  pub reported : (status : Status) → status ≡ status_of report → TakesReport (Written contents) setting report old new → Reports contents setting limits status old new
+  pub reported : (status : Status) → IsStatusOf report status → TakesReport (Written contents) setting report old new → Reports contents setting limits status old new
   reported status is taken = record {
     report = report;
     dumps = taken.dumps;
@@ -57,6 +57,9 @@ module _ {W : Type 0} (contents : W → Option (List ℕ)) (setting : Setting) (
 -- ---- of files
 
 module _ (files : List (List ℕ)) (asked : Asked) (searched : Searched files asked) (limits : Limits) (setting : Setting) (same : setting ≡ setting_for files asked searched) where
+  pub files_have : (status : Status) → HasEntriesWhereCut setting limits status → FilesHaveEntriesWhereCut files asked limits status
+  files_have status has = (searched, subst (λ (s : Setting). HasEntriesWhereCut s limits status) same has)
+
   search_reason : (fault : Fault) → IsSearchFault setting limits fault → IsSearchReason files asked limits fault
   search_reason (Growth at) p = (searched, subst (λ (s : Setting). HasSomeLongDump s limits) same p)
   search_reason (Memory m) p = tt
@@ -128,6 +131,9 @@ module _ (files : List (List ℕ)) (asked : Asked) (searched : Searched files as
     explore_reason fault (inl (p, kept)) = inr (search_reason fault p)
     explore_reason fault (inr s) = inr (subst (IsSearchReason files asked limits) (sym s.is)
         (reason_of_writing s.report s.dumps s.cause (subst (λ (t : Setting). IsReported t limits s.report s.dumps) same s.is_report)))
+
+    pub shared_reason : (workers : ℕ) → AreWorkers workers → (fault : Fault) → EndsSearch contents setting limits old new fault → IsSharedReason files asked limits workers fault
+    shared_reason workers are fault ends = inr (are, explore_reason fault ends)
 
     pub explore_left : (fault : Fault) → EndsSearch contents setting limits old new fault → LeavesReport contents files asked limits fault old new
     explore_left fault (inl (p, kept)) = inl kept

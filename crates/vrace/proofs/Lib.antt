@@ -6,3 +6,4 @@ mod CheckLemmas
 mod ReadLemmas
 mod LawLemmas
 mod CheckLawLemmas
+mod AgreementLemmas

@@ -1,21 +1,25 @@
 -- What an exploration writes, from the bytes of the files to the report; and when it is refused.
-use Rattle.std.specs.Prelude.{◌≡◌, ℕ, nat_lt, ◌⊎◌, cond, List, Option, length, take}
+use Rattle.std.specs.Prelude.{◌≡◌, ℕ, ◌<◌, ◌≤◌, ◌⊎◌, List, [], Option, length, take}
 use Rattle.std.specs.Io.KnownBytes.{Appends}
+use Rattle.basis.specs.Reasons.{Because}
 use Rattle.basis.specs.declared.memory.OrMemory.{OrMemory}
 use Rattle.statebook.specs.declared.limits.Limits.{Limits}
-use Rattle.vsrc.specs.Expansion.{expanded_text, expanded_timescale}
+use Rattle.statebook.specs.declared.reason.Reason.TheVariants.{Entries}
+use Rattle.explore.specs.declared.findings.Status.TheVariants as explored
+use Rattle.explore.specs.Found.{HasEntries}
 use Rattle.vast.specs.Design.{Design}
-use Rattle.vmodel.specs.Run.{Setting}
+use Rattle.vmodel.specs.Run.{Setting, rules_of}
 use Rattle.vcd_text.specs.Metered.{Grows, Stops}
 use Rattle.vcd_text.specs.declared.metered.Metered.{Metered}
+use Rattle.vcd_text.specs.declared.fault.TooMany.{TooMany}
 use Rattle.vcd_text.specs.declared.fault.WriteFault.{WriteFault}
-use Rattle.report_text.specs.declared.report.Outcome.{Outcome}
-use Rattle.report_text.specs.declared.report.Outcome.TheVariants as outcome
+use Rattle.report_text.specs.declared.report.Outcome.TheVariants.{Exhausted}
 use Rattle.report_text.specs.Report.{Report}
 use Rattle.report_text.specs.ReportText.{report_text}
 use Rattle.report_text.specs.WellFormed.{IsReport}
+use Rattle.vreport.specs.Agreement.{Agree}
 use Rattle.vreport.specs.Ends.{HasSomeLongDump}
-use Rattle.vreport.specs.Reports.{IsExploration}
+use Rattle.vreport.specs.Reports.{HasOutcome, IsExploration}
 use Rattle.vreport.specs.Written.{AreDumps}
 use Rattle.vrace.specs.Asked.{Asked}
 use Rattle.vrace.specs.Refusals.{IsDesignFault, IsOfWriting}
@@ -24,18 +28,20 @@ use Rattle.vrace.specs.RunDumps.{fault_of}
 use Rattle.vrace.specs.declared.exploring.Status.{Status}
 use Rattle.vrace.specs.declared.exploring.Status.TheVariants.{NoRace, Raced, Cut}
 use Rattle.vrace.specs.declared.fault.Fault.{Fault}
-use Rattle.vrace.specs.declared.fault.Fault.TheVariants.{Growth, Memory, Write}
+use Rattle.vrace.specs.declared.fault.Fault.TheVariants.{Growth, Memory, OutOfLimit, Write}
 
--- where no race is listed: whether nothing was missed
-abbrev pub status_by : Outcome → Status
-status_by outcome.Exhausted = NoRace
-status_by outcome.CutMemory = Cut
-status_by outcome.CutEntries = Cut
-status_by outcome.CutSteps = Cut
+-- What a report says in one word: no race was found and nothing was missed; or a race was found, and so the exploration went;
+-- or none was found, and for this reason the exploration was cut.
+abbrev pub IsStatusOf : Report → Status → Type 0
+IsStatusOf report NoRace = (report.races ≡ []) × HasOutcome explored.Exhausted report
+IsStatusOf report (Raced how) = (0 < length report.races) × HasOutcome how report
+IsStatusOf report (Cut reason) = (report.races ≡ []) × HasOutcome (explored.Cut reason) report
 
--- what a report says in one word: a race was found; or none was, and nothing was missed, or the exploration was cut
-abbrev pub status_of : Report → Status
-status_of report = cond (nat_lt 0 (length report.races)) Raced (status_by report.outcome)
+-- the status says that the exploration was cut for entries
+abbrev pub IsCutForEntries : Status → Type 0
+IsCutForEntries NoRace = ⊥
+IsCutForEntries (Raced how) = how ≡ explored.Cut Entries
+IsCutForEntries (Cut reason) = reason ≡ Entries
 
 -- a report of an exploration of the setting under the limits, and the dumps of its ends; its text is read again
 pub record IsReported (setting : Setting) (limits : Limits) (report : Report) (dumps : List (List ℕ)) : Type 0 where
@@ -50,14 +56,22 @@ pub record Reports {W : Type 0} (contents : W → Option (List ℕ)) (setting : 
   pub report : Report
   pub dumps : List (List ℕ)
   pub is_report : IsReported setting limits report dumps
-  pub status_is : status ≡ status_of report
+  pub status_is : IsStatusOf report status
   pub written : Grows contents old new (report_text report dumps)
+
+-- where the status says that the exploration was cut for entries, there are so many that it may come to
+abbrev pub HasEntriesWhereCut : Setting → Limits → Status → Type 0
+HasEntriesWhereCut setting limits status = IsCutForEntries status → HasEntries (rules_of setting) limits
 
 -- why there is no report
 abbrev pub IsSearchFault : Setting → Limits → Fault → Type 0
 IsSearchFault setting limits (Growth at) = HasSomeLongDump setting limits
 IsSearchFault setting limits (Memory m) = Unit {0}
 IsSearchFault setting limits other = ⊥
+
+-- what stops an exploration, as a fault of its own
+abbrev pub TellsSearchFault : OrMemory TooMany → Fault → Type 0
+TellsSearchFault cause fault = (setting : Setting) (limits : Limits) → Because (λ _. HasSomeLongDump setting limits) cause → IsSearchFault setting limits fault
 
 -- the fault came as the report went out
 pub record StopsReport {W : Type 0} (contents : W → Option (List ℕ)) (setting : Setting) (limits : Limits) (old new : Metered W) (fault : Fault) : Type 0 where
@@ -89,6 +103,15 @@ pub record Explores {W : Type 0} (contents : W → Option (List ℕ)) (files : L
   pub searched : Searched files asked
   pub reports : Reports contents (setting_for files asked searched) limits status old new
 
+-- this is what is explored of the files
+pub record IsSearched (files : List (List ℕ)) (asked : Asked) (setting : Setting) : Type 0 where
+  pub searched : Searched files asked
+  pub setting_is : setting ≡ setting_for files asked searched
+
+abbrev pub FilesHaveEntriesWhereCut : List (List ℕ) → Asked → Limits → Status → Type 0
+FilesHaveEntriesWhereCut files asked limits status =
+    (searched : Searched files asked) × HasEntriesWhereCut (setting_for files asked searched) limits status
+
 -- what a fault of the search or of its report says
 abbrev pub IsSearchReason : List (List ℕ) → Asked → Limits → Fault → Type 0
 IsSearchReason files asked limits (Growth at) = (searched : Searched files asked) × HasSomeLongDump (setting_for files asked searched) limits
@@ -100,6 +123,15 @@ IsSearchReason files asked limits other = ⊥
 -- why an exploration is refused: for its files or their text, or in the search
 abbrev pub IsExploreReason : List (List ℕ) → Asked → Limits → Fault → Type 0
 IsExploreReason files asked limits fault = IsDesignFault files asked.top fault ⊎ IsSearchReason files asked limits fault
+
+-- so many may work on one book
+abbrev pub AreWorkers : ℕ → Type 0
+AreWorkers workers = (1 ≤ workers) × (workers ≤ 64)
+
+-- the same where several workers are asked for: or their number is out of its limit
+abbrev pub IsSharedReason : List (List ℕ) → Asked → Limits → ℕ → Fault → Type 0
+IsSharedReason files asked limits workers fault =
+    (¬ AreWorkers workers × (fault ≡ OutOfLimit)) ⊎ (AreWorkers workers × IsExploreReason files asked limits fault)
 
 -- a front of a report stands written
 pub record IsBegunReport (files : List (List ℕ)) (asked : Asked) (limits : Limits) (old new : Option (List ℕ)) : Type 0 where
@@ -114,3 +146,23 @@ pub record IsBegunReport (files : List (List ℕ)) (asked : Asked) (limits : Lim
 abbrev pub LeavesReport : {W : Type 0} → (W → Option (List ℕ)) → List (List ℕ) → Asked → Limits → Fault → Metered W → Metered W → Type 0
 LeavesReport contents files asked limits fault old new =
     (new ≡ old) ⊎ (IsOfWriting fault × IsBegunReport files asked limits (contents old.inner) (contents new.inner))
+
+-- ---- two explorations of the same files
+
+-- they ask for the same top, time limit and grain
+pub record AskAlike (one other : Asked) : Type 0 where
+  pub top_is : one.top ≡ other.top
+  pub until_is : one.until ≡ other.until
+  pub grain_is : one.grain ≡ other.grain
+
+-- the report is of an exploration of the files, as `Explores` has it
+pub record IsReportOf (files : List (List ℕ)) (asked : Asked) (limits : Limits) (report : Report) : Type 0 where
+  pub searched : Searched files asked
+  pub exploration : IsExploration (setting_for files asked searched) limits report
+
+-- two such reports, under as many departures, that both say exhausted list the same ends and the same races
+abbrev pub ExploredFilesAgree : Type 0
+ExploredFilesAgree = (files : List (List ℕ)) (asked again : Asked) (limits others : Limits) (one other : Report) →
+    AskAlike asked again → limits.depart ≡ others.depart →
+    IsReportOf files asked limits one → IsReportOf files again others other →
+    one.outcome ≡ Exhausted → other.outcome ≡ Exhausted → Agree one other

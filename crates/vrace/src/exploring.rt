@@ -1,61 +1,118 @@
-// From files to the report of an exploration.
+// From files to the report of an exploration, on the caller's own thread or by several workers.
 
-ghost use Rattle.std.specs.Prelude.{◌≡◌, ◌≤◌, IfOk, IfErr};
+ghost use Rattle.std.specs.Prelude.{◌≡◌, ◌≤◌, IfOk, IfErr, Err};
+ghost use Rattle.statebook.specs.declared.reason.Reason.TheVariants.{Entries};
+ghost use Rattle.explore.specs.declared.findings.Status.TheVariants.{Cut};
 ghost use Rattle.vsrc.specs.Source.{file_bytes};
 ghost use Rattle.vast.specs.Names.{AreNamed};
+ghost use Rattle.vreport.specs.Reports.{IsReadable, ReportsExploration, TellsBytes, TellsOutcome};
 ghost use Rattle.vrace.specs.Asked.{asked};
-ghost use Rattle.vrace.specs.Explores.{EndsSearch, Explores, IsExploreReason, LeavesReport, Reports, status_by as status_by_outcome, status_of as status_of_report};
-ghost use Rattle.vrace.specs.RunDumps.{failures_after};
+ghost use Rattle.vrace.specs.Explores.{AreWorkers, EndsSearch, Explores, FilesHaveEntriesWhereCut, HasEntriesWhereCut, IsCutForEntries, IsExploreReason, IsSearched, IsSharedReason, IsStatusOf, LeavesReport, Reports, TellsSearchFault};
+ghost use Rattle.vrace.specs.Refusals.{IsDesignFault};
+ghost use Rattle.vrace.specs.RunDumps.{IsUnwritten, failures_after};
 
 use crate::design::design_of;
 use crate::fault::{At, Fault};
 use crate::options::Options;
 use crate::replay::of_writing;
 use basis::OrMemory;
-use report_text::{Outcome, Report};
+use explore::Reason;
 use statebook::Limits;
 use std::alloc::Global;
 use std::io::Write;
-use vcd_text::Metered;
+use std::sync::Wait;
+use std::thread::Threads;
+use vcd_text::{Metered, TooMany};
 use velab::law::elaboration_law;
 use vmachine::Machine;
-use vreport::{report_alone, write_report};
+use vreport::{Explored, report_alone, report_shared, write_report};
+use workpool::Gate;
 
-/// What a report says in one word.
+/// What a report says in one word, and how the exploration went. A cut for want of memory holds what only a refused growth
+/// makes.
 #[derive(Clone, Copy, Debug, PartialEq, Eq)]
 pub enum Status {
     /// No race, and nothing within the limits was missed.
     NoRace,
-    /// A race was found.
-    Raced,
-    /// No race was found, and the exploration was cut.
-    Cut,
+    /// A race was found; what else there may be depends on how the exploration went.
+    Raced(explore::Status),
+    /// No race was found, and the exploration was cut for this reason.
+    Cut(Reason),
 }
 
-// Where no race is listed: whether nothing was missed.
-fn status_by(outcome: Outcome) -> Status
-    ensures { result ≡ status_by_outcome outcome }
+// What the report says in one word.
+fn status_of(explored: &Explored) -> Status
+    requires outcome { TellsOutcome explored.now }
+    ensures status { IsStatusOf explored.now.report result }
+    ensures entries { IsCutForEntries result → explored.now.status ≡ Cut Entries }
 {
-    match outcome {
-        Outcome::Exhausted => Status::NoRace,
-        Outcome::CutMemory => Status::Cut,
-        Outcome::CutEntries => Status::Cut,
-        Outcome::CutSteps => Status::Cut,
+    if !explored.report.races.is_empty() {
+        return Status::Raced(explored.status);
+    }
+    match explored.status {
+        explore::Status::Exhausted => Status::NoRace,
+        explore::Status::Cut(reason) => Status::Cut(reason),
     }
 }
 
-fn status_of(report: &Report) -> Status
-    ensures { result ≡ status_of_report report.now }
+// Why nothing is reported.
+fn of_search(fault: OrMemory<TooMany>) -> Fault
+    ensures { TellsSearchFault fault result }
 {
-    if report.races.is_empty() {
-        status_by(report.outcome)
-    } else {
-        Status::Raced
+    match fault {
+        OrMemory::Fault(_) => Fault::Growth(At(None)),
+        OrMemory::Memory(refused) => Fault::Memory(refused),
     }
 }
 
-// Explores the machine and writes the report.
-fn explore_machine<W: Write>(
+// The machine that the files and the options ask for.
+fn machine_of(alloc: Global, files: &[Vec<u8>], options: &Options<'_>) -> Result<Machine, Fault>
+    ensures ok { IfOk result (IsSearched (file_bytes files.now) (asked options.now)) }
+    ensures named { IfOk result (λ machine. AreNamed machine.design) }
+    ensures until { IfOk result (λ machine. machine.until ≤ 4611686018427387903) }
+    ensures err { IfErr result (IsDesignFault (file_bytes files.now) (asked options.now).top) }
+    ensures unwritten { IfErr result IsUnwritten }
+{
+    elaboration_law();
+    let design = match design_of(alloc, files, options.top) {
+        Ok(design) => design,
+        Err(fault) => return Err(fault),
+    };
+    match Machine::new(alloc, design, options.until, options.grain) {
+        Ok(machine) => Ok(machine),
+        Err(refused) => Err(Fault::Memory(refused)),
+    }
+}
+
+// Writes the report of what was explored.
+fn write_explored<W: Write>(
+    alloc: Global,
+    machine: &Machine,
+    limits: &Limits,
+    explored: &Explored,
+    writer: &mut Metered<W>,
+) -> Result<Status, Fault>
+    requires named { AreNamed machine.now.design }
+    requires until { machine.now.until ≤ 4611686018427387903 }
+    requires exploration { ReportsExploration machine.now limits.now explored.now }
+    requires outcome { TellsOutcome explored.now }
+    requires bytes { TellsBytes machine.now explored.now }
+    requires formed { IsReadable machine.now explored.now }
+    ensures ok { IfOk result (λ status.
+        Reports W.contents machine.now limits.now status writer.old writer.new) }
+    ensures err { IfErr result (λ fault.
+        EndsSearch W.contents machine.now limits.now writer.old writer.new fault) }
+    ensures entries { IfOk result (λ status.
+        IsCutForEntries status → explored.now.status ≡ Cut Entries) }
+{
+    match write_report(alloc, machine, &explored.report, writer) {
+        Ok(()) => Ok(status_of(explored)),
+        Err(fault) => Err(of_writing(fault)),
+    }
+}
+
+// Explores the machine on this thread and writes the report.
+fn explore_machine_alone<W: Write>(
     alloc: Global,
     machine: &Machine,
     limits: &Limits,
@@ -63,18 +120,42 @@ fn explore_machine<W: Write>(
 ) -> Result<Status, Fault>
     requires named { AreNamed machine.now.design }
     requires until { machine.now.until ≤ 4611686018427387903 }
-    ensures ok { IfOk result (λ status. Reports W.contents machine.now limits.now status writer.old writer.new) }
-    ensures err { IfErr result (λ fault. EndsSearch W.contents machine.now limits.now writer.old writer.new fault) }
+    ensures ok { IfOk result (λ status.
+        Reports W.contents machine.now limits.now status writer.old writer.new) }
+    ensures err { IfErr result (λ fault.
+        EndsSearch W.contents machine.now limits.now writer.old writer.new fault) }
+    ensures entries { IfOk result (HasEntriesWhereCut machine.now limits.now) }
 {
-    let report = match report_alone(alloc, machine, limits) {
-        Ok(report) => report,
-        Err(OrMemory::Fault(_)) => return Err(Fault::Growth(At(None))),
-        Err(OrMemory::Memory(refused)) => return Err(Fault::Memory(refused)),
+    let explored = match report_alone(alloc, machine, limits) {
+        Ok(explored) => explored,
+        Err(fault) => return Err(of_search(fault)),
     };
-    match write_report(alloc, machine, &report, writer) {
-        Ok(()) => Ok(status_of(&report)),
-        Err(fault) => Err(of_writing(fault)),
-    }
+    write_explored(alloc, machine, limits, &explored, writer)
+}
+
+// Explores the machine by so many workers and writes the report.
+fn explore_machine_shared<R: Threads + Wait + Sync, G: Gate, W: Write>(
+    rt: &R,
+    alloc: Global,
+    machine: &Machine,
+    limits: &Limits,
+    workers: usize,
+    gate: &G,
+    writer: &mut Metered<W>,
+) -> Result<Status, Fault>
+    requires workers { AreWorkers workers }
+    requires named { AreNamed machine.now.design }
+    requires until { machine.now.until ≤ 4611686018427387903 }
+    ensures ok { IfOk result (λ status.
+        Reports W.contents machine.now limits.now status writer.old writer.new) }
+    ensures err { IfErr result (λ fault.
+        EndsSearch W.contents machine.now limits.now writer.old writer.new fault) }
+{
+    let explored = match report_shared(rt, alloc, machine, limits, workers, gate) {
+        Ok(explored) => explored,
+        Err(fault) => return Err(of_search(fault)),
+    };
+    write_explored(alloc, machine, limits, &explored, writer)
 }
 
 /// Explores the files on the caller's own thread: every run of at most `options.limits.depart` departures from the default
@@ -95,19 +176,62 @@ pub fn explore_text_alone<W: Write>(
     options: &Options<'_>,
     writer: &mut Metered<W>,
 ) -> Result<Status, Fault>
-    ensures report { IfOk result (λ status. Explores W.contents (file_bytes files.now) (asked options.now) options.now.limits status writer.old writer.new) }
-    ensures reason { IfErr result (λ fault. IsExploreReason (file_bytes files.now) (asked options.now) options.now.limits fault) }
-    ensures left { IfErr result (λ fault. LeavesReport W.contents (file_bytes files.now) (asked options.now) options.now.limits fault writer.old writer.new) }
-    ensures failures { IfErr result (λ fault. writer.new.failures ≡ failures_after fault writer.old.failures) }
+    ensures report { IfOk result (λ status.
+        Explores W.contents (file_bytes files.now) (asked options.now) options.now.limits status
+        writer.old writer.new) }
+    ensures entries { IfOk result (λ status.
+        FilesHaveEntriesWhereCut (file_bytes files.now) (asked options.now) options.now.limits
+        status) }
+    ensures reason { IfErr result (λ fault.
+        IsExploreReason (file_bytes files.now) (asked options.now) options.now.limits fault) }
+    ensures left { IfErr result (λ fault.
+        LeavesReport W.contents (file_bytes files.now) (asked options.now) options.now.limits fault
+        writer.old writer.new) }
+    ensures failures { IfErr result (λ fault.
+        writer.new.failures ≡ failures_after fault writer.old.failures) }
 {
-    elaboration_law();
-    let design = match design_of(alloc, files, options.top) {
-        Ok(design) => design,
+    let machine = match machine_of(alloc, files, options) {
+        Ok(machine) => machine,
         Err(fault) => return Err(fault),
     };
-    let machine = match Machine::new(alloc, design, options.until, options.grain) {
+    explore_machine_alone(alloc, &machine, &options.limits, writer)
+}
+
+/// Explores the files as `explore_text_alone` does, by so many workers, 1 to 64, of whom the caller's thread is the first;
+/// the gate is called before each job. Whatever their number, two reports that say `exhausted` list the same ends and races
+/// (`vreport::agreement_law`). Where a report says that it was cut for entries, nothing is promised of their number. That
+/// the call returns isn't promised either, as it waits for threads.
+///
+/// Refusals: E404 where the number of workers is none of these, before all else; then those of `explore_text_alone`.
+pub fn explore_text<R: Threads + Wait + Sync, G: Gate, W: Write>(
+    rt: &R,
+    alloc: Global,
+    files: &[Vec<u8>],
+    options: &Options<'_>,
+    workers: u64,
+    gate: &G,
+    writer: &mut Metered<W>,
+) -> Result<Status, Fault>
+    ensures workers { ¬ AreWorkers workers → result ≡ Err Fault.OutOfLimit }
+    ensures report { IfOk result (λ status.
+        Explores W.contents (file_bytes files.now) (asked options.now) options.now.limits status
+        writer.old writer.new) }
+    ensures reason { IfErr result (λ fault.
+        IsSharedReason (file_bytes files.now) (asked options.now) options.now.limits workers
+        fault) }
+    ensures left { IfErr result (λ fault.
+        LeavesReport W.contents (file_bytes files.now) (asked options.now) options.now.limits fault
+        writer.old writer.new) }
+    ensures failures { IfErr result (λ fault.
+        writer.new.failures ≡ failures_after fault writer.old.failures) }
+{
+    if workers < 1 || 64 < workers {
+        return Err(Fault::OutOfLimit);
+    }
+    let machine = match machine_of(alloc, files, options) {
         Ok(machine) => machine,
-        Err(refused) => return Err(Fault::Memory(refused)),
+        Err(fault) => return Err(fault),
     };
-    explore_machine(alloc, &machine, &options.limits, writer)
+    let limits = &options.limits;
+    explore_machine_shared(rt, alloc, &machine, limits, workers as usize, gate, writer)
 }

@@ -1,8 +1,10 @@
-// That a text has one replay, and a refusal none; and that a true report isn't refused.
+// That a text has one replay, and a refusal none; that a true report isn't refused; and that two explorations that miss
+// nothing agree.
 
 ghost use Rattle.std.specs.Prelude.{◌≡◌, ℕ, ◌<◌, ◌^◌, List, length};
 ghost use Rattle.vrace.specs.Asked.{Asked};
 ghost use Rattle.vrace.specs.Checks.{IsCheckReason, IsTrueText};
+ghost use Rattle.vrace.specs.Explores.{ExploredFilesAgree};
 ghost use Rattle.vrace.specs.Replays.{IsDump};
 ghost use Rattle.vrace.specs.Refusals.{IsReason, IsOfMemory, IsOfWriting};
 ghost use Rattle.vrace.specs.declared.fault.Fault.{Fault};
@@ -12,6 +14,7 @@ use sched_core::law::log_text_law;
 use velab::law::elaboration_law;
 use vlex::law::lexing_law;
 use vparse::law::reading_law;
+use vreport::agreement_law;
 
 /// Files have at most one dump under a log, whatever is asked for, and where they have one no fault has its reason
 /// but want of memory and a failed writer. So a dump and each refusal but E901 and E902 rule each other out.
@@ -35,4 +38,17 @@ pub fn check_law()
     elaboration_law();
     log_text_law();
     report_text_law();
+}
+
+/// Two reports of the same files, under the same top, time limit, departures and grain, that both say exhausted list the same
+/// ends by time, cause and values, and the same races by time, variable and values: whatever the limits of steps and of
+/// entries, and whatever the number of workers.
+pub fn explore_law()
+    ensures agree { ExploredFilesAgree }
+{
+    lexing_law();
+    reading_law();
+    elaboration_law();
+    log_text_law();
+    agreement_law();
 }

@@ -17,7 +17,8 @@ mod trace;
 mod unwatched;
 
 pub use checking::check_text;
-pub use exploring::{Status, explore_text_alone};
+pub use explore::Reason;
+pub use exploring::{Status, explore_text, explore_text_alone};
 pub use fault::{At, Detail, Fault};
 pub use options::Options;
 pub use read::{LIMIT, read_text};

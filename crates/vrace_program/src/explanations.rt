@@ -122,7 +122,7 @@ const EXPLANATIONS: [Explanation; 28] = [
     Explanation {
         number: 404,
         meaning: "a number out of its limit",
-        example: "--steps 0, --depart 5",
+        example: "--steps 0, --depart 5, --workers 65",
         advice: "look at docs/LANGUAGE.md, Limits",
     },
     Explanation {

@@ -1,6 +1,6 @@
 //! The program `vrace`. In go words and Verilog; out comes a report or a value change dump on standard output, or one line
-//! with the number of a fault on standard error. What an exploration writes is the contract of
-//! `vrace::explore_text_alone`, what a replay writes that of `vrace::replay_text`.
+//! with the number of a fault on standard error. What an exploration writes is the contract of `vrace::explore_text_alone`,
+//! with several workers of `vrace::explore_text`; what a replay writes that of `vrace::replay_text`.
 #![tactic(auto)]
 
 mod explanations;
@@ -14,16 +14,19 @@ use std::alloc::Global;
 use std::fs::File;
 use std::io::{BufWriter, Write};
 use std::process::ExitCode;
+use std::sync::Wait;
+use std::thread::Threads;
 use std::{env, io};
 use vcd_text::Metered;
 use vrace::{
-    Fault, Options, Show, Status, check_text, explore_text_alone, read_text, replay_text,
-    trace_text,
+    Fault, Options, Show, Status, check_text, explore_text, explore_text_alone, read_text,
+    replay_text, trace_text,
 };
 use words::{
     Request, commands, depart_of, entries_of, files_of, has_dashed_log, has_dashed_report,
-    has_dashed_top, is_traced, log_of, report_of, request_of,
+    has_dashed_top, is_traced, log_of, report_of, request_of, workers_of,
 };
+use workpool::OpenGate;
 
 // What stands for the limits of exploring, which a replay doesn't read.
 const DEPART: u64 = 1;
@@ -136,17 +139,35 @@ fn replay(
 fn status_code(status: Status) -> ExitCode {
     match status {
         Status::NoRace => ExitCode::SUCCESS,
-        Status::Raced => ExitCode::from(1),
-        Status::Cut => ExitCode::from(3),
+        Status::Raced(_) => ExitCode::from(1),
+        Status::Cut(_) => ExitCode::from(3),
+    }
+}
+
+// Explores with so many workers; one is this thread alone.
+fn write_report<R: Threads + Wait + Sync, W: Write>(
+    rt: &R,
+    alloc: Global,
+    texts: &[Vec<u8>],
+    options: &Options<'_>,
+    workers: u64,
+    writer: &mut Metered<W>,
+) -> Result<Status, Fault> {
+    if workers == 1 {
+        explore_text_alone(alloc, texts, options, writer)
+    } else {
+        explore_text(rt, alloc, texts, options, workers, &OpenGate, writer)
     }
 }
 
 // Writes the report of what is asked for onto standard output.
-fn explore(
+fn explore<R: Threads + Wait + Sync>(
     rt: &HostRuntime,
+    threads: &R,
     request: &Request<'_>,
     depart: u64,
     entries: u64,
+    workers: u64,
 ) -> Result<ExitCode, Stop> {
     let options = Options::new(
         request.top.map(|name| name.as_bytes()),
@@ -161,7 +182,7 @@ fn explore(
         return Err(Stop::NoMemory);
     };
     let mut writer = Metered::new(buffered);
-    let status = explore_text_alone(rt.alloc(), &texts, &options, &mut writer)?;
+    let status = write_report(threads, rt.alloc(), &texts, &options, workers, &mut writer)?;
     finish(&mut writer)?;
     Ok(status_code(status))
 }
@@ -243,14 +264,25 @@ fn replay_by<'a>(rt: &HostRuntime, matches: &ArgMatches<'a>) -> Result<ExitCode,
 }
 
 // Explores what the words ask for.
-fn explore_by<'a>(rt: &HostRuntime, matches: &ArgMatches<'a>) -> Result<ExitCode, Stop> {
+fn explore_by<'a, R: Threads + Wait + Sync>(
+    rt: &HostRuntime,
+    threads: &R,
+    matches: &ArgMatches<'a>,
+) -> Result<ExitCode, Stop> {
     if has_dashed_top(matches) {
         return Err(Stop::Usage);
     }
     let Ok(request) = request_of(rt.alloc(), matches) else {
         return Err(Stop::NoMemory);
     };
-    explore(rt, &request, depart_of(matches), entries_of(matches))
+    explore(
+        rt,
+        threads,
+        &request,
+        depart_of(matches),
+        entries_of(matches),
+        workers_of(matches),
+    )
 }
 
 // Checks what the words ask for.
@@ -274,8 +306,12 @@ fn refused_code(fault: Fault) -> ExitCode {
     }
 }
 
-// Does what the words ask for.
-fn run<'a>(rt: &HostRuntime, words: &'a [String]) -> Result<ExitCode, Stop> {
+// Does what the words ask for; workers start threads by the second handle.
+fn run<'a, R: Threads + Wait + Sync>(
+    rt: &HostRuntime,
+    threads: &R,
+    words: &'a [String],
+) -> Result<ExitCode, Stop> {
     let Ok(commands) = commands(rt.alloc()) else {
         return Err(Stop::NoMemory);
     };
@@ -290,7 +326,7 @@ fn run<'a>(rt: &HostRuntime, words: &'a [String]) -> Result<ExitCode, Stop> {
         return check_by(rt, matches);
     }
     if let Some(matches) = matches.subcommand_matches("explore") {
-        return explore_by(rt, matches);
+        return explore_by(rt, threads, matches);
     }
     match matches.subcommand_matches("replay") {
         Some(matches) => replay_by(rt, matches),
@@ -300,7 +336,7 @@ fn run<'a>(rt: &HostRuntime, words: &'a [String]) -> Result<ExitCode, Stop> {
 
 fn main(rt: HostRuntime) -> ExitCode {
     let done = match words_of(&rt) {
-        Ok(words) => run(&rt, &words),
+        Ok(words) => run(&rt, &rt, &words),
         Err(stop) => Err(stop),
     };
     match done {

@@ -106,6 +106,7 @@ fn explore_command<'a>(alloc: Global) -> Result<Command<'a>, NoMemory> {
         .arg(depart)?
         .arg(number(alloc, "steps", "The most steps of one run", "100000"))?
         .arg(entries)?
+        .arg(number(alloc, "workers", "How many threads explore, 1 to 64", "1"))?
         .arg(grain(alloc))?
         .arg(files(alloc))?;
     Ok(command)
@@ -204,6 +205,11 @@ pub fn depart_of(matches: &ArgMatches<'_>) -> u64 {
 /// How many entries cut a search.
 pub fn entries_of(matches: &ArgMatches<'_>) -> u64 {
     matches.get_one::<u64>("entries").unwrap_or(0)
+}
+
+/// How many workers explore.
+pub fn workers_of(matches: &ArgMatches<'_>) -> u64 {
+    matches.get_one::<u64>("workers").unwrap_or(0)
 }
 
 /// What the words behind `replay` and `explore` ask for alike.

@@ -1,5 +1,5 @@
 -- What an exploration reports.
-use Rattle.std.proofs.Common.{◌≡◌, Result, Ok, Err, IfOk, refl, sym, ◌∙◌}
+use Rattle.std.proofs.Common.{◌≡◌, refl, sym, ◌∙◌}
 use Rattle.statebook.specs.declared.limits.Limits.{Limits}
 use Rattle.explore.specs.declared.findings.Findings.{Findings}
 use Rattle.explore.specs.declared.findings.Status.{Status}
@@ -14,7 +14,8 @@ use Rattle.report_text.specs.declared.report.Outcome.TheVariants as outcome
 use Rattle.report_text.specs.Report.{Report}
 use Rattle.report_text.specs.WellFormed.{Each, EachTwo, IsEndBefore}
 use Rattle.vreport.specs.Ends.{GivesEveryEnd, IsTrueEnd}
-use Rattle.vreport.specs.Reports.{IsExploration, IsHeadOf, ShowsRaces, outcome_of}
+use Rattle.vreport.specs.Reports.{HasOutcome, IsExploration, IsHeadOf, MeansEntries, ShowsRaces, outcome_of}
+use Rattle.vreport.specs.declared.explored.Explored.{Explored}
 use Rattle.vreport.proofs.EntriesLemmas.{KnowsMachine, moved_entries}
 
 was_exhausted : (status : Status) → outcome_of status ≡ outcome.Exhausted → status ≡ Exhausted
@@ -23,12 +24,6 @@ was_exhausted (Cut (Memory m)) e = absurd (cc)
 was_exhausted (Cut Entries) e = absurd (cc)
 was_exhausted (Cut Steps) e = absurd (cc)
 
-was_cut_for_entries : (status : Status) → outcome_of status ≡ outcome.CutEntries → status ≡ Cut Entries
-was_cut_for_entries Exhausted e = absurd (cc)
-was_cut_for_entries (Cut (Memory m)) e = absurd (cc)
-was_cut_for_entries (Cut Entries) e = refl
-was_cut_for_entries (Cut Steps) e = absurd (cc)
-
 was_cut : (status : Status) → outcome_of status ≡ outcome.CutSteps → status ≡ Cut Steps
 was_cut Exhausted e = absurd (cc)
 was_cut (Cut (Memory m)) e = absurd (cc)
@@ -36,15 +31,12 @@ was_cut (Cut Entries) e = absurd (cc)
 was_cut (Cut Steps) e = refl
 
 pub exploration : (setting : Setting) → KnowsMachine setting → (limits : Limits) (findings : Findings Standing) (report : Report) → ListsAll (machine_rules setting) limits findings →
-    TellsSteps (machine_rules setting) limits findings → TellsEntries (machine_rules setting) limits findings → IsHeadOf setting limits findings.status report → Each (IsTrueEnd setting limits) report.ends → EachTwo IsEndBefore report.ends →
+    TellsSteps (machine_rules setting) limits findings → IsHeadOf setting limits report → HasOutcome findings.status report → Each (IsTrueEnd setting limits) report.ends → EachTwo IsEndBefore report.ends →
     GivesEveryEnd setting limits findings report.ends → ShowsRaces setting limits findings report.races → IsExploration setting limits report
-exploration setting known limits findings report all tells entries head ends order every races =
-    let whole : report.outcome ≡ outcome.Exhausted → IsWhole setting limits findings = λ e. (was_exhausted findings.status (sym head.outcome_is ∙ e), all) in
+exploration setting known limits findings report all tells head outcome_is ends order every races =
+    let whole : report.outcome ≡ outcome.Exhausted → IsWhole setting limits findings = λ e. (was_exhausted findings.status (sym outcome_is ∙ e), all) in
     record {
-      version_is = head.version_is;
-      head = head.setting_is;
-      depart_is = head.depart_is;
-      steps_is = head.steps_is;
+      head = head;
       ends = ends;
       ends_order = order;
       every_end = λ e. every (whole e);
@@ -57,16 +49,11 @@ exploration setting known limits findings report all tells entries head ends ord
         every = λ e. races.every (whole e);
         fewest = λ e. races.fewest (whole e);
       };
-      cut_for_steps = λ e. (let more = tells (was_cut findings.status (sym head.outcome_is ∙ e)) in
+      cut_for_steps = λ e. (let more = tells (was_cut findings.status (sym outcome_is ∙ e)) in
           record { log = more.log; steps = more.steps; short = more.short; run = known.there more.log more.steps more.run; more = more.more });
-      cut_for_entries = λ e. moved_entries setting known limits (entries (was_cut_for_entries findings.status (sym head.outcome_is ∙ e)));
     }
 
--- the same of a call that answers a report
-pub exploration_ok : {E : Type 0} (setting : Setting) → KnowsMachine setting → (limits : Limits) (findings : Findings Standing) (answer : Result Report E) →
-    ListsAll (machine_rules setting) limits findings → TellsSteps (machine_rules setting) limits findings → TellsEntries (machine_rules setting) limits findings → IfOk answer (IsHeadOf setting limits findings.status) →
-    IfOk answer (λ report. Each (IsTrueEnd setting limits) report.ends) → IfOk answer (λ report. EachTwo IsEndBefore report.ends) →
-    IfOk answer (λ report. GivesEveryEnd setting limits findings report.ends) → IfOk answer (λ report. ShowsRaces setting limits findings report.races) →
-    IfOk answer (IsExploration setting limits)
-exploration_ok setting known limits findings (Ok report) all tells entries head ends order every races = exploration setting known limits findings report all tells entries head ends order every races
-exploration_ok setting known limits findings (Err fault) all tells entries head ends order every races = tt
+-- a cut for entries, of findings that mean it
+pub means_entries : (setting : Setting) → KnowsMachine setting → (limits : Limits) (findings : Findings Standing) (explored : Explored) → TellsEntries (machine_rules setting) limits findings →
+    explored.status ≡ findings.status → MeansEntries setting limits explored
+means_entries setting known limits findings explored entries same cut = moved_entries setting known limits (entries (sym same ∙ cut))

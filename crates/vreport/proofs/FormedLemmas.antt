@@ -5,7 +5,6 @@ use Rattle.std.proofs.lemmas.Option.{slice_get-map, same_Some}
 use Rattle.basis.proofs.Lists.{listed_place}
 use Rattle.statebook.specs.declared.limits.Limits.{Limits}
 use Rattle.explore.specs.declared.findings.Findings.{Findings}
-use Rattle.explore.specs.declared.findings.Status.{Status}
 use Rattle.vbits.specs.Vectors.{Vector}
 use Rattle.vast.specs.Design.{Variable}
 use Rattle.vast.specs.Names.{AreNamed, has_letters_of_name, is_path}
@@ -33,9 +32,9 @@ AllShaped setting = (log : List (ℕ × ℕ)) (n : ℕ) → AreShaped setting.de
 
 -- ---- the head
 
-formed_head : (setting : Setting) (limits : Limits) (status : Status) (report : Report) → IsHeadOf setting limits status report → has_letters_of_name setting.design.top ≡ true →
+formed_head : (setting : Setting) (limits : Limits) (report : Report) → IsHeadOf setting limits report → has_letters_of_name setting.design.top ≡ true →
     setting.until ≤ 4611686018427387903 → IsHead report
-formed_head setting limits status report head top until = record {
+formed_head setting limits report head top until = record {
   top = ap has_letters_of_name head.setting_is.top_is ∙ top;
   until = (let e = head.setting_is.until_is in omega (arith, e, until));
   depart = (let e = head.depart_is in let few = limits.within.few_departures in omega (arith, e, few));
@@ -119,7 +118,7 @@ formed_race setting limits shaped race is order kept =
 -- ---- the whole
 
 pub formed : (setting : Setting) → AllShaped setting → (limits : Limits) (findings : Findings Standing) (report : Report) → AreNamed setting.design → setting.until ≤ 4611686018427387903 →
-    IsHeadOf setting limits findings.status report → Each HasWidth report.variables → Each (IsTrueEnd setting limits) report.ends → Each HasTimeAndLog report.ends →
+    IsHeadOf setting limits report → Each HasWidth report.variables → Each (IsTrueEnd setting limits) report.ends → Each HasTimeAndLog report.ends →
     EachTwo IsEndBefore report.ends → ShowsRaces setting limits findings report.races → Each HasTimeAndLogs report.races → IsFormed setting report
 formed setting shaped limits findings report named until head widths true_ends ends_kept ends_order races races_kept dumps are =
     let variables = setting.design.variables in
@@ -130,7 +129,7 @@ formed setting shaped limits findings report named until head widths true_ends e
     formed_race setting limits shaped race (races.each i race at) (races.values_order i race at)
     (kept i (told_race race) (slice_get-map told_race races.races i ∙ ap (option_map told_race) at))) in
     record {
-      head = formed_head setting limits findings.status report head named.top until;
+      head = formed_head setting limits report head named.top until;
       columns = subst (Each IsColumn) (sym columns) (formed_columns variables named.paths (subst (Each HasWidth) columns widths));
       names = subst (EachTwo (λ a b. a.name ≢ b.name)) (sym columns) (two_mapped column_of (λ a b. a.name ≢ b.name) variables named.distinct);
       ends = subst (λ cs. Each (IsEnd cs) report.ends) (sym columns) (formed_ends setting limits shaped report.ends true_ends ends_kept);

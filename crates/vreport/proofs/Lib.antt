@@ -13,3 +13,4 @@ pub mod TextOrderLemmas
 pub mod LineLemmas
 pub mod FormedLemmas
 pub mod TruthLemmas
+pub mod AgreementLemmas

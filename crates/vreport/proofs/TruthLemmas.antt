@@ -49,8 +49,8 @@ module _ (setting : Setting) (limits : Limits) (report : Report) (depart_is : re
 
 pub exploration_true : (setting : Setting) (limits : Limits) (report : Report) → IsExploration setting limits report → IsTrueWithDumps setting report
 exploration_true setting limits report x dumps are = record {
-  head = x.head;
-  ends = true_ends setting limits report x.depart_is x.steps_is report.ends dumps x.ends are;
+  head = x.head.setting_is;
+  ends = true_ends setting limits report x.head.depart_is x.head.steps_is report.ends dumps x.ends are;
   races = subst (Each (IsTrueRace setting report)) (sym x.races.told_are)
-      (each_mapped told_race (IsTrueRace setting report) x.races.races (λ i race at. true_race setting limits report x.depart_is x.steps_is race (x.races.each i race at)));
+      (each_mapped told_race (IsTrueRace setting report) x.races.races (λ i race at. true_race setting limits report x.head.depart_is x.head.steps_is race (x.races.each i race at)));
 }

@@ -4,6 +4,7 @@ pub mod Truth
 pub mod Reports
 pub mod Written
 pub mod Formed
+pub mod Agreement
 pub mod Inner
 pub mod Dumps
 pub mod RunLaws

@@ -1,10 +1,12 @@
--- The report of what an explorer found: its head, and its races beside those of specs/Races of the races' own crate.
-use Rattle.std.specs.Prelude.{◌≡◌, ℕ, List, map}
+-- The report of what an explorer found: its head, and its races beside those of specs/Races of the races' own crate; and what
+-- an exploration reports.
+use Rattle.std.specs.Prelude.{◌≡◌, ℕ, ◌≤◌, List, map}
 use Rattle.statebook.specs.declared.limits.Limits.{Limits}
 use Rattle.explore.specs.declared.findings.Findings.{Findings}
 use Rattle.explore.specs.declared.findings.Status.{Status}
 use Rattle.explore.specs.declared.findings.Status.TheVariants.{Exhausted, Cut}
 use Rattle.statebook.specs.declared.reason.Reason.TheVariants.{Memory, Entries, Steps}
+use Rattle.vast.specs.Names.{AreNamed}
 use Rattle.vbits.specs.Vectors.{Vector}
 use Rattle.vmodel.specs.Run.{Setting, rules_of}
 use Rattle.vmachine.specs.declared.standing.Standing.{Standing}
@@ -16,9 +18,11 @@ use Rattle.report_text.specs.Report.{Race, Report}
 use Rattle.statebook.specs.Ways.{SomeRunExceeds}
 use Rattle.explore.specs.Found.{HasEntries}
 use Rattle.report_text.specs.WellFormed.{Each, EachTwo, IsEndBefore}
-use Rattle.vreport.specs.Ends.{IsTrueEnd, ListsEveryEnd}
+use Rattle.vreport.specs.Ends.{HasBytes, IsTrueEnd, ListsEveryEnd}
+use Rattle.vreport.specs.Formed.{IsFormed}
 use Rattle.vreport.specs.Truth.{IsTrueHead}
 use Rattle.vreport.specs.Values.{value_text}
+use Rattle.vreport.specs.declared.explored.Explored.{Explored}
 
 -- how the exploration went
 abbrev pub outcome_of : Status → Outcome
@@ -27,13 +31,15 @@ outcome_of (Cut (Memory m)) = outcome.CutMemory
 outcome_of (Cut Entries) = outcome.CutEntries
 outcome_of (Cut Steps) = outcome.CutSteps
 
+abbrev pub HasOutcome : Status → Report → Type 0
+HasOutcome status report = report.outcome ≡ outcome_of status
+
 -- the head is that of the setting and of the limits
-pub record IsHeadOf (setting : Setting) (limits : Limits) (status : Status) (report : Report) : Type 0 where
+pub record IsHeadOf (setting : Setting) (limits : Limits) (report : Report) : Type 0 where
   pub version_is : report.version ≡ Two
   pub setting_is : IsTrueHead setting report
   pub depart_is : report.depart ≡ limits.depart
   pub steps_is : report.steps ≡ limits.steps
-  pub outcome_is : report.outcome ≡ outcome_of status
 
 -- ---- races
 
@@ -72,16 +78,32 @@ pub record AreRaces (setting : Setting) (limits : Limits) (report : Report) : Ty
 
 -- The report is of this setting, explored under these limits. Each end is that of a run within the limits, each race is
 -- one. Where it says exhausted, every run of at most so many departures that ends does so in a listed end, with no fewer
--- departures than its log. Where it says that it was cut for steps, such a run takes more steps than the limit; where it says
--- that it was cut for entries, there are so many that the exploration may come to.
+-- departures than its log. Where it says that it was cut for steps, such a run takes more steps than the limit.
 pub record IsExploration (setting : Setting) (limits : Limits) (report : Report) : Type 0 where
-  pub version_is : report.version ≡ Two
-  pub head : IsTrueHead setting report
-  pub depart_is : report.depart ≡ limits.depart
-  pub steps_is : report.steps ≡ limits.steps
+  pub head : IsHeadOf setting limits report
   pub ends : Each (IsTrueEnd setting limits) report.ends
   pub ends_order : EachTwo IsEndBefore report.ends
   pub every_end : report.outcome ≡ outcome.Exhausted → ListsEveryEnd setting limits.depart report.ends
   pub races : AreRaces setting limits report
   pub cut_for_steps : report.outcome ≡ outcome.CutSteps → SomeRunExceeds (rules_of setting) limits
-  pub cut_for_entries : report.outcome ≡ outcome.CutEntries → HasEntries (rules_of setting) limits
+
+-- ---- of a report and the status of its exploration
+
+abbrev pub ReportsExploration : Setting → Limits → Explored → Type 0
+ReportsExploration setting limits explored = IsExploration setting limits explored.report
+
+-- the report says how the exploration went
+abbrev pub TellsOutcome : Explored → Type 0
+TellsOutcome explored = HasOutcome explored.status explored.report
+
+-- it was cut for entries only where there are so many that the exploration may come to; so it is of one thread alone
+abbrev pub MeansEntries : Setting → Limits → Explored → Type 0
+MeansEntries setting limits explored = explored.status ≡ Cut Entries → HasEntries (rules_of setting) limits
+
+-- the dump of each end's run has as many bytes as the end tells
+abbrev pub TellsBytes : Setting → Explored → Type 0
+TellsBytes setting explored = Each (HasBytes setting explored.report.steps) explored.report.ends
+
+-- where names are names and the time limit is within its own, the text of the report can be read again
+abbrev pub IsReadable : Setting → Explored → Type 0
+IsReadable setting explored = AreNamed setting.design → setting.until ≤ 4611686018427387903 → IsFormed setting explored.report

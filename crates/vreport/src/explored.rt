@@ -1,21 +1,59 @@
-// From a machine to the report of its exploration, on the caller's own thread.
+// From a machine to the report of its exploration, on the caller's own thread or by several workers.
 
 ghost use Rattle.std.specs.Prelude.{◌≡◌, ◌≤◌, IfOk};
 ghost use Rattle.basis.specs.Reasons.{IfFault};
-ghost use Rattle.report_text.specs.WellFormed.{Each};
-ghost use Rattle.vast.specs.Names.{AreNamed};
-ghost use Rattle.vreport.specs.Ends.{HasBytes, HasSomeLongDump};
-ghost use Rattle.vreport.specs.Formed.{IsFormed};
-ghost use Rattle.vreport.specs.Reports.{IsExploration};
+ghost use Rattle.explore.specs.Found.{ListsAll, ListsFound, TellsSteps};
+ghost use Rattle.vmachine.specs.Machines.{machine_rules};
+ghost use Rattle.vreport.specs.Ends.{HasSomeLongDump};
+ghost use Rattle.vreport.specs.Reports.{IsReadable, MeansEntries, ReportsExploration, TellsBytes, TellsOutcome};
 
 use crate::report::report_of;
 use basis::OrMemory;
-use explore::explore_alone;
+use explore::{Findings, Status, explore, explore_alone};
 use report_text::Report;
 use statebook::Limits;
 use std::alloc::Global;
+use std::sync::Wait;
+use std::thread::Threads;
 use vcd_text::TooMany;
-use vmachine::{Machine, machine_law};
+use vmachine::{Machine, Standing, machine_law};
+use workpool::Gate;
+
+/// The report of an exploration, and how that went. A status that says that memory was refused holds what only a refused
+/// growth makes.
+#[derive(Drop)]
+pub struct Explored {
+    pub report: Report,
+    pub status: Status,
+}
+
+// The report of what was found, by whomever.
+fn report_found(
+    alloc: Global,
+    machine: &Machine,
+    findings: &Findings<Standing>,
+    limits: &Limits,
+) -> Result<Explored, OrMemory<TooMany>>
+    requires found { ListsFound (machine_rules machine.now) limits.now findings.now }
+    requires exhausted { ListsAll (machine_rules machine.now) limits.now findings.now }
+    requires steps { TellsSteps (machine_rules machine.now) limits.now findings.now }
+    ensures exploration { IfOk result (ReportsExploration machine.now limits.now) }
+    ensures outcome { IfOk result TellsOutcome }
+    ensures status { IfOk result (λ explored. explored.status ≡ findings.now.status) }
+    ensures bytes { IfOk result (TellsBytes machine.now) }
+    ensures formed { IfOk result (IsReadable machine.now) }
+    ensures long { IfFault result (λ _. HasSomeLongDump machine.now limits.now) }
+{
+    machine_law();
+    let report = match report_of(alloc, machine, findings, limits) {
+        Ok(report) => report,
+        Err(fault) => return Err(fault),
+    };
+    Ok(Explored {
+        report,
+        status: findings.status,
+    })
+}
 
 /// Explores the machine under the limits and reports what was found: every run of at most `limits.depart` departures, on
 /// the caller's own thread (docs/SCHEDULING.md; docs/RACES.md).
@@ -28,13 +66,40 @@ pub fn report_alone(
     alloc: Global,
     machine: &Machine,
     limits: &Limits,
-) -> Result<Report, OrMemory<TooMany>>
-    ensures exploration { IfOk result (IsExploration machine.now limits.now) }
-    ensures bytes { IfOk result (λ report. Each (HasBytes machine.now report.steps) report.ends) }
-    ensures formed { AreNamed machine.now.design → machine.now.until ≤ 4611686018427387903 → IfOk result (IsFormed machine.now) }
+) -> Result<Explored, OrMemory<TooMany>>
+    ensures exploration { IfOk result (ReportsExploration machine.now limits.now) }
+    ensures outcome { IfOk result TellsOutcome }
+    ensures entries { IfOk result (MeansEntries machine.now limits.now) }
+    ensures bytes { IfOk result (TellsBytes machine.now) }
+    ensures formed { IfOk result (IsReadable machine.now) }
     ensures long { IfFault result (λ _. HasSomeLongDump machine.now limits.now) }
 {
     machine_law();
     let findings = explore_alone(alloc, machine, limits)?;
-    report_of(alloc, machine, &findings, limits)
+    report_found(alloc, machine, &findings, limits)
+}
+
+/// The same by so many workers, 1 to 64, of whom the caller's thread is the first; the gate is called before each job. What
+/// is told is as true as of `report_alone`, but that there were so many entries where the report says that it was cut for
+/// them: of that nothing is promised.
+///
+/// E901 and the other fault as of `report_alone`.
+pub fn report_shared<R: Threads + Wait + Sync, G: Gate>(
+    rt: &R,
+    alloc: Global,
+    machine: &Machine,
+    limits: &Limits,
+    workers: usize,
+    gate: &G,
+) -> Result<Explored, OrMemory<TooMany>>
+    requires workers { (1 ≤ workers) × (workers ≤ 64) }
+    ensures exploration { IfOk result (ReportsExploration machine.now limits.now) }
+    ensures outcome { IfOk result TellsOutcome }
+    ensures bytes { IfOk result (TellsBytes machine.now) }
+    ensures formed { IfOk result (IsReadable machine.now) }
+    ensures long { IfFault result (λ _. HasSomeLongDump machine.now limits.now) }
+{
+    machine_law();
+    let findings = explore(rt, alloc, machine, limits, workers, gate)?;
+    report_found(alloc, machine, &findings, limits)
 }

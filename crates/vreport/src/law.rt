@@ -1,8 +1,9 @@
-// That the report of an exploration is a true one.
+// That the report of an exploration is a true one, and that two that say exhausted agree.
 
 ghost use Rattle.statebook.specs.declared.limits.Limits.{Limits};
 ghost use Rattle.vmodel.specs.Run.{Setting};
 ghost use Rattle.report_text.specs.Report.{Report};
+ghost use Rattle.vreport.specs.Agreement.{ExhaustedAgree};
 ghost use Rattle.vreport.specs.Formed.{IsTrueWithDumps};
 ghost use Rattle.vreport.specs.Reports.{IsExploration};
 
@@ -10,4 +11,11 @@ ghost use Rattle.vreport.specs.Reports.{IsExploration};
 /// that its head names. It does nothing.
 pub fn report_law()
     ensures exploration_is_true { (setting : Setting) (limits : Limits) (report : Report) → IsExploration setting limits report → IsTrueWithDumps setting report }
+{}
+
+/// Two reports of one design, time limit and grain that both say exhausted, under as many departures, list the same ends
+/// by time, cause and values, and the same races by time, variable and values: whatever the limits of steps and entries,
+/// and whoever explored, on one thread or by workers. It does nothing.
+pub fn agreement_law()
+    ensures exhausted_agree { ExhaustedAgree }
 {}

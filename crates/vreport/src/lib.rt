@@ -14,8 +14,8 @@ mod values;
 mod write;
 
 pub use dump::write_dump;
-pub use explored::report_alone;
-pub use law::report_law;
+pub use explored::{Explored, report_alone, report_shared};
+pub use law::{agreement_law, report_law};
 pub use report::report_of;
 pub use values::{line_of_values, text_of_value};
 pub use write::write_report;

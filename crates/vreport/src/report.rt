@@ -9,7 +9,7 @@ ghost use Rattle.vmachine.specs.Machines.{machine_rules};
 ghost use Rattle.vreport.specs.Ends.{GivesEveryEnd, HasBytes, HasSomeLongDump, IsTrueEnd};
 ghost use Rattle.vreport.specs.Formed.{IsFormed};
 ghost use Rattle.vreport.specs.Inner.{HasLog, HasTimeAndLogs, HasWidth};
-ghost use Rattle.vreport.specs.Reports.{IsHeadOf, ShowsRaces, outcome_of as outcome_by_status, told_race, told_value};
+ghost use Rattle.vreport.specs.Reports.{HasOutcome, IsHeadOf, ShowsRaces, outcome_of as outcome_by_status, told_race, told_value};
 ghost use Rattle.vreport.specs.Truth.{column_of};
 
 use crate::ends::ends_of;
@@ -104,7 +104,8 @@ pub fn report_of(
     limits: &Limits,
 ) -> Result<Report, OrMemory<TooMany>>
     requires found { ListsFound (machine_rules machine.now) limits.now findings.now }
-    ensures head { IfOk result (IsHeadOf machine.now limits.now findings.now.status) }
+    ensures head { IfOk result (IsHeadOf machine.now limits.now) }
+    ensures outcome { IfOk result (HasOutcome findings.now.status) }
     ensures true_ends { IfOk result (λ report. Each (IsTrueEnd machine.now limits.now) report.ends) }
     ensures bytes { IfOk result (λ report. Each (HasBytes machine.now limits.now.steps) report.ends) }
     ensures every_end { IfOk result (λ report. GivesEveryEnd machine.now limits.now findings.now report.ends) }

@@ -1,9 +1,12 @@
+use Rattle.std.proofs.Common.{◌≡◌}
+use Rattle.std.proofs.lemmas.Result.{IfOk-weaker}
+use Rattle.vreport.specs.Reports.{MeansEntries}
 use Rattle.vreport.proofs.EntriesLemmas.{KnowsMachine}
-use Rattle.vreport.proofs.ExploredLemmas.{exploration_ok}
+use Rattle.vreport.proofs.ExploredLemmas.{means_entries}
 use Rattle.vreport.proofs.explored.report_alone.Goals as goal
 
-pub returns-clause-exploration : goal.returns-clause-exploration
-returns-clause-exploration c =
+pub returns-clause-entries : goal.returns-clause-entries
+returns-clause-entries c =
     let law = c.machine_law.ensures in
     let known : KnowsMachine c.args.machine.now = record {
       there = law.runs c.args.machine.now;
@@ -15,5 +18,5 @@ returns-clause-exploration c =
       one = law.one c.args.machine.now;
       only = law.only c.args.machine.now;
     } in
-    exploration_ok c.args.machine.now known c.args.limits.now c.in_ok-findings.findings c.report_of.result c.in_ok-findings.ensures.exhausted
-    c.in_ok-findings.ensures.steps c.in_ok-findings.ensures.entries c.report_of.ensures.head c.report_of.ensures.true_ends c.report_of.ensures.ends_order c.report_of.ensures.every_end c.report_of.ensures.races
+    IfOk-weaker c.report_found.result (λ explored. explored.status ≡ c.in_ok-findings.findings.status) (MeansEntries c.args.machine.now c.args.limits.now)
+    (λ explored same. means_entries c.args.machine.now known c.args.limits.now c.in_ok-findings.findings explored c.in_ok-findings.ensures.entries same) c.report_found.ensures.status

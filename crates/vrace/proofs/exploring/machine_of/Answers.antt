@@ -1,0 +1,18 @@
+use Rattle.std.proofs.Common.{option_map, subst, sym}
+use Rattle.vast.specs.Names.{AreNamed}
+use Rattle.vmodel.specs.Run.{Setting}
+use Rattle.vrace.specs.Replays.{texts_of}
+use Rattle.vrace.proofs.exploring.machine_of.Goals as goal
+
+pub returns-in-Ok-new-clause-ok : goal.returns-in-Ok-new-clause-ok
+returns-in-Ok-new-clause-ok c = record {
+  searched = record { are_read = c.in-Ok.ensures.read; design = c.in-Ok.design; is_design = c.in-Ok.ensures.ok };
+  setting_is = c.in-Ok-new.ensures;
+}
+
+pub returns-in-Ok-new-clause-named : goal.returns-in-Ok-new-clause-named
+returns-in-Ok-new-clause-named c =
+    let known = c.in-Ok.ensures.ok in
+    let top = option_map (λ name. name.now) c.args.options.now.top in
+    subst (λ (s : Setting). AreNamed s.design) (sym c.in-Ok-new.ensures)
+    (c.elaboration_law.ensures.named (texts_of known.is_tree.pieces) known.tree top c.in-Ok.design known.is_tree.derived known.elaborated)

@@ -1,0 +1,13 @@
+use Rattle.vrace.proofs.AgreementLemmas.{agree}
+use Rattle.vrace.proofs.LawLemmas.{Laws}
+use Rattle.vrace.proofs.law.explore_law.Goals as goal
+
+pub returns : goal.returns
+returns c =
+    let laws : Laws = record {
+      one_list = c.lexing_law.ensures.one;
+      reads = c.reading_law.ensures.complete;
+      one_design = c.elaboration_law.ensures.one;
+      one_log = c.log_text_law.ensures.one;
+    } in
+    record { agree = agree laws c.agreement_law.ensures.exhausted_agree }

@@ -1,0 +1,44 @@
+-- When two reports tell the same ends and the same races; the logs and the bytes of the dumps beside them aren't compared.
+use Rattle.std.specs.Prelude.{◌≡◌, ℕ, List, slice_get, Some}
+use Rattle.statebook.specs.declared.limits.Limits.{Limits}
+use Rattle.vmodel.specs.declared.history.Cause.{Cause}
+use Rattle.vmodel.specs.Run.{Setting}
+use Rattle.report_text.specs.declared.report.Outcome.TheVariants.{Exhausted}
+use Rattle.report_text.specs.Report.{End, Race, Report}
+use Rattle.vreport.specs.Reports.{IsExploration}
+
+-- an end of this time, for this cause, with these values is listed
+pub record HasEnd (report : Report) (time : ℕ) (cause : Cause) (line : List ℕ) : Type 0 where
+  pub place : ℕ
+  pub end : End
+  pub at : slice_get report.ends place ≡ Some end
+  pub time_is : end.time ≡ time
+  pub cause_is : end.cause ≡ cause
+  pub line_is : end.line ≡ line
+
+-- a race at this time, of this variable, is listed, and among its values this one, by its digits
+pub record HasRaced (report : Report) (time variable : ℕ) (digits : List ℕ) : Type 0 where
+  pub place : ℕ
+  pub race : Race
+  pub at : slice_get report.races place ≡ Some race
+  pub time_is : race.time ≡ time
+  pub variable_is : race.variable ≡ variable
+  pub value_place : ℕ
+  pub seen : List ℕ × List (ℕ × ℕ)
+  pub value_at : slice_get race.values value_place ≡ Some seen
+  pub digits_are : seen.0 ≡ digits
+
+-- each end and each raced value of the one is listed in the other
+pub record IsPartOf (one other : Report) : Type 0 where
+  pub ends : (time : ℕ) (cause : Cause) (line : List ℕ) → HasEnd one time cause line → HasEnd other time cause line
+  pub races : (time variable : ℕ) (digits : List ℕ) → HasRaced one time variable digits → HasRaced other time variable digits
+
+-- they tell the same
+abbrev pub Agree : Report → Report → Type 0
+Agree one other = IsPartOf one other × IsPartOf other one
+
+-- two reports of explorations of one setting, under as many departures, that both say exhausted agree
+abbrev pub ExhaustedAgree : Type 0
+ExhaustedAgree = (setting : Setting) (limits others : Limits) (one other : Report) →
+    IsExploration setting limits one → IsExploration setting others other →
+    one.depart ≡ other.depart → one.outcome ≡ Exhausted → other.outcome ≡ Exhausted → Agree one other
