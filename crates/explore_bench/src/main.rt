@@ -1,19 +1,54 @@
 //! Explores a board of so many squares by 4, or by so many as a third word says, with so many departures at most, so that its
 //! instructions can be counted and its answers compared; a fourth and a fifth word limit the steps of a run and the entries.
-//! In go the numbers as words; out come the number of marks and the status. Without words nothing is run. No law is claimed.
+//! With a sixth word above 0 so many workers explore it, else `explore_alone`; with a seventh each mark is written with how many
+//! departures its log has. In go the numbers as words; out come the number of marks and the status, and the marks in order.
+//! Without words nothing is run. No law is claimed.
 #![tactic(auto)]
 
+ghost use Rattle.std.specs.Prelude.{◌≤◌};
+
 use anyhow::{Context, Result};
-use explore::{Reason, Status, explore_alone};
-use sched_core::Grid;
+use basis::NoMemory;
+use explore::{Findings, Reason, Status, explore, explore_alone};
+use sched_core::{Grid, Square};
 use statebook::Limits;
+use std::alloc::Global;
 use std::env;
+use std::sync::Wait;
+use std::thread::Threads;
+use workpool::OpenGate;
 
 // The number that a word tells, or what stands for a word that is left out.
 fn number(words: &[String], place: usize, default: u32) -> Result<u32> {
     match words.get(place) {
         Some(word) => word.parse::<u32>().context("reading a number"),
         None => Ok(default),
+    }
+}
+
+// What so many workers find, or `explore_alone` where there is none.
+fn found<R: Threads + Wait + Sync>(
+    rt: &R,
+    alloc: Global,
+    grid: &Grid,
+    limits: &Limits,
+    workers: usize,
+) -> Result<Findings<Square>, NoMemory>
+    requires { workers ≤ 64 }
+{
+    if workers == 0 {
+        return explore_alone(alloc, grid, limits);
+    }
+    explore(rt, alloc, grid, limits, workers, &OpenGate)
+}
+
+// How the search ended.
+fn told(status: Status) -> &'static str {
+    match status {
+        Status::Exhausted => "exhausted",
+        Status::Cut(Reason::Entries) => "cut by entries",
+        Status::Cut(Reason::Steps) => "cut by steps",
+        Status::Cut(Reason::Memory(_)) => "cut by memory",
     }
 }
 
@@ -26,16 +61,16 @@ fn main(rt: HostRuntime) -> Result<()> {
     let depart = number(&words, 2, 0)?;
     let steps = number(&words, 4, 1_000_000)?;
     let entries = number(&words, 5, 1_000_000)?;
+    let workers = number(&words, 6, 0)?.min(64);
     let limits = Limits::new(depart, steps, entries).context("limits")?;
-    let findings = explore_alone(rt.alloc(), &grid, &limits)
+    let findings = found(&rt, rt.alloc(), &grid, &limits, workers as usize)
         .ok()
         .context("memory")?;
-    let status = match findings.status {
-        Status::Exhausted => "exhausted",
-        Status::Cut(Reason::Entries) => "cut by entries",
-        Status::Cut(Reason::Steps) => "cut by steps",
-        Status::Cut(Reason::Memory(_)) => "cut by memory",
-    };
-    println!(rt; "{} marks, {status}", findings.marks.len())?;
+    println!(rt; "{} marks, {}", findings.marks.len(), told(findings.status))?;
+    if words.len() > 7 {
+        for (square, log) in &findings.marks {
+            println!(rt; "{} {} {}", square.x, square.y, log.members().len())?;
+        }
+    }
     Ok(())
 }

@@ -1,11 +1,11 @@
 -- What stays of a worker from step to step, and what it has met so far.
-use Rattle.std.proofs.Common.{◌≡◌, ℕ, ◌+◌, true, Bool, List, [], ◌∷◌, ◌++◌, length, slice_get, Some, arith, ap, refl, sym, ◌∙◌, subst, inl, inr, length-append, ◌%◌, ◌^◌, None, ◌≤◌}
-use Rattle.std.proofs.lemmas.List.{map-append}
+use Rattle.std.proofs.Common.{◌≡◌, ℕ, ◌+◌, zero, suc, true, Bool, List, [], ◌∷◌, ◌++◌, length, slice_get, Some, arith, ap, refl, sym, ◌∙◌, subst, inl, inr, length-append, ◌%◌, ◌^◌, None, ◌≤◌}
+use Rattle.std.specs.Prelude.{reverse}
+use Rattle.std.proofs.lemmas.List.{reverse-append}
 use native.Mathlib.Nat.{mod-add-mod}
 use Rattle.atomic_table.specs.Seated.{TableId}
 use Rattle.basis.specs.declared.memory.NoMemory.{NoMemory}
 use Rattle.shardbook.specs.Passes.{Counts}
-use Rattle.basis.proofs.Lists.{last_or_before}
 use Rattle.sched_core.specs.Rules.{Rules, IsLawful}
 use Rattle.statebook.specs.Books.{Dominates}
 use Rattle.statebook.specs.ExplorerCore.{choices_of}
@@ -50,37 +50,40 @@ met_by r law same agree e next found c f d = record {
   };
 }
 
--- Entries were found for the first n choices.
-pub record HasMetUpTo {S : Type 0} (r : Rules S) (e : Entry S) (n : ℕ) (found : List (Entry S)) : Type 0 where
+-- one entry was found for each of the last choices, so many of all, in order
+pub record HasMetLast {S : Type 0} (r : Rules S) (e : Entry S) (all n : ℕ) (found : List (Entry S)) : Type 0 where
   pub count : length found ≡ n
-  pub met : (c : ℕ) (f : Entry S) → slice_get found c ≡ Some f → IsMetBy r e c f
+  pub met : (i c : ℕ) (f : Entry S) → slice_get found i ≡ Some f → c + n ≡ all + i → IsMetBy r e c f
 
-pub met_none : {S : Type 0} (r : Rules S) (e : Entry S) (next : List (Sight S)) → next ≡ [] → HasMetUpTo r e 0 (entries_of next)
-met_none {S} r e next none =
-    let P : List (Sight S) → Type 0 = λ l. HasMetUpTo r e 0 (entries_of l) in
-    subst P (sym none) (record { count = refl; met = λ c f at. absurd cc })
+pub met_none : {S : Type 0} (r : Rules S) (e : Entry S) (all : ℕ) (next : List (Sight S)) → next ≡ [] → HasMetLast r e all 0 (entries_of (reverse next))
+met_none {S} r e all next none =
+    let P : List (Sight S) → Type 0 = λ l. HasMetLast r e all 0 (entries_of (reverse l)) in
+    subst P (sym none) (record { count = refl; met = λ i c f at is. absurd cc })
 
-met_snoc : {S : Type 0} (r : Rules S) (e : Entry S) (n : ℕ) (found : List (Entry S)) (f : Entry S) → HasMetUpTo r e n found → IsMetBy r e n f → HasMetUpTo r e (n + 1) (found ++ f ∷ [])
-met_snoc {S} r e n found f h m = record {
-  count = omega (arith, length-append found (f ∷ []), h.count);
-  met = λ c g at. elim (last_or_before found f c g at) [
-    | inl there ↦ h.met c g there
-    | inr last ↦ (
-        let P : Entry S → Type 0 = λ x. IsMetBy r e c x in
-        let Q : ℕ → Type 0 = λ k. IsMetBy r e k f in
-        let at_n : n ≡ c = sym (last.0 ∙ h.count) in
-        subst P last.1 (subst Q at_n m))
-  ];
-}
+-- of what is found with the choice before them
+met_at : {S : Type 0} (r : Rules S) (e : Entry S) (all n c : ℕ) (found : List (Entry S)) (f : Entry S) → HasMetLast r e all n found → c + (n + 1) ≡ all → IsMetBy r e c f →
+    (i d : ℕ) (g : Entry S) → slice_get (f ∷ found) i ≡ Some g → d + (n + 1) ≡ all + i → IsMetBy r e d g
+met_at {S} r e all n c found f h before m zero d g at is =
+    let P : Entry S → Type 0 = λ x. IsMetBy r e d x in
+    let Q : ℕ → Type 0 = λ k. IsMetBy r e k f in
+    let itself : f ≡ g = cc in
+    let here : c ≡ d = omega (arith, before, is) in
+    subst P itself (subst Q here m)
+met_at r e all n c found f h before m (suc i) d g at is = h.met i d g at (omega (arith, is))
 
-pub met_more : {S : Type 0} (r : Rules S) (e : Entry S) (n : ℕ) (old new : List (Sight S)) (s : Sight S) → new ≡ old ++ s ∷ [] → HasMetUpTo r e n (entries_of old) → IsMetBy r e n s.entry → HasMetUpTo r e (n + 1) (entries_of new)
-met_more {S} r e n old new s is h m =
-    let P : List (Entry S) → Type 0 = λ l. HasMetUpTo r e (n + 1) l in
-    let grown : entries_of new ≡ entries_of old ++ s.entry ∷ [] = ap entries_of is ∙ map-append (λ (x : Sight S). x.entry) old (s ∷ []) in
-    subst P (sym grown) (met_snoc r e n (entries_of old) s.entry h m)
+met_cons : {S : Type 0} (r : Rules S) (e : Entry S) (all n c : ℕ) (found : List (Entry S)) (f : Entry S) → HasMetLast r e all n found → c + (n + 1) ≡ all → IsMetBy r e c f → HasMetLast r e all (n + 1) (f ∷ found)
+met_cons r e all n c found f h before m = record { count = omega (arith, h.count); met = met_at r e all n c found f h before m }
 
-pub met_all : {S : Type 0} (r : Rules S) (e : Entry S) (n : ℕ) (found : List (Entry S)) → HasMetUpTo r e n found → n ≡ choices_of (r.width e.state) e.budget → HasMetAll r e found
-met_all r e n found h all = record { count = h.count ∙ all; met = h.met }
+pub met_more : {S : Type 0} (r : Rules S) (e : Entry S) (all n c : ℕ) (old new : List (Sight S)) (s : Sight S) → new ≡ old ++ s ∷ [] → c + (n + 1) ≡ all → HasMetLast r e all n (entries_of (reverse old)) → IsMetBy r e c s.entry → HasMetLast r e all (n + 1) (entries_of (reverse new))
+met_more {S} r e all n c old new s is before h m =
+    let P : List (Entry S) → Type 0 = λ l. HasMetLast r e all (n + 1) l in
+    let grown : entries_of (reverse new) ≡ s.entry ∷ entries_of (reverse old) = ap (λ (l : List (Sight S)). entries_of (reverse l)) is ∙ ap entries_of (reverse-append old (s ∷ [])) in
+    subst P (sym grown) (met_cons r e all n c (entries_of (reverse old)) s.entry h before m)
+
+pub met_all : {S : Type 0} (r : Rules S) (e : Entry S) (all n : ℕ) (old new : List (Sight S)) → new ≡ reverse old → HasMetLast r e all n (entries_of (reverse old)) → n ≡ all → all ≡ choices_of (r.width e.state) e.budget → HasMetAll r e (entries_of new)
+met_all {S} r e all n old new is h each whole =
+    let P : List (Sight S) → Type 0 = λ l. HasMetAll r e (entries_of l) in
+    subst P (sym is) (record { count = h.count ∙ each ∙ whole; met = λ c f at. h.met c c f at (omega (arith, each)) })
 
 -- a pass that counted nothing more
 pub counted_pass : {B : Type 0} (running : ℕ) (w : Work B) (p : Counts) → p ≡ w.pass → IsCounted running w → IsCounted running (record w { pass = p })

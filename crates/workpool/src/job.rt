@@ -65,7 +65,9 @@ fn meet_choice<P: Space, Q: Quest<P::State>, B: Naming, R: Wait>(
 
 // Meets the book with what stands after each choice that the entry's budget allows, and answers with
 // what was met, in order; None where a way took more steps than the limit, and then the other choices
-// are met all the same.
+// are met all the same. The last choice is met first, so that the job of choice 0, which keeps the
+// budget, is put last and taken first: else most entries would be met with a low budget before a
+// greater one.
 fn meet_all<P: Space, Q: Quest<P::State>, B: Naming, R: Wait>(
     alloc: Global,
     rt: &R,
@@ -90,7 +92,8 @@ fn meet_all<P: Space, Q: Quest<P::State>, B: Naming, R: Wait>(
     let count = choice_count(space, entry);
     let mut next = Vec::new(alloc);
     let mut within = true;
-    for choice in 0..count {
+    for met in 0..count {
+        let choice = count - 1 - met;
         match meet_choice(
             alloc, rt, space, limits, book, tally, root, work, entry, choice,
         )? {
@@ -98,6 +101,7 @@ fn meet_all<P: Space, Q: Quest<P::State>, B: Naming, R: Wait>(
             None => within = false,
         }
     }
+    next.reverse();
     Ok(if within { Some(next) } else { None })
 }
 

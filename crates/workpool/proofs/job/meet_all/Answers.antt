@@ -1,4 +1,4 @@
-use Rattle.std.proofs.Common.{◌≡◌, ◌∙◌, true, false, ap, arith, sym, refl}
+use Rattle.std.proofs.Common.{◌≡◌, ◌∙◌, ◌+◌, ◌-◌, true, false, ap, arith, sym, refl}
 use Rattle.shardbook.specs.Finishes.{IsMetBy}
 use Rattle.statebook.specs.Ways.{ChoiceGoesPast}
 use Rattle.statebook.proofs.NextLemmas.{exceeds}
@@ -6,69 +6,72 @@ use Rattle.workpool.proofs.WorkLemmas.{met_none, met_more, met_all, same_itself,
 use Rattle.workpool.proofs.job.meet_all.Goals as goal
 use Rattle.workpool.proofs.job.meet_all.Goals.{in-Some+in_ok-push-in-Some, in-None, then-within, else-within}
 
-pub loop-choice-init : goal.loop-choice-init
-loop-choice-init g c = record {
+pub loop-met-init : goal.loop-met-init
+loop-met-init g c = record {
   seated = c.requires.seated;
   counted = λ running h. h;
   same = same_itself c.args.work.now;
   noted = refl;
-  met = λ t. met_none (g.P.Space.rules c.args.space.now) c.args.entry.now c.new-next.result.items c.new-next.ensures.items;
+  met = λ t. met_none (g.P.Space.rules c.args.space.now) c.args.entry.now c.choice_count-count.result c.new-next.result.items c.new-next.ensures.items;
   past = λ f. absurd cc;
 }
 
 pub returns-in_err-seen-clause-same : goal.returns-in_err-seen-clause-same
-returns-in_err-seen-clause-same g c = same_twice c.args.work.now c.loop-choice.work c.meet_choice.new.work c.loop-choice.invariant.same c.meet_choice.ensures.same
+returns-in_err-seen-clause-same g c = same_twice c.args.work.now c.loop-met.work c.meet_choice.new.work c.loop-met.invariant.same c.meet_choice.ensures.same
 
 pub returns-in_err-seen-clause-noted : goal.returns-in_err-seen-clause-noted
-returns-in_err-seen-clause-noted g c = c.meet_choice.ensures.noted ∙ c.loop-choice.invariant.noted
+returns-in_err-seen-clause-noted g c = c.meet_choice.ensures.noted ∙ c.loop-met.invariant.noted
 
 pub returns-in_err-push-in-Some-clause-same : goal.returns-in_err-push-in-Some-clause-same
-returns-in_err-push-in-Some-clause-same g c = same_twice c.args.work.now c.loop-choice.work c.meet_choice.new.work c.loop-choice.invariant.same c.meet_choice.ensures.same
+returns-in_err-push-in-Some-clause-same g c = same_twice c.args.work.now c.loop-met.work c.meet_choice.new.work c.loop-met.invariant.same c.meet_choice.ensures.same
 
 pub returns-in_err-push-in-Some-clause-noted : goal.returns-in_err-push-in-Some-clause-noted
-returns-in_err-push-in-Some-clause-noted g c = c.meet_choice.ensures.noted ∙ c.loop-choice.invariant.noted
+returns-in_err-push-in-Some-clause-noted g c = c.meet_choice.ensures.noted ∙ c.loop-met.invariant.noted
 
 pub returns-in_err-seen-clause-counted : goal.returns-in_err-seen-clause-counted
-returns-in_err-seen-clause-counted g c = λ running h. c.meet_choice.ensures.counted running (c.loop-choice.invariant.counted running h)
+returns-in_err-seen-clause-counted g c = λ running h. c.meet_choice.ensures.counted running (c.loop-met.invariant.counted running h)
 
 pub returns-in_err-push-in-Some-clause-counted : goal.returns-in_err-push-in-Some-clause-counted
-returns-in_err-push-in-Some-clause-counted g c = λ running h. c.meet_choice.ensures.counted running (c.loop-choice.invariant.counted running h)
+returns-in_err-push-in-Some-clause-counted g c = λ running h. c.meet_choice.ensures.counted running (c.loop-met.invariant.counted running h)
 
-pub loop-choice-preserved : goal.loop-choice-preserved
-loop-choice-preserved g c =
+pub loop-met-preserved : goal.loop-met-preserved
+loop-met-preserved g c =
     let r = g.P.Space.rules c.args.space.now in
-    let i = c.loop-choice.invariant in
+    let i = c.loop-met.invariant in
+    let all = c.choice_count-count.result in
+    let choice = all - 1 - c.loop-met.met in
+    let before : choice + (c.loop-met.met + 1) ≡ all = omega (arith, c.loop-met-test.true) in
     record {
-      seated = seated_same c.args.tally.now c.loop-choice.work c.meet_choice.new.work i.seated c.meet_choice.ensures.same;
+      seated = seated_same c.args.tally.now c.loop-met.work c.meet_choice.new.work i.seated c.meet_choice.ensures.same;
       counted = λ running h. c.meet_choice.ensures.counted running (i.counted running h);
-      same = same_twice c.args.work.now c.loop-choice.work c.meet_choice.new.work i.same c.meet_choice.ensures.same;
+      same = same_twice c.args.work.now c.loop-met.work c.meet_choice.new.work i.same c.meet_choice.ensures.same;
       noted = c.meet_choice.ensures.noted ∙ i.noted;
       met = λ t. elim c.match-branch-2.branch [
         | in-Some+in_ok-push-in-Some w ↦ (
-            let m : IsMetBy r c.args.entry.now c.loop-choice.choice w.in-Some.seen.entry = rw w.in-Some.is at c.in_ok-seen.ensures.met in
-            met_more r c.args.entry.now c.loop-choice.choice c.loop-choice.next.items c.match-branch-2.next.items w.in-Some.seen
-            (ap (λ v. v.items) w.next-is ∙ w.in_ok-push-in-Some.ensures.items) (i.met (sym w.within-is ∙ t)) m)
+            let m : IsMetBy r c.args.entry.now choice w.in-Some.seen.entry = rw w.in-Some.is at c.in_ok-seen.ensures.met in
+            met_more r c.args.entry.now all c.loop-met.met choice c.loop-met.next.items c.match-branch-2.next.items w.in-Some.seen
+            (ap (λ v. v.items) w.next-is ∙ w.in_ok-push-in-Some.ensures.items) before (i.met (sym w.within-is ∙ t)) m)
         | in-None w ↦ absurd (let no : true ≡ false = sym t ∙ w.within-is in cc)
       ];
       past = λ f. elim c.match-branch-2.branch [
         | in-Some+in_ok-push-in-Some w ↦ i.past (sym w.within-is ∙ f)
         | in-None w ↦ (
-            let p : ChoiceGoesPast r c.args.limits.now c.args.entry.now c.loop-choice.choice = rw w.in-None.is at c.in_ok-seen.ensures.past in
-            exceeds r (g.met.P.Space.lawful c.args.space.now) c.args.limits.now c.args.entry.now c.loop-choice.choice c.requires.entry
-            (omega (arith, c.loop-choice-test.true, c.choice_count-count.ensures)) p)
+            let p : ChoiceGoesPast r c.args.limits.now c.args.entry.now choice = rw w.in-None.is at c.in_ok-seen.ensures.past in
+            exceeds r (g.met.P.Space.lawful c.args.space.now) c.args.limits.now c.args.entry.now choice c.requires.entry
+            (omega (arith, c.loop-met-test.true, c.choice_count-count.ensures)) p)
       ];
     }
 
 pub returns-clause-met : goal.returns-clause-met
 returns-clause-met g c = elim c.if-within.branch [
   | then-within w ↦ rw w.result-is
-      (met_all (g.P.Space.rules c.args.space.now) c.args.entry.now c.loop-choice.choice _ (c.loop-choice.invariant.met w.if-within.true)
-      (omega (arith, c.choice_count-count.ensures, c.loop-choice-test.false, c.loop-choice.auto.choice-end)))
+      (met_all (g.P.Space.rules c.args.space.now) c.args.entry.now c.choice_count-count.result c.loop-met.met c.loop-met.next.items c.reverse.new.self.items c.reverse.ensures.items
+      (c.loop-met.invariant.met w.if-within.true) (omega (arith, c.loop-met-test.false, c.loop-met.auto.met-end)) c.choice_count-count.ensures)
   | else-within w ↦ rw w.result-is tt
 ]
 
 pub returns-clause-past : goal.returns-clause-past
 returns-clause-past g c = elim c.if-within.branch [
   | then-within w ↦ rw w.result-is tt
-  | else-within w ↦ rw w.result-is (c.loop-choice.invariant.past w.if-within.false)
+  | else-within w ↦ rw w.result-is (c.loop-met.invariant.past w.if-within.false)
 ]

@@ -1,16 +1,17 @@
+use Rattle.std.specs.Prelude.{reverse}
 use Rattle.std.proofs.Common.{◌≡◌, true, false}
 use Rattle.shardbook.specs.Sights.{entries_of}
 use Rattle.statebook.specs.Ways.{SomeRunExceeds}
 use Rattle.workpool.specs.Inner.Works.{IsSamePlace, IsSeated, StaysCounted}
-use Rattle.workpool.proofs.WorkLemmas.{HasMetUpTo}
+use Rattle.workpool.proofs.WorkLemmas.{HasMetLast}
 use Rattle.workpool.proofs.job.meet_all.Given as goal
 
-abbrev pub invariant-loop-choice : goal.invariant-loop-choice
-invariant-loop-choice g l = record {
+abbrev pub invariant-loop-met : goal.invariant-loop-met
+invariant-loop-met g l = record {
   seated : IsSeated l.tally l.work;
   counted : StaysCounted l.fn.work l.work;
   same : IsSamePlace l.fn.work l.work;
   noted : l.work.past ≡ l.fn.work.past;
-  met : l.within ≡ true → HasMetUpTo (g.P.Space.rules l.space) l.entry l.choice (entries_of l.next.items);
+  met : l.within ≡ true → HasMetLast (g.P.Space.rules l.space) l.entry l.count l.met (entries_of (reverse l.next.items));
   past : l.within ≡ false → SomeRunExceeds (g.P.Space.rules l.space) l.limits;
 }
