@@ -113,7 +113,7 @@ by_lead lead.Digit c cs kind s e =
 by_lead lead.Apostrophe c cs kind s e = told_at 39 Based kind c cs s (token_of _ Based kind e).0 (other_tells Based 39 cs refl refl refl)
 by_lead lead.Quote c cs kind s e = told_at 34 Quoted kind c cs s (token_of _ Quoted kind e).0 (other_tells Quoted 34 cs refl refl refl)
 by_lead lead.Slash c cs kind s e = told_at 47 Symbol kind c cs s (slash_symbol cs kind e) (other_tells Symbol 47 cs refl refl refl)
-by_lead lead.Mark c cs kind s e =
+by_lead lead.Punctuation c cs kind s e =
     let first : (is_ascii_digit c || (c == 39)) ≡ false = ap (λ b. b || (c == 39)) s.digit ∙ ne_eqb c 39 s.apostrophe in
     told_at c Symbol kind c cs refl (token_of _ Symbol kind e).0 (other_tells Symbol c cs refl first s.letter)
 by_lead lead.Other c cs kind s e = let clash : None ≡ Some (Token kind) = e in absurd cc

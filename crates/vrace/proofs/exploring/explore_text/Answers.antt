@@ -1,4 +1,4 @@
-use Rattle.std.proofs.Common.{◌≡◌}
+use Rattle.std.proofs.Common.{◌≡◌, arith}
 use Rattle.std.proofs.lemmas.Result.{IfErr-weaker, IfOk-weaker}
 use Rattle.vsrc.specs.Source.{file_bytes}
 use Rattle.vrace.specs.Asked.{asked}
@@ -20,7 +20,8 @@ pub returns-clause-reason : goal.returns-clause-reason
 returns-clause-reason g c =
     IfErr-weaker c.explore_machine_shared.result (λ fault. EndsSearch g.W.Write.contents c.in-Ok.machine c.args.options.now.limits c.args.writer.now c.explore_machine_shared.new.writer fault)
     (λ fault. IsSharedReason (file_bytes c.args.files.now) (asked c.args.options.now) c.args.options.now.limits c.args.workers fault)
-    (shared_reason (file_bytes c.args.files.now) (asked c.args.options.now) c.in-Ok.ensures.ok.searched c.args.options.now.limits c.in-Ok.machine c.in-Ok.ensures.ok.setting_is g.W.Write.contents c.args.writer.now c.explore_machine_shared.new.writer c.args.workers ?) c.explore_machine_shared.ensures.err
+    (shared_reason (file_bytes c.args.files.now) (asked c.args.options.now) c.in-Ok.ensures.ok.searched c.args.options.now.limits c.in-Ok.machine c.in-Ok.ensures.ok.setting_is g.W.Write.contents c.args.writer.now c.explore_machine_shared.new.writer c.args.workers
+    (omega (arith, c.if-workers-lt1.false), omega (arith, c.if-workers-gt64.false))) c.explore_machine_shared.ensures.err
 
 pub returns-clause-left : goal.returns-clause-left
 returns-clause-left g c =
