@@ -11,10 +11,16 @@ mod dumps;
 #[cfg(test)]
 mod faults;
 #[cfg(test)]
+mod gates;
+#[cfg(test)]
 mod logs;
 #[cfg(test)]
 mod searches;
 #[cfg(test)]
+mod shared_books;
+#[cfg(test)]
 mod texts;
 #[cfg(test)]
 mod wheel;
+#[cfg(test)]
+mod workers;
