@@ -11,12 +11,18 @@ mod dumps;
 #[cfg(test)]
 mod faults;
 #[cfg(test)]
+mod gates;
+#[cfg(test)]
 mod logs;
 #[cfg(test)]
 mod searches;
+#[cfg(test)]
+mod shared_books;
 #[cfg(test)]
 mod shared_reports;
 #[cfg(test)]
 mod texts;
 #[cfg(test)]
 mod wheel;
+#[cfg(test)]
+mod workers;
