@@ -4,6 +4,7 @@
 #![tactic(auto)]
 
 pub mod design;
+pub mod expression;
 pub mod fitting;
 pub mod spelling;
 pub mod syntax;
