@@ -1,0 +1,3 @@
+pub mod ReaderRules
+pub mod ReaderLoops
+pub mod ExpressionRules

@@ -1,0 +1,24 @@
+// What the first word of an expression begins.
+
+use vast::expression::UnaryOperator;
+
+/// What the first word of an expression begins (IEEE 1364-2005, A.8.4).
+#[derive(Clone, Copy, Debug, PartialEq, Eq)]
+pub enum Beginning {
+    /// A number, and nothing more.
+    Number,
+    /// A name, or a select of it.
+    Name,
+    /// `$time`
+    Time,
+    /// `(`
+    Parenthesis,
+    /// `{`
+    Brace,
+    /// `$signed`, or `$unsigned`
+    Conversion(bool),
+    /// An operator before its operand.
+    Operator(UnaryOperator),
+    /// No expression.
+    Other,
+}
