@@ -1,3 +1,4 @@
 pub mod ReaderRules
 pub mod ReaderLoops
 pub mod ExpressionRules
+pub mod Sound
