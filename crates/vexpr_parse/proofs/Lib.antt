@@ -2,3 +2,4 @@ pub mod ReaderRules
 pub mod ReaderLoops
 pub mod ExpressionRules
 pub mod Sound
+pub mod Complete

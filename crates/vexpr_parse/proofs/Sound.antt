@@ -206,7 +206,7 @@ joins_not least (Some word) e = by_operator (binary_of word)
     by_operator None = refl
     by_operator (Some operator) = lower_rank (rank operator) least (right_enough operator) e
 
-some_rank : (operator : BinaryOperator) → nat_lt 0 (rank operator) ≡ true
+pub some_rank : (operator : BinaryOperator) → nat_lt 0 (rank operator) ≡ true
 some_rank binary.Times = refl
 some_rank binary.Divide = refl
 some_rank binary.Remainder = refl
