@@ -17,7 +17,8 @@ use Rattle.vast.specs.declared.expression.BinaryOperator.TheVariants as binary
 use Rattle.vast.proofs.ExpressionLemmas.{depth_positive}
 use Rattle.vexpr_parse.specs.declared.beginning.Beginning.{Beginning}
 use Rattle.vexpr_parse.specs.declared.beginning.Beginning.TheVariants as start
-use Rattle.vexpr_parse.specs.Readers.{Answer, got, stop, deep, Reader, front, is_front, and_then, Lead, goes, refused, lower, follow, led, room, past, choose, rounds, turns}
+use Rattle.vexpr_parse.specs.declared.beginning.Round.TheVariants as round
+use Rattle.vexpr_parse.specs.Readers.{Answer, got, stop, Reader, front, is_front, and_then, Lead, goes, refused, lower, follow, led, room, past, choose, rounds, turns}
 use Rattle.vexpr_parse.specs.Words.{beginning_of, unary_of, binary_of, is_ranked, is_joined, is_asked, ends_primary, ends_operators, ends}
 use Rattle.vexpr_parse.specs.Reading.{Below, trees_in, one_more, parts, repeated, joined, braces, enclosed, part_of, index_lead, selected, select_lead, named, primary_by, primary_lead, primary, operator_by, operator_lead, operator, branches, question_lead, question, onward, expression_by, expression}
 use Rattle.vexpr_parse.specs.Lawful.{Rule}
@@ -51,20 +52,20 @@ start_time : beginning_of (codes "$time") ≡ start.Time
 unfolding beginning_of
 start_time = refl
 
-start_parenthesis : beginning_of (codes "(") ≡ start.Parenthesis
+start_parenthesis : beginning_of (codes "(") ≡ start.Round round.Parenthesis
 unfolding beginning_of
 start_parenthesis = refl
 
-start_brace : beginning_of (codes "{") ≡ start.Brace
+start_brace : beginning_of (codes "{") ≡ start.Round round.Brace
 unfolding beginning_of
 start_brace = refl
 
-start_conversion : (signed : Bool) → beginning_of (conversion_word signed) ≡ start.Conversion signed
+start_conversion : (signed : Bool) → beginning_of (conversion_word signed) ≡ start.Round (round.Conversion signed)
 unfolding beginning_of
 start_conversion true = refl
 start_conversion false = refl
 
-start_operator : (operator : UnaryOperator) → beginning_of (unary_word operator) ≡ start.Operator operator
+start_operator : (operator : UnaryOperator) → beginning_of (unary_word operator) ≡ start.Round (round.Operator operator)
 unfolding beginning_of unary_of
 start_operator unary.Plus = refl
 start_operator unary.Minus = refl
@@ -241,7 +242,7 @@ parentheses_complete : (tree : ExpressionTree) → Complete tree → Complete (p
 parentheses_complete tree c =
     primary_complete (parentheses tree) refl
     (λ below rest fit within ended.
-        led_to below (codes "(") ((spell_expression tree ++ codes ")" ∷ []) ++ rest) start.Parenthesis start_parenthesis
+        led_to below (codes "(") ((spell_expression tree ++ codes ")" ∷ []) ++ rest) (start.Round round.Parenthesis) start_parenthesis
         ∙ roomy below 1 (enclosed (expression below) parentheses) (codes "(") ((spell_expression tree ++ codes ")" ∷ []) ++ rest) (enough tree below (upper (depth tree) below within))
         ∙ enclosed_complete tree c below parentheses rest fit (upper (depth tree) below within))
 
@@ -250,7 +251,7 @@ conversion_complete signed tree c =
     primary_complete (conversion signed tree) refl
     (λ below rest fit within ended.
         let inside = (spell_expression tree ++ codes ")" ∷ []) ++ rest in
-        led_to below (conversion_word signed) (codes "(" ∷ inside) (start.Conversion signed) (start_conversion signed)
+        led_to below (conversion_word signed) (codes "(" ∷ inside) (start.Round (round.Conversion signed)) (start_conversion signed)
         ∙ roomy below 1 (past (codes "(") (enclosed (expression below) (conversion signed))) (conversion_word signed) (codes "(" ∷ inside) (enough tree below (upper (depth tree) below within))
         ∙ past_word (codes "(") (enclosed (expression below) (conversion signed)) inside
         ∙ enclosed_complete tree c below (conversion signed) rest fit (upper (depth tree) below within))
@@ -259,7 +260,7 @@ apply_complete : (operator : UnaryOperator) (tree : ExpressionTree) → Complete
 apply_complete operator tree c =
     primary_complete (apply operator tree) refl
     (λ below rest fit within ended.
-        led_to below (unary_word operator) (spell_expression tree ++ rest) (start.Operator operator) (start_operator operator)
+        led_to below (unary_word operator) (spell_expression tree ++ rest) (start.Round (round.Operator operator)) (start_operator operator)
         ∙ roomy below 1 (λ words. and_then (expression below unary_rank words) (λ t. got (apply operator t))) (unary_word operator) (spell_expression tree ++ rest)
         (enough tree below (upper (depth tree) below within))
         ∙ then_got (expression below unary_rank (spell_expression tree ++ rest)) (λ t. got (apply operator t)) tree rest
@@ -357,7 +358,7 @@ concatenation_complete (first one more) each =
         let inside = upper (greatest_depth (first one more)) below within in
         let one_within = left_of (depth one) (greatest_depth more) below inside in
         let level = enough one below one_within in
-        led_to below (codes "{") ((spell_parts (first one more) ++ codes "}" ∷ []) ++ rest) start.Brace start_brace
+        led_to below (codes "{") ((spell_parts (first one more) ++ codes "}" ∷ []) ++ rest) (start.Round round.Brace) start_brace
         ∙ roomy below 1 (braces (expression below)) (codes "{") ((spell_parts (first one more) ++ codes "}" ∷ []) ++ rest) level
         ∙ ap (braces (expression below)) (append_assoc (spell_parts (first one more)) (codes "}" ∷ []) rest)
         ∙ first_complete below (λ tree. choose (is_front (codes "{")) (repeated (expression below) tree) (joined (expression below) tree)) one more each.0 after
@@ -390,7 +391,7 @@ replication_complete count (first one more) c each =
         let level = enough one below one_within in
         let fits_count = and_left (fits_expression count) true (and_left (fits_expression count && true) (fits_parts (first one more)) fit) in
         let fits_all = and_right (fits_expression count && true) (fits_parts (first one more)) fit in
-        led_to below (codes "{") ((spell_expression count ++ behind) ++ rest) start.Brace start_brace
+        led_to below (codes "{") ((spell_expression count ++ behind) ++ rest) (start.Round round.Brace) start_brace
         ∙ roomy below 1 (braces (expression below)) (codes "{") ((spell_expression count ++ behind) ++ rest) level
         ∙ ap (braces (expression below)) (append_assoc (spell_expression count) behind rest)
         ∙ inner count c below (λ tree. choose (is_front (codes "{")) (repeated (expression below) tree) (joined (expression below) tree)) (behind ++ rest) fits_count count_within refl

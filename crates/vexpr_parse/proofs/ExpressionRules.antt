@@ -12,7 +12,8 @@ use Rattle.vast.specs.declared.expression.BinaryOperator.TheVariants as binary
 use Rattle.vast.proofs.ExpressionLemmas.{depth_positive}
 use Rattle.vexpr_parse.specs.declared.beginning.Beginning.{Beginning}
 use Rattle.vexpr_parse.specs.declared.beginning.Beginning.TheVariants as start
-use Rattle.vexpr_parse.specs.Readers.{Answer, got, stop, deep, Reader, front, is_front, and_then, Lead, goes, refused, lower, led, room, past, choose, turns}
+use Rattle.vexpr_parse.specs.declared.beginning.Round.TheVariants as round
+use Rattle.vexpr_parse.specs.Readers.{Answer, got, stop, Reader, front, is_front, and_then, Lead, goes, refused, lower, led, room, past, choose, turns}
 use Rattle.vexpr_parse.specs.Words.{beginning_of, unary_of, binary_of, is_ranked, is_joined, is_asked, ends_primary, ends_operators, ends}
 use Rattle.vexpr_parse.specs.Reading.{Below, trees_in, one_more, parts, repeated, joined, braces, enclosed, part_of, index_lead, selected, select_lead, named, primary_by, primary_lead, primary, operator_by, operator_lead, operator, branches, question_lead, question, onward, expression_by, expression}
 use Rattle.vexpr_parse.specs.Lawful.{Ends, IsWhole, Lawful, Rule}
@@ -261,15 +262,15 @@ module _ (below : ℕ) (read : Below) (rules : nat_le 1 below ≡ true → (leas
   primary_leads_by word start.Number = rule_lead (got (number word)) ends_primary [] (got_rule (number word) ends_primary)
   primary_leads_by word start.Name = rule_lead (named below read word) ends_primary [] (named_rule word)
   primary_leads_by word start.Time = rule_lead (got time) ends_primary [] (got_rule time ends_primary)
-  primary_leads_by word start.Parenthesis =
+  primary_leads_by word (start.Round round.Parenthesis) =
       lead_room ends_primary below 1 (goes (enclosed read parentheses)) (λ e. rule_lead (enclosed read parentheses) ends_primary (example ++ codes ")" ∷ []) (enclosed_rule read (rules e) parentheses))
-  primary_leads_by word start.Brace =
+  primary_leads_by word (start.Round round.Brace) =
       lead_room ends_primary below 1 (goes (braces read)) (λ e. rule_lead (braces read) ends_primary (example ++ codes "}" ∷ []) (braces_rule read (rules e)))
-  primary_leads_by word (start.Conversion signed) =
+  primary_leads_by word (start.Round (round.Conversion signed)) =
       lead_room ends_primary below 1 (goes (past (codes "(") (enclosed read (conversion signed))))
       (λ e. rule_lead (past (codes "(") (enclosed read (conversion signed))) ends_primary (codes "(" ∷ (example ++ codes ")" ∷ []))
           (past_rule (codes "(") (enclosed read (conversion signed)) ends_primary (example ++ codes ")" ∷ []) (enclosed_rule read (rules e) (conversion signed))))
-  primary_leads_by word (start.Operator operator) =
+  primary_leads_by word (start.Round (round.Operator operator)) =
       lead_room ends_primary below 1 _ (λ e. rule_lead _ ends_primary (example ++ []) (applied_rule read (rules e) operator))
   primary_leads_by word start.Other = tt
 

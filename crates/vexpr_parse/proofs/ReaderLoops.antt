@@ -4,9 +4,9 @@ use Rattle.std.specs.Str.{bytes_eq}
 use Rattle.std.proofs.lemmas.Bool.{cases_Bool}
 use Rattle.std.proofs.lemmas.List.{append-nil}
 use Rattle.vast.specs.Syntax.{Text}
-use Rattle.vexpr_parse.specs.Readers.{Answer, got, stop, deep, Reader, front, and_then, Lead, goes, refused, lower, follow, led, room, past, choose, rounds, turns}
+use Rattle.vexpr_parse.specs.Readers.{Answer, got, stop, Reader, front, and_then, Lead, goes, refused, lower, follow, led, room, past, choose, rounds, turns}
 use Rattle.vexpr_parse.specs.Lawful.{rest_of, put, Ends, IsWhole, Begins, GoesOn, Sees, Lawful, Rule}
-use Rattle.vexpr_parse.proofs.ReaderRules.{chosen, passed_over, true_or_false, text_same, front_same, stop_got, deep_got, then_got, parts_of, got_left, keeps, Eats, sees_same, got_rule, IsLead, rule_lead, led_sees, led_eats}
+use Rattle.vexpr_parse.proofs.ReaderRules.{chosen, passed_over, true_or_false, text_same, front_same, stop_got, then_got, parts_of, got_left, keeps, Eats, sees_same, got_rule, IsLead, rule_lead, led_sees, led_eats}
 
 -- A first word that goes on
 
@@ -108,19 +108,12 @@ module _ {A B : Type 0} (read : Reader A) (next : A → Reader B) (ends ends_nex
           ap both (append_assoc s.before b other)
           ∙ then_got (read (s.before ++ (b ++ other))) next one (b ++ other) (ended b tree last other e (m other f) f)
           ∙ m other f
-      onward (stop last) b m e = λ p. begun b last e m
-      onward (deep last) b m e = λ p. begun b last e m
+      onward (stop why last) b m e = λ p. begun b last e m
 
   pub then_sees : (words : List Text) (a : Answer A) → Sees read ends words a → ((one : A) (left : List Text) → a ≡ got one left → Sees (next one) ends_next left (next one left)) →
       Sees both ends_next words (and_then a next)
   then_sees words (got one left) s t = got_then words one left s (t one left refl)
-  then_sees words (stop left) s t = record {
-    before = s.before;
-    whole = s.whole;
-    near = λ other e. ap (λ a. and_then a next) (s.near other e);
-    more = λ p. refused_first s.before (s.more p);
-  }
-  then_sees words (deep left) s t = record {
+  then_sees words (stop why left) s t = record {
     before = s.before;
     whole = s.whole;
     near = λ other e. ap (λ a. and_then a next) (s.near other e);
@@ -172,8 +165,7 @@ module _ {A : Type 0} (test : Option Text → Bool) (one other : Reader A) (ends
 
       onward : (a : Answer A) (b : List Text) → GoesOn read ends b a → test (front (b ++ rest_of a)) ≡ answer → GoesOn either ends b a
       onward (got tree r) b m e = λ left f. ended b tree r left e (m left f) f
-      onward (stop r) b m e = begun b r e m
-      onward (deep r) b m e = begun b r e m
+      onward (stop why r) b m e = begun b r e m
 
   pub choose_sees : (words : List Text) → (test (front words) ≡ true → Sees one ends words (one words)) → (test (front words) ≡ false → Sees other ends words (other words)) →
       Sees either ends words (either words)
@@ -218,8 +210,7 @@ either_rule test one other ends text eats eats_other lawful r begins = record {
 module _ {A : Type 0} (turn : A → Reader A) (test : Option Text → Bool) (eats : (tree : A) → Eats (turn tree)) where
   then_same : (a : Answer A) (f g : A → Reader A) → ((tree : A) (left : List Text) → a ≡ got tree left → f tree left ≡ g tree left) → and_then a f ≡ and_then a g
   then_same (got tree left) f g same = same tree left refl
-  then_same (stop left) f g same = refl
-  then_same (deep left) f g same = refl
+  then_same (stop why left) f g same = refl
 
   enough : (a b : ℕ) (tree : A) (words : List Text) → length words < a → length words < b → rounds turn test a tree words ≡ rounds turn test b tree words
   enough zero b tree words p q = absurd (omega arith)

@@ -5,7 +5,9 @@ use Rattle.std.proofs.lemmas.Bool.{cases_Bool}
 use Rattle.std.proofs.lemmas.List.{append-nil}
 use Rattle.std.proofs.lemmas.Slice.Eq.{bytes_eq-Decides}
 use Rattle.vast.specs.Syntax.{Text}
-use Rattle.vexpr_parse.specs.Readers.{Answer, got, stop, deep, Reader, front, and_then, Lead, goes, refused, lower, follow, led, room, past, choose, rounds, turns}
+use Rattle.vexpr_parse.specs.declared.stop.Stop.{Stop}
+use Rattle.vexpr_parse.specs.declared.stop.Stop.TheVariants.{NoTree, TooDeep}
+use Rattle.vexpr_parse.specs.Readers.{Answer, got, stop, Reader, front, and_then, Lead, goes, refused, lower, follow, led, room, past, choose, rounds, turns}
 use Rattle.vexpr_parse.specs.Lawful.{rest_of, put, Ends, IsWhole, Begins, GoesOn, Sees, Lawful, Rule}
 
 -- choices by a test
@@ -60,11 +62,8 @@ got_tree e = cc
 pub got_left : {A : Type 0} {x y : A} {a b : List Text} → got x a ≡ got y b → a ≡ b
 got_left e = cc
 
-pub stop_got : {A : Type 0} {x : A} {a b : List Text} → stop a ≡ got x b → ⊥
+pub stop_got : {A : Type 0} {why : Stop} {x : A} {a b : List Text} → stop why a ≡ got x b → ⊥
 stop_got e = cc
-
-pub deep_got : {A : Type 0} {x : A} {a b : List Text} → deep a ≡ got x b → ⊥
-deep_got e = cc
 
 pub then_got : {A B : Type 0} (a : Answer A) (next : A → Reader B) (tree : A) (left : List Text) → a ≡ got tree left → and_then a next ≡ next tree left
 then_got a next tree left e = ap (λ b. and_then b next) e
@@ -78,8 +77,7 @@ pub record Parts {A B : Type 0} (a : Answer A) (next : A → Reader B) (tree : B
 
 pub parts_of : {A B : Type 0} (a : Answer A) (next : A → Reader B) (tree : B) (left : List Text) → and_then a next ≡ got tree left → Parts a next tree left
 parts_of (got one between) next tree left e = record { one = one; between = between; first = refl; second = e }
-parts_of (stop words) next tree left e = absurd (stop_got e)
-parts_of (deep words) next tree left e = absurd (deep_got e)
+parts_of (stop why words) next tree left e = absurd (stop_got e)
 
 -- What is read is never given back
 
@@ -107,8 +105,7 @@ sees_same {A = A} f g ends words a same s = record {
 
     onward : (a : Answer A) → GoesOn g ends s.before a → GoesOn f ends s.before a
     onward (got tree left) m = λ other e. same (s.before ++ other) ∙ m other e
-    onward (stop left) m = λ p. begins (m p)
-    onward (deep left) m = λ p. begins (m p)
+    onward (stop why left) m = λ p. begins (m p)
 
 -- Nothing is read
 
@@ -133,7 +130,7 @@ pub led_sees : {A : Type 0} (lead : Text → Lead A) (ends : Ends) (leads : (wor
 led_sees {A = A} lead ends leads [] = record {
   before = [];
   whole = refl;
-  near = λ other e. let P : List Text → Type 0 = λ ws. led lead ws ≡ stop ws in subst P (sym (front_none other e)) refl;
+  near = λ other e. let P : List Text → Type 0 = λ ws. led lead ws ≡ stop NoTree ws in subst P (sym (front_none other e)) refl;
   more = λ p. absurd (below_zero 0 p);
 }
   where
@@ -155,13 +152,13 @@ led_sees {A = A} lead ends leads (word ∷ words) = by_lead (lead word) refl (le
     by_lead refused is t = record {
       before = [];
       whole = refl;
-      near = at_once refused is stop (λ ws. refl);
+      near = at_once refused is (stop NoTree) (λ ws. refl);
       more = λ p. absurd (below_zero 0 p);
     }
     by_lead lower is t = record {
       before = [];
       whole = refl;
-      near = at_once lower is deep (λ ws. refl);
+      near = at_once lower is (stop TooDeep) (λ ws. refl);
       more = λ p. absurd (below_zero 0 p);
     }
     by_lead (goes read) is t =
@@ -182,8 +179,7 @@ led_sees {A = A} lead ends leads (word ∷ words) = by_lead (lead word) refl (le
 
         onward : (before : List Text) (a : Answer A) → GoesOn read ends before a → GoesOn (led lead) ends (word ∷ before) a
         onward before (got tree left) m = λ other e. ap (λ l. follow l word (before ++ other)) is ∙ m other e
-        onward before (stop left) m = λ p. begins before (begun before m)
-        onward before (deep left) m = λ p. begins before (begun before m)
+        onward before (stop why left) m = λ p. begins before (begun before m)
 
 pub led_eats : {A : Type 0} (lead : Text → Lead A) (ends : Ends) (leads : (word : Text) → IsLead ends (lead word)) → Eats (led lead)
 led_eats {A = A} lead ends leads [] tree left e = absurd (stop_got e)
@@ -194,6 +190,6 @@ led_eats {A = A} lead ends leads (word ∷ words) tree left e = by_lead (lead wo
 
     by_lead : (l : Lead A) → IsLead ends l → follow l word words ≡ got tree left → length left < length (word ∷ words)
     by_lead refused t e = absurd (stop_got e)
-    by_lead lower t e = absurd (deep_got e)
+    by_lead lower t e = absurd (stop_got e)
     by_lead (goes read) t e =
         fewer (length left) (length words) (subst (λ a. length (rest_of a) ≤ length words) e (keeps read ends words (read words) (t.0 words)))

@@ -13,25 +13,24 @@ use Rattle.vast.specs.declared.expression.BinaryOperator.{BinaryOperator}
 use Rattle.vast.specs.declared.expression.BinaryOperator.TheVariants as binary
 use Rattle.vexpr_parse.specs.declared.beginning.Beginning.{Beginning}
 use Rattle.vexpr_parse.specs.declared.beginning.Beginning.TheVariants as start
-use Rattle.vexpr_parse.specs.Readers.{Answer, got, stop, deep, Reader, front, is_front, and_then, Lead, goes, refused, lower, follow, led, room, past, choose, rounds, turns}
+use Rattle.vexpr_parse.specs.declared.beginning.Round.TheVariants as round
+use Rattle.vexpr_parse.specs.Readers.{Answer, got, stop, Reader, front, is_front, and_then, Lead, goes, refused, lower, follow, led, room, past, choose, rounds, turns}
 use Rattle.vexpr_parse.specs.Words.{beginning_of, by_operator, written, unary_operators, binary_operators, unary_of, binary_of, is_ranked, is_joined, is_asked}
 use Rattle.vexpr_parse.specs.Reading.{Below, trees_in, one_more, parts, repeated, joined, braces, enclosed, part_of, index_lead, selected, select_lead, named, primary_by, primary_lead, primary, operator_by, operator_lead, operator, branches, question_lead, question, onward, expression_by, expression}
 use Rattle.vexpr_parse.specs.Found.{IsExpression}
-use Rattle.vexpr_parse.proofs.ReaderRules.{same_text, chosen, passed_over, stop_got, deep_got, got_tree, got_left, parts_of}
+use Rattle.vexpr_parse.proofs.ReaderRules.{same_text, chosen, passed_over, stop_got, got_tree, got_left, parts_of}
 
 -- what was read, where something was: the words before what is left, and what holds of both
 abbrev pub Found : {A : Type 0} → (A → List Text → Type 0) → List Text → Answer A → Type 0
 Found Q words (got tree left) = (before : List Text) × (words ≡ before ++ left) × Q tree before
-Found Q words (stop left) = Unit {0}
-Found Q words (deep left) = Unit {0}
+Found Q words (stop why left) = Unit {0}
 
 abbrev pub Finds : {A : Type 0} → (A → List Text → Type 0) → Reader A → Type 0
 Finds Q read = (words : List Text) → Found Q words (read words)
 
 found_more : {A : Type 0} (Q R : A → List Text → Type 0) → ((tree : A) (before : List Text) → Q tree before → R tree before) → (words : List Text) (a : Answer A) → Found Q words a → Found R words a
 found_more Q R enough words (got tree left) f = (f.0, f.1, enough tree f.0 f.2)
-found_more Q R enough words (stop left) f = tt
-found_more Q R enough words (deep left) f = tt
+found_more Q R enough words (stop why left) f = tt
 
 found_got : {A : Type 0} (Q : A → List Text → Type 0) (tree : A) → Q tree [] → Finds Q (got tree)
 found_got Q tree q words = ([], refl, q)
@@ -42,10 +41,8 @@ then_found_by {B = B} Q R next words (got one left) after f = behind (next one l
   where
     behind : (a : Answer B) → Found (λ tree b. R tree (f.0 ++ b)) left a → Found R words a
     behind (got tree last) g = (f.0 ++ g.0, f.1 ∙ ap (λ ws. f.0 ++ ws) g.1 ∙ sym (append_assoc f.0 g.0 last), g.2)
-    behind (stop last) g = tt
-    behind (deep last) g = tt
-then_found_by Q R next words (stop left) after f = tt
-then_found_by Q R next words (deep left) after f = tt
+    behind (stop why last) g = tt
+then_found_by Q R next words (stop why left) after f = tt
 
 then_found : {A B : Type 0} (Q : A → List Text → Type 0) (R : B → List Text → Type 0) (next : A → Reader B) →
     ((one : A) (before : List Text) → Q one before → Finds (λ tree after. R tree (before ++ after)) (next one)) → (words : List Text) (a : Answer A) → Found Q words a → Found R words (and_then a next)
@@ -61,8 +58,7 @@ follow_found {A = A} Q word (goes read) f words = behind (read words) (f words)
   where
     behind : (a : Answer A) → Found (λ tree after. Q tree (word ∷ after)) words a → Found Q (word ∷ words) a
     behind (got tree left) g = (word ∷ g.0, ap (λ ws. word ∷ ws) g.1, g.2)
-    behind (stop left) g = tt
-    behind (deep left) g = tt
+    behind (stop why left) g = tt
 follow_found Q word refused f words = tt
 follow_found Q word lower f words = tt
 
@@ -141,10 +137,10 @@ abbrev Told : Beginning → Text → Type 0
 Told start.Number word = is_number word ≡ true
 Told start.Name word = is_name word ≡ true
 Told start.Time word = codes "$time" ≡ word
-Told start.Parenthesis word = codes "(" ≡ word
-Told start.Brace word = codes "{" ≡ word
-Told (start.Conversion signed) word = conversion_word signed ≡ word
-Told (start.Operator operator) word = unary_word operator ≡ word
+Told (start.Round round.Parenthesis) word = codes "(" ≡ word
+Told (start.Round round.Brace) word = codes "{" ≡ word
+Told (start.Round (round.Conversion signed)) word = conversion_word signed ≡ word
+Told (start.Round (round.Operator operator)) word = unary_word operator ≡ word
 Told start.Other word = Unit {0}
 
 told_by : (test : Bool) (a b : Beginning) (word : Text) → (test ≡ true → Told a word) → Told b word → Told (if test then a else b) word
@@ -160,11 +156,11 @@ unfolding beginning_of
 told word =
     told_by (is_name word) start.Name _ word (λ e. e)
     (told_by (is_number word) start.Number _ word (λ e. e)
-    (told_by (bytes_eq (codes "(") word) start.Parenthesis _ word (same_text _ word)
-    (told_by (bytes_eq (codes "{") word) start.Brace _ word (same_text _ word)
+    (told_by (bytes_eq (codes "(") word) (start.Round round.Parenthesis) _ word (same_text _ word)
+    (told_by (bytes_eq (codes "{") word) (start.Round round.Brace) _ word (same_text _ word)
     (told_by (bytes_eq (codes "$time") word) start.Time _ word (same_text _ word)
-    (told_by (bytes_eq (codes "$signed") word) (start.Conversion true) _ word (same_text _ word)
-    (told_by (bytes_eq (codes "$unsigned") word) (start.Conversion false) _ word (same_text _ word)
+    (told_by (bytes_eq (codes "$signed") word) (start.Round (round.Conversion true)) _ word (same_text _ word)
+    (told_by (bytes_eq (codes "$unsigned") word) (start.Round (round.Conversion false)) _ word (same_text _ word)
     (told_operator (unary_of word) word (unary_written word))))))))
 
 -- ranks
@@ -317,7 +313,7 @@ room_got below levels lead word words tree left e = by_test (nat_le levels below
   where
     by_test : (test : Bool) → follow (if test then lead else lower) word words ≡ got tree left → follow lead word words ≡ got tree left
     by_test true e = e
-    by_test false e = absurd (deep_got e)
+    by_test false e = absurd (stop_got e)
 
 rounds_stop : {A : Type 0} (turn : A → Reader A) (test : Option Text → Bool) (fuel : ℕ) (tree : A) (words : List Text) (last : A) (left : List Text) →
     rounds turn test fuel tree words ≡ got last left → test (front left) ≡ false
@@ -518,12 +514,12 @@ module _ (below : ℕ) (read : Below) (stops : (least : ℕ) → Stops least (re
   primary_found_by word start.Number e = found_got (λ tree after. Q tree (word ∷ after)) (number word) (leaf (number word) (word ∷ []) refl e refl refl)
   primary_found_by word start.Name e = named_found word e
   primary_found_by word start.Time e = found_got (λ tree after. Q tree (word ∷ after)) time (leaf time (word ∷ []) (ap (λ w. w ∷ []) e) refl refl refl)
-  primary_found_by word start.Parenthesis e =
+  primary_found_by word (start.Round round.Parenthesis) e =
       room_found Q word below 1 _
       (λ f. enclosed_found parentheses (λ ws. word ∷ ws)
           (λ tree words s. record { spelled = ap (λ ws. codes "(" ∷ (ws ++ codes ")" ∷ [])) s.spelled ∙ ap (λ w. w ∷ (words ++ codes ")" ∷ [])) e; fitting = s.fitting; within = deeper (depth tree) below s.within; ranked = refl }))
-  primary_found_by word start.Brace e = room_found Q word below 1 _ (λ f. subst (λ w. LeadFinds Q w (goes (braces read))) e braces_found)
-  primary_found_by word (start.Conversion signed) e =
+  primary_found_by word (start.Round round.Brace) e = room_found Q word below 1 _ (λ f. subst (λ w. LeadFinds Q w (goes (braces read))) e braces_found)
+  primary_found_by word (start.Round (round.Conversion signed)) e =
       room_found Q word below 1 _
       (λ f. past_found (λ tree after. Q tree (word ∷ after)) (codes "(") (enclosed read (conversion signed))
           (enclosed_found (conversion signed) (λ ws. word ∷ codes "(" ∷ ws)
@@ -533,7 +529,7 @@ module _ (below : ℕ) (read : Below) (stops : (least : ℕ) → Stops least (re
                 within = deeper (depth tree) below s.within;
                 ranked = refl;
               })))
-  primary_found_by word (start.Operator o) e =
+  primary_found_by word (start.Round (round.Operator o)) e =
       room_found Q word below 1 _
       (λ f words. then_found (IsExpression below unary_rank) (λ tree after. Q tree (word ∷ after)) (λ tree. got (apply o tree))
           (λ tree before t. found_got (λ found after. Q found (word ∷ (before ++ after))) (apply o tree)

@@ -3,13 +3,13 @@
 use Rattle.std.specs.Prelude.{◌≡◌, ℕ, zero, suc, nat_le, Bool, true, false, if◌then◌else◌, List, [], ◌∷◌, Option, Some, None, length}
 use Rattle.std.specs.Str.{bytes_eq}
 use Rattle.vast.specs.Syntax.{Text}
+use Rattle.vexpr_parse.specs.declared.stop.Stop.{Stop}
+use Rattle.vexpr_parse.specs.declared.stop.Stop.TheVariants.{NoTree, TooDeep}
 
--- what was read and the words behind it; or the words from the refused one on, where no rule takes that word, or where it
--- is refused for want of levels alone
+-- what was read and the words behind it; or why a word is refused, and the words from it on
 pub data Answer (A : Type 0) : Type 0 where
   got : A → List Text → Answer A
-  stop : List Text → Answer A
-  deep : List Text → Answer A
+  stop : Stop → List Text → Answer A
 
 abbrev pub Reader : Type 0 → Type 0
 Reader A = List Text → Answer A
@@ -27,8 +27,7 @@ is_front text (Some word) = bytes_eq text word
 -- the one reading, and then another of the words behind it
 abbrev pub and_then : {A B : Type 0} → Answer A → (A → Reader B) → Answer B
 and_then (got tree left) next = next tree left
-and_then (stop left) next = stop left
-and_then (deep left) next = deep left
+and_then (stop why left) next = stop why left
 
 -- what a first word begins: what is read behind it, or that it is refused, for good or for want of levels
 pub data Lead (A : Type 0) : Type 0 where
@@ -38,12 +37,12 @@ pub data Lead (A : Type 0) : Type 0 where
 
 abbrev pub follow : {A : Type 0} → Lead A → Text → Reader A
 follow (goes read) word words = read words
-follow refused word words = stop (word ∷ words)
-follow lower word words = deep (word ∷ words)
+follow refused word words = stop NoTree (word ∷ words)
+follow lower word words = stop TooDeep (word ∷ words)
 
 -- by the first word
 abbrev pub led : {A : Type 0} → (Text → Lead A) → Reader A
-led lead [] = stop []
+led lead [] = stop NoTree []
 led lead (word ∷ words) = follow (lead word) word words
 
 -- where so many levels at least are left below
@@ -60,7 +59,7 @@ choose test one other words = if test (front words) then one words else other wo
 
 -- turn after turn, each from what was read before it, as long as the first word passes the test
 abbrev pub rounds : {A : Type 0} → (A → Reader A) → (Option Text → Bool) → ℕ → A → Reader A
-rounds turn test zero tree words = stop words
+rounds turn test zero tree words = stop NoTree words
 rounds turn test (suc fuel) tree words =
     if test (front words) then and_then (turn tree words) (λ next left. rounds turn test fuel next left) else got tree words
 

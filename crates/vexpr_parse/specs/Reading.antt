@@ -7,6 +7,9 @@ use Rattle.vast.specs.Expressions.{ExpressionTree, number, name, time, bit, part
 use Rattle.vast.specs.declared.expression.BinaryOperator.{BinaryOperator}
 use Rattle.vexpr_parse.specs.declared.beginning.Beginning.{Beginning}
 use Rattle.vexpr_parse.specs.declared.beginning.Beginning.TheVariants as start
+use Rattle.vexpr_parse.specs.declared.beginning.Round.{Round}
+use Rattle.vexpr_parse.specs.declared.beginning.Round.TheVariants as round
+use Rattle.vexpr_parse.specs.declared.stop.Stop.TheVariants.{NoTree, TooDeep}
 use Rattle.vexpr_parse.specs.Readers.{Reader, Lead, goes, refused, got, stop, and_then, led, room, past, choose, turns, is_front}
 use Rattle.vexpr_parse.specs.Words.{beginning_of, binary_of, is_joined, is_asked}
 
@@ -66,15 +69,18 @@ select_lead below read letters word = if bytes_eq (codes "[") word then room bel
 abbrev pub named : ℕ → Below → Text → Reader ExpressionTree
 named below read letters = choose (is_front (codes "[")) (led (select_lead below read letters)) (got (name letters))
 
+-- what follows a word that begins a tree round another
+abbrev pub round_by : Below → Round → Reader ExpressionTree
+round_by read round.Parenthesis = enclosed read parentheses
+round_by read round.Brace = braces read
+round_by read (round.Conversion signed) = past (codes "(") (enclosed read (conversion signed))
+round_by read (round.Operator operator) = λ words. and_then (read unary_rank words) (λ tree. got (apply operator tree))
+
 abbrev pub primary_by : ℕ → Below → Text → Beginning → Lead ExpressionTree
 primary_by below read word start.Number = goes (got (number word))
 primary_by below read word start.Name = goes (named below read word)
 primary_by below read word start.Time = goes (got time)
-primary_by below read word start.Parenthesis = room below 1 (goes (enclosed read parentheses))
-primary_by below read word start.Brace = room below 1 (goes (braces read))
-primary_by below read word (start.Conversion signed) = room below 1 (goes (past (codes "(") (enclosed read (conversion signed))))
-primary_by below read word (start.Operator operator) =
-    room below 1 (goes (λ words. and_then (read unary_rank words) (λ tree. got (apply operator tree))))
+primary_by below read word (start.Round kind) = room below 1 (goes (round_by read kind))
 primary_by below read word start.Other = refused
 
 abbrev pub primary_lead : ℕ → Below → Text → Lead ExpressionTree
@@ -119,5 +125,5 @@ expression_by below read least words = and_then (primary below read words) (onwa
 
 -- an expression of so many levels at most, and of this rank at least
 unfoldable pub expression : ℕ → ℕ → Reader ExpressionTree
-expression zero least words = stop words
+expression zero least words = stop NoTree words
 expression (suc below) least words = expression_by below (expression below) least words

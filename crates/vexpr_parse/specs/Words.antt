@@ -10,6 +10,7 @@ use Rattle.vast.specs.declared.expression.BinaryOperator.{BinaryOperator}
 use Rattle.vast.specs.declared.expression.BinaryOperator.TheVariants as binary
 use Rattle.vexpr_parse.specs.declared.beginning.Beginning.{Beginning}
 use Rattle.vexpr_parse.specs.declared.beginning.Beginning.TheVariants as start
+use Rattle.vexpr_parse.specs.declared.beginning.Round.TheVariants as round
 use Rattle.vexpr_parse.specs.Readers.{is_front}
 
 abbrev pub unary_operators : List UnaryOperator
@@ -36,18 +37,18 @@ binary_of word = written binary_word binary_operators word
 
 abbrev pub by_operator : Option UnaryOperator → Beginning
 by_operator None = start.Other
-by_operator (Some operator) = start.Operator operator
+by_operator (Some operator) = start.Round (round.Operator operator)
 
 -- what an expression's first word begins
 unfoldable pub beginning_of : Text → Beginning
 beginning_of word =
     if is_name word then start.Name
     else if is_number word then start.Number
-    else if bytes_eq (codes "(") word then start.Parenthesis
-    else if bytes_eq (codes "{") word then start.Brace
+    else if bytes_eq (codes "(") word then start.Round round.Parenthesis
+    else if bytes_eq (codes "{") word then start.Round round.Brace
     else if bytes_eq (codes "$time") word then start.Time
-    else if bytes_eq (codes "$signed") word then start.Conversion true
-    else if bytes_eq (codes "$unsigned") word then start.Conversion false
+    else if bytes_eq (codes "$signed") word then start.Round (round.Conversion true)
+    else if bytes_eq (codes "$unsigned") word then start.Round (round.Conversion false)
     else by_operator (unary_of word)
 
 abbrev pub is_ranked : ℕ → Option BinaryOperator → Bool

@@ -11,6 +11,15 @@ pub enum Beginning {
     Name,
     /// `$time`
     Time,
+    /// A tree round another.
+    Round(Round),
+    /// No expression.
+    Other,
+}
+
+/// What a word begins that stands round an expression.
+#[derive(Clone, Copy, Debug, PartialEq, Eq)]
+pub enum Round {
     /// `(`
     Parenthesis,
     /// `{`
@@ -19,6 +28,4 @@ pub enum Beginning {
     Conversion(bool),
     /// An operator before its operand.
     Operator(UnaryOperator),
-    /// No expression.
-    Other,
 }

@@ -4,3 +4,6 @@
 #![tactic(auto)]
 
 pub mod beginning;
+mod stop;
+
+pub use stop::Stop;
