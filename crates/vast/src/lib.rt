@@ -6,6 +6,7 @@
 pub mod design;
 pub mod expression;
 pub mod fitting;
+pub mod operators;
 pub mod spelling;
 pub mod syntax;
 pub mod words;

@@ -3,3 +3,6 @@ pub mod ReaderLoops
 pub mod ExpressionRules
 pub mod Sound
 pub mod Complete
+pub mod Cursors
+pub mod Grows
+pub mod Places

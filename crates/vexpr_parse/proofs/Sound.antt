@@ -165,7 +165,7 @@ told word =
 
 -- ranks
 
-right_enough : (operator : BinaryOperator) → nat_lt (rank operator) unary_rank ≡ true
+pub right_enough : (operator : BinaryOperator) → nat_lt (rank operator) unary_rank ≡ true
 right_enough binary.Times = refl
 right_enough binary.Divide = refl
 right_enough binary.Remainder = refl
@@ -542,7 +542,7 @@ module _ (below : ℕ) (read : Below) (stops : (least : ℕ) → Stops least (re
           words (read unary_rank words) (sound unary_rank refl words))
   primary_found_by word start.Other e = tt
 
-  primary_found : Finds Q (primary below read)
+  pub primary_found : Finds (IsExpression (suc below) unary_rank) (primary below read)
   primary_found = led_found Q (primary_lead below read) (λ word. primary_found_by word (beginning_of word) (told word))
 
   -- operators in turn: none that holds more tightly than what was read stands behind it
@@ -685,3 +685,16 @@ pub expression_found : (levels least : ℕ) → nat_le least unary_rank ≡ true
 unfolding expression
 expression_found zero least enough words = tt
 expression_found (suc below) least enough words = by_found below (expression below) (expression_stops below) (expression_found below) least enough words
+
+-- what is read is within the levels
+pub expression_depth : (levels least : ℕ) → nat_le least unary_rank ≡ true → (words : List Text) (tree : ExpressionTree) (left : List Text) → expression levels least words ≡ got tree left →
+    nat_le (depth tree) levels ≡ true
+expression_depth levels least enough words tree left e =
+    let f : Found (IsExpression levels least) words (got tree left) = subst (Found (IsExpression levels least) words) e (expression_found levels least enough words) in
+    f.2.within
+
+pub primary_depth : (below : ℕ) (words : List Text) (tree : ExpressionTree) (left : List Text) → primary below (expression below) words ≡ got tree left → nat_le (depth tree) (suc below) ≡ true
+primary_depth below words tree left e =
+    let f : Found (IsExpression (suc below) unary_rank) words (got tree left) =
+        subst (Found (IsExpression (suc below) unary_rank) words) e (primary_found below (expression below) (expression_stops below) (expression_found below) words) in
+    f.2.within

@@ -4,6 +4,11 @@
 #![tactic(auto)]
 
 pub mod beginning;
+mod cursor;
+pub mod found;
+pub mod law;
 mod stop;
+mod words;
 
+pub use cursor::Cursor;
 pub use stop::Stop;
