@@ -6,3 +6,5 @@ pub mod Spellings
 pub mod Inner
 pub mod Design
 pub mod Names
+pub mod Expressions
+pub mod ExpressionTrees

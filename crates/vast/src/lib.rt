@@ -4,7 +4,9 @@
 #![tactic(auto)]
 
 pub mod design;
+pub mod expression;
 pub mod fitting;
+pub mod operators;
 pub mod spelling;
 pub mod syntax;
 pub mod words;

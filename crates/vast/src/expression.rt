@@ -1,0 +1,142 @@
+// Expressions of the whole profile (IEEE 1364-2005, clause 5 and A.8, narrowed to docs/LANGUAGE.md).
+
+use crate::syntax::Word;
+
+/// An operator before its operand (5.1, A.8.6).
+#[derive(Clone, Copy, Debug, PartialEq, Eq)]
+pub enum UnaryOperator {
+    /// `+`
+    Plus,
+    /// `-`
+    Minus,
+    /// `!`
+    Not,
+    /// `~`
+    Invert,
+    /// `&`
+    And,
+    /// `~&`
+    Nand,
+    /// `|`
+    Or,
+    /// `~|`
+    Nor,
+    /// `^`
+    Xor,
+    /// `~^`
+    Xnor,
+    /// `^~`, the same as `~^`
+    XorNot,
+}
+
+/// An operator between its operands (5.1, A.8.6).
+#[derive(Clone, Copy, Debug, PartialEq, Eq)]
+pub enum BinaryOperator {
+    /// `*`
+    Times,
+    /// `/`
+    Divide,
+    /// `%`
+    Remainder,
+    /// `+`
+    Plus,
+    /// `-`
+    Minus,
+    /// `<<`
+    ShiftLeft,
+    /// `>>`
+    ShiftRight,
+    /// `<<<`
+    ShiftLeftSigned,
+    /// `>>>`
+    ShiftRightSigned,
+    /// `<`
+    Less,
+    /// `<=`
+    LessOrEqual,
+    /// `>`
+    Greater,
+    /// `>=`
+    GreaterOrEqual,
+    /// `==`
+    Equal,
+    /// `!=`
+    NotEqual,
+    /// `===`
+    CaseEqual,
+    /// `!==`
+    CaseNotEqual,
+    /// `&`
+    And,
+    /// `^`
+    Xor,
+    /// `~^`
+    Xnor,
+    /// `^~`, the same as `~^`
+    XorNot,
+    /// `|`
+    Or,
+    /// `&&`
+    LogicalAnd,
+    /// `||`
+    LogicalOr,
+}
+
+/// An expression (clause 5), its parentheses kept.
+#[derive(Drop)]
+pub enum Expression<'t> {
+    /// `8'hff` (3.5.1)
+    Number(Word<'t>),
+    /// `name` (3.7)
+    Name(Word<'t>),
+    /// `$time`, the token of this number (17.7.1)
+    Time {
+        at: u32,
+    },
+    /// `name[index]` (5.2.1)
+    Bit {
+        name: Word<'t>,
+        index: Box<Expression<'t>>,
+    },
+    /// `name[left:right]` (5.2.1)
+    Part {
+        name: Word<'t>,
+        left: Box<Expression<'t>>,
+        right: Box<Expression<'t>>,
+    },
+    /// `(inner)`
+    Parentheses(Box<Expression<'t>>),
+    /// `{part, ..}` (5.1.14); `at` is the number of its first token
+    Concatenation {
+        at: u32,
+        parts: Vec<Expression<'t>>,
+    },
+    /// `{count{part, ..}}` (5.1.14); `at` is the number of its first token
+    Replication {
+        at: u32,
+        count: Box<Expression<'t>>,
+        parts: Vec<Expression<'t>>,
+    },
+    /// `$signed(operand)`, or `$unsigned(operand)` (5.5)
+    Conversion {
+        signed: bool,
+        operand: Box<Expression<'t>>,
+    },
+    /// `- operand` (5.1.2)
+    Unary {
+        operator: UnaryOperator,
+        operand: Box<Expression<'t>>,
+    },
+    /// `left + right` (5.1.2)
+    Binary {
+        operator: BinaryOperator,
+        left: Box<Expression<'t>>,
+        right: Box<Expression<'t>>,
+    },
+    /// `condition ? when_true : when_false` (5.1.13)
+    Conditional {
+        condition: Box<Expression<'t>>,
+        when_true: Box<Expression<'t>>,
+        when_false: Box<Expression<'t>>,
+    },
+}

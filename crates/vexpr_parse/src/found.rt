@@ -1,0 +1,192 @@
+// What readers of expressions hand on: a tree, and how deep it nests.
+
+ghost use Rattle.std.specs.Prelude.{◌≡◌, ◌<◌, ◌+◌, ◌^◌, max, IfOk};
+ghost use Rattle.vast.specs.Trees.{word_text};
+ghost use Rattle.vast.specs.ExpressionTrees.{tree_of, trees_of};
+ghost use Rattle.vast.specs.Expressions.{number, name, time, bit, part, parentheses, concatenation, replication, conversion, apply, combine, conditional};
+ghost use Rattle.vexpr_parse.specs.Answers.{IsMade, tree_in};
+
+use basis::NoMemory;
+use std::alloc::Global;
+use vast::expression::{BinaryOperator, Expression, UnaryOperator};
+use vast::syntax::Word;
+
+/// An expression that was read, and its depth (docs/LANGUAGE.md, "Depth").
+#[derive(Drop)]
+pub struct Found<'a> {
+    pub tree: Expression<'a>,
+    pub depth: u64,
+}
+
+/// The parts of a concatenation, and the greatest of their depths.
+#[derive(Drop)]
+pub struct Parts<'a> {
+    pub trees: Vec<Expression<'a>>,
+    pub depth: u64,
+}
+
+/// The larger of the two.
+pub fn larger(a: u64, b: u64) -> u64
+    ensures { result ≡ max a b }
+{
+    if a < b { b } else { a }
+}
+
+/// `(inner)`
+pub fn in_parentheses<'a>(alloc: Global, inner: Found<'a>) -> Result<Found<'a>, NoMemory>
+    requires { inner.depth < 2 ^ 63 }
+    ensures { IfOk result (IsMade (parentheses (tree_in inner.entry)) (1 + inner.entry.depth)) }
+{
+    Ok(Found {
+        depth: 1 + inner.depth,
+        tree: Expression::Parentheses(Box::new(alloc, inner.tree)?),
+    })
+}
+
+/// `$signed(operand)`, or `$unsigned(operand)` (5.5)
+pub fn converted<'a>(
+    alloc: Global,
+    signed: bool,
+    operand: Found<'a>,
+) -> Result<Found<'a>, NoMemory>
+    requires { operand.depth < 2 ^ 63 }
+    ensures { IfOk result (IsMade (conversion signed (tree_in operand.entry)) (1 + operand.entry.depth)) }
+{
+    Ok(Found {
+        depth: 1 + operand.depth,
+        tree: Expression::Conversion {
+            signed,
+            operand: Box::new(alloc, operand.tree)?,
+        },
+    })
+}
+
+/// An operator before its operand (5.1).
+pub fn applied<'a>(
+    alloc: Global,
+    operator: UnaryOperator,
+    operand: Found<'a>,
+) -> Result<Found<'a>, NoMemory>
+    requires { operand.depth < 2 ^ 63 }
+    ensures { IfOk result (IsMade (apply operator (tree_in operand.entry)) (1 + operand.entry.depth)) }
+{
+    Ok(Found {
+        depth: 1 + operand.depth,
+        tree: Expression::Unary {
+            operator,
+            operand: Box::new(alloc, operand.tree)?,
+        },
+    })
+}
+
+/// An operator between its operands (5.1).
+pub fn combined<'a>(
+    alloc: Global,
+    operator: BinaryOperator,
+    left: Found<'a>,
+    right: Found<'a>,
+) -> Result<Found<'a>, NoMemory>
+    requires { (left.depth < 2 ^ 63) × (right.depth < 2 ^ 63) }
+    ensures { IfOk result (IsMade (combine operator (tree_in left.entry) (tree_in right.entry)) (1 + max left.entry.depth right.entry.depth)) }
+{
+    Ok(Found {
+        depth: 1 + larger(left.depth, right.depth),
+        tree: Expression::Binary {
+            operator,
+            left: Box::new(alloc, left.tree)?,
+            right: Box::new(alloc, right.tree)?,
+        },
+    })
+}
+
+/// `condition ? when_true : when_false` (5.1.13)
+pub fn chosen<'a>(
+    alloc: Global,
+    condition: Found<'a>,
+    when_true: Found<'a>,
+    when_false: Found<'a>,
+) -> Result<Found<'a>, NoMemory>
+    requires { (condition.depth < 2 ^ 63) × (when_true.depth < 2 ^ 63) × (when_false.depth < 2 ^ 63) }
+    ensures { IfOk result (IsMade (conditional (tree_in condition.entry) (tree_in when_true.entry) (tree_in when_false.entry)) (1 + max condition.entry.depth (max when_true.entry.depth when_false.entry.depth))) }
+{
+    Ok(Found {
+        depth: 1 + larger(condition.depth, larger(when_true.depth, when_false.depth)),
+        tree: Expression::Conditional {
+            condition: Box::new(alloc, condition.tree)?,
+            when_true: Box::new(alloc, when_true.tree)?,
+            when_false: Box::new(alloc, when_false.tree)?,
+        },
+    })
+}
+
+/// `name[index]` (5.2.1)
+pub fn selected<'a>(
+    alloc: Global,
+    word: Word<'a>,
+    index: Found<'a>,
+) -> Result<Found<'a>, NoMemory>
+    requires { index.depth < 2 ^ 63 }
+    ensures { IfOk result (IsMade (bit (word_text word.entry) (tree_in index.entry)) (1 + index.entry.depth)) }
+{
+    Ok(Found {
+        depth: 1 + index.depth,
+        tree: Expression::Bit {
+            name: word,
+            index: Box::new(alloc, index.tree)?,
+        },
+    })
+}
+
+/// `name[left:right]` (5.2.1)
+pub fn part_selected<'a>(
+    alloc: Global,
+    word: Word<'a>,
+    left: Found<'a>,
+    right: Found<'a>,
+) -> Result<Found<'a>, NoMemory>
+    requires { (left.depth < 2 ^ 63) × (right.depth < 2 ^ 63) }
+    ensures { IfOk result (IsMade (part (word_text word.entry) (tree_in left.entry) (tree_in right.entry)) (1 + max left.entry.depth right.entry.depth)) }
+{
+    Ok(Found {
+        depth: 1 + larger(left.depth, right.depth),
+        tree: Expression::Part {
+            name: word,
+            left: Box::new(alloc, left.tree)?,
+            right: Box::new(alloc, right.tree)?,
+        },
+    })
+}
+
+/// `{part, ..}` (5.1.14)
+pub fn joined<'a>(at: u32, parts: Parts<'a>) -> Found<'a>
+    requires { parts.depth < 2 ^ 63 }
+    ensures { IsMade (concatenation (trees_of parts.entry.trees.items)) (1 + parts.entry.depth) result }
+{
+    Found {
+        depth: 1 + parts.depth,
+        tree: Expression::Concatenation {
+            at,
+            parts: parts.trees,
+        },
+    }
+}
+
+/// `{count{part, ..}}` (5.1.14)
+pub fn repeated<'a>(
+    alloc: Global,
+    at: u32,
+    count: Found<'a>,
+    parts: Parts<'a>,
+) -> Result<Found<'a>, NoMemory>
+    requires { (count.depth < 2 ^ 63) × (parts.depth < 2 ^ 63) }
+    ensures { IfOk result (IsMade (replication (tree_in count.entry) (trees_of parts.entry.trees.items)) (1 + max count.entry.depth parts.entry.depth)) }
+{
+    Ok(Found {
+        depth: 1 + larger(count.depth, parts.depth),
+        tree: Expression::Replication {
+            at,
+            count: Box::new(alloc, count.tree)?,
+            parts: parts.trees,
+        },
+    })
+}
