@@ -16,9 +16,9 @@ pub enum Status {
 ///
 /// It is proved of each that it is reached under its log and, where the status is `Exhausted`, that
 /// no run reaches it with fewer departures and that no mark of a run within the limit of departures
-/// is missing. Whatever the status, they are all the marks of one book that the explorer's events
-/// lead to; after `Cut(Steps)` some choice of an entry goes past the limit of steps, and every other
-/// leads to an entry or goes past it too.
+/// is missing. Those of `explore_alone` are, whatever the status, all the marks of one book that the
+/// explorer's events lead to; after `Cut(Steps)` some choice of an entry goes past the limit of steps,
+/// and every other leads to an entry or goes past it too.
 #[derive(Drop)]
 pub struct Findings<S: Eq + Hash> {
     pub marks: IndexMap<S, Log>,

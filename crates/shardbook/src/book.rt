@@ -27,8 +27,8 @@ use std::sync::ledger::{Share, Total};
 use std::sync::{Mutex, Wait};
 
 /// A book of entries that threads share. A thread meets entries by a pass of its own, and waits
-/// only for the lock of the one shard that an entry belongs to; whatever stands in the book is
-/// read and finished without a lock. No state is copied, stepped or hashed under a lock.
+/// only for the lock of the one shard that an entry belongs to, and for room that another makes in
+/// the list of entries; whatever stands in the book is read and finished without a lock. No state is copied, stepped or hashed under a lock.
 #[derive(Drop)]
 pub struct Book<S: Eq + Hash, Q: Quest<S>, B: Naming> {
     entries: Entries<S, Q>,

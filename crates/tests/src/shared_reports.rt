@@ -1,15 +1,15 @@
 // Reports of a text by several workers: the same bytes as by one, where one log alone has the fewest departures.
 
+use crate::gates::HoldsSecond;
 use explore;
 use std::alloc::Global;
 use std::sync::Wait;
-use std::sync::atomic::{AtomicU64, Ordering};
 use std::test::Fail;
 use std::thread::Threads;
 use vcd_text::Metered;
 use vmodel::history::Grain;
 use vrace::{Fault, Options, Reason, Status, explore_text, explore_text_alone};
-use workpool::{Gate, OpenGate};
+use workpool::OpenGate;
 
 // The first process writes `a` at 5 and at 10, the second reads it then.
 const TWO_RACES: &[u8] = b"module tb; reg a, b, c;
@@ -122,52 +122,16 @@ fn numbers_of_workers(rt: HostRuntime) -> Result<(), Fail> {
     Ok(())
 }
 
-// The most looks at whether another worker has come.
-const LOOKS: u32 = 1_000_000_000;
-
-// Counts the jobs of the caller's thread and of the others, and holds each worker at its second job until another has come.
-#[derive(Drop)]
-struct Meeting {
-    own: AtomicU64,
-    others: AtomicU64,
-}
-
-impl Gate for Meeting {
-    fn at(&self, worker: u32, _job: u64) {
-        let (mine, theirs) = if worker == 0 {
-            (&self.own, &self.others)
-        } else {
-            (&self.others, &self.own)
-        };
-        if mine.fetch_add(1, Ordering::SeqCst) == 0 {
-            return;
-        }
-        for _ in 0..LOOKS {
-            if theirs.load(Ordering::SeqCst) > 0 {
-                return;
-            }
-        }
-    }
-}
-
 // Each station is a job: the opening state, the ends of the slots at 0, 5 (b is 0 or 1) and 10 (b and c are), and the four ends.
 #[test]
 fn second_worker_of_a_text(rt: HostRuntime) -> Result<(), Fail> {
     let files = files(rt.alloc(), TWO_RACES)?;
     let options = options(2, 1000)?;
     let mut writer = Metered::new(Vec::new(rt.alloc()));
-    let gate = Meeting {
-        own: AtomicU64::new(0),
-        others: AtomicU64::new(0),
-    };
+    let gate = HoldsSecond::new();
     explore_text(&rt, rt.alloc(), &files, &options, 2, &gate, &mut writer)?;
-    let (own, others) = (
-        gate.own.load(Ordering::SeqCst),
-        gate.others.load(Ordering::SeqCst),
-    );
-    assert!(rt; own > 0);
-    assert!(rt; others > 0);
-    assert!(rt; own + others >= 12);
+    assert!(rt; gate.was_freed());
+    assert!(rt; gate.calls() >= 12);
     assert_eq!(rt; writer.into_inner().as_slice(), REPORT);
     Ok(())
 }
