@@ -1,7 +1,6 @@
 -- Each reader of expressions is a rule.
-use Rattle.std.proofs.Common.{◌≡◌, ℕ, zero, suc, ◌+◌, ◌<◌, ◌≤◌, Bool, true, false, ◌&&◌, not, nat_le, nat_lt, if◌then◌else◌, List, [], ◌∷◌, ◌++◌, Option, None, Some, length, refl, sym, ap, ◌∙◌, arith, inl, inr, subst, codes}
+use Rattle.std.proofs.Common.{◌≡◌, ℕ, zero, suc, ◌<◌, Bool, true, false, ◌&&◌, not, nat_le, if◌then◌else◌, List, [], ◌∷◌, ◌++◌, Option, None, Some, refl, sym, ap, arith, subst, codes}
 use Rattle.std.specs.Str.{bytes_eq}
-use Rattle.std.proofs.lemmas.Bool.{cases_Bool}
 use Rattle.std.proofs.lemmas.Bool.Decides.{nat_tests}
 use Rattle.basis.proofs.Bools.{and_left, and_right, and_both}
 use Rattle.vast.specs.Syntax.{Text}
@@ -13,12 +12,12 @@ use Rattle.vast.proofs.ExpressionLemmas.{depth_positive}
 use Rattle.vexpr_parse.specs.declared.beginning.Beginning.{Beginning}
 use Rattle.vexpr_parse.specs.declared.beginning.Beginning.TheVariants as start
 use Rattle.vexpr_parse.specs.declared.beginning.Round.TheVariants as round
-use Rattle.vexpr_parse.specs.Readers.{Answer, got, stop, Reader, front, is_front, and_then, Lead, goes, refused, lower, led, room, past, choose, turns}
-use Rattle.vexpr_parse.specs.Words.{beginning_of, unary_of, binary_of, is_ranked, is_joined, is_asked, ends_primary, ends_operators, ends}
+use Rattle.vexpr_parse.specs.Readers.{got, front, is_front, and_then, goes, refused, led, room, past, choose, turns}
+use Rattle.vexpr_parse.specs.Words.{beginning_of, binary_of, is_ranked, is_joined, is_asked, ends_primary, ends_operators, ends}
 use Rattle.vexpr_parse.specs.Reading.{Below, trees_in, one_more, parts, repeated, joined, braces, enclosed, part_of, index_lead, selected, select_lead, named, primary_by, primary_lead, primary, operator_by, operator_lead, operator, branches, question_lead, question, onward, expression_by, expression}
-use Rattle.vexpr_parse.specs.Lawful.{Ends, IsWhole, Lawful, Rule}
+use Rattle.vexpr_parse.specs.Lawful.{Ends, Rule}
 use Rattle.vexpr_parse.proofs.ReaderRules.{Eats, got_rule, IsLead, rule_lead, led_sees, led_eats}
-use Rattle.vexpr_parse.proofs.ReaderLoops.{led_rule, lead_if, lead_room, past_rule, past_eats, links_eats, links_ends, then_lawful, then_rule, option_rule, either_rule, turns_keep, turns_rule, then_eats, lawful_keeps, choose_eats}
+use Rattle.vexpr_parse.proofs.ReaderLoops.{led_rule, lead_if, lead_room, past_rule, past_eats, links_eats, links_ends, then_rule, option_rule, either_rule, turns_keep, turns_rule, then_eats, choose_eats}
 
 -- words that are an expression
 abbrev pub example : List Text
@@ -43,7 +42,8 @@ pub not_asked : (least : ℕ) (first : Option Text) → ends least first ≡ tru
 not_asked least first e = not_true (is_asked least first) (and_right (ends_operators least first) (not (is_asked least first)) e)
 
 -- what no operator of a rank goes on from, none of a higher rank does
-pub ranked_higher : (least higher : ℕ) (first : Option Text) → nat_le least higher ≡ true → is_joined least first ≡ false → is_joined higher first ≡ false
+pub ranked_higher : (least higher : ℕ) (first : Option Text) → nat_le least higher ≡ true → is_joined least first ≡ false →
+    is_joined higher first ≡ false
 ranked_higher least higher None e f = refl
 ranked_higher least higher (Some word) e f = by_operator (binary_of word) f
   where
@@ -55,7 +55,8 @@ ranked_higher least higher (Some word) e f = by_operator (binary_of word) f
     by_operator (Some operator) f = higher_yet least higher (rank operator) e f
 
 -- nor does a conditional
-higher_ends : (least higher : ℕ) (first : Option Text) → nat_le least (suc higher) ≡ true → ends_operators least first ≡ true → ends (suc higher) first ≡ true
+higher_ends : (least higher : ℕ) (first : Option Text) → nat_le least (suc higher) ≡ true → ends_operators least first ≡ true →
+    ends (suc higher) first ≡ true
 higher_ends least higher first e f =
     and_both (ends_operators (suc higher) first) (not (is_asked (suc higher) first))
     (and_both (ends_primary first) (not (is_joined (suc higher) first)) (primary_ended least first f)
@@ -65,7 +66,8 @@ higher_ends least higher first e f =
     not_within : (n : ℕ) → nat_le (suc n) 0 ≡ false
     not_within n = grind (arith, nat_tests)
 
-pub operator_ends : (least : ℕ) (operator : BinaryOperator) (first : Option Text) → nat_le least (rank operator) ≡ true → ends_operators least first ≡ true →
+pub operator_ends : (least : ℕ) (operator : BinaryOperator) (first : Option Text) → nat_le least (rank operator) ≡ true →
+    ends_operators least first ≡ true →
     ends (suc (rank operator)) first ≡ true
 operator_ends least operator first e f = higher_ends least (rank operator) first (one_higher least (rank operator) e) f
   where
@@ -100,7 +102,8 @@ below_unary binary.LogicalAnd = refl
 below_unary binary.LogicalOr = refl
 
 pub unary_ends : (first : Option Text) → ends_primary first ≡ true → ends unary_rank first ≡ true
-unary_ends first e = and_both (ends_operators unary_rank first) true (and_both (ends_primary first) (not (is_joined unary_rank first)) e (ap not (never first))) refl
+unary_ends first e = and_both (ends_operators unary_rank first) true
+    (and_both (ends_primary first) (not (is_joined unary_rank first)) e (ap not (never first))) refl
   where
     by_operator : (o : Option BinaryOperator) → is_ranked unary_rank o ≡ false
     by_operator None = refl
@@ -130,7 +133,8 @@ module _ (read : Below) (r : (least : ℕ) → Rule (read least) (ends least) ex
   pub enclosed_rule : (make : ExpressionTree → ExpressionTree) → Rule (enclosed read make) ends_primary (example ++ codes ")" ∷ [])
   unfolding binary_of
   enclosed_rule make =
-      then_rule (read 0) (λ tree. past (codes ")") (got (make tree))) (ends 0) ends_primary example (codes ")" ∷ []) (links_eats _ (ends 0) ends_primary (λ tree. closed_eats (codes ")") (make tree)))
+      then_rule (read 0) (λ tree. past (codes ")") (got (make tree))) (ends 0) ends_primary example (codes ")" ∷ [])
+      (links_eats _ (ends 0) ends_primary (λ tree. closed_eats (codes ")") (make tree)))
       (λ rest e. refl) (r 0) (λ tree. closed_rule (codes ")") (make tree))
 
   -- [ index ], or [ left : right ]
@@ -138,31 +142,38 @@ module _ (read : Below) (r : (least : ℕ) → Rule (read least) (ends least) ex
   unfolding binary_of
   part_rule letters left =
       then_rule (read 0) (λ right. past (codes "]") (got (part letters left right))) (ends 0) ends_primary example (codes "]" ∷ [])
-      (links_eats _ (ends 0) ends_primary (λ right. closed_eats (codes "]") (part letters left right))) (λ rest e. refl) (r 0) (λ right. closed_rule (codes "]") (part letters left right))
+      (links_eats _ (ends 0) ends_primary (λ right. closed_eats (codes "]") (part letters left right))) (λ rest e. refl) (r 0)
+      (λ right. closed_rule (codes "]") (part letters left right))
 
   index_leads : (letters : Text) (index : ExpressionTree) (word : Text) → IsLead ends_primary (index_lead read letters index word)
   index_leads letters index word =
-      lead_if ends_primary (bytes_eq (codes "]") word) _ _ (rule_lead (got (bit letters index)) ends_primary [] (got_rule (bit letters index) ends_primary))
-      (lead_if ends_primary (bytes_eq (codes ":") word) _ _ (rule_lead (part_of read letters index) ends_primary (example ++ codes "]" ∷ []) (part_rule letters index)) tt)
+      lead_if ends_primary (bytes_eq (codes "]") word) _ _ (rule_lead (got (bit letters index)) ends_primary []
+      (got_rule (bit letters index) ends_primary))
+      (lead_if ends_primary (bytes_eq (codes ":") word) _ _ (rule_lead (part_of read letters index) ends_primary (example ++ codes "]" ∷ [])
+      (part_rule letters index)) tt)
 
   pub selected_rule : (letters : Text) → Rule (selected read letters) ends_primary (example ++ codes "]" ∷ [])
   unfolding binary_of
   selected_rule letters =
       then_rule (read 0) (λ index. led (index_lead read letters index)) (ends 0) ends_primary example (codes "]" ∷ [])
-      (links_eats _ (ends 0) ends_primary (λ index. led_eats (index_lead read letters index) ends_primary (index_leads letters index))) (λ rest e. refl) (r 0)
-      (λ index. led_rule (index_lead read letters index) ends_primary (codes "]") [] (got (bit letters index)) (index_leads letters index) refl (got_rule (bit letters index) ends_primary).starts)
+      (links_eats _ (ends 0) ends_primary (λ index. led_eats (index_lead read letters index) ends_primary (index_leads letters index)))
+      (λ rest e. refl) (r 0)
+      (λ index. led_rule (index_lead read letters index) ends_primary (codes "]") [] (got (bit letters index))
+      (index_leads letters index) refl (got_rule (bit letters index) ends_primary).starts)
 
   -- , tree
   more_rule : (trees : List ExpressionTree) → Rule (one_more read trees) (ends 0) (codes "," ∷ (example ++ []))
   more_rule trees =
       past_rule (codes ",") (λ words. and_then (read 0 words) (λ tree. got (trees ++ tree ∷ []))) (ends 0) (example ++ [])
-      (then_rule (read 0) (λ tree. got (trees ++ tree ∷ [])) (ends 0) (ends 0) example [] (links_ends _ (ends 0) (ends 0) (λ first e. e)) (λ rest e. e) (r 0)
+      (then_rule (read 0) (λ tree. got (trees ++ tree ∷ [])) (ends 0) (ends 0) example [] (links_ends _ (ends 0) (ends 0) (λ first e. e))
+      (λ rest e. e) (r 0)
       (λ tree. got_rule (trees ++ tree ∷ []) (ends 0)))
 
   pub more_eats : (trees : List ExpressionTree) → Eats (one_more read trees)
   more_eats trees =
       past_eats (codes ",") (λ words. and_then (read 0 words) (λ tree. got (trees ++ tree ∷ []))) (ends 0) (example ++ [])
-      (then_rule (read 0) (λ tree. got (trees ++ tree ∷ [])) (ends 0) (ends 0) example [] (links_ends _ (ends 0) (ends 0) (λ first e. e)) (λ rest e. e) (r 0)
+      (then_rule (read 0) (λ tree. got (trees ++ tree ∷ [])) (ends 0) (ends 0) example [] (links_ends _ (ends 0) (ends 0) (λ first e. e))
+      (λ rest e. e) (r 0)
       (λ tree. got_rule (trees ++ tree ∷ []) (ends 0)))
 
   tree_ended : (first : Option Text) → ends_parts first ≡ true → ends 0 first ≡ true
@@ -175,22 +186,28 @@ module _ (read : Below) (r : (least : ℕ) → Rule (read least) (ends least) ex
 
   parts_rule : Rule (parts read) ends_parts (example ++ [])
   parts_rule =
-      then_rule (read 0) (λ tree. turns (one_more read) (is_front (codes ",")) (tree ∷ [])) (ends 0) ends_parts example [] (links_ends _ (ends 0) ends_parts tree_ended)
+      then_rule (read 0) (λ tree. turns (one_more read) (is_front (codes ",")) (tree ∷ [])) (ends 0) ends_parts example []
+      (links_ends _ (ends 0) ends_parts tree_ended)
       (λ rest e. tree_ended (front rest) e) (r 0) (λ tree. list_rule (tree ∷ []))
 
   twice_closed : (tree : ExpressionTree) → Rule (past (codes "}") (past (codes "}") (got tree))) ends_primary (codes "}" ∷ codes "}" ∷ [])
   twice_closed tree = past_rule (codes "}") (past (codes "}") (got tree)) ends_primary (codes "}" ∷ []) (closed_rule (codes "}") tree)
 
   held_rule : (count : ExpressionTree) →
-      Rule (λ words. and_then (parts read words) (λ trees. past (codes "}") (past (codes "}") (got (replication count (trees_in trees)))))) ends_primary
+      Rule (λ words. and_then (parts read words) (λ trees. past (codes "}") (past (codes "}")
+      (got (replication count (trees_in trees)))))) ends_primary
       ((example ++ []) ++ codes "}" ∷ codes "}" ∷ [])
   unfolding binary_of
   held_rule count =
-      then_rule (parts read) (λ trees. past (codes "}") (past (codes "}") (got (replication count (trees_in trees))))) ends_parts ends_primary (example ++ []) (codes "}" ∷ codes "}" ∷ [])
-      (links_eats _ ends_parts ends_primary (λ trees. past_eats (codes "}") (past (codes "}") (got (replication count (trees_in trees)))) ends_primary (codes "}" ∷ []) (closed_rule (codes "}") (replication count (trees_in trees)))))
+      then_rule (parts read) (λ trees. past (codes "}") (past (codes "}")
+      (got (replication count (trees_in trees))))) ends_parts ends_primary (example ++ []) (codes "}" ∷ codes "}" ∷ [])
+      (links_eats _ ends_parts ends_primary (λ trees. past_eats (codes "}") (past (codes "}")
+      (got (replication count (trees_in trees)))) ends_primary (codes "}" ∷ []) (closed_rule (codes "}")
+      (replication count (trees_in trees)))))
       (λ rest e. refl) parts_rule (λ trees. twice_closed (replication count (trees_in trees)))
 
-  repeated_rule : (count : ExpressionTree) → Rule (repeated read count) ends_primary (codes "{" ∷ ((example ++ []) ++ codes "}" ∷ codes "}" ∷ []))
+  repeated_rule : (count : ExpressionTree) → Rule (repeated read count) ends_primary
+      (codes "{" ∷ ((example ++ []) ++ codes "}" ∷ codes "}" ∷ []))
   repeated_rule count = past_rule (codes "{") _ ends_primary ((example ++ []) ++ codes "}" ∷ codes "}" ∷ []) (held_rule count)
 
   repeated_eats : (count : ExpressionTree) → Eats (repeated read count)
@@ -199,50 +216,65 @@ module _ (read : Below) (r : (least : ℕ) → Rule (read least) (ends least) ex
   joined_rule : (tree : ExpressionTree) → Rule (joined read tree) ends_primary ([] ++ codes "}" ∷ [])
   unfolding binary_of
   joined_rule tree =
-      then_rule (turns (one_more read) (is_front (codes ",")) (tree ∷ [])) (λ trees. past (codes "}") (got (concatenation (trees_in trees)))) ends_parts ends_primary [] (codes "}" ∷ [])
-      (links_eats _ ends_parts ends_primary (λ trees. closed_eats (codes "}") (concatenation (trees_in trees)))) (λ rest e. refl) (list_rule (tree ∷ []))
+      then_rule (turns (one_more read) (is_front (codes ",")) (tree ∷ [])) (λ trees. past (codes "}")
+      (got (concatenation (trees_in trees)))) ends_parts ends_primary [] (codes "}" ∷ [])
+      (links_eats _ ends_parts ends_primary (λ trees. closed_eats (codes "}") (concatenation (trees_in trees)))) (λ rest e. refl)
+      (list_rule (tree ∷ []))
       (λ trees. closed_rule (codes "}") (concatenation (trees_in trees)))
 
   joined_eats : (tree : ExpressionTree) → Eats (joined read tree)
   joined_eats tree =
-      then_eats (turns (one_more read) (is_front (codes ",")) (tree ∷ [])) (λ trees. past (codes "}") (got (concatenation (trees_in trees))))
-      (turns_keep (one_more read) (is_front (codes ",")) more_eats (tree ∷ [])) (λ trees. closed_eats (codes "}") (concatenation (trees_in trees)))
+      then_eats (turns (one_more read) (is_front (codes ",")) (tree ∷ [])) (λ trees. past (codes "}")
+      (got (concatenation (trees_in trees))))
+      (turns_keep (one_more read) (is_front (codes ",")) more_eats (tree ∷ [])) (λ trees. closed_eats (codes "}")
+      (concatenation (trees_in trees)))
 
   -- { .. }
   pub braces_rule : Rule (braces read) ends_primary (example ++ codes "}" ∷ [])
   unfolding binary_of
   braces_rule =
-      then_rule (read 0) (λ tree. choose (is_front (codes "{")) (repeated read tree) (joined read tree)) (ends 0) ends_primary example (codes "}" ∷ [])
-      (links_eats _ (ends 0) ends_primary (λ tree. choose_eats (is_front (codes "{")) (repeated read tree) (joined read tree) (repeated_eats tree) (joined_eats tree))) (λ rest e. refl) (r 0)
-      (λ tree. either_rule (is_front (codes "{")) (repeated read tree) (joined read tree) ends_primary (codes "}" ∷ []) (repeated_eats tree) (joined_eats tree) (repeated_rule tree).lawful (joined_rule tree)
+      then_rule (read 0) (λ tree. choose (is_front (codes "{")) (repeated read tree) (joined read tree)) (ends 0) ends_primary example
+      (codes "}" ∷ [])
+      (links_eats _ (ends 0) ends_primary (λ tree. choose_eats (is_front (codes "{")) (repeated read tree) (joined read tree)
+      (repeated_eats tree) (joined_eats tree))) (λ rest e. refl) (r 0)
+      (λ tree. either_rule (is_front (codes "{")) (repeated read tree) (joined read tree) ends_primary (codes "}" ∷ []) (repeated_eats tree)
+      (joined_eats tree) (repeated_rule tree).lawful (joined_rule tree)
       (λ rest. refl))
 
   -- an operator and its operand
-  pub applied_rule : (operator : _) → Rule (λ words. and_then (read unary_rank words) (λ tree. got (apply operator tree))) ends_primary (example ++ [])
+  pub applied_rule : (operator : _) → Rule (λ words. and_then (read unary_rank words) (λ tree. got (apply operator tree))) ends_primary
+      (example ++ [])
   applied_rule operator =
-      then_rule (read unary_rank) (λ tree. got (apply operator tree)) (ends unary_rank) ends_primary example [] (links_ends _ (ends unary_rank) ends_primary unary_ends)
+      then_rule (read unary_rank) (λ tree. got (apply operator tree)) (ends unary_rank) ends_primary example []
+      (links_ends _ (ends unary_rank) ends_primary unary_ends)
       (λ rest e. unary_ends (front rest) e) (r unary_rank) (λ tree. got_rule (apply operator tree) ends_primary)
 
   -- an operator's right side
   pub right_rule : (least : ℕ) (left : ExpressionTree) (operator : BinaryOperator) → nat_le least (rank operator) ≡ true →
-      Rule (λ words. and_then (read (suc (rank operator)) words) (λ right. got (combine operator left right))) (ends_operators least) (example ++ [])
+      Rule (λ words. and_then (read (suc (rank operator)) words) (λ right. got (combine operator left right))) (ends_operators least)
+      (example ++ [])
   right_rule least left operator e =
-      then_rule (read (suc (rank operator))) (λ right. got (combine operator left right)) (ends (suc (rank operator))) (ends_operators least) example []
-      (links_ends _ (ends (suc (rank operator))) (ends_operators least) (λ first f. operator_ends least operator first e f)) (λ rest f. operator_ends least operator (front rest) e f)
+      then_rule (read (suc (rank operator))) (λ right. got (combine operator left right)) (ends (suc (rank operator)))
+      (ends_operators least) example []
+      (links_ends _ (ends (suc (rank operator))) (ends_operators least) (λ first f. operator_ends least operator first e f))
+      (λ rest f. operator_ends least operator (front rest) e f)
       (r (suc (rank operator))) (λ right. got_rule (combine operator left right) (ends_operators least))
 
   otherwise_rule : (condition when_true : ExpressionTree) →
       Rule (λ left. and_then (read 0 left) (λ when_false. got (conditional condition when_true when_false))) (ends 0) (example ++ [])
   otherwise_rule condition when_true =
-      then_rule (read 0) (λ when_false. got (conditional condition when_true when_false)) (ends 0) (ends 0) example [] (links_ends _ (ends 0) (ends 0) (λ first e. e)) (λ rest e. e) (r 0)
+      then_rule (read 0) (λ when_false. got (conditional condition when_true when_false)) (ends 0) (ends 0) example []
+      (links_ends _ (ends 0) (ends 0) (λ first e. e)) (λ rest e. e) (r 0)
       (λ when_false. got_rule (conditional condition when_true when_false) (ends 0))
 
   -- what follows ?
   pub branches_rule : (condition : ExpressionTree) → Rule (branches read condition) (ends 0) (example ++ codes ":" ∷ (example ++ []))
   unfolding binary_of
   branches_rule condition =
-      then_rule (read 0) (λ when_true. past (codes ":") (λ left. and_then (read 0 left) (λ when_false. got (conditional condition when_true when_false)))) (ends 0) (ends 0) example
-      (codes ":" ∷ (example ++ [])) (links_eats _ (ends 0) (ends 0) (λ when_true. past_eats (codes ":") _ (ends 0) (example ++ []) (otherwise_rule condition when_true))) (λ rest e. refl) (r 0)
+      then_rule (read 0) (λ when_true. past (codes ":") (λ left. and_then (read 0 left)
+      (λ when_false. got (conditional condition when_true when_false)))) (ends 0) (ends 0) example
+      (codes ":" ∷ (example ++ [])) (links_eats _ (ends 0) (ends 0)
+      (λ when_true. past_eats (codes ":") _ (ends 0) (example ++ []) (otherwise_rule condition when_true))) (λ rest e. refl) (r 0)
       (λ when_true. past_rule (codes ":") _ (ends 0) (example ++ []) (otherwise_rule condition when_true))
 
 -- a level up
@@ -251,11 +283,13 @@ module _ (below : ℕ) (read : Below) (rules : nat_le 1 below ≡ true → (leas
   select_leads : (letters word : Text) → IsLead ends_primary (select_lead below read letters word)
   select_leads letters word =
       lead_if ends_primary (bytes_eq (codes "[") word) _ _
-      (lead_room ends_primary below 1 (goes (selected read letters)) (λ e. rule_lead (selected read letters) ends_primary (example ++ codes "]" ∷ []) (selected_rule read (rules e) letters))) tt
+      (lead_room ends_primary below 1 (goes (selected read letters))
+      (λ e. rule_lead (selected read letters) ends_primary (example ++ codes "]" ∷ []) (selected_rule read (rules e) letters))) tt
 
   named_rule : (letters : Text) → Rule (named below read letters) ends_primary []
   named_rule letters =
-      option_rule (is_front (codes "[")) (led (select_lead below read letters)) (name letters) ends_primary (led_eats (select_lead below read letters) ends_primary (select_leads letters))
+      option_rule (is_front (codes "[")) (led (select_lead below read letters)) (name letters) ends_primary
+      (led_eats (select_lead below read letters) ends_primary (select_leads letters))
       (λ first e. not_true (is_front (codes "[") first) e) (led_sees (select_lead below read letters) ends_primary (select_leads letters))
 
   primary_leads_by : (word : Text) (b : Beginning) → IsLead ends_primary (primary_by below read word b)
@@ -263,13 +297,16 @@ module _ (below : ℕ) (read : Below) (rules : nat_le 1 below ≡ true → (leas
   primary_leads_by word start.Name = rule_lead (named below read word) ends_primary [] (named_rule word)
   primary_leads_by word start.Time = rule_lead (got time) ends_primary [] (got_rule time ends_primary)
   primary_leads_by word (start.Round round.Parenthesis) =
-      lead_room ends_primary below 1 (goes (enclosed read parentheses)) (λ e. rule_lead (enclosed read parentheses) ends_primary (example ++ codes ")" ∷ []) (enclosed_rule read (rules e) parentheses))
+      lead_room ends_primary below 1 (goes (enclosed read parentheses))
+      (λ e. rule_lead (enclosed read parentheses) ends_primary (example ++ codes ")" ∷ []) (enclosed_rule read (rules e) parentheses))
   primary_leads_by word (start.Round round.Brace) =
-      lead_room ends_primary below 1 (goes (braces read)) (λ e. rule_lead (braces read) ends_primary (example ++ codes "}" ∷ []) (braces_rule read (rules e)))
+      lead_room ends_primary below 1 (goes (braces read)) (λ e. rule_lead (braces read) ends_primary (example ++ codes "}" ∷ [])
+      (braces_rule read (rules e)))
   primary_leads_by word (start.Round (round.Conversion signed)) =
       lead_room ends_primary below 1 (goes (past (codes "(") (enclosed read (conversion signed))))
       (λ e. rule_lead (past (codes "(") (enclosed read (conversion signed))) ends_primary (codes "(" ∷ (example ++ codes ")" ∷ []))
-          (past_rule (codes "(") (enclosed read (conversion signed)) ends_primary (example ++ codes ")" ∷ []) (enclosed_rule read (rules e) (conversion signed))))
+      (past_rule (codes "(") (enclosed read (conversion signed)) ends_primary (example ++ codes ")" ∷ [])
+      (enclosed_rule read (rules e) (conversion signed))))
   primary_leads_by word (start.Round (round.Operator operator)) =
       lead_room ends_primary below 1 _ (λ e. rule_lead _ ends_primary (example ++ []) (applied_rule read (rules e) operator))
   primary_leads_by word start.Other = tt
@@ -277,7 +314,8 @@ module _ (below : ℕ) (read : Below) (rules : nat_le 1 below ≡ true → (leas
   pub primary_rule : Rule (primary below read) ends_primary example
   unfolding beginning_of reserved_words
   primary_rule =
-      led_rule (primary_lead below read) ends_primary (codes "a") [] (named below read (codes "a")) (λ word. primary_leads_by word (beginning_of word)) refl (named_rule (codes "a")).starts
+      led_rule (primary_lead below read) ends_primary (codes "a") [] (named below read (codes "a"))
+      (λ word. primary_leads_by word (beginning_of word)) refl (named_rule (codes "a")).starts
 
   enough_below : (tree : ExpressionTree) → nat_le (depth tree) below ≡ true → nat_le 1 below ≡ true
   enough_below tree e = at_least_one (depth tree) below (depth_positive tree) e
@@ -285,40 +323,49 @@ module _ (below : ℕ) (read : Below) (rules : nat_le 1 below ≡ true → (leas
       at_least_one : (d b : ℕ) → 0 < d → nat_le d b ≡ true → nat_le 1 b ≡ true
       at_least_one d b p e = grind (arith, nat_tests)
 
-  operator_leads_by : (least : ℕ) (left : ExpressionTree) (o : Option BinaryOperator) → IsLead (ends_operators least) (operator_by below read least left o)
+  operator_leads_by : (least : ℕ) (left : ExpressionTree) (o : Option BinaryOperator) →
+      IsLead (ends_operators least) (operator_by below read least left o)
   operator_leads_by least left None = tt
   operator_leads_by least left (Some operator) = by_test (nat_le least (rank operator)) refl
     where
       by_test : (b : Bool) → nat_le least (rank operator) ≡ b →
           IsLead (ends_operators least)
-          (if b then room below (depth left) (goes (λ words. and_then (read (suc (rank operator)) words) (λ right. got (combine operator left right)))) else refused)
+          (if b then room below (depth left) (goes (λ words. and_then (read (suc (rank operator)) words)
+          (λ right. got (combine operator left right)))) else refused)
       by_test true e =
           lead_room (ends_operators least) below (depth left) _
           (λ f. rule_lead _ (ends_operators least) (example ++ []) (right_rule read (rules (enough_below left f)) least left operator e))
       by_test false e = tt
 
-  operator_leads : (least : ℕ) (left : ExpressionTree) (word : Text) → IsLead (ends_operators least) (operator_lead below read least left word)
+  operator_leads : (least : ℕ) (left : ExpressionTree) (word : Text) →
+      IsLead (ends_operators least) (operator_lead below read least left word)
   operator_leads least left word = operator_leads_by least left (binary_of word)
 
   pub operator_eats : (least : ℕ) (left : ExpressionTree) → Eats (operator below read least left)
   operator_eats least left = led_eats (operator_lead below read least left) (ends_operators least) (operator_leads least left)
 
-  operators_rule : (least : ℕ) (left : ExpressionTree) → Rule (turns (operator below read least) (is_joined least) left) (ends_operators least) []
+  operators_rule : (least : ℕ) (left : ExpressionTree) → Rule (turns (operator below read least) (is_joined least) left)
+      (ends_operators least) []
   operators_rule least left =
       turns_rule (operator below read least) (is_joined least) (operator_eats least) (ends_operators least) (ends_operators least)
-      (λ tree. led_sees (operator_lead below read least tree) (ends_operators least) (operator_leads least tree)) (λ first e. e) (not_joined least) left
+      (λ tree. led_sees (operator_lead below read least tree) (ends_operators least) (operator_leads least tree)) (λ first e. e)
+      (not_joined least) left
 
-  question_leads : (least : ℕ) (condition : ExpressionTree) (word : Text) → IsLead (ends least) (question_lead below read least condition word)
+  question_leads : (least : ℕ) (condition : ExpressionTree) (word : Text) →
+      IsLead (ends least) (question_lead below read least condition word)
   question_leads least condition word = by_test (is_asked least (Some word)) refl
     where
       none : (n : ℕ) → nat_le n 0 ≡ true → n ≡ 0
       none n e = grind (arith, nat_tests)
 
-      by_test : (b : Bool) → is_asked least (Some word) ≡ b → IsLead (ends least) (if b then room below (depth condition) (goes (branches read condition)) else refused)
+      by_test : (b : Bool) → is_asked least (Some word) ≡ b → IsLead (ends least)
+          (if b then room below (depth condition) (goes (branches read condition)) else refused)
       by_test true e =
           lead_room (ends least) below (depth condition) (goes (branches read condition))
-          (λ f. subst (λ n. IsLead (ends n) (goes (branches read condition))) (sym (none least (and_left (nat_le least 0) (bytes_eq (codes "?") word) e)))
-              (rule_lead (branches read condition) (ends 0) (example ++ codes ":" ∷ (example ++ [])) (branches_rule read (rules (enough_below condition f)) condition)))
+          (λ f. subst (λ n. IsLead (ends n) (goes (branches read condition)))
+          (sym (none least (and_left (nat_le least 0) (bytes_eq (codes "?") word) e)))
+          (rule_lead (branches read condition) (ends 0) (example ++ codes ":" ∷ (example ++ []))
+          (branches_rule read (rules (enough_below condition f)) condition)))
       by_test false e = tt
 
   question_rule : (least : ℕ) (condition : ExpressionTree) → Rule (question below read least condition) (ends least) []
@@ -329,8 +376,10 @@ module _ (below : ℕ) (read : Below) (rules : nat_le 1 below ≡ true → (leas
 
   pub onward_rule : (least : ℕ) (left : ExpressionTree) → Rule (onward below read least left) (ends least) ([] ++ [])
   onward_rule least left =
-      then_rule (turns (operator below read least) (is_joined least) left) (question below read least) (ends_operators least) (ends least) [] []
-      (links_ends _ (ends_operators least) (ends least) (operators_ended least)) (λ rest e. operators_ended least (front rest) e) (operators_rule least left) (question_rule least)
+      then_rule (turns (operator below read least) (is_joined least) left) (question below read least) (ends_operators least)
+      (ends least) [] []
+      (links_ends _ (ends_operators least) (ends least) (operators_ended least)) (λ rest e. operators_ended least (front rest) e)
+      (operators_rule least left) (question_rule least)
 
   pub by_rule : (least : ℕ) → Rule (expression_by below read least) (ends least) example
   by_rule least =

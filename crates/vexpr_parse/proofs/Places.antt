@@ -1,18 +1,18 @@
 -- Reading gives the one tree of the words, or stops at the place from which they begin none.
-use Rattle.std.proofs.Common.{◌≡◌, ℕ, zero, suc, ◌+◌, ◌<◌, ◌≤◌, ◌-◌, Bool, true, false, ◌&&◌, not, max, nat_le, List, [], ◌∷◌, ◌++◌, Option, None, Some, length, refl, sym, ap, ◌∙◌, arith, inl, inr, subst, append_assoc, length-append, codes}
+use Rattle.std.proofs.Common.{◌≡◌, ℕ, zero, suc, ◌+◌, ◌<◌, ◌≤◌, ◌-◌, Bool, true, false, ◌&&◌, not, nat_le, List, [], ◌∷◌, ◌++◌, None, length, refl, sym, ap, ◌∙◌, arith, subst, append_assoc, length-append, codes}
 use Rattle.std.proofs.lemmas.List.{append-nil}
 use Rattle.std.proofs.lemmas.Bool.Decides.{nat_tests}
 use Rattle.vast.specs.Syntax.{Text}
 use Rattle.vast.specs.Words.{reserved_words}
-use Rattle.vast.specs.Expressions.{ExpressionTree, name, spell_expression, fits_expression, depth, rank_of, unary_rank}
+use Rattle.vast.specs.Expressions.{ExpressionTree, name, unary_rank}
 use Rattle.vexpr_parse.specs.declared.stop.Stop.{Stop}
 use Rattle.vexpr_parse.specs.declared.stop.Stop.TheVariants.{NoTree, TooDeep}
-use Rattle.vexpr_parse.specs.Readers.{Answer, got, stop, Reader, front}
-use Rattle.vexpr_parse.specs.Words.{ends, binary_of}
+use Rattle.vexpr_parse.specs.Readers.{Answer, got, stop, front}
+use Rattle.vexpr_parse.specs.Words.{ends}
 use Rattle.vexpr_parse.specs.Reading.{expression}
 use Rattle.vexpr_parse.specs.Found.{IsExpression}
-use Rattle.vexpr_parse.specs.Lawful.{rest_of, Sees, GoesOn, IsWhole, Begins, Lawful}
-use Rattle.vexpr_parse.specs.Places.{BeginsOne, BeginsNone, IsPlace, IsRefused, IsDeeper, ReadsSoundly, ReadsCompletely, IsOnly, StopsAtPlace, StopsForGood, StopsTooDeep}
+use Rattle.vexpr_parse.specs.Lawful.{rest_of, Sees, GoesOn, Begins, Lawful}
+use Rattle.vexpr_parse.specs.Places.{BeginsOne, BeginsNone, ReadsSoundly, ReadsCompletely, IsOnly, StopsAtPlace, StopsForGood, StopsTooDeep}
 use Rattle.vexpr_parse.proofs.ReaderRules.{stop_got, got_tree}
 use Rattle.vexpr_parse.proofs.ExpressionRules.{expression_rule}
 use Rattle.vexpr_parse.proofs.Sound.{Found, expression_found}
@@ -20,11 +20,13 @@ use Rattle.vexpr_parse.proofs.Complete.{expression_complete}
 use Rattle.vexpr_parse.proofs.Grows.{Grows, expression_grows}
 
 pub reads_soundly : ReadsSoundly
-reads_soundly levels least enough words tree left e = subst (Found (IsExpression levels least) words) e (expression_found levels least enough words)
+reads_soundly levels least enough words tree left e = subst (Found (IsExpression levels least) words) e
+    (expression_found levels least enough words)
 
 pub reads_completely : ReadsCompletely
 reads_completely levels least tree before left x e =
-    ap (λ ws. expression levels least (ws ++ left)) (sym x.spelled) ∙ expression_complete tree levels least left x.fitting x.within x.ranked e
+    ap (λ ws. expression levels least (ws ++ left)) (sym x.spelled)
+    ∙ expression_complete tree levels least left x.fitting x.within x.ranked e
 
 -- nothing behind it ends an expression
 end_ends : (least : ℕ) → ends least None ≡ true
@@ -34,8 +36,10 @@ end_ends least = ap not (and_none (nat_le least 0))
     and_none true = refl
     and_none false = refl
 
-read_whole : (levels least : ℕ) (tree : ExpressionTree) (words : List Text) → IsExpression levels least tree words → expression levels least words ≡ got tree []
-read_whole levels least tree words x = ap (expression levels least) (sym (append-nil words)) ∙ reads_completely levels least tree words [] x (end_ends least)
+read_whole : (levels least : ℕ) (tree : ExpressionTree) (words : List Text) → IsExpression levels least tree words →
+    expression levels least words ≡ got tree []
+read_whole levels least tree words x = ap (expression levels least) (sym (append-nil words))
+    ∙ reads_completely levels least tree words [] x (end_ends least)
 
 pub is_only : IsOnly
 is_only levels words tree other x y = got_tree (sym (read_whole levels 0 tree words x) ∙ read_whole levels 0 other words y)
@@ -44,17 +48,21 @@ lawful : (below least : ℕ) → Lawful (expression (suc below) least) (ends lea
 lawful below least = (expression_rule below least).lawful
 
 -- with the word at which reading stops, no expression begins
-none_from : (levels least : ℕ) (before left : List Text) (why : Stop) → ((other : List Text) → front other ≡ front left → expression levels least (before ++ other) ≡ stop why other) →
+none_from : (levels least : ℕ) (before left : List Text) (why : Stop) →
+    ((other : List Text) → front other ≡ front left → expression levels least (before ++ other) ≡ stop why other) →
     BeginsNone levels least before left
-none_from levels least before left why near other tree e x = stop_got (sym (near other e) ∙ read_whole levels least tree (before ++ other) x)
+none_from levels least before left why near other tree e x = stop_got
+    (sym (near other e) ∙ read_whole levels least tree (before ++ other) x)
 
 -- what is read whole is an expression
-whole_one : (levels least : ℕ) → nat_le least unary_rank ≡ true → (words : List Text) (tree : ExpressionTree) → expression levels least (words ++ []) ≡ got tree [] → IsExpression levels least tree words
+whole_one : (levels least : ℕ) → nat_le least unary_rank ≡ true → (words : List Text) (tree : ExpressionTree) →
+    expression levels least (words ++ []) ≡ got tree [] → IsExpression levels least tree words
 whole_one levels least enough words tree e =
     let f = reads_soundly levels least enough (words ++ []) tree [] e in
     subst (IsExpression levels least tree) (sym (append-nil f.0) ∙ sym f.1 ∙ append-nil words) f.2
 
-begins_one : (levels least : ℕ) → nat_le least unary_rank ≡ true → (before : List Text) → Begins (expression levels least) (ends least) before → BeginsOne levels least before
+begins_one : (levels least : ℕ) → nat_le least unary_rank ≡ true → (before : List Text) →
+    Begins (expression levels least) (ends least) before → BeginsOne levels least before
 begins_one levels least enough before b = (b.0, b.1.0, whole_one levels least enough (before ++ b.0) b.1.0 (b.1.1 [] (end_ends least)))
 
 -- a name is an expression
@@ -65,16 +73,22 @@ a_name below least enough = record { spelled = refl; fitting = refl; within = so
     some_level : (n : ℕ) → nat_le 1 (suc n) ≡ true
     some_level n = grind (arith, nat_tests)
 
-goes_on : (below least : ℕ) → nat_le least unary_rank ≡ true → (before : List Text) (a : Answer ExpressionTree) → GoesOn (expression (suc below) least) (ends least) before a →
+goes_on : (below least : ℕ) → nat_le least unary_rank ≡ true → (before : List Text) (a : Answer ExpressionTree) →
+    GoesOn (expression (suc below) least) (ends least) before a →
     BeginsOne (suc below) least before
 goes_on below least enough [] a m = (codes "a" ∷ [], name (codes "a"), a_name below least enough)
-goes_on below least enough (word ∷ words) (got tree left) m =
-    ([], tree, subst (λ ws. IsExpression (suc below) least tree ws) (sym (append-nil (word ∷ words))) (whole_one (suc below) least enough (word ∷ words) tree (m [] (end_ends least))))
+goes_on below least enough (word ∷ words) (got tree left) m = (
+  [],
+  tree,
+  subst (λ ws. IsExpression (suc below) least tree ws) (sym (append-nil (word ∷ words)))
+      (whole_one (suc below) least enough (word ∷ words) tree (m [] (end_ends least))),
+)
 goes_on below least enough (word ∷ words) (stop why left) m = begins_one (suc below) least enough (word ∷ words) (m (omega arith))
 
 pub stops_at_place : StopsAtPlace
 stops_at_place below least enough words left why e =
-    let s : Sees (expression (suc below) least) (ends least) words (stop why left) = subst (Sees (expression (suc below) least) (ends least) words) e (lawful below least words) in
+    let s : Sees (expression (suc below) least) (ends least) words (stop why left) =
+    subst (Sees (expression (suc below) least) (ends least) words) e (lawful below least words) in
     record {
       before = s.before;
       whole = s.whole;
@@ -83,23 +97,27 @@ stops_at_place below least enough words left why e =
     }
 
 -- what is refused for good is so with more levels
-stays : (n below least : ℕ) (words left : List Text) → expression (suc below) least words ≡ stop NoTree left → expression (suc (n + below)) least words ≡ stop NoTree left
+stays : (n below least : ℕ) (words left : List Text) → expression (suc below) least words ≡ stop NoTree left →
+    expression (suc (n + below)) least words ≡ stop NoTree left
 stays zero below least words left e = ap (λ k. expression (suc k) least words) (omega arith) ∙ e
 stays (suc n) below least words left e =
     ap (λ k. expression (suc k) least words) (one_more n below)
-    ∙ subst (λ a. Grows a (expression (suc (suc (n + below))) least words)) (stays n below least words left e) (expression_grows (n + below) least words)
+    ∙ subst (λ a. Grows a (expression (suc (suc (n + below))) least words)) (stays n below least words left e)
+    (expression_grows (n + below) least words)
   where
     one_more : (a b : ℕ) → suc a + b ≡ suc (a + b)
     one_more a b = omega arith
 
 pub stops_for_good : StopsForGood
 stops_for_good below least words left e =
-    let s : Sees (expression (suc below) least) (ends least) words (stop NoTree left) = subst (Sees (expression (suc below) least) (ends least) words) e (lawful below least words) in
+    let s : Sees (expression (suc below) least) (ends least) words (stop NoTree left) =
+    subst (Sees (expression (suc below) least) (ends least) words) e (lawful below least words) in
     record {
       before = s.before;
       whole = s.whole;
       none = λ more above. none_from more least s.before left NoTree
-          (λ other same. ap (λ n. expression n least (s.before ++ other)) (reached below more above) ∙ stays (more - suc below) below least (s.before ++ other) other (s.near other same));
+          (λ other same. ap (λ n. expression n least (s.before ++ other)) (reached below more above)
+          ∙ stays (more - suc below) below least (s.before ++ other) other (s.near other same));
     }
   where
     reached : (below more : ℕ) → suc below ≤ more → more ≡ suc ((more - suc below) + below)
@@ -135,9 +153,11 @@ split (one ∷ before) left (other ∷ passed) rest e less =
 
 pub stops_too_deep : StopsTooDeep
 stops_too_deep below least enough words left e =
-    let s : Sees (expression (suc below) least) (ends least) words (stop TooDeep left) = subst (Sees (expression (suc below) least) (ends least) words) e (lawful below least words) in
+    let s : Sees (expression (suc below) least) (ends least) words (stop TooDeep left) =
+    subst (Sees (expression (suc below) least) (ends least) words) e (lawful below least words) in
     let t = lawful (suc below) least words in
-    let less : length (rest_of (expression (suc (suc below)) least words)) < length left = subst (λ a. Grows a (expression (suc (suc below)) least words)) e (expression_grows below least words) in
+    let less : length (rest_of (expression (suc (suc below)) least words)) < length left =
+    subst (λ a. Grows a (expression (suc (suc below)) least words)) e (expression_grows below least words) in
     let p = split s.before left t.before (rest_of (expression (suc (suc below)) least words)) (sym s.whole ∙ t.whole) less in
     let b = goes_on (suc below) least enough t.before (expression (suc (suc below)) least words) t.more in
     record {
@@ -146,8 +166,14 @@ stops_too_deep below least enough words left e =
       behind = p.behind ++ rest_of (expression (suc (suc below)) least words);
       at = p.at;
       whole = s.whole;
-      viable = (p.behind ++ b.0, b.1, subst (IsExpression (suc (suc below)) least b.1) (ap (λ ws. ws ++ b.0) p.is ∙ regroup s.before p.word p.behind b.0) b.2);
+      viable = (
+        p.behind ++ b.0,
+        b.1,
+        subst (IsExpression (suc (suc below)) least b.1)
+            (ap (λ ws. ws ++ b.0) p.is ∙ regroup s.before p.word p.behind b.0) b.2,
+      );
     }
   where
-    regroup : (before : List Text) (word : Text) (behind after : List Text) → (before ++ word ∷ behind) ++ after ≡ (before ++ word ∷ []) ++ (behind ++ after)
+    regroup : (before : List Text) (word : Text) (behind after : List Text) →
+        (before ++ word ∷ behind) ++ after ≡ (before ++ word ∷ []) ++ (behind ++ after)
     regroup before word behind after = append_assoc before (word ∷ behind) after ∙ sym (append_assoc before (word ∷ []) (behind ++ after))

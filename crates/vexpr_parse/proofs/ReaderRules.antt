@@ -1,14 +1,12 @@
 -- The rules of readers: each combinator of rules is a rule.
-use Rattle.std.proofs.Common.{◌≡◌, ℕ, zero, suc, ◌+◌, ◌<◌, ◌≤◌, Bool, true, false, nat_le, if◌then◌else◌, List, [], ◌∷◌, ◌++◌, Option, None, Some, length, refl, sym, ap, ◌∙◌, arith, inl, inr, subst, append_assoc, length-append}
+use Rattle.std.proofs.Common.{◌≡◌, ℕ, suc, ◌+◌, ◌<◌, ◌≤◌, Bool, true, false, if◌then◌else◌, List, [], ◌∷◌, ◌++◌, Option, None, Some, length, refl, sym, ap, ◌∙◌, arith, subst, length-append}
 use Rattle.std.specs.Str.{bytes_eq}
-use Rattle.std.proofs.lemmas.Bool.{cases_Bool}
-use Rattle.std.proofs.lemmas.List.{append-nil}
 use Rattle.std.proofs.lemmas.Slice.Eq.{bytes_eq-Decides}
 use Rattle.vast.specs.Syntax.{Text}
 use Rattle.vexpr_parse.specs.declared.stop.Stop.{Stop}
 use Rattle.vexpr_parse.specs.declared.stop.Stop.TheVariants.{NoTree, TooDeep}
-use Rattle.vexpr_parse.specs.Readers.{Answer, got, stop, Reader, front, and_then, Lead, goes, refused, lower, follow, led, room, past, choose, rounds, turns}
-use Rattle.vexpr_parse.specs.Lawful.{rest_of, put, Ends, IsWhole, Begins, GoesOn, Sees, Lawful, Rule}
+use Rattle.vexpr_parse.specs.Readers.{Answer, got, stop, Reader, front, and_then, Lead, goes, refused, lower, follow, led}
+use Rattle.vexpr_parse.specs.Lawful.{rest_of, Ends, Begins, GoesOn, Sees, Lawful, Rule}
 
 -- choices by a test
 
@@ -65,7 +63,8 @@ got_left e = cc
 pub stop_got : {A : Type 0} {why : Stop} {x : A} {a b : List Text} → stop why a ≡ got x b → ⊥
 stop_got e = cc
 
-pub then_got : {A B : Type 0} (a : Answer A) (next : A → Reader B) (tree : A) (left : List Text) → a ≡ got tree left → and_then a next ≡ next tree left
+pub then_got : {A B : Type 0} (a : Answer A) (next : A → Reader B) (tree : A) (left : List Text) → a ≡ got tree left →
+    and_then a next ≡ next tree left
 then_got a next tree left e = ap (λ b. and_then b next) e
 
 -- what the two parts of `and_then` gave
@@ -75,14 +74,17 @@ pub record Parts {A B : Type 0} (a : Answer A) (next : A → Reader B) (tree : B
   pub first : a ≡ got one between
   pub second : next one between ≡ got tree left
 
-pub parts_of : {A B : Type 0} (a : Answer A) (next : A → Reader B) (tree : B) (left : List Text) → and_then a next ≡ got tree left → Parts a next tree left
+pub parts_of : {A B : Type 0} (a : Answer A) (next : A → Reader B) (tree : B) (left : List Text) → and_then a next ≡ got tree left →
+    Parts a next tree left
 parts_of (got one between) next tree left e = record { one = one; between = between; first = refl; second = e }
 parts_of (stop why words) next tree left e = absurd (stop_got e)
 
 -- What is read is never given back
 
-pub keeps : {A : Type 0} (read : Reader A) (ends : Ends) (words : List Text) (a : Answer A) → Sees read ends words a → length (rest_of a) ≤ length words
-keeps read ends words a s = more_words (length words) (length s.before) (length (rest_of a)) (ap length s.whole ∙ length-append s.before (rest_of a))
+pub keeps : {A : Type 0} (read : Reader A) (ends : Ends) (words : List Text) (a : Answer A) → Sees read ends words a →
+    length (rest_of a) ≤ length words
+keeps read ends words a s = more_words (length words) (length s.before) (length (rest_of a))
+    (ap length s.whole ∙ length-append s.before (rest_of a))
   where
     more_words : (n b r : ℕ) → n ≡ b + r → r ≤ n
     more_words n b r e = omega arith
@@ -92,7 +94,8 @@ abbrev pub Eats : {A : Type 0} → Reader A → Type 0
 Eats {A = A} read = (words : List Text) (tree : A) (left : List Text) → read words ≡ got tree left → length left < length words
 
 -- The rule of a reader that is another one
-pub sees_same : {A : Type 0} (f g : Reader A) (ends : Ends) (words : List Text) (a : Answer A) → ((ws : List Text) → f ws ≡ g ws) → Sees g ends words a → Sees f ends words a
+pub sees_same : {A : Type 0} (f g : Reader A) (ends : Ends) (words : List Text) (a : Answer A) → ((ws : List Text) → f ws ≡ g ws) →
+    Sees g ends words a → Sees f ends words a
 sees_same {A = A} f g ends words a same s = record {
   before = s.before;
   whole = s.whole;
@@ -141,7 +144,8 @@ led_sees {A = A} lead ends leads (word ∷ words) = by_lead (lead word) refl (le
     below_zero : (n : ℕ) → n < n → ⊥
     below_zero n e = omega (arith, e)
 
-    at_once : (l : Lead A) → lead word ≡ l → (answer : List Text → Answer A) → ((ws : List Text) → follow l word ws ≡ answer (word ∷ ws)) → (other : List Text) →
+    at_once : (l : Lead A) → lead word ≡ l → (answer : List Text → Answer A) → ((ws : List Text) → follow l word ws ≡ answer (word ∷ ws)) →
+        (other : List Text) →
         front other ≡ Some word → led lead other ≡ answer other
     at_once l is answer same other e =
         let P : List Text → Type 0 = λ ws. led lead ws ≡ answer ws in
@@ -192,4 +196,5 @@ led_eats {A = A} lead ends leads (word ∷ words) tree left e = by_lead (lead wo
     by_lead refused t e = absurd (stop_got e)
     by_lead lower t e = absurd (stop_got e)
     by_lead (goes read) t e =
-        fewer (length left) (length words) (subst (λ a. length (rest_of a) ≤ length words) e (keeps read ends words (read words) (t.0 words)))
+        fewer (length left) (length words) (subst (λ a. length (rest_of a) ≤ length words) e
+        (keeps read ends words (read words) (t.0 words)))

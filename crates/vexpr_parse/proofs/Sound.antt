@@ -1,5 +1,5 @@
 -- What is read stands at the front of the words, as its tree spells it; the tree fits, and is within the levels.
-use Rattle.std.proofs.Common.{◌≡◌, ℕ, zero, suc, ◌+◌, ◌<◌, ◌≤◌, Bool, true, false, ◌&&◌, not, max, nat_le, nat_lt, if◌then◌else◌, List, [], ◌∷◌, ◌++◌, Option, None, Some, length, refl, sym, ap, ◌∙◌, arith, inl, inr, subst, append_assoc, codes}
+use Rattle.std.proofs.Common.{◌≡◌, ℕ, zero, suc, ◌+◌, Bool, true, false, ◌&&◌, max, nat_le, nat_lt, if◌then◌else◌, List, [], ◌∷◌, ◌++◌, Option, None, Some, length, refl, sym, ap, ◌∙◌, arith, inl, inr, subst, append_assoc, codes}
 use Rattle.std.specs.Str.{bytes_eq}
 use Rattle.std.proofs.lemmas.Bool.{cases_Bool}
 use Rattle.std.proofs.lemmas.List.{append-nil}
@@ -7,7 +7,7 @@ use Rattle.std.proofs.lemmas.Bool.Decides.{nat_tests}
 use Rattle.basis.proofs.Bools.{and_left, and_right, and_both}
 use Rattle.vast.specs.Syntax.{Text}
 use Rattle.vast.specs.Words.{is_name, is_number}
-use Rattle.vast.specs.Expressions.{ExpressionTree, number, name, time, bit, part, parentheses, concatenation, replication, conversion, apply, combine, conditional, ExpressionTrees, none, first, spell_expression, spell_parts, spell_more_parts, fits_expression, fits_parts, is_some_part, depth, greatest_depth, rank, rank_of, unary_rank, unary_word, binary_word, conversion_word}
+use Rattle.vast.specs.Expressions.{ExpressionTree, number, name, time, bit, part, parentheses, concatenation, replication, conversion, apply, combine, conditional, spell_expression, spell_parts, spell_more_parts, fits_expression, fits_parts, is_some_part, depth, greatest_depth, rank, rank_of, unary_rank, unary_word, binary_word, conversion_word}
 use Rattle.vast.specs.declared.expression.UnaryOperator.{UnaryOperator}
 use Rattle.vast.specs.declared.expression.BinaryOperator.{BinaryOperator}
 use Rattle.vast.specs.declared.expression.BinaryOperator.TheVariants as binary
@@ -16,7 +16,7 @@ use Rattle.vexpr_parse.specs.declared.beginning.Beginning.TheVariants as start
 use Rattle.vexpr_parse.specs.declared.beginning.Round.TheVariants as round
 use Rattle.vexpr_parse.specs.Readers.{Answer, got, stop, Reader, front, is_front, and_then, Lead, goes, refused, lower, follow, led, room, past, choose, rounds, turns}
 use Rattle.vexpr_parse.specs.Words.{beginning_of, by_operator, written, unary_operators, binary_operators, unary_of, binary_of, is_ranked, is_joined, is_asked}
-use Rattle.vexpr_parse.specs.Reading.{Below, trees_in, one_more, parts, repeated, joined, braces, enclosed, part_of, index_lead, selected, select_lead, named, primary_by, primary_lead, primary, operator_by, operator_lead, operator, branches, question_lead, question, onward, expression_by, expression}
+use Rattle.vexpr_parse.specs.Reading.{Below, trees_in, one_more, parts, repeated, joined, braces, enclosed, part_of, index_lead, selected, select_lead, named, primary_by, primary_lead, primary, operator_by, operator, branches, question_lead, question, onward, expression_by, expression}
 use Rattle.vexpr_parse.specs.Found.{IsExpression}
 use Rattle.vexpr_parse.proofs.ReaderRules.{same_text, chosen, passed_over, stop_got, got_tree, got_left, parts_of}
 
@@ -28,15 +28,18 @@ Found Q words (stop why left) = Unit {0}
 abbrev pub Finds : {A : Type 0} → (A → List Text → Type 0) → Reader A → Type 0
 Finds Q read = (words : List Text) → Found Q words (read words)
 
-found_more : {A : Type 0} (Q R : A → List Text → Type 0) → ((tree : A) (before : List Text) → Q tree before → R tree before) → (words : List Text) (a : Answer A) → Found Q words a → Found R words a
+found_more : {A : Type 0} (Q R : A → List Text → Type 0) → ((tree : A) (before : List Text) → Q tree before → R tree before) →
+    (words : List Text) (a : Answer A) → Found Q words a → Found R words a
 found_more Q R enough words (got tree left) f = (f.0, f.1, enough tree f.0 f.2)
 found_more Q R enough words (stop why left) f = tt
 
 found_got : {A : Type 0} (Q : A → List Text → Type 0) (tree : A) → Q tree [] → Finds Q (got tree)
 found_got Q tree q words = ([], refl, q)
 
-then_found_by : {A B : Type 0} (Q : A → List Text → Type 0) (R : B → List Text → Type 0) (next : A → Reader B) (words : List Text) (a : Answer A) →
-    ((one : A) (before left : List Text) → a ≡ got one left → Q one before → Found (λ tree after. R tree (before ++ after)) left (next one left)) → Found Q words a → Found R words (and_then a next)
+then_found_by : {A B : Type 0} (Q : A → List Text → Type 0) (R : B → List Text → Type 0) (next : A → Reader B) (words : List Text)
+    (a : Answer A) →
+    ((one : A) (before left : List Text) → a ≡ got one left → Q one before →
+    Found (λ tree after. R tree (before ++ after)) left (next one left)) → Found Q words a → Found R words (and_then a next)
 then_found_by {B = B} Q R next words (got one left) after f = behind (next one left) (after one f.0 left refl f.2)
   where
     behind : (a : Answer B) → Found (λ tree b. R tree (f.0 ++ b)) left a → Found R words a
@@ -45,7 +48,8 @@ then_found_by {B = B} Q R next words (got one left) after f = behind (next one l
 then_found_by Q R next words (stop why left) after f = tt
 
 then_found : {A B : Type 0} (Q : A → List Text → Type 0) (R : B → List Text → Type 0) (next : A → Reader B) →
-    ((one : A) (before : List Text) → Q one before → Finds (λ tree after. R tree (before ++ after)) (next one)) → (words : List Text) (a : Answer A) → Found Q words a → Found R words (and_then a next)
+    ((one : A) (before : List Text) → Q one before → Finds (λ tree after. R tree (before ++ after)) (next one)) →
+    (words : List Text) (a : Answer A) → Found Q words a → Found R words (and_then a next)
 then_found Q R next after words a f = then_found_by Q R next words a (λ one before left is q. after one before q left) f
 
 abbrev pub LeadFinds : {A : Type 0} → (A → List Text → Type 0) → Text → Lead A → Type 0
@@ -53,7 +57,8 @@ LeadFinds Q word (goes read) = Finds (λ tree after. Q tree (word ∷ after)) re
 LeadFinds Q word refused = Unit {0}
 LeadFinds Q word lower = Unit {0}
 
-follow_found : {A : Type 0} (Q : A → List Text → Type 0) (word : Text) (lead : Lead A) → LeadFinds Q word lead → (words : List Text) → Found Q (word ∷ words) (follow lead word words)
+follow_found : {A : Type 0} (Q : A → List Text → Type 0) (word : Text) (lead : Lead A) → LeadFinds Q word lead → (words : List Text) →
+    Found Q (word ∷ words) (follow lead word words)
 follow_found {A = A} Q word (goes read) f words = behind (read words) (f words)
   where
     behind : (a : Answer A) → Found (λ tree after. Q tree (word ∷ after)) words a → Found Q (word ∷ words) a
@@ -62,47 +67,59 @@ follow_found {A = A} Q word (goes read) f words = behind (read words) (f words)
 follow_found Q word refused f words = tt
 follow_found Q word lower f words = tt
 
-led_found : {A : Type 0} (Q : A → List Text → Type 0) (lead : Text → Lead A) → ((word : Text) → LeadFinds Q word (lead word)) → Finds Q (led lead)
+led_found : {A : Type 0} (Q : A → List Text → Type 0) (lead : Text → Lead A) → ((word : Text) → LeadFinds Q word (lead word)) →
+    Finds Q (led lead)
 led_found Q lead leads [] = tt
 led_found Q lead leads (word ∷ words) = follow_found Q word (lead word) (leads word) words
 
-lead_found_if : {A : Type 0} (Q : A → List Text → Type 0) (word : Text) (test : Bool) (one other : Lead A) → (test ≡ true → LeadFinds Q word one) → LeadFinds Q word other → LeadFinds Q word (if test then one else other)
+lead_found_if : {A : Type 0} (Q : A → List Text → Type 0) (word : Text) (test : Bool) (one other : Lead A) →
+    (test ≡ true → LeadFinds Q word one) → LeadFinds Q word other → LeadFinds Q word (if test then one else other)
 lead_found_if Q word true one other p q = p refl
 lead_found_if Q word false one other p q = q
 
-past_found : {A : Type 0} (Q : A → List Text → Type 0) (text : Text) (read : Reader A) → Finds (λ tree after. Q tree (text ∷ after)) read → Finds Q (past text read)
+past_found : {A : Type 0} (Q : A → List Text → Type 0) (text : Text) (read : Reader A) → Finds (λ tree after. Q tree (text ∷ after)) read →
+    Finds Q (past text read)
 past_found Q text read f = led_found Q (λ word. if bytes_eq text word then goes read else refused)
-    (λ word. lead_found_if Q word (bytes_eq text word) (goes read) refused (λ e. subst (λ w. Finds (λ tree after. Q tree (w ∷ after)) read) (same_text text word e) f) tt)
+    (λ word. lead_found_if Q word (bytes_eq text word) (goes read) refused
+    (λ e. subst (λ w. Finds (λ tree after. Q tree (w ∷ after)) read) (same_text text word e) f) tt)
 
-room_found : {A : Type 0} (Q : A → List Text → Type 0) (word : Text) (below levels : ℕ) (lead : Lead A) → (nat_le levels below ≡ true → LeadFinds Q word lead) → LeadFinds Q word (room below levels lead)
+room_found : {A : Type 0} (Q : A → List Text → Type 0) (word : Text) (below levels : ℕ) (lead : Lead A) →
+    (nat_le levels below ≡ true → LeadFinds Q word lead) → LeadFinds Q word (room below levels lead)
 room_found Q word below levels lead enough = lead_found_if Q word (nat_le levels below) lead lower enough tt
 
-choose_found : {A : Type 0} (Q : A → List Text → Type 0) (test : Option Text → Bool) (one other : Reader A) → Finds Q one → Finds Q other → Finds Q (choose test one other)
+choose_found : {A : Type 0} (Q : A → List Text → Type 0) (test : Option Text → Bool) (one other : Reader A) → Finds Q one → Finds Q other →
+    Finds Q (choose test one other)
 choose_found Q test one other p q words = by_test (test (front words))
   where
     by_test : (b : Bool) → Found Q words (if b then one words else other words)
     by_test true = p words
     by_test false = q words
 
-found_if : {A : Type 0} (Q : A → List Text → Type 0) (words : List Text) (test : Bool) (one other : Answer A) → Found Q words one → Found Q words other → Found Q words (if test then one else other)
+found_if : {A : Type 0} (Q : A → List Text → Type 0) (words : List Text) (test : Bool) (one other : Answer A) → Found Q words one →
+    Found Q words other → Found Q words (if test then one else other)
 found_if Q words true one other p q = p
 found_if Q words false one other p q = q
 
 module _ {A : Type 0} (Q : A → List Text → Type 0) (K : A → List Text → Type 0) (turn : A → Reader A) (test : Option Text → Bool)
     (kept : (tree : A) (words : List Text) (next : A) (left : List Text) → turn tree words ≡ got next left → K next left)
-    (goes_on : (tree : A) (before words : List Text) → Q tree before → K tree words → Found (λ next after. Q next (before ++ after)) words (turn tree words)) where
-  rounds_found : (fuel : ℕ) (tree : A) (before words : List Text) → Q tree before → K tree words → Found (λ last after. Q last (before ++ after)) words (rounds turn test fuel tree words)
+    (goes_on : (tree : A) (before words : List Text) → Q tree before → K tree words →
+    Found (λ next after. Q next (before ++ after)) words (turn tree words)) where
+  rounds_found : (fuel : ℕ) (tree : A) (before words : List Text) → Q tree before → K tree words →
+      Found (λ last after. Q last (before ++ after)) words (rounds turn test fuel tree words)
   rounds_found zero tree before words q k = tt
   rounds_found (suc fuel) tree before words q k =
       found_if (λ last after. Q last (before ++ after)) words (test (front words)) _ (got tree words)
-      (then_found_by (λ next after. Q next (before ++ after)) (λ last after. Q last (before ++ after)) (rounds turn test fuel) words (turn tree words)
-          (λ next after left is n. found_more (λ last more. Q last ((before ++ after) ++ more)) (λ last more. Q last (before ++ (after ++ more)))
-              (λ last more l. subst (Q last) (append_assoc before after more) l) left (rounds turn test fuel next left)
-              (rounds_found fuel next (before ++ after) left n (kept tree words next left is)))
-          (goes_on tree before words q k))
+      (then_found_by (λ next after. Q next (before ++ after)) (λ last after. Q last (before ++ after)) (rounds turn test fuel) words
+      (turn tree words)
+      (λ next after left is n. found_more (λ last more. Q last ((before ++ after) ++ more))
+      (λ last more. Q last (before ++ (after ++ more)))
+      (λ last more l. subst (Q last) (append_assoc before after more) l) left (rounds turn test fuel next left)
+      (rounds_found fuel next (before ++ after) left n (kept tree words next left is)))
+      (goes_on tree before words q k))
       ([], refl, subst (Q tree) (sym (append-nil before)) q)
 
-  kept_turns_found : (tree : A) (before words : List Text) → Q tree before → K tree words → Found (λ last after. Q last (before ++ after)) words (turns turn test tree words)
+  kept_turns_found : (tree : A) (before words : List Text) → Q tree before → K tree words →
+      Found (λ last after. Q last (before ++ after)) words (turns turn test tree words)
   kept_turns_found tree before words q k = rounds_found (suc (length words)) tree before words q k
 
 turns_found : {A : Type 0} (Q : A → List Text → Type 0) (turn : A → Reader A) (test : Option Text → Bool) →
@@ -113,7 +130,8 @@ turns_found Q turn test goes_on tree before q words =
 
 -- operators as they are written
 
-operator_written : {A : Type 0} (spell : A → Text) (all : List A) (word : Text) (operator : A) → written spell all word ≡ Some operator → spell operator ≡ word
+operator_written : {A : Type 0} (spell : A → Text) (all : List A) (word : Text) (operator : A) → written spell all word ≡ Some operator →
+    spell operator ≡ word
 operator_written spell [] word operator e = let clash : None ≡ Some operator = e in absurd cc
 operator_written spell (one ∷ more) word operator e =
     elim (cases_Bool (bytes_eq (spell one) word)) [
@@ -147,7 +165,8 @@ told_by : (test : Bool) (a b : Beginning) (word : Text) → (test ≡ true → T
 told_by true a b word p q = p refl
 told_by false a b word p q = q
 
-told_operator : (o : Option UnaryOperator) (word : Text) → ((operator : UnaryOperator) → o ≡ Some operator → unary_word operator ≡ word) → Told (by_operator o) word
+told_operator : (o : Option UnaryOperator) (word : Text) → ((operator : UnaryOperator) → o ≡ Some operator → unary_word operator ≡ word) →
+    Told (by_operator o) word
 told_operator None word p = tt
 told_operator (Some operator) word p = p operator refl
 
@@ -236,7 +255,8 @@ deeper d below e = grind (arith, nat_tests)
 both_deeper : (c d below : ℕ) → nat_le c below ≡ true → nat_le d below ≡ true → nat_le (1 + max c d) (suc below) ≡ true
 both_deeper c d below e f = grind (arith, nat_tests)
 
-all_deeper : (b c d below : ℕ) → nat_le b below ≡ true → nat_le c below ≡ true → nat_le d below ≡ true → nat_le (1 + max b (max c d)) (suc below) ≡ true
+all_deeper : (b c d below : ℕ) → nat_le b below ≡ true → nat_le c below ≡ true → nat_le d below ≡ true →
+    nat_le (1 + max b (max c d)) (suc below) ≡ true
 all_deeper b c d below e f g = grind (arith, nat_tests)
 
 greatest : (c d below : ℕ) → nat_le c below ≡ true → nat_le d below ≡ true → nat_le (max c d) below ≡ true
@@ -253,13 +273,16 @@ record AreExpressions (levels : ℕ) (trees : List ExpressionTree) (words : List
   some : is_some_part (trees_in trees) ≡ true
   within : nat_le (greatest_depth (trees_in trees)) levels ≡ true
 
-more_spelled : (trees : List ExpressionTree) (tree : ExpressionTree) → spell_more_parts (trees_in (trees ++ tree ∷ [])) ≡ spell_more_parts (trees_in trees) ++ codes "," ∷ spell_expression tree
+more_spelled : (trees : List ExpressionTree) (tree : ExpressionTree) →
+    spell_more_parts (trees_in (trees ++ tree ∷ [])) ≡ spell_more_parts (trees_in trees) ++ codes "," ∷ spell_expression tree
 more_spelled [] tree = ap (λ ws. codes "," ∷ ws) (append-nil (spell_expression tree))
 more_spelled (one ∷ more) tree =
     ap (λ ws. codes "," ∷ (spell_expression one ++ ws)) (more_spelled more tree)
-    ∙ ap (λ ws. codes "," ∷ ws) (sym (append_assoc (spell_expression one) (spell_more_parts (trees_in more)) (codes "," ∷ spell_expression tree)))
+    ∙ ap (λ ws. codes "," ∷ ws) (sym (append_assoc (spell_expression one) (spell_more_parts (trees_in more))
+    (codes "," ∷ spell_expression tree)))
 
-one_behind : (below : ℕ) (trees : List ExpressionTree) (tree : ExpressionTree) (words after : List Text) → AreExpressions below trees words → IsExpression below 0 tree after →
+one_behind : (below : ℕ) (trees : List ExpressionTree) (tree : ExpressionTree) (words after : List Text) →
+    AreExpressions below trees words → IsExpression below 0 tree after →
     AreExpressions below (trees ++ tree ∷ []) (words ++ codes "," ∷ after)
 one_behind below [] tree words after a t = let clash : false ≡ true = a.some in absurd cc
 one_behind below (one ∷ more) tree words after a t = record {
@@ -274,7 +297,8 @@ one_behind below (one ∷ more) tree words after a t = record {
   where
     fits : (trees : List ExpressionTree) → fits_parts (trees_in trees) ≡ true → fits_parts (trees_in (trees ++ tree ∷ [])) ≡ true
     fits [] e = and_both (fits_expression tree) true t.fitting refl
-    fits (one ∷ more) e = and_both (fits_expression one) _ (and_left (fits_expression one) _ e) (fits more (and_right (fits_expression one) _ e))
+    fits (one ∷ more) e = and_both (fits_expression one) _ (and_left (fits_expression one) _ e)
+        (fits more (and_right (fits_expression one) _ e))
 
     larger : (a b n : ℕ) → nat_le (max a b) n ≡ true → nat_le a n ≡ true
     larger a b n e = grind (arith, nat_tests)
@@ -285,11 +309,13 @@ one_behind below (one ∷ more) tree words after a t = record {
     no_deeper : (n : ℕ) → nat_le 0 n ≡ true
     no_deeper n = grind (arith, nat_tests)
 
-    nests : (trees : List ExpressionTree) → nat_le (greatest_depth (trees_in trees)) below ≡ true → nat_le (greatest_depth (trees_in (trees ++ tree ∷ []))) below ≡ true
+    nests : (trees : List ExpressionTree) → nat_le (greatest_depth (trees_in trees)) below ≡ true →
+        nat_le (greatest_depth (trees_in (trees ++ tree ∷ []))) below ≡ true
     nests [] e = greatest (depth tree) 0 below t.within (no_deeper below)
     nests (one ∷ more) e = greatest (depth one) _ below (larger (depth one) _ below e) (nests more (larger_too (depth one) _ below e))
 
-one_alone : (below : ℕ) (tree : ExpressionTree) (words : List Text) → IsExpression below 0 tree words → AreExpressions below (tree ∷ []) words
+one_alone : (below : ℕ) (tree : ExpressionTree) (words : List Text) → IsExpression below 0 tree words →
+    AreExpressions below (tree ∷ []) words
 one_alone below tree words t = record {
   spelled = append-nil (spell_expression tree) ∙ t.spelled;
   fitting = and_both (fits_expression tree) true t.fitting refl;
@@ -302,12 +328,14 @@ one_alone below tree words t = record {
 
 -- where reading stopped
 
-lead_got : {A : Type 0} (test : Bool) (lead : Lead A) (word : Text) (words : List Text) (tree : A) (left : List Text) → follow (if test then lead else refused) word words ≡ got tree left →
+lead_got : {A : Type 0} (test : Bool) (lead : Lead A) (word : Text) (words : List Text) (tree : A) (left : List Text) →
+    follow (if test then lead else refused) word words ≡ got tree left →
     (test ≡ true) × (follow lead word words ≡ got tree left)
 lead_got true lead word words tree left e = (refl, e)
 lead_got false lead word words tree left e = absurd (stop_got e)
 
-room_got : {A : Type 0} (below levels : ℕ) (lead : Lead A) (word : Text) (words : List Text) (tree : A) (left : List Text) → follow (room below levels lead) word words ≡ got tree left →
+room_got : {A : Type 0} (below levels : ℕ) (lead : Lead A) (word : Text) (words : List Text) (tree : A) (left : List Text) →
+    follow (room below levels lead) word words ≡ got tree left →
     follow lead word words ≡ got tree left
 room_got below levels lead word words tree left e = by_test (nat_le levels below) e
   where
@@ -315,7 +343,8 @@ room_got below levels lead word words tree left e = by_test (nat_le levels below
     by_test true e = e
     by_test false e = absurd (stop_got e)
 
-rounds_stop : {A : Type 0} (turn : A → Reader A) (test : Option Text → Bool) (fuel : ℕ) (tree : A) (words : List Text) (last : A) (left : List Text) →
+rounds_stop : {A : Type 0} (turn : A → Reader A) (test : Option Text → Bool) (fuel : ℕ) (tree : A) (words : List Text) (last : A)
+    (left : List Text) →
     rounds turn test fuel tree words ≡ got last left → test (front left) ≡ false
 rounds_stop turn test zero tree words last left e = absurd (stop_got e)
 rounds_stop turn test (suc fuel) tree words last left e =
@@ -329,7 +358,8 @@ rounds_stop turn test (suc fuel) tree words last left e =
     ]
 
 abbrev pub Stops : ℕ → Reader ExpressionTree → Type 0
-Stops least read = (words : List Text) (tree : ExpressionTree) (left : List Text) → read words ≡ got tree left → is_joined least (front left) ≡ false
+Stops least read = (words : List Text) (tree : ExpressionTree) (left : List Text) → read words ≡ got tree left →
+    is_joined least (front left) ≡ false
 
 none_least : (n : ℕ) → nat_le n 0 ≡ true → n ≡ 0
 none_least n e = grind (arith, nat_tests)
@@ -337,38 +367,47 @@ none_least n e = grind (arith, nat_tests)
 module _ (below : ℕ) (read : Below) (stops : (least : ℕ) → Stops least (read least)) where
   branches_stop : (condition : ExpressionTree) → Stops 0 (branches read condition)
   branches_stop condition words tree left e =
-      let a = parts_of (read 0 words) (λ when_true. past (codes ":") (λ left. and_then (read 0 left) (λ when_false. got (conditional condition when_true when_false)))) tree left e in
+      let a = parts_of (read 0 words) (λ when_true. past (codes ":")
+      (λ left. and_then (read 0 left) (λ when_false. got (conditional condition when_true when_false)))) tree left e in
       by_words a.one a.between a.second
     where
-      by_words : (when_true : ExpressionTree) (ws : List Text) → past (codes ":") (λ left. and_then (read 0 left) (λ when_false. got (conditional condition when_true when_false))) ws ≡ got tree left →
+      by_words : (when_true : ExpressionTree) (ws : List Text) →
+          past (codes ":") (λ left. and_then (read 0 left) (λ when_false. got
+          (conditional condition when_true when_false))) ws ≡ got tree left →
           is_joined 0 (front left) ≡ false
       by_words when_true [] e = absurd (stop_got e)
       by_words when_true (word ∷ ws) e =
-          let f = lead_got (bytes_eq (codes ":") word) (goes (λ left. and_then (read 0 left) (λ when_false. got (conditional condition when_true when_false)))) word ws tree left e in
+          let f = lead_got (bytes_eq (codes ":") word) (goes (λ left. and_then (read 0 left)
+          (λ when_false. got (conditional condition when_true when_false)))) word ws tree left e in
           let b = parts_of (read 0 ws) (λ when_false. got (conditional condition when_true when_false)) tree left f.1 in
           subst (λ ws. is_joined 0 (front ws) ≡ false) (got_left b.second) (stops 0 ws b.one b.between b.first)
 
-  question_stops : (least : ℕ) (condition : ExpressionTree) (words : List Text) (tree : ExpressionTree) (left : List Text) → is_joined least (front words) ≡ false →
+  question_stops : (least : ℕ) (condition : ExpressionTree) (words : List Text) (tree : ExpressionTree) (left : List Text) →
+      is_joined least (front words) ≡ false →
       question below read least condition words ≡ got tree left → is_joined least (front left) ≡ false
   question_stops least condition words tree left ended e =
       elim (cases_Bool (is_asked least (front words))) [
         | inl holds ↦ by_words words (sym (chosen (is_asked least (front words)) _ (got condition words) holds) ∙ e)
         | inr fails ↦
-            let same = sym (passed_over (is_asked least (front words)) (led (question_lead below read least condition) words) _ fails) ∙ e in
+            let same = sym (passed_over (is_asked least (front words)) (led (question_lead below read least condition) words) _ fails)
+            ∙ e in
             subst (λ ws. is_joined least (front ws) ≡ false) (got_left same) ended
       ]
     where
       by_words : (ws : List Text) → led (question_lead below read least condition) ws ≡ got tree left → is_joined least (front left) ≡ false
       by_words [] e = absurd (stop_got e)
       by_words (word ∷ ws) e =
-          let f = lead_got (is_asked least (Some word)) (room below (depth condition) (goes (branches read condition))) word ws tree left e in
+          let f = lead_got (is_asked least (Some word)) (room below (depth condition)
+          (goes (branches read condition))) word ws tree left e in
           let g = room_got below (depth condition) (goes (branches read condition)) word ws tree left f.1 in
-          subst (λ n. is_joined n (front left) ≡ false) (sym (none_least least (and_left (nat_le least 0) (bytes_eq (codes "?") word) f.0))) (branches_stop condition ws tree left g)
+          subst (λ n. is_joined n (front left) ≡ false) (sym (none_least least (and_left (nat_le least 0) (bytes_eq (codes "?") word) f.0)))
+          (branches_stop condition ws tree left g)
 
   by_stops : (least : ℕ) → Stops least (expression_by below read least)
   by_stops least words tree left e =
       let a = parts_of (primary below read words) (onward below read least) tree left e in
-      let b = parts_of (turns (operator below read least) (is_joined least) a.one a.between) (question below read least) tree left a.second in
+      let b = parts_of (turns (operator below read least) (is_joined least) a.one a.between)
+      (question below read least) tree left a.second in
       question_stops least b.one b.between tree left
       (rounds_stop (operator below read least) (is_joined least) (suc (length a.between)) a.one a.between b.one b.between b.first) b.second
 
@@ -379,7 +418,8 @@ expression_stops (suc below) least words tree left e = by_stops below (expressio
 
 -- with readers of a level less
 
-module _ (below : ℕ) (read : Below) (stops : (least : ℕ) → Stops least (read least)) (sound : (least : ℕ) → nat_le least unary_rank ≡ true → Finds (IsExpression below least) (read least)) where
+module _ (below : ℕ) (read : Below) (stops : (least : ℕ) → Stops least (read least))
+    (sound : (least : ℕ) → nat_le least unary_rank ≡ true → Finds (IsExpression below least) (read least)) where
   abbrev Q : ExpressionTree → List Text → Type 0
   Q = IsExpression (suc below) unary_rank
 
@@ -387,19 +427,24 @@ module _ (below : ℕ) (read : Below) (stops : (least : ℕ) → Stops least (re
   S = IsExpression below 0
 
   enclosed_found : (make : ExpressionTree → ExpressionTree) (head : List Text → List Text) →
-      ((tree : ExpressionTree) (words : List Text) → S tree words → Q (make tree) (head (words ++ codes ")" ∷ []))) → Finds (λ tree words. Q tree (head words)) (enclosed read make)
+      ((tree : ExpressionTree) (words : List Text) → S tree words → Q (make tree) (head (words ++ codes ")" ∷ []))) →
+      Finds (λ tree words. Q tree (head words)) (enclosed read make)
   enclosed_found make head made words =
       then_found S (λ tree words. Q tree (head words)) (λ tree. past (codes ")") (got (make tree)))
-      (λ one before o. past_found (λ tree after. Q tree (head (before ++ after))) (codes ")") (got (make one)) (found_got (λ tree after. Q tree (head (before ++ codes ")" ∷ after))) (make one) (made one before o)))
+      (λ one before o. past_found (λ tree after. Q tree (head (before ++ after))) (codes ")") (got (make one))
+      (found_got (λ tree after. Q tree (head (before ++ codes ")" ∷ after))) (make one) (made one before o)))
       words (read 0 words) (sound 0 refl words)
 
-  selected_found : (letters : Text) → is_name letters ≡ true → Finds (λ tree words. Q tree (letters ∷ codes "[" ∷ words)) (selected read letters)
+  selected_found : (letters : Text) → is_name letters ≡ true → Finds
+      (λ tree words. Q tree (letters ∷ codes "[" ∷ words)) (selected read letters)
   selected_found letters is words =
       then_found S (λ tree words. Q tree (letters ∷ codes "[" ∷ words)) (λ index. led (index_lead read letters index))
-      (λ index before i. led_found (λ tree after. Q tree (letters ∷ codes "[" ∷ (before ++ after))) (index_lead read letters index) (λ word. index_found index before i word))
+      (λ index before i. led_found (λ tree after. Q tree (letters ∷ codes "[" ∷ (before ++ after))) (index_lead read letters index)
+      (λ word. index_found index before i word))
       words (read 0 words) (sound 0 refl words)
     where
-      bit_made : (index : ExpressionTree) (before : List Text) → S index before → Q (bit letters index) (letters ∷ codes "[" ∷ (before ++ codes "]" ∷ []))
+      bit_made : (index : ExpressionTree) (before : List Text) → S index before →
+          Q (bit letters index) (letters ∷ codes "[" ∷ (before ++ codes "]" ∷ []))
       bit_made index before i = record {
         spelled = ap (λ ws. letters ∷ codes "[" ∷ (ws ++ codes "]" ∷ [])) i.spelled;
         fitting = and_both (is_name letters) (fits_expression index) is i.fitting;
@@ -413,34 +458,51 @@ module _ (below : ℕ) (read : Below) (stops : (least : ℕ) → Stops least (re
         spelled =
             ap (λ ws. letters ∷ codes "[" ∷ (ws ++ codes ":" ∷ (spell_expression right ++ codes "]" ∷ []))) l.spelled
             ∙ ap (λ ws. letters ∷ codes "[" ∷ (before ++ codes ":" ∷ (ws ++ codes "]" ∷ []))) r.spelled;
-        fitting = and_both (is_name letters && fits_expression left) (fits_expression right) (and_both (is_name letters) (fits_expression left) is l.fitting) r.fitting;
+        fitting = and_both (is_name letters && fits_expression left) (fits_expression right)
+            (and_both (is_name letters) (fits_expression left) is l.fitting) r.fitting;
         within = both_deeper (depth left) (depth right) below l.within r.within;
         ranked = refl;
       }
 
-      part_found : (left : ExpressionTree) (before : List Text) → S left before → Finds (λ tree after. Q tree (letters ∷ codes "[" ∷ (before ++ codes ":" ∷ after))) (part_of read letters left)
+      part_found : (left : ExpressionTree) (before : List Text) → S left before →
+          Finds (λ tree after. Q tree (letters ∷ codes "[" ∷ (before ++ codes ":" ∷ after))) (part_of read letters left)
       part_found left before l words =
-          then_found S (λ tree after. Q tree (letters ∷ codes "[" ∷ (before ++ codes ":" ∷ after))) (λ right. past (codes "]") (got (part letters left right)))
-          (λ right between r. past_found (λ tree after. Q tree (letters ∷ codes "[" ∷ (before ++ codes ":" ∷ (between ++ after)))) (codes "]") (got (part letters left right))
-              (found_got (λ tree after. Q tree (letters ∷ codes "[" ∷ (before ++ codes ":" ∷ (between ++ codes "]" ∷ after)))) (part letters left right) (part_made left right before between l r)))
+          then_found S (λ tree after. Q tree (letters ∷ codes "[" ∷ (before ++ codes ":" ∷ after))) (λ right. past (codes "]")
+          (got (part letters left right)))
+          (λ right between r. past_found (λ tree after. Q tree (letters ∷ codes "[" ∷ (before ++ codes ":" ∷ (between ++ after))))
+          (codes "]") (got (part letters left right))
+          (found_got (λ tree after. Q tree (letters ∷ codes "[" ∷ (before ++ codes ":" ∷ (between ++ codes "]" ∷ after))))
+          (part letters left right) (part_made left right before between l r)))
           words (read 0 words) (sound 0 refl words)
 
       index_found : (index : ExpressionTree) (before : List Text) → S index before → (word : Text) →
           LeadFinds (λ tree after. Q tree (letters ∷ codes "[" ∷ (before ++ after))) word (index_lead read letters index word)
       index_found index before i word =
-          lead_found_if (λ tree after. Q tree (letters ∷ codes "[" ∷ (before ++ after))) word (bytes_eq (codes "]") word) (goes (got (bit letters index))) _
-          (λ e. subst (λ w. LeadFinds (λ tree after. Q tree (letters ∷ codes "[" ∷ (before ++ after))) w (goes (got (bit letters index)))) (same_text (codes "]") word e)
-              (found_got (λ tree after. Q tree (letters ∷ codes "[" ∷ (before ++ codes "]" ∷ after))) (bit letters index) (bit_made index before i)))
-          (lead_found_if (λ tree after. Q tree (letters ∷ codes "[" ∷ (before ++ after))) word (bytes_eq (codes ":") word) (goes (part_of read letters index)) refused
-              (λ e. subst (λ w. LeadFinds (λ tree after. Q tree (letters ∷ codes "[" ∷ (before ++ after))) w (goes (part_of read letters index))) (same_text (codes ":") word e) (part_found index before i))
-              tt)
+          lead_found_if (λ tree after. Q tree (letters ∷ codes "[" ∷ (before ++ after))) word (bytes_eq (codes "]") word)
+          (goes (got (bit letters index))) _
+          (λ e. subst (λ w. LeadFinds (λ tree after. Q tree (letters ∷ codes "[" ∷ (before ++ after))) w (goes (got (bit letters index))))
+          (same_text (codes "]") word e)
+          (found_got (λ tree after. Q tree (letters ∷ codes "[" ∷ (before ++ codes "]" ∷ after))) (bit letters index)
+          (bit_made index before i)))
+          (lead_found_if (λ tree after. Q tree (letters ∷ codes "[" ∷ (before ++ after))) word (bytes_eq (codes ":") word)
+          (goes (part_of read letters index)) refused
+          (λ e. subst (λ w. LeadFinds (λ tree after. Q tree (letters ∷ codes "[" ∷ (before ++ after))) w
+          (goes (part_of read letters index))) (same_text (codes ":") word e) (part_found index before i))
+          tt)
 
-  leaf : (tree : ExpressionTree) (words : List Text) → spell_expression tree ≡ words → fits_expression tree ≡ true → depth tree ≡ 1 → nat_le unary_rank (rank_of tree) ≡ true → Q tree words
-  leaf tree words e f d r = record { spelled = e; fitting = f; within = subst (λ n. nat_le n (suc below) ≡ true) (sym d) (one_within below); ranked = r }
+  leaf : (tree : ExpressionTree) (words : List Text) → spell_expression tree ≡ words → fits_expression tree ≡ true → depth tree ≡ 1 →
+      nat_le unary_rank (rank_of tree) ≡ true → Q tree words
+  leaf tree words e f d r = record {
+    spelled = e;
+    fitting = f;
+    within = subst (λ n. nat_le n (suc below) ≡ true) (sym d) (one_within below);
+    ranked = r;
+  }
 
   named_found : (letters : Text) → is_name letters ≡ true → Finds (λ tree words. Q tree (letters ∷ words)) (named below read letters)
   named_found letters is words =
-      choose_found (λ tree words. Q tree (letters ∷ words)) (is_front (codes "[")) (led (select_lead below read letters)) (got (name letters))
+      choose_found (λ tree words. Q tree (letters ∷ words)) (is_front (codes "[")) (led (select_lead below read letters))
+      (got (name letters))
       (led_found (λ tree words. Q tree (letters ∷ words)) (select_lead below read letters) select_found)
       (found_got (λ tree words. Q tree (letters ∷ words)) (name letters) (leaf (name letters) (letters ∷ []) refl is refl refl)) words
     where
@@ -448,29 +510,35 @@ module _ (below : ℕ) (read : Below) (stops : (least : ℕ) → Stops least (re
       select_found word =
           lead_found_if (λ tree words. Q tree (letters ∷ words)) word (bytes_eq (codes "[") word) _ refused
           (λ e. room_found (λ tree words. Q tree (letters ∷ words)) word below 1 (goes (selected read letters))
-              (λ f. subst (λ w. LeadFinds (λ tree words. Q tree (letters ∷ words)) w (goes (selected read letters))) (same_text (codes "[") word e) (selected_found letters is)))
+          (λ f. subst (λ w. LeadFinds (λ tree words. Q tree (letters ∷ words)) w (goes (selected read letters)))
+          (same_text (codes "[") word e) (selected_found letters is)))
           tt
 
   abbrev L : List ExpressionTree → List Text → Type 0
   L = AreExpressions below
 
-  one_more_found : (trees : List ExpressionTree) (before : List Text) → L trees before → Finds (λ next after. L next (before ++ after)) (one_more read trees)
+  one_more_found : (trees : List ExpressionTree) (before : List Text) → L trees before →
+      Finds (λ next after. L next (before ++ after)) (one_more read trees)
   one_more_found trees before l =
       past_found (λ next after. L next (before ++ after)) (codes ",") _
       (λ words. then_found S (λ next after. L next (before ++ codes "," ∷ after)) (λ tree. got (trees ++ tree ∷ []))
-          (λ tree between t. found_got (λ next after. L next (before ++ codes "," ∷ (between ++ after))) (trees ++ tree ∷ [])
-              (subst (λ ws. L (trees ++ tree ∷ []) (before ++ codes "," ∷ ws)) (sym (append-nil between)) (one_behind below trees tree before between l t)))
-          words (read 0 words) (sound 0 refl words))
+      (λ tree between t. found_got (λ next after. L next (before ++ codes "," ∷ (between ++ after))) (trees ++ tree ∷ [])
+      (subst (λ ws. L (trees ++ tree ∷ []) (before ++ codes "," ∷ ws)) (sym (append-nil between))
+      (one_behind below trees tree before between l t)))
+      words (read 0 words) (sound 0 refl words))
 
   parts_found : Finds L (parts read)
   parts_found words =
       then_found S L (λ tree. turns (one_more read) (is_front (codes ",")) (tree ∷ []))
-      (λ tree before t. turns_found L (one_more read) (is_front (codes ",")) one_more_found (tree ∷ []) before (one_alone below tree before t)) words (read 0 words) (sound 0 refl words)
+      (λ tree before t. turns_found L (one_more read) (is_front (codes ",")) one_more_found (tree ∷ []) before
+      (one_alone below tree before t)) words (read 0 words) (sound 0 refl words)
 
   braces_found : Finds (λ tree words. Q tree (codes "{" ∷ words)) (braces read)
   braces_found words =
-      then_found S (λ tree words. Q tree (codes "{" ∷ words)) (λ tree. choose (is_front (codes "{")) (repeated read tree) (joined read tree))
-      (λ tree before t. choose_found (λ found after. Q found (codes "{" ∷ (before ++ after))) (is_front (codes "{")) (repeated read tree) (joined read tree) (repeated_found tree before t) (joined_found tree before t))
+      then_found S (λ tree words. Q tree (codes "{" ∷ words)) (λ tree. choose
+      (is_front (codes "{")) (repeated read tree) (joined read tree))
+      (λ tree before t. choose_found (λ found after. Q found (codes "{" ∷ (before ++ after)))
+      (is_front (codes "{")) (repeated read tree) (joined read tree) (repeated_found tree before t) (joined_found tree before t))
       words (read 0 words) (sound 0 refl words)
     where
       repeated_made : (count : ExpressionTree) (trees : List ExpressionTree) (before after : List Text) → S count before → L trees after →
@@ -480,12 +548,14 @@ module _ (below : ℕ) (read : Below) (stops : (least : ℕ) → Stops least (re
             ap (λ ws. codes "{" ∷ (ws ++ codes "{" ∷ (spell_parts (trees_in trees) ++ codes "}" ∷ codes "}" ∷ []))) c.spelled
             ∙ ap (λ ws. codes "{" ∷ (before ++ codes "{" ∷ (ws ++ codes "}" ∷ codes "}" ∷ []))) l.spelled;
         fitting =
-            and_both (fits_expression count && is_some_part (trees_in trees)) (fits_parts (trees_in trees)) (and_both (fits_expression count) (is_some_part (trees_in trees)) c.fitting l.some) l.fitting;
+            and_both (fits_expression count && is_some_part (trees_in trees)) (fits_parts (trees_in trees))
+            (and_both (fits_expression count) (is_some_part (trees_in trees)) c.fitting l.some) l.fitting;
         within = both_deeper (depth count) (greatest_depth (trees_in trees)) below c.within l.within;
         ranked = refl;
       }
 
-      joined_made : (trees : List ExpressionTree) (words : List Text) → L trees words → Q (concatenation (trees_in trees)) (codes "{" ∷ (words ++ codes "}" ∷ []))
+      joined_made : (trees : List ExpressionTree) (words : List Text) → L trees words →
+          Q (concatenation (trees_in trees)) (codes "{" ∷ (words ++ codes "}" ∷ []))
       joined_made trees words l = record {
         spelled = ap (λ ws. codes "{" ∷ (ws ++ codes "}" ∷ [])) l.spelled;
         fitting = and_both (is_some_part (trees_in trees)) (fits_parts (trees_in trees)) l.some l.fitting;
@@ -493,53 +563,71 @@ module _ (below : ℕ) (read : Below) (stops : (least : ℕ) → Stops least (re
         ranked = refl;
       }
 
-      repeated_found : (count : ExpressionTree) (before : List Text) → S count before → Finds (λ found after. Q found (codes "{" ∷ (before ++ after))) (repeated read count)
+      repeated_found : (count : ExpressionTree) (before : List Text) → S count before →
+          Finds (λ found after. Q found (codes "{" ∷ (before ++ after))) (repeated read count)
       repeated_found count before c =
           past_found (λ found after. Q found (codes "{" ∷ (before ++ after))) (codes "{") _
-          (λ words. then_found L (λ found after. Q found (codes "{" ∷ (before ++ codes "{" ∷ after))) (λ trees. past (codes "}") (past (codes "}") (got (replication count (trees_in trees)))))
-              (λ trees between l. past_found (λ found after. Q found (codes "{" ∷ (before ++ codes "{" ∷ (between ++ after)))) (codes "}") _
-                  (past_found (λ found after. Q found (codes "{" ∷ (before ++ codes "{" ∷ (between ++ codes "}" ∷ after)))) (codes "}") _
-                      (found_got (λ found after. Q found (codes "{" ∷ (before ++ codes "{" ∷ (between ++ codes "}" ∷ codes "}" ∷ after)))) (replication count (trees_in trees)) (repeated_made count trees before between c l))))
-              words (parts read words) (parts_found words))
+          (λ words. then_found L (λ found after. Q found (codes "{" ∷ (before ++ codes "{" ∷ after))) (λ trees. past (codes "}")
+          (past (codes "}") (got (replication count (trees_in trees)))))
+          (λ trees between l. past_found (λ found after. Q found (codes "{" ∷ (before ++ codes "{" ∷ (between ++ after)))) (codes "}") _
+          (past_found (λ found after. Q found (codes "{" ∷ (before ++ codes "{" ∷ (between ++ codes "}" ∷ after)))) (codes "}") _
+          (found_got (λ found after. Q found (codes "{" ∷ (before ++ codes "{" ∷ (between ++ codes "}" ∷ codes "}" ∷ after))))
+          (replication count (trees_in trees)) (repeated_made count trees before between c l))))
+          words (parts read words) (parts_found words))
 
-      joined_found : (tree : ExpressionTree) (before : List Text) → S tree before → Finds (λ found after. Q found (codes "{" ∷ (before ++ after))) (joined read tree)
+      joined_found : (tree : ExpressionTree) (before : List Text) → S tree before →
+          Finds (λ found after. Q found (codes "{" ∷ (before ++ after))) (joined read tree)
       joined_found tree before t words =
-          then_found (λ trees between. L trees (before ++ between)) (λ found after. Q found (codes "{" ∷ (before ++ after))) (λ trees. past (codes "}") (got (concatenation (trees_in trees))))
+          then_found (λ trees between. L trees (before ++ between))
+          (λ found after. Q found (codes "{" ∷ (before ++ after))) (λ trees. past (codes "}") (got (concatenation (trees_in trees))))
           (λ trees between l. past_found (λ found after. Q found (codes "{" ∷ (before ++ (between ++ after)))) (codes "}") _
-              (found_got (λ found after. Q found (codes "{" ∷ (before ++ (between ++ codes "}" ∷ after)))) (concatenation (trees_in trees))
-                  (subst (λ ws. Q (concatenation (trees_in trees)) (codes "{" ∷ ws)) (append_assoc before between (codes "}" ∷ [])) (joined_made trees (before ++ between) l))))
-          words _ (turns_found L (one_more read) (is_front (codes ",")) one_more_found (tree ∷ []) before (one_alone below tree before t) words)
+          (found_got (λ found after. Q found (codes "{" ∷ (before ++ (between ++ codes "}" ∷ after)))) (concatenation (trees_in trees))
+          (subst (λ ws. Q (concatenation (trees_in trees)) (codes "{" ∷ ws)) (append_assoc before between (codes "}" ∷ []))
+          (joined_made trees (before ++ between) l))))
+          words _ (turns_found L (one_more read) (is_front (codes ",")) one_more_found (tree ∷ []) before
+          (one_alone below tree before t) words)
 
   primary_found_by : (word : Text) (b : Beginning) → Told b word → LeadFinds Q word (primary_by below read word b)
-  primary_found_by word start.Number e = found_got (λ tree after. Q tree (word ∷ after)) (number word) (leaf (number word) (word ∷ []) refl e refl refl)
+  primary_found_by word start.Number e = found_got (λ tree after. Q tree (word ∷ after)) (number word)
+      (leaf (number word) (word ∷ []) refl e refl refl)
   primary_found_by word start.Name e = named_found word e
-  primary_found_by word start.Time e = found_got (λ tree after. Q tree (word ∷ after)) time (leaf time (word ∷ []) (ap (λ w. w ∷ []) e) refl refl refl)
+  primary_found_by word start.Time e = found_got (λ tree after. Q tree (word ∷ after)) time
+      (leaf time (word ∷ []) (ap (λ w. w ∷ []) e) refl refl refl)
   primary_found_by word (start.Round round.Parenthesis) e =
       room_found Q word below 1 _
       (λ f. enclosed_found parentheses (λ ws. word ∷ ws)
-          (λ tree words s. record { spelled = ap (λ ws. codes "(" ∷ (ws ++ codes ")" ∷ [])) s.spelled ∙ ap (λ w. w ∷ (words ++ codes ")" ∷ [])) e; fitting = s.fitting; within = deeper (depth tree) below s.within; ranked = refl }))
-  primary_found_by word (start.Round round.Brace) e = room_found Q word below 1 _ (λ f. subst (λ w. LeadFinds Q w (goes (braces read))) e braces_found)
+      (λ tree words s. record {
+        spelled = ap (λ ws. codes "(" ∷ (ws ++ codes ")" ∷ [])) s.spelled
+            ∙ ap (λ w. w ∷ (words ++ codes ")" ∷ [])) e;
+        fitting = s.fitting;
+        within = deeper (depth tree) below s.within;
+        ranked =
+            refl;
+      }))
+  primary_found_by word (start.Round round.Brace) e = room_found Q word below 1 _
+      (λ f. subst (λ w. LeadFinds Q w (goes (braces read))) e braces_found)
   primary_found_by word (start.Round (round.Conversion signed)) e =
       room_found Q word below 1 _
       (λ f. past_found (λ tree after. Q tree (word ∷ after)) (codes "(") (enclosed read (conversion signed))
-          (enclosed_found (conversion signed) (λ ws. word ∷ codes "(" ∷ ws)
-              (λ tree words s. record {
-                spelled = ap (λ ws. conversion_word signed ∷ codes "(" ∷ (ws ++ codes ")" ∷ [])) s.spelled ∙ ap (λ w. w ∷ codes "(" ∷ (words ++ codes ")" ∷ [])) e;
-                fitting = s.fitting;
-                within = deeper (depth tree) below s.within;
-                ranked = refl;
-              })))
+      (enclosed_found (conversion signed) (λ ws. word ∷ codes "(" ∷ ws)
+      (λ tree words s. record {
+        spelled = ap (λ ws. conversion_word signed ∷ codes "(" ∷ (ws ++ codes ")" ∷ [])) s.spelled
+            ∙ ap (λ w. w ∷ codes "(" ∷ (words ++ codes ")" ∷ [])) e;
+        fitting = s.fitting;
+        within = deeper (depth tree) below s.within;
+        ranked = refl;
+      })))
   primary_found_by word (start.Round (round.Operator o)) e =
       room_found Q word below 1 _
       (λ f words. then_found (IsExpression below unary_rank) (λ tree after. Q tree (word ∷ after)) (λ tree. got (apply o tree))
-          (λ tree before t. found_got (λ found after. Q found (word ∷ (before ++ after))) (apply o tree)
-              (record {
-                spelled = ap (λ ws. unary_word o ∷ ws) (t.spelled ∙ sym (append-nil before)) ∙ ap (λ w. w ∷ (before ++ [])) e;
-                fitting = and_both (nat_le unary_rank (rank_of tree)) (fits_expression tree) t.ranked t.fitting;
-                within = deeper (depth tree) below t.within;
-                ranked = refl;
-              }))
-          words (read unary_rank words) (sound unary_rank refl words))
+      (λ tree before t. found_got (λ found after. Q found (word ∷ (before ++ after))) (apply o tree)
+      (record {
+        spelled = ap (λ ws. unary_word o ∷ ws) (t.spelled ∙ sym (append-nil before)) ∙ ap (λ w. w ∷ (before ++ [])) e;
+        fitting = and_both (nat_le unary_rank (rank_of tree)) (fits_expression tree) t.ranked t.fitting;
+        within = deeper (depth tree) below t.within;
+        ranked = refl;
+      }))
+      words (read unary_rank words) (sound unary_rank refl words))
   primary_found_by word start.Other e = tt
 
   pub primary_found : Finds (IsExpression (suc below) unary_rank) (primary below read)
@@ -552,22 +640,29 @@ module _ (below : ℕ) (read : Below) (stops : (least : ℕ) → Stops least (re
   abbrev O : ℕ → ExpressionTree → List Text → Type 0
   O least tree words = IsExpression (suc below) least tree words × (nat_lt 0 (rank_of tree) ≡ true)
 
-  combined : (least : ℕ) (operator : BinaryOperator) (left right : ExpressionTree) (word : Text) (before after : List Text) → binary_word operator ≡ word → nat_le least (rank operator) ≡ true →
-      nat_le (suc (rank_of left)) (rank operator) ≡ false → nat_le (depth left) below ≡ true → O least left before → IsExpression below (suc (rank operator)) right after →
+  combined : (least : ℕ) (operator : BinaryOperator) (left right : ExpressionTree) (word : Text) (before after : List Text) →
+      binary_word operator ≡ word → nat_le least (rank operator) ≡ true →
+      nat_le (suc (rank_of left)) (rank operator) ≡ false → nat_le (depth left) below ≡ true → O least left before →
+      IsExpression below (suc (rank operator)) right after →
       O least (combine operator left right) (before ++ word ∷ after)
-  combined least operator left right word before after is enough loose within l r =
-      (record {
-        spelled =
-            ap (λ ws. ws ++ binary_word operator ∷ spell_expression right) l.0.spelled ∙ ap (λ ws. before ++ binary_word operator ∷ ws) r.spelled ∙ ap (λ w. before ++ w ∷ after) is;
-        fitting =
-            and_both ((nat_le (rank operator) (rank_of left) && nat_lt (rank operator) (rank_of right)) && fits_expression left) (fits_expression right)
-            (and_both (nat_le (rank operator) (rank_of left) && nat_lt (rank operator) (rank_of right)) (fits_expression left)
-                (and_both (nat_le (rank operator) (rank_of left)) (nat_lt (rank operator) (rank_of right)) (at_most (rank_of left) (rank operator) loose) (above (rank operator) (rank_of right) r.ranked))
-                l.0.fitting)
-            r.fitting;
-        within = both_deeper (depth left) (depth right) below within r.within;
-        ranked = enough;
-      }, some_rank operator)
+  combined least operator left right word before after is enough loose within l r = (
+    record {
+      spelled =
+          ap (λ ws. ws ++ binary_word operator ∷ spell_expression right) l.0.spelled
+          ∙ ap (λ ws. before ++ binary_word operator ∷ ws) r.spelled ∙ ap (λ w. before ++ w ∷ after) is;
+      fitting =
+          and_both ((nat_le (rank operator) (rank_of left) && nat_lt (rank operator) (rank_of right)) && fits_expression left)
+          (fits_expression right)
+          (and_both (nat_le (rank operator) (rank_of left) && nat_lt (rank operator) (rank_of right)) (fits_expression left)
+          (and_both (nat_le (rank operator) (rank_of left)) (nat_lt (rank operator) (rank_of right))
+          (at_most (rank_of left) (rank operator) loose) (above (rank operator) (rank_of right) r.ranked))
+          l.0.fitting)
+          r.fitting;
+      within = both_deeper (depth left) (depth right) below within r.within;
+      ranked = enough;
+    },
+    some_rank operator,
+  )
     where
       at_most : (a b : ℕ) → nat_le (suc a) b ≡ false → nat_le b a ≡ true
       at_most a b e = grind (arith, nat_tests)
@@ -583,41 +678,52 @@ module _ (below : ℕ) (read : Below) (stops : (least : ℕ) → Stops least (re
       R : ExpressionTree → List Text → Type 0
       R next after = O least next (before ++ after)
 
-      by_operator : (o : Option BinaryOperator) → ((operator : BinaryOperator) → o ≡ Some operator → binary_word operator ≡ word) → is_ranked (suc (rank_of left)) o ≡ false →
+      by_operator : (o : Option BinaryOperator) → ((operator : BinaryOperator) → o ≡ Some operator → binary_word operator ≡ word) →
+          is_ranked (suc (rank_of left)) o ≡ false →
           Found (λ next after. O least next (before ++ after)) (word ∷ words) (follow (operator_by below read least left o) word words)
       by_operator None is loose = tt
-      by_operator (Some operator) is loose = follow_found (λ next after. O least next (before ++ after)) word _ (lead_found_if (λ next after. O least next (before ++ after)) word (nat_le least (rank operator)) _ refused
+      by_operator (Some operator) is loose = follow_found (λ next after. O least next (before ++ after)) word _
+          (lead_found_if (λ next after. O least next (before ++ after)) word (nat_le least (rank operator)) _ refused
           (λ e. room_found (λ next after. O least next (before ++ after)) word below (depth left) _
-              (λ f words. then_found (IsExpression below (suc (rank operator))) (λ next after. O least next (before ++ word ∷ after)) (λ right. got (combine operator left right))
-                  (λ right between r. found_got (λ next after. O least next (before ++ word ∷ (between ++ after))) (combine operator left right)
-                      (subst (λ ws. O least (combine operator left right) (before ++ word ∷ ws)) (sym (append-nil between)) (combined least operator left right word before between (is operator refl) e loose f l r)))
-                  words (read (suc (rank operator)) words) (sound (suc (rank operator)) (within_unary (rank operator) (right_enough operator)) words)))
+          (λ f words. then_found (IsExpression below (suc (rank operator))) (λ next after. O least next (before ++ word ∷ after))
+          (λ right. got (combine operator left right))
+          (λ right between r. found_got (λ next after. O least next (before ++ word ∷ (between ++ after)))
+          (combine operator left right)
+          (subst (λ ws. O least (combine operator left right) (before ++ word ∷ ws)) (sym (append-nil between))
+          (combined least operator left right word before between (is operator refl) e loose f l r)))
+          words (read (suc (rank operator)) words) (sound (suc (rank operator))
+          (within_unary (rank operator) (right_enough operator)) words)))
           tt) words
         where
           within_unary : (r : ℕ) → nat_lt r unary_rank ≡ true → nat_le (suc r) unary_rank ≡ true
           within_unary r e = grind (arith, nat_tests)
 
-  operator_kept : (least : ℕ) (tree : ExpressionTree) (words : List Text) (next : ExpressionTree) (left : List Text) → operator below read least tree words ≡ got next left → K next left
+  operator_kept : (least : ℕ) (tree : ExpressionTree) (words : List Text) (next : ExpressionTree) (left : List Text) →
+      operator below read least tree words ≡ got next left → K next left
   operator_kept least tree [] next left e = absurd (stop_got e)
   operator_kept least tree (word ∷ words) next left e = by_operator (binary_of word) e
     where
       by_operator : (o : Option BinaryOperator) → follow (operator_by below read least tree o) word words ≡ got next left → K next left
       by_operator None e = absurd (stop_got e)
       by_operator (Some operator) e =
-          let on : Lead ExpressionTree = goes (λ words. and_then (read (suc (rank operator)) words) (λ right. got (combine operator tree right))) in
+          let on : Lead ExpressionTree = goes (λ words. and_then (read (suc (rank operator)) words)
+          (λ right. got (combine operator tree right))) in
           let f = lead_got (nat_le least (rank operator)) (room below (depth tree) on) word words next left e in
           let g = room_got below (depth tree) on word words next left f.1 in
           let p = parts_of (read (suc (rank operator)) words) (λ right. got (combine operator tree right)) next left g in
           subst (λ t. is_joined (suc (rank_of t)) (front left) ≡ false) (got_tree p.second)
-          (subst (λ ws. is_joined (suc (rank operator)) (front ws) ≡ false) (got_left p.second) (stops (suc (rank operator)) words p.one p.between p.first))
+          (subst (λ ws. is_joined (suc (rank operator)) (front ws) ≡ false) (got_left p.second)
+          (stops (suc (rank operator)) words p.one p.between p.first))
 
   -- a conditional, where it may stand
 
   abbrev R : ℕ → List Text → ExpressionTree → List Text → Type 0
   R least before tree after = IsExpression (suc below) least tree (before ++ after)
 
-  asked : (least : ℕ) (condition when_true when_false : ExpressionTree) (before between after : List Text) → nat_le least 0 ≡ true → nat_le (depth condition) below ≡ true → O least condition before →
-      S when_true between → S when_false after → R least before (conditional condition when_true when_false) (codes "?" ∷ (between ++ codes ":" ∷ (after ++ [])))
+  asked : (least : ℕ) (condition when_true when_false : ExpressionTree) (before between after : List Text) → nat_le least 0 ≡ true →
+      nat_le (depth condition) below ≡ true → O least condition before →
+      S when_true between → S when_false after → R least before (conditional condition when_true when_false)
+      (codes "?" ∷ (between ++ codes ":" ∷ (after ++ [])))
   asked least condition when_true when_false before between after lowest within c t f = record {
     spelled =
         ap (λ ws. ws ++ codes "?" ∷ (spell_expression when_true ++ codes ":" ∷ spell_expression when_false)) c.0.spelled
@@ -625,21 +731,26 @@ module _ (below : ℕ) (read : Below) (stops : (least : ℕ) → Stops least (re
         ∙ ap (λ ws. before ++ codes "?" ∷ (between ++ codes ":" ∷ ws)) (f.spelled ∙ sym (append-nil after));
     fitting =
         and_both ((nat_lt 0 (rank_of condition) && fits_expression condition) && fits_expression when_true) (fits_expression when_false)
-        (and_both (nat_lt 0 (rank_of condition) && fits_expression condition) (fits_expression when_true) (and_both (nat_lt 0 (rank_of condition)) (fits_expression condition) c.1 c.0.fitting) t.fitting)
+        (and_both (nat_lt 0 (rank_of condition) && fits_expression condition) (fits_expression when_true)
+        (and_both (nat_lt 0 (rank_of condition)) (fits_expression condition) c.1 c.0.fitting) t.fitting)
         f.fitting;
     within = all_deeper (depth condition) (depth when_true) (depth when_false) below within t.within f.within;
     ranked = lowest;
   }
 
-  branches_found : (least : ℕ) (condition : ExpressionTree) (before : List Text) → nat_le least 0 ≡ true → nat_le (depth condition) below ≡ true → O least condition before →
+  branches_found : (least : ℕ) (condition : ExpressionTree) (before : List Text) → nat_le least 0 ≡ true →
+      nat_le (depth condition) below ≡ true → O least condition before →
       Finds (λ tree after. R least before tree (codes "?" ∷ after)) (branches read condition)
   branches_found least condition before lowest within c words =
-      then_found S (λ tree after. R least before tree (codes "?" ∷ after)) (λ when_true. past (codes ":") (λ left. and_then (read 0 left) (λ when_false. got (conditional condition when_true when_false))))
+      then_found S (λ tree after. R least before tree (codes "?" ∷ after))
+      (λ when_true. past (codes ":") (λ left. and_then (read 0 left) (λ when_false. got (conditional condition when_true when_false))))
       (λ when_true between t. past_found (λ tree after. R least before tree (codes "?" ∷ (between ++ after))) (codes ":") _
-          (λ left. then_found S (λ tree after. R least before tree (codes "?" ∷ (between ++ codes ":" ∷ after))) (λ when_false. got (conditional condition when_true when_false))
-              (λ when_false last f. found_got (λ tree after. R least before tree (codes "?" ∷ (between ++ codes ":" ∷ (last ++ after)))) (conditional condition when_true when_false)
-                  (asked least condition when_true when_false before between last lowest within c t f))
-              left (read 0 left) (sound 0 refl left)))
+      (λ left. then_found S (λ tree after. R least before tree (codes "?" ∷ (between ++ codes ":" ∷ after)))
+      (λ when_false. got (conditional condition when_true when_false))
+      (λ when_false last f. found_got (λ tree after. R least before tree (codes "?" ∷ (between ++ codes ":" ∷ (last ++ after))))
+      (conditional condition when_true when_false)
+      (asked least condition when_true when_false before between last lowest within c t f))
+      left (read 0 left) (sound 0 refl left)))
       words (read 0 words) (sound 0 refl words)
 
   question_lead_found : (least : ℕ) (condition : ExpressionTree) (before : List Text) → O least condition before → (word : Text) →
@@ -647,11 +758,13 @@ module _ (below : ℕ) (read : Below) (stops : (least : ℕ) → Stops least (re
   question_lead_found least condition before c word =
       lead_found_if (R least before) word (is_asked least (Some word)) _ refused
       (λ e. room_found (R least before) word below (depth condition) (goes (branches read condition))
-          (λ f. subst (λ w. LeadFinds (R least before) w (goes (branches read condition))) (same_text (codes "?") word (and_right (nat_le least 0) (bytes_eq (codes "?") word) e))
-              (branches_found least condition before (and_left (nat_le least 0) (bytes_eq (codes "?") word) e) f c)))
+      (λ f. subst (λ w. LeadFinds (R least before) w (goes (branches read condition)))
+      (same_text (codes "?") word (and_right (nat_le least 0) (bytes_eq (codes "?") word) e))
+      (branches_found least condition before (and_left (nat_le least 0) (bytes_eq (codes "?") word) e) f c)))
       tt
 
-  question_found : (least : ℕ) (condition : ExpressionTree) (before : List Text) → O least condition before → Finds (R least before) (question below read least condition)
+  question_found : (least : ℕ) (condition : ExpressionTree) (before : List Text) → O least condition before →
+      Finds (R least before) (question below read least condition)
   question_found least condition before c =
       choose_found (R least before) (is_asked least) (led (question_lead below read least condition)) (got condition)
       (led_found (R least before) (question_lead below read least condition) (question_lead_found least condition before c))
@@ -659,7 +772,8 @@ module _ (below : ℕ) (read : Below) (stops : (least : ℕ) → Stops least (re
 
   pub by_found : (least : ℕ) → nat_le least unary_rank ≡ true → Finds (IsExpression (suc below) least) (expression_by below read least)
   by_found least enough words =
-      then_found Q (IsExpression (suc below) least) (onward below read least) onward_found words (primary below read words) (primary_found words)
+      then_found Q (IsExpression (suc below) least) (onward below read least) onward_found words (primary below read words)
+      (primary_found words)
     where
       lowest : (n r : ℕ) → nat_le n 11 ≡ true → nat_le 11 r ≡ true → nat_le n r ≡ true
       lowest n r e f = grind (arith, nat_tests)
@@ -670,31 +784,49 @@ module _ (below : ℕ) (read : Below) (stops : (least : ℕ) → Stops least (re
       higher : (r : ℕ) → nat_le 11 r ≡ true → nat_le 11 (suc r) ≡ true
       higher r e = grind (arith, nat_tests)
 
-      onward_found : (left : ExpressionTree) (before : List Text) → Q left before → Finds (λ tree after. IsExpression (suc below) least tree (before ++ after)) (onward below read least left)
+      onward_found : (left : ExpressionTree) (before : List Text) → Q left before →
+          Finds (λ tree after. IsExpression (suc below) least tree (before ++ after)) (onward below read least left)
       onward_found left before q words =
-          then_found (λ t b. O least t (before ++ b)) (λ tree after. IsExpression (suc below) least tree (before ++ after)) (question below read least)
-          (λ one between o ws. found_more (R least (before ++ between)) (λ tree after. IsExpression (suc below) least tree (before ++ (between ++ after)))
-              (λ tree after r. subst (IsExpression (suc below) least tree) (append_assoc before between after) r) ws (question below read least one ws) (question_found least one (before ++ between) o ws))
+          then_found (λ t b. O least t (before ++ b)) (λ tree after. IsExpression (suc below) least tree (before ++ after))
+          (question below read least)
+          (λ one between o ws. found_more (R least (before ++ between))
+          (λ tree after. IsExpression (suc below) least tree (before ++ (between ++ after)))
+          (λ tree after r. subst (IsExpression (suc below) least tree) (append_assoc before between after) r) ws
+          (question below read least one ws) (question_found least one (before ++ between) o ws))
           words (turns (operator below read least) (is_joined least) left words)
-          (kept_turns_found (O least) K (operator below read least) (is_joined least) (operator_kept least) (operator_found least) left before words
-              (record { spelled = q.spelled; fitting = q.fitting; within = q.within; ranked = lowest least (rank_of left) enough q.ranked }, positive (rank_of left) q.ranked)
-              (joins_not (suc (rank_of left)) (front words) (higher (rank_of left) q.ranked)))
+          (kept_turns_found (O least) K (operator below read least) (is_joined least) (operator_kept least)
+          (operator_found least) left before words (
+            record {
+              spelled = q.spelled;
+              fitting = q.fitting;
+              within = q.within;
+              ranked =
+                  lowest least (rank_of left) enough q.ranked;
+            },
+            positive (rank_of left) q.ranked,
+          )
+          (joins_not (suc (rank_of left)) (front words) (higher (rank_of left) q.ranked)))
 
 -- what is read is an expression
 pub expression_found : (levels least : ℕ) → nat_le least unary_rank ≡ true → Finds (IsExpression levels least) (expression levels least)
 unfolding expression
 expression_found zero least enough words = tt
-expression_found (suc below) least enough words = by_found below (expression below) (expression_stops below) (expression_found below) least enough words
+expression_found (suc below) least enough words = by_found below (expression below) (expression_stops below)
+    (expression_found below) least enough words
 
 -- what is read is within the levels
-pub expression_depth : (levels least : ℕ) → nat_le least unary_rank ≡ true → (words : List Text) (tree : ExpressionTree) (left : List Text) → expression levels least words ≡ got tree left →
+pub expression_depth : (levels least : ℕ) → nat_le least unary_rank ≡ true →
+    (words : List Text) (tree : ExpressionTree) (left : List Text) → expression levels least words ≡ got tree left →
     nat_le (depth tree) levels ≡ true
 expression_depth levels least enough words tree left e =
-    let f : Found (IsExpression levels least) words (got tree left) = subst (Found (IsExpression levels least) words) e (expression_found levels least enough words) in
+    let f : Found (IsExpression levels least) words (got tree left) =
+    subst (Found (IsExpression levels least) words) e (expression_found levels least enough words) in
     f.2.within
 
-pub primary_depth : (below : ℕ) (words : List Text) (tree : ExpressionTree) (left : List Text) → primary below (expression below) words ≡ got tree left → nat_le (depth tree) (suc below) ≡ true
+pub primary_depth : (below : ℕ) (words : List Text) (tree : ExpressionTree) (left : List Text) →
+    primary below (expression below) words ≡ got tree left → nat_le (depth tree) (suc below) ≡ true
 primary_depth below words tree left e =
     let f : Found (IsExpression (suc below) unary_rank) words (got tree left) =
-        subst (Found (IsExpression (suc below) unary_rank) words) e (primary_found below (expression below) (expression_stops below) (expression_found below) words) in
+    subst (Found (IsExpression (suc below) unary_rank) words) e
+    (primary_found below (expression below) (expression_stops below) (expression_found below) words) in
     f.2.within

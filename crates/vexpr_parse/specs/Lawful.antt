@@ -1,5 +1,5 @@
 -- What holds of each reader: one word of lookahead decides, and what was read goes on to something that can be read.
-use Rattle.std.specs.Prelude.{◌≡◌, ℕ, ◌<◌, Bool, true, List, [], ◌∷◌, ◌++◌, Option, length}
+use Rattle.std.specs.Prelude.{◌≡◌, ◌<◌, Bool, true, List, ◌++◌, Option, length}
 use Rattle.vast.specs.Syntax.{Text}
 use Rattle.vexpr_parse.specs.Readers.{Answer, got, stop, Reader, front}
 

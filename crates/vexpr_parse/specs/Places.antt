@@ -15,7 +15,8 @@ BeginsOne levels least words = (after : List Text) × (tree : ExpressionTree) ×
 
 -- with the word that stands first here behind them, or with their end where none does, they begin no expression
 abbrev pub BeginsNone : ℕ → ℕ → List Text → List Text → Type 0
-BeginsNone levels least before left = (other : List Text) (tree : ExpressionTree) → front other ≡ front left → IsExpression levels least tree (before ++ other) → ⊥
+BeginsNone levels least before left = (other : List Text) (tree : ExpressionTree) → front other ≡ front left →
+    IsExpression levels least tree (before ++ other) → ⊥
 
 -- The words before the place begin an expression, and with the word at it they begin none. The text's end counts as a word.
 pub record IsPlace (levels least : ℕ) (words left : List Text) : Type 0 where
@@ -43,24 +44,30 @@ pub record IsDeeper (levels least : ℕ) (words left : List Text) : Type 0 where
 
 -- what is read is an expression, at the front of the words
 abbrev pub ReadsSoundly : Type 0
-ReadsSoundly = (levels least : ℕ) → nat_le least unary_rank ≡ true → (words : List Text) (tree : ExpressionTree) (left : List Text) → expression levels least words ≡ got tree left →
+ReadsSoundly = (levels least : ℕ) → nat_le least unary_rank ≡ true → (words : List Text) (tree : ExpressionTree) (left : List Text) →
+    expression levels least words ≡ got tree left →
     (before : List Text) × (words ≡ before ++ left) × IsExpression levels least tree before
 
 -- an expression is read, where what follows ends it
 abbrev pub ReadsCompletely : Type 0
-ReadsCompletely = (levels least : ℕ) (tree : ExpressionTree) (before left : List Text) → IsExpression levels least tree before → ends least (front left) ≡ true →
+ReadsCompletely = (levels least : ℕ) (tree : ExpressionTree) (before left : List Text) → IsExpression levels least tree before →
+    ends least (front left) ≡ true →
     expression levels least (before ++ left) ≡ got tree left
 
 -- words are those of one tree at most
 abbrev pub IsOnly : Type 0
-IsOnly = (levels : ℕ) (words : List Text) (tree other : ExpressionTree) → IsExpression levels 0 tree words → IsExpression levels 0 other words → tree ≡ other
+IsOnly = (levels : ℕ) (words : List Text) (tree other : ExpressionTree) → IsExpression levels 0 tree words →
+    IsExpression levels 0 other words → tree ≡ other
 
 -- a word is refused at the place of the words, and for good or for want of levels alone
 abbrev pub StopsAtPlace : Type 0
-StopsAtPlace = (below least : ℕ) → nat_le least unary_rank ≡ true → (words left : List Text) (why : Stop) → expression (suc below) least words ≡ stop why left → IsPlace (suc below) least words left
+StopsAtPlace = (below least : ℕ) → nat_le least unary_rank ≡ true → (words left : List Text) (why : Stop) →
+    expression (suc below) least words ≡ stop why left → IsPlace (suc below) least words left
 
 abbrev pub StopsForGood : Type 0
-StopsForGood = (below least : ℕ) (words left : List Text) → expression (suc below) least words ≡ stop NoTree left → IsRefused (suc below) least words left
+StopsForGood = (below least : ℕ) (words left : List Text) → expression (suc below) least words ≡ stop NoTree left →
+    IsRefused (suc below) least words left
 
 abbrev pub StopsTooDeep : Type 0
-StopsTooDeep = (below least : ℕ) → nat_le least unary_rank ≡ true → (words left : List Text) → expression (suc below) least words ≡ stop TooDeep left → IsDeeper (suc below) least words left
+StopsTooDeep = (below least : ℕ) → nat_le least unary_rank ≡ true → (words left : List Text) →
+    expression (suc below) least words ≡ stop TooDeep left → IsDeeper (suc below) least words left

@@ -1,6 +1,6 @@
 -- Readers: what stands at the front of a list of words, and the words behind it; or the words from the first one on that
 -- can't be read. One word of lookahead decides everywhere, and what was read is never given back.
-use Rattle.std.specs.Prelude.{◌≡◌, ℕ, zero, suc, nat_le, Bool, true, false, if◌then◌else◌, List, [], ◌∷◌, Option, Some, None, length}
+use Rattle.std.specs.Prelude.{ℕ, zero, suc, nat_le, Bool, false, if◌then◌else◌, List, [], ◌∷◌, Option, Some, None, length}
 use Rattle.std.specs.Str.{bytes_eq}
 use Rattle.vast.specs.Syntax.{Text}
 use Rattle.vexpr_parse.specs.declared.stop.Stop.{Stop}

@@ -1,6 +1,6 @@
 -- Reading of expressions: the longest tree of so many levels at the front of the words, one word at a time. That this is
 -- the grammar read backwards is what `DerivesExpression` says of it.
-use Rattle.std.specs.Prelude.{ℕ, zero, suc, nat_le, Bool, if◌then◌else◌, List, [], ◌∷◌, ◌++◌, Option, Some, None, codes}
+use Rattle.std.specs.Prelude.{ℕ, zero, suc, nat_le, if◌then◌else◌, List, [], ◌∷◌, ◌++◌, Option, Some, None, codes}
 use Rattle.std.specs.Str.{bytes_eq}
 use Rattle.vast.specs.Syntax.{Text}
 use Rattle.vast.specs.Expressions.{ExpressionTree, number, name, time, bit, part, parentheses, concatenation, replication, conversion, apply, combine, conditional, ExpressionTrees, none, first, depth, rank, unary_rank}
@@ -9,7 +9,7 @@ use Rattle.vexpr_parse.specs.declared.beginning.Beginning.{Beginning}
 use Rattle.vexpr_parse.specs.declared.beginning.Beginning.TheVariants as start
 use Rattle.vexpr_parse.specs.declared.beginning.Round.{Round}
 use Rattle.vexpr_parse.specs.declared.beginning.Round.TheVariants as round
-use Rattle.vexpr_parse.specs.declared.stop.Stop.TheVariants.{NoTree, TooDeep}
+use Rattle.vexpr_parse.specs.declared.stop.Stop.TheVariants.{NoTree}
 use Rattle.vexpr_parse.specs.Readers.{Reader, Lead, goes, refused, got, stop, and_then, led, room, past, choose, turns, is_front}
 use Rattle.vexpr_parse.specs.Words.{beginning_of, binary_of, is_joined, is_asked}
 
@@ -33,12 +33,14 @@ parts read words = and_then (read 0 words) (λ tree. turns (one_more read) (is_f
 -- { tree, .. } }
 abbrev pub repeated : Below → ExpressionTree → Reader ExpressionTree
 repeated read count =
-    past (codes "{") (λ words. and_then (parts read words) (λ trees. past (codes "}") (past (codes "}") (got (replication count (trees_in trees))))))
+    past (codes "{") (λ words. and_then (parts read words) (λ trees. past (codes "}") (past (codes "}")
+    (got (replication count (trees_in trees))))))
 
 -- , tree, .. }
 abbrev pub joined : Below → ExpressionTree → Reader ExpressionTree
 joined read tree words =
-    and_then (turns (one_more read) (is_front (codes ",")) (tree ∷ []) words) (λ trees. past (codes "}") (got (concatenation (trees_in trees))))
+    and_then (turns (one_more read) (is_front (codes ",")) (tree ∷ []) words) (λ trees. past (codes "}")
+    (got (concatenation (trees_in trees))))
 
 -- what follows {
 abbrev pub braces : Below → Reader ExpressionTree
@@ -107,7 +109,8 @@ operator below read least left = led (operator_lead below read least left)
 -- what follows ?
 abbrev pub branches : Below → ExpressionTree → Reader ExpressionTree
 branches read condition words =
-    and_then (read 0 words) (λ when_true. past (codes ":") (λ left. and_then (read 0 left) (λ when_false. got (conditional condition when_true when_false))))
+    and_then (read 0 words) (λ when_true. past (codes ":") (λ left. and_then (read 0 left)
+    (λ when_false. got (conditional condition when_true when_false))))
 
 abbrev pub question_lead : ℕ → Below → ℕ → ExpressionTree → Text → Lead ExpressionTree
 question_lead below read least condition word =

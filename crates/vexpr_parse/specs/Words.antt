@@ -15,7 +15,8 @@ use Rattle.vexpr_parse.specs.Readers.{is_front}
 
 abbrev pub unary_operators : List UnaryOperator
 unary_operators =
-    unary.Plus ∷ unary.Minus ∷ unary.Not ∷ unary.Invert ∷ unary.And ∷ unary.Nand ∷ unary.Or ∷ unary.Nor ∷ unary.Xor ∷ unary.Xnor ∷ unary.XorNot ∷ []
+    unary.Plus ∷ unary.Minus ∷ unary.Not ∷ unary.Invert ∷ unary.And ∷ unary.Nand ∷ unary.Or ∷ unary.Nor ∷ unary.Xor ∷ unary.Xnor ∷
+    unary.XorNot ∷ []
 
 abbrev pub binary_operators : List BinaryOperator
 binary_operators =

@@ -1,10 +1,9 @@
 // What readers of expressions hand on: a tree, and how deep it nests.
 
-ghost use Rattle.std.specs.Prelude.{◌≡◌, ◌<◌, ◌+◌, ◌^◌, max, IfOk};
+ghost use Rattle.std.specs.Prelude.{◌≡◌, max, IfOk};
 ghost use Rattle.vast.specs.Trees.{word_text};
-ghost use Rattle.vast.specs.ExpressionTrees.{tree_of, trees_of};
-ghost use Rattle.vast.specs.Expressions.{number, name, time, bit, part, parentheses, concatenation, replication, conversion, apply, combine, conditional};
-ghost use Rattle.vexpr_parse.specs.Answers.{IsMade, tree_in};
+ghost use Rattle.vast.specs.Expressions.{bit, part, parentheses, conversion, apply, combine};
+ghost use Rattle.vexpr_parse.specs.Answers.{IsShallow, IsRound, IsRoundBoth, IsChosen, IsJoined, IsRepeated};
 
 use basis::NoMemory;
 use std::alloc::Global;
@@ -34,8 +33,8 @@ pub fn larger(a: u64, b: u64) -> u64
 
 /// `(inner)`
 pub fn in_parentheses<'a>(alloc: Global, inner: Found<'a>) -> Result<Found<'a>, NoMemory>
-    requires { inner.depth < 2 ^ 63 }
-    ensures { IfOk result (IsMade (parentheses (tree_in inner.entry)) (1 + inner.entry.depth)) }
+    requires { IsShallow inner.depth }
+    ensures { IfOk result (IsRound parentheses inner.entry) }
 {
     Ok(Found {
         depth: 1 + inner.depth,
@@ -44,13 +43,9 @@ pub fn in_parentheses<'a>(alloc: Global, inner: Found<'a>) -> Result<Found<'a>, 
 }
 
 /// `$signed(operand)`, or `$unsigned(operand)` (5.5)
-pub fn converted<'a>(
-    alloc: Global,
-    signed: bool,
-    operand: Found<'a>,
-) -> Result<Found<'a>, NoMemory>
-    requires { operand.depth < 2 ^ 63 }
-    ensures { IfOk result (IsMade (conversion signed (tree_in operand.entry)) (1 + operand.entry.depth)) }
+pub fn converted<'a>(alloc: Global, signed: bool, operand: Found<'a>) -> Result<Found<'a>, NoMemory>
+    requires { IsShallow operand.depth }
+    ensures { IfOk result (IsRound (conversion signed) operand.entry) }
 {
     Ok(Found {
         depth: 1 + operand.depth,
@@ -67,8 +62,8 @@ pub fn applied<'a>(
     operator: UnaryOperator,
     operand: Found<'a>,
 ) -> Result<Found<'a>, NoMemory>
-    requires { operand.depth < 2 ^ 63 }
-    ensures { IfOk result (IsMade (apply operator (tree_in operand.entry)) (1 + operand.entry.depth)) }
+    requires { IsShallow operand.depth }
+    ensures { IfOk result (IsRound (apply operator) operand.entry) }
 {
     Ok(Found {
         depth: 1 + operand.depth,
@@ -86,8 +81,8 @@ pub fn combined<'a>(
     left: Found<'a>,
     right: Found<'a>,
 ) -> Result<Found<'a>, NoMemory>
-    requires { (left.depth < 2 ^ 63) × (right.depth < 2 ^ 63) }
-    ensures { IfOk result (IsMade (combine operator (tree_in left.entry) (tree_in right.entry)) (1 + max left.entry.depth right.entry.depth)) }
+    requires { IsShallow left.depth × IsShallow right.depth }
+    ensures { IfOk result (IsRoundBoth (combine operator) left.entry right.entry) }
 {
     Ok(Found {
         depth: 1 + larger(left.depth, right.depth),
@@ -106,8 +101,8 @@ pub fn chosen<'a>(
     when_true: Found<'a>,
     when_false: Found<'a>,
 ) -> Result<Found<'a>, NoMemory>
-    requires { (condition.depth < 2 ^ 63) × (when_true.depth < 2 ^ 63) × (when_false.depth < 2 ^ 63) }
-    ensures { IfOk result (IsMade (conditional (tree_in condition.entry) (tree_in when_true.entry) (tree_in when_false.entry)) (1 + max condition.entry.depth (max when_true.entry.depth when_false.entry.depth))) }
+    requires { IsShallow condition.depth × IsShallow when_true.depth × IsShallow when_false.depth }
+    ensures { IfOk result (IsChosen condition.entry when_true.entry when_false.entry) }
 {
     Ok(Found {
         depth: 1 + larger(condition.depth, larger(when_true.depth, when_false.depth)),
@@ -120,13 +115,9 @@ pub fn chosen<'a>(
 }
 
 /// `name[index]` (5.2.1)
-pub fn selected<'a>(
-    alloc: Global,
-    word: Word<'a>,
-    index: Found<'a>,
-) -> Result<Found<'a>, NoMemory>
-    requires { index.depth < 2 ^ 63 }
-    ensures { IfOk result (IsMade (bit (word_text word.entry) (tree_in index.entry)) (1 + index.entry.depth)) }
+pub fn selected<'a>(alloc: Global, word: Word<'a>, index: Found<'a>) -> Result<Found<'a>, NoMemory>
+    requires { IsShallow index.depth }
+    ensures { IfOk result (IsRound (bit (word_text word.entry)) index.entry) }
 {
     Ok(Found {
         depth: 1 + index.depth,
@@ -144,8 +135,8 @@ pub fn part_selected<'a>(
     left: Found<'a>,
     right: Found<'a>,
 ) -> Result<Found<'a>, NoMemory>
-    requires { (left.depth < 2 ^ 63) × (right.depth < 2 ^ 63) }
-    ensures { IfOk result (IsMade (part (word_text word.entry) (tree_in left.entry) (tree_in right.entry)) (1 + max left.entry.depth right.entry.depth)) }
+    requires { IsShallow left.depth × IsShallow right.depth }
+    ensures { IfOk result (IsRoundBoth (part (word_text word.entry)) left.entry right.entry) }
 {
     Ok(Found {
         depth: 1 + larger(left.depth, right.depth),
@@ -159,8 +150,8 @@ pub fn part_selected<'a>(
 
 /// `{part, ..}` (5.1.14)
 pub fn joined<'a>(at: u32, parts: Parts<'a>) -> Found<'a>
-    requires { parts.depth < 2 ^ 63 }
-    ensures { IsMade (concatenation (trees_of parts.entry.trees.items)) (1 + parts.entry.depth) result }
+    requires { IsShallow parts.depth }
+    ensures { IsJoined parts.entry result }
 {
     Found {
         depth: 1 + parts.depth,
@@ -178,8 +169,8 @@ pub fn repeated<'a>(
     count: Found<'a>,
     parts: Parts<'a>,
 ) -> Result<Found<'a>, NoMemory>
-    requires { (count.depth < 2 ^ 63) × (parts.depth < 2 ^ 63) }
-    ensures { IfOk result (IsMade (replication (tree_in count.entry) (trees_of parts.entry.trees.items)) (1 + max count.entry.depth parts.entry.depth)) }
+    requires { IsShallow count.depth × IsShallow parts.depth }
+    ensures { IfOk result (IsRepeated count.entry parts.entry) }
 {
     Ok(Found {
         depth: 1 + larger(count.depth, parts.depth),

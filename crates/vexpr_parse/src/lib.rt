@@ -1,6 +1,6 @@
-// Tokens to expressions. In: the words of a text, as its tokens stand. Out: the tree of the expression that stands
-// there, or the word at which no expression can go on. The law: a tree is read exactly where it derives the words, it is
-// the only one, and a refused word is the first that no expression has there.
+// Words to expressions. In: the words of a text. Out: the tree of the expression at their front, or the word at
+// which none goes on. The law: reading gives the one tree that has the words, and a refused word is the first that
+// no expression has there.
 #![tactic(auto)]
 
 pub mod beginning;
