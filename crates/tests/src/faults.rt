@@ -6,7 +6,7 @@ use vrace::{At, Fault};
 use vsrc::Place;
 
 // Each refusal but want of memory, which nobody here can make, with the number that docs/FAULTS.md gives it.
-const NUMBERS: [(Fault, &str); 23] = [
+const NUMBERS: [(Fault, &str); 22] = [
     (Fault::NotEnded(At(None)), "E101"),
     (Fault::BadToken(At(None)), "E102"),
     (Fault::Directive(At(None)), "E110"),

@@ -1,5 +1,6 @@
 // From the bytes of files to places, tokens, trees and steps.
 
+use basis::Timescale;
 use std::alloc::Global;
 use std::test::Fail;
 use vast::design::Design;
@@ -142,7 +143,7 @@ fn design(alloc: Global, text: &[u8]) -> Result<Design, Fail> {
     let source = source(alloc, &[text])?;
     let found = tokens(alloc, &source)?;
     let ast = parse(alloc, &found)?;
-    Ok(elaborate(alloc, &ast, None)?)
+    Ok(elaborate(alloc, &ast, None, source.timescale())?)
 }
 
 // The values of the slot that the last step ended.

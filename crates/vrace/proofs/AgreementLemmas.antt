@@ -1,20 +1,20 @@
 -- Two explorations of the same files are of one setting.
 use Rattle.std.proofs.Common.{◌≡◌, ℕ, List, Option, sym, subst, ◌∙◌}
 use Rattle.statebook.specs.declared.limits.Limits.{Limits}
-use Rattle.vsrc.specs.Expansion.{expanded_text}
+use Rattle.vsrc.specs.Expansion.{expanded_text, expanded_timescale}
 use Rattle.vmodel.specs.Run.{Setting}
 use Rattle.report_text.specs.Report.{Report}
 use Rattle.vreport.specs.Agreement.{ExhaustedAgree}
 use Rattle.vreport.specs.Reports.{IsExploration}
 use Rattle.vrace.specs.Asked.{Asked}
 use Rattle.vrace.specs.Explores.{AskAlike, ExploredFilesAgree, Searched, setting_for}
-use Rattle.vrace.specs.Replays.{IsDesignOf}
+use Rattle.vrace.specs.Replays.{IsDesignOfFiles}
 use Rattle.vrace.proofs.LawLemmas.{Laws, one_design_of}
 
 one_setting : Laws → (files : List (List ℕ)) (asked again : Asked) → AskAlike asked again → (s : Searched files asked) (t : Searched files again) → setting_for files asked s ≡ setting_for files again t
 one_setting laws files asked again alike s t =
-    let design = one_design_of laws (expanded_text files) again.top s.design t.design
-    (subst (λ (top : Option (List ℕ)). IsDesignOf (expanded_text files) top s.design) alike.top_is s.is_design) t.is_design in
+    let design = one_design_of laws (expanded_text files) (expanded_timescale files) again.top s.design t.design
+    (subst (λ (top : Option (List ℕ)). IsDesignOfFiles files top s.design) alike.top_is s.is_design) t.is_design in
     (λ i. record { design = design i; until = alike.until_is i; grain = alike.grain_is i })
 
 pub agree : Laws → ExhaustedAgree → ExploredFilesAgree
