@@ -10,7 +10,7 @@ pub struct Explanation {
     advice: &'static str,
 }
 
-const EXPLANATIONS: [Explanation; 28] = [
+const EXPLANATIONS: [Explanation; 27] = [
     Explanation {
         number: 101,
         meaning: "a comment or a string that begins here isn't ended",
