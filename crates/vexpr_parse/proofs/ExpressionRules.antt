@@ -267,7 +267,7 @@ module _ (read : Below) (r : (least : ℕ) → Rule (read least) (ends least) ex
       (links_ends _ (ends 0) (ends 0) (λ first e. e)) (λ rest e. e) (r 0)
       (λ when_false. got_rule (conditional condition when_true when_false) (ends 0))
 
-  -- what follows ?
+  -- what stands behind a question mark
   pub branches_rule : (condition : ExpressionTree) → Rule (branches read condition) (ends 0) (example ++ codes ":" ∷ (example ++ []))
   unfolding binary_of
   branches_rule condition =

@@ -1,5 +1,6 @@
 -- When the text of a report is true of files; and when a check is refused.
-use Rattle.std.specs.Prelude.{◌≡◌, ℕ, ◌⊎◌, List, Some}
+use Rattle.std.specs.Prelude.{◌≡◌, ℕ, ◌⊎◌, List, Some, map}
+use Rattle.std.specs.Borrow.{Bor}
 use Rattle.report_text.specs.Report.{Report}
 use Rattle.report_text.specs.WellFormed.{IsNoReportText, IsTold}
 use Rattle.vreport.specs.Truth.{IsTrueReport}
@@ -69,3 +70,7 @@ pub record HasNoSetting (files : List (List ℕ)) (text : List ℕ) (fault : Fau
 -- why a check is refused: for the report, or for the files
 abbrev pub IsCheckReason : List (List ℕ) → List ℕ → Fault → Type 0
 IsCheckReason files text fault = IsReportReason files text fault ⊎ HasNoSetting files text fault
+
+-- so it is of each text that tells this report with these dumps
+abbrev pub OfItsText : Report → List (Bor (List ℕ)) → (List ℕ → Type 0) → Type 0
+OfItsText report dumps P = (text : List ℕ) → IsTold text (report, map (λ dump. dump.now) dumps) → P text

@@ -3,7 +3,7 @@
 ghost use Rattle.std.specs.Prelude.{◌≡◌, ℕ, List, Some, length, map, OnOk, IfOk, IfErr};
 ghost use Rattle.report_text.specs.WellFormed.{IsTold};
 ghost use Rattle.vsrc.specs.Source.{file_bytes};
-ghost use Rattle.vrace.specs.Checks.{IsCheckReason, IsMachineOf, IsTrueText, fault_by};
+ghost use Rattle.vrace.specs.Checks.{IsCheckReason, IsMachineOf, IsTrueText, OfItsText, fault_by};
 ghost use Rattle.vrace.specs.Refusals.{IsDesignFault};
 
 use crate::design::design_of;
@@ -48,8 +48,10 @@ fn check_told(
     dumps: &[&[u8]],
 ) -> Result<(), Fault>
     requires { length dumps.now ≡ length report.now.ends }
-    ensures ok { (text : List ℕ) → IsTold text (report.now, map (λ dump. dump.now) dumps.now) → OnOk result (IsTrueText (file_bytes files.now) text) }
-    ensures reason { (text : List ℕ) → IsTold text (report.now, map (λ dump. dump.now) dumps.now) → IfErr result (IsCheckReason (file_bytes files.now) text) }
+    ensures ok { OfItsText report.now dumps.now (λ text.
+        OnOk result (IsTrueText (file_bytes files.now) text)) }
+    ensures reason { OfItsText report.now dumps.now (λ text.
+        IfErr result (IsCheckReason (file_bytes files.now) text)) }
 {
     let machine = match machine_of(alloc, files, report) {
         Ok(machine) => machine,
