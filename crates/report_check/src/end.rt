@@ -24,7 +24,8 @@ fn is_dump(
     dump: &[u8],
 ) -> Result<bool, NoMemory>
     requires ends { HasDump head.now machine.now log.now steps }
-    ensures { IfOk result (λ is. Decides is (IsRunDump head.now machine.now log.now steps dump.now)) }
+    ensures { IfOk result (λ is.
+        Decides is (IsRunDump head.now machine.now log.now steps dump.now)) }
 {
     expected_is_whole();
     let mut expected = Expected::new(dump);

@@ -19,7 +19,8 @@ fn shows(
     race: &Race,
     seen: &Seen,
 ) -> Result<bool, NoMemory>
-    ensures { IfOk result (TellsSeen machine.now standing.now race.now.time race.now.variable seen.now.0) }
+    ensures { IfOk result
+        (TellsSeen machine.now standing.now race.now.time race.now.variable seen.now.0) }
 {
     let Some(time) = machine.slot_of(standing) else {
         return Ok(false);
@@ -43,7 +44,9 @@ fn shows_by_now(
     seen: &Seen,
     before: bool,
 ) -> Result<bool, NoMemory>
-    ensures { IfOk result (TellsSeenByNow before machine.now standing.now race.now.time race.now.variable seen.now.0) }
+    ensures { IfOk result
+        (TellsSeenByNow before machine.now standing.now race.now.time race.now.variable
+        seen.now.0) }
 {
     if before {
         return Ok(true);
@@ -69,7 +72,8 @@ fn is_seen(
     race: &Race,
     seen: &Seen,
 ) -> Result<bool, NoMemory>
-    ensures { IfOk result (λ is. Decides is (IsSeenWithin machine.now steps race.now.time race.now.variable seen.now)) }
+    ensures { IfOk result (λ is.
+        Decides is (IsSeenWithin machine.now steps race.now.time race.now.variable seen.now)) }
 {
     machine_law();
     let mut state = machine.root()?;
@@ -104,7 +108,9 @@ fn is_true_sighting(
     race: &Race,
     seen: &Seen,
 ) -> Result<bool, NoMemory>
-    ensures { IfOk result (λ is. Decides is (IsTrueSighting machine.now report.now race.now.time race.now.variable seen.now)) }
+    ensures { IfOk result (λ is.
+        Decides is (IsTrueSighting machine.now report.now race.now.time race.now.variable
+        seen.now)) }
 {
     if seen.log.members().len() > report.depart as usize {
         return Ok(false);

@@ -183,7 +183,8 @@ fn take_end<'a>(
     reader: &mut Reader<'a>,
     columns: &[Column],
 ) -> Result<(End, &'a [u8]), NoMemory>
-    ensures read { IfOk result (λ p. HasTaken reader.old reader.new (inner.IsEndedTaken columns.now) (p.0, p.1.now)) }
+    ensures read { IfOk result (λ p.
+        HasTaken reader.old reader.new (inner.IsEndedTaken columns.now) (p.0, p.1.now)) }
     ensures each { inner.EachEnd columns.now reader.old reader.new result }
 {
     let words = end_words(reader);
@@ -207,7 +208,8 @@ pub fn read_ends<'a>(
     columns: &[Column],
     count: u64,
 ) -> Result<(Vec<End>, Vec<&'a [u8]>), NoMemory>
-    ensures read { IfOk result (λ p. inner.HasEnds columns.now count reader.old reader.new p.0.items p.1.items) }
+    ensures read { IfOk result (λ p.
+        inner.HasEnds columns.now count reader.old reader.new p.0.items p.1.items) }
     ensures each { inner.EachEnds columns.now count reader.old reader.new result }
 {
     let mut ends = Vec::new(alloc);

@@ -105,8 +105,10 @@ fn top_line<'a>(reader: &mut Reader<'a>) -> &'a [u8]
 
 // Takes the line of the grain, where this version has one; else the grain is process.
 fn grain_line(reader: &mut Reader, version: Version) -> Grain
-    ensures read { HasSpelled reader.old reader.new (IsGrainIn version) (grain_before version) result }
-    ensures each { TakesSpelled reader.old reader.new (IsGrainIn version) (grain_before version) result }
+    ensures read { HasSpelled reader.old reader.new (IsGrainIn version) (grain_before version)
+        result }
+    ensures each { TakesSpelled reader.old reader.new (IsGrainIn version) (grain_before version)
+        result }
 {
     match version {
         Version::One => Grain::Process,

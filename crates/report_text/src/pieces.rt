@@ -61,7 +61,8 @@ fn put_columns(text: &mut Vec<u8>, columns: &[Column]) -> Result<(), NoMemory>
 
 // Puts the line of the grain last, where this version has one.
 fn put_grain(text: &mut Vec<u8>, report: &Report) -> Result<(), NoMemory>
-    ensures { PutsBytes text.old text.new result (spec.grain_lines report.now.version report.now.grain) }
+    ensures { PutsBytes text.old text.new result
+        (spec.grain_lines report.now.version report.now.grain) }
 {
     match report.version {
         Version::One => Ok(()),
@@ -71,7 +72,8 @@ fn put_grain(text: &mut Vec<u8>, report: &Report) -> Result<(), NoMemory>
 
 /// The lines of the head, and the line that counts the ends. The error is want of memory, E901.
 pub fn head_lines(alloc: Global, report: &Report) -> Result<Vec<u8>, NoMemory>
-    ensures { IfOk result (λ text. text.items ≡ spec.head_text report.now ++ spec.ends_line report.now) }
+    ensures { IfOk result (λ text.
+        text.items ≡ spec.head_text report.now ++ spec.ends_line report.now) }
 {
     let mut text = Vec::new(alloc);
     put_number_line(&mut text, b"vrace report", version_number(report.version))?;

@@ -48,7 +48,8 @@ fn take_values(
     width: u32,
     count: u64,
 ) -> Result<Vec<Seen>, NoMemory>
-    ensures read { IfOk result (λ values. inner.HasShown width count reader.old reader.new values.items) }
+    ensures read { IfOk result (λ values.
+        inner.HasShown width count reader.old reader.new values.items) }
     ensures each { inner.EachShown width count reader.old reader.new result }
 {
     let mut values = Vec::new(alloc);
@@ -157,7 +158,8 @@ pub fn read_races(
 ) -> Result<Vec<Race>, NoMemory>
     requires shown { names.now ≡ map (λ c. c.name) columns.now }
     requires columns { Listed IsColumn Differ columns.now }
-    ensures read { IfOk result (λ races. inner.HasRaces columns.now count reader.old reader.new races.items) }
+    ensures read { IfOk result (λ races.
+        inner.HasRaces columns.now count reader.old reader.new races.items) }
     ensures each { inner.EachRaces columns.now count reader.old reader.new result }
 {
     let mut races = Vec::new(alloc);

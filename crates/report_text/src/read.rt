@@ -55,7 +55,8 @@ fn read_body<'a>(
 ) -> Result<(Vec<End>, Vec<&'a [u8]>, Vec<Race>), NoMemory>
     requires shown { names.now ≡ map (λ c. c.name) columns.now }
     requires columns { Listed IsColumn Differ columns.now }
-    ensures read { IfOk result (λ p. HasBody columns.now reader.old reader.new p.0.items p.1.items p.2.items) }
+    ensures read { IfOk result (λ p.
+        HasBody columns.now reader.old reader.new p.0.items p.1.items p.2.items) }
     ensures each { EachBody columns.now reader.old reader.new result }
 {
     let count = number_line(reader, b"ends ", 0, u64::MAX);

@@ -76,7 +76,8 @@ pub fn magnitude(plane: u64, len: u32, signed: bool) -> u64
 pub fn wrapped(negative: bool, magnitude: u64, len: u32) -> u64
     requires some { 1 ≤ len }
     requires few { len ≤ 64 }
-    ensures digits { planes.letters_of len result 0 ≡ numbers.wrapped len (planes.signed_number negative magnitude) }
+    ensures digits { planes.letters_of len result 0 ≡ numbers.wrapped len
+        (planes.signed_number negative magnitude) }
     ensures within { result < 2 ^ len }
 {
     if negative {

@@ -95,7 +95,8 @@ fn lay(
     into: &mut Vec<usize>,
 ) -> Result<(), OrMemory<ElabFault>>
     requires { length names.now ≤ 1024 }
-    ensures ok { HasLaid result (laid_of names.now table.old statement.now) into.old table.new into.new }
+    ensures ok { HasLaid result (laid_of names.now table.old statement.now) into.old table.new
+        into.new }
     ensures known { OnOk result (knows names.now (statement_tree statement.now) ≡ true) }
     ensures err { IfFault result (BreaksStatement names.now (statement_tree statement.now)) }
 {
@@ -135,7 +136,8 @@ fn lay_all(
     into: &mut Vec<usize>,
 ) -> Result<(), OrMemory<ElabFault>>
     requires { length names.now ≤ 1024 }
-    ensures ok { HasLaid result (all_laid_of names.now table.old statements.now) into.old table.new into.new }
+    ensures ok { HasLaid result (all_laid_of names.now table.old statements.now) into.old table.new
+        into.new }
     ensures known { OnOk result (knows_all names.now (statement_trees statements.now) ≡ true) }
     ensures err { IfFault result (BreaksStatements names.now (statement_trees statements.now)) }
 {
@@ -155,7 +157,8 @@ fn lay_process(
 ) -> Result<(), OrMemory<ElabFault>>
     requires names { length names.now ≤ 1024 }
     requires few { length into.old.items ≤ 256 }
-    ensures ok { HaveLaid result (laid_of_item names.now table.old item.now) into.old table.new into.new }
+    ensures ok { HaveLaid result (laid_of_item names.now table.old item.now) into.old table.new
+        into.new }
     ensures few { OnOk result (length into.new.items ≤ 256) }
     ensures known { OnOk result (KnowsAll names.now (initials_of (item_tree item.now))) }
     ensures err { IfFault result (BreaksProcess names.now into.old (item_tree item.now)) }
@@ -188,7 +191,8 @@ pub fn processes(
     items: &[Item<'_>],
 ) -> Result<ProcessTable, OrMemory<ElabFault>>
     requires { length names.now ≤ 1024 }
-    ensures ok { IfOk result (λ ps. AreLaid (processes_of names.now items.now) [] ps.table ps.begins.items) }
+    ensures ok { IfOk result (λ ps.
+        AreLaid (processes_of names.now items.now) [] ps.table ps.begins.items) }
     ensures few { IfOk result (λ ps. length ps.begins.items ≤ 256) }
     ensures count { OnOk result (length (initials_in items.now) ≤ 256) }
     ensures known { OnOk result (KnowsAll names.now (initials_in items.now)) }

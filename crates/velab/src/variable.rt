@@ -170,7 +170,8 @@ fn declare<'t>(
 ) -> Result<(), OrMemory<ElabFault>>
     requires { spec.length_of bounds ≤ 64 }
     ensures names { OnOk result (into.new.names ≡ into.old.names ++ word_text word.now ∷ []) }
-    ensures variables { PutsVariables into.old into.new result (variable_by scope.now bounds (word_text word.now) ∷ []) }
+    ensures variables { PutsVariables into.old into.new result
+        (variable_by scope.now bounds (word_text word.now) ∷ []) }
     ensures few { OnOk result (length into.new.names ≤ 1024) }
     ensures err { IfFault result (BreaksDeclaration into.old.names (word_text word.now)) }
 {
@@ -194,7 +195,8 @@ fn declare_all<'t>(
     requires bits { spec.length_of bounds ≤ 64 }
     requires few { length into.old.names ≤ 1024 }
     ensures names { OnOk result (into.new.names ≡ into.old.names ++ map word_text words.now) }
-    ensures variables { PutsVariables into.old into.new result (variables_by scope.now bounds words.now) }
+    ensures variables { PutsVariables into.old into.new result
+        (variables_by scope.now bounds words.now) }
     ensures few { OnOk result (length into.new.names ≤ 1024) }
     ensures err { IfFault result (BreaksNames (into.old.names ++ map word_text words.now)) }
 {

@@ -32,7 +32,8 @@ impl Model for Machine {
 impl Machine {
     /// The machine of a design. E901 is the only refusal.
     pub fn new(alloc: Global, design: Design, until: u64, grain: Grain) -> Result<Machine, NoMemory>
-        ensures { IfOk result (λ machine. machine ≡ record { design = design; until = until; grain = grain }) }
+        ensures { IfOk result (λ machine.
+            machine ≡ record { design = design; until = until; grain = grain }) }
     {
         Ok(Machine {
             alloc,

@@ -38,9 +38,11 @@ fn hand<S: Sink>(
     pending: &mut Vec<Item>,
     is_mark: bool,
 ) -> Result<(), OrMemory<RunFault<S::Fault>>>
-    ensures ok { OnOk result (IsHandedOn S.takes sink.old pending.old.items sink.new pending.new.items) }
+    ensures ok { OnOk result
+        (IsHandedOn S.takes sink.old pending.old.items sink.new pending.new.items) }
     ensures all { is_mark ≡ true → OnOk result (pending.new.items ≡ []) }
-    ensures err { IfErr result (IsOfSink (λ fault. S.fails sink.old pending.old.items fault sink.new)) }
+    ensures err { IfErr result (IsOfSink (λ fault.
+        S.fails sink.old pending.old.items fault sink.new)) }
 {
     if !is_mark {
         return Ok(());
@@ -69,7 +71,9 @@ fn choose<'l>(
     steps: u32,
 ) -> Result<Option<Chosen<'l>>, ReplayFault>
     requires { IsLogFrom n rest.now }
-    ensures { (setting : Setting) (log : List (ℕ × ℕ)) → IsAt setting log rest.now steps n state.now → IsChosen setting log steps n state.now rest.now result }
+    ensures { (setting : Setting) (log : List (ℕ × ℕ)) →
+        IsAt setting log rest.now steps n state.now →
+        IsChosen setting log steps n state.now rest.now result }
 {
     let width = state.width();
     if width == 0 {
@@ -103,9 +107,11 @@ impl Machine {
         steps: u32,
         sink: &mut S,
     ) -> Result<End, OrMemory<RunFault<S::Fault>>>
-        ensures ends { IfOk result (λ end. RunsInto S.takes self.now log.now steps sink.old end sink.new) }
+        ensures ends { IfOk result (λ end.
+            RunsInto S.takes self.now log.now steps sink.old end sink.new) }
         ensures reason { IfFault result (IsNoSuchRun self.now log.now steps) }
-        ensures left { IfErr result (λ fault. LeavesSink S.takes S.fails self.now log.now steps sink.old fault sink.new) }
+        ensures left { IfErr result (λ fault.
+            LeavesSink S.takes S.fails self.now log.now steps sink.old fault sink.new) }
     {
         let mut state = opening(self.alloc, &self.design, self.until, self.grain)?;
         let mut pending = Vec::new(self.alloc);

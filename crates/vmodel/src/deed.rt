@@ -62,7 +62,8 @@ pub struct Doing<'d> {
 
 /// What the action does at this moment.
 pub fn deed_of<'d>(action: &'d Action, moment: &Moment<'_>) -> Doing<'d>
-    ensures { (after : List Spot) → does action.now after moment.now ≡ did_so result.next.now after result.deed }
+    ensures { (after : List Spot) →
+        does action.now after moment.now ≡ did_so result.next.now after result.deed }
 {
     let quiet = Deed::quiet();
     match action {

@@ -157,8 +157,10 @@ fn place_among(members: &[u32], process: u32) -> usize
 
 // Whether the process stands at this place.
 fn stands_at(members: &[u32], place: usize, process: u32) -> bool
-    ensures yes { result ≡ true → (place < length members.now) × (slice_index members.now place ≡ process) }
-    ensures no { result ≡ false → place < length members.now → slice_index members.now place ≢ process }
+    ensures yes { result ≡ true →
+        (place < length members.now) × (slice_index members.now place ≡ process) }
+    ensures no { result ≡ false → place < length members.now →
+        slice_index members.now place ≢ process }
 {
     place < members.len() && members[place] == process
 }

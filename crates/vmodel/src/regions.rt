@@ -104,7 +104,8 @@ impl Queue {
         left: Option<u32>,
     ) -> Result<(), NoMemory>
         requires { ForSome left (λ p. p < 256) }
-        ensures ok { OnOk result (self.new ≡ fares process fate left (posts_update posted self.old)) }
+        ensures ok { OnOk result
+            (self.new ≡ fares process fate left (posts_update posted self.old)) }
         ensures err { OnErr result (self.new ≡ self.old) }
     {
         let Some(parts) = posted else {

@@ -31,7 +31,8 @@ fn move_process(
     requires few { number < 256 }
     requires some { 0 < length process.old.left }
     ensures ok { OnOk result (process.new ≡ moved process.old.left next.now deed.now) }
-    ensures queue { OnOk result (queue.new ≡ moved_by number process.old.left next.now deed.now queue.old) }
+    ensures queue { OnOk result
+        (queue.new ≡ moved_by number process.old.left next.now deed.now queue.old) }
     ensures err { OnErr result (process.new ≡ process.old) }
     ensures err_queue { OnErr result (queue.new ≡ queue.old) }
 {
@@ -59,8 +60,11 @@ fn move_one(
 ) -> Result<(), NoMemory>
     requires few { number < 256 }
     requires some { 0 < length (left_in processes.old.items number) }
-    ensures ok { OnOk result (processes.new.items ≡ with_moved number processes.old.items next.now deed.now) }
-    ensures queue { OnOk result (queue.new ≡ moved_by number (left_in processes.old.items number) next.now deed.now queue.old) }
+    ensures ok { OnOk result
+        (processes.new.items ≡ with_moved number processes.old.items next.now deed.now) }
+    ensures queue { OnOk result
+        (queue.new ≡ moved_by number (left_in processes.old.items number) next.now deed.now
+        queue.old) }
     ensures err { OnErr result (processes.new.items ≡ processes.old.items) }
     ensures err_queue { OnErr result (queue.new ≡ queue.old) }
 {
@@ -110,7 +114,8 @@ impl SlowState {
     // A process takes one step.
     fn run(&mut self, design: &Design, number: u32) -> Result<Deed, NoMemory>
         requires { number < 256 }
-        ensures ok { IfOk result (λ deed. process_turn design.now number self.old ≡ turn_to self.new deed) }
+        ensures ok { IfOk result (λ deed.
+            process_turn design.now number self.old ≡ turn_to self.new deed) }
         ensures err { OnErr result (self.new ≡ self.old) }
     {
         let Some(action) = self.action_of(design, number) else {
@@ -126,7 +131,8 @@ impl SlowState {
 
     // The first activated update is written (11.4.1).
     fn update(&mut self) -> Deed
-        ensures { (design : Design) → turn_of design Choice.Update self.old ≡ turn_to self.new result }
+        ensures { (design : Design) →
+            turn_of design Choice.Update self.old ≡ turn_to self.new result }
     {
         let mut deed = Deed::quiet();
         if let Some(update) = self.queue.take_update() {
@@ -139,7 +145,8 @@ impl SlowState {
 
     // The time goes on to the next future time.
     fn advance(&mut self)
-        ensures { (design : Design) → turn_of design Choice.Advance self.old ≡ turn_to self.new spec.quiet }
+        ensures { (design : Design) →
+            turn_of design Choice.Advance self.old ≡ turn_to self.new spec.quiet }
     {
         self.queue.advance();
         self.close();
@@ -191,7 +198,8 @@ impl SlowState {
 /// Puts behind others what a step gives to the history, in order: what it showed, and the slot end where the state after
 /// it is one.
 pub fn put_items(items: &mut Vec<Item>, state: &SlowState, deed: &Deed) -> Result<(), NoMemory>
-    ensures { OnOk result (items.new.items ≡ items.old.items ++ items_of (turn_to state.now deed.now)) }
+    ensures { OnOk result
+        (items.new.items ≡ items.old.items ++ items_of (turn_to state.now deed.now)) }
 {
     if let Some(command) = deed.command {
         items.push(Item::Dump(command))?;

@@ -79,7 +79,8 @@ fn with_places(alloc: Global, tokens: &Tokens<'_>, design: Design) -> Result<Pla
 
 // What stops the expansion of the files.
 fn of_source(fault: SrcFault) -> Fault
-    ensures { (files : List (List ℕ)) → total files ≤ limit → expansion files ≡ Err fault → IsFileReason files result }
+    ensures { (files : List (List ℕ)) → total files ≤ limit → expansion files ≡ Err fault →
+        IsFileReason files result }
 {
     match fault {
         SrcFault::Directive { place } => Fault::Directive(at(place)),
@@ -92,7 +93,8 @@ fn of_source(fault: SrcFault) -> Fault
 
 // What stops the cut into tokens.
 fn of_tokens(fault: LexFault) -> Fault
-    ensures { (source : Source) (top : Option (List ℕ)) → HasNoTokens source.text → IsTokenReason source fault → IsTextReason source.text top result }
+    ensures { (source : Source) (top : Option (List ℕ)) → HasNoTokens source.text →
+        IsTokenReason source fault → IsTextReason source.text top result }
 {
     match fault {
         LexFault::NotEnded { place } => Fault::NotEnded(at(place)),
@@ -102,7 +104,9 @@ fn of_tokens(fault: LexFault) -> Fault
 
 // What stops the reading of the tokens.
 fn of_tree(fault: SyntaxFault) -> Fault
-    ensures { (text : List ℕ) (tokens : Tokenized) (top : Option (List ℕ)) → IsCut text (pieces_of tokens) → HasNoTree (words_of tokens) → IsSyntaxReason tokens fault → IsTextReason text top result }
+    ensures { (text : List ℕ) (tokens : Tokenized) (top : Option (List ℕ)) →
+        IsCut text (pieces_of tokens) → HasNoTree (words_of tokens) → IsSyntaxReason tokens fault →
+        IsTextReason text top result }
 {
     match fault {
         SyntaxFault::NoTree { place } => Fault::NoTree(at(place)),
@@ -113,7 +117,8 @@ fn of_tree(fault: SyntaxFault) -> Fault
 
 // What stops the elaboration of the tree.
 fn of_design(tokens: &Tokens<'_>, fault: ElabFault) -> Fault
-    ensures { (text : List ℕ) (tree : SourceTree) (top : Option (List ℕ)) → IsReadAs text tree → IsDesignReason tree top fault → HasNoDesign tree top → IsTextReason text top result }
+    ensures { (text : List ℕ) (tree : SourceTree) (top : Option (List ℕ)) → IsReadAs text tree →
+        IsDesignReason tree top fault → HasNoDesign tree top → IsTextReason text top result }
 {
     match fault {
         ElabFault::Module { at } => Fault::NoTop(at_token(tokens, at)),
@@ -141,7 +146,8 @@ fn text_of(alloc: Global, files: &[Vec<u8>]) -> Result<Expanded, Fault>
 // The tokens of the text.
 fn tokens_of<'a>(alloc: Global, text: &'a Expanded) -> Result<Tokens<'a>, Fault>
     ensures ok { IfOk result (λ tokens. IsCut text.now.text (pieces_of tokens)) }
-    ensures err { (top : Option (List ℕ)) → IfErr result (λ fault. IsTextReason text.now.text top fault) }
+    ensures err { (top : Option (List ℕ)) →
+        IfErr result (λ fault. IsTextReason text.now.text top fault) }
 {
     match tokens(alloc, text) {
         Ok(tokens) => Ok(tokens),
@@ -152,8 +158,10 @@ fn tokens_of<'a>(alloc: Global, text: &'a Expanded) -> Result<Tokens<'a>, Fault>
 
 // The tree of the tokens.
 fn tree_of<'a>(alloc: Global, tokens: &Tokens<'a>) -> Result<Ast<'a>, Fault>
-    ensures ok { (text : List ℕ) → IsCut text (pieces_of tokens.now) → IfOk result (λ ast. IsReadAs text (source_tree ast)) }
-    ensures err { (text : List ℕ) (top : Option (List ℕ)) → IsCut text (pieces_of tokens.now) → IfErr result (λ fault. IsTextReason text top fault) }
+    ensures ok { (text : List ℕ) → IsCut text (pieces_of tokens.now) →
+        IfOk result (λ ast. IsReadAs text (source_tree ast)) }
+    ensures err { (text : List ℕ) (top : Option (List ℕ)) → IsCut text (pieces_of tokens.now) →
+        IfErr result (λ fault. IsTextReason text top fault) }
 {
     match parse(alloc, tokens) {
         Ok(ast) => Ok(ast),
@@ -183,7 +191,8 @@ fn design_of_tree(
 
 // The design of the text.
 fn design_of_text(alloc: Global, text: &Expanded, top: Option<&[u8]>) -> Result<Placed, Fault>
-    ensures ok { IfOk result (λ placed. IsDesignOf text.now.text text.now.timescale (named_text top.entry) placed.design) }
+    ensures ok { IfOk result (λ placed.
+        IsDesignOf text.now.text text.now.timescale (named_text top.entry) placed.design) }
     ensures err { IfErr result (IsTextReason text.now.text (named_text top.entry)) }
 {
     let tokens = match tokens_of(alloc, text) {
@@ -210,8 +219,10 @@ pub fn placed_design_of(
     top: Option<&[u8]>,
 ) -> Result<Placed, Fault>
     ensures read { OnOk result (AreRead (file_bytes files.now)) }
-    ensures ok { IfOk result (λ placed. IsDesignOfFiles (file_bytes files.now) (named_text top.entry) placed.design) }
-    ensures err { IfErr result (λ fault. IsDesignFault (file_bytes files.now) (named_text top.entry) fault) }
+    ensures ok { IfOk result (λ placed.
+        IsDesignOfFiles (file_bytes files.now) (named_text top.entry) placed.design) }
+    ensures err { IfErr result (λ fault.
+        IsDesignFault (file_bytes files.now) (named_text top.entry) fault) }
 {
     if is_too_long(files) {
         return Err(Fault::TooLong);
@@ -226,8 +237,10 @@ pub fn placed_design_of(
 /// The same design, where nobody asks for places.
 pub fn design_of(alloc: Global, files: &[Vec<u8>], top: Option<&[u8]>) -> Result<Design, Fault>
     ensures read { OnOk result (AreRead (file_bytes files.now)) }
-    ensures ok { IfOk result (λ design. IsDesignOfFiles (file_bytes files.now) (named_text top.entry) design) }
-    ensures err { IfErr result (λ fault. IsDesignFault (file_bytes files.now) (named_text top.entry) fault) }
+    ensures ok { IfOk result (λ design.
+        IsDesignOfFiles (file_bytes files.now) (named_text top.entry) design) }
+    ensures err { IfErr result (λ fault.
+        IsDesignFault (file_bytes files.now) (named_text top.entry) fault) }
 {
     match placed_design_of(alloc, files, top) {
         Ok(placed) => Ok(placed.design),

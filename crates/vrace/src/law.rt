@@ -19,8 +19,10 @@ use vreport::agreement_law;
 /// Files have at most one dump under a log, whatever is asked for, and where they have one no fault has its reason
 /// but want of memory and a failed writer. So a dump and each refusal but E901 and E902 rule each other out.
 pub fn replay_law()
-    ensures one { (files : List (List ℕ)) (asked : Asked) (log dump other : List ℕ) → IsDump files asked log dump → IsDump files asked log other → dump ≡ other }
-    ensures refused { (files : List (List ℕ)) (asked : Asked) (log dump : List ℕ) (fault : Fault) → IsDump files asked log dump → IsReason files asked log fault → IsOfWriting fault }
+    ensures one { (files : List (List ℕ)) (asked : Asked) (log dump other : List ℕ) →
+        IsDump files asked log dump → IsDump files asked log other → dump ≡ other }
+    ensures refused { (files : List (List ℕ)) (asked : Asked) (log dump : List ℕ) (fault : Fault) →
+        IsDump files asked log dump → IsReason files asked log fault → IsOfWriting fault }
 {
     lexing_law();
     reading_law();
@@ -31,7 +33,9 @@ pub fn replay_law()
 /// Where all that a text lists is true of files, no fault has its reason but want of memory. So the answers Ok and a refusal
 /// of `check_text` rule each other out, for a text whose bytes can be counted in 64 bits.
 pub fn check_law()
-    ensures refused { (files : List (List ℕ)) (text : List ℕ) (fault : Fault) → length text < 2 ^ 64 → IsTrueText files text → IsCheckReason files text fault → IsOfMemory fault }
+    ensures refused { (files : List (List ℕ)) (text : List ℕ) (fault : Fault) →
+        length text < 2 ^ 64 → IsTrueText files text → IsCheckReason files text fault →
+        IsOfMemory fault }
 {
     lexing_law();
     reading_law();

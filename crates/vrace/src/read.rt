@@ -26,9 +26,16 @@ fn read_more<R: Read>(
     requires some { 0 < length piece.old }
     requires few { length piece.old ≤ most }
     ensures same { length piece.new ≡ length piece.old }
-    ensures ok { IfOk result (λ count. (bytes : List ℕ) × IsTaken (R.remaining reader.old.inner) (R.remaining reader.new.inner) reader.old.failures reader.new.failures bytes × (length bytes ≡ count) × (text.new.items ≡ text.old.items ++ bytes)) }
+    ensures ok { IfOk result (λ count. (bytes : List ℕ) ×
+        IsTaken (R.remaining reader.old.inner) (R.remaining reader.new.inner) reader.old.failures
+        reader.new.failures bytes × (length bytes ≡ count) ×
+        (text.new.items ≡ text.old.items ++ bytes)) }
     ensures few { IfOk result (λ count. count ≤ most) }
-    ensures err { (first : Option (List ℕ)) (front : List ℕ) → Consumes first (R.remaining reader.old.inner) front → length front ≤ limit → IfErr result (λ fault. IsReadReason first (R.remaining reader.new.inner) reader.old.failures reader.new.failures fault) }
+    ensures err { (first : Option (List ℕ)) (front : List ℕ) →
+        Consumes first (R.remaining reader.old.inner) front → length front ≤ limit →
+        IfErr result (λ fault.
+        IsReadReason first (R.remaining reader.new.inner) reader.old.failures reader.new.failures
+        fault) }
 {
     let Ok(count) = reader.read(piece) else {
         return Err(Fault::Read);
@@ -43,9 +50,12 @@ fn read_more<R: Read>(
 /// the reader failed; E901 only where a growth was refused. A refused reader stands where the reading stopped, at most
 /// 65,536 bytes past the limit.
 pub fn read_text<R: Read>(alloc: Global, reader: &mut Metered<R>) -> Result<Vec<u8>, Fault>
-    ensures all { IfOk result (λ text. IsAllOf (R.remaining reader.old.inner) (R.remaining reader.new.inner) text.items) }
+    ensures all { IfOk result (λ text.
+        IsAllOf (R.remaining reader.old.inner) (R.remaining reader.new.inner) text.items) }
     ensures unfailed { IfOk result (λ _. reader.new.failures ≡ reader.old.failures) }
-    ensures reason { IfErr result (λ fault. IsReadReason (R.remaining reader.old.inner) (R.remaining reader.new.inner) reader.old.failures reader.new.failures fault) }
+    ensures reason { IfErr result (λ fault.
+        IsReadReason (R.remaining reader.old.inner) (R.remaining reader.new.inner)
+        reader.old.failures reader.new.failures fault) }
 {
     let mut text = Vec::new(alloc);
     let mut piece = [0; PIECE];

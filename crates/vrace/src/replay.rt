@@ -87,8 +87,10 @@ fn write_run<W: Write>(
     writer: &mut Metered<W>,
 ) -> Result<(), Fault>
     requires ends { HasDump head.now machine.now log.now steps }
-    ensures ok { OnOk result ((dump : List ℕ) × IsRunDump head.now machine.now log.now steps dump × Grows W.contents writer.old writer.new dump) }
-    ensures err { IfErr result (λ fault. StopsDump W.contents head.now machine.now log.now steps writer.old writer.new fault) }
+    ensures ok { OnOk result ((dump : List ℕ) × IsRunDump head.now machine.now log.now steps dump ×
+        Grows W.contents writer.old writer.new dump) }
+    ensures err { IfErr result (λ fault.
+        StopsDump W.contents head.now machine.now log.now steps writer.old writer.new fault) }
 {
     match write_dump(alloc, machine, log, steps, head, writer) {
         Ok(()) => Ok(()),
@@ -104,8 +106,12 @@ fn dump_run<W: Write>(
     steps: u32,
     writer: &mut Metered<W>,
 ) -> Result<(), Fault>
-    ensures ok { OnOk result ((dump : List ℕ) × IsRunDump (header machine.now.design) machine.now log.now steps dump × Grows W.contents writer.old writer.new dump) }
-    ensures err { IfErr result (λ fault. Ends W.contents (header machine.now.design) machine.now log.now steps writer.old writer.new fault) }
+    ensures ok { OnOk result ((dump : List ℕ) ×
+        IsRunDump (header machine.now.design) machine.now log.now steps dump ×
+        Grows W.contents writer.old writer.new dump) }
+    ensures err { IfErr result (λ fault.
+        Ends W.contents (header machine.now.design) machine.now log.now steps writer.old writer.new
+        fault) }
 {
     match see_end(machine, log, steps) {
         Ok(()) => {}
@@ -144,8 +150,10 @@ pub(crate) fn play_of(
     options: &Options<'_>,
     log: &[u8],
 ) -> Result<Play, Fault>
-    ensures ok { IfOk result (λ play. IsPlay (file_bytes files.now) (asked options.now) log.now play.machine play.members) }
-    ensures err { IfErr result (λ fault. IsReason (file_bytes files.now) (asked options.now) log.now fault) }
+    ensures ok { IfOk result (λ play.
+        IsPlay (file_bytes files.now) (asked options.now) log.now play.machine play.members) }
+    ensures err { IfErr result (λ fault.
+        IsReason (file_bytes files.now) (asked options.now) log.now fault) }
     ensures unwritten { IfErr result IsUnwritten }
 {
     let placed = match placed_design_of(alloc, files, options.top) {
@@ -183,10 +191,16 @@ pub fn replay_text<W: Write>(
     show: Show,
     writer: &mut Metered<W>,
 ) -> Result<(), Fault>
-    ensures dump { OnOk result ((dump : List ℕ) × IsDump (file_bytes files.now) (asked options.now) log.now dump × Grows W.contents writer.old writer.new dump) }
-    ensures reason { IfErr result (λ fault. IsReason (file_bytes files.now) (asked options.now) log.now fault) }
-    ensures left { IfErr result (λ fault. Leaves W.contents (file_bytes files.now) (asked options.now) log.now fault writer.old writer.new) }
-    ensures failures { IfErr result (λ fault. writer.new.failures ≡ failures_after fault writer.old.failures) }
+    ensures dump { OnOk result ((dump : List ℕ) ×
+        IsDump (file_bytes files.now) (asked options.now) log.now dump ×
+        Grows W.contents writer.old writer.new dump) }
+    ensures reason { IfErr result (λ fault.
+        IsReason (file_bytes files.now) (asked options.now) log.now fault) }
+    ensures left { IfErr result (λ fault.
+        Leaves W.contents (file_bytes files.now) (asked options.now) log.now fault writer.old
+        writer.new) }
+    ensures failures { IfErr result (λ fault.
+        writer.new.failures ≡ failures_after fault writer.old.failures) }
 {
     let play = match play_of(alloc, files, options, log) {
         Ok(play) => play,

@@ -28,11 +28,14 @@ pub fn trace_text<W: Write>(
     log: &[u8],
     writer: &mut Metered<W>,
 ) -> Result<(), Fault>
-    ensures ran { OnOk result ((dump : List ℕ) × IsDump (file_bytes files.now) (asked options.now) log.now dump) }
+    ensures ran { OnOk result ((dump : List ℕ) ×
+        IsDump (file_bytes files.now) (asked options.now) log.now dump) }
     ensures grown { OnOk result (HasGrown W.contents writer.old writer.new) }
-    ensures reason { IfErr result (λ fault. IsReason (file_bytes files.now) (asked options.now) log.now fault) }
+    ensures reason { IfErr result (λ fault.
+        IsReason (file_bytes files.now) (asked options.now) log.now fault) }
     ensures left { IfErr result (λ fault. LeavesTrace fault writer.old writer.new) }
-    ensures failures { IfErr result (λ fault. writer.new.failures ≡ failures_after fault writer.old.failures) }
+    ensures failures { IfErr result (λ fault.
+        writer.new.failures ≡ failures_after fault writer.old.failures) }
 {
     let play = match play_of(alloc, files, options, log) {
         Ok(play) => play,

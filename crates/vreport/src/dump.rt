@@ -21,8 +21,12 @@ fn fill<O: Outlet>(
     requires fresh { sink.old.progress ≡ Idle }
     requires ends { HasDump sink.old.header.now machine.now log.now steps }
     ensures same { IsSameDump sink.old sink.new }
-    ensures ok { OnOk result (TakesDump O.takes sink.old.header.now machine.now log.now steps sink.old.outlet.now sink.new.outlet.now) }
-    ensures err { IfErr result (λ fault. StopsDump O.takes O.fails sink.old.header.now machine.now log.now steps sink.old.outlet.now fault sink.new.outlet.now) }
+    ensures ok { OnOk result
+        (TakesDump O.takes sink.old.header.now machine.now log.now steps sink.old.outlet.now
+        sink.new.outlet.now) }
+    ensures err { IfErr result (λ fault.
+        StopsDump O.takes O.fails sink.old.header.now machine.now log.now steps sink.old.outlet.now
+        fault sink.new.outlet.now) }
 {
     match machine.run_into(log, steps, sink) {
         Ok(end) => match sink.finish(&end) {
@@ -46,8 +50,10 @@ pub fn write_dump<O: Outlet>(
     outlet: &mut O,
 ) -> Result<(), OrMemory<O::Fault>>
     requires ends { HasDump head.now machine.now log.now steps }
-    ensures ok { OnOk result (TakesDump O.takes head.now machine.now log.now steps outlet.old outlet.new) }
-    ensures err { IfErr result (λ fault. StopsDump O.takes O.fails head.now machine.now log.now steps outlet.old fault outlet.new) }
+    ensures ok { OnOk result
+        (TakesDump O.takes head.now machine.now log.now steps outlet.old outlet.new) }
+    ensures err { IfErr result (λ fault.
+        StopsDump O.takes O.fails head.now machine.now log.now steps outlet.old fault outlet.new) }
 {
     let mut sink = DumpSink::new(alloc, head, outlet);
     let result = fill(machine, log, steps, &mut sink);

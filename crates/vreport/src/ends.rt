@@ -85,7 +85,8 @@ fn end_of(
     requires found { ListsFound (machine_rules machine.now) limits.now findings.now }
     requires of { IsRowOfSome machine.now findings.now.marks.entries row.now }
     requires head { head.now ≡ header machine.now.design }
-    ensures ok { IfOk result (IsEndOfRow machine.now limits.now findings.now.marks.entries row.now) }
+    ensures ok { IfOk result
+        (IsEndOfRow machine.now limits.now findings.now.marks.entries row.now) }
     ensures long { IfFault result (λ _. HasSomeLongDump machine.now limits.now) }
 {
     machine_law();
@@ -118,7 +119,8 @@ fn ends_of_rows(
     requires of { AreRows machine.now findings.now.marks.entries rows.now }
     requires sorted { AreSortedRows rows.now }
     requires head { head.now ≡ header machine.now.design }
-    ensures ok { IfOk result (λ ends. AreEnds machine.now limits.now findings.now.marks.entries rows.now ends.items) }
+    ensures ok { IfOk result (λ ends.
+        AreEnds machine.now limits.now findings.now.marks.entries rows.now ends.items) }
     ensures long { IfFault result (λ _. HasSomeLongDump machine.now limits.now) }
 {
     let mut ends = Vec::new(alloc);
@@ -147,7 +149,8 @@ pub fn ends_of(
     requires found { ListsFound (machine_rules machine.now) limits.now findings.now }
     ensures true_ends { IfOk result (λ ends. Each (IsTrueEnd machine.now limits.now) ends.items) }
     ensures bytes { IfOk result (λ ends. Each (HasBytes machine.now limits.now.steps) ends.items) }
-    ensures all { IfOk result (λ ends. GivesEveryEnd machine.now limits.now findings.now ends.items) }
+    ensures all { IfOk result (λ ends.
+        GivesEveryEnd machine.now limits.now findings.now ends.items) }
     ensures kept { IfOk result (λ ends. Each HasTimeAndLog ends.items) }
     ensures order { IfOk result (λ ends. EachTwo IsEndBefore ends.items) }
     ensures long { IfFault result (λ _. HasSomeLongDump machine.now limits.now) }

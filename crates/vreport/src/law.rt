@@ -10,7 +10,8 @@ ghost use Rattle.vreport.specs.Reports.{IsExploration};
 /// What an exploration reports is true, with the dumps of its ends: each end and each race is of runs within the limits
 /// that its head names. It does nothing.
 pub fn report_law()
-    ensures exploration_is_true { (setting : Setting) (limits : Limits) (report : Report) → IsExploration setting limits report → IsTrueWithDumps setting report }
+    ensures exploration_is_true { (setting : Setting) (limits : Limits) (report : Report) →
+        IsExploration setting limits report → IsTrueWithDumps setting report }
 {}
 
 /// Two reports of one design, time limit and grain that both say exhausted, under as many departures, list the same ends

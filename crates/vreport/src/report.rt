@@ -106,12 +106,17 @@ pub fn report_of(
     requires found { ListsFound (machine_rules machine.now) limits.now findings.now }
     ensures head { IfOk result (IsHeadOf machine.now limits.now) }
     ensures outcome { IfOk result (HasOutcome findings.now.status) }
-    ensures true_ends { IfOk result (λ report. Each (IsTrueEnd machine.now limits.now) report.ends) }
-    ensures bytes { IfOk result (λ report. Each (HasBytes machine.now limits.now.steps) report.ends) }
-    ensures every_end { IfOk result (λ report. GivesEveryEnd machine.now limits.now findings.now report.ends) }
+    ensures true_ends { IfOk result (λ report.
+        Each (IsTrueEnd machine.now limits.now) report.ends) }
+    ensures bytes { IfOk result (λ report.
+        Each (HasBytes machine.now limits.now.steps) report.ends) }
+    ensures every_end { IfOk result (λ report.
+        GivesEveryEnd machine.now limits.now findings.now report.ends) }
     ensures ends_order { IfOk result (λ report. EachTwo IsEndBefore report.ends) }
-    ensures races { IfOk result (λ report. ShowsRaces machine.now limits.now findings.now report.races) }
-    ensures formed { AreNamed machine.now.design → machine.now.until ≤ 4611686018427387903 → IfOk result (IsFormed machine.now) }
+    ensures races { IfOk result (λ report.
+        ShowsRaces machine.now limits.now findings.now report.races) }
+    ensures formed { AreNamed machine.now.design → machine.now.until ≤ 4611686018427387903 →
+        IfOk result (IsFormed machine.now) }
     ensures long { IfFault result (λ _. HasSomeLongDump machine.now limits.now) }
 {
     run_law();

@@ -20,8 +20,10 @@ fn put_made<O: Outlet>(
     outlet: &mut O,
     made: Result<Vec<u8>, NoMemory>,
 ) -> Result<(), OrMemory<O::Fault>>
-    ensures ok { (text : List ℕ) → IfOk made (λ lines. lines.items ≡ text) → OnOk result (O.takes outlet.old text outlet.new) }
-    ensures err { (text : List ℕ) → IfOk made (λ lines. lines.items ≡ text) → IfErr result (λ fault. Stopped O.takes O.fails outlet.old text fault outlet.new) }
+    ensures ok { (text : List ℕ) → IfOk made (λ lines. lines.items ≡ text) →
+        OnOk result (O.takes outlet.old text outlet.new) }
+    ensures err { (text : List ℕ) → IfOk made (λ lines. lines.items ≡ text) →
+        IfErr result (λ fault. Stopped O.takes O.fails outlet.old text fault outlet.new) }
 {
     match made {
         Ok(lines) => put(outlet, &lines),
@@ -41,7 +43,8 @@ fn put_end<O: Outlet>(
     requires bytes { HasBytes machine.now steps end.now }
     requires head { head.now ≡ header machine.now.design }
     ensures ok { OnOk result (TakesEnd O.takes machine.now steps end.now outlet.old outlet.new) }
-    ensures err { IfErr result (λ fault. StopsEnd O.takes O.fails machine.now steps end.now outlet.old fault outlet.new) }
+    ensures err { IfErr result (λ fault.
+        StopsEnd O.takes O.fails machine.now steps end.now outlet.old fault outlet.new) }
 {
     match put_made(outlet, end_lines(alloc, end)) {
         Ok(()) => write_dump(alloc, machine, &end.log, steps, head, outlet),
@@ -61,7 +64,8 @@ fn put_ends<O: Outlet>(
     requires bytes { Each (HasBytes machine.now steps) ends.now }
     requires head { head.now ≡ header machine.now.design }
     ensures ok { OnOk result (TakesEnds O.takes machine.now steps ends.now outlet.old outlet.new) }
-    ensures err { IfErr result (λ fault. StopsEnds O.takes O.fails machine.now steps ends.now outlet.old fault outlet.new) }
+    ensures err { IfErr result (λ fault.
+        StopsEnds O.takes O.fails machine.now steps ends.now outlet.old fault outlet.new) }
 {
     for end in ends {
         match put_end(alloc, machine, steps, head, end, outlet) {
@@ -80,7 +84,8 @@ fn put_races<O: Outlet>(
     outlet: &mut O,
 ) -> Result<(), OrMemory<O::Fault>>
     ensures ok { OnOk result (O.takes outlet.old (races_text columns.now races.now) outlet.new) }
-    ensures err { IfErr result (λ fault. Stopped O.takes O.fails outlet.old (races_text columns.now races.now) fault outlet.new) }
+    ensures err { IfErr result (λ fault.
+        Stopped O.takes O.fails outlet.old (races_text columns.now races.now) fault outlet.new) }
 {
     for race in races {
         match put_made(outlet, race_lines(alloc, columns, race)) {
@@ -101,7 +106,8 @@ pub fn write_report<O: Outlet>(
 ) -> Result<(), OrMemory<O::Fault>>
     requires bytes { Each (HasBytes machine.now report.now.steps) report.now.ends }
     ensures ok { OnOk result (TakesReport O.takes machine.now report.now outlet.old outlet.new) }
-    ensures err { IfErr result (λ fault. StopsReport O.takes O.fails machine.now report.now outlet.old fault outlet.new) }
+    ensures err { IfErr result (λ fault.
+        StopsReport O.takes O.fails machine.now report.now outlet.old fault outlet.new) }
 {
     let head = match Header::new(alloc, machine.design()) {
         Ok(head) => head,

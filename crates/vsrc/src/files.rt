@@ -39,7 +39,8 @@ pub fn expand(alloc: Global, files: &[Vec<u8>]) -> Result<Expanded, OrMemory<Src
 
 // A refusal as the fault of its number, with its file and line.
 fn fault_of(lines: &Lines, refusal: Refusal) -> SrcFault
-    ensures { result ≡ fault_at refusal.why (place_by lines.now.borders lines.now.feeds refusal.at) }
+    ensures { result ≡ fault_at refusal.why
+        (place_by lines.now.borders lines.now.feeds refusal.at) }
 {
     let place = lines.place(refusal.at);
     match refusal.why {
@@ -83,7 +84,8 @@ fn append(
     requires lead { length lead.now ≤ 1 }
     ensures ok { OnOk result (text.new.items ≡ (text.old.items ++ lead.now) ++ bytes.now) }
     ensures short { OnOk result (length text.new.items ≤ text_limit) }
-    ensures fits { OnOk result (length text.old.items + length lead.now + length bytes.now ≤ text_limit) }
+    ensures fits { OnOk result
+        (length text.old.items + length lead.now + length bytes.now ≤ text_limit) }
     ensures err { IfFault result (IsGrowth text.old.items lead.now bytes.now file) }
 {
     if bytes.len() > TEXT_LIMIT || text.len() + lead.len() > TEXT_LIMIT - bytes.len() {

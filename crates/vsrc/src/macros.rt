@@ -36,7 +36,9 @@ impl<'t> Table<'t> {
 
     /// Gives the name a text, in place of the one that it may have.
     pub fn define(&mut self, name: &'t [u8], text: Vec<u8>) -> Result<(), NoMemory>
-        ensures { OnOk result (macros_of self.new.texts.entries ≡ redefined name.now (Some text.items) (macros_of self.old.texts.entries)) }
+        ensures { OnOk result
+            (macros_of self.new.texts.entries ≡ redefined name.now (Some text.items)
+            (macros_of self.old.texts.entries)) }
     {
         self.texts.insert(name, text)?;
         Ok(())
@@ -44,7 +46,8 @@ impl<'t> Table<'t> {
 
     /// Takes the name's text away, if it has one.
     pub fn undefine(&mut self, name: &'t [u8])
-        ensures { macros_of self.new.texts.entries ≡ redefined name.now None (macros_of self.old.texts.entries) }
+        ensures { macros_of self.new.texts.entries ≡ redefined name.now None
+            (macros_of self.old.texts.entries) }
     {
         let _text = self.texts.swap_remove(&name);
     }
@@ -101,8 +104,10 @@ pub fn put_use<'s>(
     made: &mut Output,
 ) -> Result<(), OrMemory<Refusal>>
     requires { at ≤ text_limit }
-    ensures ok { OnOk result (used levels (macros_of table.now.texts.entries) at name.now made.old ≡ Ok made.new) }
-    ensures err { IfFault result (λ refusal. used levels (macros_of table.now.texts.entries) at name.now made.old ≡ Err refusal) }
+    ensures ok { OnOk result
+        (used levels (macros_of table.now.texts.entries) at name.now made.old ≡ Ok made.new) }
+    ensures err { IfFault result (λ refusal.
+        used levels (macros_of table.now.texts.entries) at name.now made.old ≡ Err refusal) }
 {
     let text = match text_for(table, name, at) {
         Ok(text) => text,
@@ -133,11 +138,15 @@ fn put_piece<'s>(
 ) -> Result<usize, OrMemory<Refusal>>
     requires begins { 0 < length rest.now }
     requires place { at ≤ text_limit }
-    ensures ok { OnOk result (piece (used levels (macros_of table.now.texts.entries) at) at rest.now made.old ≡ Ok made.new) }
+    ensures ok { OnOk result
+        (piece (used levels (macros_of table.now.texts.entries) at) at rest.now made.old ≡ Ok
+        made.new) }
     ensures len { IfOk result (λ len. len ≡ piece_len rest.now) }
     ensures some { IfOk result (λ len. 0 < len) }
     ensures within { IfOk result (λ len. len ≤ length rest.now) }
-    ensures err { IfFault result (λ refusal. piece (used levels (macros_of table.now.texts.entries) at) at rest.now made.old ≡ Err refusal) }
+    ensures err { IfFault result (λ refusal.
+        piece (used levels (macros_of table.now.texts.entries) at) at rest.now made.old ≡ Err
+        refusal) }
 {
     if rest[0] == b'`' {
         let behind = rest.split_at(1).1;

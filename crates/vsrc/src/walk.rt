@@ -94,10 +94,13 @@ impl<'t> Walk<'t> {
     fn pass(&mut self, rest: &'t [u8]) -> Result<(), OrMemory<Refusal>>
         requires some { 0 < length rest.now }
         requires short { self.old.at + length rest.now ≤ text_limit }
-        ensures ok { OnOk result (passed (slice_index rest.now 0) rest.now (state_of self.old) ≡ Ok (state_of self.new)) }
+        ensures ok { OnOk result
+            (passed (slice_index rest.now 0) rest.now (state_of self.old) ≡ Ok
+            (state_of self.new)) }
         ensures on { OnOk result (self.old.at < self.new.at) }
         ensures within { OnOk result (self.new.at ≤ self.old.at + length rest.now) }
-        ensures err { IfFault result (λ refusal. passed (slice_index rest.now 0) rest.now (state_of self.old) ≡ Err refusal) }
+        ensures err { IfFault result (λ refusal.
+            passed (slice_index rest.now 0) rest.now (state_of self.old) ≡ Err refusal) }
     {
         let len = stretch_len(rest);
         self.keep(rest.split_at(len).0)?;
@@ -109,7 +112,8 @@ impl<'t> Walk<'t> {
     fn keep(&mut self, bytes: &[u8]) -> Result<(), OrMemory<Refusal>>
         requires { self.old.at + length bytes.now ≤ text_limit }
         ensures ok { OnOk result (kept bytes.now (state_of self.old) ≡ Ok self.new.made) }
-        ensures others { OnOk result (state_of self.new ≡ record (state_of self.old) { made = self.new.made }) }
+        ensures others { OnOk result
+            (state_of self.new ≡ record (state_of self.old) { made = self.new.made }) }
         ensures err { IfFault result (λ refusal. kept bytes.now (state_of self.old) ≡ Err refusal) }
     {
         if self.opens.is_read() {
@@ -124,7 +128,8 @@ impl<'t> Walk<'t> {
         ensures ok { OnOk result (ticked behind.now (state_of self.old) ≡ Ok (state_of self.new)) }
         ensures on { OnOk result (self.old.at < self.new.at) }
         ensures within { OnOk result (self.new.at ≤ self.old.at + 1 + length behind.now) }
-        ensures err { IfFault result (λ refusal. ticked behind.now (state_of self.old) ≡ Err refusal) }
+        ensures err { IfFault result (λ refusal.
+            ticked behind.now (state_of self.old) ≡ Err refusal) }
     {
         let len = name_len(behind);
         let (name, rest) = behind.split_at(len);
@@ -137,10 +142,13 @@ impl<'t> Walk<'t> {
     // The name behind a backtick, and what stands behind it.
     fn meet(&mut self, name: &'t [u8], rest: &'t [u8]) -> Result<usize, OrMemory<Refusal>>
         requires { self.old.at ≤ text_limit }
-        ensures ok { IfOk result (Did (met (directive_of name.now) name.now rest.now (state_of self.old)) (state_of self.new)) }
+        ensures ok { IfOk result
+            (Did (met (directive_of name.now) name.now rest.now (state_of self.old))
+            (state_of self.new)) }
         ensures within { IfOk result (λ len. len ≤ length rest.now) }
         ensures still { self.new.at ≡ self.old.at }
-        ensures err { IfFault result (λ refusal. met (directive_of name.now) name.now rest.now (state_of self.old) ≡ Err refusal) }
+        ensures err { IfFault result (λ refusal.
+            met (directive_of name.now) name.now rest.now (state_of self.old) ≡ Err refusal) }
     {
         match directive_of(name) {
             None => self.replace(name),
@@ -154,7 +162,8 @@ impl<'t> Walk<'t> {
         ensures ok { IfOk result (Did (replaced name.now (state_of self.old)) (state_of self.new)) }
         ensures none { IfOk result (λ len. len ≡ 0) }
         ensures still { self.new.at ≡ self.old.at }
-        ensures err { IfFault result (λ refusal. replaced name.now (state_of self.old) ≡ Err refusal) }
+        ensures err { IfFault result (λ refusal.
+            replaced name.now (state_of self.old) ≡ Err refusal) }
     {
         if self.opens.is_read() {
             put_use(&self.macros, name, self.at, LEVELS, &mut self.made)?;
@@ -164,10 +173,12 @@ impl<'t> Walk<'t> {
 
     // A directive, where it is heeded.
     fn heed(&mut self, word: Word, rest: &'t [u8]) -> Result<usize, OrMemory<Refusal>>
-        ensures ok { IfOk result (Did (heeded word rest.now (state_of self.old)) (state_of self.new)) }
+        ensures ok { IfOk result
+            (Did (heeded word rest.now (state_of self.old)) (state_of self.new)) }
         ensures within { IfOk result (λ len. len ≤ length rest.now) }
         ensures still { self.new.at ≡ self.old.at }
-        ensures err { IfFault result (λ refusal. heeded word rest.now (state_of self.old) ≡ Err refusal) }
+        ensures err { IfFault result (λ refusal.
+            heeded word rest.now (state_of self.old) ≡ Err refusal) }
     {
         if !self.is_heeded(word) {
             return Ok(0);
@@ -186,10 +197,12 @@ impl<'t> Walk<'t> {
 
     // A directive and what stands behind its word.
     fn obey(&mut self, word: Word, rest: &'t [u8]) -> Result<usize, OrMemory<Refusal>>
-        ensures ok { IfOk result (Did (obeyed word rest.now (state_of self.old)) (state_of self.new)) }
+        ensures ok { IfOk result
+            (Did (obeyed word rest.now (state_of self.old)) (state_of self.new)) }
         ensures within { IfOk result (λ len. len ≤ length rest.now) }
         ensures still { self.new.at ≡ self.old.at }
-        ensures err { IfFault result (λ refusal. obeyed word rest.now (state_of self.old) ≡ Err refusal) }
+        ensures err { IfFault result (λ refusal.
+            obeyed word rest.now (state_of self.old) ≡ Err refusal) }
     {
         match word {
             Word::Define => self.define(rest),
@@ -205,10 +218,13 @@ impl<'t> Walk<'t> {
     }
 
     fn define(&mut self, rest: &'t [u8]) -> Result<usize, OrMemory<Refusal>>
-        ensures ok { IfOk result (Did (defined (name_behind rest.now) rest.now (state_of self.old)) (state_of self.new)) }
+        ensures ok { IfOk result
+            (Did (defined (name_behind rest.now) rest.now (state_of self.old))
+            (state_of self.new)) }
         ensures within { IfOk result (λ len. len ≤ length rest.now) }
         ensures still { self.new.at ≡ self.old.at }
-        ensures err { IfFault result (λ refusal. defined (name_behind rest.now) rest.now (state_of self.old) ≡ Err refusal) }
+        ensures err { IfFault result (λ refusal.
+            defined (name_behind rest.now) rest.now (state_of self.old) ≡ Err refusal) }
     {
         let Some((name, len)) = name_behind(rest) else {
             return Err(refuse(Why::Directive, self.at));
@@ -224,10 +240,12 @@ impl<'t> Walk<'t> {
     }
 
     fn undefine(&mut self, rest: &'t [u8]) -> Result<usize, OrMemory<Refusal>>
-        ensures ok { IfOk result (Did (undefined (name_behind rest.now) (state_of self.old)) (state_of self.new)) }
+        ensures ok { IfOk result
+            (Did (undefined (name_behind rest.now) (state_of self.old)) (state_of self.new)) }
         ensures within { IfOk result (λ len. len ≤ length rest.now) }
         ensures still { self.new.at ≡ self.old.at }
-        ensures err { IfFault result (λ refusal. undefined (name_behind rest.now) (state_of self.old) ≡ Err refusal) }
+        ensures err { IfFault result (λ refusal.
+            undefined (name_behind rest.now) (state_of self.old) ≡ Err refusal) }
     {
         let Some((name, len)) = name_behind(rest) else {
             return Err(refuse(Why::Directive, self.at));
@@ -237,10 +255,12 @@ impl<'t> Walk<'t> {
     }
 
     fn open(&mut self, wanted: bool, rest: &'t [u8]) -> Result<usize, OrMemory<Refusal>>
-        ensures ok { IfOk result (Did (opening wanted (name_behind rest.now) (state_of self.old)) (state_of self.new)) }
+        ensures ok { IfOk result
+            (Did (opening wanted (name_behind rest.now) (state_of self.old)) (state_of self.new)) }
         ensures within { IfOk result (λ len. len ≤ length rest.now) }
         ensures still { self.new.at ≡ self.old.at }
-        ensures err { IfFault result (λ refusal. opening wanted (name_behind rest.now) (state_of self.old) ≡ Err refusal) }
+        ensures err { IfFault result (λ refusal.
+            opening wanted (name_behind rest.now) (state_of self.old) ≡ Err refusal) }
     {
         let Some((name, len)) = name_behind(rest) else {
             return Err(refuse(Why::Directive, self.at));
@@ -252,7 +272,8 @@ impl<'t> Walk<'t> {
 
     // Whether the name has a macro, or has none where that is wanted.
     fn holds(&self, wanted: bool, name: &[u8]) -> bool
-        ensures { result ≡ is_met wanted (is_some (macros_of self.now.macros.texts.entries name.now)) }
+        ensures { result ≡ is_met wanted
+            (is_some (macros_of self.now.macros.texts.entries name.now)) }
     {
         if wanted {
             self.macros.text(name).is_some()
@@ -262,10 +283,12 @@ impl<'t> Walk<'t> {
     }
 
     fn otherwise_if(&mut self, rest: &'t [u8]) -> Result<usize, OrMemory<Refusal>>
-        ensures ok { IfOk result (Did (alternative (name_behind rest.now) (state_of self.old)) (state_of self.new)) }
+        ensures ok { IfOk result
+            (Did (alternative (name_behind rest.now) (state_of self.old)) (state_of self.new)) }
         ensures within { IfOk result (λ len. len ≤ length rest.now) }
         ensures still { self.new.at ≡ self.old.at }
-        ensures err { IfFault result (λ refusal. alternative (name_behind rest.now) (state_of self.old) ≡ Err refusal) }
+        ensures err { IfFault result (λ refusal.
+            alternative (name_behind rest.now) (state_of self.old) ≡ Err refusal) }
     {
         let Some((name, len)) = name_behind(rest) else {
             return Err(refuse(Why::Directive, self.at));
@@ -276,30 +299,39 @@ impl<'t> Walk<'t> {
     }
 
     fn otherwise(&mut self) -> Result<usize, OrMemory<Refusal>>
-        ensures ok { IfOk result (Did (with_opens 0 (state_of self.old) (turned true true self.old.at self.old.opens)) (state_of self.new)) }
+        ensures ok { IfOk result
+            (Did (with_opens 0 (state_of self.old) (turned true true self.old.at self.old.opens))
+            (state_of self.new)) }
         ensures none { IfOk result (λ len. len ≡ 0) }
         ensures still { self.new.at ≡ self.old.at }
-        ensures err { IfFault result (λ refusal. with_opens 0 (state_of self.old) (turned true true self.old.at self.old.opens) ≡ Err refusal) }
+        ensures err { IfFault result (λ refusal.
+            with_opens 0 (state_of self.old) (turned true true self.old.at self.old.opens) ≡ Err
+            refusal) }
     {
         self.opens.turn(true, true, self.at)?;
         Ok(0)
     }
 
     fn close(&mut self) -> Result<usize, OrMemory<Refusal>>
-        ensures ok { IfOk result (Did (with_opens 0 (state_of self.old) (closed self.old.at self.old.opens)) (state_of self.new)) }
+        ensures ok { IfOk result
+            (Did (with_opens 0 (state_of self.old) (closed self.old.at self.old.opens))
+            (state_of self.new)) }
         ensures none { IfOk result (λ len. len ≡ 0) }
         ensures still { self.new.at ≡ self.old.at }
-        ensures err { IfFault result (λ refusal. with_opens 0 (state_of self.old) (closed self.old.at self.old.opens) ≡ Err refusal) }
+        ensures err { IfFault result (λ refusal.
+            with_opens 0 (state_of self.old) (closed self.old.at self.old.opens) ≡ Err refusal) }
     {
         self.opens.close(self.at)?;
         Ok(0)
     }
 
     fn time(&mut self, rest: &'t [u8]) -> Result<usize, OrMemory<Refusal>>
-        ensures ok { IfOk result (Did (timed (timescale_behind rest.now) (state_of self.old)) (state_of self.new)) }
+        ensures ok { IfOk result
+            (Did (timed (timescale_behind rest.now) (state_of self.old)) (state_of self.new)) }
         ensures within { IfOk result (λ len. len ≤ length rest.now) }
         ensures still { self.new.at ≡ self.old.at }
-        ensures err { IfFault result (λ refusal. timed (timescale_behind rest.now) (state_of self.old) ≡ Err refusal) }
+        ensures err { IfFault result (λ refusal.
+            timed (timescale_behind rest.now) (state_of self.old) ≡ Err refusal) }
     {
         let Some((timescale, len)) = timescale_behind(rest) else {
             return Err(refuse(Why::Directive, self.at));
@@ -316,10 +348,12 @@ impl<'t> Walk<'t> {
     }
 
     fn set_type(&mut self, rest: &'t [u8]) -> Result<usize, OrMemory<Refusal>>
-        ensures ok { IfOk result (Did (typed (name_behind rest.now) (state_of self.old)) (state_of self.new)) }
+        ensures ok { IfOk result
+            (Did (typed (name_behind rest.now) (state_of self.old)) (state_of self.new)) }
         ensures within { IfOk result (λ len. len ≤ length rest.now) }
         ensures still { self.new.at ≡ self.old.at }
-        ensures err { IfFault result (λ refusal. typed (name_behind rest.now) (state_of self.old) ≡ Err refusal) }
+        ensures err { IfFault result (λ refusal.
+            typed (name_behind rest.now) (state_of self.old) ≡ Err refusal) }
     {
         let Some((name, len)) = name_behind(rest) else {
             return Err(refuse(Why::Directive, self.at));
