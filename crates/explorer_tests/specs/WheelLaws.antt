@@ -2,7 +2,7 @@
 use Rattle.std.proofs.Common.{◌≡◌, ℕ, Bool, true, ap, arith, subst}
 use Rattle.std.proofs.lemmas.Bool.Decides.{nat_tests}
 use Rattle.sched_core.specs.Rules.{IsLawful}
-use Rattle.tests.specs.Wheels.{wheel_rules}
+use Rattle.explorer_tests.specs.Wheels.{wheel_rules}
 
 same_place : (places back : ℕ) (door : Bool) (s t : ℕ) → (wheel_rules places back door).same s t ≡ true → s ≡ t
 same_place places back door s t h = grind (arith, nat_tests)

@@ -1,4 +1,4 @@
-use Rattle.tests.proofs.workers.named_left_closed.Given as goal
+use Rattle.explorer_tests.proofs.workers.named_left_closed.Given as goal
 
 abbrev pub ghosts-left_closed-B-Naming : goal.ghosts-left_closed-B-Naming
 ghosts-left_closed-B-Naming g a = record { entries = a.unopened.entries }

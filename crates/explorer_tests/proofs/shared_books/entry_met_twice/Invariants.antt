@@ -1,4 +1,4 @@
-use Rattle.tests.proofs.shared_books.entry_met_twice.Given as goal
+use Rattle.explorer_tests.proofs.shared_books.entry_met_twice.Given as goal
 
 abbrev pub ghosts-meets_twice-B-Naming : goal.ghosts-meets_twice-B-Naming
 ghosts-meets_twice-B-Naming g a = record { entries = a.unopened.entries }

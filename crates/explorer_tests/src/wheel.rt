@@ -16,9 +16,9 @@ pub struct Wheel {
 }
 
 impl Space for Wheel {
-    ghost use Rattle.tests.specs.Wheels.{wheel_rules};
+    ghost use Rattle.explorer_tests.specs.Wheels.{wheel_rules};
     ghost use Rattle.std.proofs.Common.{rules as std_rules};
-    ghost use Rattle.tests.specs.WheelLaws.{wheel_is_lawful};
+    ghost use Rattle.explorer_tests.specs.WheelLaws.{wheel_is_lawful};
 
     type State = u32;
 
