@@ -8,3 +8,5 @@ pub mod Design
 pub mod Names
 pub mod Expressions
 pub mod ExpressionTrees
+pub mod Statements
+pub mod Modules

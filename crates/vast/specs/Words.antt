@@ -46,3 +46,8 @@ is_name (c ∷ cs) = begins_name c && list_all is_in_name cs && not (is_reserved
 abbrev pub is_number : List ℕ → Bool
 is_number [] = false
 is_number (c ∷ cs) = is_ascii_digit c || (c == 39)
+
+-- 3.6: among tokens the strings are those that begin with a quote
+abbrev pub is_string : List ℕ → Bool
+is_string [] = false
+is_string (c ∷ cs) = c == 34

@@ -6,8 +6,10 @@
 pub mod design;
 pub mod expression;
 pub mod fitting;
+pub mod module;
 pub mod operators;
 pub mod spelling;
+pub mod statement;
 pub mod syntax;
 pub mod words;
 

@@ -1,0 +1,307 @@
+-- Modules of the whole profile (IEEE 1364-2005, clauses 4 and 12, A.1 and A.2, narrowed to docs/LANGUAGE.md): their trees, the
+-- words that these spell, and which stand as the grammar lets them. A source text is its modules.
+use Rattle.std.specs.Prelude.{◌≡◌, IsTrue, ℕ, nat_le, Bool, true, false, ◌&&◌, if◌then◌else◌, List, [], ◌∷◌, ◌++◌, Option, Some, None, length, codes, flat_map}
+use Rattle.std.specs.List.{list_all}
+use Rattle.vast.specs.Words.{is_name}
+use Rattle.vast.specs.Syntax.{Text}
+use Rattle.vast.specs.Expressions.{ExpressionTree, spell_expression, depth, fits_expression}
+use Rattle.vast.specs.Statements.{TargetTree, StatementTree, listed, in_parentheses, spell_statement, statement_depth, fits_statement}
+use Rattle.vast.specs.declared.module.NetKind.{NetKind}
+use Rattle.vast.specs.declared.module.NetKind.TheVariants as net
+
+-- 4.3: [ left : right ]
+pub record RangeTree : Type 0 where
+  pub left : ExpressionTree
+  pub right : ExpressionTree
+
+-- 4.2, 4.5: signed, and a range
+pub record TypeTree : Type 0 where
+  pub signed : Bool
+  pub range : Option RangeTree
+
+-- 4.10.1: the type of a parameter
+pub data ParameterType : Type 0 where
+  integer : ParameterType
+  typed : TypeTree → ParameterType
+
+-- name = value
+pub record SettingTree : Type 0 where
+  pub name : Text
+  pub value : ExpressionTree
+
+-- name = value, or name alone
+pub record DeclaredTree : Type 0 where
+  pub name : Text
+  pub value : Option ExpressionTree
+
+-- 12.3.3: which way a port goes, and what kind of variable or net it is, if a word says so
+pub data DirectionTree : Type 0 where
+  input : Bool → TypeTree → DirectionTree  -- input type, or input wire type
+  output : Option NetKind → TypeTree → DirectionTree  -- output type, output wire type or output reg type
+
+-- a port; without a direction it has that of the one before it
+pub record PortTree : Type 0 where
+  pub direction : Option DirectionTree
+  pub name : Text
+
+-- 12.2: a parameter of a module's head; without a type of its own it has that of the one before it
+pub record HeadParameter : Type 0 where
+  pub kind : Option ParameterType
+  pub setting : SettingTree
+
+-- 12.3.6: . name ( value ), or . name ( )
+pub record ConnectionTree : Type 0 where
+  pub name : Text
+  pub value : Option ExpressionTree
+
+-- 12.3.5, 12.3.6: connections by order or by name
+pub data ConnectionsTree : Type 0 where
+  by_order : List ExpressionTree → ConnectionsTree
+  by_name : List ConnectionTree → ConnectionsTree
+
+-- 12.1.2: name ( connections )
+pub record InstanceTree : Type 0 where
+  pub name : Text
+  pub connections : ConnectionsTree
+
+-- what variables or nets are declared as
+pub data DeclarationKind : Type 0 where
+  variables : NetKind → TypeTree → DeclarationKind  -- wire type, or reg type
+  integers : DeclarationKind  -- integer
+
+-- A.1.4
+pub data ItemTree : Type 0 where
+  parameters : Bool → ParameterType → List SettingTree → ItemTree  -- parameter type setting, .. ; or localparam ..
+  declaration : DeclarationKind → List DeclaredTree → ItemTree  -- reg type name, name = value, .. ;
+  events : List Text → ItemTree  -- event name, .. ;
+  assignments : List SettingTree → ItemTree  -- assign name = value, .. ;
+  initial : StatementTree → ItemTree  -- initial statement
+  always : StatementTree → ItemTree  -- always statement
+  instances : Text → Option ConnectionsTree → List InstanceTree → ItemTree  -- name #( connections ) instance, .. ;
+
+-- A.1.2
+pub record ModuleTree : Type 0 where
+  pub name : Text
+  pub parameters : Option (List HeadParameter)  -- #( parameter type setting, .. )
+  pub ports : Option (List PortTree)  -- ( direction name, .. ), or ( )
+  pub items : List ItemTree
+
+abbrev pub SourceTree : Type 0
+SourceTree = List ModuleTree
+
+-- The words of a tree
+
+abbrev pub spell_range : Option RangeTree → List Text
+spell_range None = []
+spell_range (Some range) = codes "[" ∷ (spell_expression range.left ++ codes ":" ∷ (spell_expression range.right ++ codes "]" ∷ []))
+
+abbrev pub spell_signed : Bool → List Text
+spell_signed signed = if signed then codes "signed" ∷ [] else []
+
+abbrev pub spell_type : TypeTree → List Text
+spell_type type = spell_signed type.signed ++ spell_range type.range
+
+abbrev pub spell_parameter_type : ParameterType → List Text
+spell_parameter_type integer = codes "integer" ∷ []
+spell_parameter_type (typed type) = spell_type type
+
+abbrev pub spell_setting : SettingTree → List Text
+spell_setting setting = setting.name ∷ codes "=" ∷ spell_expression setting.value
+
+abbrev pub spell_value : Text → Option ExpressionTree → List Text
+spell_value letters None = letters ∷ []
+spell_value letters (Some value) = letters ∷ codes "=" ∷ spell_expression value
+
+abbrev pub spell_declared : DeclaredTree → List Text
+spell_declared declared = spell_value declared.name declared.value
+
+abbrev pub net_word : NetKind → Text
+net_word net.Wire = codes "wire"
+net_word net.Reg = codes "reg"
+
+abbrev pub spell_net : Option NetKind → List Text
+spell_net None = []
+spell_net (Some kind) = net_word kind ∷ []
+
+abbrev pub spell_wire : Bool → List Text
+spell_wire wire = if wire then codes "wire" ∷ [] else []
+
+abbrev pub spell_direction : Option DirectionTree → List Text
+spell_direction None = []
+spell_direction (Some (input wire type)) = codes "input" ∷ (spell_wire wire ++ spell_type type)
+spell_direction (Some (output kind type)) = codes "output" ∷ (spell_net kind ++ spell_type type)
+
+abbrev pub spell_port : PortTree → List Text
+spell_port port = spell_direction port.direction ++ port.name ∷ []
+
+abbrev pub spell_kind : Option ParameterType → List Text
+spell_kind None = []
+spell_kind (Some type) = codes "parameter" ∷ spell_parameter_type type
+
+abbrev pub spell_head_parameter : HeadParameter → List Text
+spell_head_parameter parameter = spell_kind parameter.kind ++ spell_setting parameter.setting
+
+abbrev pub spell_optional : Option ExpressionTree → List Text
+spell_optional None = []
+spell_optional (Some value) = spell_expression value
+
+abbrev pub spell_connection : ConnectionTree → List Text
+spell_connection connection = codes "." ∷ connection.name ∷ in_parentheses (spell_optional connection.value)
+
+abbrev pub spell_connections : ConnectionsTree → List Text
+spell_connections (by_order values) = in_parentheses (listed spell_expression values)
+spell_connections (by_name connections) = in_parentheses (listed spell_connection connections)
+
+abbrev pub spell_overrides : Option ConnectionsTree → List Text
+spell_overrides None = []
+spell_overrides (Some connections) = codes "#" ∷ spell_connections connections
+
+abbrev pub spell_instance : InstanceTree → List Text
+spell_instance instance = instance.name ∷ spell_connections instance.connections
+
+abbrev pub spell_declaration_kind : DeclarationKind → List Text
+spell_declaration_kind (variables kind type) = net_word kind ∷ spell_type type
+spell_declaration_kind integers = codes "integer" ∷ []
+
+abbrev pub parameter_word : Bool → Text
+parameter_word local = if local then codes "localparam" else codes "parameter"
+
+abbrev pub spell_item : ItemTree → List Text
+spell_item (parameters local type settings) =
+    parameter_word local ∷ (spell_parameter_type type ++ (listed spell_setting settings ++ codes ";" ∷ []))
+spell_item (declaration kind declared) = spell_declaration_kind kind ++ (listed spell_declared declared ++ codes ";" ∷ [])
+spell_item (events names) = codes "event" ∷ (listed (λ letters. letters ∷ []) names ++ codes ";" ∷ [])
+spell_item (assignments list) = codes "assign" ∷ (listed spell_setting list ++ codes ";" ∷ [])
+spell_item (initial statement) = codes "initial" ∷ spell_statement statement
+spell_item (always statement) = codes "always" ∷ spell_statement statement
+spell_item (instances name overrides list) =
+    name ∷ (spell_overrides overrides ++ (listed spell_instance list ++ codes ";" ∷ []))
+
+abbrev pub spell_head_parameters : Option (List HeadParameter) → List Text
+spell_head_parameters None = []
+spell_head_parameters (Some list) = codes "#" ∷ in_parentheses (listed spell_head_parameter list)
+
+abbrev pub spell_ports : Option (List PortTree) → List Text
+spell_ports None = []
+spell_ports (Some list) = in_parentheses (listed spell_port list)
+
+abbrev pub spell_module : ModuleTree → List Text
+spell_module m =
+    codes "module" ∷ m.name ∷ (spell_head_parameters m.parameters ++ (spell_ports m.ports ++
+    codes ";" ∷ (flat_map spell_item m.items ++ codes "endmodule" ∷ [])))
+
+abbrev pub spell : SourceTree → List Text
+spell modules = flat_map spell_module modules
+
+-- What stands as the grammar lets it: names in their places, lists that aren't empty, and nothing deeper than 64 levels
+
+-- an expression that stands in no statement
+abbrev pub fits_value : ExpressionTree → Bool
+fits_value tree = fits_expression tree && nat_le (depth tree) 64
+
+abbrev pub fits_optional : Option ExpressionTree → Bool
+fits_optional None = true
+fits_optional (Some tree) = fits_value tree
+
+abbrev pub fits_range : Option RangeTree → Bool
+fits_range None = true
+fits_range (Some range) = fits_value range.left && fits_value range.right
+
+abbrev pub fits_type : TypeTree → Bool
+fits_type type = fits_range type.range
+
+abbrev pub fits_parameter_type : ParameterType → Bool
+fits_parameter_type integer = true
+fits_parameter_type (typed type) = fits_type type
+
+abbrev pub fits_setting : SettingTree → Bool
+fits_setting setting = is_name setting.name && fits_value setting.value
+
+abbrev pub fits_declared : DeclaredTree → Bool
+fits_declared declared = is_name declared.name && fits_optional declared.value
+
+abbrev pub fits_direction : Option DirectionTree → Bool
+fits_direction None = true
+fits_direction (Some (input wire type)) = fits_type type
+fits_direction (Some (output kind type)) = fits_type type
+
+abbrev pub fits_port : PortTree → Bool
+fits_port port = fits_direction port.direction && is_name port.name
+
+abbrev pub is_directed : Option DirectionTree → Bool
+is_directed None = false
+is_directed (Some direction) = true
+
+-- the first port says which way it goes
+abbrev pub fits_ports : List PortTree → Bool
+fits_ports [] = true
+fits_ports (port ∷ more) = is_directed port.direction && list_all fits_port (port ∷ more)
+
+abbrev pub fits_kind : Option ParameterType → Bool
+fits_kind None = true
+fits_kind (Some type) = fits_parameter_type type
+
+abbrev pub fits_head_parameter : HeadParameter → Bool
+fits_head_parameter parameter = fits_kind parameter.kind && fits_setting parameter.setting
+
+abbrev pub is_kind : Option ParameterType → Bool
+is_kind None = false
+is_kind (Some type) = true
+
+-- the first parameter stands behind the word
+abbrev pub fits_head_parameters : List HeadParameter → Bool
+fits_head_parameters [] = false
+fits_head_parameters (parameter ∷ more) = is_kind parameter.kind && list_all fits_head_parameter (parameter ∷ more)
+
+abbrev pub fits_connection : ConnectionTree → Bool
+fits_connection connection = is_name connection.name && fits_optional connection.value
+
+-- no connection at all is one by order
+abbrev pub fits_connections : ConnectionsTree → Bool
+fits_connections (by_order values) = list_all fits_value values
+fits_connections (by_name connections) = nat_le 1 (length connections) && list_all fits_connection connections
+
+abbrev pub fits_overrides : Option ConnectionsTree → Bool
+fits_overrides None = true
+fits_overrides (Some connections) = fits_connections connections
+
+abbrev pub fits_instance : InstanceTree → Bool
+fits_instance instance = is_name instance.name && fits_connections instance.connections
+
+abbrev pub fits_declaration_kind : DeclarationKind → Bool
+fits_declaration_kind (variables kind type) = fits_type type
+fits_declaration_kind integers = true
+
+abbrev pub are_some : {A : Type 0} → (A → Bool) → List A → Bool
+are_some test list = nat_le 1 (length list) && list_all test list
+
+abbrev pub fits_body : StatementTree → Bool
+fits_body statement = fits_statement statement && nat_le (statement_depth statement) 64
+
+abbrev pub fits_item : ItemTree → Bool
+fits_item (parameters local type settings) = fits_parameter_type type && are_some fits_setting settings
+fits_item (declaration kind declared) = fits_declaration_kind kind && are_some fits_declared declared
+fits_item (events names) = are_some is_name names
+fits_item (assignments list) = are_some fits_setting list
+fits_item (initial statement) = fits_body statement
+fits_item (always statement) = fits_body statement
+fits_item (instances name overrides list) = is_name name && fits_overrides overrides && are_some fits_instance list
+
+abbrev pub fits_optional_parameters : Option (List HeadParameter) → Bool
+fits_optional_parameters None = true
+fits_optional_parameters (Some list) = fits_head_parameters list
+
+abbrev pub fits_optional_ports : Option (List PortTree) → Bool
+fits_optional_ports None = true
+fits_optional_ports (Some list) = fits_ports list
+
+abbrev pub fits_module : ModuleTree → Bool
+fits_module m = is_name m.name && fits_optional_parameters m.parameters && fits_optional_ports m.ports && list_all fits_item m.items
+
+abbrev pub fits : SourceTree → Bool
+fits modules = list_all fits_module modules
+
+-- the words are those of the tree, which stands as the grammar lets it
+pub record DerivesText (words : List Text) (tree : SourceTree) : Type 0 where
+  pub spelled : spell tree ≡ words
+  pub fitting : IsTrue (fits tree)
