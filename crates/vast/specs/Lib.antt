@@ -10,3 +10,5 @@ pub mod Expressions
 pub mod ExpressionTrees
 pub mod Statements
 pub mod Modules
+pub mod StatementTrees
+pub mod ModuleTrees

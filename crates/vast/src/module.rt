@@ -22,7 +22,7 @@ pub struct Bounds<'t> {
 
 /// `signed [left:right]`, each if it stands there (4.3)
 #[derive(Drop)]
-pub struct Type<'t> {
+pub struct SignAndRange<'t> {
     pub signed: bool,
     pub range: Option<Bounds<'t>>,
 }
@@ -33,7 +33,7 @@ pub enum ParameterType<'t> {
     /// `integer`
     Integer,
     /// A sign and a range, or neither.
-    Typed(Type<'t>),
+    Typed(SignAndRange<'t>),
 }
 
 /// `name = value`
@@ -56,12 +56,12 @@ pub enum Direction<'t> {
     /// `input`, or `input wire`
     Input {
         wire: bool,
-        kind: Type<'t>,
+        kind: SignAndRange<'t>,
     },
     /// `output`, `output wire` or `output reg`
     Output {
         net: Option<NetKind>,
-        kind: Type<'t>,
+        kind: SignAndRange<'t>,
     },
 }
 
@@ -106,7 +106,7 @@ pub struct Instance<'t> {
 #[derive(Drop)]
 pub enum DeclarationKind<'t> {
     /// `wire` or `reg`, and a type
-    Variables { net: NetKind, kind: Type<'t> },
+    Variables { net: NetKind, kind: SignAndRange<'t> },
     /// `integer`
     Integers,
 }
