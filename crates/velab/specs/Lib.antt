@@ -4,3 +4,5 @@ pub mod Reasons
 pub mod Laws
 pub mod Inner
 pub mod InnerVariables
+pub mod Runnable
+pub mod Running

@@ -8,9 +8,11 @@ mod fault;
 pub mod law;
 mod names;
 mod number;
+mod running;
 mod statement;
 mod top;
 mod variable;
 
 pub use design::elaborate;
 pub use fault::ElabFault;
+pub use running::{NotYet, runnable};

@@ -1,0 +1,299 @@
+// What runs today of a text of the whole profile: its tree as the small grammar has it, or the first construct that isn't run yet.
+
+ghost use Rattle.std.specs.Prelude.{◌≡◌, [], map, option_map};
+ghost use Rattle.vast.specs.Trees as small;
+ghost use Rattle.vast.specs.Trees.{word_text};
+ghost use Rattle.vast.specs.ExpressionTrees.{tree_of};
+ghost use Rattle.vast.specs.StatementTrees.{target_tree, delay_tree, task_tree, statement_tree, statement_trees};
+ghost use Rattle.vast.specs.ModuleTrees.{range_tree, type_tree, declaration_kind, declared_tree, item_tree, module_tree, source_tree};
+ghost use Rattle.velab.specs.Runnable as runs;
+ghost use Rattle.velab.specs.Running.{Runs, RunsAssigned, listed, range_of};
+
+use basis::OrMemory;
+use std::alloc::Global;
+use vast::expression::Expression;
+use vast::module::{
+    Bounds, DeclarationKind, Declared, ModuleItem, ModuleTree, NetKind, SignAndRange, TextTree,
+};
+use vast::statement::{Delay, Statement, Target, Task};
+use vast::syntax::{Ast, Expr, Item, Module, Range, Stmt, Word};
+
+/// A text that is read and not run yet; `at` is the number of the token at which what isn't run begins.
+#[derive(Clone, Copy, Debug, PartialEq, Eq)]
+pub struct NotYet {
+    pub at: u32,
+}
+
+// The number of an expression's first token.
+fn first_token(expression: &Expression<'_>) -> u32 {
+    match expression {
+        Expression::Number(word) => word.at,
+        Expression::Name(word) => word.at,
+        Expression::Time { at } => *at,
+        Expression::Bit { name, .. } => name.at,
+        Expression::Part { name, .. } => name.at,
+        Expression::Parentheses(inner) => first_token(inner),
+        Expression::Concatenation { at, .. } => *at,
+        Expression::Replication { at, .. } => *at,
+        Expression::Conversion { operand, .. } => first_token(operand),
+        Expression::Unary { operand, .. } => first_token(operand),
+        Expression::Binary { left, .. } => first_token(left),
+        Expression::Conditional { condition, .. } => first_token(condition),
+    }
+}
+
+fn expression<'t>(value: &Expression<'t>) -> Result<Expr<'t>, OrMemory<NotYet>>
+    ensures { Runs small.expression_tree (runs.runnable_expression (tree_of value.now)) result }
+{
+    match value {
+        Expression::Number(word) => Ok(Expr::Number(*word)),
+        Expression::Name(word) => Ok(Expr::Name(*word)),
+        _ => Err(OrMemory::Fault(NotYet {
+            at: first_token(value),
+        })),
+    }
+}
+
+fn number<'t>(value: &Expression<'t>) -> Result<Word<'t>, OrMemory<NotYet>>
+    ensures { Runs word_text (runs.runnable_number (tree_of value.now)) result }
+{
+    match value {
+        Expression::Number(word) => Ok(*word),
+        _ => Err(OrMemory::Fault(NotYet {
+            at: first_token(value),
+        })),
+    }
+}
+
+fn target<'t>(target: &Target<'t>) -> Result<Word<'t>, OrMemory<NotYet>>
+    ensures { Runs word_text (runs.runnable_target (target_tree target.now)) result }
+{
+    match target {
+        Target::Whole(word) => Ok(*word),
+        Target::Bit { name, .. } => Err(OrMemory::Fault(NotYet { at: name.at })),
+        Target::Part { name, .. } => Err(OrMemory::Fault(NotYet { at: name.at })),
+        Target::Joined { at, .. } => Err(OrMemory::Fault(NotYet { at: *at })),
+    }
+}
+
+fn delay<'t>(delay: &Delay<'t>) -> Result<Word<'t>, OrMemory<NotYet>>
+    ensures { Runs word_text (runs.runnable_delay (delay_tree delay.now)) result }
+{
+    match delay {
+        Delay::Number(word) => Ok(*word),
+        Delay::Name(word) => Err(OrMemory::Fault(NotYet { at: word.at })),
+        Delay::Value(value) => Err(OrMemory::Fault(NotYet {
+            at: first_token(value),
+        })),
+    }
+}
+
+fn task<'t>(at: u32, task: &Task<'t>) -> Result<Stmt<'t>, OrMemory<NotYet>>
+    ensures { Runs small.statement_tree (runs.runnable_task (task_tree task.now)) result }
+{
+    match task {
+        Task::DumpVars(None) => Ok(Stmt::DumpVars { at }),
+        Task::End {
+            stops: false,
+            number: None,
+        } => Ok(Stmt::Finish { at }),
+        _ => Err(OrMemory::Fault(NotYet { at })),
+    }
+}
+
+// What an assignment of either kind gives what: it has no delay of its own.
+fn assigned<'t>(
+    to: &Target<'t>,
+    amount: &Option<Delay<'t>>,
+    value: &Expression<'t>,
+) -> Result<(Word<'t>, Expr<'t>), OrMemory<NotYet>>
+    ensures { RunsAssigned to.now amount.now value.now result }
+{
+    let name = target(to)?;
+    if let Some(amount) = amount {
+        let at = match amount {
+            Delay::Number(word) => word.at,
+            Delay::Name(word) => word.at,
+            Delay::Value(value) => first_token(value),
+        };
+        return Err(OrMemory::Fault(NotYet { at }));
+    }
+    Ok((name, expression(value)?))
+}
+
+#[cycle(running)]
+fn statement<'t>(alloc: Global, whole: &Statement<'t>) -> Result<Stmt<'t>, OrMemory<NotYet>>
+    ensures { Runs small.statement_tree (runs.runnable_statement (statement_tree whole.now)) result }
+{
+    let at = match whole {
+        Statement::Empty => return Ok(Stmt::Empty),
+        Statement::Block(list) => return Ok(Stmt::Block(statements(alloc, list)?)),
+        Statement::Assign {
+            target,
+            delay,
+            value,
+            ..
+        } => {
+            let (target, value) = assigned(target, delay, value)?;
+            return Ok(Stmt::Assign { target, value });
+        }
+        Statement::Nonblocking {
+            target,
+            delay,
+            value,
+            ..
+        } => {
+            let (target, value) = assigned(target, delay, value)?;
+            return Ok(Stmt::Nonblocking { target, value });
+        }
+        Statement::Delayed {
+            at,
+            delay: amount,
+            body,
+        } => {
+            let amount = delay(amount)?;
+            let body = Box::new(alloc, statement(alloc, body)?)?;
+            return Ok(Stmt::Delay {
+                at: *at,
+                amount,
+                body,
+            });
+        }
+        Statement::Task { at, task: call } => return task(*at, call),
+        Statement::Trigger { at, .. } => at,
+        Statement::If { at, .. } => at,
+        Statement::IfElse { at, .. } => at,
+        Statement::Case { at, .. } => at,
+        Statement::While { at, .. } => at,
+        Statement::Repeat { at, .. } => at,
+        Statement::Forever { at, .. } => at,
+        Statement::For { at, .. } => at,
+        Statement::Wait { at, .. } => at,
+        Statement::OnEvent { at, .. } => at,
+    };
+    Err(OrMemory::Fault(NotYet { at: *at }))
+}
+
+#[cycle(running)]
+fn statements<'t>(alloc: Global, whole: &[Statement<'t>]) -> Result<Vec<Stmt<'t>>, OrMemory<NotYet>>
+    ensures { Runs (λ list. small.statement_trees list.items)
+        (runs.runnable_statements (statement_trees whole.now)) result }
+{
+    let mut list = Vec::new(alloc);
+    for one in whole {
+        list.push(statement(alloc, one)?)?;
+    }
+    Ok(list)
+}
+
+fn range<'t>(bounds: &Option<Bounds<'t>>) -> Result<Option<Range<'t>>, OrMemory<NotYet>>
+    ensures { Runs range_of
+        (runs.runnable_optional_range (option_map range_tree bounds.now)) result }
+{
+    match bounds {
+        None => Ok(None),
+        Some(bounds) => {
+            let left = number(&bounds.left)?;
+            let right = number(&bounds.right)?;
+            Ok(Some(Range { left, right }))
+        }
+    }
+}
+
+// The range of registers that are declared so, at the token of this number.
+fn kind<'t>(at: u32, kind: &DeclarationKind<'t>) -> Result<Option<Range<'t>>, OrMemory<NotYet>>
+    ensures { Runs range_of (runs.runnable_kind (declaration_kind kind.now)) result }
+{
+    match kind {
+        DeclarationKind::Variables {
+            net: NetKind::Reg,
+            kind: SignAndRange {
+                signed: false,
+                range: bounds,
+            },
+        } => range(bounds),
+        _ => Err(OrMemory::Fault(NotYet { at })),
+    }
+}
+
+fn name<'t>(declared: &Declared<'t>) -> Result<Word<'t>, OrMemory<NotYet>>
+    ensures { Runs word_text (runs.runnable_name (declared_tree declared.now)) result }
+{
+    match &declared.value {
+        None => Ok(declared.name),
+        Some(value) => Err(OrMemory::Fault(NotYet {
+            at: first_token(value),
+        })),
+    }
+}
+
+fn names<'t>(alloc: Global, declared: &[Declared<'t>]) -> Result<Vec<Word<'t>>, OrMemory<NotYet>>
+    ensures { Runs (listed word_text)
+        (runs.each runs.runnable_name (map declared_tree declared.now)) result }
+{
+    let mut list = Vec::new(alloc);
+    for one in declared {
+        list.push(name(one)?)?;
+    }
+    Ok(list)
+}
+
+fn item<'t>(alloc: Global, whole: &ModuleItem<'t>) -> Result<Item<'t>, OrMemory<NotYet>>
+    ensures { Runs small.item_tree (runs.runnable_item (item_tree whole.now)) result }
+{
+    let at = match whole {
+        ModuleItem::Declaration {
+            at,
+            kind: declared_as,
+            declared,
+        } => {
+            let range = kind(*at, declared_as)?;
+            let names = names(alloc, declared)?;
+            return Ok(Item::Registers { range, names });
+        }
+        ModuleItem::Initial {
+            statement: body,
+            ..
+        } => return Ok(Item::Initial(statement(alloc, body)?)),
+        ModuleItem::Parameters { at, .. } => *at,
+        ModuleItem::Events { at, .. } => *at,
+        ModuleItem::Assignments { at, .. } => *at,
+        ModuleItem::Always { at, .. } => *at,
+        ModuleItem::Instances { module, .. } => module.at,
+    };
+    Err(OrMemory::Fault(NotYet { at }))
+}
+
+fn items<'t>(alloc: Global, whole: &[ModuleItem<'t>]) -> Result<Vec<Item<'t>>, OrMemory<NotYet>>
+    ensures { Runs (listed small.item_tree)
+        (runs.each runs.runnable_item (map item_tree whole.now)) result }
+{
+    let mut list = Vec::new(alloc);
+    for one in whole {
+        list.push(item(alloc, one)?)?;
+    }
+    Ok(list)
+}
+
+fn module<'t>(alloc: Global, whole: &ModuleTree<'t>) -> Result<Module<'t>, OrMemory<NotYet>>
+    ensures { Runs small.module_tree (runs.runnable_module (module_tree whole.now)) result }
+{
+    if whole.parameters.is_some() || whole.ports.is_some() {
+        return Err(OrMemory::Fault(NotYet { at: whole.name.at }));
+    }
+    Ok(Module {
+        name: whole.name,
+        items: items(alloc, &whole.items)?,
+    })
+}
+
+/// The tree of a text as the small grammar has it, or the token at which what isn't run yet begins (E299).
+pub fn runnable<'t>(alloc: Global, whole: &TextTree<'t>) -> Result<Ast<'t>, OrMemory<NotYet>>
+    ensures { Runs small.source_tree (runs.runnable (source_tree whole.now)) result }
+{
+    let mut modules = Vec::new(alloc);
+    for one in &whole.modules {
+        modules.push(module(alloc, one)?)?;
+    }
+    Ok(Ast { modules })
+}
