@@ -1,41 +1,15 @@
 // The entry of the next station after a choice.
 
-ghost use Rattle.std.specs.Prelude.{◌≡◌, ◌<◌, ◌≤◌, [], IfOk, IfSome, IfNone};
-ghost use Rattle.sched_core.specs.Rules.{NamesBelow};
-ghost use Rattle.statebook.specs.ExplorerCore.{budget_after};
+ghost use Rattle.std.specs.Prelude.{◌≡◌, []};
 ghost use Rattle.statebook.specs.Ways.{Allows, ChoiceGoesPast};
-ghost use Rattle.statebook.specs.Inner.Forced.{Follows, IfPast, IfReached, MayBeAdded, log_of};
+ghost use Rattle.statebook.specs.Inner.Forced.{Follows, IfPast, IfReached, MayBeAdded};
 ghost use Rattle.explore.specs.Inner.Ways.{AllComeTo, AllGoPast, IsSearching};
 
 use crate::search::{Landmark, Search};
 use crate::way::to_station;
 use basis::NoMemory;
-use sched_core::{Log, Space};
-use statebook::{Entry, Limits};
-
-// The log of a run that goes on by this choice at this step.
-fn log_after(log: &Log, step: u32, choice: u32) -> Result<Log, NoMemory>
-    requires names { NamesBelow log.now step }
-    requires step { step ≤ 999999 }
-    ensures { IfOk result (λ after. after ≡ log_of log.now step choice) }
-{
-    let mut after = log.copy()?;
-    if choice != 0 {
-        after.push(step, choice)?;
-    }
-    Ok(after)
-}
-
-// The departures left after the choice.
-fn budget_left(budget: u32, choice: u32) -> u32
-    ensures { result ≡ budget_after budget choice }
-{
-    if choice == 0 {
-        budget
-    } else {
-        budget.saturating_sub(1)
-    }
-}
+use sched_core::Space;
+use statebook::{Entry, Limits, budget_left, log_after};
 
 /// The entry of the next station after a choice that the entry's budget allows; None where the
 /// way there takes more steps than the limit. Each landmark on the way leads there too. The state is

@@ -136,6 +136,7 @@ fn within<
         shuts: _,
         given: _,
         taken: _,
+        deques: _,
         cut,
         root,
         pass: _,

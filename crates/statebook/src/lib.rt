@@ -7,10 +7,14 @@ mod book;
 mod entry;
 mod law;
 mod limits;
+mod next;
 mod reason;
+mod way;
 
 pub use book::{Done, Met, PlainBook};
 pub use entry::Entry;
 pub use law::{book_stays_sound, closed_covers};
 pub use limits::Limits;
+pub use next::{budget_left, log_after};
 pub use reason::Reason;
+pub use way::walk;

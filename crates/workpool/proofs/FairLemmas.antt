@@ -1,5 +1,5 @@
 -- Why each step of a deque keeps its rule.
-use Rattle.std.proofs.Common.{◌≡◌, ℕ, ◌+◌, ◌<◌, List, [], ◌∷◌, ◌++◌, set, arith, ap, refl, sym, ◌∙◌, inl, inr}
+use Rattle.std.proofs.Common.{◌≡◌, ℕ, ◌+◌, ◌<◌, ◌≤◌, List, [], ◌∷◌, ◌++◌, set, arith, ap, refl, sym, ◌∙◌, inl, inr}
 use mathlib.Core.Option.{some}
 use lib.ListN.{get_elem?}
 use Rattle.atomic_table.proofs.Lists.{at_set, at_snoc}
@@ -7,7 +7,7 @@ use Rattle.crossbeam_deque.specs.Tasks.{Pushes, Takes, Pops, Learns, Forks, Merg
 use Rattle.workpool.specs.declared.hand.Hand.{Hand}
 use Rattle.workpool.specs.Inner.Sums.{total, times}
 use Rattle.workpool.specs.Inner.Fair.{IsFair, Leaves, hand, one_less, together}
-use Rattle.workpool.proofs.SumLemmas.{total_set, total_snoc, alone, times-append}
+use Rattle.workpool.proofs.SumLemmas.{total_set, total_snoc, alone, part_of, times-append}
 
 abbrev putting : ℕ → Hand → ℕ
 putting x v = times x v.put
@@ -89,10 +89,12 @@ joins port v other w some_part items views t at apart there =
     }
 
 -- who has both parts knows the whole
-pub learns : (port : ℕ) (v : Hand) → v.parts ≡ 2 → Learns IsFair port v (Leaves v)
+pub learns : (port : ℕ) (v : Hand) → 2 ≤ v.parts → Learns IsFair port v (Leaves v)
 learns port v two items views t at = λ x.
-    let put : total (putting x) views ≡ putting x v = alone (λ (y : Hand). y.parts) (putting x) views port v at (λ i u there none. ap (times x) (t.idle i u there none).0) (t.parts ∙ sym two) in
-    let taken : total (taking x) views ≡ taking x v = alone (λ (y : Hand). y.parts) (taking x) views port v at (λ i u there none. ap (times x) (t.idle i u there none).1) (t.parts ∙ sym two) in
+    let most = part_of (λ (y : Hand). y.parts) (putting x) views port v at in
+    let all : total (λ (y : Hand). y.parts) views ≡ v.parts = omega (arith, t.parts, two, most) in
+    let put : total (putting x) views ≡ putting x v = alone (λ (y : Hand). y.parts) (putting x) views port v at (λ i u there none. ap (times x) (t.idle i u there none).0) all in
+    let taken : total (taking x) views ≡ taking x v = alone (λ (y : Hand). y.parts) (taking x) views port v at (λ i u there none. ap (times x) (t.idle i u there none).1) all in
     let o = t.fair x in
     omega (arith, put, taken, o)
 

@@ -9,7 +9,7 @@ use Rattle.workpool.specs.Jobs.{DequeId}
 use Rattle.workpool.specs.Rings.{AreIdle, IsRing, Links}
 use Rattle.workpool.specs.Tallies.{Seated}
 use Rattle.workpool.specs.Inner.Works.{IsSamePlace, StaysCounted, TellsPast}
-use Rattle.workpool.specs.Inner.Joined.{AreReady, AreSamePlaces, IsReady, IsSummed, IsSumOf, all_parts, jobs_put, jobs_taken, seats_onto}
+use Rattle.workpool.specs.Inner.Joined.{AreReady, AreSamePlaces, IsReady, IsSummed, IsSumOf, all_opens, all_parts, seats_put, seats_taken, seats_onto}
 use Rattle.workpool.specs.declared.ring.Seat.{Seat}
 use Rattle.workpool.specs.declared.sum.Sum.{Sum}
 use Rattle.workpool.specs.declared.work.Work.{Work}
@@ -129,23 +129,25 @@ pub record Seating {S B : Type 0} (r : Rules S) (limits : Limits) (tally : Table
   pub ready : Each (IsReady r limits tally) works
   pub idle : AreIdle left
   pub shared : parts + all_parts works ≡ total_parts
+  pub unopened : all_opens works ≡ 0
 
 pub seating_starts : {S B : Type 0} (r : Rules S) (limits : Limits) (tally : TableId) (all : List Seat) (works : List (Work B)) (parts : ℕ) → works ≡ [] → AreIdle all → Seating r limits tally all all works parts parts
 seating_starts {S} {B} r limits tally all works parts none idle =
     let P : List (Work B) → Type 0 = λ ws. Seating r limits tally all all ws parts parts in
-    subst P (sym none) (record { seats = append-nil all; ready = tt; idle = idle; shared = omega arith })
+    subst P (sym none) (record { seats = append-nil all; ready = tt; idle = idle; shared = omega arith; unopened = refl })
 
 pub next_idle : {S B : Type 0} (r : Rules S) (limits : Limits) (tally : TableId) (all old left : List Seat) (s : Seat) (works : List (Work B)) (parts now : ℕ) → Seating r limits tally all old works parts now → old ≡ left ++ s ∷ [] → AreIdle left × IsIdle s
 next_idle r limits tally all old left s works parts now h is = let P : List Seat → Type 0 = λ l. AreIdle l in idle_front left s (subst P is h.idle)
 
-pub seating_steps : {S B : Type 0} (r : Rules S) (limits : Limits) (tally : TableId) (all old left : List Seat) (works more : List (Work B)) (w : Work B) (parts before after : ℕ) → Seating r limits tally all old works parts before → old ≡ left ++ w.seat ∷ [] → more ≡ works ++ w ∷ [] → after + w.pass.parts ≡ before → IsReady r limits tally w → Seating r limits tally all left more parts after
-seating_steps {S} {B} r limits tally all old left works more w parts before after h is grown share ready =
+pub seating_steps : {S B : Type 0} (r : Rules S) (limits : Limits) (tally : TableId) (all old left : List Seat) (works more : List (Work B)) (w : Work B) (parts before after : ℕ) → Seating r limits tally all old works parts before → old ≡ left ++ w.seat ∷ [] → more ≡ works ++ w ∷ [] → after + w.pass.parts ≡ before → IsReady r limits tally w → w.tally.opens ≡ 0 → Seating r limits tally all left more parts after
+seating_steps {S} {B} r limits tally all old left works more w parts before after h is grown share ready fresh =
     let P : List (Work B) → Type 0 = λ ws. Seating r limits tally all left ws parts after in
     subst P (sym grown) (record {
       seats = ap (λ l. left ++ l) (onto_snoc works w []) ∙ sym (append_assoc left (w.seat ∷ []) (seats_onto works [])) ∙ ap (λ l. l ++ seats_onto works []) (sym is) ∙ h.seats;
       ready = each_snoc (IsReady r limits tally) works w h.ready ready;
       idle = (next_idle r limits tally all old left w.seat works parts before h is).0;
       shared = (let sum = total_snoc (λ (x : Work B). x.pass.parts) works w in omega (arith, sum, share, h.shared));
+      unopened = (let sum = total_snoc (λ (x : Work B). x.tally.opens) works w in omega (arith, sum, fresh, h.unopened));
     })
 
 -- sums modulo 2^64
@@ -167,16 +169,16 @@ told_either r limits false b f g = g
 summed_steps : {S B : Type 0} (r : Rules S) (limits : Limits) (tally : TableId) (start : ℕ) (ss : List Seat) (old new : Sum B) (w : Work B) → IsSummed r limits tally start ss old → IsReady r limits tally w → IsSumOf old w new → IsSummed r limits tally start (ss ++ w.seat ∷ []) new
 summed_steps {S} r limits tally start ss old new w h ready sum =
     let opens : new.tally.opens ≡ old.tally.opens + w.tally.opens = ap (λ (s : Seated). s.opens) sum.seat in
-    let put : jobs_put (ss ++ w.seat ∷ []) ≡ jobs_put ss + length w.seat.owner.put = total_snoc (λ (s : Seat). length s.owner.put) ss w.seat in
-    let out : jobs_taken (ss ++ w.seat ∷ []) ≡ jobs_taken ss + (length w.seat.owner.taken + length w.seat.thief.taken) = total_snoc (λ (s : Seat). length s.owner.taken + length s.thief.taken) ss w.seat in
+    let put : seats_put (ss ++ w.seat ∷ []) ≡ seats_put ss + length w.seat.owner.put = total_snoc (λ (s : Seat). length s.owner.put) ss w.seat in
+    let out : seats_taken (ss ++ w.seat ∷ []) ≡ seats_taken ss + (length w.seat.owner.taken + length w.seat.thief.taken) = total_snoc (λ (s : Seat). length s.owner.taken + length s.thief.taken) ss w.seat in
     let P : Bool → Type 0 = λ b. TellsPast r limits b in
     record {
       here = ap (λ (s : Seated). s.tally) sum.seat ∙ h.here;
       opens = omega (arith, sum.count, opens, h.opens, ready.counted.opens);
       fewer = omega (arith, put, opens, h.fewer, ready.counted.fewer);
       all = λ none. (let each = sum.refused none in let a = h.all each.0 in let b = ready.counted.all each.1 in omega (arith, put, opens, a, b));
-      given = counts_sum old.given w.given new.given (jobs_put ss) (length w.seat.owner.put) (jobs_put (ss ++ w.seat ∷ [])) h.given ready.counted.given sum.given put;
-      taken = counts_sum old.taken w.taken new.taken (jobs_taken ss) (length w.seat.owner.taken + length w.seat.thief.taken) (jobs_taken (ss ++ w.seat ∷ [])) h.taken ready.counted.taken sum.taken out;
+      given = counts_sum old.given w.given new.given (seats_put ss) (length w.seat.owner.put) (seats_put (ss ++ w.seat ∷ [])) h.given ready.counted.given sum.given put;
+      taken = counts_sum old.taken w.taken new.taken (seats_taken ss) (length w.seat.owner.taken + length w.seat.thief.taken) (seats_taken (ss ++ w.seat ∷ [])) h.taken ready.counted.taken sum.taken out;
       shut = (let shuts : new.tally.shuts ≡ old.tally.shuts + w.tally.shuts = ap (λ (s : Seated). s.shuts) sum.seat in omega (arith, shuts, out, h.shut, ready.counted.shut));
       told = subst P (sym sum.past) (told_either r limits old.past w.past h.told ready.told);
     }
@@ -188,11 +190,12 @@ pub record Joining {S B : Type 0} (r : Rules S) (limits : Limits) (tally : Table
   pub summed : IsSummed r limits tally start.pass.count ss sum
   pub seat : sum.tally.parts + length left ≡ start.tally.parts + length all
   pub parts : sum.pass.parts + all_parts left ≡ start.pass.parts + all_parts all
+  pub opens : sum.tally.opens + all_opens left ≡ start.tally.opens + all_opens all
 
 pub joining_starts : {S B : Type 0} (r : Rules S) (limits : Limits) (tally : TableId) (start : Sum B) (all : List (Work B)) (ss : List Seat) → ss ≡ [] → AreReady r limits tally (length all) all → IsSummed r limits tally start.pass.count [] start → Joining r limits tally start all all ss start
 joining_starts {S} {B} r limits tally start all ss none ready summed =
     let P : List Seat → Type 0 = λ l. Joining r limits tally start all all l start in
-    subst P (sym none) (record { seats = refl; ready = each_of (IsReady r limits tally) all ready; summed = summed; seat = refl; parts = refl })
+    subst P (sym none) (record { seats = refl; ready = each_of (IsReady r limits tally) all ready; summed = summed; seat = refl; parts = refl; opens = refl })
 
 pub last_ready : {S B : Type 0} (r : Rules S) (limits : Limits) (tally : TableId) (start : Sum B) (all old left : List (Work B)) (w : Work B) (ss : List Seat) (sum : Sum B) → Joining r limits tally start all old ss sum → old ≡ left ++ w ∷ [] → Each (IsReady r limits tally) left × IsReady r limits tally w
 last_ready {S} {B} r limits tally start all old left w ss sum h is =
@@ -213,15 +216,20 @@ joining_steps {S} {B} r limits tally start all old left w ss more seat sum new h
       summed = summed_steps r limits tally start.pass.count ss sum new w h.summed ready.1 add;
       seat = omega (arith, one, ready.1.seated.part, count, h.seat);
       parts = omega (arith, add.parts, share, h.parts);
+      opens = (let more : new.tally.opens ≡ sum.tally.opens + w.tally.opens = ap (λ (s : Seated). s.opens) add.seat in
+          let was : all_opens old ≡ all_opens left + w.tally.opens = ap all_opens is ∙ total_snoc (λ (x : Work B). x.tally.opens) left w in
+          omega (arith, more, was, h.opens));
     })
 
-pub joined : {S B : Type 0} (r : Rules S) (limits : Limits) (tally : TableId) (start : Sum B) (all left : List (Work B)) (ss : List Seat) (sum : Sum B) → Joining r limits tally start all left ss sum → left ≡ [] → (ss ≡ seats_onto all []) × (sum.tally.parts ≡ start.tally.parts + length all) × (sum.pass.parts ≡ start.pass.parts + all_parts all)
+pub joined : {S B : Type 0} (r : Rules S) (limits : Limits) (tally : TableId) (start : Sum B) (all left : List (Work B)) (ss : List Seat) (sum : Sum B) → Joining r limits tally start all left ss sum → left ≡ [] → (ss ≡ seats_onto all []) × (sum.tally.parts ≡ start.tally.parts + length all) × (sum.pass.parts ≡ start.pass.parts + all_parts all) × (sum.tally.opens ≡ start.tally.opens + all_opens all)
 joined {S} {B} r limits tally start all left ss sum h none =
     let count : length left ≡ 0 = ap length none in
-    let share : all_parts left ≡ 0 = ap all_parts none in (
+    let share : all_parts left ≡ 0 = ap all_parts none in
+    let opened : all_opens left ≡ 0 = ap all_opens none in (
       sym (append-nil ss) ∙ ap (λ (l : List (Work B)). ss ++ seats_onto l []) (sym none) ∙ h.seats,
       omega (arith, count, h.seat),
       omega (arith, share, h.parts),
+      omega (arith, opened, h.opens),
     )
 
 -- worker 0 has met the root, and the others are as they were
@@ -234,6 +242,14 @@ root_started {S} {B} r limits tally old rest new v w is now ready counted same p
     let was : length old ≡ length rest + 1 = ap length is ∙ length-append rest (v ∷ []) in
     let len : length new ≡ length rest + 1 = ap length now ∙ length-append rest (w ∷ []) in
     each_at (IsReady r limits tally) new (subst P (sym now) (each_snoc (IsReady r limits tally) rest w apart.0 last)) i d (omega (arith, lt, was, len))
+
+-- where worker 0 has opened nothing more, nobody has
+pub still_unopened : {B : Type 0} (old rest new : List (Work B)) (v w : Work B) → old ≡ rest ++ v ∷ [] → new ≡ rest ++ w ∷ [] → w.tally ≡ v.tally → all_opens new ≡ all_opens old
+still_unopened {B} old rest new v w is now same =
+    let was : all_opens old ≡ all_opens rest + v.tally.opens = ap all_opens is ∙ total_snoc (λ (x : Work B). x.tally.opens) rest v in
+    let more : all_opens new ≡ all_opens rest + w.tally.opens = ap all_opens now ∙ total_snoc (λ (x : Work B). x.tally.opens) rest w in
+    let opens = ap (λ (s : Seated). s.opens) same in
+    omega (arith, was, more, opens)
 
 -- there are as many ends as workers
 onto_length : {B : Type 0} (ws : List (Work B)) (ss : List Seat) → length (seats_onto ws ss) ≡ length ws + length ss

@@ -6,7 +6,7 @@ use native.Mathlib.Nat.{mod-add-mod}
 use Rattle.atomic_table.proofs.Lists.{at_set, at_snoc}
 use Rattle.atomic_table.specs.Table.{State, Me, Allows, Splits, Joins, Final, Seen, keeps}
 use Rattle.workpool.specs.declared.rule.Counted.{Counted}
-use Rattle.workpool.specs.Inner.Rules.{IsTallied, opened, shut, heard, stopping, split_left, split_right, joined, spent}
+use Rattle.workpool.specs.Inner.Rules.{FindsAll, IsTallied, opened, shut, heard, stopping, split_left, split_right, joined, spent}
 use Rattle.workpool.specs.Inner.Sums.{total}
 use Rattle.workpool.proofs.SumLemmas.{total_set, total_snoc, alone}
 
@@ -86,6 +86,22 @@ module _ (words : List ℕ) (views : List Counted) (seat : ℕ) (v : Counted) (a
       same_three (suc (suc zero)) h = refl
       same_three (suc (suc (suc n))) h = absurd (omega (arith, h))
 
+  -- where one seat has all parts, the sums are what it has counted
+  sole : (f : Counted → ℕ) → ((i : ℕ) (u : Counted) → get_elem? views i ≡ some u → u.parts ≡ 0 → f u ≡ 0) → v.parts ≡ 65 → total f views ≡ f v
+  sole f idle all = alone (λ (x : Counted). x.parts) f views seat v at idle (t.parts ∙ sym all)
+
+  pub sole_opens : v.parts ≡ 65 → total (λ (x : Counted). x.opens) views % 2 ^ 64 ≡ v.opens % 2 ^ 64
+  sole_opens all = ap (λ n. n % 2 ^ 64) (sole (λ (x : Counted). x.opens) (λ i u there none. (t.idle i u there none).0) all)
+
+  pub sole_shuts : v.parts ≡ 65 → total (λ (x : Counted). x.shuts) views % 2 ^ 64 ≡ v.shuts % 2 ^ 64
+  sole_shuts all = ap (λ n. n % 2 ^ 64) (sole (λ (x : Counted). x.shuts) (λ i u there none. (t.idle i u there none).1) all)
+
+  pub finds_opens : FindsAll v v.opens (slice_index words 0)
+  finds_opens all = ap (λ ws. slice_index ws 0) t.words_are ∙ sole_opens all
+
+  pub finds_shuts : FindsAll v v.shuts (slice_index words 1)
+  finds_shuts all = ap (λ ws. slice_index ws 1) t.words_are ∙ sole_shuts all
+
   -- the mark that is found
   mark_found : slice_index words 2 ≡ t.mark
   mark_found = ap (λ ws. slice_index ws 2) t.words_are
@@ -158,8 +174,11 @@ module _ (slots id : ℕ) (me : Me (Unit {0}) Counted) where
   pub may_stop : Allows holds slots id me 2 (λ n. 1) (λ found after. after ≡ (stopping me.0, me.1))
   may_stop s kept len at fits = (stopping me.0, keeps, tt, keeps_stop s.words s.views id me.0 at kept, refl)
 
-  pub may_read : (word : ℕ) → word < 3 → Allows holds slots id me word (λ n. n) (λ found after. after ≡ me)
-  may_read word lt s kept len at fits = (me.0, keeps, tt, keeps_read s.words s.views id me.0 at kept word lt, refl)
+  pub may_read_opens : Allows holds slots id me 0 (λ n. n) (λ found after. (after ≡ me) × FindsAll me.0 me.0.opens found)
+  may_read_opens s kept len at fits = (me.0, keeps, tt, keeps_read s.words s.views id me.0 at kept 0 (omega arith), (refl, finds_opens s.words s.views id me.0 at kept))
+
+  pub may_read_shuts : Allows holds slots id me 1 (λ n. n) (λ found after. (after ≡ me) × FindsAll me.0 me.0.shuts found)
+  may_read_shuts s kept len at fits = (me.0, keeps, tt, keeps_read s.words s.views id me.0 at kept 1 (omega arith), (refl, finds_shuts s.words s.views id me.0 at kept))
 
   pub may_hear : Allows holds slots id me 2 (λ n. n) (λ found after. (after ≡ (heard me.0 found, me.1)) × (me.0.stopped ≡ true → 0 < found))
   may_hear s kept len at fits = (heard me.0 (slice_index s.words 2), keeps, tt, keeps_hear s.words s.views id me.0 at kept, (refl, hears s.words s.views id me.0 at kept))
@@ -176,6 +195,4 @@ settled words slots id v end all =
     let s = end.0 in
     let kept = end.1.0 in
     let at = end.1.1 in
-    let opens : total (λ (x : Counted). x.opens) s.views ≡ v.opens = alone (λ (x : Counted). x.parts) (λ (x : Counted). x.opens) s.views id v at (λ i u there none. (kept.idle i u there none).0) (kept.parts ∙ sym all) in
-    let shuts : total (λ (x : Counted). x.shuts) s.views ≡ v.shuts = alone (λ (x : Counted). x.parts) (λ (x : Counted). x.shuts) s.views id v at (λ i u there none. (kept.idle i u there none).1) (kept.parts ∙ sym all) in
-    (kept.mark, sym end.2 ∙ kept.words_are ∙ three (ap (λ n. n % 2 ^ 64) opens) (ap (λ n. n % 2 ^ 64) shuts) refl)
+    (kept.mark, sym end.2 ∙ kept.words_are ∙ three (sole_opens s.words s.views id v at kept all) (sole_shuts s.words s.views id v at kept all) refl)

@@ -24,7 +24,7 @@ module _ {V : Type 0} where
         let rest = all_idle views (λ i. idle (suc i)) (omega (arith, none)) in
         omega (arith, here, rest)
 
-    part_of : (views : List V) (port : ℕ) (v : V) → get_elem? views port ≡ some v → parts v ≤ total parts views
+    pub part_of : (views : List V) (port : ℕ) (v : V) → get_elem? views port ≡ some v → parts v ≤ total parts views
     part_of [] port v at = absurd (some-ne-none v (sym at))
     part_of (x ∷ views) zero v at = let same : parts x ≡ parts v = ap parts (some-injective x v at) in omega (arith, same)
     part_of (x ∷ views) (suc port) v at = let rest = part_of views port v at in omega (arith, rest)

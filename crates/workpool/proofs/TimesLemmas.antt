@@ -1,9 +1,10 @@
--- Lists in which each number stands as often are as long.
-use Rattle.std.proofs.Common.{◌≡◌, ℕ, suc, ◌+◌, ◌≤◌, ◌==◌, ◌⊎◌, inl, inr, if◌then◌else◌, Bool, true, false, List, [], ◌∷◌, ◌++◌, length, arith, ap, refl, subst, length-append}
+-- Lists in which each number stands as often are as long; so as many jobs were put and taken as deques say.
+use Rattle.std.proofs.Common.{◌≡◌, ℕ, suc, ◌+◌, ◌≤◌, ◌==◌, ◌⊎◌, inl, inr, if◌then◌else◌, Bool, true, false, List, [], ◌∷◌, ◌++◌, length, arith, ap, refl, sym, ◌∙◌, subst, length-append}
 use Rattle.std.proofs.lemmas.Bool.Decides.{nat_tests}
-use Rattle.workpool.specs.Inner.Sums.{times}
-use Rattle.workpool.specs.Rings.{all_put, all_taken, all_stolen}
-use Rattle.workpool.specs.Inner.Joined.{jobs_put, jobs_taken}
+use Rattle.workpool.specs.Jobs.{Owned}
+use Rattle.workpool.specs.Rings.{AreBack, AreSettled, jobs_put, jobs_taken}
+use Rattle.workpool.specs.Inner.Sums.{times, total}
+use Rattle.workpool.specs.Inner.Joined.{seats_put, seats_taken}
 use Rattle.workpool.specs.declared.ring.Seat.{Seat}
 use Rattle.workpool.proofs.SumLemmas.{times-append}
 
@@ -60,35 +61,46 @@ same_length (z ∷ xs) ys h =
     let rest = same_length xs less.rest (λ x. (let f = h x in let o = less.others x in omega (arith, f, o))) in
     omega (arith, rest, less.len)
 
--- all jobs that were put, and all that were taken by whomever
-abbrev pub put_list : List Seat → List ℕ
-put_list [] = []
-put_list (s ∷ seats) = s.owner.put ++ put_list seats
+-- all numbers of lists in views, one list behind the other
+module _ {V : Type 0} (f : V → List ℕ) where
+  abbrev pub all_of : List V → List ℕ
+  all_of [] = []
+  all_of (v ∷ views) = f v ++ all_of views
 
-abbrev pub taken_list : List Seat → List ℕ
-taken_list [] = []
-taken_list (s ∷ seats) = (s.owner.taken ++ s.thief.taken) ++ taken_list seats
+  pub count_of : (views : List V) → length (all_of views) ≡ total (λ v. length (f v)) views
+  count_of [] = refl
+  count_of (v ∷ views) = let n = length-append (f v) (all_of views) in let rest = count_of views in omega (arith, n, rest)
 
-pub put_count : (seats : List Seat) → length (put_list seats) ≡ jobs_put seats
-put_count [] = refl
-put_count (s ∷ seats) = let n = length-append s.owner.put (put_list seats) in let rest = put_count seats in omega (arith, n, rest)
+  pub times_of : (x : ℕ) (views : List V) → times x (all_of views) ≡ total (λ v. times x (f v)) views
+  times_of x [] = refl
+  times_of x (v ∷ views) = let n = times-append x (f v) (all_of views) in let rest = times_of x views in omega (arith, n, rest)
 
-pub taken_count : (seats : List Seat) → length (taken_list seats) ≡ jobs_taken seats
-taken_count [] = refl
-taken_count (s ∷ seats) =
-    let n = length-append (s.owner.taken ++ s.thief.taken) (taken_list seats) in
-    let m = length-append s.owner.taken s.thief.taken in
-    let rest = taken_count seats in
-    omega (arith, n, m, rest)
+-- as many, where each number stands as often
+pub as_many_of : {V W : Type 0} (f : V → List ℕ) (g : W → List ℕ) (vs : List V) (ws : List W) → ((x : ℕ) → total (λ v. times x (f v)) vs ≡ total (λ w. times x (g w)) ws) → total (λ v. length (f v)) vs ≡ total (λ w. length (g w)) ws
+as_many_of f g vs ws same =
+    sym (count_of f vs) ∙ same_length (all_of f vs) (all_of g ws) (λ x. times_of f x vs ∙ same x ∙ sym (times_of g x ws)) ∙ count_of g ws
 
-pub put_times : (x : ℕ) (seats : List Seat) → times x (put_list seats) ≡ all_put x seats
-put_times x [] = refl
-put_times x (s ∷ seats) = let n = times-append x s.owner.put (put_list seats) in let rest = put_times x seats in omega (arith, n, rest)
+-- as many jobs were put into the deques as by the threads, and taken out of them
+pub put_back : (seats : List Seat) (deques : List Owned) → AreBack seats deques → jobs_put deques ≡ seats_put seats
+put_back seats deques back = as_many_of (λ (o : Owned). o.put) (λ (s : Seat). s.owner.put) deques seats back.put
 
-pub taken_times : (x : ℕ) (seats : List Seat) → times x (taken_list seats) ≡ all_taken x seats + all_stolen x seats
-taken_times x [] = refl
-taken_times x (s ∷ seats) =
-    let n = times-append x (s.owner.taken ++ s.thief.taken) (taken_list seats) in
-    let m = times-append x s.owner.taken s.thief.taken in
-    let rest = taken_times x seats in
-    omega (arith, n, m, rest)
+both_ends : (seats : List Seat) → total (λ (s : Seat). length (s.owner.taken ++ s.thief.taken)) seats ≡ seats_taken seats
+both_ends [] = refl
+both_ends (s ∷ seats) = let n = length-append s.owner.taken s.thief.taken in let rest = both_ends seats in omega (arith, n, rest)
+
+pub taken_back : (seats : List Seat) (deques : List Owned) → AreBack seats deques → jobs_taken deques ≡ seats_taken seats
+taken_back seats deques back = as_many_of (λ (o : Owned). o.taken) (λ (s : Seat). s.owner.taken ++ s.thief.taken) deques seats back.taken ∙ both_ends seats
+
+-- no more were taken than put
+pub taken_fewer : (deques : List Owned) (count : ℕ) → AreSettled deques count → jobs_taken deques ≤ jobs_put deques
+taken_fewer deques count s =
+    let put = count_of (λ (o : Owned). o.put) deques in
+    let out = count_of (λ (o : Owned). o.taken) deques in
+    let as_long = same_length (all_of (λ (o : Owned). o.put) deques) (all_of (λ (o : Owned). o.taken) deques ++ s.left) (λ x.
+    (let p = times_of (λ (o : Owned). o.put) x deques in
+    let t = times_of (λ (o : Owned). o.taken) x deques in
+    let n = times-append x (all_of (λ (o : Owned). o.taken) deques) s.left in
+    let f = s.fair x in
+    omega (arith, p, t, n, f))) in
+    let n = length-append (all_of (λ (o : Owned). o.taken) deques) s.left in
+    omega (arith, as_long, n, put, out)

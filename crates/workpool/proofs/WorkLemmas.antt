@@ -1,5 +1,5 @@
 -- What stays of a worker from step to step, and what it has met so far.
-use Rattle.std.proofs.Common.{◌≡◌, ℕ, ◌+◌, zero, suc, true, Bool, List, [], ◌∷◌, ◌++◌, length, slice_get, Some, arith, ap, refl, sym, ◌∙◌, subst, inl, inr, length-append, ◌%◌, ◌^◌, None, ◌≤◌}
+use Rattle.std.proofs.Common.{◌≡◌, ℕ, ◌+◌, zero, suc, true, Bool, List, [], ◌∷◌, ◌++◌, length, slice_get, Some, arith, ap, refl, sym, ◌∙◌, subst, length-append, ◌%◌, ◌^◌, None, ◌≤◌}
 use Rattle.std.specs.Prelude.{reverse}
 use Rattle.std.proofs.lemmas.List.{reverse-append}
 use native.Mathlib.Nat.{mod-add-mod}

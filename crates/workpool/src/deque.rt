@@ -13,7 +13,8 @@ use std::marker::Model;
 const ROOM: usize = 64;
 
 /// The end of a deque at which its owner puts jobs and takes them, the last one first. A clause
-/// sees which deque it is, what was put and what the owner has taken.
+/// sees which deque it is, what was put and what the owner has taken; and where the thief's end was
+/// given back to the owner, what that thief has taken too.
 #[derive(Drop)]
 pub struct Owner {
     worker: Worker<u64, Global, Hand, Fair>,
@@ -28,7 +29,7 @@ impl Model for Owner {
 
     ghost view = { λ o. record { deque = worker_deque o.worker; put = (worker_view o.worker).put; taken = (worker_view o.worker).taken } };
 
-    ghost invariant = { λ o. (0 < worker_flavor o.worker) × ((worker_view o.worker).parts ≡ 1) };
+    ghost invariant = { λ o. (0 < worker_flavor o.worker) × (0 < (worker_view o.worker).parts) };
 }
 
 /// The end of a deque at which its thief takes jobs, the first one first. A clause sees which deque
@@ -95,15 +96,17 @@ impl Thief {
     }
 }
 
-/// How many jobs are left, once both ends are in one thread: each job was put as often as its
-/// owner took it, its thief took it or it is left.
-pub fn settle(owner: Owner, thief: Thief) -> usize
+/// Gives the thief's end back to the owner, once both are in one thread, and answers how many jobs
+/// are left: each was put as often as its owner took it, its thief took it or it is left.
+pub fn settle(owner: Owner, thief: Thief) -> (Owner, usize)
     requires { owner.deque ≡ thief.deque }
-    ensures { IsSettled owner thief result }
+    ensures settled { IsSettled owner thief result.1 }
+    ensures back { result.0 ≡ record owner { taken = owner.taken ++ thief.taken } }
 {
     let Owner { mut worker } = owner;
     let Thief { stealer, pass } = thief;
     drop(stealer);
     worker.absorb::<Whole>(pass);
-    worker.len_as::<Rest>()
+    let left = worker.len_as::<Rest>();
+    (Owner { worker }, left)
 }

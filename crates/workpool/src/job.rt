@@ -90,14 +90,14 @@ fn meet_all<P: Space, Q: Quest<P::State>, B: Naming, R: Wait>(
     ensures noted { work.new.past ≡ work.old.past }
 {
     let count = choice_count(space, entry);
-    let mut next = Vec::new(alloc);
+    let mut next = Vec::with_capacity(alloc, count as usize)?;
     let mut within = true;
     for met in 0..count {
         let choice = count - 1 - met;
         match meet_choice(
             alloc, rt, space, limits, book, tally, root, work, entry, choice,
         )? {
-            Some(seen) => next.push(seen)?,
+            Some(seen) => next.push_reserved(seen),
             None => within = false,
         }
     }

@@ -17,7 +17,6 @@ mod rule;
 mod run;
 mod sum;
 mod tally;
-mod way;
 mod work;
 mod worker;
 mod workers;

@@ -1,6 +1,6 @@
 // One meeting of a worker with the book, and how it comes by its next job.
 
-ghost use Rattle.std.specs.Prelude.{◌≡◌, IfNone, IfOk, IfSome};
+ghost use Rattle.std.specs.Prelude.{◌≡◌, IfErr, IfNone, IfOk, IfSome};
 ghost use Rattle.statebook.specs.Books.{Dominates};
 ghost use Rattle.shardbook.specs.Quests.{IsWanted};
 ghost use Rattle.workpool.specs.Inner.Works.{IsCounted, IsSamePlace, IsSeated, StaysCounted};
@@ -40,6 +40,7 @@ pub(crate) fn meet<S: Eq + Hash + Drop, Q: Quest<S>, B: Naming, R: Wait>(
     ensures counted { StaysCounted work.old work.new }
     ensures same { IsSamePlace work.old work.new }
     ensures past { work.new.past ≡ work.old.past }
+    ensures refused { IfErr result (λ _. work.new.tally ≡ work.old.tally) }
 {
     let seen = match book.meet(rt, &mut work.pass, entry) {
         Ok(Met::New(seen)) => seen,

@@ -1,7 +1,7 @@
 // Deques in a ring: each thread owns one, and steals from the one of the next thread.
 
-ghost use Rattle.std.specs.Prelude.{◌≡◌, ◌<◌, IfOk, vec_len};
-ghost use Rattle.workpool.specs.Rings.{AreIdle, AreSettled, IsRing};
+ghost use Rattle.std.specs.Prelude.{◌≡◌, ◌<◌, ◌≤◌, [], IfOk, vec_len, vec_capacity};
+ghost use Rattle.workpool.specs.Rings.{AreBack, AreIdle, AreSettled, IsRing};
 
 use crate::deque::{Owner, Thief, ends, settle};
 use basis::NoMemory;
@@ -37,10 +37,15 @@ pub fn new_ring(alloc: Global, count: usize) -> Result<Vec<Seat>, NoMemory>
     Ok(seats)
 }
 
-/// How many jobs are left in all deques, modulo 2^64, once all seats are in one thread.
-pub fn settle_all(seats: Vec<Seat>) -> usize
-    requires { IsRing seats.items }
-    ensures { AreSettled seats.items result }
+/// Gives each thief's end back to the owner of its deque, once all seats are in one thread, puts the
+/// owners into the list, which has room for them, and answers how many jobs are left in all deques,
+/// modulo 2^64. Nothing is allocated.
+pub fn settle_all(seats: Vec<Seat>, owners: &mut Vec<Owner>) -> usize
+    requires ring { IsRing seats.items }
+    requires none { owners.old.items ≡ [] }
+    requires room { vec_len seats ≤ vec_capacity owners.old }
+    ensures back { AreBack seats.items owners.new.items }
+    ensures settled { AreSettled owners.new.items result }
 {
     let mut seats = seats;
     let Some(
@@ -55,8 +60,12 @@ pub fn settle_all(seats: Vec<Seat>) -> usize
     let mut last = owner;
     let mut left = 0usize;
     while let Some(Seat { owner, thief }) = seats.pop() {
-        left = left.wrapping_add(settle(last, thief));
+        let (whole, more) = settle(last, thief);
+        owners.push_reserved(whole);
+        left = left.wrapping_add(more);
         last = owner;
     }
-    left.wrapping_add(settle(last, first))
+    let (whole, more) = settle(last, first);
+    owners.push_reserved(whole);
+    left.wrapping_add(more)
 }

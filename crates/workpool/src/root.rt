@@ -1,6 +1,6 @@
 // The root's entry, with which a search begins.
 
-ghost use Rattle.std.specs.Prelude.{◌≡◌, IfNone, IfOk, IfSome};
+ghost use Rattle.std.specs.Prelude.{◌≡◌, IfErr, IfNone, IfOk, IfSome};
 ghost use Rattle.workpool.specs.Searches.{IsQuestOf, IsRootOf, SomeRunComesBack};
 ghost use Rattle.statebook.specs.Inner.Forced.{IsFirst};
 ghost use Rattle.workpool.specs.Inner.Works.{IsSamePlace, IsSeated, StaysCounted};
@@ -31,6 +31,7 @@ pub(crate) fn meet_root<P: Space, Q: Quest<P::State>, B: Naming, R: Wait>(
     ensures counted { StaysCounted work.old work.new }
     ensures same { IsSamePlace work.old work.new }
     ensures past { work.new.past ≡ work.old.past }
+    ensures refused { IfErr result (λ _. work.new.tally ≡ work.old.tally) }
 {
     let entry = Entry {
         state: space.root()?,

@@ -1,7 +1,7 @@
 // The rule of the tally's words, and what each step on them tells. Only contracts read these types.
 
 ghost use Rattle.std.specs.Prelude.{◌≡◌};
-ghost use Rattle.workpool.specs.Inner.Rules.{IsTallied, fresh, opened, shut, heard, stopping, split_left, split_right, joined, spent, StaysHeard};
+ghost use Rattle.workpool.specs.Inner.Rules.{FindsAll, IsTallied, fresh, opened, shut, heard, stopping, split_left, split_right, joined, spent, StaysHeard};
 
 use atomic_table::{Join, Play, Split, TableRule};
 
@@ -44,11 +44,18 @@ impl Play<(), Counted> for Stops {
     ghost then = { λ _ me _ after. after ≡ (stopping me.0, me.1) };
 }
 
-// A count was read.
-pub struct Reads;
+// The count of opens was read.
+pub struct ReadsOpens;
 
-impl Play<(), Counted> for Reads {
-    ghost then = { λ _ me _ after. after ≡ me };
+impl Play<(), Counted> for ReadsOpens {
+    ghost then = { λ _ me found after. (after ≡ me) × FindsAll me.0 me.0.opens found };
+}
+
+// The count of shuts was read.
+pub struct ReadsShuts;
+
+impl Play<(), Counted> for ReadsShuts {
+    ghost then = { λ _ me found after. (after ≡ me) × FindsAll me.0 me.0.shuts found };
 }
 
 // The mark was read.

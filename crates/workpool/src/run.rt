@@ -1,15 +1,16 @@
 // The call that runs the workers of a search.
 
-ghost use Rattle.std.specs.Prelude.{◌≡◌, ℕ, ◌+◌, ◌<◌, ◌≤◌, ◌⊎◌, true, length, Some, None, IfNone, IfOk, IfSome};
+ghost use Rattle.std.specs.Prelude.{◌≡◌, ℕ, ◌+◌, ◌<◌, ◌≤◌, ◌⊎◌, true, [], length, vec_len, vec_capacity, Some, None, IfErr, IfNone, IfOk, IfSome};
 ghost use Rattle.workpool.specs.Rings.{IsRing};
-ghost use Rattle.workpool.specs.Runs.{AreGiven, AreJobs, HasNoRoot, IsRefused, TellsEntries};
+ghost use Rattle.workpool.specs.Runs.{AreGiven, AreJobs, HasNoRoot, IsRefused, TellsFull};
 ghost use Rattle.workpool.specs.Searches.{IsQuestOf, IsRootOf};
 ghost use Rattle.statebook.specs.Ways.{SomeRunExceeds};
 ghost use Rattle.statebook.specs.Inner.Forced.{IsFirst};
-ghost use Rattle.workpool.specs.Inner.Joined.{AreReady, AreSamePlaces, IsSummed};
-ghost use Rattle.workpool.specs.Inner.Told.{TellsSums, nothing_run};
+ghost use Rattle.workpool.specs.Inner.Joined.{AreReady, AreSamePlaces, IsSummed, all_opens};
+ghost use Rattle.workpool.specs.Inner.Told.{RunsNothing, TellsSums};
 ghost use Rattle.workpool.specs.Inner.Works.{TellsPast};
 
+use crate::deque::Owner;
 use crate::gate::Gate;
 use crate::ran::Ran;
 use crate::ring::{Seat, settle_all};
@@ -30,7 +31,7 @@ use std::thread::Threads;
 // The first reason to stop short that there is.
 fn cut_of(refused: Option<NoMemory>, opens: u64, past: bool, limits: &Limits) -> Option<Reason>
     ensures memory { (refused ≡ None) ⊎ IsRefused result }
-    ensures entries { TellsEntries opens limits.now result }
+    ensures entries { TellsFull opens limits.now result }
     ensures steps { result ≡ Some Reason.Steps → past ≡ true }
 {
     if let Some(refused) = refused {
@@ -43,14 +44,19 @@ fn cut_of(refused: Option<NoMemory>, opens: u64, past: bool, limits: &Limits) ->
 }
 
 // Where memory was refused before the workers began.
-fn not_begun<S, Q: Quest<S>, B: Naming>(pass: Pass<B>, refused: NoMemory) -> Ran<S, Q, B>
-    ensures { result ≡ nothing_run pass refused }
+fn not_begun<S, Q: Quest<S>, B: Naming>(
+    alloc: Global,
+    pass: Pass<B>,
+    refused: NoMemory,
+) -> Ran<S, Q, B>
+    ensures { RunsNothing pass result }
 {
     Ran {
         opens: 0,
         shuts: 0,
         given: 0,
         taken: 0,
+        deques: Vec::new(alloc),
         cut: Some(Reason::Memory(refused)),
         root: None,
         pass,
@@ -74,6 +80,7 @@ fn start<P: Space, Q: Quest<P::State>, B: Naming, R: Wait>(
     ensures len { length works.new.items ≡ length works.old.items }
     ensures ready { AreReady (P.rules space.now) limits.now tally.now (length works.old.items) works.new.items }
     ensures same { AreSamePlaces works.old.items works.new.items }
+    ensures unmet { IfErr result (λ _. all_opens works.new.items ≡ all_opens works.old.items) }
 {
     let Some(mut work) = works.pop() else {
         unreachable!()
@@ -107,6 +114,7 @@ fn search<
     ensures len { length works.new.items ≡ length works.old.items }
     ensures ready { AreReady (P.rules space.now) limits.now tally.now (length works.old.items) works.new.items }
     ensures same { AreSamePlaces works.old.items works.new.items }
+    ensures unmet { IfErr result (λ _. all_opens works.new.items ≡ all_opens works.old.items) }
 {
     let seen = start(alloc, rt, space, limits, book, tally, works)?;
     let root = &book.read(&seen).state;
@@ -133,22 +141,27 @@ fn tell<P: Space, Q: Quest<P::State>, B: Naming>(
     tally: Tally,
     sum: Sum<B>,
     ring: Vec<Seat>,
+    deques: Vec<Owner>,
     met: Result<Seen<P::State, Q, B>, NoMemory>,
 ) -> Ran<P::State, Q, B>
     requires quest { IsQuestOf Q.rules Q.depart Q.steps (P.rules space.now) limits.now }
     requires parts { sum.tally.parts ≡ SEATS }
     requires here { sum.tally.tally ≡ tally }
     requires ring { IsRing ring.items }
+    requires none { deques.items ≡ [] }
+    requires room { vec_len ring ≤ vec_capacity deques }
     requires told { TellsPast (P.rules space.now) limits.now sum.past }
     requires first { IfOk met (λ seen. IsFirst (P.rules space.now) seen.entry.state) }
+    requires unmet { IfErr met (λ _. sum.tally.opens ≡ 0) }
     ensures parts { result.pass.parts ≡ sum.pass.parts }
     ensures sums { (start : ℕ) → IsSummed (P.rules space.now) limits.now tally start ring.items sum → TellsSums start result }
     ensures root { IfSome result.root (λ seen. IsRootOf (P.rules space.now) limits.now seen.entry) }
-    ensures none { IfNone result.root (HasNoRoot (P.rules space.now) limits.now result.cut) }
-    ensures entries { TellsEntries result.opens limits.now result.cut }
+    ensures none { IfNone result.root (HasNoRoot (P.rules space.now) limits.now result.opens result.cut) }
+    ensures entries { TellsFull result.opens limits.now result.cut }
     ensures steps { result.cut ≡ Some Reason.Steps → SomeRunExceeds (P.rules space.now) limits.now }
 {
-    let _ = settle_all(ring);
+    let mut deques = deques;
+    let _ = settle_all(ring, &mut deques);
     let Sum {
         tally: seat,
         pass,
@@ -169,6 +182,7 @@ fn tell<P: Space, Q: Quest<P::State>, B: Naming>(
         shuts,
         given,
         taken,
+        deques,
         cut: cut_of(either(unmet, refused), opens, past, limits),
         root,
         pass,
@@ -210,10 +224,10 @@ pub fn run_workers<
     ensures given { AreGiven result.given result.opens result.cut }
     ensures taken { result.taken ≤ result.given }
     ensures shuts { result.shuts ≡ result.taken }
-    ensures jobs { AreJobs result.given result.taken }
+    ensures jobs { AreJobs result.deques.items result.given result.taken }
     ensures root { IfSome result.root (λ seen. IsRootOf (P.rules space.now) limits.now seen.entry) }
-    ensures none { IfNone result.root (HasNoRoot (P.rules space.now) limits.now result.cut) }
-    ensures entries { TellsEntries result.opens limits.now result.cut }
+    ensures none { IfNone result.root (HasNoRoot (P.rules space.now) limits.now result.opens result.cut) }
+    ensures entries { TellsFull result.opens limits.now result.cut }
     ensures steps { result.cut ≡ Some Reason.Steps → SomeRunExceeds (P.rules space.now) limits.now }
 {
     let Room {
@@ -221,9 +235,10 @@ pub fn run_workers<
         mut all,
         mut ring,
         mut works,
+        deques,
     } = match make_room(alloc, count) {
         Ok(room) => room,
-        Err(refused) => return not_begun(pass, refused),
+        Err(refused) => return not_begun(alloc, pass, refused),
     };
     let mut pass = pass;
     seat_workers(
@@ -239,5 +254,5 @@ pub fn run_workers<
         past: false,
     };
     let sum = join_workers(space, limits, book, &tally, none, works, &mut ring);
-    tell(space, limits, book, tally, sum, ring, met)
+    tell(space, limits, book, tally, sum, ring, deques, met)
 }

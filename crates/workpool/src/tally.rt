@@ -3,7 +3,9 @@
 ghost use Rattle.std.specs.Prelude.{◌≡◌, ◌+◌, ◌-◌, ◌%◌, ◌^◌, ◌<◌, ◌≤◌, true, IsTrue, IfOk};
 ghost use Rattle.workpool.specs.Tallies.{both};
 
-use crate::rule::{Both, Counted, Hears, OneOff, Opens, Reads, Shuts, Stops, Tallied};
+use crate::rule::{
+    Both, Counted, Hears, OneOff, Opens, ReadsOpens, ReadsShuts, Shuts, Stops, Tallied,
+};
 use atomic_table::{Seat, Table};
 use basis::NoMemory;
 use std::alloc::Global;
@@ -88,20 +90,24 @@ impl Tally {
             .fetch_add::<Shuts>(&mut seat.seat, SHUTS, 1);
     }
 
-    /// How many entries were opened so far, modulo 2^64.
+    /// How many entries were opened so far, modulo 2^64. A seat with all parts finds just what it has
+    /// counted.
     pub fn opens(&self, seat: &mut TallySeat) -> u64
         requires { seat.old.tally ≡ self.now }
-        ensures { seat.new ≡ seat.old }
+        ensures same { seat.new ≡ seat.old }
+        ensures all { seat.old.parts ≡ SEATS → result ≡ seat.old.opens % 2 ^ 64 }
     {
-        self.table.shared.load::<Reads>(&mut seat.seat, OPENS)
+        self.table.shared.load::<ReadsOpens>(&mut seat.seat, OPENS)
     }
 
-    /// How many entries were shut so far, modulo 2^64.
+    /// How many entries were shut so far, modulo 2^64. A seat with all parts finds just what it has
+    /// counted.
     pub fn shuts(&self, seat: &mut TallySeat) -> u64
         requires { seat.old.tally ≡ self.now }
-        ensures { seat.new ≡ seat.old }
+        ensures same { seat.new ≡ seat.old }
+        ensures all { seat.old.parts ≡ SEATS → result ≡ seat.old.shuts % 2 ^ 64 }
     {
-        self.table.shared.load::<Reads>(&mut seat.seat, SHUTS)
+        self.table.shared.load::<ReadsShuts>(&mut seat.seat, SHUTS)
     }
 
     /// Sets the mark to stop.

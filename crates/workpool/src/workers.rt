@@ -4,7 +4,7 @@ ghost use Rattle.std.specs.Prelude.{◌≡◌, ◌+◌, ◌-◌, ◌<◌, ◌≤
 ghost use Rattle.workpool.specs.Rings.{AreIdle};
 ghost use Rattle.workpool.specs.Searches.{IsQuestOf};
 ghost use Rattle.statebook.specs.Inner.Forced.{IsFirst};
-ghost use Rattle.workpool.specs.Inner.Joined.{AreReady, AreSamePlaces, IsReady, IsSummed, all_parts, seats_onto};
+ghost use Rattle.workpool.specs.Inner.Joined.{AreReady, AreSamePlaces, IsReady, IsSummed, all_opens, all_parts, seats_onto};
 ghost use Rattle.workpool.specs.Inner.Works.{IsSamePlace};
 ghost use Rattle.std.specs.Thread.{IsSend};
 
@@ -45,6 +45,7 @@ pub(crate) fn seat_workers<P: Space, B: Naming>(
     ensures ready { AreReady (P.rules space.now) limits.now tally.now (length works.new.items) works.new.items }
     ensures parts { pass.new.parts + all_parts works.new.items ≡ pass.old.parts }
     ensures count { pass.new.count ≡ pass.old.count }
+    ensures opens { all_opens works.new.items ≡ 0 }
     ensures left { all.new ≡ record all.old { parts = all.old.parts - length ring.old.items } }
 {
     let steals = ring.len() > 1;
@@ -130,6 +131,7 @@ pub(crate) fn join_workers<P: Space, Q: Quest<P::State>, B: Naming>(
     ensures summed { IsSummed (P.rules space.now) limits.now tally.now start.pass.count ring.new.items result }
     ensures seat { result.tally.parts ≡ start.tally.parts + length works.items }
     ensures parts { result.pass.parts ≡ start.pass.parts + all_parts works.items }
+    ensures opens { result.tally.opens ≡ start.tally.opens + all_opens works.items }
 {
     let mut works = works;
     let mut sum = start;

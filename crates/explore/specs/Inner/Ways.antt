@@ -14,10 +14,6 @@ use Rattle.explore.specs.declared.ways.TheConstants.{ROOM}
 use Rattle.explore.specs.declared.way.Ahead.{Ahead}
 use Rattle.explore.specs.declared.way.Ahead.TheVariants.{Station, Past, Unknown}
 
--- The state stands so many forced steps from s.
-abbrev pub IsForced : {S : Type 0} → Rules S → S → ℕ → S → Type 0
-IsForced r s n t = r.same t (forced r s n) ≡ true
-
 -- From s on there is no station for so many steps; with a place, there is one then, the state of the entry at the place.
 abbrev pub LeadsTo : {S : Type 0} → Rules S → List (Entry S) → S → ℕ → Option ℕ → Type 0
 LeadsTo {S} r entries s steps (Some place) = (e : Entry S) × (slice_get entries place ≡ Some e) × ComesTo r s 0 e.state steps

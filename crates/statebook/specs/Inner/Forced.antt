@@ -17,6 +17,10 @@ IfPast answer P = IfOk answer (λ reached. IfNone reached P)
 abbrev pub IsFirst : {S : Type 0} → Rules S → S → Type 0
 IsFirst r s = r.same s r.first ≡ true
 
+-- The state stands so many forced steps from s.
+abbrev pub IsForced : {S : Type 0} → Rules S → S → ℕ → S → Type 0
+IsForced r s n t = r.same t (forced r s n) ≡ true
+
 -- The forced way from s comes to t in m steps, and passes no station before.
 pub record Passes {S : Type 0} (r : Rules S) (s t : S) (m : ℕ) : Type 0 where
   pub same : r.same t (forced r s m) ≡ true

@@ -33,12 +33,16 @@ seats_onto (w ∷ works) seats = seats_onto works (w.seat ∷ seats)
 abbrev pub all_parts : {B : Type 0} → List (Work B) → ℕ
 all_parts {B} works = total (λ (w : Work B). w.pass.parts) works
 
--- how many jobs were put, and taken by whomever
-abbrev pub jobs_put : List Seat → ℕ
-jobs_put seats = total (λ (s : Seat). length s.owner.put) seats
+-- how many entries they have opened together
+abbrev pub all_opens : {B : Type 0} → List (Work B) → ℕ
+all_opens {B} works = total (λ (w : Work B). w.tally.opens) works
 
-abbrev pub jobs_taken : List Seat → ℕ
-jobs_taken seats = total (λ (s : Seat). length s.owner.taken + length s.thief.taken) seats
+-- how many jobs were put, and taken by whomever
+abbrev pub seats_put : List Seat → ℕ
+seats_put seats = total (λ (s : Seat). length s.owner.put) seats
+
+abbrev pub seats_taken : List Seat → ℕ
+seats_taken seats = total (λ (s : Seat). length s.owner.taken + length s.thief.taken) seats
 
 -- The new sum has what the old one and the worker have together.
 pub record IsSumOf {B : Type 0} (old : Sum B) (w : Work B) (new : Sum B) : Type 0 where
@@ -55,9 +59,9 @@ pub record IsSumOf {B : Type 0} (old : Sum B) (w : Work B) (new : Sum B) : Type 
 pub record IsSummed {S B : Type 0} (r : Rules S) (limits : Limits) (tally : TableId) (start : ℕ) (seats : List Seat) (sum : Sum B) : Type 0 where
   pub here : sum.tally.tally ≡ tally
   pub opens : sum.pass.count ≡ start + sum.tally.opens
-  pub fewer : jobs_put seats ≤ sum.tally.opens
-  pub all : sum.refused ≡ None → jobs_put seats ≡ sum.tally.opens
-  pub given : sum.given ≡ jobs_put seats % 2 ^ 64
-  pub taken : sum.taken ≡ jobs_taken seats % 2 ^ 64
-  pub shut : sum.tally.shuts ≡ jobs_taken seats
+  pub fewer : seats_put seats ≤ sum.tally.opens
+  pub all : sum.refused ≡ None → seats_put seats ≡ sum.tally.opens
+  pub given : sum.given ≡ seats_put seats % 2 ^ 64
+  pub taken : sum.taken ≡ seats_taken seats % 2 ^ 64
+  pub shut : sum.tally.shuts ≡ seats_taken seats
   pub told : TellsPast r limits sum.past

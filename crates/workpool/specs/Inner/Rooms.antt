@@ -12,6 +12,8 @@ pub record IsRoomFor {B : Type 0} (count : ℕ) (room : Room B) : Type 0 where
   pub back : count ≤ vec_capacity room.ring
   pub none : room.works.items ≡ []
   pub enough : count ≤ vec_capacity room.works
+  pub unsettled : room.deques.items ≡ []
+  pub ends : count ≤ vec_capacity room.deques
   pub here : room.all.tally ≡ room.tally
   pub parts : room.all.parts ≡ SEATS
   pub opens : room.all.opens ≡ 0

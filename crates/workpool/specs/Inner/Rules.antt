@@ -31,6 +31,10 @@ heard v found = record { parts = v.parts; opens = v.opens; shuts = v.shuts; stop
 abbrev pub StaysHeard : Counted → ℕ → Type 0
 StaysHeard v found = v.stopped ≡ true → 0 < found
 
+-- who has all parts finds just what it has counted
+abbrev pub FindsAll : Counted → ℕ → ℕ → Type 0
+FindsAll v count found = v.parts ≡ 65 → found ≡ count % 2 ^ 64
+
 -- one part goes, with nothing counted
 abbrev pub split_left : Counted → Counted
 split_left v = record { parts = v.parts - 1; opens = v.opens; shuts = v.shuts; stopped = v.stopped }

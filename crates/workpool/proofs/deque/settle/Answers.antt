@@ -8,14 +8,14 @@ use Rattle.workpool.proofs.deque.settle.Goals as goal
 pub absorb-requires-clause-rule : goal.absorb-requires-clause-rule
 absorb-requires-clause-rule c = joins _ _ _ _ (omega (arith, c.owner.invariant.1))
 
-pub len_as-requires : goal.len_as-requires
-len_as-requires c =
+pub len_as-left-requires : goal.len_as-left-requires
+len_as-left-requires c =
     let parts = ap (λ (v : Hand). v.parts) c.absorb.ensures.rule in
     learns _ _ (omega (arith, parts, c.owner.invariant.1, c.thief.invariant.1))
 
-pub returns : goal.returns
-returns c =
-    let rule = c.len_as.ensures.rule in
+pub returns-clause-settled : goal.returns-clause-settled
+returns-clause-settled c =
+    let rule = c.len_as-left.ensures.rule in
     record {
       left = rule.0;
       counted = rule.1;

@@ -1,10 +1,10 @@
-use Rattle.std.proofs.Common.{◌≡◌, ◌∙◌, ◌+◌, ◌-◌, true, false, ap, arith, sym, refl}
+use Rattle.std.proofs.Common.{◌≡◌, ◌∙◌, ◌+◌, ◌-◌, true, false, ap, arith, sym, refl, vec_len, vec_capacity}
 use Rattle.shardbook.specs.Finishes.{IsMetBy}
 use Rattle.statebook.specs.Ways.{ChoiceGoesPast}
 use Rattle.statebook.proofs.NextLemmas.{exceeds}
 use Rattle.workpool.proofs.WorkLemmas.{met_none, met_more, met_all, same_itself, same_twice, seated_same}
 use Rattle.workpool.proofs.job.meet_all.Goals as goal
-use Rattle.workpool.proofs.job.meet_all.Goals.{in-Some+in_ok-push-in-Some, in-None, then-within, else-within}
+use Rattle.workpool.proofs.job.meet_all.Goals.{in-Some, in-None, then-within, else-within}
 
 pub loop-met-init : goal.loop-met-init
 loop-met-init g c = record {
@@ -12,7 +12,9 @@ loop-met-init g c = record {
   counted = λ running h. h;
   same = same_itself c.args.work.now;
   noted = refl;
-  met = λ t. met_none (g.P.Space.rules c.args.space.now) c.args.entry.now c.choice_count-count.result c.new-next.result.items c.new-next.ensures.items;
+  met = λ t. met_none (g.P.Space.rules c.args.space.now) c.args.entry.now c.choice_count-count.result c.in_ok-next.next.items c.in_ok-next.ensures.items;
+  room = omega (arith, c.in_ok-next.ensures.len);
+  capacity = omega (arith, c.in_ok-next.ensures.capacity);
   past = λ f. absurd cc;
 }
 
@@ -22,17 +24,8 @@ returns-in_err-seen-clause-same g c = same_twice c.args.work.now c.loop-met.work
 pub returns-in_err-seen-clause-noted : goal.returns-in_err-seen-clause-noted
 returns-in_err-seen-clause-noted g c = c.meet_choice.ensures.noted ∙ c.loop-met.invariant.noted
 
-pub returns-in_err-push-in-Some-clause-same : goal.returns-in_err-push-in-Some-clause-same
-returns-in_err-push-in-Some-clause-same g c = same_twice c.args.work.now c.loop-met.work c.meet_choice.new.work c.loop-met.invariant.same c.meet_choice.ensures.same
-
-pub returns-in_err-push-in-Some-clause-noted : goal.returns-in_err-push-in-Some-clause-noted
-returns-in_err-push-in-Some-clause-noted g c = c.meet_choice.ensures.noted ∙ c.loop-met.invariant.noted
-
 pub returns-in_err-seen-clause-counted : goal.returns-in_err-seen-clause-counted
 returns-in_err-seen-clause-counted g c = λ running h. c.meet_choice.ensures.counted running (c.loop-met.invariant.counted running h)
-
-pub returns-in_err-push-in-Some-clause-counted : goal.returns-in_err-push-in-Some-clause-counted
-returns-in_err-push-in-Some-clause-counted g c = λ running h. c.meet_choice.ensures.counted running (c.loop-met.invariant.counted running h)
 
 pub loop-met-preserved : goal.loop-met-preserved
 loop-met-preserved g c =
@@ -46,15 +39,23 @@ loop-met-preserved g c =
       counted = λ running h. c.meet_choice.ensures.counted running (i.counted running h);
       same = same_twice c.args.work.now c.loop-met.work c.meet_choice.new.work i.same c.meet_choice.ensures.same;
       noted = c.meet_choice.ensures.noted ∙ i.noted;
-      met = λ t. elim c.match-branch-2.branch [
-        | in-Some+in_ok-push-in-Some w ↦ (
+      met = λ t. elim c.match-branch-3.branch [
+        | in-Some w ↦ (
             let m : IsMetBy r c.args.entry.now choice w.in-Some.seen.entry = rw w.in-Some.is at c.in_ok-seen.ensures.met in
-            met_more r c.args.entry.now all c.loop-met.met choice c.loop-met.next.items c.match-branch-2.next.items w.in-Some.seen
-            (ap (λ v. v.items) w.next-is ∙ w.in_ok-push-in-Some.ensures.items) before (i.met (sym w.within-is ∙ t)) m)
+            met_more r c.args.entry.now all c.loop-met.met choice c.loop-met.next.items c.match-branch-3.next.items w.in-Some.seen
+            (ap (λ v. v.items) w.next-is ∙ w.push_reserved.ensures.items) before (i.met (sym w.within-is ∙ t)) m)
         | in-None w ↦ absurd (let no : true ≡ false = sym t ∙ w.within-is in cc)
       ];
-      past = λ f. elim c.match-branch-2.branch [
-        | in-Some+in_ok-push-in-Some w ↦ i.past (sym w.within-is ∙ f)
+      room = elim c.match-branch-3.branch [
+        | in-Some w ↦ (let len = ap (λ v. vec_len v) w.next-is in omega (arith, len, w.push_reserved.ensures.len, i.room))
+        | in-None w ↦ (let len = ap (λ v. vec_len v) w.next-is in omega (arith, len, i.room))
+      ];
+      capacity = elim c.match-branch-3.branch [
+        | in-Some w ↦ (let most = ap (λ v. vec_capacity v) w.next-is in omega (arith, most, w.push_reserved.ensures.capacity, i.capacity))
+        | in-None w ↦ (let most = ap (λ v. vec_capacity v) w.next-is in omega (arith, most, i.capacity))
+      ];
+      past = λ f. elim c.match-branch-3.branch [
+        | in-Some w ↦ i.past (sym w.within-is ∙ f)
         | in-None w ↦ (
             let p : ChoiceGoesPast r c.args.limits.now c.args.entry.now choice = rw w.in-None.is at c.in_ok-seen.ensures.past in
             exceeds r (g.met.P.Space.lawful c.args.space.now) c.args.limits.now c.args.entry.now choice c.requires.entry

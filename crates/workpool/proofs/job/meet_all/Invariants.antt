@@ -1,5 +1,5 @@
 use Rattle.std.specs.Prelude.{reverse}
-use Rattle.std.proofs.Common.{◌≡◌, true, false}
+use Rattle.std.proofs.Common.{◌≡◌, ◌≤◌, true, false, vec_len, vec_capacity}
 use Rattle.shardbook.specs.Sights.{entries_of}
 use Rattle.statebook.specs.Ways.{SomeRunExceeds}
 use Rattle.workpool.specs.Inner.Works.{IsSamePlace, IsSeated, StaysCounted}
@@ -13,5 +13,7 @@ invariant-loop-met g l = record {
   same : IsSamePlace l.fn.work l.work;
   noted : l.work.past ≡ l.fn.work.past;
   met : l.within ≡ true → HasMetLast (g.P.Space.rules l.space) l.entry l.count l.met (entries_of (reverse l.next.items));
+  room : vec_len l.next ≤ l.met;
+  capacity : l.count ≤ vec_capacity l.next;
   past : l.within ≡ false → SomeRunExceeds (g.P.Space.rules l.space) l.limits;
 }

@@ -1,19 +1,11 @@
-use Rattle.std.proofs.Common.{◌≡◌, ◌∙◌, length, arith, ap, sym, subst}
-use Rattle.workpool.specs.Runs.{AreJobs}
+use Rattle.std.proofs.Common.{◌≡◌, ◌∙◌, length, arith, ap, sym}
 use Rattle.workpool.specs.Tallies.{Seated}
 use Rattle.workpool.specs.Inner.Rooms.{IsRoomFor}
 use Rattle.workpool.specs.Inner.Told.{TellsSums}
-use Rattle.workpool.specs.declared.ran.Ran.{Ran}
 use Rattle.workpool.proofs.JoinLemmas.{as_many, parts_stay, ring_back, stay_of}
-use Rattle.workpool.proofs.ToldLemmas.{no_jobs}
 use Rattle.workpool.proofs.run.run_workers.Given.{Over}
 use Rattle.workpool.proofs.run.run_workers.Goals as goal
 use Rattle.workpool.proofs.run.run_workers.Goals.{After-search-met, After-tell}
-
-pub returns-in-Err-clause-jobs : goal.returns-in-Err-clause-jobs
-returns-in-Err-clause-jobs g c =
-    let P : Ran g.row.P-State.Denot g.row.Q.Denot g.row.B.Denot → Type 0 = λ ran. AreJobs ran.given ran.taken in
-    subst P (sym c.not_begun.ensures) no_jobs
 
 -- there are as many workers as were asked for
 counted : (g : Over) (c : After-search-met g) → length c.search-met.new.works.items ≡ c.args.count
@@ -64,3 +56,9 @@ returns-clause-jobs g c = (told g (goal.at.returns-clause-jobs g c).After-tell).
 
 pub returns-clause-shuts : goal.returns-clause-shuts
 returns-clause-shuts g c = (told g (goal.at.returns-clause-shuts g c).After-tell).shuts
+
+pub tell-requires-clause-room : goal.tell-requires-clause-room
+tell-requires-clause-room g c = λ κs h.
+    let room : IsRoomFor c.args.count c.in-Ok.room = c.in-Ok.ensures in
+    let len = as_many c.search-met.new.works.items c.join_workers-sum.new.ring.items (sym c.join_workers-sum.ensures.seats) in
+    omega (arith, counted g (goal.at.tell-requires-clause-room g c).After-search-met, len, room.ends, c.join_workers-sum.new.ring.ok.0)

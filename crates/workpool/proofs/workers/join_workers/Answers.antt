@@ -1,7 +1,7 @@
 use Rattle.std.proofs.Common.{◌≡◌, ◌+◌, ◌∙◌, [], length, arith, ap, sym}
 use Rattle.workpool.proofs.RingLemmas.{nothing_left}
 use Rattle.workpool.proofs.JoinLemmas.{joined, joining_starts, joining_steps, last_ready}
-use Rattle.workpool.specs.Inner.Joined.{all_parts, seats_onto}
+use Rattle.workpool.specs.Inner.Joined.{all_opens, all_parts, seats_onto}
 use Rattle.workpool.proofs.workers.join_workers.Given.{Over}
 use Rattle.workpool.proofs.workers.join_workers.Goals as goal
 use Rattle.workpool.proofs.workers.join_workers.Goals.{In_default}
@@ -30,7 +30,7 @@ loop-work-preserved g c = record {
   room = omega (arith, c.loop-work.invariant.room, c.in-Some.ensures.len, c.push_reserved.ensures.len, c.push_reserved.ensures.capacity);
 }
 
-all_joined : (g : Over) (c : In_default g) → (c.loop-work.ring.items ≡ seats_onto c.args.works.items []) × (c.loop-work.sum.tally.parts ≡ c.args.start.tally.parts + length c.args.works.items) × (c.loop-work.sum.pass.parts ≡ c.args.start.pass.parts + all_parts c.args.works.items)
+all_joined : (g : Over) (c : In_default g) → (c.loop-work.ring.items ≡ seats_onto c.args.works.items []) × (c.loop-work.sum.tally.parts ≡ c.args.start.tally.parts + length c.args.works.items) × (c.loop-work.sum.pass.parts ≡ c.args.start.pass.parts + all_parts c.args.works.items) × (c.loop-work.sum.tally.opens ≡ c.args.start.tally.opens + all_opens c.args.works.items)
 all_joined g c =
     joined (g.P.Space.rules c.args.space.now) c.args.limits.now c.args.tally.now c.args.start c.args.works.items c.loop-work.works.items c.loop-work.ring.items c.loop-work.sum c.loop-work.invariant.joining
     (nothing_left c.loop-work.works.items (sym c.loop-work.works.ok.0 ∙ c.in_default.ensures.cases.0))
@@ -46,3 +46,6 @@ returns-clause-seat g c = (all_joined g (goal.at.returns-clause-seat g c).In_def
 
 pub returns-clause-parts : goal.returns-clause-parts
 returns-clause-parts g c = (all_joined g (goal.at.returns-clause-parts g c).In_default).2
+
+pub returns-clause-opens : goal.returns-clause-opens
+returns-clause-opens g c = (all_joined g (goal.at.returns-clause-opens g c).In_default).3

@@ -37,7 +37,7 @@ loop-seat-preserved g c =
     record {
       seating = seating_steps r c.args.limits.now c.args.tally.now c.args.ring.now.items c.loop-seat.ring.items c.pop.new.self.items c.loop-seat.works.items c.push_reserved.new.self.items _ c.args.pass.now.parts c.loop-seat.pass.parts c.split-in-Some.new.self.parts
           i.seating c.in-Some.ensures.items c.push_reserved.ensures.items c.split-in-Some.ensures.parts
-          (fresh_ready r c.args.limits.now c.args.tally.now c.loop-seat.all _ i.here c.split.ensures.new idle c.split-in-Some.ensures.nothing refl refl refl);
+          (fresh_ready r c.args.limits.now c.args.tally.now c.loop-seat.all _ i.here c.split.ensures.new idle c.split-in-Some.ensures.nothing refl refl refl) (ap (λ (s : Seated). s.opens) c.split.ensures.new);
       count = c.split-in-Some.ensures.count ∙ i.count;
       here = ap (λ (s : Seated). s.tally) c.split.ensures.left ∙ i.here;
       left = (let parts = ap (λ (s : Seated). s.parts) c.split.ensures.left in
@@ -80,3 +80,6 @@ returns-clause-left g c =
     let none : length c.loop-seat.ring.items ≡ 0 = ap length (none_left g (goal.at.returns-clause-left g c).In_default) in
     let parts : c.loop-seat.all.parts ≡ c.args.all.now.parts - length c.args.ring.now.items = omega (arith, i.left, none) in
     i.rest ∙ ap (λ p. record c.args.all.now { parts = p }) parts
+
+pub returns-clause-opens : goal.returns-clause-opens
+returns-clause-opens g c = c.loop-seat.invariant.seating.unopened

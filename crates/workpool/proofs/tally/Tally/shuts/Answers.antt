@@ -1,7 +1,7 @@
 use Rattle.std.proofs.Common.{arith, ap, sym, ◌∙◌}
 use Rattle.workpool.specs.Tallies.{Seated}
-use Rattle.workpool.proofs.RuleLemmas.{may_read}
+use Rattle.workpool.proofs.RuleLemmas.{may_read_shuts}
 use Rattle.workpool.proofs.tally.Tally.shuts.Goals as goal
 
 pub load-requires : goal.load-requires
-load-requires c = (ap (λ (s : Seated). s.tally) c.seat.view_is ∙ c.requires ∙ sym c.self.view_is, omega (arith, c.self.invariant.0), may_read _ _ _ 1 (omega arith))
+load-requires c = (ap (λ (s : Seated). s.tally) c.seat.view_is ∙ c.requires ∙ sym c.self.view_is, omega (arith, c.self.invariant.0), may_read_shuts _ _ _)

@@ -1,9 +1,9 @@
 // Forced ways, walked to the next station.
 
-ghost use Rattle.std.specs.Prelude.{◌≡◌, ◌≤◌};
+ghost use Rattle.std.specs.Prelude.{◌≡◌, ◌≤◌, ◌-◌};
 ghost use Rattle.statebook.specs.Stations.{is_station};
 ghost use Rattle.statebook.specs.Ways.{GoesPast};
-ghost use Rattle.statebook.specs.Inner.Forced.{ComesTo, IfPast, IfReached, IsFirst};
+ghost use Rattle.statebook.specs.Inner.Forced.{ComesTo, IfPast, IfReached, IsFirst, IsForced};
 
 use basis::NoMemory;
 use sched_core::Space;
@@ -17,9 +17,9 @@ fn stops_at<P: Space>(space: &P, root: &P::State, state: &P::State) -> bool
     state == root || space.width(state) != 1 || space.is_mark(state)
 }
 
-// Takes forced steps to the next station, the state itself if it is one, and answers how many
-// steps were taken in all; None where there is none up to `limit` steps.
-pub(crate) fn walk<P: Space>(
+/// Takes forced steps to the next station, the state itself if it is one, and answers how many
+/// steps were taken in all; None where there is none up to `limit` steps, and there the state stands.
+pub fn walk<P: Space>(
     space: &P,
     root: &P::State,
     state: &mut P::State,
@@ -31,6 +31,7 @@ pub(crate) fn walk<P: Space>(
     ensures there { IfReached result (ComesTo (P.rules space.now) state.old taken state.new) }
     ensures limit { IfReached result (λ n. n ≤ limit) }
     ensures past { IfPast result (GoesPast (P.rules space.now) state.old taken limit) }
+    ensures on { IfPast result (IsForced (P.rules space.now) state.old (limit - taken) state.new) }
 {
     let mut n = taken;
     loop {

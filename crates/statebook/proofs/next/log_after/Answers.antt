@@ -1,7 +1,7 @@
 use Rattle.std.proofs.Common.{◌++◌, ◌∷◌, [], sym, subst, arith, List, ℕ}
 use Rattle.sched_core.specs.Logs.{IsLog}
 use Rattle.statebook.proofs.NextLemmas.{push_is_log}
-use Rattle.workpool.proofs.next.log_after.Goals as goal
+use Rattle.statebook.proofs.next.log_after.Goals as goal
 
 pub push-requires : goal.push-requires
 push-requires c =

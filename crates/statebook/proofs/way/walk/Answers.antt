@@ -2,7 +2,7 @@ use Rattle.std.proofs.Common.{◌≡◌, ◌+◌, ◌-◌, ◌∙◌, suc, sym, 
 use Rattle.statebook.specs.Stations.{is_station}
 use Rattle.statebook.specs.Inner.Forced.{Passes}
 use Rattle.statebook.proofs.WayLemmas.{passes_one}
-use Rattle.explore.proofs.way.walk.Goals as goal
+use Rattle.statebook.proofs.way.walk.Goals as goal
 
 pub loop-taken-preserved : goal.loop-taken-preserved
 loop-taken-preserved g c =

@@ -1,6 +1,6 @@
 use Rattle.std.proofs.Common.{◌≤◌, ◌-◌}
 use Rattle.statebook.specs.Inner.Forced.{Passes}
-use Rattle.explore.proofs.way.walk.Given as goal
+use Rattle.statebook.proofs.way.walk.Given as goal
 
 abbrev pub invariant-loop-taken : goal.invariant-loop-taken
 invariant-loop-taken g l = record {
