@@ -1,0 +1,56 @@
+// Expressions of so many levels (IEEE 1364-2005, A.8; docs/LANGUAGE.md, "Depth").
+
+ghost use Rattle.std.specs.Prelude.{◌≡◌, ◌+◌, ◌-◌, ◌<◌, ◌^◌};
+ghost use Rattle.vexpr_parse.specs.Reading.{expression, onward as onward_by, expression_by};
+ghost use Rattle.vexpr_parse.specs.Answers.{Finds, Reads};
+
+use crate::cursor::Cursor;
+use crate::found::Found;
+use crate::operators::{operators, question};
+use crate::primary::primary;
+use crate::stop::Stop;
+use basis::OrMemory;
+use std::alloc::Global;
+
+// An expression of this rank at least, with so many levels below it.
+fn at_level<'a, F: Fn(&mut Cursor<'_, 'a>, u32) -> Result<Found<'a>, OrMemory<Stop>>>(
+    alloc: Global,
+    read: F,
+    below: u32,
+    cursor: &mut Cursor<'_, 'a>,
+    least: u32,
+) -> Result<Found<'a>, OrMemory<Stop>>
+    requires callable { F.IsAlwaysCallable read }
+    requires reads { Reads below (F.post read) }
+    ensures { Finds (1 + below) (expression_by below (expression below) least cursor.old) cursor.new result }
+{
+    let first = primary(alloc, &read, below, cursor)?;
+    let left = operators(alloc, &read, below, cursor, least, first)?;
+    question(alloc, &read, below, cursor, least, left)
+}
+
+/// The longest expression here of so many levels at most, and of this rank at least; the cursor is left behind it, or
+/// at the word that is refused.
+#[cycle(expression)]
+pub fn expression<'a>(
+    alloc: Global,
+    cursor: &mut Cursor<'_, 'a>,
+    levels: u32,
+    least: u32,
+) -> Result<Found<'a>, OrMemory<Stop>>
+    ensures { Finds levels (expression levels least cursor.old) cursor.new result }
+{
+    if levels == 0 {
+        return Err(OrMemory::Fault(Stop::NoTree));
+    }
+    let below = levels - 1;
+    at_level(
+        alloc,
+        |cursor, least|
+            ensures { Finds below (expression below least cursor.entry.now) cursor.exit.now result }
+        { expression(alloc, cursor, below, least) },
+        below,
+        cursor,
+        least,
+    )
+}
