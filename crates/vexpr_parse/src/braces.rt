@@ -1,9 +1,8 @@
 // Concatenations and replications (IEEE 1364-2005, 5.1.14).
 
-ghost use Rattle.std.specs.Prelude.{◌≡◌, ◌+◌, ◌<◌, ◌^◌, [], ◌∷◌, codes};
-ghost use Rattle.vexpr_parse.specs.Readers.{is_front, turns};
-ghost use Rattle.vexpr_parse.specs.Reading.{expression, one_more, joined as joined_by, repeated as repeated_by, braces as braces_by};
-ghost use Rattle.vexpr_parse.specs.Answers.{Finds, FindsParts, Reads, IsMeasured, tree_in};
+ghost use Rattle.std.specs.Prelude.{◌≡◌, ◌+◌, ◌<◌, ◌^◌};
+ghost use Rattle.vexpr_parse.specs.Answers.{FindsParts, Reads, IsMeasured};
+ghost use Rattle.vexpr_parse.specs.Rules.{FindsOver, parts_at, joined_at, repeated_at, braces_at};
 
 use crate::cursor::Cursor;
 use crate::found::{Found, Parts, joined, larger, repeated};
@@ -23,7 +22,7 @@ fn more_parts<'a, F: Fn(&mut Cursor<'_, 'a>, u32) -> Result<Found<'a>, OrMemory<
     requires callable { F.IsAlwaysCallable read.now }
     requires reads { Reads below (F.post read.now) }
     requires first { IsMeasured below first }
-    ensures { FindsParts below (turns (one_more (expression below)) (is_front (codes ",")) (tree_in first.entry ∷ []) cursor.old) cursor.new result }
+    ensures { FindsParts below (parts_at below first.entry cursor.old) cursor.new result }
 {
     let mut depth = first.depth;
     let mut trees: Vec<Expression<'a>> = Vec::new(alloc);
@@ -49,7 +48,7 @@ fn join<'a, F: Fn(&mut Cursor<'_, 'a>, u32) -> Result<Found<'a>, OrMemory<Stop>>
     requires callable { F.IsAlwaysCallable read.now }
     requires reads { Reads below (F.post read.now) }
     requires first { IsMeasured below first }
-    ensures { Finds (1 + below) (joined_by (expression below) (tree_in first.entry) cursor.old) cursor.new result }
+    ensures { FindsOver below (joined_at below first.entry cursor.old) cursor.new result }
 {
     let parts = more_parts(alloc, read, below, cursor, first)?;
     cursor.symbol(b"}")?;
@@ -68,7 +67,7 @@ fn repeat<'a, F: Fn(&mut Cursor<'_, 'a>, u32) -> Result<Found<'a>, OrMemory<Stop
     requires callable { F.IsAlwaysCallable read.now }
     requires reads { Reads below (F.post read.now) }
     requires count { IsMeasured below count }
-    ensures { Finds (1 + below) (repeated_by (expression below) (tree_in count.entry) cursor.old) cursor.new result }
+    ensures { FindsOver below (repeated_at below count.entry cursor.old) cursor.new result }
 {
     cursor.symbol(b"{")?;
     let first = read(cursor, 0)?;
@@ -88,7 +87,7 @@ pub fn braces<'a, F: Fn(&mut Cursor<'_, 'a>, u32) -> Result<Found<'a>, OrMemory<
 ) -> Result<Found<'a>, OrMemory<Stop>>
     requires callable { F.IsAlwaysCallable read.now }
     requires reads { Reads below (F.post read.now) }
-    ensures { Finds (1 + below) (braces_by (expression below) cursor.old) cursor.new result }
+    ensures { FindsOver below (braces_at below cursor.old) cursor.new result }
 {
     let one = read(cursor, 0)?;
     if cursor.begins(b"{") {

@@ -1,8 +1,9 @@
 // Expressions of so many levels (IEEE 1364-2005, A.8; docs/LANGUAGE.md, "Depth").
 
 ghost use Rattle.std.specs.Prelude.{◌≡◌, ◌+◌, ◌-◌, ◌<◌, ◌^◌};
-ghost use Rattle.vexpr_parse.specs.Reading.{expression, onward as onward_by, expression_by};
+ghost use Rattle.vexpr_parse.specs.Reading.{expression as expression_of};
 ghost use Rattle.vexpr_parse.specs.Answers.{Finds, Reads};
+ghost use Rattle.vexpr_parse.specs.Rules.{FindsOver, expression_at};
 
 use crate::cursor::Cursor;
 use crate::found::Found;
@@ -22,7 +23,7 @@ fn at_level<'a, F: Fn(&mut Cursor<'_, 'a>, u32) -> Result<Found<'a>, OrMemory<St
 ) -> Result<Found<'a>, OrMemory<Stop>>
     requires callable { F.IsAlwaysCallable read }
     requires reads { Reads below (F.post read) }
-    ensures { Finds (1 + below) (expression_by below (expression below) least cursor.old) cursor.new result }
+    ensures { FindsOver below (expression_at below least cursor.old) cursor.new result }
 {
     let first = primary(alloc, &read, below, cursor)?;
     let left = operators(alloc, &read, below, cursor, least, first)?;
@@ -38,7 +39,7 @@ pub fn expression<'a>(
     levels: u32,
     least: u32,
 ) -> Result<Found<'a>, OrMemory<Stop>>
-    ensures { Finds levels (expression levels least cursor.old) cursor.new result }
+    ensures { Finds levels (expression_of levels least cursor.old) cursor.new result }
 {
     if levels == 0 {
         return Err(OrMemory::Fault(Stop::NoTree));
@@ -47,7 +48,7 @@ pub fn expression<'a>(
     at_level(
         alloc,
         |cursor, least|
-            ensures { Finds below (expression below least cursor.entry.now) cursor.exit.now result }
+            ensures { Finds below (expression_of below least cursor.entry.now) cursor.exit.now result }
         { expression(alloc, cursor, below, least) },
         below,
         cursor,

@@ -1,10 +1,9 @@
 // What follows a left side: binary operators, and a conditional (IEEE 1364-2005, 5.1.2 and 5.1.13).
 
 ghost use Rattle.std.specs.Prelude.{◌≡◌, ◌+◌, ◌<◌, ◌^◌, Some, true};
-ghost use Rattle.vexpr_parse.specs.Readers.{front, turns};
-ghost use Rattle.vexpr_parse.specs.Words.{is_joined, is_asked};
-ghost use Rattle.vexpr_parse.specs.Reading.{expression, operator as operator_by, branches as branches_by, question as question_by};
-ghost use Rattle.vexpr_parse.specs.Answers.{Finds, Reads, IsMeasured, joining, tree_in};
+ghost use Rattle.vexpr_parse.specs.Readers.{front};
+ghost use Rattle.vexpr_parse.specs.Answers.{Reads, IsMeasured, joining};
+ghost use Rattle.vexpr_parse.specs.Rules.{FindsOver, operator_at, operators_at, branches_at, question_at};
 
 use crate::cursor::Cursor;
 use crate::found::{Found, chosen, combined};
@@ -29,7 +28,7 @@ fn turn<'a, F: Fn(&mut Cursor<'_, 'a>, u32) -> Result<Found<'a>, OrMemory<Stop>>
     requires reads { Reads below (F.post read.now) }
     requires here { joining least (front cursor.old) ≡ Some operator }
     requires left { IsMeasured (1 + below) left }
-    ensures { Finds (1 + below) (operator_by below (expression below) least (tree_in left.entry) cursor.old) cursor.new result }
+    ensures { FindsOver below (operator_at below least left.entry cursor.old) cursor.new result }
 {
     cursor.enter(below, left.depth)?;
     let right = read(cursor, rank(operator) + 1)?;
@@ -48,7 +47,7 @@ pub fn operators<'a, F: Fn(&mut Cursor<'_, 'a>, u32) -> Result<Found<'a>, OrMemo
     requires callable { F.IsAlwaysCallable read.now }
     requires reads { Reads below (F.post read.now) }
     requires first { IsMeasured (1 + below) first }
-    ensures { Finds (1 + below) (turns (operator_by below (expression below) least) (is_joined least) (tree_in first.entry) cursor.old) cursor.new result }
+    ensures { FindsOver below (operators_at below least first.entry cursor.old) cursor.new result }
 {
     let mut left = first;
     'turns: while let Some(operator) = cursor.operator(least) {
@@ -68,7 +67,7 @@ fn branches<'a, F: Fn(&mut Cursor<'_, 'a>, u32) -> Result<Found<'a>, OrMemory<St
     requires callable { F.IsAlwaysCallable read.now }
     requires reads { Reads below (F.post read.now) }
     requires condition { IsMeasured below condition }
-    ensures { Finds (1 + below) (branches_by (expression below) (tree_in condition.entry) cursor.old) cursor.new result }
+    ensures { FindsOver below (branches_at below condition.entry cursor.old) cursor.new result }
 {
     let when_true = read(cursor, 0)?;
     cursor.symbol(b":")?;
@@ -84,17 +83,17 @@ pub fn question<'a, F: Fn(&mut Cursor<'_, 'a>, u32) -> Result<Found<'a>, OrMemor
     below: u32,
     cursor: &mut Cursor<'_, 'a>,
     least: u32,
-    condition: Found<'a>,
+    left: Found<'a>,
 ) -> Result<Found<'a>, OrMemory<Stop>>
     requires callable { F.IsAlwaysCallable read.now }
     requires reads { Reads below (F.post read.now) }
-    requires condition { IsMeasured (1 + below) condition }
-    ensures { Finds (1 + below) (question_by below (expression below) least (tree_in condition.entry) cursor.old) cursor.new result }
+    requires left { IsMeasured (1 + below) left }
+    ensures { FindsOver below (question_at below least left.entry cursor.old) cursor.new result }
 {
     if cursor.is_asked(least) {
-        cursor.enter(below, condition.depth)?;
-        branches(alloc, read, below, cursor, condition)
+        cursor.enter(below, left.depth)?;
+        branches(alloc, read, below, cursor, left)
     } else {
-        Ok(condition)
+        Ok(left)
     }
 }

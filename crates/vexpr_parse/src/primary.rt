@@ -1,11 +1,8 @@
 // Expressions that no binary operator makes (IEEE 1364-2005, A.8.4).
 
-ghost use Rattle.std.specs.Prelude.{◌≡◌, ◌+◌, ◌<◌, ◌^◌, codes};
-ghost use Rattle.vast.specs.Trees.{word_text};
-ghost use Rattle.vast.specs.Expressions.{parentheses, conversion};
-ghost use Rattle.vexpr_parse.specs.Readers.{past};
-ghost use Rattle.vexpr_parse.specs.Reading.{expression, enclosed as enclosed_by, selected as selected_by, named as named_by, round_by, primary as primary_by};
-ghost use Rattle.vexpr_parse.specs.Answers.{Finds, Reads, Heads};
+ghost use Rattle.std.specs.Prelude.{◌≡◌, ◌+◌, ◌<◌, ◌^◌};
+ghost use Rattle.vexpr_parse.specs.Answers.{Heads, Reads};
+ghost use Rattle.vexpr_parse.specs.Rules.{FindsOver, enclosed_at, converted_at, operand_at, round_at, index_at, named_at, primary_at};
 
 use crate::beginning::{Beginning, Round};
 use crate::braces::braces;
@@ -28,7 +25,7 @@ fn enclosed<'a, F: Fn(&mut Cursor<'_, 'a>, u32) -> Result<Found<'a>, OrMemory<St
 ) -> Result<Found<'a>, OrMemory<Stop>>
     requires callable { F.IsAlwaysCallable read.now }
     requires reads { Reads below (F.post read.now) }
-    ensures { Finds (1 + below) (enclosed_by (expression below) parentheses cursor.old) cursor.new result }
+    ensures { FindsOver below (enclosed_at below cursor.old) cursor.new result }
 {
     let inner = read(cursor, 0)?;
     cursor.symbol(b")")?;
@@ -45,7 +42,7 @@ fn conversion<'a, F: Fn(&mut Cursor<'_, 'a>, u32) -> Result<Found<'a>, OrMemory<
 ) -> Result<Found<'a>, OrMemory<Stop>>
     requires callable { F.IsAlwaysCallable read.now }
     requires reads { Reads below (F.post read.now) }
-    ensures { Finds (1 + below) (past (codes "(") (enclosed_by (expression below) (conversion signed)) cursor.old) cursor.new result }
+    ensures { FindsOver below (converted_at below signed cursor.old) cursor.new result }
 {
     cursor.symbol(b"(")?;
     let operand = read(cursor, 0)?;
@@ -63,7 +60,7 @@ fn operand<'a, F: Fn(&mut Cursor<'_, 'a>, u32) -> Result<Found<'a>, OrMemory<Sto
 ) -> Result<Found<'a>, OrMemory<Stop>>
     requires callable { F.IsAlwaysCallable read.now }
     requires reads { Reads below (F.post read.now) }
-    ensures { Finds (1 + below) (round_by (expression below) (Round.Operator operator) cursor.old) cursor.new result }
+    ensures { FindsOver below (operand_at below operator cursor.old) cursor.new result }
 {
     let operand = read(cursor, UNARY_RANK)?;
     Ok(applied(alloc, operator, operand)?)
@@ -80,7 +77,7 @@ fn round<'a, F: Fn(&mut Cursor<'_, 'a>, u32) -> Result<Found<'a>, OrMemory<Stop>
 ) -> Result<Found<'a>, OrMemory<Stop>>
     requires callable { F.IsAlwaysCallable read.now }
     requires reads { Reads below (F.post read.now) }
-    ensures { Finds (1 + below) (round_by (expression below) kind cursor.old) cursor.new result }
+    ensures { FindsOver below (round_at below kind cursor.old) cursor.new result }
 {
     match kind {
         Round::Parenthesis => enclosed(alloc, read, below, cursor),
@@ -100,7 +97,7 @@ fn index<'a, F: Fn(&mut Cursor<'_, 'a>, u32) -> Result<Found<'a>, OrMemory<Stop>
 ) -> Result<Found<'a>, OrMemory<Stop>>
     requires callable { F.IsAlwaysCallable read.now }
     requires reads { Reads below (F.post read.now) }
-    ensures { Finds (1 + below) (selected_by (expression below) (word_text name.entry) cursor.old) cursor.new result }
+    ensures { FindsOver below (index_at below name.entry cursor.old) cursor.new result }
 {
     let index = read(cursor, 0)?;
     if cursor.begins(b"]") {
@@ -123,7 +120,7 @@ fn named<'a, F: Fn(&mut Cursor<'_, 'a>, u32) -> Result<Found<'a>, OrMemory<Stop>
 ) -> Result<Found<'a>, OrMemory<Stop>>
     requires callable { F.IsAlwaysCallable read.now }
     requires reads { Reads below (F.post read.now) }
-    ensures { Finds (1 + below) (named_by below (expression below) (word_text name.entry) cursor.old) cursor.new result }
+    ensures { FindsOver below (named_at below name.entry cursor.old) cursor.new result }
 {
     if cursor.begins(b"[") {
         cursor.enter(below, 1)?;
@@ -142,7 +139,7 @@ pub fn primary<'a, F: Fn(&mut Cursor<'_, 'a>, u32) -> Result<Found<'a>, OrMemory
 ) -> Result<Found<'a>, OrMemory<Stop>>
     requires callable { F.IsAlwaysCallable read.now }
     requires reads { Reads below (F.post read.now) }
-    ensures { Finds (1 + below) (primary_by below (expression below) cursor.old) cursor.new result }
+    ensures { FindsOver below (primary_at below cursor.old) cursor.new result }
 {
     match cursor.word() {
         None => Err(OrMemory::Fault(Stop::NoTree)),
@@ -161,7 +158,7 @@ fn led<'a, F: Fn(&mut Cursor<'_, 'a>, u32) -> Result<Found<'a>, OrMemory<Stop>>>
     requires callable { F.IsAlwaysCallable read.now }
     requires reads { Reads below (F.post read.now) }
     requires here { Heads cursor.old word }
-    ensures { Finds (1 + below) (primary_by below (expression below) cursor.old) cursor.new result }
+    ensures { FindsOver below (primary_at below cursor.old) cursor.new result }
 {
     match beginning_of(word.text) {
         Beginning::Number => {
