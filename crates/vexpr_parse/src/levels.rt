@@ -1,8 +1,10 @@
 // Expressions of so many levels (IEEE 1364-2005, A.8; docs/LANGUAGE.md, "Depth").
 
-ghost use Rattle.std.specs.Prelude.{◌≡◌, ◌+◌, ◌-◌, ◌<◌, ◌^◌};
+ghost use Rattle.std.specs.Prelude.{IfOk, ◌≡◌, ◌+◌, ◌-◌, ◌<◌, ◌^◌};
+ghost use Rattle.basis.specs.Reasons.{IfFault};
 ghost use Rattle.vexpr_parse.specs.Reading.{expression as expression_of};
-ghost use Rattle.vexpr_parse.specs.Answers.{Finds, Reads};
+ghost use Rattle.vexpr_parse.specs.Answers.{Finds, Reads, tree_in};
+ghost use Rattle.vexpr_parse.specs.Places.{IsFound, IsStopped};
 ghost use Rattle.vexpr_parse.specs.Rules.{FindsOver, expression_at};
 
 use crate::cursor::Cursor;
@@ -30,10 +32,9 @@ fn at_level<'a, F: Fn(&mut Cursor<'_, 'a>, u32) -> Result<Found<'a>, OrMemory<St
     question(alloc, &read, below, cursor, least, left)
 }
 
-/// The longest expression here of so many levels at most, and of this rank at least; the cursor is left behind it, or
-/// at the word that is refused.
-#[cycle(expression)]
-pub fn expression<'a>(
+// An expression of so many levels at most, and of this rank at least.
+#[cycle(levels)]
+fn of_rank<'a>(
     alloc: Global,
     cursor: &mut Cursor<'_, 'a>,
     levels: u32,
@@ -49,9 +50,25 @@ pub fn expression<'a>(
         alloc,
         |cursor, least|
             ensures { Finds below (expression_of below least cursor.entry.now) cursor.exit.now result }
-        { expression(alloc, cursor, below, least) },
+        { of_rank(alloc, cursor, below, least) },
         below,
         cursor,
         least,
     )
+}
+
+/// The longest expression at the front of the words, of so many levels at most, one or more. The cursor is left behind
+/// it, or at the first word with which the words before it begin none: of any depth (`NoTree`), or only for want of a
+/// level (`TooDeep`). Want of memory leaves it anywhere.
+pub fn expression<'a>(
+    alloc: Global,
+    cursor: &mut Cursor<'_, 'a>,
+    levels: u32,
+) -> Result<Found<'a>, OrMemory<Stop>>
+    requires { 0 < levels }
+    ensures reads { Finds levels (expression_of levels 0 cursor.old) cursor.new result }
+    ensures found { IfOk result (λ found. IsFound levels cursor.old cursor.new (tree_in found)) }
+    ensures stop { IfFault result (λ stop. IsStopped levels cursor.old cursor.new stop) }
+{
+    of_rank(alloc, cursor, levels, 0)
 }

@@ -1,5 +1,5 @@
 use Rattle.vexpr_parse.proofs.Turning.{none_at_zero, finds_up}
-use Rattle.vexpr_parse.proofs.levels.+expression.Goals as goal
+use Rattle.vexpr_parse.proofs.levels.+levels.Goals as goal
 
 pub returns-then-levels-eq0 : goal.returns-then-levels-eq0
 returns-then-levels-eq0 t c = none_at_zero c.args.levels c.args.least c.args.cursor.now c.if-levels-eq0.true
