@@ -2,7 +2,7 @@
 
 ghost use Rattle.std.specs.Prelude.{IfOk, ◌≡◌, ◌+◌, ◌-◌, ◌<◌, ◌^◌};
 ghost use Rattle.basis.specs.Reasons.{IfFault};
-ghost use Rattle.vexpr_parse.specs.Reading.{expression as expression_of};
+ghost use Rattle.vexpr_parse.specs.Reading.{expression as reading};
 ghost use Rattle.vexpr_parse.specs.Answers.{Finds, Reads, tree_in};
 ghost use Rattle.vexpr_parse.specs.Places.{IsFound, IsStopped};
 ghost use Rattle.vexpr_parse.specs.Rules.{FindsOver, expression_at};
@@ -40,7 +40,7 @@ fn of_rank<'a>(
     levels: u32,
     least: u32,
 ) -> Result<Found<'a>, OrMemory<Stop>>
-    ensures { Finds levels (expression_of levels least cursor.old) cursor.new result }
+    ensures { Finds levels (reading levels least cursor.old) cursor.new result }
 {
     if levels == 0 {
         return Err(OrMemory::Fault(Stop::NoTree));
@@ -49,7 +49,7 @@ fn of_rank<'a>(
     at_level(
         alloc,
         |cursor, least|
-            ensures { Finds below (expression_of below least cursor.entry.now) cursor.exit.now result }
+            ensures { Finds below (reading below least cursor.entry.now) cursor.exit.now result }
         { of_rank(alloc, cursor, below, least) },
         below,
         cursor,
@@ -66,7 +66,7 @@ pub fn expression<'a>(
     levels: u32,
 ) -> Result<Found<'a>, OrMemory<Stop>>
     requires { 0 < levels }
-    ensures reads { Finds levels (expression_of levels 0 cursor.old) cursor.new result }
+    ensures reads { Finds levels (reading levels 0 cursor.old) cursor.new result }
     ensures found { IfOk result (λ found. IsFound levels cursor.old cursor.new (tree_in found)) }
     ensures stop { IfFault result (λ stop. IsStopped levels cursor.old cursor.new stop) }
 {
