@@ -144,11 +144,11 @@ record Complete (tree : ExpressionTree) : Type 0 where
       nat_le least (rank_of tree) ≡ true →
       ends least (front rest) ≡ true → expression levels least (spell_expression tree ++ rest) ≡ got tree rest
 
-by_level : (below least : ℕ) (words : List Text) → expression (suc below) least words ≡ expression_by below (expression below) least words
+pub by_level : (below least : ℕ) (words : List Text) → expression (suc below) least words ≡ expression_by below (expression below) least words
 unfolding expression
 by_level below least words = refl
 
-below_rule : (below : ℕ) → nat_le 1 below ≡ true → (least : ℕ) → Rule (expression below least) (ends least) example
+pub below_rule : (below : ℕ) → nat_le 1 below ≡ true → (least : ℕ) → Rule (expression below least) (ends least) example
 below_rule zero e least = let clash : false ≡ true = e in absurd cc
 below_rule (suc below) e least = expression_rule below least
 

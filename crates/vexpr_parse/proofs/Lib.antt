@@ -6,3 +6,4 @@ pub mod Complete
 pub mod Cursors
 pub mod Grows
 pub mod Places
+pub mod Turning

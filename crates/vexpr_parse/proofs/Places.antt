@@ -1,19 +1,24 @@
 -- Reading gives the one tree of the words, or stops at the place from which they begin none.
-use Rattle.std.proofs.Common.{◌≡◌, ℕ, zero, suc, ◌+◌, ◌<◌, ◌≤◌, ◌-◌, Bool, true, false, ◌&&◌, not, nat_le, List, [], ◌∷◌, ◌++◌, None, length, refl, sym, ap, ◌∙◌, arith, subst, append_assoc, length-append, codes}
-use Rattle.std.proofs.lemmas.List.{append-nil}
+use Rattle.std.proofs.Common.{◌≡◌, ℕ, zero, suc, ◌+◌, ◌<◌, ◌≤◌, ◌-◌, Bool, true, false, ◌&&◌, not, nat_le, List, [], ◌∷◌, ◌++◌, None, Result, Ok, Err, IfOk, length, refl, sym, ap, ◌∙◌, arith, subst, append_assoc, length-append, codes}
+use Rattle.std.proofs.lemmas.List.{append-nil, append_cancel_right}
 use Rattle.std.proofs.lemmas.Bool.Decides.{nat_tests}
 use Rattle.vast.specs.Syntax.{Text}
 use Rattle.vast.specs.Words.{reserved_words}
 use Rattle.vast.specs.Expressions.{ExpressionTree, name, unary_rank}
+use Rattle.basis.specs.declared.memory.OrMemory.{OrMemory}
+use Rattle.basis.specs.declared.memory.OrMemory.TheVariants.{Fault, Memory}
+use Rattle.basis.specs.Reasons.{IfFault}
+use Rattle.vexpr_parse.specs.declared.found.Found.{Found as Read}
 use Rattle.vexpr_parse.specs.declared.stop.Stop.{Stop}
 use Rattle.vexpr_parse.specs.declared.stop.Stop.TheVariants.{NoTree, TooDeep}
 use Rattle.vexpr_parse.specs.Readers.{Answer, got, stop, front}
 use Rattle.vexpr_parse.specs.Words.{ends}
 use Rattle.vexpr_parse.specs.Reading.{expression}
 use Rattle.vexpr_parse.specs.Found.{IsExpression}
+use Rattle.vexpr_parse.specs.Answers.{Finds, tree_in}
 use Rattle.vexpr_parse.specs.Lawful.{rest_of, Sees, GoesOn, Begins, Lawful}
-use Rattle.vexpr_parse.specs.Places.{BeginsOne, BeginsNone, ReadsSoundly, ReadsCompletely, IsOnly, StopsAtPlace, StopsForGood, StopsTooDeep}
-use Rattle.vexpr_parse.proofs.ReaderRules.{stop_got, got_tree}
+use Rattle.vexpr_parse.specs.Places.{BeginsOne, BeginsNone, IsFound, IsStopped, ReadsSoundly, ReadsCompletely, ReadsLongest, IsOnly, StopsAtPlace, StopsForGood, StopsTooDeep}
+use Rattle.vexpr_parse.proofs.ReaderRules.{stop_got, got_tree, got_left}
 use Rattle.vexpr_parse.proofs.ExpressionRules.{expression_rule}
 use Rattle.vexpr_parse.proofs.Sound.{Found, expression_found}
 use Rattle.vexpr_parse.proofs.Complete.{expression_complete}
@@ -177,3 +182,57 @@ stops_too_deep below least enough words left e =
     regroup : (before : List Text) (word : Text) (behind after : List Text) →
         (before ++ word ∷ behind) ++ after ≡ (before ++ word ∷ []) ++ (behind ++ after)
     regroup before word behind after = append_assoc before (word ∷ behind) after ∙ sym (append_assoc before (word ∷ []) (behind ++ after))
+
+-- where more of the words begins with what is left, both have the same first word
+front_of : (left more after : List Text) → left ≡ more ++ after → 0 < length more → front more ≡ front left
+front_of left [] after at some = absurd (below 0 some)
+  where
+    below : (n : ℕ) → n < n → ⊥
+    below n e = omega (arith, e)
+front_of left (word ∷ more) after at some = ap front (sym at)
+
+pub reads_longest : ReadsLongest
+unfolding expression
+reads_longest zero least words tree left e before more after other whole at some x = absurd (stop_got e)
+reads_longest (suc below) least words tree left e before more after other whole at some x =
+    let s : Sees (expression (suc below) least) (ends least) words (got tree left) =
+    subst (Sees (expression (suc below) least) (ends least) words) e (lawful below least words) in
+    let same : s.before ≡ before = append_cancel_right s.before before left (sym s.whole ∙ whole) in
+    let near : expression (suc below) least (before ++ more) ≡ got tree more =
+    ap (λ b. expression (suc below) least (b ++ more)) (sym same) ∙ s.near more (front_of left more after at some) in
+    absurd (none more (got_left (sym near ∙ read_whole (suc below) least other (before ++ more) x)) some)
+  where
+    none : (more : List Text) → more ≡ [] → 0 < length more → ⊥
+    none [] e some = let clash : 0 < 0 = some in omega (arith, clash)
+    none (word ∷ more) e some = cc
+
+found_so : (levels : ℕ) (words left : List Text) (tree : ExpressionTree) → expression levels 0 words ≡ got tree left →
+    IsFound levels words left tree
+found_so levels words left tree e =
+    let s = reads_soundly levels 0 refl words tree left e in
+    record {
+      before = s.0;
+      whole = s.1;
+      is = s.2;
+      only = λ other x. is_only levels s.0 tree other s.2 x;
+      longest = λ more after other at some x. reads_longest levels 0 words tree left e s.0 more after other s.1 at some x;
+    }
+
+stopped_so : (levels : ℕ) (words left : List Text) (why : Stop) → 0 < levels → expression levels 0 words ≡ stop why left →
+    IsStopped levels words left why
+stopped_so zero words left why some e = absurd (omega (arith, some))
+stopped_so (suc below) words left NoTree some e = (stops_at_place below 0 refl words left NoTree e, stops_for_good below 0 words left e)
+stopped_so (suc below) words left TooDeep some e =
+    (stops_at_place below 0 refl words left TooDeep e, stops_too_deep below 0 refl words left e)
+
+-- what the program answers
+pub found_result : (levels : ℕ) (words left : List Text) (result : Result Read (OrMemory Stop)) →
+    Finds levels (expression levels 0 words) left result → IfOk result (λ found. IsFound levels words left (tree_in found))
+found_result levels words left (Ok found) f = found_so levels words left (tree_in found) f.0
+found_result levels words left (Err e) f = tt
+
+pub stop_result : (levels : ℕ) (words left : List Text) (result : Result Read (OrMemory Stop)) → 0 < levels →
+    Finds levels (expression levels 0 words) left result → IfFault result (λ why. IsStopped levels words left why)
+stop_result levels words left (Ok found) some f = tt
+stop_result levels words left (Err (Fault why)) some f = stopped_so levels words left why some f
+stop_result levels words left (Err (Memory m)) some f = tt

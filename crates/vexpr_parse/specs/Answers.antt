@@ -1,9 +1,10 @@
 -- What the cursor passes, and which trees are made of those that were read. Nothing here has to be believed.
-use Rattle.std.specs.Prelude.{◌≡◌, ℕ, ◌+◌, ◌<◌, ◌^◌, max, nat_le, true, false, if◌then◌else◌, List, ◌∷◌, drop, Option, Some, None, Result, Ok, Err}
+use Rattle.std.specs.Prelude.{◌≡◌, ℕ, ◌+◌, ◌<◌, ◌≤◌, ◌^◌, max, nat_le, true, false, if◌then◌else◌, List, ◌∷◌, drop, map, Option, Some, None, Result, Ok, Err}
+use Rattle.std.specs.Borrow.{MutBor}
 use Rattle.vast.specs.declared.syntax.Word.{Word}
 use Rattle.vast.specs.declared.expression.BinaryOperator.{BinaryOperator}
 use Rattle.vast.specs.Syntax.{Text}
-use Rattle.vast.specs.Expressions.{ExpressionTree, conditional, concatenation, replication, rank}
+use Rattle.vast.specs.Expressions.{ExpressionTree, conditional, concatenation, replication, depth, greatest_depth, rank}
 use Rattle.vast.specs.ExpressionTrees.{tree_of, trees_of}
 use Rattle.vast.specs.Trees.{word_text}
 use Rattle.basis.specs.declared.memory.OrMemory.{OrMemory}
@@ -12,8 +13,9 @@ use Rattle.vexpr_parse.specs.declared.found.Found.{Found}
 use Rattle.vexpr_parse.specs.declared.found.Parts.{Parts}
 use Rattle.vexpr_parse.specs.declared.stop.Stop.{Stop}
 use Rattle.vexpr_parse.specs.declared.stop.Stop.TheVariants.{NoTree, TooDeep}
-use Rattle.vexpr_parse.specs.Readers.{front, is_front}
+use Rattle.vexpr_parse.specs.Readers.{Answer, got, stop, front, is_front}
 use Rattle.vexpr_parse.specs.Words.{binary_of}
+use Rattle.vexpr_parse.specs.Reading.{expression}
 
 -- this word stands first
 abbrev pub Heads : List Text → Word → Type 0
@@ -66,3 +68,32 @@ IsJoined parts = IsMade (concatenation (trees_of parts.trees.items)) (1 + parts.
 
 abbrev pub IsRepeated : Found → Parts → Found → Type 0
 IsRepeated count parts = IsMade (replication (tree_in count) (trees_of parts.trees.items)) (1 + max count.depth parts.depth)
+
+-- What the readers of the program answer
+
+-- a stop is that of the definition, with the words from the refused one on left; want of memory says nothing
+abbrev pub Stops : {A : Type 0} → Answer A → List Text → OrMemory Stop → Type 0
+Stops answer left e = Because (λ why. answer ≡ stop why left) e
+
+-- the depth that is told is that of the tree, and no more than the levels
+abbrev pub IsMeasured : ℕ → Found → Type 0
+IsMeasured levels found = (found.depth ≡ depth (tree_in found)) × (found.depth ≤ levels)
+
+-- what the definition reads is found, with its depth, and what is behind it is left; or it stops there
+abbrev pub Finds : ℕ → Answer ExpressionTree → List Text → Result Found (OrMemory Stop) → Type 0
+Finds levels answer left (Ok found) = (answer ≡ got (tree_in found) left) × IsMeasured levels found
+Finds levels answer left (Err e) = Stops answer left e
+
+-- the parts of a concatenation, with the greatest of their depths
+abbrev pub IsMeasuredAll : ℕ → Parts → Type 0
+IsMeasuredAll levels parts = (parts.depth ≡ greatest_depth (trees_of parts.trees.items)) × (parts.depth ≤ levels)
+
+abbrev pub FindsParts : ℕ → Answer (List ExpressionTree) → List Text → Result Parts (OrMemory Stop) → Type 0
+FindsParts levels answer left (Ok parts) = (answer ≡ got (map tree_of parts.trees.items) left) × IsMeasuredAll levels parts
+FindsParts levels answer left (Err e) = Stops answer left e
+
+-- each call reads as the definition does with so many levels
+abbrev pub Reads : ℕ → (MutBor (List Text) → ℕ → Result Found (OrMemory Stop) → MutBor (List Text) → Type 0) → Type 0
+Reads levels call =
+    (old new : MutBor (List Text)) (least : ℕ) (result : Result Found (OrMemory Stop)) → call old least result new →
+    Finds levels (expression levels least old.now) new.now result

@@ -5,4 +5,5 @@ pub mod Lawful
 pub mod Found
 pub mod Texts
 pub mod Answers
+pub mod Rules
 pub mod Places

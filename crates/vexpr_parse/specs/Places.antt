@@ -1,5 +1,5 @@
 -- Where words stop to be an expression (docs/LANGUAGE.md, "Grammar" and "Depth").
-use Rattle.std.specs.Prelude.{◌≡◌, ℕ, suc, ◌≤◌, nat_le, true, List, [], ◌∷◌, ◌++◌}
+use Rattle.std.specs.Prelude.{◌≡◌, ℕ, suc, ◌<◌, ◌≤◌, nat_le, true, List, [], ◌∷◌, ◌++◌, length}
 use Rattle.vast.specs.Syntax.{Text}
 use Rattle.vast.specs.Expressions.{ExpressionTree, unary_rank}
 use Rattle.vexpr_parse.specs.declared.stop.Stop.{Stop}
@@ -40,6 +40,20 @@ pub record IsDeeper (levels least : ℕ) (words left : List Text) : Type 0 where
   pub whole : words ≡ before ++ left
   pub viable : BeginsOne (suc levels) least (before ++ word ∷ [])
 
+-- The words before what is left are an expression, this tree is the only one that has them, and no more of the words are one.
+pub record IsFound (levels : ℕ) (words left : List Text) (tree : ExpressionTree) : Type 0 where
+  pub before : List Text
+  pub whole : words ≡ before ++ left
+  pub is : IsExpression levels 0 tree before
+  pub only : (other : ExpressionTree) → IsExpression levels 0 other before → tree ≡ other
+  pub longest : (more after : List Text) (other : ExpressionTree) → left ≡ more ++ after → 0 < length more →
+      IsExpression levels 0 other (before ++ more) → ⊥
+
+-- The word at the place is refused: for good, or only for want of a level.
+abbrev pub IsStopped : ℕ → List Text → List Text → Stop → Type 0
+IsStopped levels words left NoTree = IsPlace levels 0 words left × IsRefused levels 0 words left
+IsStopped levels words left TooDeep = IsPlace levels 0 words left × IsDeeper levels 0 words left
+
 -- What reading gives. Levels are one or more here, and ranks at most that of a primary.
 
 -- what is read is an expression, at the front of the words
@@ -53,6 +67,13 @@ abbrev pub ReadsCompletely : Type 0
 ReadsCompletely = (levels least : ℕ) (tree : ExpressionTree) (before left : List Text) → IsExpression levels least tree before →
     ends least (front left) ≡ true →
     expression levels least (before ++ left) ≡ got tree left
+
+-- no more of the words than were read are an expression
+abbrev pub ReadsLongest : Type 0
+ReadsLongest = (levels least : ℕ) (words : List Text) (tree : ExpressionTree) (left : List Text) →
+    expression levels least words ≡ got tree left →
+    (before more after : List Text) (other : ExpressionTree) → words ≡ before ++ left → left ≡ more ++ after → 0 < length more →
+    IsExpression levels least other (before ++ more) → ⊥
 
 -- words are those of one tree at most
 abbrev pub IsOnly : Type 0

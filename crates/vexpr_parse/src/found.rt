@@ -3,7 +3,8 @@
 ghost use Rattle.std.specs.Prelude.{◌≡◌, max, IfOk};
 ghost use Rattle.vast.specs.Trees.{word_text};
 ghost use Rattle.vast.specs.Expressions.{bit, part, parentheses, conversion, apply, combine};
-ghost use Rattle.vexpr_parse.specs.Answers.{IsShallow, IsRound, IsRoundBoth, IsChosen, IsJoined, IsRepeated};
+ghost use Rattle.vast.specs.ExpressionTrees.{tree_of};
+ghost use Rattle.vexpr_parse.specs.Answers.{IsShallow, IsMade, IsRound, IsRoundBoth, IsChosen, IsJoined, IsRepeated};
 
 use basis::NoMemory;
 use std::alloc::Global;
@@ -29,6 +30,13 @@ pub fn larger(a: u64, b: u64) -> u64
     ensures { result ≡ max a b }
 {
     if a < b { b } else { a }
+}
+
+/// A tree round no other.
+pub fn leaf<'a>(tree: Expression<'a>) -> Found<'a>
+    ensures { IsMade (tree_of tree.entry) 1 result }
+{
+    Found { tree, depth: 1 }
 }
 
 /// `(inner)`

@@ -1,12 +1,13 @@
 // That reading gives the one tree of the words, and where it stops.
 
-ghost use Rattle.vexpr_parse.specs.Places.{ReadsSoundly, ReadsCompletely, IsOnly, StopsAtPlace, StopsForGood, StopsTooDeep};
+ghost use Rattle.vexpr_parse.specs.Places.{ReadsSoundly, ReadsCompletely, ReadsLongest, IsOnly, StopsAtPlace, StopsForGood, StopsTooDeep};
 
-/// What is read is an expression at the front of the words; each expression is read where what follows ends it; and
-/// no other tree has its words (IEEE 1364-2005, A.8).
+/// What is read is an expression at the front of the words; each expression is read where what follows ends it; no
+/// more of the words than were read are one; and no other tree has its words (IEEE 1364-2005, A.8).
 pub fn expression_law()
     ensures sound { ReadsSoundly }
     ensures complete { ReadsCompletely }
+    ensures longest { ReadsLongest }
     ensures only { IsOnly }
 {}
 

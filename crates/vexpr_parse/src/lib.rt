@@ -4,11 +4,16 @@
 #![tactic(auto)]
 
 pub mod beginning;
+mod braces;
 mod cursor;
 pub mod found;
 pub mod law;
+mod levels;
+mod operators;
+mod primary;
 mod stop;
 mod words;
 
 pub use cursor::Cursor;
+pub use levels::expression;
 pub use stop::Stop;

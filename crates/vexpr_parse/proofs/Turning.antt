@@ -1,0 +1,337 @@
+-- What the code's loops go on from: a turn of parts, a turn of operators, and what enters a conditional.
+use Rattle.std.proofs.Common.{◌≡◌, ◌≢◌, ℕ, zero, suc, ◌+◌, ◌-◌, ◌<◌, ◌≤◌, max, nat_le, Bool, true, false, ◌&&◌, if◌then◌else◌, List, [], ◌∷◌, ◌++◌, length, drop, map, Option, None, Some, Result, refl, sym, ap, ◌∙◌, arith, subst, codes}
+use Rattle.std.specs.Str.{bytes_eq}
+use Rattle.std.proofs.lemmas.Bool.Decides.{nat_tests}
+use Rattle.std.proofs.lemmas.List.{map-append}
+use Rattle.vast.specs.Syntax.{Text}
+use Rattle.vast.specs.Expressions.{ExpressionTree, concatenation, replication, first, combine, depth, greatest_depth, rank}
+use Rattle.vast.specs.ExpressionTrees.{tree_of, trees_of}
+use Rattle.vast.specs.declared.expression.Expression.{Expression}
+use Rattle.vast.specs.declared.expression.BinaryOperator.{BinaryOperator}
+use Rattle.basis.specs.declared.memory.OrMemory.{OrMemory}
+use Rattle.basis.specs.declared.memory.OrMemory.TheVariants.{Fault, Memory}
+use Rattle.vexpr_parse.specs.declared.stop.Stop.{Stop}
+use Rattle.vexpr_parse.specs.declared.stop.Stop.TheVariants.{NoTree, TooDeep}
+use Rattle.vexpr_parse.specs.Readers.{Answer, got, stop, Reader, front, is_front, and_then, goes, refused, lower, follow, room, past, turns}
+use Rattle.vexpr_parse.specs.Words.{binary_of, is_ranked, is_joined, is_asked}
+use Rattle.vexpr_parse.specs.Reading.{trees_in, one_more, joined, repeated, operator_by, operator, branches, question, expression_by, expression}
+use Rattle.vexpr_parse.specs.declared.found.Found.{Found}
+use Rattle.vexpr_parse.specs.Answers.{joining, ranked, Stops, IsMade, IsMeasured, Finds}
+use Rattle.vexpr_parse.proofs.ReaderRules.{Eats, chosen, passed_over, stop_got}
+use Rattle.vexpr_parse.proofs.ReaderLoops.{turns_on, turns_end}
+use Rattle.vexpr_parse.proofs.ExpressionRules.{more_eats, operator_eats, expression_rule}
+use Rattle.vexpr_parse.proofs.Complete.{past_word, by_level, below_rule}
+
+-- a stop of one answer is a stop of what comes to it
+pub stops_so : {A B : Type 0} (a : Answer A) (b : Answer B) (left : List Text) (e : OrMemory Stop) →
+    ((why : Stop) → a ≡ stop why left → b ≡ stop why left) → Stops a left e → Stops b left e
+stops_so a b left (Fault why) same s = same why s
+stops_so a b left (Memory m) same s = tt
+
+-- where a word stands first, something is left
+pub some_left : (text : Text) (words : List Text) → is_front text (front words) ≡ true → 0 < length words
+some_left text [] e = let clash : false ≡ true = e in absurd cc
+some_left text (word ∷ words) e = omega arith
+
+pub past_on : {A : Type 0} (text : Text) (read : Reader A) (words : List Text) → is_front text (front words) ≡ true →
+    past text read words ≡ read (drop 1 words)
+past_on text read [] e = let clash : false ≡ true = e in absurd cc
+past_on text read (word ∷ words) e = ap (λ l. follow l word words) (chosen (bytes_eq text word) (goes read) refused e)
+
+-- Parts
+
+no_eats : (trees : List ExpressionTree) → Eats (one_more (expression 0) trees)
+unfolding expression
+no_eats trees [] tree left e = absurd (stop_got e)
+no_eats trees (word ∷ words) tree left e = by_test (bytes_eq (codes ",") word) e
+  where
+    by_test : (b : Bool) → follow (if b then goes (λ ws. and_then (expression 0 0 ws) (λ one. got (trees ++ one ∷ []))) else refused) word words
+        ≡ got tree left → length left < length (word ∷ words)
+    by_test true e = absurd (stop_got e)
+    by_test false e = absurd (stop_got e)
+
+parts_eat : (below : ℕ) (trees : List ExpressionTree) → Eats (one_more (expression below) trees)
+parts_eat zero trees = no_eats trees
+parts_eat (suc below) trees = more_eats (expression (suc below)) (expression_rule below) trees
+
+abbrev pub part_turns : ℕ → List ExpressionTree → Reader (List ExpressionTree)
+part_turns below trees = turns (one_more (expression below)) (is_front (codes ",")) trees
+
+pub parts_on : (below : ℕ) (trees : List ExpressionTree) (words : List Text) (tree : ExpressionTree) (left : List Text) →
+    is_front (codes ",") (front words) ≡ true → expression below 0 (drop 1 words) ≡ got tree left →
+    part_turns below trees words ≡ part_turns below (trees ++ tree ∷ []) left
+parts_on below trees words tree left here e =
+    turns_on (one_more (expression below)) (is_front (codes ",")) (parts_eat below) trees words here
+    ∙ ap (λ a. and_then a (part_turns below))
+    (past_on (codes ",") (λ ws. and_then (expression below 0 ws) (λ one. got (trees ++ one ∷ []))) words here
+    ∙ ap (λ a. and_then a (λ one. got (trees ++ one ∷ []))) e)
+
+pub parts_stop : (below : ℕ) (trees : List ExpressionTree) (words left : List Text) (why : Stop) →
+    is_front (codes ",") (front words) ≡ true → expression below 0 (drop 1 words) ≡ stop why left →
+    part_turns below trees words ≡ stop why left
+parts_stop below trees words left why here e =
+    turns_on (one_more (expression below)) (is_front (codes ",")) (parts_eat below) trees words here
+    ∙ ap (λ a. and_then a (part_turns below))
+    (past_on (codes ",") (λ ws. and_then (expression below 0 ws) (λ one. got (trees ++ one ∷ []))) words here
+    ∙ ap (λ a. and_then a (λ one. got (trees ++ one ∷ []))) e)
+
+pub parts_end : (below : ℕ) (trees : List ExpressionTree) (words : List Text) → is_front (codes ",") (front words) ≡ false →
+    part_turns below trees words ≡ got trees words
+parts_end below trees words = turns_end (one_more (expression below)) (is_front (codes ",")) (parts_eat below) trees words
+
+-- a part that was read leaves fewer words, the comma's too
+pub part_fewer : (below : ℕ) (words : List Text) (tree : ExpressionTree) (left : List Text) → is_front (codes ",") (front words) ≡ true →
+    expression below 0 (drop 1 words) ≡ got tree left → length left < length words
+part_fewer below words tree left here e =
+    parts_eat below [] words (tree ∷ []) left
+    (past_on (codes ",") (λ ws. and_then (expression below 0 ws) (λ one. got ([] ++ one ∷ []))) words here
+    ∙ ap (λ a. and_then a (λ one. got ([] ++ one ∷ []))) e)
+
+-- the list that was read is that of the program's trees
+pub trees_same : (parts : List Expression) → trees_in (map tree_of parts) ≡ trees_of parts
+trees_same [] = refl
+trees_same (one ∷ more) = ap (first (tree_of one)) (trees_same more)
+
+pub deepest_on : (parts : List Expression) (part : Expression) →
+    greatest_depth (trees_of (parts ++ part ∷ [])) ≡ max (greatest_depth (trees_of parts)) (depth (tree_of part))
+deepest_on [] part = sides (depth (tree_of part))
+  where
+    sides : (n : ℕ) → max n 0 ≡ max 0 n
+    sides n = grind arith
+deepest_on (one ∷ more) part =
+    ap (max (depth (tree_of one))) (deepest_on more part)
+    ∙ regroup (depth (tree_of one)) (greatest_depth (trees_of more)) (depth (tree_of part))
+  where
+    regroup : (a b c : ℕ) → max a (max b c) ≡ max (max a b) c
+    regroup a b c = grind arith
+
+-- Operators
+
+pub joined_here : (least : ℕ) (words : List Text) (operator : BinaryOperator) → joining least (front words) ≡ Some operator →
+    is_joined least (front words) ≡ true
+joined_here least [] operator e = let clash : None ≡ Some operator = e in absurd cc
+joined_here least (word ∷ words) operator e = by_operator (binary_of word) e
+  where
+    by_test : (b : Bool) (one : BinaryOperator) → (if b then Some one else None) ≡ Some operator → b ≡ true
+    by_test true one e = refl
+    by_test false one e = let clash : None ≡ Some operator = e in absurd cc
+
+    by_operator : (o : Option BinaryOperator) → ranked least o ≡ Some operator → is_ranked least o ≡ true
+    by_operator None e = let clash : None ≡ Some operator = e in absurd cc
+    by_operator (Some one) e = by_test (nat_le least (rank one)) one e
+
+pub joined_not : (least : ℕ) (words : List Text) → joining least (front words) ≡ None → is_joined least (front words) ≡ false
+joined_not least [] e = refl
+joined_not least (word ∷ words) e = by_operator (binary_of word) e
+  where
+    by_test : (b : Bool) (one : BinaryOperator) → (if b then Some one else None) ≡ None → b ≡ false
+    by_test true one e = let clash : Some one ≡ None = e in absurd cc
+    by_test false one e = refl
+
+    by_operator : (o : Option BinaryOperator) → ranked least o ≡ None → is_ranked least o ≡ false
+    by_operator None e = refl
+    by_operator (Some one) e = by_test (nat_le least (rank one)) one e
+
+-- Depths that the code tells
+
+pub deepest_so : (parts after : List Expression) (part : Expression) (deep largest told : ℕ) → after ≡ parts ++ part ∷ [] →
+    deep ≡ greatest_depth (trees_of parts) → told ≡ depth (tree_of part) → largest ≡ max deep told →
+    largest ≡ greatest_depth (trees_of after)
+deepest_so parts after part deep largest told same d t l =
+    l ∙ ap (λ n. max n told) d ∙ ap (max (greatest_depth (trees_of parts))) t ∙ sym (deepest_on parts part)
+    ∙ sym (ap (λ xs. greatest_depth (trees_of xs)) same)
+
+pub both_within : (a b largest below : ℕ) → largest ≡ max a b → a ≤ below → b ≤ below → largest ≤ below
+both_within a b largest below l p q = grind arith
+
+-- the parts after one more was read
+pub parts_pushed : (below : ℕ) (parts after : List Expression) (part : Expression) (words between left : List Text) →
+    after ≡ parts ++ part ∷ [] → is_front (codes ",") (front words) ≡ true → between ≡ drop 1 words →
+    expression below 0 between ≡ got (tree_of part) left →
+    part_turns below (map tree_of after) left ≡ part_turns below (map tree_of parts) words
+parts_pushed below parts after part words between left same here passed e =
+    ap (λ ts. part_turns below ts left) (ap (map tree_of) same ∙ map-append tree_of parts (part ∷ []))
+    ∙ sym (parts_on below (map tree_of parts) words (tree_of part) left here (ap (expression below 0) (sym passed) ∙ e))
+
+pub measured : (tree : ExpressionTree) (deep levels : ℕ) (found : Found) → IsMade tree deep found → deep ≡ depth tree → deep ≤ levels →
+    IsMeasured levels found
+measured tree deep levels found made d within = (made.1 ∙ d ∙ sym (ap depth made.0), subst (λ n. n ≤ levels) (sym made.1) within)
+
+pub one_more_level : (a b : ℕ) → a ≤ b → 1 + a ≤ 1 + b
+one_more_level a b e = omega (arith, e)
+
+pub larger_level : (a b n : ℕ) → a ≤ n → b ≤ n → 1 + max a b ≤ 1 + n
+larger_level a b n p q = both_up a b (max a b) n refl p q
+  where
+    both_up : (a b m n : ℕ) → m ≡ max a b → a ≤ n → b ≤ n → 1 + m ≤ 1 + n
+    both_up a b m n e p q = one_more_level m n (both_within a b m n e p q)
+
+-- What a concatenation and a replication are read as, step by step
+
+pub joined_so : (below : ℕ) (one : ExpressionTree) (parts : List Expression) (words between left : List Text) →
+    part_turns below (one ∷ []) words ≡ got (map tree_of parts) between → between ≡ codes "}" ∷ left →
+    joined (expression below) one words ≡ got (concatenation (trees_of parts)) left
+joined_so below one parts words between left e closed =
+    ap (λ a. and_then a (λ trees. past (codes "}") (got (concatenation (trees_in trees))))) (e ∙ ap (got (map tree_of parts)) closed)
+    ∙ past_word (codes "}") (got (concatenation (trees_in (map tree_of parts)))) left
+    ∙ ap (λ ts. got (concatenation ts) left) (trees_same parts)
+
+pub repeated_so : (below : ℕ) (count one : ExpressionTree) (parts : List Expression) (words ws xs ys zs left : List Text) →
+    words ≡ codes "{" ∷ ws → expression below 0 ws ≡ got one xs → part_turns below (one ∷ []) xs ≡ got (map tree_of parts) ys →
+    ys ≡ codes "}" ∷ zs → zs ≡ codes "}" ∷ left →
+    repeated (expression below) count words ≡ got (replication count (trees_of parts)) left
+repeated_so below count one parts words ws xs ys zs left opened e more closed again =
+    ap (repeated (expression below) count) opened
+    ∙ past_word (codes "{") (λ ws. and_then (and_then (expression below 0 ws) (λ tree. part_turns below (tree ∷ []))) ends_both) ws
+    ∙ ap (λ a. and_then (and_then a (λ tree. part_turns below (tree ∷ []))) ends_both) e
+    ∙ ap (λ a. and_then a ends_both) (more ∙ ap (got (map tree_of parts)) closed)
+    ∙ past_word (codes "}") (past (codes "}") (got (replication count (trees_in (map tree_of parts))))) zs
+    ∙ ap (past (codes "}") (got (replication count (trees_in (map tree_of parts))))) again
+    ∙ past_word (codes "}") (got (replication count (trees_in (map tree_of parts)))) left
+    ∙ ap (λ ts. got (replication count ts) left) (trees_same parts)
+  where
+    ends_both : List ExpressionTree → Reader ExpressionTree
+    ends_both trees = past (codes "}") (past (codes "}") (got (replication count (trees_in trees))))
+
+-- Operators, turn after turn
+
+abbrev pub operator_turns : ℕ → ℕ → ExpressionTree → Reader ExpressionTree
+operator_turns below least left = turns (operator below (expression below) least) (is_joined least) left
+
+operators_eat : (below least : ℕ) (left : ExpressionTree) → Eats (operator below (expression below) least left)
+operators_eat below least = operator_eats below (expression below) (below_rule below) least
+
+pub operators_on : (below least : ℕ) (left next : ExpressionTree) (words rest : List Text) (one : BinaryOperator) →
+    joining least (front words) ≡ Some one → operator below (expression below) least left words ≡ got next rest →
+    operator_turns below least left words ≡ operator_turns below least next rest
+operators_on below least left next words rest one here e =
+    turns_on (operator below (expression below) least) (is_joined least) (operators_eat below least) left words
+    (joined_here least words one here)
+    ∙ ap (λ a. and_then a (operator_turns below least)) e
+
+pub operators_stop : (below least : ℕ) (left : ExpressionTree) (words rest : List Text) (one : BinaryOperator) (why : Stop) →
+    joining least (front words) ≡ Some one → operator below (expression below) least left words ≡ stop why rest →
+    operator_turns below least left words ≡ stop why rest
+operators_stop below least left words rest one why here e =
+    turns_on (operator below (expression below) least) (is_joined least) (operators_eat below least) left words
+    (joined_here least words one here)
+    ∙ ap (λ a. and_then a (operator_turns below least)) e
+
+pub operators_end : (below least : ℕ) (left : ExpressionTree) (words : List Text) → joining least (front words) ≡ None →
+    operator_turns below least left words ≡ got left words
+operators_end below least left words none =
+    turns_end (operator below (expression below) least) (is_joined least) (operators_eat below least) left words
+    (joined_not least words none)
+
+pub operator_fewer : (below least : ℕ) (left next : ExpressionTree) (words rest : List Text) →
+    operator below (expression below) least left words ≡ got next rest → length rest < length words
+operator_fewer below least left next words rest e = operators_eat below least left words next rest e
+
+-- An operator that stands here, and a conditional
+
+pub turn_enters : (below least : ℕ) (left : ExpressionTree) (words : List Text) (one : BinaryOperator) →
+    joining least (front words) ≡ Some one → nat_le (depth left) below ≡ true →
+    operator below (expression below) least left words
+    ≡ and_then (expression below (suc (rank one)) (drop 1 words)) (λ right. got (combine one left right))
+turn_enters below least left [] one e fits = let clash : None ≡ Some one = e in absurd cc
+turn_enters below least left (word ∷ words) one e fits = by_operator (binary_of word) e
+  where
+    by_test : (b : Bool) (other : BinaryOperator) → (if b then Some other else None) ≡ Some one →
+        follow (if b then room below (depth left) (goes (λ ws. and_then (expression below (suc (rank other)) ws) (λ right. got (combine other left right)))) else refused) word words
+        ≡ and_then (expression below (suc (rank one)) words) (λ right. got (combine one left right))
+    by_test true other e =
+        let same : Some other ≡ Some one = e in
+        let is : other ≡ one = cc in
+        ap (λ l. follow l word words) (chosen (nat_le (depth left) below) _ lower fits)
+        ∙ ap (λ o. and_then (expression below (suc (rank o)) words) (λ right. got (combine o left right))) is
+    by_test false other e = let clash : None ≡ Some one = e in absurd cc
+
+    by_operator : (o : Option BinaryOperator) → ranked least o ≡ Some one →
+        follow (operator_by below (expression below) least left o) word words
+        ≡ and_then (expression below (suc (rank one)) words) (λ right. got (combine one left right))
+    by_operator None e = let clash : None ≡ Some one = e in absurd cc
+    by_operator (Some other) e = by_test (nat_le least (rank other)) other e
+
+pub turn_low : (below least : ℕ) (left : ExpressionTree) (words : List Text) (one : BinaryOperator) →
+    joining least (front words) ≡ Some one → nat_le (depth left) below ≡ false →
+    operator below (expression below) least left words ≡ stop TooDeep words
+turn_low below least left [] one e fits = let clash : None ≡ Some one = e in absurd cc
+turn_low below least left (word ∷ words) one e fits = by_operator (binary_of word) e
+  where
+    by_test : (b : Bool) (other : BinaryOperator) → (if b then Some other else None) ≡ Some one →
+        follow (if b then room below (depth left) (goes (λ ws. and_then (expression below (suc (rank other)) ws) (λ right. got (combine other left right)))) else refused) word words
+        ≡ stop TooDeep (word ∷ words)
+    by_test true other e = ap (λ l. follow l word words) (passed_over (nat_le (depth left) below) _ lower fits)
+    by_test false other e = let clash : None ≡ Some one = e in absurd cc
+
+    by_operator : (o : Option BinaryOperator) → ranked least o ≡ Some one →
+        follow (operator_by below (expression below) least left o) word words ≡ stop TooDeep (word ∷ words)
+    by_operator None e = let clash : None ≡ Some one = e in absurd cc
+    by_operator (Some other) e = by_test (nat_le least (rank other)) other e
+
+-- where something joins, a word is left
+pub joining_left : (least : ℕ) (words : List Text) (one : BinaryOperator) → joining least (front words) ≡ Some one → 0 < length words
+joining_left least [] one e = let clash : None ≡ Some one = e in absurd cc
+joining_left least (word ∷ words) one e = omega arith
+
+pub asked_left : (least : ℕ) (words : List Text) → is_asked least (front words) ≡ true → 0 < length words
+asked_left least [] e = none (nat_le least 0) e
+  where
+    none : (b : Bool) → (b && false) ≡ true → 0 < 0
+    none true e = let clash : false ≡ true = e in absurd cc
+    none false e = let clash : false ≡ true = e in absurd cc
+asked_left least (word ∷ words) e = omega arith
+
+pub asked_enters : (below least : ℕ) (condition : ExpressionTree) (words : List Text) → is_asked least (front words) ≡ true →
+    nat_le (depth condition) below ≡ true →
+    question below (expression below) least condition words ≡ branches (expression below) condition (drop 1 words)
+asked_enters below least condition [] e fits = absurd (none (asked_left least [] e))
+  where
+    none : 0 < 0 → ⊥
+    none e = omega (arith, e)
+asked_enters below least condition (word ∷ words) e fits =
+    chosen (is_asked least (Some word)) _ _ e
+    ∙ ap (λ l. follow l word words) (chosen (is_asked least (Some word)) _ refused e ∙ chosen (nat_le (depth condition) below) _ lower fits)
+
+pub asked_low : (below least : ℕ) (condition : ExpressionTree) (words : List Text) → is_asked least (front words) ≡ true →
+    nat_le (depth condition) below ≡ false →
+    question below (expression below) least condition words ≡ stop TooDeep words
+asked_low below least condition [] e fits = absurd (none (asked_left least [] e))
+  where
+    none : 0 < 0 → ⊥
+    none e = omega (arith, e)
+asked_low below least condition (word ∷ words) e fits =
+    chosen (is_asked least (Some word)) _ _ e
+    ∙ ap (λ l. follow l word words) (chosen (is_asked least (Some word)) _ refused e ∙ passed_over (nat_le (depth condition) below) _ lower fits)
+
+pub turn_so : (below least level : ℕ) (left right : ExpressionTree) (words between rest : List Text) (one : BinaryOperator) →
+    joining least (front words) ≡ Some one → nat_le (depth left) below ≡ true → between ≡ drop 1 words → level ≡ suc (rank one) →
+    expression below level between ≡ got right rest →
+    operator below (expression below) least left words ≡ got (combine one left right) rest
+turn_so below least level left right words between rest one here fits passed same e =
+    turn_enters below least left words one here fits
+    ∙ ap (λ a. and_then a (λ right. got (combine one left right)))
+    (ap (expression below (suc (rank one))) (sym passed) ∙ ap (λ n. expression below n between) (sym same) ∙ e)
+
+pub le_so : (a b : ℕ) → nat_le a b ≡ true → a ≤ b
+le_so a b e = grind (arith, nat_tests)
+
+-- Levels
+
+pub none_at_zero : (levels least : ℕ) (words : List Text) → levels ≡ 0 → expression levels least words ≡ stop NoTree words
+unfolding expression
+none_at_zero levels least words none = ap (λ n. expression n least words) none
+
+-- what is read with a level less below is what is read
+pub finds_up : (levels least : ℕ) (words left : List Text) (result : Result Found (OrMemory Stop)) → levels ≢ 0 →
+    Finds (1 + (levels - 1)) (expression_by (levels - 1) (expression (levels - 1)) least words) left result →
+    Finds levels (expression levels least words) left result
+finds_up zero least words left result some f = absurd (some refl)
+finds_up (suc below) least words left result some f = by_lower (suc below - 1) (1 + (suc below - 1)) (omega arith) (omega arith) f
+  where
+    by_lower : (n up : ℕ) → n ≡ below → up ≡ suc below → Finds up (expression_by n (expression n) least words) left result →
+        Finds (suc below) (expression (suc below) least words) left result
+    by_lower n up same one f =
+        subst (λ a. Finds (suc below) a left result) (sym (by_level below least words))
+        (subst (λ u. Finds u (expression_by below (expression below) least words) left result) one
+        (subst (λ m. Finds up (expression_by m (expression m) least words) left result) same f))
