@@ -8,3 +8,5 @@ pub mod StatementLaws
 pub mod ParseLaws
 pub mod LevelLaws
 pub mod WordLaws
+pub mod Phrases
+pub mod PhraseChoices

@@ -4,3 +4,4 @@ pub mod Profile
 pub mod Words
 pub mod Laws
 pub mod Inner
+pub mod Parts
