@@ -10,7 +10,7 @@ use Rattle.vexpr_parse.specs.Readers.{Answer, got, stop, Reader, front, is_front
 use Rattle.vexpr_parse.specs.Lawful.{rest_of, Ends, IsWhole, Begins, GoesOn, Sees, Lawful, Rule}
 use Rattle.vexpr_parse.proofs.ReaderRules.{chosen, passed_over, same_text, text_same, stop_got, got_tree, got_left, then_got, parts_of, Eats, got_rule, IsLead, led_sees}
 use Rattle.vexpr_parse.proofs.ReaderLoops.{past_rule, links_ends, then_lawful}
-use Rattle.vparse.specs.Parts.{Both, both, made, paired, if_meant, worded}
+use Rattle.vparse.specs.Parts.{Both, both, made, linked, paired, if_meant, worded}
 
 pub record Shape (A : Type 0) : Type 0 where
   pub spell : A → List Text
@@ -258,34 +258,39 @@ no_words (word ∷ more) b e = absurd (longer (length more) (length b) (ap lengt
     longer : (m b : ℕ) → b ≡ suc (m + b) → ⊥
     longer m b e = omega (arith, e)
 
-module _ {A B : Type 0} {read : Reader A} {next : Reader B} {ends ends_next : Ends} {s : Shape A} {t : Shape B}
-    (p : Phrase read ends s) (q : Phrase next ends_next t) (example : Example t) (valid : Both A B → Bool)
-    (begins : (rest : List Text) → ends_next (front rest) ≡ true → ends (front (t.spell example.tree ++ rest)) ≡ true)
+-- a shape of which fewer trees may stand
+abbrev pub of_these : {A : Type 0} → Shape A → (A → Bool) → Shape A
+of_these s valid = record { spell = s.spell; valid = valid; closes = s.closes; stops = s.stops }
+
+module _ {A B : Type 0} {read : Reader A} {next : A → Reader B} {ends ends_next : Ends} {s : Shape A} (t : Shape B)
+    (allows : A → B → Bool) (p : Phrase read ends s) (q : (x : A) → Phrase (next x) ends_next (of_these t (allows x)))
+    (example : B) (may : (x : A) → allows x example ≡ true) (valid : Both A B → Bool)
+    (begins : (rest : List Text) → ends_next (front rest) ≡ true → ends (front (t.spell example ++ rest)) ≡ true)
     (links : (y : B) → t.spell y ≡ [] → (first : Option Text) → ends_next first ≡ true → ends first ≡ true)
-    (join : (x : A) (y : B) (rest : List Text) → s.valid x ≡ true → t.valid y ≡ true → s.stops x (front (t.spell y ++ rest)) ≡ true →
+    (join : (x : A) (y : B) (rest : List Text) → s.valid x ≡ true → allows x y ≡ true → s.stops x (front (t.spell y ++ rest)) ≡ true →
     valid (both x y) ≡ true)
-    (split : (x : A) (y : B) → valid (both x y) ≡ true → AreLinked s t x y) where
-  linked_lawful : Lawful (paired read next) ends_next
+    (split : (x : A) (y : B) → valid (both x y) ≡ true → AreLinked s (of_these t (allows x)) x y) where
+  linked_lawful : Lawful (linked read next) ends_next
   linked_lawful =
-      then_lawful read (λ x. made (both x) next) ends ends_next (t.spell example.tree) linking begins
-      (λ x. (both x example.tree, λ rest e.
-      then_got (next (t.spell example.tree ++ rest)) (λ y. got (both x y)) example.tree rest
-      (q.complete example.tree rest example.valid (q.closed example.tree (front rest) e))))
-      p.lawful (λ x. made_lawful (both x) next ends_next q.lawful)
+      then_lawful read (λ x. made (both x) (next x)) ends ends_next (t.spell example) linking begins
+      (λ x. (both x example, λ rest e.
+      then_got (next x (t.spell example ++ rest)) (λ y. got (both x y)) example rest
+      ((q x).complete example rest (may x) ((q x).closed example (front rest) e))))
+      p.lawful (λ x. made_lawful (both x) (next x) ends_next (q x).lawful)
     where
-      linking : (x : A) (tree : Both A B) (left : List Text) → made (both x) next left ≡ got tree left →
+      linking : (x : A) (tree : Both A B) (left : List Text) → made (both x) (next x) left ≡ got tree left →
           ends_next (front left) ≡ true → ends (front left) ≡ true
       linking x tree left e f =
-          let r = parts_of (next left) (λ y. got (both x y)) tree left e in
-          let g = q.sound left r.one r.between r.first in
+          let r = parts_of (next x left) (λ y. got (both x y)) tree left e in
+          let g = (q x).sound left r.one r.between r.first in
           links r.one (no_words (t.spell r.one) left (g.whole ∙ ap (λ ws. t.spell r.one ++ ws) (got_left r.second))) (front left) f
 
-  linked_sound : Sound (paired read next) (linked_shape s t valid)
+  linked_sound : Sound (linked read next) (linked_shape s t valid)
   linked_sound words tree left e =
-      let a = parts_of (read words) (λ x. made (both x) next) tree left e in
-      let b = parts_of (next a.between) (λ y. got (both a.one y)) tree left a.second in
+      let a = parts_of (read words) (λ x. made (both x) (next x)) tree left e in
+      let b = parts_of (next a.one a.between) (λ y. got (both a.one y)) tree left a.second in
       let g = p.sound words a.one a.between a.first in
-      let h = q.sound a.between b.one b.between b.first in
+      let h = (q a.one).sound a.between b.one b.between b.first in
       same_got (linked_shape s t valid) words (both a.one b.one) tree b.between left b.second
       (record {
         whole = g.whole ∙ ap (λ ws. s.spell a.one ++ ws) h.whole ∙ sym (append_assoc (s.spell a.one) (t.spell b.one) b.between);
@@ -294,19 +299,19 @@ module _ {A B : Type 0} {read : Reader A} {next : Reader B} {ends ends_next : En
         stopped = h.stopped;
       })
 
-  linked_complete : Complete (paired read next) (linked_shape s t valid)
+  linked_complete : Complete (linked read next) (linked_shape s t valid)
   linked_complete (both x y) rest v c =
       let l = split x y v in
-      ap (paired read next) (append_assoc (s.spell x) (t.spell y) rest)
-      ∙ then_got (read (s.spell x ++ (t.spell y ++ rest))) (λ x. made (both x) next) x (t.spell y ++ rest)
+      ap (linked read next) (append_assoc (s.spell x) (t.spell y) rest)
+      ∙ then_got (read (s.spell x ++ (t.spell y ++ rest))) (λ x. made (both x) (next x)) x (t.spell y ++ rest)
       (p.complete x (t.spell y ++ rest) l.first (l.meets rest c))
-      ∙ then_got (next (t.spell y ++ rest)) (λ y. got (both x y)) y rest (q.complete y rest l.second c)
+      ∙ then_got (next x (t.spell y ++ rest)) (λ y. got (both x y)) y rest ((q x).complete y rest l.second c)
 
-  pub linked_phrase : Phrase (paired read next) ends_next (linked_shape s t valid)
+  pub linked_phrase : Phrase (linked read next) ends_next (linked_shape s t valid)
   linked_phrase = record { lawful = linked_lawful; sound = linked_sound; complete = linked_complete; closed = closed }
     where
       closed : (tree : Both A B) (first : Option Text) → ends_next first ≡ true → closes_both t tree first ≡ true
-      closed (both x y) first e = q.closed y first e
+      closed (both x y) first e = (q x).closed y first e
 
 -- where the second part begins, or ends if it has no words, the first one ends
 abbrev pub Opens : {B : Type 0} → Ends → Shape B → Type 0
@@ -317,7 +322,8 @@ pub paired_phrase : {A B : Type 0} {read : Reader A} {next : Reader B} {ends end
     ((y : B) → t.spell y ≡ [] → (first : Option Text) → ends_next first ≡ true → ends first ≡ true) →
     Phrase (paired read next) ends_next (paired_shape s t)
 paired_phrase {ends = ends} {s = s} {t = t} p q e opens links =
-    linked_phrase p q e (valid_both s t) (λ rest f. opens e.tree e.valid rest (q.closed e.tree (front rest) f)) links
+    linked_phrase t (λ x. t.valid) p (λ x. q) e.tree (λ x. e.valid) (valid_both s t)
+    (λ rest f. opens e.tree e.valid rest (q.closed e.tree (front rest) f)) links
     (λ x y rest v w f. and_both (s.valid x) (t.valid y) v w)
     (λ x y v. record {
       first = and_left (s.valid x) (t.valid y) v;

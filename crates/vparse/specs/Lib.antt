@@ -5,3 +5,5 @@ pub mod Words
 pub mod Laws
 pub mod Inner
 pub mod Parts
+pub mod Starts
+pub mod Statements

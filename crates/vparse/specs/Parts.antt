@@ -17,8 +17,12 @@ pub data Either (A B : Type 0) : Type 0 where
 abbrev pub made : {A B : Type 0} → (A → B) → Reader A → Reader B
 made make read words = and_then (read words) (λ tree. got (make tree))
 
+-- one, and then another by what the first one was
+abbrev pub linked : {A B : Type 0} → Reader A → (A → Reader B) → Reader (Both A B)
+linked read next words = and_then (read words) (λ tree. made (both tree) (next tree))
+
 abbrev pub paired : {A B : Type 0} → Reader A → Reader B → Reader (Both A B)
-paired read next words = and_then (read words) (λ tree. made (both tree) next)
+paired read next = linked read (λ tree. next)
 
 abbrev pub if_meant : {A : Type 0} → Option A → Lead A
 if_meant None = refused
