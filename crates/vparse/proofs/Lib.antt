@@ -10,3 +10,7 @@ pub mod LevelLaws
 pub mod WordLaws
 pub mod Phrases
 pub mod PhraseChoices
+pub mod PhraseLeads
+pub mod LevelFacts
+pub mod ValuePhrases
+pub mod TargetPhrases

@@ -68,7 +68,7 @@ maybe_phrase {A = A} test {read = read} {ends = ends} {s = s} p some tests = rec
     not_tested first e = not_true (test first) (and_right (ends first) (not (test first)) e)
 
     makes : Makes Some s (maybe_shape test ends s) []
-    makes = record { spelled = λ tree. refl; valid = λ tree. refl; closes = λ tree first. refl; stops = λ tree first. refl }
+    makes = record { spelled = λ tree. refl; valid = λ tree. refl; closes = λ tree first e. e; stops = λ tree first e. e }
 
     lawful : Lawful (made Some read) (ends_maybe test ends)
     lawful = lawful_within (made Some read) ends (ends_maybe test ends)
@@ -138,10 +138,10 @@ either_phrase {A = A} {B = B} test {read = read} {other = other} {ends = ends} {
     below n e = omega (arith, e)
 
     makes_one : Makes one_way s (either_shape s t) []
-    makes_one = record { spelled = λ tree. refl; valid = λ tree. refl; closes = λ tree first. refl; stops = λ tree first. refl }
+    makes_one = record { spelled = λ tree. refl; valid = λ tree. refl; closes = λ tree first e. e; stops = λ tree first e. e }
 
     makes_other : Makes other_way t (either_shape s t) []
-    makes_other = record { spelled = λ tree. refl; valid = λ tree. refl; closes = λ tree first. refl; stops = λ tree first. refl }
+    makes_other = record { spelled = λ tree. refl; valid = λ tree. refl; closes = λ tree first e. e; stops = λ tree first e. e }
 
     sound : Sound (either test read other) (either_shape s t)
     sound words tree left f =
@@ -290,7 +290,7 @@ module _ {A : Type 0} (test : Option Text → Bool) (read : List A → Reader A)
       }
 
   -- what follows an element ends it: another one, or what ends them all
-  behind_ended : (so_far more : List A) (rest : List Text) → allows_all allows so_far more ≡ true → ends_many test ends (front rest) ≡ true →
+  pub behind_ended : (so_far more : List A) (rest : List Text) → allows_all allows so_far more ≡ true → ends_many test ends (front rest) ≡ true →
       ends (front (flat_map base.spell more ++ rest)) ≡ true
   behind_ended so_far [] rest v e = ended (front rest) e
   behind_ended so_far (next ∷ more) rest v e =

@@ -68,6 +68,10 @@ sound_eats read shape sound some words tree left e =
     fewer : (w s l : ℕ) → w ≡ s + l → 0 < s → l < w
     fewer w s l e f = omega (arith, e, f)
 
+-- anything may follow
+abbrev pub always : Ends
+always first = true
+
 -- other ends
 
 pub lawful_within : {A : Type 0} (read : Reader A) (ends fewer : Ends) → ((first : Option Text) → fewer first ≡ true → ends first ≡ true) →
@@ -95,8 +99,8 @@ phrase_within {read = read} {ends = ends} fewer p within = record {
 pub record Makes {A B : Type 0} (make : A → B) (shape : Shape A) (out : Shape B) (head : List Text) : Type 0 where
   pub spelled : (tree : A) → out.spell (make tree) ≡ head ++ shape.spell tree
   pub valid : (tree : A) → out.valid (make tree) ≡ shape.valid tree
-  pub closes : (tree : A) (first : Option Text) → out.closes (make tree) first ≡ shape.closes tree first
-  pub stops : (tree : A) (first : Option Text) → out.stops (make tree) first ≡ shape.stops tree first
+  pub closes : (tree : A) (first : Option Text) → out.closes (make tree) first ≡ true → shape.closes tree first ≡ true
+  pub stops : (tree : A) (first : Option Text) → shape.stops tree first ≡ true → out.stops (make tree) first ≡ true
 
 pub made_lawful : {A B : Type 0} (make : A → B) (read : Reader A) (ends : Ends) → Lawful read ends → Lawful (made make read) ends
 made_lawful make read ends lawful =
@@ -114,7 +118,7 @@ made_sound make read shape out head m sound words tree left e =
       whole = ap (λ ws. head ++ ws) g.whole ∙ sym (append_assoc head (shape.spell p.one) p.between)
           ∙ ap (λ ws. ws ++ p.between) (sym (m.spelled p.one));
       valid = m.valid p.one ∙ g.valid;
-      stopped = m.stops p.one (front p.between) ∙ g.stopped;
+      stopped = m.stops p.one (front p.between) g.stopped;
     })
 
 pub made_complete : {A B : Type 0} (make : A → B) (read : Reader A) (shape : Shape A) (out : Shape B) (head : List Text) →
@@ -122,16 +126,17 @@ pub made_complete : {A B : Type 0} (make : A → B) (read : Reader A) (shape : S
     out.closes (make tree) (front rest) ≡ true → made make read (shape.spell tree ++ rest) ≡ got (make tree) rest
 made_complete make read shape out head m complete tree rest v c =
     then_got (read (shape.spell tree ++ rest)) (λ t. got (make t)) tree rest
-    (complete tree rest (sym (m.valid tree) ∙ v) (sym (m.closes tree (front rest)) ∙ c))
+    (complete tree rest (sym (m.valid tree) ∙ v) (m.closes tree (front rest) c))
 
 pub made_phrase : {A B : Type 0} (make : A → B) (back : B → A) {read : Reader A} {ends : Ends} {shape : Shape A} (out : Shape B) →
-    ((tree : B) → make (back tree) ≡ tree) → Makes make shape out [] → Phrase read ends shape → Phrase (made make read) ends out
-made_phrase {A = A} {B = B} make back {read = read} {ends = ends} {shape = shape} out same m p = record {
+    ((tree : B) → make (back tree) ≡ tree) → Makes make shape out [] →
+    ((tree : B) (first : Option Text) → ends first ≡ true → out.closes tree first ≡ true) → Phrase read ends shape →
+    Phrase (made make read) ends out
+made_phrase {A = A} {B = B} make back {read = read} {ends = ends} {shape = shape} out same m closed p = record {
   lawful = made_lawful make read ends p.lawful;
   sound = made_sound make read shape out [] m p.sound;
   complete = λ tree rest v c. by_make tree (back tree) (same tree) rest v c;
-  closed = λ tree first e. subst (λ t. out.closes t first ≡ true) (same tree)
-      (m.closes (back tree) first ∙ p.closed (back tree) first e);
+  closed = closed;
 }
   where
     by_make : (tree : B) (x : A) → make x ≡ tree → (rest : List Text) → out.valid tree ≡ true → out.closes tree (front rest) ≡ true →
@@ -266,7 +271,7 @@ module _ {A B : Type 0} {read : Reader A} {next : A → Reader B} {ends ends_nex
     (allows : A → B → Bool) (p : Phrase read ends s) (q : (x : A) → Phrase (next x) ends_next (of_these t (allows x)))
     (example : B) (may : (x : A) → allows x example ≡ true) (valid : Both A B → Bool)
     (begins : (rest : List Text) → ends_next (front rest) ≡ true → ends (front (t.spell example ++ rest)) ≡ true)
-    (links : (y : B) → t.spell y ≡ [] → (first : Option Text) → ends_next first ≡ true → ends first ≡ true)
+    (links : (x : A) (y : B) → allows x y ≡ true → t.spell y ≡ [] → (first : Option Text) → ends_next first ≡ true → ends first ≡ true)
     (join : (x : A) (y : B) (rest : List Text) → s.valid x ≡ true → allows x y ≡ true → s.stops x (front (t.spell y ++ rest)) ≡ true →
     valid (both x y) ≡ true)
     (split : (x : A) (y : B) → valid (both x y) ≡ true → AreLinked s (of_these t (allows x)) x y) where
@@ -283,7 +288,7 @@ module _ {A B : Type 0} {read : Reader A} {next : A → Reader B} {ends ends_nex
       linking x tree left e f =
           let r = parts_of (next x left) (λ y. got (both x y)) tree left e in
           let g = (q x).sound left r.one r.between r.first in
-          links r.one (no_words (t.spell r.one) left (g.whole ∙ ap (λ ws. t.spell r.one ++ ws) (got_left r.second))) (front left) f
+          links x r.one g.valid (no_words (t.spell r.one) left (g.whole ∙ ap (λ ws. t.spell r.one ++ ws) (got_left r.second))) (front left) f
 
   linked_sound : Sound (linked read next) (linked_shape s t valid)
   linked_sound words tree left e =
@@ -319,11 +324,11 @@ Opens {B = B} ends t = (y : B) → t.valid y ≡ true → (rest : List Text) →
 
 pub paired_phrase : {A B : Type 0} {read : Reader A} {next : Reader B} {ends ends_next : Ends} {s : Shape A} {t : Shape B} →
     Phrase read ends s → Phrase next ends_next t → Example t → Opens ends t →
-    ((y : B) → t.spell y ≡ [] → (first : Option Text) → ends_next first ≡ true → ends first ≡ true) →
+    ((y : B) → t.valid y ≡ true → t.spell y ≡ [] → (first : Option Text) → ends_next first ≡ true → ends first ≡ true) →
     Phrase (paired read next) ends_next (paired_shape s t)
 paired_phrase {ends = ends} {s = s} {t = t} p q e opens links =
     linked_phrase t (λ x. t.valid) p (λ x. q) e.tree (λ x. e.valid) (valid_both s t)
-    (λ rest f. opens e.tree e.valid rest (q.closed e.tree (front rest) f)) links
+    (λ rest f. opens e.tree e.valid rest (q.closed e.tree (front rest) f)) (λ x. links)
     (λ x y rest v w f. and_both (s.valid x) (t.valid y) v w)
     (λ x y v. record {
       first = and_left (s.valid x) (t.valid y) v;
@@ -339,7 +344,24 @@ pub before_phrase : {A B : Type 0} (text : Text) {read : Reader A} {next : Reade
     Phrase read ends s → Phrase next ends_next t → Example t → ends (Some text) ≡ true →
     Phrase (paired read (past text next)) ends_next (paired_shape s (past_shape text t))
 before_phrase text {t = t} p q e opens =
-    paired_phrase p (past_phrase text q e) (past_example text e) (λ y v rest c. opens) (λ y clash. absurd (no_word text (t.spell y) clash))
+    paired_phrase p (past_phrase text q e) (past_example text e) (λ y v rest c. opens) (λ y v clash. absurd (no_word text (t.spell y) clash))
   where
     no_word : (text : Text) (words : List Text) → text ∷ words ≡ [] → ⊥
     no_word text words e = cc
+
+-- a part that may end anywhere, and then another
+pub free_phrase : {A B : Type 0} {read : Reader A} {next : Reader B} {ends_next : Ends} {s : Shape A} {t : Shape B} →
+    Phrase read always s → Phrase next ends_next t → Example t → Phrase (paired read next) ends_next (paired_shape s t)
+free_phrase p q e = paired_phrase p q e (λ y v rest c. refl) (λ y v clash first f. refl)
+
+-- a part, and another that has words
+pub next_phrase : {A B : Type 0} {read : Reader A} {next : Reader B} {ends ends_next : Ends} {s : Shape A} {t : Shape B} →
+    Phrase read ends s → Phrase next ends_next t → Example t → Worded t → Opens ends t → Phrase (paired read next) ends_next (paired_shape s t)
+next_phrase {t = t} p q e some opens =
+    paired_phrase p q e opens (λ y v none. absurd (no_length (t.spell y) none (some y v)))
+  where
+    no_length : (words : List Text) → words ≡ [] → 0 < length words → ⊥
+    no_length words e f = nought (length words) (ap length e) f
+      where
+        nought : (n : ℕ) → n ≡ 0 → 0 < n → ⊥
+        nought n e f = omega (arith, e, f)
