@@ -8,3 +8,9 @@ pub mod StatementLaws
 pub mod ParseLaws
 pub mod LevelLaws
 pub mod WordLaws
+pub mod Phrases
+pub mod PhraseChoices
+pub mod PhraseLeads
+pub mod LevelFacts
+pub mod ValuePhrases
+pub mod TargetPhrases

@@ -4,3 +4,6 @@ pub mod Profile
 pub mod Words
 pub mod Laws
 pub mod Inner
+pub mod Parts
+pub mod Starts
+pub mod Statements

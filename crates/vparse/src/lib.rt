@@ -11,6 +11,7 @@ pub mod law;
 mod modules;
 mod parser;
 pub mod profile;
+pub mod start;
 mod statements;
 mod stop;
 
