@@ -83,10 +83,10 @@ fn all_seen<S: Eq + Hash + Drop, Q: Quest<S>, B: Naming>(
     ensures count { IfOk result (λ all. length all.items ≤ count) }
     ensures places { IfOk result (λ all. InPlace all.items) }
 {
-    let mut all = Vec::new(alloc);
+    let mut all = Vec::with_capacity(alloc, count as usize)?;
     for place in 0..count as usize {
         match book.at(place) {
-            Some(seen) => all.push(seen)?,
+            Some(seen) => all.push_reserved(seen),
             None => return Ok(all),
         }
     }
