@@ -7,3 +7,4 @@ pub mod Cursors
 pub mod Grows
 pub mod Places
 pub mod Turning
+pub mod FirstBytes

@@ -80,12 +80,13 @@ pub parts_end : (below : ℕ) (trees : List ExpressionTree) (words : List Text) 
 parts_end below trees words = turns_end (one_more (expression below)) (is_front (codes ",")) (parts_eat below) trees words
 
 -- a part that was read leaves fewer words, the comma's too
-pub part_fewer : (below : ℕ) (words : List Text) (tree : ExpressionTree) (left : List Text) → is_front (codes ",") (front words) ≡ true →
-    expression below 0 (drop 1 words) ≡ got tree left → length left < length words
-part_fewer below words tree left here e =
+pub part_fewer : (below : ℕ) (words between left : List Text) (tree : ExpressionTree) (seen : Bool) →
+    seen ≡ is_front (codes ",") (front words) → seen ≡ true → between ≡ drop 1 words → expression below 0 between ≡ got tree left →
+    length left < length words
+part_fewer below words between left tree seen is here passed e =
     parts_eat below [] words (tree ∷ []) left
-    (past_on (codes ",") (λ ws. and_then (expression below 0 ws) (λ one. got ([] ++ one ∷ []))) words here
-    ∙ ap (λ a. and_then a (λ one. got ([] ++ one ∷ []))) e)
+    (past_on (codes ",") (λ ws. and_then (expression below 0 ws) (λ one. got ([] ++ one ∷ []))) words (sym is ∙ here)
+    ∙ ap (λ a. and_then a (λ one. got ([] ++ one ∷ []))) (ap (expression below 0) (sym passed) ∙ e))
 
 -- the list that was read is that of the program's trees
 pub trees_same : (parts : List Expression) → trees_in (map tree_of parts) ≡ trees_of parts
@@ -144,14 +145,16 @@ deepest_so parts after part deep largest told same d t l =
 pub both_within : (a b largest below : ℕ) → largest ≡ max a b → a ≤ below → b ≤ below → largest ≤ below
 both_within a b largest below l p q = grind arith
 
--- the parts after one more was read
-pub parts_pushed : (below : ℕ) (parts after : List Expression) (part : Expression) (words between left : List Text) →
-    after ≡ parts ++ part ∷ [] → is_front (codes ",") (front words) ≡ true → between ≡ drop 1 words →
-    expression below 0 between ≡ got (tree_of part) left →
-    part_turns below (map tree_of after) left ≡ part_turns below (map tree_of parts) words
-parts_pushed below parts after part words between left same here passed e =
+-- what is read from the parts on, one more among them, is what was read before it
+pub parts_pushed : (below : ℕ) (parts after : List Expression) (part : Expression) (words between left : List Text)
+    (seen : Bool) (all : Answer (List ExpressionTree)) →
+    after ≡ parts ++ part ∷ [] → seen ≡ is_front (codes ",") (front words) → seen ≡ true → between ≡ drop 1 words →
+    expression below 0 between ≡ got (tree_of part) left → part_turns below (map tree_of parts) words ≡ all →
+    part_turns below (map tree_of after) left ≡ all
+parts_pushed below parts after part words between left seen all same is here passed e before =
     ap (λ ts. part_turns below ts left) (ap (map tree_of) same ∙ map-append tree_of parts (part ∷ []))
-    ∙ sym (parts_on below (map tree_of parts) words (tree_of part) left here (ap (expression below 0) (sym passed) ∙ e))
+    ∙ sym (parts_on below (map tree_of parts) words (tree_of part) left (sym is ∙ here) (ap (expression below 0) (sym passed) ∙ e))
+    ∙ before
 
 pub measured : (tree : ExpressionTree) (deep levels : ℕ) (found : Found) → IsMade tree deep found → deep ≡ depth tree → deep ≤ levels →
     IsMeasured levels found
@@ -166,29 +169,34 @@ larger_level a b n p q = both_up a b (max a b) n refl p q
     both_up : (a b m n : ℕ) → m ≡ max a b → a ≤ n → b ≤ n → 1 + m ≤ 1 + n
     both_up a b m n e p q = one_more_level m n (both_within a b m n e p q)
 
+pub both_deep : (a b c d : ℕ) → a ≡ c → b ≡ d → 1 + max a b ≡ 1 + max c d
+both_deep a b c d p q = ap (λ n. 1 + max n b) p ∙ ap (λ n. 1 + max c n) q
+
 -- What a concatenation and a replication are read as, step by step
 
-pub joined_so : (below : ℕ) (one : ExpressionTree) (parts : List Expression) (words between left : List Text) →
+pub joined_so : (below : ℕ) (one made : ExpressionTree) (parts : List Expression) (words between left : List Text) →
     part_turns below (one ∷ []) words ≡ got (map tree_of parts) between → between ≡ codes "}" ∷ left →
-    joined (expression below) one words ≡ got (concatenation (trees_of parts)) left
-joined_so below one parts words between left e closed =
+    made ≡ concatenation (trees_of parts) → joined (expression below) one words ≡ got made left
+joined_so below one made parts words between left e closed same =
     ap (λ a. and_then a (λ trees. past (codes "}") (got (concatenation (trees_in trees))))) (e ∙ ap (got (map tree_of parts)) closed)
     ∙ past_word (codes "}") (got (concatenation (trees_in (map tree_of parts)))) left
     ∙ ap (λ ts. got (concatenation ts) left) (trees_same parts)
+    ∙ ap (λ t. got t left) (sym same)
 
-pub repeated_so : (below : ℕ) (count one : ExpressionTree) (parts : List Expression) (words ws xs ys zs left : List Text) →
+pub repeated_so : (below : ℕ) (count one made : ExpressionTree) (parts : List Expression) (words ws xs ys zs left : List Text) →
     words ≡ codes "{" ∷ ws → expression below 0 ws ≡ got one xs → part_turns below (one ∷ []) xs ≡ got (map tree_of parts) ys →
-    ys ≡ codes "}" ∷ zs → zs ≡ codes "}" ∷ left →
-    repeated (expression below) count words ≡ got (replication count (trees_of parts)) left
-repeated_so below count one parts words ws xs ys zs left opened e more closed again =
+    ys ≡ codes "}" ∷ zs → zs ≡ codes "}" ∷ left → made ≡ replication count (trees_of parts) →
+    repeated (expression below) count words ≡ got made left
+repeated_so below count one made parts words ws xs ys zs left opened e more closed again same =
     ap (repeated (expression below) count) opened
-    ∙ past_word (codes "{") (λ ws. and_then (and_then (expression below 0 ws) (λ tree. part_turns below (tree ∷ []))) ends_both) ws
+    ∙ past_word (codes "{") (λ vs. and_then (and_then (expression below 0 vs) (λ tree. part_turns below (tree ∷ []))) ends_both) ws
     ∙ ap (λ a. and_then (and_then a (λ tree. part_turns below (tree ∷ []))) ends_both) e
     ∙ ap (λ a. and_then a ends_both) (more ∙ ap (got (map tree_of parts)) closed)
     ∙ past_word (codes "}") (past (codes "}") (got (replication count (trees_in (map tree_of parts))))) zs
     ∙ ap (past (codes "}") (got (replication count (trees_in (map tree_of parts))))) again
     ∙ past_word (codes "}") (got (replication count (trees_in (map tree_of parts)))) left
     ∙ ap (λ ts. got (replication count ts) left) (trees_same parts)
+    ∙ ap (λ t. got t left) (sym same)
   where
     ends_both : List ExpressionTree → Reader ExpressionTree
     ends_both trees = past (codes "}") (past (codes "}") (got (replication count (trees_in trees))))
@@ -201,13 +209,16 @@ operator_turns below least left = turns (operator below (expression below) least
 operators_eat : (below least : ℕ) (left : ExpressionTree) → Eats (operator below (expression below) least left)
 operators_eat below least = operator_eats below (expression below) (below_rule below) least
 
-pub operators_on : (below least : ℕ) (left next : ExpressionTree) (words rest : List Text) (one : BinaryOperator) →
-    joining least (front words) ≡ Some one → operator below (expression below) least left words ≡ got next rest →
-    operator_turns below least left words ≡ operator_turns below least next rest
-operators_on below least left next words rest one here e =
-    turns_on (operator below (expression below) least) (is_joined least) (operators_eat below least) left words
-    (joined_here least words one here)
-    ∙ ap (λ a. and_then a (operator_turns below least)) e
+-- what is read from the next left side on is what was read before it
+pub operators_on : (below least : ℕ) (left next : ExpressionTree) (words rest : List Text) (here : Option BinaryOperator)
+    (one : BinaryOperator) (all : Answer ExpressionTree) →
+    here ≡ joining least (front words) → here ≡ Some one → operator below (expression below) least left words ≡ got next rest →
+    operator_turns below least left words ≡ all → operator_turns below least next rest ≡ all
+operators_on below least left next words rest here one all is some e before =
+    sym (turns_on (operator below (expression below) least) (is_joined least) (operators_eat below least) left words
+    (joined_here least words one (sym is ∙ some))
+    ∙ ap (λ a. and_then a (operator_turns below least)) e)
+    ∙ before
 
 pub operators_stop : (below least : ℕ) (left : ExpressionTree) (words rest : List Text) (one : BinaryOperator) (why : Stop) →
     joining least (front words) ≡ Some one → operator below (expression below) least left words ≡ stop why rest →
@@ -304,14 +315,18 @@ asked_low below least condition (word ∷ words) e fits =
     chosen (is_asked least (Some word)) _ _ e
     ∙ ap (λ l. follow l word words) (chosen (is_asked least (Some word)) _ refused e ∙ passed_over (nat_le (depth condition) below) _ lower fits)
 
-pub turn_so : (below least level : ℕ) (left right : ExpressionTree) (words between rest : List Text) (one : BinaryOperator) →
+pub turn_so : (below least level : ℕ) (left right made : ExpressionTree) (words between rest : List Text) (one : BinaryOperator) →
     joining least (front words) ≡ Some one → nat_le (depth left) below ≡ true → between ≡ drop 1 words → level ≡ suc (rank one) →
-    expression below level between ≡ got right rest →
-    operator below (expression below) least left words ≡ got (combine one left right) rest
-turn_so below least level left right words between rest one here fits passed same e =
+    expression below level between ≡ got right rest → made ≡ combine one left right →
+    operator below (expression below) least left words ≡ got made rest
+turn_so below least level left right made words between rest one here fits passed same e is =
     turn_enters below least left words one here fits
     ∙ ap (λ a. and_then a (λ right. got (combine one left right)))
     (ap (expression below (suc (rank one))) (sym passed) ∙ ap (λ n. expression below n between) (sym same) ∙ e)
+    ∙ ap (λ t. got t rest) (sym is)
+
+pub low_enough : (depth deep below : ℕ) → depth ≡ deep → nat_le depth below ≡ true → nat_le deep below ≡ true
+low_enough depth deep below same e = ap (λ n. nat_le n below) (sym same) ∙ e
 
 pub le_so : (a b : ℕ) → nat_le a b ≡ true → a ≤ b
 le_so a b e = grind (arith, nat_tests)

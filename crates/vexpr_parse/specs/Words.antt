@@ -1,5 +1,6 @@
 -- What words begin and join (IEEE 1364-2005, A.8).
-use Rattle.std.specs.Prelude.{ℕ, nat_le, Bool, true, false, ◌&&◌, not, if◌then◌else◌, List, [], ◌∷◌, Option, Some, None, codes}
+use Rattle.std.specs.Prelude.{ℕ, nat_le, Bool, true, false, ◌&&◌, ◌==◌, not, if◌then◌else◌, List, [], ◌∷◌, Option, Some, None, codes}
+use Rattle.std.specs.List.{list_any}
 use Rattle.std.specs.Str.{bytes_eq}
 use Rattle.vast.specs.Words.{is_name, is_number}
 use Rattle.vast.specs.Syntax.{Text}
@@ -29,6 +30,11 @@ binary_operators =
 abbrev pub written : {A : Type 0} → (A → Text) → List A → Text → Option A
 written spell [] word = None
 written spell (one ∷ more) word = if bytes_eq (spell one) word then Some one else written spell more word
+
+-- whether one of these bytes stands first
+abbrev pub begins_among : List ℕ → Text → Bool
+begins_among bytes [] = false
+begins_among bytes (c ∷ cs) = list_any (λ byte. byte == c) bytes
 
 unfoldable pub unary_of : Text → Option UnaryOperator
 unary_of word = written unary_word unary_operators word

@@ -1,9 +1,10 @@
 // What words begin and join, by their bytes.
 
-ghost use Rattle.std.specs.Prelude.{◌≡◌};
+ghost use Rattle.std.specs.Prelude.{◌≡◌, ◌==◌};
+ghost use Rattle.std.specs.List.{list_any};
 ghost use Rattle.std.specs.Str.{bytes_eq};
 ghost use Rattle.vast.specs.Expressions.{unary_word as unary_text, binary_word as binary_text};
-ghost use Rattle.vexpr_parse.specs.Words.{written, beginning_of as beginning_of_text, unary_of as unary_of_text, binary_of as binary_of_text};
+ghost use Rattle.vexpr_parse.specs.Words.{written, begins_among as begins_among_text, beginning_of as beginning_of_text, unary_of as unary_of_text, binary_of as binary_of_text};
 
 use crate::beginning::{Beginning, Round};
 use vast::expression::{BinaryOperator, UnaryOperator};
@@ -51,6 +52,11 @@ static BINARY: [BinaryOperator; 24] = [
     BinaryOperator::LogicalOr,
 ];
 
+// The bytes that they begin with.
+static BINARY_FIRST: [u8; 13] = [
+    b'*', b'/', b'%', b'+', b'-', b'<', b'>', b'=', b'!', b'&', b'^', b'~', b'|',
+];
+
 /// Whether both are the same text.
 pub fn is(word: &[u8], text: &[u8]) -> bool
     ensures { result ≡ bytes_eq text.now word.now }
@@ -87,11 +93,30 @@ fn binary_among(word: &[u8], operators: &[BinaryOperator]) -> Option<BinaryOpera
     None
 }
 
+fn is_among(byte: u8, bytes: &[u8]) -> bool
+    ensures { result ≡ list_any (λ one. one == byte) bytes.now }
+{
+    bytes.iter().any(|one| *one == byte)
+}
+
+fn begins_among(word: &[u8], bytes: &[u8]) -> bool
+    ensures { result ≡ begins_among_text bytes.now word.now }
+{
+    match word.split_first() {
+        None => false,
+        Some((first, _rest)) => is_among(*first, bytes),
+    }
+}
+
 /// The operator that is written so between its operands, if one is (A.8.6).
 pub fn binary_of(word: &[u8]) -> Option<BinaryOperator>
     ensures { result ≡ binary_of_text word.now }
 {
-    binary_among(word, &BINARY)
+    if begins_among(word, &BINARY_FIRST) {
+        binary_among(word, &BINARY)
+    } else {
+        None
+    }
 }
 
 /// What an expression's first word begins (A.8.4).

@@ -1,5 +1,3 @@
-use Rattle.std.proofs.Common.{sym, ap, ◌∙◌}
-use Rattle.vexpr_parse.specs.Reading.{expression}
 use Rattle.vexpr_parse.specs.Answers.{tree_in}
 use Rattle.vexpr_parse.proofs.Turning.{part_fewer, parts_pushed, deepest_so, both_within}
 use Rattle.vexpr_parse.proofs.braces.more_parts.Goals as goal
@@ -7,8 +5,8 @@ use Rattle.vexpr_parse.proofs.braces.more_parts.Goals as goal
 pub parts-smaller : goal.parts-smaller
 parts-smaller g c =
     let found = c.requires.reads _ _ 0 _ c.in_ok-part.ensures in
-    part_fewer c.args.below c.parts.cursor (tree_in c.in_ok-part.part) c.read.new.arg2 (sym c.begins.ensures ∙ c.parts-test.true)
-    (ap (expression c.args.below 0) (sym c.pass.ensures) ∙ found.0)
+    part_fewer c.args.below c.parts.cursor c.pass.new.self c.read.new.arg2 (tree_in c.in_ok-part.part)
+    c.begins.result c.begins.ensures c.parts-test.true c.pass.ensures found.0
 
 pub parts-preserved : goal.parts-preserved
 parts-preserved g c =
@@ -16,9 +14,8 @@ parts-preserved g c =
     record {
       read =
           parts_pushed c.args.below c.parts.trees.items c.push-in-parts.new.self.items c.in_ok-part.part.tree c.parts.cursor
-          c.pass.new.self c.read.new.arg2 c.in_ok-push-2.ensures.items (sym c.begins.ensures ∙ c.parts-test.true) c.pass.ensures
-          found.0
-          ∙ c.parts.invariant.read;
+          c.pass.new.self c.read.new.arg2 c.begins.result _ c.in_ok-push-2.ensures.items c.begins.ensures c.parts-test.true
+          c.pass.ensures found.0 c.parts.invariant.read;
       deep =
           deepest_so c.parts.trees.items c.push-in-parts.new.self.items c.in_ok-part.part.tree c.parts.depth c.larger-depth.result
           c.in_ok-part.part.depth c.in_ok-push-2.ensures.items c.parts.invariant.deep found.1.0 c.larger-depth.ensures;

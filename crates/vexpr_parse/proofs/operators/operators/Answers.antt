@@ -1,4 +1,3 @@
-use Rattle.std.proofs.Common.{sym, ◌∙◌}
 use Rattle.vexpr_parse.specs.Answers.{tree_in}
 use Rattle.vexpr_parse.proofs.Turning.{operators_on, operator_fewer}
 use Rattle.vexpr_parse.proofs.operators.operators.Goals as goal
@@ -11,8 +10,7 @@ turns-smaller g c =
 pub turns-preserved : goal.turns-preserved
 turns-preserved g c = record {
   read =
-      sym (operators_on c.args.below c.args.least (tree_in c.turns.left) (tree_in c.in_ok-left.left) c.turns.cursor c.turn.new.cursor
-      c.in-Some.operator (sym c.operator.ensures ∙ c.in-Some.is) c.in_ok-left.ensures.0)
-      ∙ c.turns.invariant.read;
+      operators_on c.args.below c.args.least (tree_in c.turns.left) (tree_in c.in_ok-left.left) c.turns.cursor c.turn.new.cursor
+      c.operator.result c.in-Some.operator _ c.operator.ensures c.in-Some.is c.in_ok-left.ensures.0 c.turns.invariant.read;
   measured = c.in_ok-left.ensures.1;
 }
