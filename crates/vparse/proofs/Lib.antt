@@ -14,3 +14,5 @@ pub mod PhraseLeads
 pub mod LevelFacts
 pub mod ValuePhrases
 pub mod TargetPhrases
+pub mod WordPhrases
+pub mod PartPhrases
