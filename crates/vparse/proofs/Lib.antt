@@ -16,3 +16,4 @@ pub mod ValuePhrases
 pub mod TargetPhrases
 pub mod WordPhrases
 pub mod PartPhrases
+pub mod StatementShapes
