@@ -17,3 +17,4 @@ pub mod TargetPhrases
 pub mod WordPhrases
 pub mod PartPhrases
 pub mod StatementShapes
+pub mod StatementPhrases
