@@ -18,3 +18,4 @@ pub mod WordPhrases
 pub mod PartPhrases
 pub mod StatementShapes
 pub mod StatementPhrases
+pub mod TaskPhrases
