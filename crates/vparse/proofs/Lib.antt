@@ -19,3 +19,4 @@ pub mod PartPhrases
 pub mod StatementShapes
 pub mod StatementPhrases
 pub mod TaskPhrases
+pub mod CasePhrases
