@@ -14,3 +14,9 @@ pub mod PhraseLeads
 pub mod LevelFacts
 pub mod ValuePhrases
 pub mod TargetPhrases
+pub mod WordPhrases
+pub mod PartPhrases
+pub mod StatementShapes
+pub mod StatementPhrases
+pub mod TaskPhrases
+pub mod CasePhrases

@@ -128,14 +128,19 @@ made_complete make read shape out head m complete tree rest v c =
     then_got (read (shape.spell tree ++ rest)) (λ t. got (make t)) tree rest
     (complete tree rest (sym (m.valid tree) ∙ v) (m.closes tree (front rest) c))
 
-pub made_phrase : {A B : Type 0} (make : A → B) (back : B → A) {read : Reader A} {ends : Ends} {shape : Shape A} (out : Shape B) →
-    ((tree : B) → make (back tree) ≡ tree) → Makes make shape out [] →
+-- what a tree is made of
+pub record From {A B : Type 0} (make : A → B) (tree : B) : Type 0 where
+  pub parts : A
+  pub is : make parts ≡ tree
+
+pub made_phrase : {A B : Type 0} (make : A → B) {read : Reader A} {ends : Ends} {shape : Shape A} (out : Shape B) →
+    ((tree : B) → out.valid tree ≡ true → From make tree) → Makes make shape out [] →
     ((tree : B) (first : Option Text) → ends first ≡ true → out.closes tree first ≡ true) → Phrase read ends shape →
     Phrase (made make read) ends out
-made_phrase {A = A} {B = B} make back {read = read} {ends = ends} {shape = shape} out same m closed p = record {
+made_phrase {A = A} {B = B} make {read = read} {ends = ends} {shape = shape} out back m closed p = record {
   lawful = made_lawful make read ends p.lawful;
   sound = made_sound make read shape out [] m p.sound;
-  complete = λ tree rest v c. by_make tree (back tree) (same tree) rest v c;
+  complete = λ tree rest v c. by_make tree (back tree v).parts (back tree v).is rest v c;
   closed = closed;
 }
   where

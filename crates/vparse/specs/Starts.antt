@@ -83,10 +83,10 @@ abbrev pub comma_of : Text → Option Bool
 comma_of word = written comma_word (true ∷ false ∷ []) word
 
 -- whether the word means something
+abbrev pub is_some_meaning : {A : Type 0} → Option A → Bool
+is_some_meaning None = false
+is_some_meaning (Some meaning) = true
+
 abbrev pub is_meant : {A : Type 0} → (Text → Option A) → Option Text → Bool
 is_meant meaning None = false
-is_meant meaning (Some word) = is_some_of (meaning word)
-  where
-    is_some_of : {A : Type 0} → Option A → Bool
-    is_some_of None = false
-    is_some_of (Some tree) = true
+is_meant meaning (Some word) = is_some_meaning (meaning word)
