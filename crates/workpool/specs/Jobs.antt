@@ -7,8 +7,8 @@ use Rattle.workpool.specs.Inner.Sums.{times}
 abbrev pub DequeId : Type 0
 DequeId = (ℕ × ℕ) × Global
 
--- The owner's end of a deque: what the owner has put and taken, in order; and behind that what the thief has taken, once the thief's
--- end was given back.
+-- The owner's end of a deque: what the owner has put and taken, in order; and behind that what the thief has taken, once that end
+-- was given back.
 pub record Owned : Type 0 where
   pub deque : DequeId
   pub put : List ℕ

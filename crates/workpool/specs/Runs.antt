@@ -7,6 +7,7 @@ use Rattle.workpool.specs.Inner.Sums.{times}
 use Rattle.workpool.specs.Jobs.{Owned}
 use Rattle.workpool.specs.Rings.{jobs_put, jobs_taken, times_put, times_taken}
 use Rattle.workpool.specs.Searches.{SomeRunComesBack}
+use Rattle.workpool.specs.declared.ran.Ran.{Ran}
 use Rattle.statebook.specs.declared.reason.Reason.{Reason}
 use Rattle.statebook.specs.declared.reason.Reason.TheVariants.{Memory, Entries}
 
@@ -31,6 +32,6 @@ pub record TellsFull (opens : ℕ) (limits : Limits) (cut : Option Reason) : Typ
   pub only : cut ≡ Some Entries → limits.entries ≤ opens
   pub always : limits.entries ≤ opens → (cut ≡ Some Entries) ⊎ IsRefused cut
 
--- The root's entry wasn't met: memory was refused before an entry was opened, or a run that comes back to its state was met first.
-abbrev pub HasNoRoot : {S : Type 0} → Rules S → Limits → ℕ → Option Reason → Type 0
-HasNoRoot r limits opens cut = (opens ≡ 0) × IsRefused cut ⊎ SomeRunComesBack r limits
+-- The root's entry wasn't met: memory was refused before an entry was opened, or a run that comes back to its state was met.
+abbrev pub HasNoRoot : {S Q B : Type 0} → Rules S → Limits → Ran S Q B → Type 0
+HasNoRoot r limits ran = (ran.opens ≡ 0) × IsRefused ran.cut ⊎ SomeRunComesBack r limits

@@ -156,7 +156,7 @@ fn tell<P: Space, Q: Quest<P::State>, B: Naming>(
     ensures parts { result.pass.parts ≡ sum.pass.parts }
     ensures sums { (start : ℕ) → IsSummed (P.rules space.now) limits.now tally start ring.items sum → TellsSums start result }
     ensures root { IfSome result.root (λ seen. IsRootOf (P.rules space.now) limits.now seen.entry) }
-    ensures none { IfNone result.root (HasNoRoot (P.rules space.now) limits.now result.opens result.cut) }
+    ensures none { IfNone result.root (HasNoRoot (P.rules space.now) limits.now result) }
     ensures entries { TellsFull result.opens limits.now result.cut }
     ensures steps { result.cut ≡ Some Reason.Steps → SomeRunExceeds (P.rules space.now) limits.now }
 {
@@ -226,7 +226,7 @@ pub fn run_workers<
     ensures shuts { result.shuts ≡ result.taken }
     ensures jobs { AreJobs result.deques.items result.given result.taken }
     ensures root { IfSome result.root (λ seen. IsRootOf (P.rules space.now) limits.now seen.entry) }
-    ensures none { IfNone result.root (HasNoRoot (P.rules space.now) limits.now result.opens result.cut) }
+    ensures none { IfNone result.root (HasNoRoot (P.rules space.now) limits.now result) }
     ensures entries { TellsFull result.opens limits.now result.cut }
     ensures steps { result.cut ≡ Some Reason.Steps → SomeRunExceeds (P.rules space.now) limits.now }
 {

@@ -4,7 +4,8 @@ use Rattle.workpool.specs.Rings.{AreIdle, IsRing}
 use Rattle.workpool.specs.declared.room.Room.{Room}
 use Rattle.workpool.specs.declared.tally.TheConstants.{SEATS}
 
--- There is room for so many workers: a ring of as many deques without jobs, no worker yet, and all parts of a tally of nothing.
+-- There is room for so many workers: a ring of as many deques without jobs, no worker yet, room for as many deques that settle, and
+-- all parts of a tally of nothing.
 pub record IsRoomFor {B : Type 0} (count : ℕ) (room : Room B) : Type 0 where
   pub ring : IsRing room.ring.items
   pub idle : AreIdle room.ring.items
