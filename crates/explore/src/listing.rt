@@ -42,7 +42,8 @@ fn list_entry<P: Space>(
     requires distinct { IsUnique P.State.eq marks.old }
     ensures found { OnOk result (AreFound (P.rules space.now) limits.now marks.new.entries) }
     ensures listed { OnOk result (ListsEntry (P.rules space.now) marks.new.entries entry.now) }
-    ensures kept { OnOk result (KeepsListed (P.rules space.now) marks.old.entries marks.new.entries) }
+    ensures kept { OnOk result
+        (KeepsListed (P.rules space.now) marks.old.entries marks.new.entries) }
     ensures distinct { OnOk result (IsUnique P.State.eq marks.new) }
 {
     if !space.is_mark(&entry.state) {
@@ -65,7 +66,8 @@ pub fn list_seen<P: Space, Q: Quest<P::State>, B: Naming>(
 ) -> Result<IndexMap<P::State, Log>, NoMemory>
     requires { IsQuestOf Q.rules Q.depart Q.steps (P.rules space.now) limits.now }
     ensures found { IfOk result (λ marks. AreFound (P.rules space.now) limits.now marks.entries) }
-    ensures each { IfOk result (λ marks. ListsEach (P.rules space.now) (entries_of all.now) marks.entries) }
+    ensures each { IfOk result (λ marks.
+        ListsEach (P.rules space.now) (entries_of all.now) marks.entries) }
     ensures distinct { IfOk result (λ marks. IsUnique P.State.eq marks) }
 {
     let mut marks = IndexMap::new(alloc);

@@ -35,7 +35,8 @@ fn status_of<S: Eq + Hash + Drop, Q: Quest<S>, B: Naming>(
     all: &[Seen<S, Q, B>],
     cut: Option<Reason>,
 ) -> Option<Status>
-    ensures closed { result ≡ Some Status.Exhausted → Closes Q.rules Q.depart Q.steps root.now all.now }
+    ensures closed { result ≡ Some Status.Exhausted →
+        Closes Q.rules Q.depart Q.steps root.now all.now }
     ensures entries { result ≡ Some (Status.Cut Reason.Entries) → StopsForEntries cut }
     ensures steps { result ≡ Some (Status.Cut Reason.Steps) → StopsForSteps cut }
 {

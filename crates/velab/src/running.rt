@@ -123,7 +123,8 @@ fn assigned<'t>(
 
 #[cycle(running)]
 fn statement<'t>(alloc: Global, whole: &Statement<'t>) -> Result<Stmt<'t>, OrMemory<NotYet>>
-    ensures { Runs small.statement_tree (runs.runnable_statement (statement_tree whole.now)) result }
+    ensures { Runs small.statement_tree (runs.runnable_statement (statement_tree whole.now))
+        result }
 {
     let at = match whole {
         Statement::Empty => return Ok(Stmt::Empty),

@@ -55,7 +55,8 @@ impl Model for Thief {
 /// The two ends of a deque without jobs. The error is want of memory, E901.
 pub fn ends(alloc: Global) -> Result<(Owner, Thief), NoMemory>
     ensures one { IfOk result (λ made. made.0.deque ≡ made.1.deque) }
-    ensures nothing { IfOk result (λ made. (made.0.put ≡ []) × (made.0.taken ≡ []) × (made.1.taken ≡ [])) }
+    ensures nothing { IfOk result (λ made. (made.0.put ≡ []) × (made.0.taken ≡ []) ×
+        (made.1.taken ≡ [])) }
 {
     let mut worker = Worker::lifo_as(alloc, ROOM)?;
     let stealer = worker.stealer()?;
@@ -75,7 +76,8 @@ impl Owner {
 
     /// The job that was put last, of those that are left.
     pub fn take(&mut self) -> Option<u64>
-        ensures some { IfSome result (λ job. self.new ≡ record self.old { taken = self.old.taken ++ job ∷ [] }) }
+        ensures some { IfSome result (λ job.
+            self.new ≡ record self.old { taken = self.old.taken ++ job ∷ [] }) }
         ensures none { IfNone result (self.new ≡ self.old) }
     {
         self.worker.pop_as::<Takes>()
@@ -85,7 +87,8 @@ impl Owner {
 impl Thief {
     /// The job that was put first, of those that are left. None also where another thread was quicker.
     pub fn steal(&mut self) -> Option<u64>
-        ensures some { IfSome result (λ job. self.new ≡ record self.old { taken = self.old.taken ++ job ∷ [] }) }
+        ensures some { IfSome result (λ job.
+            self.new ≡ record self.old { taken = self.old.taken ++ job ∷ [] }) }
         ensures none { IfNone result (self.new ≡ self.old) }
     {
         match self.stealer.steal_as::<Takes>(&mut self.pass) {

@@ -51,7 +51,8 @@ fn meet_choice<P: Space, Q: Quest<P::State>, B: Naming, R: Wait>(
     requires entry { MayBeAdded (P.rules space.now) limits.now entry.now }
     requires choice { Allows (P.rules space.now) entry.now choice }
     requires seated { IsSeated tally.now work.old }
-    ensures met { IfReached result (λ seen. IsMetBy (P.rules space.now) entry.now choice seen.entry) }
+    ensures met { IfReached result (λ seen.
+        IsMetBy (P.rules space.now) entry.now choice seen.entry) }
     ensures past { IfPast result (ChoiceGoesPast (P.rules space.now) limits.now entry.now choice) }
     ensures counted { StaysCounted work.old work.new }
     ensures same { IsSamePlace work.old work.new }
@@ -83,7 +84,8 @@ fn meet_all<P: Space, Q: Quest<P::State>, B: Naming, R: Wait>(
     requires root { IsFirst (P.rules space.now) root.now }
     requires entry { MayBeAdded (P.rules space.now) limits.now entry.now }
     requires seated { IsSeated tally.now work.old }
-    ensures met { IfReached result (λ all. HasMetAll (P.rules space.now) entry.now (entries_of all.items)) }
+    ensures met { IfReached result (λ all.
+        HasMetAll (P.rules space.now) entry.now (entries_of all.items)) }
     ensures past { IfPast result (SomeRunExceeds (P.rules space.now) limits.now) }
     ensures counted { StaysCounted work.old work.new }
     ensures same { IsSamePlace work.old work.new }

@@ -75,10 +75,12 @@ fn start<P: Space, Q: Quest<P::State>, B: Naming, R: Wait>(
 ) -> Result<Seen<P::State, Q, B>, NoMemory>
     requires quest { IsQuestOf Q.rules Q.depart Q.steps (P.rules space.now) limits.now }
     requires some { 0 < length works.old.items }
-    requires ready { AreReady (P.rules space.now) limits.now tally.now (length works.old.items) works.old.items }
+    requires ready { AreReady (P.rules space.now) limits.now tally.now (length works.old.items)
+        works.old.items }
     ensures first { IfOk result (λ seen. IsFirst (P.rules space.now) seen.entry.state) }
     ensures len { length works.new.items ≡ length works.old.items }
-    ensures ready { AreReady (P.rules space.now) limits.now tally.now (length works.old.items) works.new.items }
+    ensures ready { AreReady (P.rules space.now) limits.now tally.now (length works.old.items)
+        works.new.items }
     ensures same { AreSamePlaces works.old.items works.new.items }
     ensures unmet { IfErr result (λ _. all_opens works.new.items ≡ all_opens works.old.items) }
 {
@@ -109,10 +111,12 @@ fn search<
 ) -> Result<Seen<P::State, Q, B>, NoMemory>
     requires quest { IsQuestOf Q.rules Q.depart Q.steps (P.rules space.now) limits.now }
     requires some { 0 < length works.old.items }
-    requires ready { AreReady (P.rules space.now) limits.now tally.now (length works.old.items) works.old.items }
+    requires ready { AreReady (P.rules space.now) limits.now tally.now (length works.old.items)
+        works.old.items }
     ensures first { IfOk result (λ seen. IsFirst (P.rules space.now) seen.entry.state) }
     ensures len { length works.new.items ≡ length works.old.items }
-    ensures ready { AreReady (P.rules space.now) limits.now tally.now (length works.old.items) works.new.items }
+    ensures ready { AreReady (P.rules space.now) limits.now tally.now (length works.old.items)
+        works.new.items }
     ensures same { AreSamePlaces works.old.items works.new.items }
     ensures unmet { IfErr result (λ _. all_opens works.new.items ≡ all_opens works.old.items) }
 {
@@ -154,7 +158,9 @@ fn tell<P: Space, Q: Quest<P::State>, B: Naming>(
     requires first { IfOk met (λ seen. IsFirst (P.rules space.now) seen.entry.state) }
     requires unmet { IfErr met (λ _. sum.tally.opens ≡ 0) }
     ensures parts { result.pass.parts ≡ sum.pass.parts }
-    ensures sums { (start : ℕ) → IsSummed (P.rules space.now) limits.now tally start ring.items sum → TellsSums start result }
+    ensures sums { (start : ℕ) →
+        IsSummed (P.rules space.now) limits.now tally start ring.items sum →
+        TellsSums start result }
     ensures root { IfSome result.root (λ seen. IsRootOf (P.rules space.now) limits.now seen.entry) }
     ensures none { IfNone result.root (HasNoRoot (P.rules space.now) limits.now result) }
     ensures entries { TellsFull result.opens limits.now result.cut }

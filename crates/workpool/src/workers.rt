@@ -42,7 +42,8 @@ pub(crate) fn seat_workers<P: Space, B: Naming>(
     ensures emptied { ring.new.items ≡ [] }
     ensures capacity { vec_capacity ring.new ≡ vec_capacity ring.old }
     ensures seats { seats_onto works.new.items [] ≡ ring.old.items }
-    ensures ready { AreReady (P.rules space.now) limits.now tally.now (length works.new.items) works.new.items }
+    ensures ready { AreReady (P.rules space.now) limits.now tally.now (length works.new.items)
+        works.new.items }
     ensures parts { pass.new.parts + all_parts works.new.items ≡ pass.old.parts }
     ensures count { pass.new.count ≡ pass.old.count }
     ensures opens { all_opens works.new.items ≡ 0 }
@@ -91,7 +92,8 @@ pub(crate) fn run_each<
     requires quest { IsQuestOf Q.rules Q.depart Q.steps (P.rules space.now) limits.now }
     requires root { IsFirst (P.rules space.now) root.now }
     requires some { 0 < length works.old }
-    requires ready { AreReady (P.rules space.now) limits.now tally.now (length works.old) works.old }
+    requires ready { AreReady (P.rules space.now) limits.now tally.now (length works.old)
+        works.old }
     ensures len { length works.new ≡ length works.old }
     ensures ready { AreReady (P.rules space.now) limits.now tally.now (length works.old) works.new }
     ensures same { AreSamePlaces works.old works.new }
@@ -102,7 +104,8 @@ pub(crate) fn run_each<
         requires quest { IsQuestOf Q.rules Q.depart Q.steps (P.rules space.now) limits.now }
         requires root { IsFirst (P.rules space.now) root.now }
         requires ready { IsReady (P.rules space.now) limits.now tally.now work.now }
-        ensures ready { IsReady (P.rules space.entry.now) limits.entry.now tally.entry.now work.exit.now }
+        ensures ready { IsReady (P.rules space.entry.now) limits.entry.now tally.entry.now
+            work.exit.now }
         ensures same { IsSamePlace work.entry.now work.exit.now }
     {
         let worker = number_of(last, place);
@@ -125,10 +128,12 @@ pub(crate) fn join_workers<P: Space, Q: Quest<P::State>, B: Naming>(
 ) -> Sum<B>
     requires none { ring.old.items ≡ [] }
     requires room { vec_len works ≤ vec_capacity ring.old }
-    requires ready { AreReady (P.rules space.now) limits.now tally.now (length works.items) works.items }
+    requires ready { AreReady (P.rules space.now) limits.now tally.now (length works.items)
+        works.items }
     requires summed { IsSummed (P.rules space.now) limits.now tally.now start.pass.count [] start }
     ensures seats { ring.new.items ≡ seats_onto works.items [] }
-    ensures summed { IsSummed (P.rules space.now) limits.now tally.now start.pass.count ring.new.items result }
+    ensures summed { IsSummed (P.rules space.now) limits.now tally.now start.pass.count
+        ring.new.items result }
     ensures seat { result.tally.parts ≡ start.tally.parts + length works.items }
     ensures parts { result.pass.parts ≡ start.pass.parts + all_parts works.items }
     ensures opens { result.tally.opens ≡ start.tally.opens + all_opens works.items }
