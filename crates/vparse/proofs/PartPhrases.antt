@@ -381,6 +381,12 @@ module _ (below : ℕ) (level : nat_le 1 below ≡ true) where
   abbrev pub arguments_shape : Shape Arguments
   arguments_shape = past_shape (codes "(") (paired_shape (comma_shape (ends 0) (argument_shape below)) (only_shape (codes ")")))
 
+  pub arguments_example : Example arguments_shape
+  arguments_example = record {
+    tree = both (both argument_example.tree []) tt;
+    valid = and_both _ true (and_both _ true argument_example.valid refl) refl;
+  }
+
   pub arguments_phrase : Phrase (arguments below) always arguments_shape
   unfolding binary_of
   arguments_phrase =

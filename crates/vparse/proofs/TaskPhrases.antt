@@ -5,7 +5,8 @@ use Rattle.std.proofs.lemmas.Bool.Decides.{nat_tests}
 use Rattle.basis.proofs.Bools.{and_left, and_right, and_both}
 use Rattle.vast.specs.Syntax.{Text}
 use Rattle.vast.specs.Words.{is_number, is_string}
-use Rattle.vast.specs.Statements.{ArgumentTree, quoted, printed, SelectionTree, StatementTree, task, print, dump_file, dump_vars, dump, end_run, print_word, end_word, spell_argument, argument_depth, arguments_depth, fits_argument, fits_print, fits_selection, spell_selection, spell_statement}
+use Rattle.vast.specs.Statements.{ArgumentTree, quoted, printed, SelectionTree, StatementTree, task, print, dump_file, dump_vars, dump, end_run, print_word, dump_word, end_word, spell_argument, argument_depth, arguments_depth, fits_argument, fits_print, fits_selection, spell_selection, spell_statement}
+use Rattle.vast.specs.declared.statement.Dumping.{Dumping}
 use Rattle.vast.specs.declared.statement.Printing.{Printing}
 use Rattle.vast.specs.declared.statement.Printing.TheVariants as printing
 use Rattle.vast.proofs.ExpressionLemmas.{depth_positive}
@@ -13,12 +14,12 @@ use Rattle.vexpr_parse.specs.Readers.{Reader, front, is_front, past}
 use Rattle.vexpr_parse.specs.Words.{ends}
 use Rattle.vparse.specs.Parts.{Both, both, paired, worded, maybe, roomy}
 use Rattle.vparse.specs.Starts.{meant_if}
-use Rattle.vparse.specs.Statements.{numbered, word_only, Arguments, arguments, print_of, optional_print_of, dump_file_of, dump_file_parts, selection, dump_vars_of, end_of, end_parts}
+use Rattle.vparse.specs.Statements.{numbered, word_only, Arguments, arguments, print_of, optional_print_of, dump_file_of, dump_file_parts, selection, dump_vars_of, dump_of, end_of, end_parts}
 use Rattle.vparse.proofs.Phrases.{Shape, Phrase, Example, Makes, always, past_shape, past_phrase, past_example, nothing_phrase, paired_shape, before_phrase, paired_example, free_phrase}
 use Rattle.vparse.proofs.PhraseChoices.{ends_maybe, maybe_shape, maybe_phrase, roomy_phrase}
 use Rattle.vparse.proofs.LevelFacts.{one_up, one_within, and_true, some_level}
 use Rattle.vparse.proofs.ValuePhrases.{nothing_example, word_if_phrase, only_shape, only_phrase, only_example, comma_shape, allows_each}
-use Rattle.vparse.proofs.PartPhrases.{text_shape, a_number, numbered_phrase, argument_shape, arguments_shape, arguments_phrase, selection_shape, selection_phrase}
+use Rattle.vparse.proofs.PartPhrases.{text_shape, a_number, numbered_phrase, argument_shape, arguments_shape, arguments_phrase, arguments_example, selection_shape, selection_phrase}
 use Rattle.vparse.proofs.StatementShapes.{closes_statement, statement_shape, all_within}
 
 positive : (n : ℕ) → 0 < suc n
@@ -62,7 +63,7 @@ module _ (below : ℕ) where
   abbrev Out : Shape StatementTree
   Out = statement_shape (suc below)
 
-  abbrev Arg : Shape Arguments
+  abbrev pub Arg : Shape Arguments
   Arg = past_shape (codes "(") (paired_shape (comma_shape (ends 0) (argument_shape below)) (only_shape (codes ")")))
 
   print_valid : (kind : Printing) (one : ArgumentTree) (more : List ArgumentTree) →
@@ -75,6 +76,14 @@ module _ (below : ℕ) where
       (sym (allows_each (λ tree. fits_argument tree && nat_le (argument_depth tree) below) [] more))
       ∙ sym (and_true _)
 
+  pub arguments_level : (tree : Arguments) → Arg.valid tree ≡ true → nat_le 1 below ≡ true
+  arguments_level (both (both one more) end) v =
+      some_level (argument_depth one) below (depth_of one) (and_right (fits_argument one) _ (and_left _ _ (and_left _ true v)))
+    where
+      depth_of : (tree : ArgumentTree) → 0 < argument_depth tree
+      depth_of (quoted letters) = omega arith
+      depth_of (printed value) = depth_positive value
+
   -- $monitor
 
   abbrev pub print_shape : Shape (Both Arguments (Unit {0}))
@@ -82,6 +91,9 @@ module _ (below : ℕ) where
 
   pub print_phrase : nat_le 1 below ≡ true → Phrase (paired (arguments below) (word_only (codes ";"))) always print_shape
   print_phrase level = free_phrase (arguments_phrase below level) (only_phrase (codes ";")) (only_example (codes ";"))
+
+  pub print_example : nat_le 1 below ≡ true → Example print_shape
+  print_example level = paired_example (arguments_example below level) (only_example (codes ";"))
 
   pub print_makes : (kind : Printing) → Makes (print_of kind) print_shape Out (print_word kind ∷ [])
   print_makes kind = record { spelled = spelled; valid = valid; closes = λ tree next e. closes tree next; stops = λ tree next e. stops tree next }
@@ -103,16 +115,8 @@ module _ (below : ℕ) where
   pub optional_print_phrase : Phrase (paired (maybe open_next (roomy below 1 (arguments below))) (word_only (codes ";"))) always
       (optional_shape Arg)
   optional_print_phrase =
-      optional_phrase (roomy_phrase below 1 (λ level. arguments_phrase below level) deep closed) (λ tree v. positive _) (λ tree v rest. refl)
+      optional_phrase (roomy_phrase below 1 (λ level. arguments_phrase below level) arguments_level closed) (λ tree v. positive _) (λ tree v rest. refl)
     where
-      deep : (tree : Arguments) → Arg.valid tree ≡ true → nat_le 1 below ≡ true
-      deep (both (both one more) end) v =
-          some_level (argument_depth one) below (depth_of one) (and_right (fits_argument one) _ (and_left _ _ (and_left _ true v)))
-        where
-          depth_of : (tree : ArgumentTree) → 0 < argument_depth tree
-          depth_of (quoted letters) = omega arith
-          depth_of (printed value) = depth_positive value
-
       closed : (tree : Arguments) (next : Option Text) → always next ≡ true → Arg.closes tree next ≡ true
       closed (both list end) next e = refl
 
@@ -194,6 +198,16 @@ module _ (below : ℕ) where
       stops : (tree : Both (Option SelectionTree) (Unit {0})) (next : Option Text) → closes_statement (dump_vars_of tree) next ≡ true
       stops (both None end) next = refl
       stops (both (Some selected) end) next = refl
+
+  -- $dumpon, and the like
+
+  pub dump_makes : (kind : Dumping) → Makes (dump_of kind) (only_shape (codes ";")) Out (dump_word kind ∷ [])
+  dump_makes kind = record {
+    spelled = λ tree. refl;
+    valid = λ tree. one_within below;
+    closes = λ tree next e. refl;
+    stops = λ tree next e. refl;
+  }
 
   -- $stop, $finish
 

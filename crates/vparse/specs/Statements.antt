@@ -7,6 +7,7 @@ use Rattle.vast.specs.Expressions.{ExpressionTree}
 use Rattle.vast.specs.Expressions.{first as first_part}
 use Rattle.vast.specs.Statements.{TargetTree, whole, bit, part, joined, TargetTrees, none, first as first_target, DelayTree, by_number, by_name, by_value, TermTree, FurtherTerm, EventTree, by_event, by_any, by_any_enclosed, by_terms, ArgumentTree, quoted, printed, SelectionTree, TaskTree, print, dump_file, dump_vars, dump, end_run, StatementTree, empty, block, assign, nonblocking, trigger, if_true, if_else, case_of, while_true, repeat_times, forever, for_loop, wait_for, delay, event, task, StatementTrees, no_statement, first_statement, BranchTree, labelled, default, BranchTrees, no_branch, first_branch, is_default}
 use Rattle.vast.specs.declared.statement.CaseKind.{CaseKind}
+use Rattle.vast.specs.declared.statement.Dumping.{Dumping}
 use Rattle.vast.specs.declared.statement.Edge.{Edge}
 use Rattle.vast.specs.declared.statement.Printing.{Printing}
 use Rattle.vast.specs.declared.statement.Printing.TheVariants as printing
@@ -308,6 +309,9 @@ end_of stops (both (Some (both digits closing)) end) = task (end_run stops (Some
 abbrev pub end_parts : Reader (Both (Option (Both Text (Unit {0}))) (Unit {0}))
 end_parts = paired (maybe (is_front (codes "(")) (past (codes "(") (paired numbered (word_only (codes ")"))))) (word_only (codes ";"))
 
+abbrev pub dump_of : Dumping → Unit {0} → StatementTree
+dump_of kind end = task (dump kind)
+
 abbrev pub trigger_of : Both Text (Unit {0}) → StatementTree
 trigger_of (both letters end) = trigger letters
 
@@ -328,7 +332,7 @@ statement_by below read (start.Print kind) = print_lead below kind
 statement_by below read start.DumpFile = room below 1 (goes (made dump_file_of dump_file_parts))
 statement_by below read start.DumpVars =
     goes (made dump_vars_of (paired (maybe (is_front (codes "(")) selection) (word_only (codes ";"))))
-statement_by below read (start.Dump kind) = goes (past (codes ";") (got (task (dump kind))))
+statement_by below read (start.Dump kind) = goes (made (dump_of kind) (word_only (codes ";")))
 statement_by below read (start.End stops) = goes (made (end_of stops) end_parts)
 
 abbrev pub lead_by : ℕ → Reader StatementTree → Option StatementStart → Lead StatementTree
