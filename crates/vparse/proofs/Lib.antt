@@ -21,3 +21,4 @@ pub mod StatementPhrases
 pub mod TaskPhrases
 pub mod CasePhrases
 pub mod StatementLevels
+pub mod StatementReads

@@ -7,3 +7,4 @@ pub mod Inner
 pub mod Parts
 pub mod Starts
 pub mod Statements
+pub mod StatementPlaces
