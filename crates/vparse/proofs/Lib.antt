@@ -22,3 +22,6 @@ pub mod TaskPhrases
 pub mod CasePhrases
 pub mod StatementLevels
 pub mod StatementReads
+pub mod Growth
+pub mod PartGrowth
+pub mod StatementGrowth

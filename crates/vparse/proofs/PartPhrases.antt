@@ -387,11 +387,15 @@ module _ (below : ℕ) (level : nat_le 1 below ≡ true) where
     valid = and_both _ true (and_both _ true argument_example.valid refl) refl;
   }
 
-  pub arguments_phrase : Phrase (arguments below) always arguments_shape
+  pub arguments_inner_phrase : Phrase (paired (comma_list (argument below)) (word_only (codes ")"))) always
+      (paired_shape (comma_shape (ends 0) (argument_shape below)) (only_shape (codes ")")))
   unfolding binary_of
+  arguments_inner_phrase =
+      before_phrase (codes ")") (comma_phrase argument_phrase argument_example refl) (nothing_phrase always) nothing_example refl
+
+  pub arguments_phrase : Phrase (arguments below) always arguments_shape
   arguments_phrase =
-      past_phrase (codes "(")
-      (before_phrase (codes ")") (comma_phrase argument_phrase argument_example refl) (nothing_phrase always) nothing_example refl)
+      past_phrase (codes "(") arguments_inner_phrase
       (record { tree = both (both argument_example.tree []) tt; valid = and_both _ true (and_both _ true argument_example.valid refl) refl })
 
 -- Paths and selections

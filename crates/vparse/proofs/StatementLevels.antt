@@ -155,7 +155,7 @@ module _ (below : ℕ) (read : Reader StatementTree) (p : Phrase read ends_state
       Phrase (case_parts below read) ends_statement (cases.case_shape below level read p worded no_colon)
   case_phrase level = loose (cases.case_phrase below level read p worded no_colon)
 
-  leads_by : (kind : StatementStart) → IsLead ends_statement (statement_by below read kind)
+  pub leads_by : (kind : StatementStart) → IsLead ends_statement (statement_by below read kind)
   leads_by start.Empty = ((got_rule empty ends_statement).lawful, ([], (empty, λ rest e. refl)))
   leads_by start.Begin = made_lead block_of block_phrase (parts.block_example below read p)
   leads_by start.Trigger = lead_room ends_statement below 1 _ (λ level. made_lead trigger_of (loose (parts.trigger_phrase below level))
@@ -519,3 +519,8 @@ statement_phrase (suc below) =
     reading_phrase below (statement below) (statement_phrase below)
     (unbegun below (statement_phrase below) (codes "end") no_words.0) (unbegun below (statement_phrase below) (codes "else") no_words.1)
     (unbegun below (statement_phrase below) (codes ":") no_words.2)
+
+pub statement_leads : (n : ℕ) (kind : StatementStart) → IsLead ends_statement (statement_by n (statement n) kind)
+statement_leads n =
+    leads_by n (statement n) (statement_phrase n) (unbegun n (statement_phrase n) (codes "end") no_words.0)
+    (unbegun n (statement_phrase n) (codes "else") no_words.1) (unbegun n (statement_phrase n) (codes ":") no_words.2)

@@ -157,17 +157,20 @@ module _ (below : ℕ) (level : nat_le 1 below ≡ true) where
   signed_example : Example (paired_shape sign_shape (paired_shape (delay_part_shape below) (right_side_shape below)))
   signed_example = paired_example a_sign delayed_right_example
 
-  pub assignment_phrase : Phrase (assignment_parts below) always (assignment_shape below)
-  assignment_phrase =
-      next_phrase (target_phrase below)
-      (free_phrase sign_phrase delayed delayed_right_example) signed_example some opens
-    where
-      delayed : Phrase (paired (optional_delay below) (paired (value below) (word_only (codes ";")))) always
-          (paired_shape (delay_part_shape below) (right_side_shape below))
-      delayed =
-          next_phrase (optional_delay_phrase below level) right_side_phrase right_side_example right_side_worded
-          (λ tree v rest c. ap not (no_hash tree v rest))
+  delayed_right_phrase : Phrase (paired (optional_delay below) (paired (value below) (word_only (codes ";")))) always
+      (paired_shape (delay_part_shape below) (right_side_shape below))
+  delayed_right_phrase =
+      next_phrase (optional_delay_phrase below level) right_side_phrase right_side_example right_side_worded
+      (λ tree v rest c. ap not (no_hash tree v rest))
 
+  -- what stands behind a target
+  pub signed_phrase : Phrase (paired (worded sign_of) (paired (optional_delay below) (paired (value below) (word_only (codes ";"))))) always
+      (paired_shape sign_shape (paired_shape (delay_part_shape below) (right_side_shape below)))
+  signed_phrase = free_phrase sign_phrase delayed_right_phrase delayed_right_example
+
+  pub assignment_phrase : Phrase (assignment_parts below) always (assignment_shape below)
+  assignment_phrase = next_phrase (target_phrase below) signed_phrase signed_example some opens
+    where
       some : Worded (paired_shape sign_shape (paired_shape (delay_part_shape below) (right_side_shape below)))
       some (both later more) v = positive _
 

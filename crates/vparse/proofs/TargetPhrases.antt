@@ -49,7 +49,7 @@ module _ (below : ℕ) (level : nat_le 1 below ≡ true) where
       no_word : (text : Text) {words : List Text} → text ∷ words ≡ [] → ⊥
       no_word text e = cc
 
-  select_phrase : Phrase (select below) always (select_shape below)
+  pub select_phrase : Phrase (select below) always (select_shape below)
   unfolding binary_of
   select_phrase =
       paired_phrase (value_phrase below)
@@ -237,7 +237,7 @@ module _ (below : ℕ) (read : Reader TargetTree) (p : Phrase read ends_primary 
     valid = and_both _ true (and_both _ true (target_example below level).valid refl) refl;
   }
 
-  target_leads : (word : Text) → IsLead ends_primary (target_lead below read word)
+  pub target_leads : (word : Text) → IsLead ends_primary (target_lead below read word)
   target_leads word =
       lead_if ends_primary (is_name word) _ _ (made_lead (target_of word) named_tight (record { tree = None; valid = refl }))
       (lead_if ends_primary (bytes_eq (codes "{") word) _ _

@@ -34,14 +34,14 @@ pub record IsRefused (levels : ℕ) (words left : List Text) : Type 0 where
   pub whole : words ≡ before ++ left
   pub none : (more : ℕ) → levels ≤ more → BeginsNone more before left
 
--- with more levels, the word at the place goes on to a statement: two more are enough
+-- with more levels, the word at the place goes on to a statement: three more are enough
 pub record IsDeeper (levels : ℕ) (words left : List Text) : Type 0 where
   pub before : List Text
   pub word : Text
   pub behind : List Text
   pub at : left ≡ word ∷ behind
   pub whole : words ≡ before ++ left
-  pub viable : BeginsOne (suc (suc levels)) (before ++ word ∷ [])
+  pub viable : BeginsOne (suc (suc (suc levels))) (before ++ word ∷ [])
 
 -- What reading gives
 
