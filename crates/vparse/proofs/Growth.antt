@@ -135,6 +135,11 @@ OpenLead (goes read) = Keeps read
 OpenLead refused = ⊥
 OpenLead lower = ⊥
 
+pub open_keeps : {A : Type 0} (l : Lead A) → OpenLead l → LeadKeeps l
+open_keeps (goes read) k = k
+open_keeps refused k = absurd k
+open_keeps lower k = absurd k
+
 pub lead_open : {A : Type 0} (ends : Ends) (read : Reader A) → IsLead ends (goes read) → OpenLead (goes read)
 lead_open ends read l words = keeps read ends words (read words) (l.0 words)
 
@@ -164,11 +169,6 @@ room_keep {A = A} ends below read level l = by_test (nat_le 1 below) level l
     by_test : (b : Bool) → b ≡ true → IsLead {A = A} ends (if b then goes read else lower) → Keeps read
     by_test true e l = λ words. keeps read ends words (read words) (l.0 words)
     by_test false e l = let no : false ≡ true = e in absurd cc
-
-pub lower_rises : {A : Type 0} (l : Lead A) → OpenLead l → LeadGrows lower l
-lower_rises (goes read) k = k
-lower_rises refused k = k
-lower_rises lower k = k
 
 -- a reader that has room, where what stands first is passed
 pub roomy_rises : {A : Type 0} (test : Option Text → Bool) (below : ℕ) (read more : Reader A) →

@@ -25,3 +25,5 @@ pub mod StatementReads
 pub mod Growth
 pub mod PartGrowth
 pub mod StatementGrowth
+pub mod PhrasePlaces
+pub mod StatementStops

@@ -12,7 +12,7 @@ use Rattle.vexpr_parse.specs.declared.stop.Stop.TheVariants.{NoTree, TooDeep}
 use Rattle.vexpr_parse.specs.Readers.{got, stop, Reader, front, is_front, Lead, goes, refused, lower, follow, led, room, past, choose}
 use Rattle.vexpr_parse.specs.Lawful.{rest_of}
 use Rattle.vexpr_parse.proofs.ReaderRules.{passed_over, IsLead}
-use Rattle.vexpr_parse.proofs.Grows.{Keeps, got_keep, then_keep, Grows, LeadGrows, led_grows}
+use Rattle.vexpr_parse.proofs.Grows.{Keeps, got_keep, LeadKeeps, led_keep, Grows, LeadGrows, led_grows}
 use Rattle.vparse.specs.declared.start.StatementStart.{StatementStart}
 use Rattle.vparse.specs.declared.start.StatementStart.TheVariants as start
 use Rattle.vparse.specs.Parts.{Both, both, made, paired, worded, many, maybe, either, roomy}
@@ -22,7 +22,7 @@ use Rattle.vparse.proofs.LevelFacts.{one_within}
 use Rattle.vparse.proofs.PartPhrases.{arguments_inner_phrase, arguments_phrase}
 use Rattle.vparse.proofs.StatementPhrases.{signed_phrase, assignment_phrase}
 use Rattle.vparse.proofs.StatementLevels.{statement_phrase, statement_leads}
-use Rattle.vparse.proofs.Growth.{up, some_left, made_keep, Growth, phrase_keep, got_growth, past_growth, made_growth, linked_growth, paired_growth, worded_growth, RisesWhere, choose_growth, either_growth, maybe_growth, maybe_growth_where, many_growth, OpenLead, lead_open, room_open, room_rises, room_keep, lower_rises, roomy_rises, roomy_keep, past_passes, then_passes, open_passes}
+use Rattle.vparse.proofs.Growth.{up, some_left, made_keep, Growth, phrase_keep, got_growth, past_growth, made_growth, linked_growth, paired_growth, worded_growth, RisesWhere, choose_growth, either_growth, maybe_growth, maybe_growth_where, many_growth, OpenLead, open_keeps, lead_open, room_open, room_rises, room_keep, roomy_rises, roomy_keep, past_passes, then_passes, open_passes}
 use Rattle.vparse.proofs.PartGrowth.{value_growth, only_growth, comma_growth, target_open, target_growth, amount_growth, optional_delay_growth, control_growth, arguments_growth, selection_growth}
 
 -- the lead of a word that begins a statement is open where a level is left
@@ -151,3 +151,48 @@ module _ (below : ℕ) (g : Growth (statement below) (statement (up below))) whe
   leads_rise (start.Dump kind) = (made_growth (dump_of kind) (only_growth (codes ";"))).rises
   leads_rise (start.End kind) = (made_growth (end_of kind) (optional_growth (maybe_growth (is_front (codes "(")) (past_growth (codes "(")
       (paired_growth (worded_growth (meant_if is_number)) (only_growth (codes ")"))))))).rises
+
+  starts_rise : (o : Option StatementStart) → LeadGrows (lead_by below read o) (lead_by (up below) more o)
+  starts_rise None = tt
+  starts_rise (Some kind) = leads_rise kind
+
+  starts_keep : (o : Option StatementStart) → LeadKeeps (lead_by (up below) more o)
+  starts_keep None = tt
+  starts_keep (Some kind) = open_keeps (statement_by (up below) more kind) (statement_open (up below) (some_left below) kind)
+
+  assignment_rises : RisesWhere is_target (roomy below 1 (assignment below)) (roomy (up below) 1 (assignment (up below)))
+  assignment_rises =
+      roomy_rises is_target below (assignment below) (assignment (up below)) (λ level. (assignment_growth below level).rises)
+      (assignment_passes (suc (suc below)) (one_within (suc below)))
+
+  reading_growth : Growth (choose is_target (roomy below 1 (assignment below)) (led (λ word. lead_by below read (start_of word))))
+      (choose is_target (roomy (up below) 1 (assignment (up below))) (led (λ word. lead_by (up below) more (start_of word))))
+  reading_growth =
+      choose_growth is_target (roomy below 1 (assignment below)) (roomy (up below) 1 (assignment (up below))) assignment_rises
+      (roomy_keep (up below) (assignment (up below)) (assignment_keep (suc (suc below))))
+      (record {
+        rises = led_grows (λ word. lead_by below read (start_of word)) (λ word. lead_by (up below) more (start_of word))
+            (λ word. starts_rise (start_of word));
+        keep = led_keep (λ word. lead_by (up below) more (start_of word)) (λ word. starts_keep (start_of word));
+      })
+
+-- where no level is left
+none_rise : (words : List Text) → Grows (statement 0 words) (statement (up 0) words)
+unfolding statement
+none_rise [] = refl
+none_rise (word ∷ words) = by_tests (begins_target word) refl (start_of word)
+  where
+    by_tests : (a : Bool) → begins_target word ≡ a → (o : Option StatementStart) →
+        Grows (follow (if a || is_some_meaning o then lower else refused) word words)
+        (if a then roomy 2 1 (assignment 2) (word ∷ words) else follow (lead_by 2 (statement 2) o) word words)
+    by_tests true is o = assignment_passes 1 refl (word ∷ words) is
+    by_tests false is None = refl
+    by_tests false is (Some kind) = open_passes (statement_by 2 (statement 2) kind) (statement_open 2 refl kind) word words
+
+rising_growth : (n : ℕ) → ((words : List Text) → Grows (statement n words) (statement (up n) words)) → Growth (statement n) (statement (up n))
+rising_growth n rises = record { rises = rises; keep = phrase_keep (statement_phrase (up n)) }
+
+pub statement_grows : (n : ℕ) (words : List Text) → Grows (statement n words) (statement (up n) words)
+unfolding statement
+statement_grows zero words = none_rise words
+statement_grows (suc below) words = (reading_growth below (rising_growth below (statement_grows below))).rises words
