@@ -1,5 +1,5 @@
 -- Cases and their branches, of which one at most is a default.
-use Rattle.std.proofs.Common.{◌≡◌, ℕ, zero, suc, ◌+◌, ◌<◌, Bool, true, false, ◌&&◌, ◌||◌, not, max, nat_le, if◌then◌else◌, List, [], ◌∷◌, ◌++◌, Option, None, Some, length, flat_map, refl, sym, ap, ◌∙◌, arith, subst, append_assoc, codes}
+use Rattle.std.proofs.Common.{◌≡◌, ℕ, suc, ◌+◌, ◌<◌, Bool, true, false, ◌&&◌, ◌||◌, not, max, nat_le, if◌then◌else◌, List, [], ◌∷◌, ◌++◌, Option, None, Some, length, flat_map, refl, sym, ap, ◌∙◌, arith, subst, append_assoc, codes}
 use Rattle.std.specs.List.{list_all}
 use Rattle.std.proofs.lemmas.Bool.Decides.{nat_tests}
 use Rattle.basis.proofs.Bools.{and_left, and_right, and_both}
@@ -7,24 +7,23 @@ use Rattle.vast.specs.Syntax.{Text}
 use Rattle.vast.specs.Words.{reserved_words}
 use Rattle.vast.specs.Expressions.{ExpressionTree, ExpressionTrees, none, spell_expression, spell_parts, fits_expression, fits_parts, depth, greatest_depth}
 use Rattle.vast.specs.Expressions.{first as first_part}
-use Rattle.vast.specs.Statements.{StatementTree, empty, case_of, BranchTree, labelled, default, BranchTrees, no_branch, first_branch, case_word, spell_statement, spell_branch, spell_branches, statement_depth, branch_depth, branches_depth, fits_statement, fits_branch, fits_branches, is_default, defaults}
+use Rattle.vast.specs.Statements.{StatementTree, empty, BranchTree, labelled, default, case_word, spell_statement, spell_branch, spell_branches, statement_depth, branch_depth, branches_depth, fits_statement, fits_branch, fits_branches, is_default, defaults}
 use Rattle.vast.specs.declared.statement.CaseKind.{CaseKind}
 use Rattle.vexpr_parse.specs.declared.beginning.Beginning.TheVariants as start
-use Rattle.vexpr_parse.specs.declared.stop.Stop.TheVariants.{NoTree}
-use Rattle.vexpr_parse.specs.Readers.{got, stop, Reader, front, is_front, past}
+use Rattle.vexpr_parse.specs.Readers.{got, Reader, front, is_front, past}
 use Rattle.vexpr_parse.specs.Words.{beginning_of, binary_of, unary_of, ends}
 use Rattle.vexpr_parse.specs.Reading.{trees_in}
 use Rattle.vexpr_parse.specs.Lawful.{Ends}
 use Rattle.vexpr_parse.proofs.ReaderRules.{passed_over, same_text, stop_got, parts_of}
-use Rattle.vparse.specs.Parts.{Both, both, Either, one_way, other_way, made, linked, paired, many, maybe, either}
+use Rattle.vparse.specs.Parts.{Both, both, one_way, other_way, made, paired, many, maybe, either}
 use Rattle.vparse.specs.Statements.{value, List_of, comma_list, word_only, has_default, Branch, branch_of, default_branch, branch, branches_in, Case, case_parts_of, branches, case_parts, ends_statement}
-use Rattle.vparse.proofs.Phrases.{Shape, Phrase, Example, Worded, Makes, From, AreLinked, always, phrase_within, of_these, made_phrase, past_shape, past_phrase, past_example, nothing_phrase, linked_shape, linked_phrase, paired_shape, before_phrase, paired_example, next_phrase}
-use Rattle.vparse.proofs.PhraseChoices.{ends_maybe, maybe_shape, maybe_phrase, either_shape, either_phrase, Tested, ends_many, allows_all, many_shape, many_phrase}
+use Rattle.vparse.proofs.Phrases.{Shape, Phrase, Example, Worded, Makes, From, AreLinked, always, of_these, made_phrase, past_shape, past_phrase, nothing_phrase, linked_shape, linked_phrase, paired_shape, before_phrase, paired_example, next_phrase}
+use Rattle.vparse.proofs.PhraseChoices.{maybe_shape, maybe_phrase, either_shape, either_phrase, Tested, ends_many, allows_all, many_shape, many_phrase}
 use Rattle.vparse.proofs.LevelFacts.{larger_two, two_up, and_true, and_false, and_assoc, pair_valid}
-use Rattle.vparse.proofs.ValuePhrases.{value_shape, value_phrase, value_example, value_worded, nothing_example, only_shape, only_phrase, only_example, comma_shape, comma_phrase, allows_each}
-use Rattle.vparse.proofs.WordPhrases.{clash, refused_first, value_refuses}
+use Rattle.vparse.proofs.ValuePhrases.{value_shape, value_phrase, value_example, nothing_example, only_shape, only_phrase, only_example, comma_shape, comma_phrase, allows_each}
+use Rattle.vparse.proofs.WordPhrases.{refused_first, value_refuses}
 use Rattle.vparse.proofs.StatementShapes.{closes_statement, statement_shape, statement_closed, behind_condition, all_within, parts_spelled, parts_within}
-use Rattle.vparse.proofs.StatementPhrases.{guarded_shape, guarded_phrase, guarded_example, inner_example}
+use Rattle.vparse.proofs.StatementPhrases.{guarded_shape, guarded_phrase, guarded_example}
 
 positive : (n : ℕ) → 0 < suc n
 positive n = omega arith

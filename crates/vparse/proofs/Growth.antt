@@ -1,14 +1,13 @@
 -- With more levels: readers made of others keep what they read and refuse for good, and pass what was too deep.
-use Rattle.std.proofs.Common.{◌≡◌, ℕ, zero, suc, ◌<◌, ◌≤◌, Bool, true, false, nat_le, if◌then◌else◌, List, [], ◌∷◌, ◌++◌, Option, None, Some, length, refl, sym, ap, ◌∙◌, arith, subst}
-use Rattle.std.specs.Str.{bytes_eq}
+use Rattle.std.proofs.Common.{◌≡◌, ℕ, suc, ◌<◌, ◌≤◌, Bool, true, false, nat_le, if◌then◌else◌, List, [], ◌∷◌, ◌++◌, Option, None, Some, length, refl, sym, arith, subst}
 use Rattle.std.proofs.lemmas.Bool.Decides.{nat_tests}
 use Rattle.vast.specs.Syntax.{Text}
 use Rattle.vexpr_parse.specs.declared.stop.Stop.TheVariants.{NoTree, TooDeep}
-use Rattle.vexpr_parse.specs.Readers.{Answer, got, stop, Reader, front, is_front, and_then, Lead, goes, refused, lower, follow, led, room, past, choose, rounds, turns}
+use Rattle.vexpr_parse.specs.Readers.{Answer, got, stop, Reader, front, is_front, and_then, Lead, goes, refused, lower, follow, room, past, choose}
 use Rattle.vexpr_parse.specs.Lawful.{rest_of, Ends}
-use Rattle.vexpr_parse.proofs.ReaderRules.{chosen, passed_over, keeps, stop_got, IsLead}
-use Rattle.vexpr_parse.proofs.Grows.{Keeps, got_keep, then_keep, LeadKeeps, led_keep, past_keep, choose_keep, rounds_keep, Grows, then_grows, LeadGrows, led_grows, past_grows, choose_grows, rounds_grow}
-use Rattle.vparse.specs.Parts.{Both, both, one_way, other_way, made, linked, paired, if_meant, worded, one_behind, many, maybe, either, roomy}
+use Rattle.vexpr_parse.proofs.ReaderRules.{keeps, IsLead}
+use Rattle.vexpr_parse.proofs.Grows.{Keeps, got_keep, then_keep, LeadKeeps, led_keep, past_keep, choose_keep, rounds_keep, Grows, then_grows, LeadGrows, led_grows, past_grows, rounds_grow}
+use Rattle.vparse.specs.Parts.{both, one_way, other_way, made, linked, paired, if_meant, worded, one_behind, many, maybe, either, roomy}
 use Rattle.vparse.proofs.Phrases.{Shape, Phrase}
 
 pub grows_further : {A : Type 0} (a b c : Answer A) → Grows a b → Grows b c → Grows a c

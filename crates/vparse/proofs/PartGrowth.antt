@@ -1,23 +1,18 @@
 -- With three levels more: targets, delays, event controls, arguments and what is dumped.
-use Rattle.std.proofs.Common.{◌≡◌, ℕ, zero, suc, ◌<◌, Bool, true, false, ◌||◌, nat_le, if◌then◌else◌, List, [], ◌∷◌, Option, Some, length, refl, sym, ap, ◌∙◌, arith, subst, codes}
+use Rattle.std.proofs.Common.{◌≡◌, ℕ, zero, suc, Bool, true, false, ◌||◌, nat_le, if◌then◌else◌, List, refl, codes}
 use Rattle.std.specs.Str.{bytes_eq}
-use Rattle.std.proofs.lemmas.Bool.Decides.{nat_tests}
 use Rattle.vast.specs.Syntax.{Text}
 use Rattle.vast.specs.Words.{is_name, is_number, is_string}
-use Rattle.vast.specs.Expressions.{ExpressionTree}
 use Rattle.vast.specs.Statements.{TargetTree}
-use Rattle.vexpr_parse.specs.Readers.{got, Reader, front, is_front, Lead, goes, refused, lower, led, room, past}
+use Rattle.vexpr_parse.specs.Readers.{Reader, is_front, goes, refused, lower, room, past}
 use Rattle.vexpr_parse.specs.Words.{ends_primary}
-use Rattle.vexpr_parse.specs.Reading.{expression}
-use Rattle.vexpr_parse.specs.Lawful.{rest_of}
 use Rattle.vexpr_parse.proofs.ReaderRules.{IsLead}
-use Rattle.vexpr_parse.proofs.Grows.{Keeps, past_keep, then_keep, LeadKeeps, Grows, LeadGrows, led_grows, if_grows, expression_keep, expression_grows}
-use Rattle.vparse.specs.Parts.{Both, both, made, linked, paired, worded, many, maybe, either, roomy}
-use Rattle.vparse.specs.Starts.{begins_target, is_target, meant_if, is_word, edge_of, comma_of, is_meant}
-use Rattle.vparse.specs.Statements.{value, named, numbered, List_of, comma_list, word_only, select, target_of, named_target, joined_of, joined_targets, target_lead, target, delay_of, amount, optional_delay, term_of, term, further_of, further_term, event_of, enclosed_event, control, argument_of, argument, arguments, path_of, path, selection_of, selection}
-use Rattle.vparse.proofs.Phrases.{Phrase}
+use Rattle.vexpr_parse.proofs.Grows.{Keeps, past_keep, Grows, LeadGrows, led_grows, if_grows, expression_keep, expression_grows}
+use Rattle.vparse.specs.Parts.{roomy}
+use Rattle.vparse.specs.Starts.{begins_target, meant_if, is_word, edge_of, comma_of, is_meant}
+use Rattle.vparse.specs.Statements.{value, named, comma_list, word_only, select, target_of, named_target, joined_of, joined_targets, target_lead, target, delay_of, amount, optional_delay, term_of, term, further_of, event_of, control, argument_of, arguments, path_of, selection_of, selection}
 use Rattle.vparse.proofs.TargetPhrases.{select_phrase, target_phrase, target_leads}
-use Rattle.vparse.proofs.Growth.{up, some_left, grows_further, Growth, phrase_keep, got_growth, past_growth, made_growth, linked_growth, paired_growth, worded_growth, RisesWhere, either_growth, maybe_growth, maybe_growth_where, many_growth, OpenLead, lead_open, room_open, room_rises, roomy_rises, roomy_keep, past_passes, then_passes, open_passes}
+use Rattle.vparse.proofs.Growth.{up, some_left, grows_further, Growth, phrase_keep, got_growth, past_growth, made_growth, paired_growth, worded_growth, either_growth, maybe_growth, maybe_growth_where, many_growth, OpenLead, lead_open, room_open, room_rises, roomy_rises, roomy_keep, past_passes}
 
 pub value_growth : (n : ℕ) → nat_le 1 n ≡ true → Growth (value n) (value (up n))
 value_growth zero e = let no : false ≡ true = e in absurd cc

@@ -1,24 +1,22 @@
 -- Delays, event controls, arguments and what is dumped, behind their first words.
-use Rattle.std.proofs.Common.{◌≡◌, ℕ, zero, suc, ◌+◌, ◌<◌, Bool, true, false, ◌&&◌, ◌||◌, not, max, nat_le, if◌then◌else◌, List, [], ◌∷◌, ◌++◌, Option, None, Some, length, flat_map, refl, sym, ap, ◌∙◌, arith, subst, append_assoc, codes}
+use Rattle.std.proofs.Common.{◌≡◌, ℕ, suc, ◌<◌, Bool, true, false, ◌&&◌, not, nat_le, List, [], ◌∷◌, ◌++◌, Option, None, Some, length, flat_map, refl, sym, ap, ◌∙◌, arith, codes}
 use Rattle.std.specs.List.{list_all}
 use Rattle.std.specs.Str.{bytes_eq}
-use Rattle.std.proofs.lemmas.Bool.Decides.{nat_tests}
-use Rattle.basis.proofs.Bools.{and_left, and_right, and_both}
+use Rattle.basis.proofs.Bools.{and_left, and_both}
 use Rattle.vast.specs.Syntax.{Text}
 use Rattle.vast.specs.Words.{is_name, is_number, is_string, reserved_words}
 use Rattle.vast.specs.Expressions.{ExpressionTree, spell_expression, fits_expression, depth}
-use Rattle.vast.specs.Statements.{DelayTree, by_number, by_name, by_value, in_parentheses, spell_delay, delay_depth, fits_delay, TermTree, FurtherTerm, EventTree, by_event, by_any, by_any_enclosed, by_terms, edge_word, spell_edge, spell_term, spell_further_term, spell_event, event_depth, fits_event, fits_further_term, ArgumentTree, quoted, printed, spell_argument, argument_depth, fits_argument, SelectionTree, spell_path, fits_path}
+use Rattle.vast.specs.Statements.{DelayTree, by_number, by_name, by_value, in_parentheses, spell_delay, delay_depth, fits_delay, TermTree, FurtherTerm, EventTree, by_event, by_any, by_any_enclosed, by_terms, edge_word, spell_edge, spell_term, spell_further_term, fits_event, fits_further_term, ArgumentTree, quoted, printed, spell_argument, argument_depth, fits_argument, SelectionTree, spell_path, fits_path}
 use Rattle.vast.specs.declared.statement.Edge.{Edge}
 use Rattle.vast.specs.declared.statement.Edge.TheVariants as edge
-use Rattle.vexpr_parse.specs.Readers.{got, Reader, front, is_front, past}
-use Rattle.vexpr_parse.specs.Words.{binary_of, written, ends}
-use Rattle.vexpr_parse.specs.Lawful.{Ends}
+use Rattle.vexpr_parse.specs.Readers.{front, is_front, past}
+use Rattle.vexpr_parse.specs.Words.{binary_of, ends}
 use Rattle.vexpr_parse.proofs.ReaderRules.{same_text}
-use Rattle.vparse.specs.Parts.{Both, both, Either, one_way, other_way, made, paired, worded, many, maybe, either}
+use Rattle.vparse.specs.Parts.{Both, both, Either, one_way, other_way, paired, worded, many, either}
 use Rattle.vparse.specs.Starts.{is_word, edge_of, comma_of, comma_word, is_meant, is_some_meaning}
 use Rattle.vparse.specs.Statements.{value, named, numbered, List_of, comma_list, word_only, Amount, delay_of, amount, optional_delay, term_of, term, further_of, further_term, Terms, Event, event_of, enclosed_event, control, argument_of, argument, Arguments, arguments, path_of, path, Selection, selection_of, selection}
-use Rattle.vparse.proofs.Phrases.{Shape, Phrase, Example, Worded, Opens, Makes, From, always, phrase_within, made_phrase, past_shape, past_phrase, past_example, nothing_phrase, worded_shape, worded_phrase, paired_shape, paired_phrase, before_phrase, paired_example, free_phrase, next_phrase}
-use Rattle.vparse.proofs.PhraseChoices.{ends_maybe, maybe_shape, maybe_phrase, either_shape, either_phrase, Tested, ends_many, allows_all, many_shape, many_phrase}
+use Rattle.vparse.proofs.Phrases.{Shape, Phrase, Example, Worded, Makes, From, always, phrase_within, made_phrase, past_shape, past_phrase, nothing_phrase, worded_shape, worded_phrase, paired_shape, before_phrase, paired_example, free_phrase, next_phrase}
+use Rattle.vparse.proofs.PhraseChoices.{ends_maybe, maybe_shape, maybe_phrase, either_shape, either_phrase, Tested, allows_all, many_shape, many_phrase}
 use Rattle.vparse.proofs.LevelFacts.{one_within, and_true}
 use Rattle.vparse.proofs.ValuePhrases.{value_shape, value_phrase, value_example, value_worded, nothing_example, word_if_phrase, only_shape, only_phrase, only_example, comma, comma_shape, more_behind, comma_phrase, allows_each}
 use Rattle.vparse.proofs.WordPhrases.{clash, not_so, name_no_number, as_written, refused_first, value_refuses, string_is_other}

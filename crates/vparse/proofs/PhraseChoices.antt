@@ -1,16 +1,16 @@
 -- What readers made of others read, continued: what may be left out, one or another, one behind the other, where levels are left.
-use Rattle.std.proofs.Common.{◌≡◌, ℕ, zero, suc, ◌+◌, ◌<◌, Bool, true, false, ◌&&◌, not, nat_le, if◌then◌else◌, List, [], ◌∷◌, ◌++◌, Option, None, Some, length, flat_map, refl, sym, ap, ◌∙◌, arith, inl, inr, subst, append_assoc, length-append}
+use Rattle.std.proofs.Common.{◌≡◌, ℕ, zero, suc, ◌<◌, Bool, true, false, ◌&&◌, not, nat_le, if◌then◌else◌, List, [], ◌∷◌, ◌++◌, Option, None, Some, length, flat_map, refl, sym, ap, ◌∙◌, arith, inl, inr, subst, append_assoc}
 use Rattle.std.proofs.lemmas.Bool.{cases_Bool}
 use Rattle.std.proofs.lemmas.List.{append-nil}
 use Rattle.basis.proofs.Bools.{and_left, and_right, and_both}
 use Rattle.vast.specs.Syntax.{Text}
 use Rattle.vexpr_parse.specs.declared.stop.Stop.TheVariants.{TooDeep}
-use Rattle.vexpr_parse.specs.Readers.{got, stop, Reader, front, and_then, choose, rounds, turns}
-use Rattle.vexpr_parse.specs.Lawful.{Ends, Sees, Lawful}
+use Rattle.vexpr_parse.specs.Readers.{got, stop, Reader, front, and_then, rounds, turns}
+use Rattle.vexpr_parse.specs.Lawful.{Ends, Lawful}
 use Rattle.vexpr_parse.proofs.ReaderRules.{chosen, passed_over, stop_got, got_tree, got_left, then_got, parts_of, Eats}
 use Rattle.vexpr_parse.proofs.ReaderLoops.{option_rule, choose_sees, turns_end, turns_on, turns_rule}
 use Rattle.vparse.specs.Parts.{Either, one_way, other_way, made, one_behind, many, maybe, either, roomy}
-use Rattle.vparse.proofs.Phrases.{Shape, IsGot, Sound, Complete, Phrase, same_got, Worded, sound_eats, lawful_within, Makes, made_lawful, made_sound, made_complete}
+use Rattle.vparse.proofs.Phrases.{Shape, Sound, Complete, Phrase, same_got, Worded, sound_eats, lawful_within, Makes, made_lawful, made_sound, made_complete}
 
 pub not_true : (b : Bool) → not b ≡ true → b ≡ false
 not_true true e = let clash : false ≡ true = e in absurd cc

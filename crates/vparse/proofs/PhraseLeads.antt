@@ -1,11 +1,11 @@
 -- What is read by the first word.
-use Rattle.std.proofs.Common.{◌≡◌, ℕ, Bool, true, false, nat_le, if◌then◌else◌, List, [], ◌∷◌, ◌++◌, Option, refl, ap, ◌∙◌, subst}
+use Rattle.std.proofs.Common.{◌≡◌, ℕ, Bool, true, false, nat_le, if◌then◌else◌, List, [], ◌∷◌, ◌++◌, refl, ap, ◌∙◌}
 use Rattle.vast.specs.Syntax.{Text}
 use Rattle.vexpr_parse.specs.Readers.{got, Reader, front, Lead, goes, refused, lower, follow, led, room}
-use Rattle.vexpr_parse.specs.Lawful.{Ends, Lawful}
+use Rattle.vexpr_parse.specs.Lawful.{Ends}
 use Rattle.vexpr_parse.proofs.ReaderRules.{chosen, stop_got, then_got, IsLead}
 use Rattle.vparse.specs.Parts.{made}
-use Rattle.vparse.proofs.Phrases.{Shape, IsGot, Sound, Complete, Phrase, Example, Makes, made_lawful, made_sound, made_complete}
+use Rattle.vparse.proofs.Phrases.{Shape, IsGot, Sound, Phrase, Example, Makes, made_lawful, made_sound, made_complete}
 
 abbrev pub LeadSound : {A : Type 0} → Shape A → Text → Lead A → Type 0
 LeadSound {A = A} s word (goes read) =

@@ -1,14 +1,12 @@
 -- What readers made of others read. A shape says the words of each tree, which trees may stand, what may follow one so that
 -- it is read, and what follows where one was read.
-use Rattle.std.proofs.Common.{◌≡◌, ℕ, zero, suc, ◌+◌, ◌<◌, Bool, true, false, ◌&&◌, not, if◌then◌else◌, List, [], ◌∷◌, ◌++◌, Option, None, Some, length, refl, sym, ap, ◌∙◌, arith, inl, inr, subst, append_assoc, length-append}
+use Rattle.std.proofs.Common.{◌≡◌, ℕ, suc, ◌+◌, ◌<◌, Bool, true, false, ◌&&◌, if◌then◌else◌, List, [], ◌∷◌, ◌++◌, Option, None, Some, length, refl, sym, ap, ◌∙◌, arith, subst, append_assoc, length-append}
 use Rattle.std.specs.Str.{bytes_eq}
-use Rattle.std.proofs.lemmas.Bool.{cases_Bool}
-use Rattle.std.proofs.lemmas.List.{append-nil}
 use Rattle.basis.proofs.Bools.{and_left, and_right, and_both}
 use Rattle.vast.specs.Syntax.{Text}
-use Rattle.vexpr_parse.specs.Readers.{Answer, got, stop, Reader, front, is_front, and_then, Lead, goes, refused, lower, follow, led, past, choose}
-use Rattle.vexpr_parse.specs.Lawful.{rest_of, Ends, IsWhole, Begins, GoesOn, Sees, Lawful, Rule}
-use Rattle.vexpr_parse.proofs.ReaderRules.{chosen, passed_over, same_text, text_same, stop_got, got_tree, got_left, then_got, parts_of, Eats, got_rule, IsLead, led_sees}
+use Rattle.vexpr_parse.specs.Readers.{Answer, got, stop, Reader, front, goes, refused, follow, past}
+use Rattle.vexpr_parse.specs.Lawful.{Ends, GoesOn, Sees, Lawful, Rule}
+use Rattle.vexpr_parse.proofs.ReaderRules.{chosen, same_text, text_same, stop_got, got_tree, got_left, then_got, parts_of, Eats, got_rule, IsLead, led_sees}
 use Rattle.vexpr_parse.proofs.ReaderLoops.{past_rule, links_ends, then_lawful}
 use Rattle.vparse.specs.Parts.{Both, both, made, linked, paired, if_meant, worded}
 
@@ -283,9 +281,12 @@ module _ {A B : Type 0} {read : Reader A} {next : A → Reader B} {ends ends_nex
   linked_lawful : Lawful (linked read next) ends_next
   linked_lawful =
       then_lawful read (λ x. made (both x) (next x)) ends ends_next (t.spell example) linking begins
-      (λ x. (both x example, λ rest e.
-      then_got (next x (t.spell example ++ rest)) (λ y. got (both x y)) example rest
-      ((q x).complete example rest (may x) ((q x).closed example (front rest) e))))
+      (λ x. (
+        both x example,
+        λ rest e.
+            then_got (next x (t.spell example ++ rest)) (λ y. got (both x y)) example rest
+            ((q x).complete example rest (may x) ((q x).closed example (front rest) e)),
+      ))
       p.lawful (λ x. made_lawful (both x) (next x) ends_next (q x).lawful)
     where
       linking : (x : A) (tree : Both A B) (left : List Text) → made (both x) (next x) left ≡ got tree left →

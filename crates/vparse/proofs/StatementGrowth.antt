@@ -1,28 +1,24 @@
 -- With three levels more: what was read as a statement or refused for good stays so, and a word that was refused for want of levels is passed.
-use Rattle.std.proofs.Common.{◌≡◌, ℕ, zero, suc, ◌<◌, ◌≤◌, Bool, true, false, ◌||◌, not, nat_le, if◌then◌else◌, List, [], ◌∷◌, ◌++◌, Option, None, Some, length, refl, sym, ap, ◌∙◌, arith, inl, inr, subst, codes}
-use Rattle.std.proofs.lemmas.Bool.{cases_Bool}
-use Rattle.std.proofs.lemmas.Bool.Decides.{nat_tests}
+use Rattle.std.proofs.Common.{◌≡◌, ℕ, zero, suc, ◌<◌, ◌≤◌, Bool, true, false, ◌||◌, not, nat_le, if◌then◌else◌, List, [], ◌∷◌, Option, None, Some, length, refl, arith, codes}
 use Rattle.vast.specs.Syntax.{Text}
 use Rattle.vast.specs.Words.{is_name, is_number, is_string}
 use Rattle.vast.specs.Expressions.{ExpressionTree}
-use Rattle.vast.specs.Statements.{StatementTree, BranchTree, DelayTree, empty, forever}
-use Rattle.vast.specs.declared.statement.Printing.{Printing}
+use Rattle.vast.specs.Statements.{StatementTree, BranchTree, DelayTree, forever}
 use Rattle.vast.specs.declared.statement.Printing.TheVariants as printing
-use Rattle.vexpr_parse.specs.declared.stop.Stop.TheVariants.{NoTree, TooDeep}
-use Rattle.vexpr_parse.specs.Readers.{got, stop, Reader, front, is_front, Lead, goes, refused, lower, follow, led, room, past, choose}
+use Rattle.vexpr_parse.specs.Readers.{got, Reader, front, is_front, goes, refused, lower, follow, led, room, choose}
 use Rattle.vexpr_parse.specs.Lawful.{rest_of}
-use Rattle.vexpr_parse.proofs.ReaderRules.{passed_over, IsLead}
+use Rattle.vexpr_parse.proofs.ReaderRules.{IsLead}
 use Rattle.vexpr_parse.proofs.Grows.{Keeps, got_keep, LeadKeeps, led_keep, Grows, LeadGrows, led_grows}
 use Rattle.vparse.specs.declared.start.StatementStart.{StatementStart}
 use Rattle.vparse.specs.declared.start.StatementStart.TheVariants as start
-use Rattle.vparse.specs.Parts.{Both, both, made, paired, worded, many, maybe, either, roomy}
+use Rattle.vparse.specs.Parts.{Both, both, made, paired, worded, maybe, roomy}
 use Rattle.vparse.specs.Starts.{start_of, begins_target, is_target, is_some_meaning, meant_if, sign_of}
-use Rattle.vparse.specs.Statements.{value, named, word_only, amount, optional_delay, assignment_of, assignment_parts, assignment, target_lead, target, guarded, if_of, branches_of_if, guarded_of, setting, for_of, for_parts, delayed_of, control, event_body_of, block_of, block_parts, has_default, branch_of, default_branch, branch, branches, case_parts_of, case_parts, arguments, print_of, optional_print_of, dump_file_of, dump_file_parts, selection, dump_vars_of, dump_of, end_of, end_parts, trigger_of, statement_by, lead_by, begins_statement, statement, ends_statement}
+use Rattle.vparse.specs.Statements.{value, word_only, optional_delay, assignment_of, assignment_parts, assignment, target_lead, target, guarded, if_of, guarded_of, setting, for_of, delayed_of, event_body_of, block_of, has_default, branch_of, default_branch, branch, case_parts_of, case_parts, arguments, print_of, optional_print_of, dump_file_of, dump_vars_of, dump_of, end_of, trigger_of, statement_by, lead_by, statement, ends_statement}
 use Rattle.vparse.proofs.LevelFacts.{one_within}
 use Rattle.vparse.proofs.PartPhrases.{arguments_inner_phrase, arguments_phrase}
 use Rattle.vparse.proofs.StatementPhrases.{signed_phrase, assignment_phrase}
 use Rattle.vparse.proofs.StatementLevels.{statement_phrase, statement_leads}
-use Rattle.vparse.proofs.Growth.{up, some_left, made_keep, Growth, phrase_keep, got_growth, past_growth, made_growth, linked_growth, paired_growth, worded_growth, RisesWhere, choose_growth, either_growth, maybe_growth, maybe_growth_where, many_growth, OpenLead, open_keeps, lead_open, room_open, room_rises, room_keep, roomy_rises, roomy_keep, past_passes, then_passes, open_passes}
+use Rattle.vparse.proofs.Growth.{up, some_left, made_keep, Growth, phrase_keep, past_growth, made_growth, linked_growth, paired_growth, worded_growth, RisesWhere, choose_growth, either_growth, maybe_growth, maybe_growth_where, many_growth, OpenLead, open_keeps, lead_open, room_open, room_rises, room_keep, roomy_rises, roomy_keep, past_passes, then_passes, open_passes}
 use Rattle.vparse.proofs.PartGrowth.{value_growth, only_growth, comma_growth, target_open, target_growth, amount_growth, optional_delay_growth, control_growth, arguments_growth, selection_growth}
 
 -- the lead of a word that begins a statement is open where a level is left

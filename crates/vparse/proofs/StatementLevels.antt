@@ -1,35 +1,33 @@
 -- Statements of one level and of more: what is read is what its words say.
-use Rattle.std.proofs.Common.{◌≡◌, ℕ, zero, suc, ◌+◌, ◌<◌, Bool, true, false, ◌&&◌, ◌||◌, not, max, nat_le, if◌then◌else◌, List, [], ◌∷◌, ◌++◌, Option, None, Some, length, refl, sym, ap, ◌∙◌, arith, inl, inr, subst, append_assoc, codes}
-use Rattle.std.specs.Str.{bytes_eq}
+use Rattle.std.proofs.Common.{◌≡◌, ℕ, zero, suc, ◌+◌, ◌<◌, Bool, true, false, ◌&&◌, max, nat_le, if◌then◌else◌, List, [], ◌∷◌, ◌++◌, Option, None, Some, length, refl, sym, ap, ◌∙◌, arith, inl, inr, subst, append_assoc, codes}
 use Rattle.std.proofs.lemmas.Bool.{cases_Bool}
 use Rattle.std.proofs.lemmas.Bool.Decides.{nat_tests}
-use Rattle.basis.proofs.Bools.{and_left, and_right, and_both, or_left, or_right, or_first}
+use Rattle.basis.proofs.Bools.{and_left, and_right, or_left, or_right, or_first}
 use Rattle.vast.specs.Syntax.{Text}
 use Rattle.vast.specs.Words.{is_name, is_string, reserved_words}
 use Rattle.vast.specs.Expressions.{ExpressionTree, fits_expression, depth}
-use Rattle.vast.specs.Statements.{TargetTree, whole, bit, part, joined, DelayTree, TaskTree, print, dump_file, dump_vars, dump, end_run, StatementTree, empty, block, assign, nonblocking, trigger, if_true, if_else, case_of, while_true, repeat_times, forever, for_loop, wait_for, delay, event, task, StatementTrees, no_statement, first_statement, BranchTree, BranchTrees, no_branch, first_branch, spell_target, spell_statement, target_depth, statement_depth, fits_target, fits_statement}
+use Rattle.vast.specs.Statements.{TargetTree, whole, bit, part, joined, TaskTree, print, dump_file, dump_vars, dump, end_run, StatementTree, empty, block, assign, nonblocking, trigger, if_true, if_else, case_of, while_true, repeat_times, forever, for_loop, wait_for, delay, event, task, StatementTrees, no_statement, first_statement, BranchTree, BranchTrees, no_branch, first_branch, spell_target, spell_statement, target_depth, statement_depth, fits_target, fits_statement}
 use Rattle.vast.specs.declared.statement.CaseKind.TheVariants as case_kind
-use Rattle.vast.specs.declared.statement.Printing.{Printing}
 use Rattle.vast.specs.declared.statement.Printing.TheVariants as printing
 use Rattle.vast.specs.declared.statement.Dumping.TheVariants as dumping
 use Rattle.vast.proofs.ExpressionLemmas.{depth_positive}
 use Rattle.vexpr_parse.specs.declared.stop.Stop.TheVariants.{NoTree, TooDeep}
 use Rattle.vexpr_parse.specs.Readers.{got, stop, Reader, front, is_front, Lead, goes, refused, lower, follow, led, room, choose}
 use Rattle.vexpr_parse.specs.Lawful.{Lawful}
-use Rattle.vexpr_parse.proofs.ReaderRules.{chosen, passed_over, same_text, stop_got, Eats, got_rule, IsLead, led_sees}
+use Rattle.vexpr_parse.proofs.ReaderRules.{chosen, passed_over, same_text, stop_got, got_rule, IsLead, led_sees}
 use Rattle.vexpr_parse.proofs.ReaderLoops.{lead_if, lead_room, choose_sees}
 use Rattle.vparse.specs.declared.start.Guard.{Guard}
 use Rattle.vparse.specs.declared.start.Guard.TheVariants as guard
 use Rattle.vparse.specs.declared.start.StatementStart.{StatementStart}
 use Rattle.vparse.specs.declared.start.StatementStart.TheVariants as start
-use Rattle.vparse.specs.Parts.{Both, both, made, roomy}
+use Rattle.vparse.specs.Parts.{both, made, roomy}
 use Rattle.vparse.specs.Starts.{start_word, statement_starts, start_of, begins_target, is_target, is_some_meaning}
 use Rattle.vparse.specs.Statements.{Assignment, assignment_of, assignment_parts, assignment, if_of, guarded_of, for_of, delayed_of, event_body_of, statements_in, block_of, block_parts, branches_in, case_parts_of, case_parts, print_of, optional_print_of, dump_file_of, dump_vars_of, dump_of, end_of, trigger_of, statement_by, lead_by, begins_statement, statement, ends_statement}
-use Rattle.vparse.proofs.Phrases.{Shape, IsGot, Sound, Complete, Phrase, Example, Makes, always, sound_eats, phrase_within, made_lawful, made_sound, made_complete, same_got}
+use Rattle.vparse.proofs.Phrases.{Shape, Sound, Phrase, Makes, always, sound_eats, phrase_within, made_lawful, made_sound, made_complete, same_got}
 use Rattle.vparse.proofs.PhraseChoices.{Tested}
 use Rattle.vparse.proofs.PhraseLeads.{LeadSound, led_sound, if_sound, room_sound, made_lead_sound, made_lead, roomy_lead}
-use Rattle.vparse.proofs.LevelFacts.{one_up, larger_two, two_up, one_within, none_within, some_level}
-use Rattle.vparse.proofs.ValuePhrases.{value_level, only_phrase, only_example}
+use Rattle.vparse.proofs.LevelFacts.{one_up, larger_two, two_up, one_within, some_level}
+use Rattle.vparse.proofs.ValuePhrases.{only_phrase, only_example}
 use Rattle.vparse.proofs.TargetPhrases.{target_deep}
 use Rattle.vparse.proofs.WordPhrases.{clash, as_written, refused_first}
 use Rattle.vparse.proofs.PartPhrases.{selection_shape}

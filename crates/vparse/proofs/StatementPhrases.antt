@@ -1,30 +1,29 @@
 -- Statements round others, behind their first words.
-use Rattle.std.proofs.Common.{◌≡◌, ℕ, zero, suc, ◌+◌, ◌<◌, Bool, true, false, ◌&&◌, not, max, nat_le, if◌then◌else◌, List, [], ◌∷◌, ◌++◌, Option, None, Some, length, flat_map, refl, sym, ap, ◌∙◌, arith, subst, append_assoc, codes}
-use Rattle.std.specs.List.{list_all}
+use Rattle.std.proofs.Common.{◌≡◌, ℕ, suc, ◌+◌, ◌<◌, Bool, true, false, ◌&&◌, not, max, nat_le, List, [], ◌∷◌, ◌++◌, Option, None, Some, length, flat_map, refl, sym, ap, ◌∙◌, arith, subst, codes}
 use Rattle.std.proofs.lemmas.List.{append-nil}
 use Rattle.std.proofs.lemmas.Bool.Decides.{nat_tests}
 use Rattle.basis.proofs.Bools.{and_left, and_right, and_both}
 use Rattle.vast.specs.Syntax.{Text}
 use Rattle.vast.specs.Words.{is_name, reserved_words}
 use Rattle.vast.specs.Expressions.{ExpressionTree, spell_expression, fits_expression, depth}
-use Rattle.vast.specs.Statements.{TargetTree, DelayTree, EventTree, by_event, by_any, by_any_enclosed, by_terms, spell_target, spell_optional_delay, spell_event, delay_depth, optional_delay_depth, event_depth, target_depth, fits_target, fits_delay, fits_optional_delay, fits_event, StatementTree, empty, block, assign, nonblocking, trigger, if_true, if_else, while_true, repeat_times, forever, for_loop, wait_for, delay, event, StatementTrees, no_statement, first_statement, spell_statement, spell_statements, statement_depth, statements_depth, ends_in_if, fits_statement, fits_statements}
+use Rattle.vast.specs.Statements.{TargetTree, DelayTree, EventTree, by_event, by_any, by_any_enclosed, by_terms, spell_target, spell_optional_delay, spell_event, delay_depth, optional_delay_depth, event_depth, target_depth, fits_target, fits_delay, fits_optional_delay, fits_event, StatementTree, empty, forever, spell_statement, spell_statements, statement_depth, statements_depth, ends_in_if, fits_statement, fits_statements}
 use Rattle.vexpr_parse.specs.declared.beginning.Beginning.TheVariants as start
-use Rattle.vexpr_parse.specs.Readers.{got, Reader, front, is_front, past}
+use Rattle.vexpr_parse.specs.Readers.{got, Reader, front, is_front}
 use Rattle.vexpr_parse.specs.Words.{binary_of, unary_of, beginning_of, ends, ends_primary}
 use Rattle.vexpr_parse.specs.Lawful.{Ends}
 use Rattle.vexpr_parse.proofs.ReaderRules.{same_text, parts_of}
 use Rattle.vparse.specs.declared.start.Guard.{Guard}
 use Rattle.vparse.specs.declared.start.Guard.TheVariants as guard
-use Rattle.vparse.specs.Parts.{Both, both, Either, one_way, other_way, made, linked, paired, worded, many, maybe}
+use Rattle.vparse.specs.Parts.{Both, both, made, paired, worded}
 use Rattle.vparse.specs.Starts.{sign_of, sign_word, guard_word}
-use Rattle.vparse.specs.Statements.{value, named, word_only, amount, optional_delay, Assignment, assignment_of, assignment_parts, target, guarded, if_of, branches_of_if, guarded_of, setting, For, for_of, for_parts, delayed_of, control, event_body_of, statements_in, block_of, block_parts, trigger_of, ends_statement}
-use Rattle.vparse.proofs.Phrases.{Shape, Phrase, Example, Worded, Opens, Makes, AreLinked, always, phrase_within, past_shape, past_phrase, past_example, nothing_phrase, worded_shape, worded_phrase, linked_shape, linked_phrase, paired_shape, paired_phrase, before_phrase, paired_example, free_phrase, next_phrase}
-use Rattle.vparse.proofs.PhraseChoices.{ends_maybe, maybe_shape, maybe_phrase, Tested, ends_many, allows_all, many_shape, many_phrase}
-use Rattle.vparse.proofs.LevelFacts.{one_up, and_true, and_assoc}
+use Rattle.vparse.specs.Statements.{value, named, word_only, amount, optional_delay, Assignment, assignment_of, assignment_parts, guarded, if_of, branches_of_if, guarded_of, setting, For, for_of, for_parts, delayed_of, control, event_body_of, statements_in, block_of, block_parts, trigger_of, ends_statement}
+use Rattle.vparse.proofs.Phrases.{Shape, Phrase, Example, Worded, Opens, Makes, AreLinked, always, phrase_within, past_shape, past_phrase, past_example, nothing_phrase, worded_shape, worded_phrase, linked_shape, linked_phrase, paired_shape, before_phrase, paired_example, free_phrase, next_phrase}
+use Rattle.vparse.proofs.PhraseChoices.{maybe_shape, maybe_phrase, Tested, many_shape, many_phrase}
+use Rattle.vparse.proofs.LevelFacts.{one_up, and_true}
 use Rattle.vparse.proofs.ValuePhrases.{value_shape, value_phrase, value_example, value_worded, nothing_example, only_shape, only_phrase, only_example, allows_each}
 use Rattle.vparse.proofs.TargetPhrases.{target_shape, target_phrase, target_example}
 use Rattle.vparse.proofs.WordPhrases.{as_written, refused_first, value_refuses}
-use Rattle.vparse.proofs.PartPhrases.{text_shape, a_name, named_phrase, amount_shape, amount_words, amount_behind, amount_phrase, amount_example, optional_delay_phrase, event_words, event_shape, control_phrase}
+use Rattle.vparse.proofs.PartPhrases.{text_shape, a_name, named_phrase, amount_shape, amount_behind, amount_phrase, amount_example, optional_delay_phrase, event_words, event_shape, control_phrase}
 use Rattle.vparse.proofs.StatementShapes.{closes_statement, statement_shape, statement_closed, behind_condition, two_valid, three_valid, else_valid, for_valid, all_within}
 
 positive : (n : ℕ) → 0 < suc n

@@ -1,16 +1,16 @@
 -- Statements as a shape: their words, which fit within so many levels, and where an else may follow.
-use Rattle.std.proofs.Common.{◌≡◌, ℕ, zero, suc, ◌+◌, ◌<◌, Bool, true, false, ◌&&◌, not, max, nat_le, List, [], ◌∷◌, ◌++◌, Option, None, Some, length, flat_map, refl, sym, ap, ◌∙◌, arith, append_assoc, codes}
+use Rattle.std.proofs.Common.{◌≡◌, ℕ, suc, ◌+◌, ◌<◌, Bool, true, false, ◌&&◌, not, max, nat_le, List, [], ◌∷◌, ◌++◌, Option, length, flat_map, refl, sym, ap, ◌∙◌, arith, append_assoc, codes}
 use Rattle.std.specs.List.{list_all}
 use Rattle.std.proofs.lemmas.Bool.Decides.{nat_tests}
 use Rattle.vast.specs.Syntax.{Text}
 use Rattle.vast.specs.Expressions.{ExpressionTree, spell_expression, spell_more_parts, fits_expression, fits_parts, depth, greatest_depth}
-use Rattle.vast.specs.Statements.{TargetTree, whole, bit, part, joined, DelayTree, by_number, by_name, by_value, EventTree, by_event, by_any, by_any_enclosed, by_terms, TaskTree, print, dump_file, dump_vars, dump, end_run, StatementTree, empty, block, assign, nonblocking, trigger, if_true, if_else, case_of, while_true, repeat_times, forever, for_loop, wait_for, delay, event, task, spell_condition, spell_statement, statement_depth, fits_statement, ends_in_if}
+use Rattle.vast.specs.Statements.{whole, bit, part, joined, by_number, by_name, by_value, by_event, by_any, by_any_enclosed, by_terms, print, dump_file, dump_vars, dump, end_run, StatementTree, empty, block, assign, nonblocking, trigger, if_true, if_else, case_of, while_true, repeat_times, forever, for_loop, wait_for, delay, event, task, spell_condition, spell_statement, statement_depth, fits_statement, ends_in_if}
 use Rattle.vexpr_parse.specs.Readers.{is_front}
 use Rattle.vexpr_parse.specs.Reading.{trees_in}
 use Rattle.vexpr_parse.specs.Lawful.{Ends}
 use Rattle.vparse.specs.Statements.{ends_statement}
 use Rattle.vparse.proofs.Phrases.{Shape}
-use Rattle.vparse.proofs.LevelFacts.{one_up, larger_two, two_up, and_true, and_false, and_assoc, pair_valid, triple_valid}
+use Rattle.vparse.proofs.LevelFacts.{larger_two, two_up, and_true, and_false, and_assoc, pair_valid, triple_valid}
 
 abbrev pub closes_statement : StatementTree → Ends
 closes_statement tree next = not (ends_in_if tree && is_front (codes "else") next)

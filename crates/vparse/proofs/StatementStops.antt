@@ -1,18 +1,18 @@
 -- Reading of statements stops at the place from which the words begin none.
-use Rattle.std.proofs.Common.{◌≡◌, ℕ, zero, suc, ◌+◌, ◌*◌, ◌-◌, ◌<◌, ◌≤◌, Bool, true, false, ◌&&◌, not, nat_le, List, [], ◌∷◌, ◌++◌, None, length, refl, sym, ap, ◌∙◌, arith, subst}
+use Rattle.std.proofs.Common.{◌≡◌, ℕ, zero, suc, ◌+◌, ◌*◌, ◌≤◌, true, nat_le, List, [], ◌∷◌, ◌++◌, refl, sym, ap, ◌∙◌, arith, subst}
 use Rattle.std.proofs.lemmas.Bool.Decides.{nat_tests}
 use Rattle.basis.proofs.Bools.{and_left, and_right, and_both}
 use Rattle.vast.specs.Syntax.{Text}
-use Rattle.vast.specs.Statements.{StatementTree, empty, statement_depth, fits_statement}
-use Rattle.vexpr_parse.specs.declared.stop.Stop.TheVariants.{NoTree, TooDeep}
-use Rattle.vexpr_parse.specs.Readers.{got, stop, front}
+use Rattle.vast.specs.Statements.{empty, statement_depth, fits_statement}
+use Rattle.vexpr_parse.specs.declared.stop.Stop.TheVariants.{NoTree}
+use Rattle.vexpr_parse.specs.Readers.{stop, front}
 use Rattle.vexpr_parse.specs.Lawful.{Sees}
 use Rattle.vexpr_parse.proofs.ReaderRules.{stop_got}
 use Rattle.vexpr_parse.proofs.Grows.{Grows}
 use Rattle.vparse.specs.Statements.{statement, ends_statement}
-use Rattle.vparse.specs.StatementPlaces.{IsStatement, BeginsOne, BeginsNone, StopsAtPlace, StopsForGood, StopsTooDeep}
+use Rattle.vparse.specs.StatementPlaces.{BeginsOne, BeginsNone, StopsAtPlace, StopsForGood, StopsTooDeep}
 use Rattle.vparse.proofs.Phrases.{Example}
-use Rattle.vparse.proofs.Growth.{up, Growth, phrase_keep}
+use Rattle.vparse.proofs.Growth.{up, phrase_keep}
 use Rattle.vparse.proofs.PhrasePlaces.{IsBegun, stopped, passed}
 use Rattle.vparse.proofs.LevelFacts.{one_within}
 use Rattle.vparse.proofs.StatementShapes.{statement_shape}

@@ -1,27 +1,25 @@
 -- What assignments write to, and delays.
-use Rattle.std.proofs.Common.{◌≡◌, ℕ, zero, suc, ◌+◌, ◌<◌, Bool, true, false, ◌&&◌, ◌||◌, max, nat_le, if◌then◌else◌, List, [], ◌∷◌, ◌++◌, Option, None, Some, length, flat_map, refl, sym, ap, ◌∙◌, arith, inl, inr, subst, append_assoc, codes}
+use Rattle.std.proofs.Common.{◌≡◌, ℕ, zero, suc, ◌+◌, ◌<◌, Bool, true, false, ◌&&◌, max, nat_le, if◌then◌else◌, List, [], ◌∷◌, ◌++◌, Option, None, Some, flat_map, refl, sym, ap, ◌∙◌, arith, subst, codes}
 use Rattle.std.specs.List.{list_all}
 use Rattle.std.specs.Str.{bytes_eq}
-use Rattle.std.proofs.lemmas.Bool.{cases_Bool}
 use Rattle.std.proofs.lemmas.Bool.Decides.{nat_tests}
 use Rattle.basis.proofs.Bools.{and_left, and_right, and_both}
 use Rattle.vast.specs.Syntax.{Text}
-use Rattle.vast.specs.Words.{is_name, is_number, reserved_words}
-use Rattle.vast.specs.Expressions.{ExpressionTree, spell_expression, fits_expression, depth}
-use Rattle.vast.specs.Statements.{TargetTree, whole, bit, part, joined, TargetTrees, none, first as first_target, spell_target, spell_more_targets, target_depth, greatest_target_depth, fits_target, fits_targets, DelayTree, by_number, by_name, by_value, spell_delay, delay_depth, fits_delay}
-use Rattle.vexpr_parse.specs.Readers.{got, Reader, front, is_front, Lead, goes, refused, lower, led, room, past}
+use Rattle.vast.specs.Words.{is_name, reserved_words}
+use Rattle.vast.specs.Expressions.{ExpressionTree, fits_expression, depth}
+use Rattle.vast.specs.Statements.{TargetTree, whole, bit, part, joined, TargetTrees, none, first as first_target, spell_target, spell_more_targets, target_depth, greatest_target_depth, fits_target, fits_targets}
+use Rattle.vexpr_parse.specs.Readers.{got, Reader, front, is_front, goes, refused, lower, led, room, past}
 use Rattle.vexpr_parse.specs.Words.{binary_of, ends, ends_primary}
-use Rattle.vexpr_parse.specs.Lawful.{Ends, Lawful}
-use Rattle.vexpr_parse.proofs.ReaderRules.{chosen, passed_over, same_text, IsLead, led_sees}
+use Rattle.vexpr_parse.proofs.ReaderRules.{chosen, same_text, IsLead, led_sees}
 use Rattle.vexpr_parse.proofs.ReaderLoops.{lead_if, lead_room}
-use Rattle.vparse.specs.Parts.{Both, both, Either, one_way, other_way, made, paired, maybe, either, roomy}
-use Rattle.vparse.specs.Starts.{begins_target, is_word}
-use Rattle.vparse.specs.Statements.{value, named, numbered, List_of, comma_list, word_only, Select, select, target_of, named_target, targets_in, joined_of, joined_targets, target_lead, target, Amount, delay_of, amount, optional_delay}
-use Rattle.vparse.proofs.Phrases.{Shape, Sound, Complete, Phrase, Example, Worded, Opens, Makes, always, phrase_within, made_phrase, past_shape, past_phrase, past_example, nothing_phrase, worded_shape, paired_shape, paired_phrase, before_phrase, paired_example, free_phrase}
-use Rattle.vparse.proofs.PhraseChoices.{ends_maybe, maybe_shape, maybe_phrase, either_shape, either_phrase, roomy_phrase, Tested, ends_many, allows_all}
+use Rattle.vparse.specs.Parts.{Both, both, Either, one_way, other_way, paired, maybe, roomy}
+use Rattle.vparse.specs.Starts.{begins_target}
+use Rattle.vparse.specs.Statements.{value, List_of, comma_list, word_only, Select, select, target_of, targets_in, joined_of, joined_targets, target_lead, target}
+use Rattle.vparse.proofs.Phrases.{Shape, Complete, Phrase, Example, Opens, Makes, always, phrase_within, past_shape, past_phrase, nothing_phrase, paired_shape, paired_phrase, before_phrase, paired_example}
+use Rattle.vparse.proofs.PhraseChoices.{ends_maybe, maybe_shape, maybe_phrase, either_shape, either_phrase, roomy_phrase}
 use Rattle.vparse.proofs.PhraseLeads.{LeadSound, led_sound, if_sound, room_sound, made_lead_sound, made_lead, led_complete, roomy_lead}
 use Rattle.vparse.proofs.LevelFacts.{one_up, two_up, larger_two, one_within, none_within, and_true, pair_valid, some_level}
-use Rattle.vparse.proofs.ValuePhrases.{value_shape, value_phrase, value_example, value_level, value_worded, nothing_example, word_if_phrase, only_shape, only_phrase, only_example, comma, comma_shape, comma_phrase, allows_each}
+use Rattle.vparse.proofs.ValuePhrases.{value_shape, value_phrase, value_example, value_level, nothing_example, only_shape, only_phrase, only_example, comma_shape, comma_phrase, allows_each}
 
 positive : (n : ℕ) → 0 < suc n
 positive n = omega arith

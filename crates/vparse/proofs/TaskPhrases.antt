@@ -1,25 +1,23 @@
 -- Calls of system tasks, behind their first words.
-use Rattle.std.proofs.Common.{◌≡◌, ℕ, zero, suc, ◌+◌, ◌<◌, Bool, true, false, ◌&&◌, not, max, nat_le, List, [], ◌∷◌, ◌++◌, Option, None, Some, length, flat_map, refl, sym, ap, ◌∙◌, arith, append_assoc, codes}
+use Rattle.std.proofs.Common.{◌≡◌, ℕ, suc, ◌+◌, ◌<◌, Bool, true, ◌&&◌, nat_le, List, [], ◌∷◌, ◌++◌, Option, None, Some, length, refl, sym, ap, ◌∙◌, arith, codes}
 use Rattle.std.specs.List.{list_all}
-use Rattle.std.proofs.lemmas.Bool.Decides.{nat_tests}
-use Rattle.basis.proofs.Bools.{and_left, and_right, and_both}
+use Rattle.basis.proofs.Bools.{and_left, and_right}
 use Rattle.vast.specs.Syntax.{Text}
 use Rattle.vast.specs.Words.{is_number, is_string}
-use Rattle.vast.specs.Statements.{ArgumentTree, quoted, printed, SelectionTree, StatementTree, task, print, dump_file, dump_vars, dump, end_run, print_word, dump_word, end_word, spell_argument, argument_depth, arguments_depth, fits_argument, fits_print, fits_selection, spell_selection, spell_statement}
+use Rattle.vast.specs.Statements.{ArgumentTree, quoted, printed, SelectionTree, StatementTree, print_word, dump_word, end_word, argument_depth, arguments_depth, fits_argument, fits_print, fits_selection, spell_statement}
 use Rattle.vast.specs.declared.statement.Dumping.{Dumping}
 use Rattle.vast.specs.declared.statement.Printing.{Printing}
 use Rattle.vast.specs.declared.statement.Printing.TheVariants as printing
 use Rattle.vast.proofs.ExpressionLemmas.{depth_positive}
-use Rattle.vexpr_parse.specs.Readers.{Reader, front, is_front, past}
+use Rattle.vexpr_parse.specs.Readers.{Reader, front, is_front}
 use Rattle.vexpr_parse.specs.Words.{ends}
-use Rattle.vparse.specs.Parts.{Both, both, paired, worded, maybe, roomy}
-use Rattle.vparse.specs.Starts.{meant_if}
-use Rattle.vparse.specs.Statements.{numbered, word_only, Arguments, arguments, print_of, optional_print_of, dump_file_of, dump_file_parts, selection, dump_vars_of, dump_of, end_of, end_parts}
+use Rattle.vparse.specs.Parts.{Both, both, paired, maybe, roomy}
+use Rattle.vparse.specs.Statements.{word_only, Arguments, arguments, print_of, optional_print_of, dump_file_of, dump_file_parts, selection, dump_vars_of, dump_of, end_of, end_parts}
 use Rattle.vparse.proofs.Phrases.{Shape, Phrase, Example, Makes, always, past_shape, past_phrase, past_example, nothing_phrase, paired_shape, before_phrase, paired_example, free_phrase}
-use Rattle.vparse.proofs.PhraseChoices.{ends_maybe, maybe_shape, maybe_phrase, roomy_phrase}
+use Rattle.vparse.proofs.PhraseChoices.{maybe_shape, maybe_phrase, roomy_phrase}
 use Rattle.vparse.proofs.LevelFacts.{one_up, one_within, and_true, some_level}
 use Rattle.vparse.proofs.ValuePhrases.{nothing_example, word_if_phrase, only_shape, only_phrase, only_example, comma_shape, allows_each}
-use Rattle.vparse.proofs.PartPhrases.{text_shape, a_number, numbered_phrase, argument_shape, arguments_shape, arguments_phrase, arguments_example, selection_shape, selection_phrase}
+use Rattle.vparse.proofs.PartPhrases.{text_shape, a_number, numbered_phrase, argument_shape, arguments_phrase, arguments_example, selection_shape, selection_phrase}
 use Rattle.vparse.proofs.StatementShapes.{closes_statement, statement_shape, all_within}
 
 positive : (n : ℕ) → 0 < suc n

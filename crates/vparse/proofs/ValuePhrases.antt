@@ -4,7 +4,7 @@ use Rattle.std.specs.List.{list_all}
 use Rattle.std.proofs.lemmas.Bool.Decides.{nat_tests}
 use Rattle.basis.proofs.Bools.{and_left, and_right, and_both}
 use Rattle.vast.specs.Syntax.{Text}
-use Rattle.vast.specs.Words.{is_name, reserved_words}
+use Rattle.vast.specs.Words.{reserved_words}
 use Rattle.vast.specs.Expressions.{ExpressionTree, name, spell_expression, fits_expression, depth, rank_of}
 use Rattle.vast.proofs.ExpressionLemmas.{depth_positive}
 use Rattle.vexpr_parse.specs.Readers.{got, Reader, front, is_front, past}
@@ -16,11 +16,11 @@ use Rattle.vexpr_parse.proofs.ReaderRules.{text_same, stop_got}
 use Rattle.vexpr_parse.proofs.ExpressionRules.{expression_rule}
 use Rattle.vexpr_parse.proofs.Sound.{Found, expression_found}
 use Rattle.vexpr_parse.proofs.Complete.{expression_complete}
-use Rattle.vparse.specs.Parts.{Both, both, paired, worded, many}
+use Rattle.vparse.specs.Parts.{worded, many}
 use Rattle.vparse.specs.Starts.{meant_if}
 use Rattle.vparse.specs.Statements.{value, List_of, comma_list, word_only}
-use Rattle.vparse.proofs.Phrases.{Shape, Sound, Phrase, Example, Worded, Opens, always, past_shape, past_phrase, past_example, nothing_shape, nothing_phrase, worded_shape, worded_phrase, paired_shape, paired_phrase}
-use Rattle.vparse.proofs.PhraseChoices.{ends_many, allows_all, many_shape, many_phrase, behind_ended}
+use Rattle.vparse.proofs.Phrases.{Shape, Sound, Phrase, Example, Worded, always, past_shape, past_phrase, past_example, nothing_shape, nothing_phrase, worded_shape, worded_phrase, paired_shape, paired_phrase}
+use Rattle.vparse.proofs.PhraseChoices.{ends_many, allows_all, many_shape, many_phrase}
 use Rattle.vparse.proofs.LevelFacts.{some_level}
 
 -- An expression

@@ -1,17 +1,14 @@
 -- Words that are told apart: by their first byte, by what they mean, by what no reader takes.
-use Rattle.std.proofs.Common.{◌≡◌, ℕ, zero, suc, ◌<◌, Bool, true, false, ◌&&◌, ◌||◌, ◌==◌, not, if◌then◌else◌, List, [], ◌∷◌, ◌++◌, Option, None, Some, length, refl, sym, ap, ◌∙◌, arith, inl, inr, subst, codes}
-use Rattle.std.specs.List.{list_all}
+use Rattle.std.proofs.Common.{◌≡◌, ℕ, zero, suc, ◌<◌, Bool, true, false, ◌||◌, ◌==◌, not, if◌then◌else◌, List, [], ◌∷◌, ◌++◌, Option, None, Some, length, refl, sym, ap, ◌∙◌, arith, subst}
 use Rattle.std.specs.Str.{bytes_eq}
 use Rattle.std.specs.Char.{is_ascii_digit}
-use Rattle.std.proofs.lemmas.Bool.{cases_Bool}
 use Rattle.std.proofs.lemmas.Bool.Decides.{nat_tests}
 use Rattle.basis.proofs.Bools.{and_left}
 use Rattle.vast.specs.Syntax.{Text}
-use Rattle.vast.specs.Words.{is_name, is_number, is_string, begins_name, is_in_name, is_reserved, reserved_words}
+use Rattle.vast.specs.Words.{is_name, is_number, is_string, begins_name, is_reserved}
 use Rattle.vast.specs.Expressions.{ExpressionTree}
-use Rattle.vexpr_parse.specs.declared.beginning.Beginning.{Beginning}
 use Rattle.vexpr_parse.specs.declared.beginning.Beginning.TheVariants as start
-use Rattle.vexpr_parse.specs.Readers.{got, stop, Reader, front, is_front, and_then, follow}
+use Rattle.vexpr_parse.specs.Readers.{got, Reader, front, and_then, follow}
 use Rattle.vexpr_parse.specs.Words.{written, beginning_of, unary_of}
 use Rattle.vexpr_parse.specs.Reading.{primary_by, onward, expression}
 use Rattle.vexpr_parse.specs.Lawful.{Ends}
