@@ -40,7 +40,8 @@ past_growth text {read = read} {more = more} g = record {
   keep = past_keep text more g.keep;
 }
 
-pub made_growth : {A B : Type 0} (make : A → B) {read more : Reader A} → Growth read more → Growth (made make read) (made make more)
+pub made_growth : {A B : Type 0} (make : A → B) {read more : Reader A} → Growth read more →
+    Growth (made make read) (made make more)
 made_growth make {read = read} {more = more} g = record {
   rises = λ words. then_grows (read words) (more words) (λ t. got (make t)) (λ t. got (make t)) (g.rises words) (λ t left e. refl)
       (λ t. got_keep (make t));
@@ -53,9 +54,11 @@ made_keep make read k words = then_keep words (read words) (λ t. got (make t)) 
 pub linked_growth : {A B : Type 0} {read more : Reader A} {next next_more : A → Reader B} → Growth read more →
     ((tree : A) → Growth (next tree) (next_more tree)) → Growth (linked read next) (linked more next_more)
 linked_growth {read = read} {more = more} {next = next} {next_more = next_more} g h = record {
-  rises = λ words. then_grows (read words) (more words) (λ x. made (both x) (next x)) (λ x. made (both x) (next_more x)) (g.rises words)
+  rises = λ words. then_grows (read words) (more words) (λ x. made (both x) (next x)) (λ x. made (both x) (next_more x))
+      (g.rises words)
       (λ x left e. (made_growth (both x) (h x)).rises left) (λ x. (made_growth (both x) (h x)).keep);
-  keep = λ words. then_keep words (more words) (λ x. made (both x) (next_more x)) (g.keep words) (λ x. (made_growth (both x) (h x)).keep);
+  keep = λ words. then_keep words (more words) (λ x. made (both x) (next_more x)) (g.keep words)
+      (λ x. (made_growth (both x) (h x)).keep);
 }
 
 pub paired_growth : {A B : Type 0} {read more : Reader A} {next next_more : Reader B} → Growth read more → Growth next next_more →
@@ -80,7 +83,8 @@ worded_growth {A = A} meaning = record {
 abbrev pub RisesWhere : {A : Type 0} → (Option Text → Bool) → Reader A → Reader A → Type 0
 RisesWhere test read more = (words : List Text) → test (front words) ≡ true → Grows (read words) (more words)
 
-pub choose_growth : {A : Type 0} (test : Option Text → Bool) (one more : Reader A) {other more_other : Reader A} → RisesWhere test one more → Keeps more →
+pub choose_growth : {A : Type 0} (test : Option Text → Bool) (one more : Reader A) {other more_other : Reader A} →
+    RisesWhere test one more → Keeps more →
     Growth other more_other → Growth (choose test one other) (choose test more more_other)
 choose_growth test one more {other = other} {more_other = more_other} g k h = record {
   rises = λ words. by_test words (test (front words)) refl;
@@ -92,16 +96,21 @@ choose_growth test one more {other = other} {more_other = more_other} g k h = re
     by_test words true e = g words e
     by_test words false e = h.rises words
 
-pub either_growth : {A B : Type 0} (test : Option Text → Bool) {read more : Reader A} {other more_other : Reader B} → Growth read more →
+pub either_growth : {A B : Type 0} (test : Option Text → Bool) {read more : Reader A} {other more_other : Reader B} →
+    Growth read more →
     Growth other more_other → Growth (either test read other) (either test more more_other)
 either_growth test {read = read} {more = more} g h =
-    choose_growth test (made one_way read) (made one_way more) (λ words e. (made_growth one_way g).rises words) (made_growth one_way g).keep (made_growth other_way h)
+    choose_growth test (made one_way read) (made one_way more) (λ words e. (made_growth one_way g).rises words)
+    (made_growth one_way g).keep (made_growth other_way h)
 
-pub maybe_growth : {A : Type 0} (test : Option Text → Bool) {read more : Reader A} → Growth read more → Growth (maybe test read) (maybe test more)
+pub maybe_growth : {A : Type 0} (test : Option Text → Bool) {read more : Reader A} → Growth read more →
+    Growth (maybe test read) (maybe test more)
 maybe_growth test {read = read} {more = more} g =
-    choose_growth test (made Some read) (made Some more) (λ words e. (made_growth Some g).rises words) (made_growth Some g).keep (got_growth None)
+    choose_growth test (made Some read) (made Some more) (λ words e. (made_growth Some g).rises words)
+    (made_growth Some g).keep (got_growth None)
 
-pub maybe_growth_where : {A : Type 0} (test : Option Text → Bool) (read more : Reader A) → RisesWhere test read more → Keeps more →
+pub maybe_growth_where : {A : Type 0} (test : Option Text → Bool) (read more : Reader A) → RisesWhere test read more →
+    Keeps more →
     Growth (maybe test read) (maybe test more)
 maybe_growth_where test read more g k =
     choose_growth test (made Some read) (made Some more)
@@ -109,7 +118,8 @@ maybe_growth_where test read more g k =
     (λ t. got_keep (Some t)))
     (λ words. then_keep words (more words) (λ t. got (Some t)) (k words) (λ t. got_keep (Some t))) (got_growth None)
 
-pub many_growth : {A : Type 0} (test : Option Text → Bool) {read more : List A → Reader A} → ((list : List A) → Growth (read list) (more list)) →
+pub many_growth : {A : Type 0} (test : Option Text → Bool) {read more : List A → Reader A} →
+    ((list : List A) → Growth (read list) (more list)) →
     Growth (many test read) (many test more)
 many_growth {A = A} test {read = read} {more = more} g = record {
   rises = λ words. rounds_grow (λ list. Unit {0}) (one_behind read) (one_behind more) test (λ list ws i. (turn list).rises ws)
@@ -142,7 +152,8 @@ open_keeps lower k = absurd k
 pub lead_open : {A : Type 0} (ends : Ends) (read : Reader A) → IsLead ends (goes read) → OpenLead (goes read)
 lead_open ends read l words = keeps read ends words (read words) (l.0 words)
 
-pub room_open : {A : Type 0} (ends : Ends) (below : ℕ) (read : Reader A) → nat_le 1 below ≡ true → IsLead ends (room below 1 (goes read)) →
+pub room_open : {A : Type 0} (ends : Ends) (below : ℕ) (read : Reader A) → nat_le 1 below ≡ true →
+    IsLead ends (room below 1 (goes read)) →
     OpenLead (room below 1 (goes read))
 room_open ends below read level l = by_test (nat_le 1 below) level l
   where
@@ -150,7 +161,8 @@ room_open ends below read level l = by_test (nat_le 1 below) level l
     by_test true e l = lead_open ends read l
     by_test false e l = let no : false ≡ true = e in absurd cc
 
-pub room_rises : {A : Type 0} (below : ℕ) (read more : Reader A) → (nat_le 1 below ≡ true → (words : List Text) → Grows (read words) (more words)) →
+pub room_rises : {A : Type 0} (below : ℕ) (read more : Reader A) →
+    (nat_le 1 below ≡ true → (words : List Text) → Grows (read words) (more words)) →
     Keeps more → LeadGrows (room below 1 (goes read)) (room (up below) 1 (goes more))
 room_rises below read more g k = by_tests (nat_le 1 below) (nat_le 1 (up below)) (some_left below) g k
   where
@@ -161,7 +173,8 @@ room_rises below read more g k = by_tests (nat_le 1 below) (nat_le 1 (up below))
     by_tests b false e g k = let no : false ≡ true = e in absurd cc
 
 -- where a level is left, what is read behind such a word keeps
-pub room_keep : {A : Type 0} (ends : Ends) (below : ℕ) (read : Reader A) → nat_le 1 below ≡ true → IsLead ends (room below 1 (goes read)) →
+pub room_keep : {A : Type 0} (ends : Ends) (below : ℕ) (read : Reader A) → nat_le 1 below ≡ true →
+    IsLead ends (room below 1 (goes read)) →
     Keeps read
 room_keep {A = A} ends below read level l = by_test (nat_le 1 below) level l
   where
@@ -197,14 +210,16 @@ roomy_keep below read k words = by_test (nat_le 1 below)
 below_next : (a b : ℕ) → a ≤ b → a < suc b
 below_next a b e = omega arith
 
-pub past_passes : {A : Type 0} (text : Text) (read : Reader A) → Keeps read → (words : List Text) → is_front text (front words) ≡ true →
+pub past_passes : {A : Type 0} (text : Text) (read : Reader A) → Keeps read → (words : List Text) → is_front text (front words)
+    ≡ true →
     length (rest_of (past text read words)) < length words
 past_passes text read k [] e = let no : false ≡ true = e in absurd cc
 past_passes text read k (word ∷ words) e =
     subst (λ (b : Bool). length (rest_of (follow (if b then goes read else refused) word words)) < suc (length words)) (sym e)
     (below_next (length (rest_of (read words))) (length words) (k words))
 
-pub then_passes : {A B : Type 0} (a : Answer A) (next : A → Reader B) (n : ℕ) → length (rest_of a) < n → ((tree : A) → Keeps (next tree)) →
+pub then_passes : {A B : Type 0} (a : Answer A) (next : A → Reader B) (n : ℕ) → length (rest_of a) < n →
+    ((tree : A) → Keeps (next tree)) →
     length (rest_of (and_then a next)) < n
 then_passes (got tree left) next n e k = fewer (length (rest_of (next tree left))) (length left) n (k tree left) e
   where

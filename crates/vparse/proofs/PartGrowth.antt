@@ -35,7 +35,8 @@ comma_growth g = paired_growth g (many_growth (is_front (codes ",")) (λ list. p
 select_growth : (below : ℕ) → nat_le 1 below ≡ true → Growth (select below) (select (up below))
 select_growth below level =
     paired_growth (value_growth below level)
-    (either_growth (is_front (codes ":")) (past_growth (codes ":") (paired_growth (value_growth below level) (only_growth (codes "]"))))
+    (either_growth (is_front (codes ":"))
+    (past_growth (codes ":") (paired_growth (value_growth below level) (only_growth (codes "]"))))
     (only_growth (codes "]")))
 
 select_keep : (below : ℕ) → Keeps (select (up below))
@@ -64,7 +65,8 @@ target_open below level word is =
     by_tests : (a b : Bool) → (a || b) ≡ true →
         IsLead ends_primary (if a then goes (named_target below word)
         else if b then room below 1 (goes (joined_targets (target below))) else refused) →
-        OpenLead (if a then goes (named_target below word) else if b then room below 1 (goes (joined_targets (target below))) else refused)
+        OpenLead (if a then goes (named_target below word) else if b then room below 1
+        (goes (joined_targets (target below))) else refused)
     by_tests true b e l = lead_open ends_primary (named_target below word) l
     by_tests false true e l = room_open ends_primary below (joined_targets (target below)) level l
     by_tests false false e l = let no : false ≡ true = e in absurd cc
@@ -138,5 +140,6 @@ selection_growth =
     made_growth selection_of (past_growth (codes "(")
     (paired_growth (worded_growth (meant_if is_number))
     (paired_growth (many_growth (is_front (codes ",")) (λ list. past_growth (codes ",")
-    (made_growth path_of (paired_growth named_word (many_growth (is_front (codes ".")) (λ names. past_growth (codes ".") named_word))))))
+    (made_growth path_of
+    (paired_growth named_word (many_growth (is_front (codes ".")) (λ names. past_growth (codes ".") named_word))))))
     (only_growth (codes ")")))))

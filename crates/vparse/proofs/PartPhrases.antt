@@ -79,7 +79,8 @@ module _ (below : ℕ) (level : nat_le 1 below ≡ true) where
       (past (codes "(") (paired (value below) (word_only (codes ")")))))) always AmountParts
   amount_parts_phrase =
       either_phrase (is_word is_number) numbered_phrase
-      (either_phrase (is_word is_name) named_phrase enclosed_phrase (λ tree v. positive 0) (λ tree v. positive _) (λ tree v rest. v)
+      (either_phrase (is_word is_name) named_phrase enclosed_phrase (λ tree v. positive 0) (λ tree v. positive _)
+      (λ tree v rest. v)
       (λ tree v rest. refl))
       (λ tree v. positive 0) some (λ tree v rest. v) no_number
     where
@@ -99,7 +100,8 @@ module _ (below : ℕ) (level : nat_le 1 below ≡ true) where
       spelled (other_way (one_way letters)) = refl
       spelled (other_way (other_way (both tree end))) = refl
 
-      valid : (tree : Amount) → (fits_delay (delay_of tree) && nat_le (delay_depth (delay_of tree)) below) ≡ AmountParts.valid tree
+      valid : (tree : Amount) → (fits_delay (delay_of tree) && nat_le (delay_depth (delay_of tree)) below)
+          ≡ AmountParts.valid tree
       valid (one_way digits) = ap (λ b. is_number digits && b) level ∙ and_true (is_number digits)
       valid (other_way (one_way letters)) = ap (λ b. is_name letters && b) level ∙ and_true (is_name letters)
       valid (other_way (other_way (both tree end))) = sym (and_true (fits_expression tree && nat_le (depth tree) below))
@@ -145,7 +147,8 @@ no_meaning (Some tree) f = absurd (f tree refl)
 
 no_edge : (letters : Text) → is_name letters ≡ true → is_some_meaning (edge_of letters) ≡ false
 unfolding reserved_words
-no_edge letters is = no_meaning (edge_of letters) (λ kind e. reserved kind (as_written edge_word (edge.Rising ∷ edge.Falling ∷ []) letters kind e))
+no_edge letters is = no_meaning (edge_of letters)
+    (λ kind e. reserved kind (as_written edge_word (edge.Rising ∷ edge.Falling ∷ []) letters kind e))
   where
     edges_reserved : (kind : Edge) → is_name (edge_word kind) ≡ false
     edges_reserved edge.Rising = refl
@@ -176,8 +179,10 @@ term_makes = record { spelled = spelled; valid = valid; closes = λ tree next e.
 
 term_phrase : Phrase term always term_shape
 term_phrase =
-    made_phrase term_of term_shape (λ tree v. record { parts = both tree.edge tree.name; is = refl }) term_makes (λ tree next e. refl)
-    (next_phrase (maybe_phrase (is_meant edge_of) edge_phrase (λ kind v. positive 0) begins) named_phrase a_name (λ letters v. positive 0)
+    made_phrase term_of term_shape (λ tree v. record { parts = both tree.edge tree.name; is = refl }) term_makes
+    (λ tree next e. refl)
+    (next_phrase (maybe_phrase (is_meant edge_of) edge_phrase (λ kind v. positive 0) begins) named_phrase a_name
+    (λ letters v. positive 0)
     (λ letters v rest c. ap not (no_edge letters v)))
   where
     begins : Tested (is_meant edge_of) true edge_shape
@@ -205,17 +210,20 @@ further_shape = record { spell = spell_further_term; valid = fits_further_term; 
 further_makes : Makes further_of (paired_shape comma_kind_shape term_shape) further_shape []
 further_makes = record { spelled = spelled; valid = valid; closes = λ tree next e. closes tree next; stops = λ tree next e. refl }
   where
-    spelled : (tree : Both Bool TermTree) → spell_further_term (further_of tree) ≡ (paired_shape comma_kind_shape term_shape).spell tree
+    spelled : (tree : Both Bool TermTree) → spell_further_term (further_of tree)
+        ≡ (paired_shape comma_kind_shape term_shape).spell tree
     spelled (both kind tree) = refl
 
-    valid : (tree : Both Bool TermTree) → fits_further_term (further_of tree) ≡ (paired_shape comma_kind_shape term_shape).valid tree
+    valid : (tree : Both Bool TermTree) → fits_further_term (further_of tree)
+        ≡ (paired_shape comma_kind_shape term_shape).valid tree
     valid (both kind tree) = refl
 
     closes : (tree : Both Bool TermTree) (next : Option Text) → (paired_shape comma_kind_shape term_shape).closes tree next ≡ true
     closes (both kind tree) next = refl
 
 further_phrase : Phrase further_term always further_shape
-further_phrase = made_phrase further_of further_shape (λ tree v. record { parts = both tree.by_comma tree.term; is = refl }) further_makes
+further_phrase = made_phrase further_of further_shape
+    (λ tree v. record { parts = both tree.by_comma tree.term; is = refl }) further_makes
     (λ tree next e. refl) (free_phrase comma_kind_phrase term_phrase a_term)
 
 abbrev further : Option Text → Bool
@@ -223,7 +231,8 @@ further = is_meant comma_of
 
 abbrev pub terms_shape : Shape Terms
 terms_shape =
-    paired_shape (paired_shape term_shape (many_shape further always further_shape (λ list. fits_further_term))) (only_shape (codes ")"))
+    paired_shape (paired_shape term_shape (many_shape further always further_shape (λ list. fits_further_term)))
+    (only_shape (codes ")"))
 
 terms_phrase : Phrase (paired (paired term (many further (λ list. further_term))) (word_only (codes ")"))) always terms_shape
 terms_phrase =
@@ -253,13 +262,15 @@ no_star letters is = not_so (bytes_eq (codes "*") letters)
 
 enclosed_event_phrase : Phrase enclosed_event always enclosed_event_shape
 enclosed_event_phrase =
-    either_phrase star (past_phrase (codes "*") (only_phrase (codes ")")) (only_example (codes ")"))) terms_phrase (λ tree v. positive _)
+    either_phrase star (past_phrase (codes "*") (only_phrase (codes ")")) (only_example (codes ")"))) terms_phrase
+    (λ tree v. positive _)
     some (λ tree v rest. refl) no_stars
   where
     some : Worded terms_shape
     some (both (both tree more) end) v = by_edge tree.edge
       where
-        by_edge : (kind : Option Edge) → 0 < length (((spell_edge kind ++ tree.name ∷ []) ++ flat_map spell_further_term more) ++ codes ")" ∷ [])
+        by_edge : (kind : Option Edge) →
+            0 < length (((spell_edge kind ++ tree.name ∷ []) ++ flat_map spell_further_term more) ++ codes ")" ∷ [])
         by_edge None = positive _
         by_edge (Some kind) = positive _
 
@@ -283,7 +294,8 @@ abbrev pub event_shape : Shape EventTree
 event_shape = record { spell = event_words; valid = fits_event; closes = λ tree. always; stops = λ tree next. true }
 
 abbrev EventParts : Shape Event
-EventParts = either_shape (text_shape is_name) (either_shape (only_shape (codes "*")) (past_shape (codes "(") enclosed_event_shape))
+EventParts = either_shape (text_shape is_name)
+    (either_shape (only_shape (codes "*")) (past_shape (codes "(") enclosed_event_shape))
 
 event_makes : Makes event_of EventParts event_shape []
 event_makes = record { spelled = spelled; valid = valid; closes = λ tree next e. closes tree next; stops = λ tree next e. refl }
@@ -357,7 +369,8 @@ module _ (below : ℕ) (level : nat_le 1 below ≡ true) where
       valid (one_way letters) = ap (λ b. is_string letters && b) level ∙ and_true (is_string letters)
       valid (other_way tree) = refl
 
-      closes : (tree : Either Text ExpressionTree) (next : Option Text) → ends 0 next ≡ true → ArgumentParts.closes tree next ≡ true
+      closes : (tree : Either Text ExpressionTree) (next : Option Text) → ends 0 next ≡ true → ArgumentParts.closes tree next
+          ≡ true
       closes (one_way letters) next e = refl
       closes (other_way tree) next e = e
 
@@ -394,15 +407,26 @@ module _ (below : ℕ) (level : nat_le 1 below ≡ true) where
   pub arguments_phrase : Phrase (arguments below) always arguments_shape
   arguments_phrase =
       past_phrase (codes "(") arguments_inner_phrase
-      (record { tree = both (both argument_example.tree []) tt; valid = and_both _ true (and_both _ true argument_example.valid refl) refl })
+      (record {
+        tree = both (both argument_example.tree []) tt;
+        valid = and_both _ true
+            (and_both _ true argument_example.valid refl) refl;
+      })
 
 -- Paths and selections
 
 abbrev pub path_shape : Shape (List Text)
-path_shape = record { spell = spell_path; valid = fits_path; closes = λ tree next. not (is_front (codes ".") next); stops = λ tree next. true }
+path_shape = record {
+  spell = spell_path;
+  valid = fits_path;
+  closes = λ tree next. not
+      (is_front (codes ".") next);
+  stops = λ tree next. true;
+}
 
 abbrev PathParts : Shape (List_of Text)
-PathParts = paired_shape (text_shape is_name) (many_shape (is_front (codes ".")) always (past_shape (codes ".") (text_shape is_name)) (λ list. is_name))
+PathParts = paired_shape (text_shape is_name)
+    (many_shape (is_front (codes ".")) always (past_shape (codes ".") (text_shape is_name)) (λ list. is_name))
 
 path_makes : Makes path_of PathParts path_shape []
 path_makes = record { spelled = spelled; valid = valid; closes = closes; stops = λ tree next e. refl }
@@ -418,7 +442,8 @@ path_makes = record { spelled = spelled; valid = valid; closes = closes; stops =
         ap (λ b. b && (is_name letters && list_all is_name more)) (some (length more))
         ∙ ap (λ b. is_name letters && b) (sym (allows_each is_name [] more))
 
-    closes : (tree : List_of Text) (next : Option Text) → not (is_front (codes ".") next) ≡ true → PathParts.closes tree next ≡ true
+    closes : (tree : List_of Text) (next : Option Text) → not (is_front (codes ".") next) ≡ true → PathParts.closes tree next
+        ≡ true
     closes (both letters more) next e = e
 
 path_phrase : Phrase path (λ next. not (is_front (codes ".") next)) path_shape
@@ -437,7 +462,8 @@ a_path = record { tree = codes "a" ∷ []; valid = refl }
 abbrev SelectionParts : Shape Selection
 SelectionParts =
     past_shape (codes "(") (paired_shape (text_shape is_number)
-    (paired_shape (many_shape comma (λ next. not (is_front (codes ".") next)) (past_shape (codes ",") path_shape) (λ list. fits_path))
+    (paired_shape (many_shape comma (λ next. not (is_front (codes ".") next)) (past_shape (codes ",") path_shape)
+    (λ list. fits_path))
     (only_shape (codes ")"))))
 
 abbrev pub selection_shape : Shape SelectionTree
@@ -456,14 +482,16 @@ selection_makes = record { spelled = spelled; valid = valid; closes = λ tree ne
 
     valid : (tree : Selection) → selection_shape.valid (selection_of tree) ≡ SelectionParts.valid tree
     valid (both digits (both paths end)) =
-        ap (λ b. is_number digits && b) (sym (allows_each fits_path [] paths) ∙ sym (and_true (allows_all (λ list. fits_path) [] paths)))
+        ap (λ b. is_number digits && b)
+        (sym (allows_each fits_path [] paths) ∙ sym (and_true (allows_all (λ list. fits_path) [] paths)))
 
     closes : (tree : Selection) (next : Option Text) → SelectionParts.closes tree next ≡ true
     closes (both digits (both paths end)) next = refl
 
 pub selection_phrase : Phrase selection always selection_shape
 selection_phrase =
-    made_phrase selection_of selection_shape (λ tree v. record { parts = both tree.levels (both tree.paths tt); is = refl }) selection_makes
+    made_phrase selection_of selection_shape
+    (λ tree v. record { parts = both tree.levels (both tree.paths tt); is = refl }) selection_makes
     (λ tree next e. refl)
     (past_phrase (codes "(")
     (free_phrase numbered_phrase

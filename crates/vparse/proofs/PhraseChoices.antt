@@ -23,7 +23,8 @@ made_eats make read eats words tree left e =
 
 -- a tree's first word passes the test
 abbrev pub Tested : {A : Type 0} → (Option Text → Bool) → Bool → Shape A → Type 0
-Tested {A = A} test answer s = (tree : A) → s.valid tree ≡ true → (rest : List Text) → test (front (s.spell tree ++ rest)) ≡ answer
+Tested {A = A} test answer s = (tree : A) → s.valid tree ≡ true → (rest : List Text) → test (front (s.spell tree ++ rest))
+    ≡ answer
 
 -- What may be left out
 
@@ -54,10 +55,12 @@ maybe_shape test ends s = record {
   stops = stops_maybe test s;
 }
 
-pub maybe_phrase : {A : Type 0} (test : Option Text → Bool) {read : Reader A} {ends : Ends} {s : Shape A} → Phrase read ends s → Worded s →
+pub maybe_phrase : {A : Type 0} (test : Option Text → Bool) {read : Reader A} {ends : Ends} {s : Shape A} →
+    Phrase read ends s → Worded s →
     Tested test true s → Phrase (maybe test read) (ends_maybe test ends) (maybe_shape test ends s)
 maybe_phrase {A = A} test {read = read} {ends = ends} {s = s} p some tests = record {
-  lawful = (option_rule test (made Some read) None (ends_maybe test ends) (made_eats Some read (sound_eats read s p.sound some)) not_tested
+  lawful = (option_rule test (made Some read) None (ends_maybe test ends)
+      (made_eats Some read (sound_eats read s p.sound some)) not_tested
       lawful).lawful;
   sound = sound;
   complete = complete;
@@ -91,7 +94,8 @@ maybe_phrase {A = A} test {read = read} {ends = ends} {s = s} p some tests = rec
         chosen (test (front (s.spell tree ++ rest))) _ _ (tests tree v rest)
         ∙ then_got (read (s.spell tree ++ rest)) (λ t. got (Some t)) tree rest (p.complete tree rest v c)
 
-    closed : (tree : Option A) (first : Option Text) → ends_maybe test ends first ≡ true → closes_maybe test ends s tree first ≡ true
+    closed : (tree : Option A) (first : Option Text) → ends_maybe test ends first ≡ true → closes_maybe test ends s tree first
+        ≡ true
     closed None first f = f
     closed (Some tree) first f = p.closed tree first (and_left (ends first) (not (test first)) f)
 
@@ -121,13 +125,15 @@ either_shape s t = record {
   stops = stops_either s t;
 }
 
-pub either_phrase : {A B : Type 0} (test : Option Text → Bool) {read : Reader A} {other : Reader B} {ends : Ends} {s : Shape A} {t : Shape B} →
+pub either_phrase : {A B : Type 0}
+    (test : Option Text → Bool) {read : Reader A} {other : Reader B} {ends : Ends} {s : Shape A} {t : Shape B} →
     Phrase read ends s → Phrase other ends t → Worded s → Worded t → Tested test true s → Tested test false t →
     Phrase (either test read other) ends (either_shape s t)
 either_phrase {A = A} {B = B} test {read = read} {other = other} {ends = ends} {s = s} {t = t} p q some some_other tests fails_test = record {
   lawful = λ words. choose_sees test (made one_way read) (made other_way other) ends
       (λ tree ws is e. absurd (below (length ws) (made_eats one_way read (sound_eats read s p.sound some) ws tree ws is)))
-      (λ tree ws is e. absurd (below (length ws) (made_eats other_way other (sound_eats other t q.sound some_other) ws tree ws is)))
+      (λ tree ws is e. absurd
+      (below (length ws) (made_eats other_way other (sound_eats other t q.sound some_other) ws tree ws is)))
       words (λ e. made_lawful one_way read ends p.lawful words) (λ e. made_lawful other_way other ends q.lawful words);
   sound = sound;
   complete = complete;
@@ -180,7 +186,8 @@ roomy_phrase {A = A} below levels {read = read} {ends = ends} {s = s} p deep clo
     clash true e f = let no : true ≡ false = e in cc
     clash false e f = let no : false ≡ true = f in cc
 
-    by_room : (b : Bool) → nat_le levels below ≡ true → Phrase (λ words. if nat_le levels below then read words else stop TooDeep words) ends s
+    by_room : (b : Bool) → nat_le levels below ≡ true →
+        Phrase (λ words. if nat_le levels below then read words else stop TooDeep words) ends s
     by_room b e =
         subst (λ (c : Bool). Phrase (λ words. if c then read words else stop TooDeep words) ends s) (sym e) (p e)
 
@@ -221,11 +228,14 @@ many_shape test ends base allows = record {
   stops = λ list first. not (test first);
 }
 
-module _ {A : Type 0} (test : Option Text → Bool) (read : List A → Reader A) (ends : Ends) (base : Shape A) (allows : List A → A → Bool)
+module _ {A : Type 0} (test : Option Text → Bool) (read : List A → Reader A) (ends : Ends) (base : Shape A)
+    (allows : List A → A → Bool)
     (p : (list : List A) → Phrase (read list) ends (allowed base allows list))
     (some : (list : List A) (tree : A) → allows list tree ≡ true → 0 < length (base.spell tree))
-    (tests : (list : List A) (tree : A) (rest : List Text) → allows list tree ≡ true → test (front (base.spell tree ++ rest)) ≡ true)
-    (follows : (list : List A) (tree : A) (rest : List Text) → allows list tree ≡ true → ends (front (base.spell tree ++ rest)) ≡ true) where
+    (tests : (list : List A) (tree : A) (rest : List Text) → allows list tree ≡ true → test (front (base.spell tree ++ rest))
+    ≡ true)
+    (follows : (list : List A) (tree : A) (rest : List Text) → allows list tree ≡ true → ends (front (base.spell tree ++ rest))
+    ≡ true) where
   turn_eats : (list : List A) → Eats (one_behind read list)
   turn_eats list = made_eats (λ tree. list ++ tree ∷ []) (read list)
       (sound_eats (read list) (allowed base allows list) (p list).sound (some list))
@@ -269,7 +279,8 @@ module _ {A : Type 0} (test : Option Text → Bool) (read : List A → Reader A)
               stopped = r.stopped;
             }
         | inr fails ↦
-            let same = sym (passed_over (test (front words)) (and_then (one_behind read so_far words) (rounds (one_behind read) test fuel)) _ fails)
+            let same = sym (passed_over (test (front words))
+            (and_then (one_behind read so_far words) (rounds (one_behind read) test fuel)) _ fails)
             ∙ e in
             record {
               list = [];
@@ -290,17 +301,20 @@ module _ {A : Type 0} (test : Option Text → Bool) (read : List A → Reader A)
       }
 
   -- what follows an element ends it: another one, or what ends them all
-  pub behind_ended : (so_far more : List A) (rest : List Text) → allows_all allows so_far more ≡ true → ends_many test ends (front rest) ≡ true →
+  pub behind_ended : (so_far more : List A) (rest : List Text) → allows_all allows so_far more ≡ true →
+      ends_many test ends (front rest) ≡ true →
       ends (front (flat_map base.spell more ++ rest)) ≡ true
   behind_ended so_far [] rest v e = ended (front rest) e
   behind_ended so_far (next ∷ more) rest v e =
       ap (λ ws. ends (front ws)) (append_assoc (base.spell next) (flat_map base.spell more) rest)
       ∙ follows so_far next (flat_map base.spell more ++ rest) (and_left (allows so_far next) _ v)
 
-  turns_complete : (list so_far : List A) (rest : List Text) → allows_all allows so_far list ≡ true → ends_many test ends (front rest) ≡ true →
+  turns_complete : (list so_far : List A) (rest : List Text) → allows_all allows so_far list ≡ true →
+      ends_many test ends (front rest) ≡ true →
       turns (one_behind read) test so_far (flat_map base.spell list ++ rest) ≡ got (so_far ++ list) rest
   turns_complete [] so_far rest v e =
-      turns_end (one_behind read) test turn_eats so_far rest (not_tested (front rest) e) ∙ ap (λ l. got l rest) (sym (append-nil so_far))
+      turns_end (one_behind read) test turn_eats so_far rest (not_tested (front rest) e)
+      ∙ ap (λ l. got l rest) (sym (append-nil so_far))
   turns_complete (tree ∷ more) so_far rest v e =
       let after : List Text = flat_map base.spell more ++ rest in
       let here = and_left (allows so_far tree) _ v in

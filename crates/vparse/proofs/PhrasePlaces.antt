@@ -21,7 +21,8 @@ pub record IsBegun {A : Type 0} (s : Shape A) (words : List Text) : Type 0 where
 
 -- with the word that stands first here behind them they begin none
 abbrev pub IsUnbegun : {A : Type 0} → Shape A → List Text → List Text → Type 0
-IsUnbegun {A = A} s before left = (other : List Text) (tree : A) → front other ≡ front left → s.valid tree ≡ true → s.spell tree ≡ before ++ other → ⊥
+IsUnbegun {A = A} s before left = (other : List Text) (tree : A) → front other ≡ front left → s.valid tree ≡ true →
+    s.spell tree ≡ before ++ other → ⊥
 
 pub record Stopped {A : Type 0} (s : Shape A) (words left : List Text) : Type 0 where
   pub before : List Text
@@ -78,8 +79,10 @@ pub record Passed {A : Type 0} (s : Shape A) (words left : List Text) : Type 0 w
   pub whole : words ≡ before ++ left
   pub viable : IsBegun s (before ++ word ∷ [])
 
-pub passed : {A : Type 0} {read more : Reader A} {ends ends_more : Ends} {s t : Shape A} → Phrase read ends s → Phrase more ends_more t →
-    ends_more None ≡ true → Example t → Growth read more → (words left : List Text) → read words ≡ stop TooDeep left → Passed t words left
+pub passed : {A : Type 0} {read more : Reader A} {ends ends_more : Ends} {s t : Shape A} → Phrase read ends s →
+    Phrase more ends_more t →
+    ends_more None ≡ true → Example t → Growth read more → (words left : List Text) → read words ≡ stop TooDeep left →
+    Passed t words left
 passed {read = read} {more = more} {ends = ends} {ends_more = ends_more} {t = t} p q ended e g words left is =
     let a = subst (Sees read ends words) is (p.lawful words) in
     let b = q.lawful words in
@@ -102,4 +105,5 @@ passed {read = read} {more = more} {ends = ends} {ends_more = ends_more} {t = t}
   where
     regroup : (before : List Text) (word : Text) (behind after : List Text) →
         (before ++ word ∷ behind) ++ after ≡ (before ++ word ∷ []) ++ (behind ++ after)
-    regroup before word behind after = append_assoc before (word ∷ behind) after ∙ sym (append_assoc before (word ∷ []) (behind ++ after))
+    regroup before word behind after = append_assoc before (word ∷ behind) after
+        ∙ sym (append_assoc before (word ∷ []) (behind ++ after))

@@ -33,9 +33,12 @@ statement_open n level start.Forever = room_open ends_statement n _ level (state
 statement_open n level start.For = room_open ends_statement n _ level (statement_leads n start.For)
 statement_open n level start.Delay = room_open ends_statement n _ level (statement_leads n start.Delay)
 statement_open n level start.Event = room_open ends_statement n _ level (statement_leads n start.Event)
-statement_open n level (start.Print printing.Display) = lead_open ends_statement _ (statement_leads n (start.Print printing.Display))
-statement_open n level (start.Print printing.Strobe) = lead_open ends_statement _ (statement_leads n (start.Print printing.Strobe))
-statement_open n level (start.Print printing.Monitor) = room_open ends_statement n _ level (statement_leads n (start.Print printing.Monitor))
+statement_open n level (start.Print printing.Display) = lead_open ends_statement _
+    (statement_leads n (start.Print printing.Display))
+statement_open n level (start.Print printing.Strobe) = lead_open ends_statement _
+    (statement_leads n (start.Print printing.Strobe))
+statement_open n level (start.Print printing.Monitor) = room_open ends_statement n _ level
+    (statement_leads n (start.Print printing.Monitor))
 statement_open n level start.DumpFile = room_open ends_statement n _ level (statement_leads n start.DumpFile)
 statement_open n level start.DumpVars = lead_open ends_statement _ (statement_leads n start.DumpVars)
 statement_open n level (start.Dump kind) = lead_open ends_statement _ (statement_leads n (start.Dump kind))
@@ -47,13 +50,15 @@ target_passes : (below : ℕ) → nat_le 1 below ≡ true → (words : List Text
     length (rest_of (target (suc below) words)) < length words
 unfolding target
 target_passes below level [] is = let no : false ≡ true = is in absurd cc
-target_passes below level (word ∷ words) is = open_passes (target_lead below (target below) word) (target_open below level word is) word words
+target_passes below level (word ∷ words) is = open_passes (target_lead below (target below) word)
+    (target_open below level word is) word words
 
 assignment_passes : (below : ℕ) → nat_le 1 below ≡ true → (words : List Text) → is_target (front words) ≡ true →
     length (rest_of (assignment (suc below) words)) < length words
 assignment_passes below level words is =
     then_passes (assignment_parts (suc below) words) (λ t. got (assignment_of t)) (length words)
-    (then_passes (target (suc below) words) (λ t. made (both t) (signed_part (suc below))) (length words) (target_passes below level words is)
+    (then_passes (target (suc below) words) (λ t. made (both t) (signed_part (suc below))) (length words)
+    (target_passes below level words is)
     (λ t. made_keep (both t) (signed_part (suc below)) (phrase_keep (signed_phrase (suc below) (one_within below)))))
     (λ t. got_keep (assignment_of t))
   where
@@ -78,7 +83,8 @@ module _ (below : ℕ) (g : Growth (statement below) (statement (up below))) whe
   abbrev more : Reader StatementTree
   more = statement (up below)
 
-  guarded_growth : {A : Type 0} → nat_le 1 below ≡ true → {r m : Reader A} → Growth r m → Growth (guarded below r) (guarded (up below) m)
+  guarded_growth : {A : Type 0} → nat_le 1 below ≡ true → {r m : Reader A} → Growth r m →
+      Growth (guarded below r) (guarded (up below) m)
   guarded_growth level h = past_growth (codes "(") (paired_growth (value_growth below level) (past_growth (codes ")") h))
 
   setting_growth : nat_le 1 below ≡ true → Growth (setting below) (setting (up below))
@@ -99,53 +105,75 @@ module _ (below : ℕ) (g : Growth (statement below) (statement (up below))) whe
 
   case_growth : nat_le 1 below ≡ true → Growth (case_parts below read) (case_parts (up below) more)
   case_growth level =
-      guarded_growth level (paired_growth (linked_growth (branch_growth level []) (λ one. many_growth (λ next. not (is_front (codes "endcase") next))
+      guarded_growth level
+      (paired_growth (linked_growth (branch_growth level [])
+      (λ one. many_growth (λ next. not (is_front (codes "endcase") next))
       (λ list. branch_growth level (one ∷ list)))) (only_growth (codes "endcase")))
 
-  optional_growth : {A : Type 0} {r m : Reader (Option A)} → Growth r m → Growth (paired r (word_only (codes ";"))) (paired m (word_only (codes ";")))
+  optional_growth : {A : Type 0} {r m : Reader (Option A)} → Growth r m →
+      Growth (paired r (word_only (codes ";"))) (paired m (word_only (codes ";")))
   optional_growth h = paired_growth h (only_growth (codes ";"))
 
   arguments_rise : RisesWhere (is_front (codes "(")) (roomy below 1 (arguments below)) (roomy (up below) 1 (arguments (up below)))
   arguments_rise =
-      roomy_rises (is_front (codes "(")) below (arguments below) (arguments (up below)) (λ level. (arguments_growth below level).rises)
+      roomy_rises (is_front (codes "(")) below (arguments below) (arguments (up below))
+      (λ level. (arguments_growth below level).rises)
       (past_passes (codes "(") _ (phrase_keep (arguments_inner_phrase (up below) (some_left below))))
 
   optional_arguments : Growth (maybe (is_front (codes "(")) (roomy below 1 (arguments below)))
       (maybe (is_front (codes "(")) (roomy (up below) 1 (arguments (up below))))
   optional_arguments =
-      maybe_growth_where (is_front (codes "(")) (roomy below 1 (arguments below)) (roomy (up below) 1 (arguments (up below))) arguments_rise
+      maybe_growth_where (is_front (codes "(")) (roomy below 1 (arguments below))
+      (roomy (up below) 1 (arguments (up below))) arguments_rise
       (roomy_keep (up below) (arguments (up below)) (phrase_keep (arguments_phrase (up below) (some_left below))))
 
   -- what a word begins that stands round others
-  rising : {r m : Reader StatementTree} → IsLead ends_statement (room (up below) 1 (goes m)) → (nat_le 1 below ≡ true → Growth r m) →
+  rising : {r m : Reader StatementTree} → IsLead ends_statement (room (up below) 1 (goes m)) →
+      (nat_le 1 below ≡ true → Growth r m) →
       LeadGrows (room below 1 (goes r)) (room (up below) 1 (goes m))
-  rising {r = r} {m = m} l h = room_rises below r m (λ level. (h level).rises) (room_keep ends_statement (up below) m (some_left below) l)
+  rising {r = r} {m = m} l h = room_rises below r m (λ level. (h level).rises)
+      (room_keep ends_statement (up below) m (some_left below) l)
 
   leads_rise : (kind : StatementStart) → LeadGrows (statement_by below read kind) (statement_by (up below) more kind)
   leads_rise start.Empty = λ words. refl
   leads_rise start.Begin =
-      (made_growth block_of (paired_growth (many_growth (λ next. not (is_front (codes "end") next)) (λ list. g)) (only_growth (codes "end")))).rises
-  leads_rise start.Trigger = rising (statement_leads (up below) start.Trigger) (λ level. made_growth trigger_of (paired_growth (worded_growth (meant_if is_name))
+      (made_growth block_of
+      (paired_growth (many_growth (λ next. not (is_front (codes "end") next)) (λ list. g)) (only_growth (codes "end")))).rises
+  leads_rise start.Trigger = rising (statement_leads (up below) start.Trigger)
+      (λ level. made_growth trigger_of (paired_growth (worded_growth (meant_if is_name))
       (only_growth (codes ";"))))
-  leads_rise start.If = rising (statement_leads (up below) start.If) (λ level. made_growth if_of (guarded_growth level (paired_growth g (maybe_growth (is_front (codes "else"))
+  leads_rise start.If = rising (statement_leads (up below) start.If)
+      (λ level. made_growth if_of (guarded_growth level (paired_growth g (maybe_growth (is_front (codes "else"))
       (past_growth (codes "else") g)))))
-  leads_rise (start.Case kind) = rising (statement_leads (up below) (start.Case kind)) (λ level. made_growth (case_parts_of kind) (case_growth level))
-  leads_rise (start.Guarded kind) = rising (statement_leads (up below) (start.Guarded kind)) (λ level. made_growth (guarded_of kind) (guarded_growth level g))
+  leads_rise (start.Case kind) = rising (statement_leads (up below) (start.Case kind))
+      (λ level. made_growth (case_parts_of kind) (case_growth level))
+  leads_rise (start.Guarded kind) = rising (statement_leads (up below) (start.Guarded kind))
+      (λ level. made_growth (guarded_of kind) (guarded_growth level g))
   leads_rise start.Forever = rising (statement_leads (up below) start.Forever) (λ level. made_growth forever g)
-  leads_rise start.For = rising (statement_leads (up below) start.For) (λ level. made_growth for_of (past_growth (codes "(") (paired_growth (setting_growth level)
-      (past_growth (codes ";") (paired_growth (value_growth below level) (past_growth (codes ";") (paired_growth (setting_growth level)
+  leads_rise start.For = rising (statement_leads (up below) start.For)
+      (λ level. made_growth for_of (past_growth (codes "(") (paired_growth (setting_growth level)
+      (past_growth (codes ";")
+      (paired_growth (value_growth below level) (past_growth (codes ";") (paired_growth (setting_growth level)
       (past_growth (codes ")") g))))))))
-  leads_rise start.Delay = rising (statement_leads (up below) start.Delay) (λ level. made_growth delayed_of (paired_growth (amount_growth below level) g))
-  leads_rise start.Event = rising (statement_leads (up below) start.Event) (λ level. made_growth event_body_of (paired_growth control_growth g))
-  leads_rise (start.Print printing.Display) = (made_growth (optional_print_of printing.Display) (optional_growth optional_arguments)).rises
-  leads_rise (start.Print printing.Strobe) = (made_growth (optional_print_of printing.Strobe) (optional_growth optional_arguments)).rises
-  leads_rise (start.Print printing.Monitor) = rising (statement_leads (up below) (start.Print printing.Monitor)) (λ level. made_growth (print_of printing.Monitor)
+  leads_rise start.Delay = rising (statement_leads (up below) start.Delay)
+      (λ level. made_growth delayed_of (paired_growth (amount_growth below level) g))
+  leads_rise start.Event = rising (statement_leads (up below) start.Event)
+      (λ level. made_growth event_body_of (paired_growth control_growth g))
+  leads_rise (start.Print printing.Display) =
+      (made_growth (optional_print_of printing.Display) (optional_growth optional_arguments)).rises
+  leads_rise (start.Print printing.Strobe) =
+      (made_growth (optional_print_of printing.Strobe) (optional_growth optional_arguments)).rises
+  leads_rise (start.Print printing.Monitor) = rising (statement_leads (up below) (start.Print printing.Monitor))
+      (λ level. made_growth (print_of printing.Monitor)
       (paired_growth (arguments_growth below level) (only_growth (codes ";"))))
-  leads_rise start.DumpFile = rising (statement_leads (up below) start.DumpFile) (λ level. made_growth dump_file_of (past_growth (codes "(")
+  leads_rise start.DumpFile = rising (statement_leads (up below) start.DumpFile)
+      (λ level. made_growth dump_file_of (past_growth (codes "(")
       (paired_growth (worded_growth (meant_if is_string)) (past_growth (codes ")") (only_growth (codes ";"))))))
-  leads_rise start.DumpVars = (made_growth dump_vars_of (optional_growth (maybe_growth (is_front (codes "(")) selection_growth))).rises
+  leads_rise start.DumpVars =
+      (made_growth dump_vars_of (optional_growth (maybe_growth (is_front (codes "(")) selection_growth))).rises
   leads_rise (start.Dump kind) = (made_growth (dump_of kind) (only_growth (codes ";"))).rises
-  leads_rise (start.End kind) = (made_growth (end_of kind) (optional_growth (maybe_growth (is_front (codes "(")) (past_growth (codes "(")
+  leads_rise (start.End kind) =
+      (made_growth (end_of kind) (optional_growth (maybe_growth (is_front (codes "(")) (past_growth (codes "(")
       (paired_growth (worded_growth (meant_if is_number)) (only_growth (codes ")"))))))).rises
 
   starts_rise : (o : Option StatementStart) → LeadGrows (lead_by below read o) (lead_by (up below) more o)
@@ -185,7 +213,8 @@ none_rise (word ∷ words) = by_tests (begins_target word) refl (start_of word)
     by_tests false is None = refl
     by_tests false is (Some kind) = open_passes (statement_by 2 (statement 2) kind) (statement_open 2 refl kind) word words
 
-rising_growth : (n : ℕ) → ((words : List Text) → Grows (statement n words) (statement (up n) words)) → Growth (statement n) (statement (up n))
+rising_growth : (n : ℕ) → ((words : List Text) → Grows (statement n words) (statement (up n) words)) →
+    Growth (statement n) (statement (up n))
 rising_growth n rises = record { rises = rises; keep = phrase_keep (statement_phrase (up n)) }
 
 pub statement_grows : (n : ℕ) (words : List Text) → Grows (statement n words) (statement (up n) words)

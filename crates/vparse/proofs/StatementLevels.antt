@@ -98,11 +98,13 @@ no_target (start.Dump dumping.Flush) = refl
 no_target (start.End true) = refl
 no_target (start.End false) = refl
 
-target_begins : (tree : TargetTree) → fits_target tree ≡ true → (rest : List Text) → is_target (front (spell_target tree ++ rest)) ≡ true
+target_begins : (tree : TargetTree) → fits_target tree ≡ true → (rest : List Text) →
+    is_target (front (spell_target tree ++ rest)) ≡ true
 unfolding begins_target
 target_begins (whole letters) v rest = or_first (is_name letters) _ v
 target_begins (bit letters index) v rest = or_first (is_name letters) _ (and_left (is_name letters) _ v)
-target_begins (part letters left right) v rest = or_first (is_name letters) _ (and_left (is_name letters) _ (and_left _ (fits_expression right) v))
+target_begins (part letters left right) v rest = or_first (is_name letters) _
+    (and_left (is_name letters) _ (and_left _ (fits_expression right) v))
 target_begins (joined targets) v rest = refl
 
 -- lists of trees
@@ -156,32 +158,41 @@ module _ (below : ℕ) (read : Reader StatementTree) (p : Phrase read ends_state
   pub leads_by : (kind : StatementStart) → IsLead ends_statement (statement_by below read kind)
   leads_by start.Empty = ((got_rule empty ends_statement).lawful, ([], (empty, λ rest e. refl)))
   leads_by start.Begin = made_lead block_of block_phrase (parts.block_example below read p)
-  leads_by start.Trigger = lead_room ends_statement below 1 _ (λ level. made_lead trigger_of (loose (parts.trigger_phrase below level))
+  leads_by start.Trigger = lead_room ends_statement below 1 _
+      (λ level. made_lead trigger_of (loose (parts.trigger_phrase below level))
       (parts.trigger_example below level))
   leads_by start.If = lead_room ends_statement below 1 _ (λ level. made_lead if_of (parts.if_phrase below read p level)
       (parts.if_example below read p level))
   leads_by (start.Case kind) = lead_room ends_statement below 1 _ (λ level. made_lead (case_parts_of kind) (case_phrase level)
       (cases.case_example below level read p worded no_colon))
-  leads_by (start.Guarded kind) = lead_room ends_statement below 1 _ (λ level. made_lead (guarded_of kind) (parts.loop_phrase below read p level)
+  leads_by (start.Guarded kind) = lead_room ends_statement below 1 _
+      (λ level. made_lead (guarded_of kind) (parts.loop_phrase below read p level)
       (parts.loop_example below read p level))
-  leads_by start.Forever = lead_room ends_statement below 1 _ (λ level. made_lead forever p (parts.inner_example below read p level))
+  leads_by start.Forever = lead_room ends_statement below 1 _
+      (λ level. made_lead forever p (parts.inner_example below read p level))
   leads_by start.For = lead_room ends_statement below 1 _ (λ level. made_lead for_of (parts.for_phrase below read p level)
       (parts.for_example below read p level))
-  leads_by start.Delay = lead_room ends_statement below 1 _ (λ level. made_lead delayed_of (parts.delayed_phrase below read p level)
+  leads_by start.Delay = lead_room ends_statement below 1 _
+      (λ level. made_lead delayed_of (parts.delayed_phrase below read p level)
       (parts.delayed_example below read p level))
-  leads_by start.Event = lead_room ends_statement below 1 _ (λ level. made_lead event_body_of (parts.event_phrase below read p level)
+  leads_by start.Event = lead_room ends_statement below 1 _
+      (λ level. made_lead event_body_of (parts.event_phrase below read p level)
       (parts.event_example below read p level))
-  leads_by (start.Print printing.Display) = made_lead (optional_print_of printing.Display) (loose (tasks.optional_print_phrase below))
+  leads_by (start.Print printing.Display) = made_lead (optional_print_of printing.Display)
+      (loose (tasks.optional_print_phrase below))
       (tasks.optional_example (tasks.Arg below))
-  leads_by (start.Print printing.Strobe) = made_lead (optional_print_of printing.Strobe) (loose (tasks.optional_print_phrase below))
+  leads_by (start.Print printing.Strobe) = made_lead (optional_print_of printing.Strobe)
+      (loose (tasks.optional_print_phrase below))
       (tasks.optional_example (tasks.Arg below))
   leads_by (start.Print printing.Monitor) = lead_room ends_statement below 1 _ (λ level. made_lead (print_of printing.Monitor)
       (loose (tasks.print_phrase below level)) (tasks.print_example below level))
-  leads_by start.DumpFile = lead_room ends_statement below 1 _ (λ level. made_lead dump_file_of (loose (tasks.dump_file_phrase below))
+  leads_by start.DumpFile = lead_room ends_statement below 1 _
+      (λ level. made_lead dump_file_of (loose (tasks.dump_file_phrase below))
       (tasks.dump_file_example below))
   leads_by start.DumpVars = made_lead dump_vars_of (loose (tasks.dump_vars_phrase below)) (tasks.optional_example selection_shape)
   leads_by (start.Dump kind) = made_lead (dump_of kind) (loose (only_phrase (codes ";"))) (only_example (codes ";"))
-  leads_by (start.End kind) = made_lead (end_of kind) (loose (tasks.end_phrase below)) (tasks.optional_example (tasks.number_shape below))
+  leads_by (start.End kind) = made_lead (end_of kind) (loose (tasks.end_phrase below))
+      (tasks.optional_example (tasks.number_shape below))
 
   leads : (word : Text) → IsLead ends_statement (lead word)
   leads word = by_start (start_of word)
@@ -212,9 +223,11 @@ module _ (below : ℕ) (read : Reader StatementTree) (p : Phrase read ends_state
   sound_by start.For = room_sound Out (codes "for") below 1 _
       (λ level. made_lead_sound for_of (codes "for") Out (parts.for_makes below read p) (parts.for_phrase below read p level))
   sound_by start.Delay = room_sound Out (codes "#") below 1 _
-      (λ level. made_lead_sound delayed_of (codes "#") Out (parts.delayed_makes below read p) (parts.delayed_phrase below read p level))
+      (λ level. made_lead_sound delayed_of (codes "#") Out (parts.delayed_makes below read p)
+      (parts.delayed_phrase below read p level))
   sound_by start.Event = room_sound Out (codes "@") below 1 _
-      (λ level. made_lead_sound event_body_of (codes "@") Out (parts.event_makes below read p level) (parts.event_phrase below read p level))
+      (λ level. made_lead_sound event_body_of (codes "@") Out (parts.event_makes below read p level)
+      (parts.event_phrase below read p level))
   sound_by (start.Print printing.Display) = made_lead_sound (optional_print_of printing.Display) (codes "$display") Out
       (tasks.optional_print_makes below printing.Display refl) (tasks.optional_print_phrase below)
   sound_by (start.Print printing.Strobe) = made_lead_sound (optional_print_of printing.Strobe) (codes "$strobe") Out
@@ -223,10 +236,14 @@ module _ (below : ℕ) (read : Reader StatementTree) (p : Phrase read ends_state
       (λ level. made_lead_sound (print_of printing.Monitor) (codes "$monitor") Out (tasks.print_makes below printing.Monitor)
       (tasks.print_phrase below level))
   sound_by start.DumpFile = room_sound Out (codes "$dumpfile") below 1 _
-      (λ level. made_lead_sound dump_file_of (codes "$dumpfile") Out (tasks.dump_file_makes below level) (tasks.dump_file_phrase below))
-  sound_by start.DumpVars = made_lead_sound dump_vars_of (codes "$dumpvars") Out (tasks.dump_vars_makes below) (tasks.dump_vars_phrase below)
-  sound_by (start.Dump kind) = made_lead_sound (dump_of kind) (start_word (start.Dump kind)) Out (tasks.dump_makes below kind) (only_phrase (codes ";"))
-  sound_by (start.End kind) = made_lead_sound (end_of kind) (start_word (start.End kind)) Out (tasks.end_makes below kind) (tasks.end_phrase below)
+      (λ level. made_lead_sound dump_file_of (codes "$dumpfile") Out (tasks.dump_file_makes below level)
+      (tasks.dump_file_phrase below))
+  sound_by start.DumpVars = made_lead_sound dump_vars_of (codes "$dumpvars") Out (tasks.dump_vars_makes below)
+      (tasks.dump_vars_phrase below)
+  sound_by (start.Dump kind) = made_lead_sound (dump_of kind) (start_word (start.Dump kind)) Out (tasks.dump_makes below kind)
+      (only_phrase (codes ";"))
+  sound_by (start.End kind) = made_lead_sound (end_of kind) (start_word (start.End kind)) Out (tasks.end_makes below kind)
+      (tasks.end_phrase below)
 
   leads_sound : (word : Text) → LeadSound Out word (lead word)
   leads_sound word = by_start (start_of word) (start_told word)
@@ -241,7 +258,8 @@ module _ (below : ℕ) (read : Reader StatementTree) (p : Phrase read ends_state
   roomy_by : (b : Bool) → nat_le 1 below ≡ b → (Lawful (roomy below 1 (assignment below)) ends_statement)
       × (Sound (roomy below 1 (assignment below)) Out)
   roomy_by b is =
-      let P : Bool → Type 0 = λ c. (Lawful {A = StatementTree} (λ words. if c then assignment below words else stop TooDeep words) ends_statement)
+      let P : Bool → Type 0 = λ c.
+      (Lawful {A = StatementTree} (λ words. if c then assignment below words else stop TooDeep words) ends_statement)
       × (Sound {A = StatementTree} (λ words. if c then assignment below words else stop TooDeep words) Out) in
       subst P (sym is) (by_room b is)
     where
@@ -253,7 +271,8 @@ module _ (below : ℕ) (read : Reader StatementTree) (p : Phrase read ends_state
           × (Sound {A = StatementTree} (λ words. if c then assignment below words else stop TooDeep words) Out)
       by_room true level = (
         made_lawful assignment_of (assignment_parts below) ends_statement (loose (parts.assignment_phrase below level)).lawful,
-        made_sound assignment_of (assignment_parts below) _ Out [] (parts.assignment_makes below) (parts.assignment_phrase below level).sound,
+        made_sound assignment_of (assignment_parts below) _ Out [] (parts.assignment_makes below)
+            (parts.assignment_phrase below level).sound,
       )
       by_room false e = (
         λ words. record { before = []; whole = refl; near = λ other f. refl; more = λ f. absurd (below_zero 0 f) },
@@ -266,8 +285,10 @@ module _ (below : ℕ) (read : Reader StatementTree) (p : Phrase read ends_state
   reading_lawful : Lawful reading ends_statement
   reading_lawful words =
       choose_sees is_target (roomy below 1 (assignment below)) (led lead) ends_statement
-      (λ tree ws is e. absurd (below_zero (length ws) (sound_eats (roomy below 1 (assignment below)) Out assignment_laws.1 all_worded ws tree ws is)))
-      (λ tree ws is e. absurd (below_zero (length ws) (sound_eats (led lead) Out (led_sound lead Out leads_sound) all_worded ws tree ws is)))
+      (λ tree ws is e. absurd
+      (below_zero (length ws) (sound_eats (roomy below 1 (assignment below)) Out assignment_laws.1 all_worded ws tree ws is)))
+      (λ tree ws is e. absurd
+      (below_zero (length ws) (sound_eats (led lead) Out (led_sound lead Out leads_sound) all_worded ws tree ws is)))
       words (λ e. assignment_laws.0 words) (λ e. led_sees lead ends_statement leads words)
     where
       below_zero : (n : ℕ) → n < n → ⊥
@@ -287,7 +308,8 @@ module _ (below : ℕ) (read : Reader StatementTree) (p : Phrase read ends_state
   -- Each tree is read
 
   abbrev Reads : StatementTree → List Text → Type 0
-  Reads tree rest = Out.valid tree ≡ true → closes_statement tree (front rest) ≡ true → reading (spell_statement tree ++ rest) ≡ got tree rest
+  Reads tree rest = Out.valid tree ≡ true → closes_statement tree (front rest) ≡ true → reading (spell_statement tree ++ rest)
+      ≡ got tree rest
 
   read_by : {A : Type 0} {r : Reader A} {s : Shape A} {e : _} (kind : StatementStart) (make : A → StatementTree) →
       Makes make s Out (start_word kind ∷ []) → Phrase r e s → statement_by below read kind ≡ goes (made make r) →
@@ -295,7 +317,8 @@ module _ (below : ℕ) (read : Reader StatementTree) (p : Phrase read ends_state
   read_by {r = r} {s = s} kind make m q is tree rest v c =
       let behind : List Text = s.spell tree ++ rest in
       ap (λ ws. reading (ws ++ rest)) (m.spelled tree)
-      ∙ passed_over (is_target (Some (start_word kind))) (roomy below 1 (assignment below) (start_word kind ∷ behind)) _ (no_target kind)
+      ∙ passed_over (is_target (Some (start_word kind))) (roomy below 1 (assignment below) (start_word kind ∷ behind)) _
+      (no_target kind)
       ∙ ap (λ o. follow (lead_by below read o) (start_word kind) behind) (start_found kind)
       ∙ ap (λ l. follow l (start_word kind) behind) is
       ∙ made_complete make r s Out (start_word kind ∷ []) m q.complete tree rest v c
@@ -304,7 +327,8 @@ module _ (below : ℕ) (read : Reader StatementTree) (p : Phrase read ends_state
   room_read : {A : Type 0} {r : Reader A} {s : Shape A} {e : _} (kind : StatementStart) (make : A → StatementTree) →
       Makes make s Out (start_word kind ∷ []) → Phrase r e s → statement_by below read kind ≡ room below 1 (goes (made make r)) →
       nat_le 1 below ≡ true → (tree : A) (rest : List Text) → Reads (make tree) rest
-  room_read {r = r} kind make m q is level tree rest = read_by kind make m q (is ∙ roomy_lead below 1 (made make r) level) tree rest
+  room_read {r = r} kind make m q is level tree rest = read_by kind make m q
+      (is ∙ roomy_lead below 1 (made make r) level) tree rest
 
   assigned : (tree : Assignment) (rest : List Text) → (target : TargetTree) → fits_target target ≡ true →
       (later : List Text) → spell_statement (assignment_of tree) ≡ spell_target target ++ later →
@@ -316,26 +340,34 @@ module _ (below : ℕ) (read : Reader StatementTree) (p : Phrase read ends_state
       ∙ target_begins target fits (later ++ rest))
       ∙ chosen (nat_le 1 below) (assignment below (spell_statement (assignment_of tree) ++ rest)) _ level
       ∙ ap (λ ws. assignment below (ws ++ rest)) ((parts.assignment_makes below).spelled tree)
-      ∙ made_complete assignment_of (assignment_parts below) _ Out [] (parts.assignment_makes below) (parts.assignment_phrase below level).complete
+      ∙ made_complete assignment_of (assignment_parts below) _ Out [] (parts.assignment_makes below)
+      (parts.assignment_phrase below level).complete
       tree rest v c
 
-  assignment_level : (tree : TargetTree) (other : ℕ) (fits : Bool) → (fits && nat_le (1 + max (target_depth tree) other) (suc below)) ≡ true →
+  assignment_level : (tree : TargetTree) (other : ℕ) (fits : Bool) →
+      (fits && nat_le (1 + max (target_depth tree) other) (suc below)) ≡ true →
       nat_le 1 below ≡ true
   assignment_level tree other fits v =
       some_level (target_depth tree) below (target_deep tree)
-      (and_left (nat_le (target_depth tree) below) (nat_le other below) (sym (two_up (target_depth tree) other below) ∙ and_right fits _ v))
+      (and_left (nat_le (target_depth tree) below) (nat_le other below)
+      (sym (two_up (target_depth tree) other below) ∙ and_right fits _ v))
 
-  body_level : (body : StatementTree) (fits : Bool) → (fits && nat_le (1 + statement_depth body) (suc below)) ≡ true → nat_le 1 below ≡ true
+  body_level : (body : StatementTree) (fits : Bool) → (fits && nat_le (1 + statement_depth body) (suc below)) ≡ true →
+      nat_le 1 below ≡ true
   body_level body fits v =
-      some_level (statement_depth body) below (statement_deep body) (sym (one_up (statement_depth body) below) ∙ and_right fits _ v)
+      some_level (statement_depth body) below (statement_deep body)
+      (sym (one_up (statement_depth body) below) ∙ and_right fits _ v)
 
-  last_level : (body : StatementTree) (other : ℕ) (fits : Bool) → (fits && nat_le (1 + max other (statement_depth body)) (suc below)) ≡ true →
+  last_level : (body : StatementTree) (other : ℕ) (fits : Bool) →
+      (fits && nat_le (1 + max other (statement_depth body)) (suc below)) ≡ true →
       nat_le 1 below ≡ true
   last_level body other fits v =
       some_level (statement_depth body) below (statement_deep body)
-      (and_right (nat_le other below) (nat_le (statement_depth body) below) (sym (two_up other (statement_depth body) below) ∙ and_right fits _ v))
+      (and_right (nat_le other below) (nat_le (statement_depth body) below)
+      (sym (two_up other (statement_depth body) below) ∙ and_right fits _ v))
 
-  first_level : (tree : ExpressionTree) (other : ℕ) (fits : Bool) → (fits && nat_le (1 + max (depth tree) other) (suc below)) ≡ true →
+  first_level : (tree : ExpressionTree) (other : ℕ) (fits : Bool) → (fits && nat_le (1 + max (depth tree) other) (suc below))
+      ≡ true →
       nat_le 1 below ≡ true
   first_level tree other fits v =
       some_level (depth tree) below (depth_positive tree)
@@ -358,11 +390,13 @@ module _ (below : ℕ) (read : Reader StatementTree) (p : Phrase read ends_state
       subst (λ ts. Reads (block ts) rest) (statements_back trees)
       (read_by start.Begin block_of (parts.block_makes below read p) block_phrase refl (both (statements_of trees) tt) rest)
 
-  case_read : (kind : _) (tree : ExpressionTree) (one : BranchTree) (more : BranchTrees) (rest : List Text) → nat_le 1 below ≡ true →
+  case_read : (kind : _) (tree : ExpressionTree) (one : BranchTree) (more : BranchTrees) (rest : List Text) → nat_le 1 below
+      ≡ true →
       Reads (case_of kind tree (first_branch one more)) rest
   case_read kind tree one more rest level =
       subst (λ bs. Reads (case_of kind tree (first_branch one bs)) rest) (branches_back more)
-      (room_read (start.Case kind) (case_parts_of kind) (cases.case_makes below level read p worded no_colon kind) (case_phrase level) refl level
+      (room_read (start.Case kind) (case_parts_of kind) (cases.case_makes below level read p worded no_colon kind)
+      (case_phrase level) refl level
       (both tree (both (both one (branches_of more)) tt)) rest)
 
   false_true : false ≡ true → ⊥
@@ -373,17 +407,22 @@ module _ (below : ℕ) (read : Reader StatementTree) (p : Phrase read ends_state
 
   task_read : (call : TaskTree) (rest : List Text) → Reads (task call) rest
   task_read (print printing.Display []) rest =
-      read_by (start.Print printing.Display) (optional_print_of printing.Display) (tasks.optional_print_makes below printing.Display refl)
+      read_by (start.Print printing.Display) (optional_print_of printing.Display)
+      (tasks.optional_print_makes below printing.Display refl)
       (tasks.optional_print_phrase below) refl (both None tt) rest
   task_read (print printing.Strobe []) rest =
-      read_by (start.Print printing.Strobe) (optional_print_of printing.Strobe) (tasks.optional_print_makes below printing.Strobe refl)
+      read_by (start.Print printing.Strobe) (optional_print_of printing.Strobe)
+      (tasks.optional_print_makes below printing.Strobe refl)
       (tasks.optional_print_phrase below) refl (both None tt) rest
-  task_read (print printing.Monitor []) rest = λ v c. absurd (false_true (and_left false true (and_left _ (nat_le (1 + 0) (suc below)) v)))
+  task_read (print printing.Monitor []) rest = λ v c. absurd
+      (false_true (and_left false true (and_left _ (nat_le (1 + 0) (suc below)) v)))
   task_read (print printing.Display (one ∷ more)) rest =
-      read_by (start.Print printing.Display) (optional_print_of printing.Display) (tasks.optional_print_makes below printing.Display refl)
+      read_by (start.Print printing.Display) (optional_print_of printing.Display)
+      (tasks.optional_print_makes below printing.Display refl)
       (tasks.optional_print_phrase below) refl (both (Some (both (both one more) tt)) tt) rest
   task_read (print printing.Strobe (one ∷ more)) rest =
-      read_by (start.Print printing.Strobe) (optional_print_of printing.Strobe) (tasks.optional_print_makes below printing.Strobe refl)
+      read_by (start.Print printing.Strobe) (optional_print_of printing.Strobe)
+      (tasks.optional_print_makes below printing.Strobe refl)
       (tasks.optional_print_phrase below) refl (both (Some (both (both one more) tt)) tt) rest
   task_read (print printing.Monitor (one ∷ more)) rest = λ v c.
       let level = tasks.arguments_level below (both (both one more) tt)
@@ -392,20 +431,24 @@ module _ (below : ℕ) (read : Reader StatementTree) (p : Phrase read ends_state
       (tasks.print_phrase below level) refl level (both (both (both one more) tt) tt) rest v c
   task_read (dump_file letters) rest = λ v c.
       let level = two_level (is_string letters) v in
-      room_read start.DumpFile dump_file_of (tasks.dump_file_makes below level) (tasks.dump_file_phrase below) refl level (both letters tt) rest v c
+      room_read start.DumpFile dump_file_of (tasks.dump_file_makes below level) (tasks.dump_file_phrase below) refl level
+      (both letters tt) rest v c
   task_read (dump_vars selected) rest =
-      read_by start.DumpVars dump_vars_of (tasks.dump_vars_makes below) (tasks.dump_vars_phrase below) refl (both selected tt) rest
+      read_by start.DumpVars dump_vars_of (tasks.dump_vars_makes below) (tasks.dump_vars_phrase below) refl
+      (both selected tt) rest
   task_read (dump kind) rest =
       read_by (start.Dump kind) (dump_of kind) (tasks.dump_makes below kind) (only_phrase (codes ";")) refl tt rest
   task_read (end_run kind None) rest =
       read_by (start.End kind) (end_of kind) (tasks.end_makes below kind) (tasks.end_phrase below) refl (both None tt) rest
   task_read (end_run kind (Some digits)) rest =
-      read_by (start.End kind) (end_of kind) (tasks.end_makes below kind) (tasks.end_phrase below) refl (both (Some (both digits tt)) tt) rest
+      read_by (start.End kind) (end_of kind) (tasks.end_makes below kind) (tasks.end_phrase below) refl
+      (both (Some (both digits tt)) tt) rest
 
   loop_read : (kind : Guard) (tree : ExpressionTree) (body : StatementTree) (rest : List Text) → nat_le 1 below ≡ true →
       Reads (guarded_of kind (both tree body)) rest
   loop_read kind tree body rest level =
-      room_read (start.Guarded kind) (guarded_of kind) (parts.loop_makes below read p kind) (parts.loop_phrase below read p level) refl level
+      room_read (start.Guarded kind) (guarded_of kind) (parts.loop_makes below read p kind)
+      (parts.loop_phrase below read p level) refl level
       (both tree body) rest
 
   reading_complete : (tree : StatementTree) (rest : List Text) → Reads tree rest
@@ -415,16 +458,20 @@ module _ (below : ℕ) (read : Reader StatementTree) (p : Phrase read ends_state
   reading_complete (block trees) rest v c = block_read trees rest v c
   reading_complete (assign target wait right) rest v c =
       assigned (both target (both false (both wait (both right tt)))) rest target
-      (and_left (fits_target target) _ (and_left _ (fits_expression right) (and_left _ _ v))) _ refl (assignment_level target _ _ v) v c
+      (and_left (fits_target target) _ (and_left _ (fits_expression right) (and_left _ _ v))) _ refl
+      (assignment_level target _ _ v) v c
   reading_complete (nonblocking target wait right) rest v c =
       assigned (both target (both true (both wait (both right tt)))) rest target
-      (and_left (fits_target target) _ (and_left _ (fits_expression right) (and_left _ _ v))) _ refl (assignment_level target _ _ v) v c
+      (and_left (fits_target target) _ (and_left _ (fits_expression right) (and_left _ _ v))) _ refl
+      (assignment_level target _ _ v) v c
   reading_complete (trigger letters) rest v c =
       let level = two_level (is_name letters) v in
-      room_read start.Trigger trigger_of (parts.trigger_makes below level) (parts.trigger_phrase below level) refl level (both letters tt) rest v c
+      room_read start.Trigger trigger_of (parts.trigger_makes below level) (parts.trigger_phrase below level) refl level
+      (both letters tt) rest v c
   reading_complete (if_true condition body) rest v c =
       let level = first_level condition (statement_depth body) (fits_expression condition && fits_statement body) v in
-      room_read start.If if_of (parts.if_makes below read p) (parts.if_phrase below read p level) refl level (both condition (both body None)) rest v c
+      room_read start.If if_of (parts.if_makes below read p) (parts.if_phrase below read p level) refl level
+      (both condition (both body None)) rest v c
   reading_complete (if_else condition body otherwise) rest v c =
       let level = first_level condition (max (statement_depth body) (statement_depth otherwise)) _ v in
       room_read start.If if_of (parts.if_makes below read p) (parts.if_phrase below read p level) refl level
@@ -434,11 +481,14 @@ module _ (below : ℕ) (read : Reader StatementTree) (p : Phrase read ends_state
   reading_complete (case_of kind tree (first_branch one more)) rest v c =
       case_read kind tree one more rest (first_level tree _ _ v) v c
   reading_complete (while_true tree body) rest v c =
-      loop_read guard.While tree body rest (first_level tree (statement_depth body) (fits_expression tree && fits_statement body) v) v c
+      loop_read guard.While tree body rest
+      (first_level tree (statement_depth body) (fits_expression tree && fits_statement body) v) v c
   reading_complete (repeat_times tree body) rest v c =
-      loop_read guard.Repeat tree body rest (first_level tree (statement_depth body) (fits_expression tree && fits_statement body) v) v c
+      loop_read guard.Repeat tree body rest
+      (first_level tree (statement_depth body) (fits_expression tree && fits_statement body) v) v c
   reading_complete (wait_for tree body) rest v c =
-      loop_read guard.Wait tree body rest (first_level tree (statement_depth body) (fits_expression tree && fits_statement body) v) v c
+      loop_read guard.Wait tree body rest
+      (first_level tree (statement_depth body) (fits_expression tree && fits_statement body) v) v c
   reading_complete (forever body) rest v c =
       let level = body_level body (fits_statement body) v in
       room_read start.Forever forever (parts.forever_makes below read p) p refl level body rest v c
@@ -448,11 +498,13 @@ module _ (below : ℕ) (read : Reader StatementTree) (p : Phrase read ends_state
       (both (both target right) (both condition (both (both next next_right) body))) rest v c
   reading_complete (delay wait body) rest v c =
       let level = last_level body _ _ v in
-      room_read start.Delay delayed_of (parts.delayed_makes below read p) (parts.delayed_phrase below read p level) refl level (both wait body)
+      room_read start.Delay delayed_of (parts.delayed_makes below read p) (parts.delayed_phrase below read p level) refl level
+      (both wait body)
       rest v c
   reading_complete (event kind body) rest v c =
       let level = last_level body _ _ v in
-      room_read start.Event event_body_of (parts.event_makes below read p level) (parts.event_phrase below read p level) refl level
+      room_read start.Event event_body_of (parts.event_makes below read p level)
+      (parts.event_phrase below read p level) refl level
       (both kind body) rest v c
   reading_complete (task call) rest v c = task_read call rest v c
 
@@ -473,7 +525,8 @@ statement_zero = record {
       (λ word. lead_if ends_statement (begins_statement word) lower refused tt tt);
   sound = led_sound (λ word. if begins_statement word then lower else refused) (statement_shape 0)
       (λ word. if_sound (statement_shape 0) word (begins_statement word) lower refused (λ e. tt) tt);
-  complete = λ tree rest v c. absurd (no_level (statement_depth tree) (statement_deep tree) (and_right (fits_statement tree) _ v));
+  complete = λ tree rest v c. absurd
+      (no_level (statement_depth tree) (statement_deep tree) (and_right (fits_statement tree) _ v));
   closed = statement_closed;
 }
   where
@@ -484,13 +537,15 @@ statement_zero = record {
         none d p = grind (arith, nat_tests)
 
 -- a word that begins no statement is refused
-pub statement_refuses : (n : ℕ) (word : Text) → begins_statement word ≡ false → (words : List Text) (tree : StatementTree) (left : List Text) →
+pub statement_refuses : (n : ℕ) (word : Text) → begins_statement word ≡ false →
+    (words : List Text) (tree : StatementTree) (left : List Text) →
     statement n (word ∷ words) ≡ got tree left → ⊥
 unfolding statement
 statement_refuses zero word none words tree left e =
     stop_got (sym (ap (λ (b : Bool). follow (if b then lower else refused) word words) none) ∙ e)
 statement_refuses (suc below) word none words tree left e =
-    stop_got (sym (passed_over (begins_target word) (roomy below 1 (assignment below) (word ∷ words)) _ (or_left (begins_target word) _ none)
+    stop_got (sym (passed_over (begins_target word) (roomy below 1 (assignment below) (word ∷ words)) _
+    (or_left (begins_target word) _ none)
     ∙ by_start (start_of word) (or_right (begins_target word) _ none)) ∙ e)
   where
     by_start : (o : Option StatementStart) → is_some_meaning o ≡ false →
@@ -498,7 +553,8 @@ statement_refuses (suc below) word none words tree left e =
     by_start None f = refl
     by_start (Some kind) f = let absent : true ≡ false = f in absurd cc
 
-no_words : (begins_statement (codes "end") ≡ false) × (begins_statement (codes "else") ≡ false) × (begins_statement (codes ":") ≡ false)
+no_words : (begins_statement (codes "end") ≡ false) × (begins_statement (codes "else") ≡ false) ×
+    (begins_statement (codes ":") ≡ false)
 unfolding begins_target start_of reserved_words
 no_words = (refl, refl, refl)
 
@@ -515,7 +571,8 @@ unfolding statement
 statement_phrase zero = statement_zero
 statement_phrase (suc below) =
     reading_phrase below (statement below) (statement_phrase below)
-    (unbegun below (statement_phrase below) (codes "end") no_words.0) (unbegun below (statement_phrase below) (codes "else") no_words.1)
+    (unbegun below (statement_phrase below) (codes "end") no_words.0)
+    (unbegun below (statement_phrase below) (codes "else") no_words.1)
     (unbegun below (statement_phrase below) (codes ":") no_words.2)
 
 pub statement_leads : (n : ℕ) (kind : StatementStart) → IsLead ends_statement (statement_by n (statement n) kind)

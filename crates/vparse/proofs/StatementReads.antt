@@ -26,7 +26,8 @@ reads_soundly levels words tree left e =
 pub reads_completely : ReadsCompletely
 reads_completely levels tree before left x e =
     ap (λ ws. statement levels (ws ++ left)) (sym x.spelled)
-    ∙ (statement_phrase levels).complete tree left (and_both (fits_statement tree) (nat_le (statement_depth tree) levels) x.fitting x.within) e
+    ∙ (statement_phrase levels).complete tree left
+    (and_both (fits_statement tree) (nat_le (statement_depth tree) levels) x.fitting x.within) e
 
 -- the text's end ends a statement
 pub end_ends : (tree : StatementTree) → ends_tree tree None ≡ true
@@ -36,7 +37,8 @@ end_ends tree = by_test (ends_in_if tree)
     by_test true = refl
     by_test false = refl
 
-pub read_whole : (levels : ℕ) (tree : StatementTree) (words : List Text) → IsStatement levels tree words → statement levels words ≡ got tree []
+pub read_whole : (levels : ℕ) (tree : StatementTree) (words : List Text) → IsStatement levels tree words →
+    statement levels words ≡ got tree []
 read_whole levels tree words x =
     ap (statement levels) (sym (append-nil words)) ∙ reads_completely levels tree words [] x (end_ends tree)
 

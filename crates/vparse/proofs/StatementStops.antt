@@ -86,7 +86,8 @@ stops_for_good below words left e =
       none = λ more above other tree same x. none_more s.before (λ o f. s.near o f) more above other tree same x;
     }
   where
-    none_more : (before : List Text) → ((other : List Text) → front other ≡ front left → statement (suc below) (before ++ other) ≡ stop NoTree other) →
+    none_more : (before : List Text) →
+        ((other : List Text) → front other ≡ front left → statement (suc below) (before ++ other) ≡ stop NoTree other) →
         (more : ℕ) → suc below ≤ more → BeginsNone more before left
     none_more before near more above other tree same x =
         stop_got (sym (stays more below (before ++ other) other (near other same))

@@ -34,22 +34,26 @@ optional_phrase : {A : Type 0} {read : Reader A} {s : Shape A} → Phrase read a
     ((tree : A) → s.valid tree ≡ true → 0 < length (s.spell tree)) →
     ((tree : A) → s.valid tree ≡ true → (rest : List Text) → open_next (front (s.spell tree ++ rest)) ≡ true) →
     Phrase (paired (maybe open_next read) (word_only (codes ";"))) always (optional_shape s)
-optional_phrase p some begins = before_phrase (codes ";") (maybe_phrase open_next p some begins) (nothing_phrase always) nothing_example refl
+optional_phrase p some begins = before_phrase (codes ";") (maybe_phrase open_next p some begins)
+    (nothing_phrase always) nothing_example refl
 
 pub optional_example : {A : Type 0} (s : Shape A) → Example (optional_shape s)
 optional_example s = record { tree = both None tt; valid = refl }
 
-optional_closes : {A : Type 0} (s : Shape A) (tree : Both (Option A) (Unit {0})) (next : Option Text) → (optional_shape s).closes tree next ≡ true
+optional_closes : {A : Type 0} (s : Shape A) (tree : Both (Option A) (Unit {0})) (next : Option Text) →
+    (optional_shape s).closes tree next ≡ true
 optional_closes s (both tree end) next = refl
 
 -- what is printed
 
 arguments_within : (below : ℕ) (one : ArgumentTree) (more : List ArgumentTree) →
     (list_all fits_argument (one ∷ more) && nat_le (1 + arguments_depth (one ∷ more)) (suc below))
-    ≡ (((fits_argument one && nat_le (argument_depth one) below) && list_all (λ tree. fits_argument tree && nat_le (argument_depth tree) below) more))
+    ≡ (((fits_argument one && nat_le (argument_depth one) below) && list_all
+    (λ tree. fits_argument tree && nat_le (argument_depth tree) below) more))
 arguments_within below one more =
     ap (λ b. list_all fits_argument (one ∷ more) && b) (one_up (arguments_depth (one ∷ more)) below)
-    ∙ all_within fits_argument argument_depth (list_all fits_argument) arguments_depth refl refl (λ tree more. refl) (λ tree more. refl) below
+    ∙ all_within fits_argument argument_depth (list_all fits_argument) arguments_depth refl refl (λ tree more. refl)
+    (λ tree more. refl) below
     (one ∷ more)
 
 some_arguments : (kind : Printing) (one : ArgumentTree) (more : List ArgumentTree) → fits_print kind (one ∷ more) ≡ true
@@ -65,10 +69,12 @@ module _ (below : ℕ) where
   Arg = past_shape (codes "(") (paired_shape (comma_shape (ends 0) (argument_shape below)) (only_shape (codes ")")))
 
   print_valid : (kind : Printing) (one : ArgumentTree) (more : List ArgumentTree) →
-      ((fits_print kind (one ∷ more) && list_all fits_argument (one ∷ more)) && nat_le (1 + arguments_depth (one ∷ more)) (suc below))
+      ((fits_print kind (one ∷ more) && list_all fits_argument (one ∷ more)) && nat_le (1 + arguments_depth (one ∷ more))
+      (suc below))
       ≡ Arg.valid (both (both one more) tt)
   print_valid kind one more =
-      ap (λ b. (b && list_all fits_argument (one ∷ more)) && nat_le (1 + arguments_depth (one ∷ more)) (suc below)) (some_arguments kind one more)
+      ap (λ b. (b && list_all fits_argument (one ∷ more)) && nat_le (1 + arguments_depth (one ∷ more)) (suc below))
+      (some_arguments kind one more)
       ∙ arguments_within below one more
       ∙ ap (λ b. (fits_argument one && nat_le (argument_depth one) below) && b)
       (sym (allows_each (λ tree. fits_argument tree && nat_le (argument_depth tree) below) [] more))
@@ -96,7 +102,8 @@ module _ (below : ℕ) where
   pub print_makes : (kind : Printing) → Makes (print_of kind) print_shape Out (print_word kind ∷ [])
   print_makes kind = record { spelled = spelled; valid = valid; closes = λ tree next e. closes tree next; stops = λ tree next e. stops tree next }
     where
-      spelled : (tree : Both Arguments (Unit {0})) → spell_statement (print_of kind tree) ≡ print_word kind ∷ print_shape.spell tree
+      spelled : (tree : Both Arguments (Unit {0})) → spell_statement (print_of kind tree)
+          ≡ print_word kind ∷ print_shape.spell tree
       spelled (both (both (both one more) closing) end) = refl
 
       valid : (tree : Both Arguments (Unit {0})) → Out.valid (print_of kind tree) ≡ print_shape.valid tree
@@ -113,12 +120,14 @@ module _ (below : ℕ) where
   pub optional_print_phrase : Phrase (paired (maybe open_next (roomy below 1 (arguments below))) (word_only (codes ";"))) always
       (optional_shape Arg)
   optional_print_phrase =
-      optional_phrase (roomy_phrase below 1 (λ level. arguments_phrase below level) arguments_level closed) (λ tree v. positive _) (λ tree v rest. refl)
+      optional_phrase (roomy_phrase below 1 (λ level. arguments_phrase below level) arguments_level closed)
+      (λ tree v. positive _) (λ tree v rest. refl)
     where
       closed : (tree : Arguments) (next : Option Text) → always next ≡ true → Arg.closes tree next ≡ true
       closed (both list end) next e = refl
 
-  pub optional_print_makes : (kind : Printing) → fits_print kind [] ≡ true → Makes (optional_print_of kind) (optional_shape Arg) Out
+  pub optional_print_makes : (kind : Printing) → fits_print kind [] ≡ true →
+      Makes (optional_print_of kind) (optional_shape Arg) Out
       (print_word kind ∷ [])
   optional_print_makes kind none = record {
     spelled = spelled;
@@ -132,11 +141,13 @@ module _ (below : ℕ) where
       spelled (both None end) = refl
       spelled (both (Some (both (both one more) closing)) end) = refl
 
-      valid : (tree : Both (Option Arguments) (Unit {0})) → Out.valid (optional_print_of kind tree) ≡ (optional_shape Arg).valid tree
+      valid : (tree : Both (Option Arguments) (Unit {0})) → Out.valid (optional_print_of kind tree)
+          ≡ (optional_shape Arg).valid tree
       valid (both None end) = ap (λ b. (b && true) && nat_le (1 + 0) (suc below)) none ∙ one_within below
       valid (both (Some (both (both one more) closing)) end) = print_valid kind one more ∙ sym (and_true _)
 
-      stops : (tree : Both (Option Arguments) (Unit {0})) (next : Option Text) → closes_statement (optional_print_of kind tree) next ≡ true
+      stops : (tree : Both (Option Arguments) (Unit {0})) (next : Option Text) →
+          closes_statement (optional_print_of kind tree) next ≡ true
       stops (both None end) next = refl
       stops (both (Some (both (both one more) closing)) end) next = refl
 
@@ -150,7 +161,8 @@ module _ (below : ℕ) where
 
   pub dump_file_phrase : Phrase dump_file_parts always dump_file_shape
   dump_file_phrase =
-      past_phrase (codes "(") (before_phrase (codes ")") (word_if_phrase is_string) (only_phrase (codes ";")) (only_example (codes ";")) refl)
+      past_phrase (codes "(") (before_phrase (codes ")") (word_if_phrase is_string) (only_phrase (codes ";"))
+      (only_example (codes ";")) refl)
       (paired_example a_string (past_example (codes ")") (only_example (codes ";"))))
 
   pub dump_file_example : Example dump_file_shape
@@ -159,7 +171,8 @@ module _ (below : ℕ) where
   pub dump_file_makes : nat_le 1 below ≡ true → Makes dump_file_of dump_file_shape Out (codes "$dumpfile" ∷ [])
   dump_file_makes level = record { spelled = spelled; valid = valid; closes = λ tree next e. closes tree next; stops = λ tree next e. stops tree next }
     where
-      spelled : (tree : Both Text (Unit {0})) → spell_statement (dump_file_of tree) ≡ codes "$dumpfile" ∷ dump_file_shape.spell tree
+      spelled : (tree : Both Text (Unit {0})) → spell_statement (dump_file_of tree)
+          ≡ codes "$dumpfile" ∷ dump_file_shape.spell tree
       spelled (both letters end) = refl
 
       valid : (tree : Both Text (Unit {0})) → Out.valid (dump_file_of tree) ≡ dump_file_shape.valid tree
@@ -173,7 +186,8 @@ module _ (below : ℕ) where
 
   -- $dumpvars
 
-  pub dump_vars_phrase : Phrase (paired (maybe open_next selection) (word_only (codes ";"))) always (optional_shape selection_shape)
+  pub dump_vars_phrase : Phrase (paired (maybe open_next selection) (word_only (codes ";"))) always
+      (optional_shape selection_shape)
   dump_vars_phrase = optional_phrase selection_phrase (λ tree v. positive _) (λ tree v rest. refl)
 
   pub dump_vars_makes : Makes dump_vars_of (optional_shape selection_shape) Out (codes "$dumpvars" ∷ [])
@@ -189,11 +203,13 @@ module _ (below : ℕ) where
       spelled (both None end) = refl
       spelled (both (Some selected) end) = refl
 
-      valid : (tree : Both (Option SelectionTree) (Unit {0})) → Out.valid (dump_vars_of tree) ≡ (optional_shape selection_shape).valid tree
+      valid : (tree : Both (Option SelectionTree) (Unit {0})) → Out.valid (dump_vars_of tree)
+          ≡ (optional_shape selection_shape).valid tree
       valid (both None end) = one_within below
       valid (both (Some selected) end) = ap (λ b. fits_selection (Some selected) && b) (one_within below)
 
-      stops : (tree : Both (Option SelectionTree) (Unit {0})) (next : Option Text) → closes_statement (dump_vars_of tree) next ≡ true
+      stops : (tree : Both (Option SelectionTree) (Unit {0})) (next : Option Text) → closes_statement (dump_vars_of tree) next
+          ≡ true
       stops (both None end) next = refl
       stops (both (Some selected) end) next = refl
 
@@ -232,11 +248,13 @@ module _ (below : ℕ) where
       spelled (both None end) = refl
       spelled (both (Some (both digits closing)) end) = refl
 
-      valid : (tree : Both (Option (Both Text (Unit {0}))) (Unit {0})) → Out.valid (end_of stop_it tree) ≡ (optional_shape number_shape).valid tree
+      valid : (tree : Both (Option (Both Text (Unit {0}))) (Unit {0})) → Out.valid (end_of stop_it tree)
+          ≡ (optional_shape number_shape).valid tree
       valid (both None end) = one_within below
       valid (both (Some (both digits closing)) end) =
           ap (λ b. is_number digits && b) (one_within below) ∙ sym (and_true (is_number digits && true))
 
-      stops : (tree : Both (Option (Both Text (Unit {0}))) (Unit {0})) (next : Option Text) → closes_statement (end_of stop_it tree) next ≡ true
+      stops : (tree : Both (Option (Both Text (Unit {0}))) (Unit {0})) (next : Option Text) →
+          closes_statement (end_of stop_it tree) next ≡ true
       stops (both None end) next = refl
       stops (both (Some (both digits closing)) end) next = refl

@@ -46,9 +46,11 @@ as_written spell (one ∷ more) word tree e = by_test (bytes_eq (spell one) word
     by_test false is later e = later e
 
 -- a word that the reader refuses begins no tree
-pub refused_first : {A : Type 0} (test : Option Text → Bool) {read : Reader A} {ends : Ends} {s : Shape A} → Phrase read ends s → Worded s →
+pub refused_first : {A : Type 0} (test : Option Text → Bool) {read : Reader A} {ends : Ends} {s : Shape A} →
+    Phrase read ends s → Worded s →
     ends None ≡ true →
-    ((word : Text) (words : List Text) (tree : A) (left : List Text) → test (Some word) ≡ true → read (word ∷ words) ≡ got tree left → ⊥) →
+    ((word : Text) (words : List Text) (tree : A) (left : List Text) → test (Some word) ≡ true → read (word ∷ words)
+    ≡ got tree left → ⊥) →
     Tested test false s
 refused_first test {read = read} {s = s} p some end refuses tree v rest = by_words (s.spell tree) (some tree v)
     (p.complete tree [] v (p.closed tree None end))
@@ -66,7 +68,8 @@ pub value_refuses : (n : ℕ) (word : Text) → beginning_of word ≡ start.Othe
 unfolding expression
 value_refuses zero word is words tree left e = stop_got e
 value_refuses (suc below) word is words tree left e =
-    stop_got (sym (ap (λ b. and_then (follow (primary_by below (expression below) word b) word words) (onward below (expression below) 0)) is) ∙ e)
+    stop_got (sym (ap (λ b. and_then (follow (primary_by below (expression below) word b) word words)
+    (onward below (expression below) 0)) is) ∙ e)
 
 pub string_is_other : (word : Text) → is_string word ≡ true → beginning_of word ≡ start.Other
 unfolding beginning_of unary_of

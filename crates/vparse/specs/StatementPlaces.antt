@@ -19,7 +19,8 @@ BeginsOne levels words = (after : List Text) × (tree : StatementTree) × IsStat
 
 -- with the word that stands first here behind them, or with their end where none does, they begin no statement
 abbrev pub BeginsNone : ℕ → List Text → List Text → Type 0
-BeginsNone levels before left = (other : List Text) (tree : StatementTree) → front other ≡ front left → IsStatement levels tree (before ++ other) → ⊥
+BeginsNone levels before left = (other : List Text) (tree : StatementTree) → front other ≡ front left →
+    IsStatement levels tree (before ++ other) → ⊥
 
 -- The words before the place begin a statement, and with the word at it they begin none. The text's end counts as a word.
 pub record IsPlace (levels : ℕ) (words left : List Text) : Type 0 where
@@ -47,7 +48,8 @@ pub record IsDeeper (levels : ℕ) (words left : List Text) : Type 0 where
 
 -- what is read is a statement, at the front of the words, and it has ended
 abbrev pub ReadsSoundly : Type 0
-ReadsSoundly = (levels : ℕ) (words : List Text) (tree : StatementTree) (left : List Text) → statement levels words ≡ got tree left →
+ReadsSoundly = (levels : ℕ) (words : List Text) (tree : StatementTree) (left : List Text) → statement levels words
+    ≡ got tree left →
     (before : List Text) × (words ≡ before ++ left) × IsStatement levels tree before × (ends_tree tree (front left) ≡ true)
 
 -- a statement is read, where what follows ends it
@@ -57,15 +59,19 @@ ReadsCompletely = (levels : ℕ) (tree : StatementTree) (before left : List Text
 
 -- words are those of one tree at most
 abbrev pub IsOnly : Type 0
-IsOnly = (levels : ℕ) (words : List Text) (tree other : StatementTree) → IsStatement levels tree words → IsStatement levels other words →
+IsOnly = (levels : ℕ) (words : List Text) (tree other : StatementTree) → IsStatement levels tree words →
+    IsStatement levels other words →
     tree ≡ other
 
 -- a word is refused at the place of the words, and for good or for want of levels alone
 abbrev pub StopsAtPlace : Type 0
-StopsAtPlace = (below : ℕ) (words left : List Text) (why : Stop) → statement (suc below) words ≡ stop why left → IsPlace (suc below) words left
+StopsAtPlace = (below : ℕ) (words left : List Text) (why : Stop) → statement (suc below) words ≡ stop why left →
+    IsPlace (suc below) words left
 
 abbrev pub StopsForGood : Type 0
-StopsForGood = (below : ℕ) (words left : List Text) → statement (suc below) words ≡ stop NoTree left → IsRefused (suc below) words left
+StopsForGood = (below : ℕ) (words left : List Text) → statement (suc below) words ≡ stop NoTree left →
+    IsRefused (suc below) words left
 
 abbrev pub StopsTooDeep : Type 0
-StopsTooDeep = (below : ℕ) (words left : List Text) → statement (suc below) words ≡ stop TooDeep left → IsDeeper (suc below) words left
+StopsTooDeep = (below : ℕ) (words left : List Text) → statement (suc below) words ≡ stop TooDeep left →
+    IsDeeper (suc below) words left

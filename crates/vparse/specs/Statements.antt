@@ -59,7 +59,8 @@ target_of letters (Some (both left (one_way (both right end)))) = part letters l
 target_of letters (Some (both index (other_way end))) = bit letters index
 
 abbrev pub named_target : ℕ → Text → Reader TargetTree
-named_target below letters = made (target_of letters) (maybe (is_front (codes "[")) (roomy below 1 (past (codes "[") (select below))))
+named_target below letters = made (target_of letters)
+    (maybe (is_front (codes "[")) (roomy below 1 (past (codes "[") (select below))))
 
 abbrev pub targets_in : List TargetTree → TargetTrees
 targets_in [] = none
@@ -104,7 +105,8 @@ abbrev pub Assignment : Type 0
 Assignment = Both TargetTree (Both Bool (Both (Option DelayTree) (Both ExpressionTree (Unit {0}))))
 
 abbrev pub assignment_of : Assignment → StatementTree
-assignment_of (both tree (both later (both wait (both right end)))) = if later then nonblocking tree wait right else assign tree wait right
+assignment_of (both tree
+    (both later (both wait (both right end)))) = if later then nonblocking tree wait right else assign tree wait right
 
 abbrev pub assignment_parts : ℕ → Reader Assignment
 assignment_parts below =
@@ -138,7 +140,8 @@ abbrev pub For : Type 0
 For = Both (Both TargetTree ExpressionTree) (Both ExpressionTree (Both (Both TargetTree ExpressionTree) StatementTree))
 
 abbrev pub for_of : For → StatementTree
-for_of (both (both tree right) (both condition (both (both next next_right) body))) = for_loop tree right condition next next_right body
+for_of (both (both tree right)
+    (both condition (both (both next next_right) body))) = for_loop tree right condition next next_right body
 
 abbrev pub for_parts : ℕ → Reader StatementTree → Reader For
 for_parts below read =
@@ -239,7 +242,8 @@ case_parts_of kind (both tree (both (both one more) end)) = case_of kind tree (f
 
 abbrev pub branches : ℕ → Reader StatementTree → Reader (List_of BranchTree)
 branches below read =
-    linked (branch below read []) (λ one. many (λ next. not (is_front (codes "endcase") next)) (λ list. branch below read (one ∷ list)))
+    linked (branch below read [])
+    (λ one. many (λ next. not (is_front (codes "endcase") next)) (λ list. branch below read (one ∷ list)))
 
 abbrev pub case_parts : ℕ → Reader StatementTree → Reader Case
 case_parts below read = guarded below (paired (branches below read) (word_only (codes "endcase")))
@@ -268,7 +272,8 @@ optional_print_of kind (both None end) = task (print kind [])
 optional_print_of kind (both (Some (both (both one more) closing)) end) = task (print kind (one ∷ more))
 
 abbrev pub print_lead : ℕ → Printing → Lead StatementTree
-print_lead below printing.Monitor = room below 1 (goes (made (print_of printing.Monitor) (paired (arguments below) (word_only (codes ";")))))
+print_lead below printing.Monitor = room below 1
+    (goes (made (print_of printing.Monitor) (paired (arguments below) (word_only (codes ";")))))
 print_lead below printing.Display =
     goes (made (optional_print_of printing.Display) (paired (maybe (is_front (codes "(")) (roomy below 1 (arguments below)))
     (word_only (codes ";"))))
@@ -307,7 +312,8 @@ end_of stops (both None end) = task (end_run stops None)
 end_of stops (both (Some (both digits closing)) end) = task (end_run stops (Some digits))
 
 abbrev pub end_parts : Reader (Both (Option (Both Text (Unit {0}))) (Unit {0}))
-end_parts = paired (maybe (is_front (codes "(")) (past (codes "(") (paired numbered (word_only (codes ")"))))) (word_only (codes ";"))
+end_parts = paired (maybe (is_front (codes "(")) (past (codes "(") (paired numbered (word_only (codes ")")))))
+    (word_only (codes ";"))
 
 abbrev pub dump_of : Dumping → Unit {0} → StatementTree
 dump_of kind end = task (dump kind)
