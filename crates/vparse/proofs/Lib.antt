@@ -27,3 +27,4 @@ pub mod PartGrowth
 pub mod StatementGrowth
 pub mod PhrasePlaces
 pub mod StatementStops
+pub mod HeadPhrases

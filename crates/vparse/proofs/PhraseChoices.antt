@@ -125,50 +125,82 @@ either_shape s t = record {
   stops = stops_either s t;
 }
 
-pub either_phrase : {A B : Type 0}
-    (test : Option Text → Bool) {read : Reader A} {other : Reader B} {ends : Ends} {s : Shape A} {t : Shape B} →
-    Phrase read ends s → Phrase other ends t → Worded s → Worded t → Tested test true s → Tested test false t →
+module _ {A B : Type 0} (test : Option Text → Bool) {read : Reader A} {other : Reader B} {ends : Ends} {s : Shape A} {t : Shape B}
+    (p : Phrase read ends s) (q : Phrase other ends t) (some : Worded s)
+    (links : (tree : B) (words : List Text) → other words ≡ got tree words → ends (front words) ≡ true → test (front words) ≡ false)
+    (tests : Tested test true s)
+    (fails_test : (tree : B) → t.valid tree ≡ true → (rest : List Text) → t.closes tree (front rest) ≡ true →
+    test (front (t.spell tree ++ rest)) ≡ false) where
+  below : (n : ℕ) → n < n → ⊥
+  below n e = omega (arith, e)
+
+  makes_one : Makes one_way s (either_shape s t) []
+  makes_one = record { spelled = λ tree. refl; valid = λ tree. refl; closes = λ tree first e. e; stops = λ tree first e. e }
+
+  makes_other : Makes other_way t (either_shape s t) []
+  makes_other = record { spelled = λ tree. refl; valid = λ tree. refl; closes = λ tree first e. e; stops = λ tree first e. e }
+
+  no_other : (tree : Either A B) (words : List Text) → made other_way other words ≡ got tree words → ends (front words) ≡ true →
+      test (front words) ≡ false
+  no_other tree words is e =
+      let a = parts_of (other words) (λ t. got (other_way t)) tree words is in
+      links a.one words (a.first ∙ ap (got a.one) (got_left a.second)) e
+
+  either_lawful : Lawful (either test read other) ends
+  either_lawful words =
+      choose_sees test (made one_way read) (made other_way other) ends
+      (λ tree ws is e. absurd (below (length ws) (made_eats one_way read (sound_eats read s p.sound some) ws tree ws is))) no_other
+      words (λ e. made_lawful one_way read ends p.lawful words) (λ e. made_lawful other_way other ends q.lawful words)
+
+  either_sound : Sound (either test read other) (either_shape s t)
+  either_sound words tree left f =
+      elim (cases_Bool (test (front words))) [
+        | inl holds ↦ made_sound one_way read s (either_shape s t) [] makes_one p.sound words tree left
+            (sym (chosen (test (front words)) _ (made other_way other words) holds) ∙ f)
+        | inr fails ↦ made_sound other_way other t (either_shape s t) [] makes_other q.sound words tree left
+            (sym (passed_over (test (front words)) (made one_way read words) _ fails) ∙ f)
+      ]
+
+  either_complete : Complete (either test read other) (either_shape s t)
+  either_complete (one_way x) rest v c =
+      chosen (test (front (s.spell x ++ rest))) _ _ (tests x v rest)
+      ∙ made_complete one_way read s (either_shape s t) [] makes_one p.complete x rest v c
+  either_complete (other_way y) rest v c =
+      passed_over (test (front (t.spell y ++ rest))) _ _ (fails_test y v rest c)
+      ∙ made_complete other_way other t (either_shape s t) [] makes_other q.complete y rest v c
+
+  either_closed : (tree : Either A B) (first : Option Text) → ends first ≡ true → closes_either s t tree first ≡ true
+  either_closed (one_way x) first e = p.closed x first e
+  either_closed (other_way y) first e = q.closed y first e
+
+  -- the second one may have no words
+  pub either_open_phrase : Phrase (either test read other) ends (either_shape s t)
+  either_open_phrase = record {
+    lawful = either_lawful;
+    sound = either_sound;
+    complete = either_complete;
+    closed = either_closed;
+  }
+
+pub either_phrase : {A B : Type 0} (test : Option Text → Bool) {read : Reader A} {other : Reader B} {ends : Ends} {s : Shape A}
+    {t : Shape B} → Phrase read ends s → Phrase other ends t → Worded s → Worded t → Tested test true s → Tested test false t →
     Phrase (either test read other) ends (either_shape s t)
-either_phrase {A = A} {B = B} test {read = read} {other = other} {ends = ends} {s = s} {t = t} p q some some_other tests fails_test = record {
-  lawful = λ words. choose_sees test (made one_way read) (made other_way other) ends
-      (λ tree ws is e. absurd (below (length ws) (made_eats one_way read (sound_eats read s p.sound some) ws tree ws is)))
-      (λ tree ws is e. absurd
-      (below (length ws) (made_eats other_way other (sound_eats other t q.sound some_other) ws tree ws is)))
-      words (λ e. made_lawful one_way read ends p.lawful words) (λ e. made_lawful other_way other ends q.lawful words);
-  sound = sound;
-  complete = complete;
-  closed = closed;
-}
+either_phrase test {other = other} {t = t} p q some some_other tests fails_test =
+    either_open_phrase test p q some (λ tree words is e. absurd (never (length words) (sound_eats other t q.sound some_other words tree words is)))
+    tests (λ tree v rest c. fails_test tree v rest)
   where
-    below : (n : ℕ) → n < n → ⊥
-    below n e = omega (arith, e)
+    never : (n : ℕ) → n < n → ⊥
+    never n e = omega (arith, e)
 
-    makes_one : Makes one_way s (either_shape s t) []
-    makes_one = record { spelled = λ tree. refl; valid = λ tree. refl; closes = λ tree first e. e; stops = λ tree first e. e }
+-- neither of two begins with such a word
+pub either_tested : {A B : Type 0} (test : Option Text → Bool) (answer : Bool) (s : Shape A) (t : Shape B) → Tested test answer s →
+    Tested test answer t → Tested test answer (either_shape s t)
+either_tested test answer s t p q (one_way x) v rest = p x v rest
+either_tested test answer s t p q (other_way y) v rest = q y v rest
 
-    makes_other : Makes other_way t (either_shape s t) []
-    makes_other = record { spelled = λ tree. refl; valid = λ tree. refl; closes = λ tree first e. e; stops = λ tree first e. e }
-
-    sound : Sound (either test read other) (either_shape s t)
-    sound words tree left f =
-        elim (cases_Bool (test (front words))) [
-          | inl holds ↦ made_sound one_way read s (either_shape s t) [] makes_one p.sound words tree left
-              (sym (chosen (test (front words)) _ (made other_way other words) holds) ∙ f)
-          | inr fails ↦ made_sound other_way other t (either_shape s t) [] makes_other q.sound words tree left
-              (sym (passed_over (test (front words)) (made one_way read words) _ fails) ∙ f)
-        ]
-
-    complete : Complete (either test read other) (either_shape s t)
-    complete (one_way x) rest v c =
-        chosen (test (front (s.spell x ++ rest))) _ _ (tests x v rest)
-        ∙ made_complete one_way read s (either_shape s t) [] makes_one p.complete x rest v c
-    complete (other_way y) rest v c =
-        passed_over (test (front (t.spell y ++ rest))) _ _ (fails_test y v rest)
-        ∙ made_complete other_way other t (either_shape s t) [] makes_other q.complete y rest v c
-
-    closed : (tree : Either A B) (first : Option Text) → ends first ≡ true → closes_either s t tree first ≡ true
-    closed (one_way x) first e = p.closed x first e
-    closed (other_way y) first e = q.closed y first e
+pub either_worded : {A B : Type 0} (s : Shape A) (t : Shape B) → Worded s → Worded t → Worded (either_shape s t)
+either_worded s t p q (one_way x) v = p x v
+either_worded s t p q (other_way y) v = q y v
 
 -- Where levels are left
 
