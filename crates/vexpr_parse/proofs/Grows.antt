@@ -33,20 +33,20 @@ at_most a b c e f = omega arith
 one_fewer : (a b : ℕ) → a ≤ b → a ≤ suc b
 one_fewer a b e = omega arith
 
-got_keep : {A : Type 0} (tree : A) → Keeps (got tree)
+pub got_keep : {A : Type 0} (tree : A) → Keeps (got tree)
 got_keep tree words = no_more (length words)
 
-then_keep : {A B : Type 0} (words : List Text) (a : Answer A) (next : A → Reader B) → length (rest_of a) ≤ length words →
+pub then_keep : {A B : Type 0} (words : List Text) (a : Answer A) (next : A → Reader B) → length (rest_of a) ≤ length words →
     ((one : A) → Keeps (next one)) → length (rest_of (and_then a next)) ≤ length words
 then_keep words (got one left) next e k = at_most (length (rest_of (next one left))) (length left) (length words) (k one left) e
 then_keep words (stop why left) next e k = e
 
-abbrev LeadKeeps : {A : Type 0} → Lead A → Type 0
+abbrev pub LeadKeeps : {A : Type 0} → Lead A → Type 0
 LeadKeeps (goes read) = Keeps read
 LeadKeeps refused = Unit {0}
 LeadKeeps lower = Unit {0}
 
-led_keep : {A : Type 0} (lead : Text → Lead A) → ((word : Text) → LeadKeeps (lead word)) → Keeps (led lead)
+pub led_keep : {A : Type 0} (lead : Text → Lead A) → ((word : Text) → LeadKeeps (lead word)) → Keeps (led lead)
 led_keep lead k [] = no_more 0
 led_keep {A = A} lead k (word ∷ words) = by_lead (lead word) (k word)
   where
@@ -55,15 +55,15 @@ led_keep {A = A} lead k (word ∷ words) = by_lead (lead word) (k word)
     by_lead refused k = no_more (suc (length words))
     by_lead lower k = no_more (suc (length words))
 
-if_keep : {A : Type 0} (test : Bool) (one other : Lead A) → LeadKeeps one → LeadKeeps other → LeadKeeps (if test then one else other)
+pub if_keep : {A : Type 0} (test : Bool) (one other : Lead A) → LeadKeeps one → LeadKeeps other → LeadKeeps (if test then one else other)
 if_keep true one other p q = p
 if_keep false one other p q = q
 
-past_keep : {A : Type 0} (text : Text) (read : Reader A) → Keeps read → Keeps (past text read)
+pub past_keep : {A : Type 0} (text : Text) (read : Reader A) → Keeps read → Keeps (past text read)
 past_keep text read k = led_keep (λ word. if bytes_eq text word then goes read else refused)
     (λ word. if_keep (bytes_eq text word) (goes read) refused k tt)
 
-choose_keep : {A : Type 0} (test : Option Text → Bool) (one other : Reader A) → Keeps one → Keeps other → Keeps (choose test one other)
+pub choose_keep : {A : Type 0} (test : Option Text → Bool) (one other : Reader A) → Keeps one → Keeps other → Keeps (choose test one other)
 choose_keep test one other p q words = by_test (test (front words))
   where
     by_test : (b : Bool) → length (rest_of (if b then one words else other words)) ≤ length words
@@ -71,7 +71,7 @@ choose_keep test one other p q words = by_test (test (front words))
     by_test false = q words
 
 module _ {A : Type 0} (turn : A → Reader A) (test : Option Text → Bool) (k : (tree : A) → Keeps (turn tree)) where
-  rounds_keep : (fuel : ℕ) (tree : A) → Keeps (rounds turn test fuel tree)
+  pub rounds_keep : (fuel : ℕ) (tree : A) → Keeps (rounds turn test fuel tree)
   rounds_keep zero tree words = no_more (length words)
   rounds_keep (suc fuel) tree words = by_test (test (front words))
       (then_keep words (turn tree words) (rounds turn test fuel) (k tree words) (rounds_keep fuel))
@@ -88,7 +88,7 @@ Grows (got tree left) more = more ≡ got tree left
 Grows (stop NoTree left) more = more ≡ stop NoTree left
 Grows (stop TooDeep left) more = length (rest_of more) < length left
 
-then_grows : {A B : Type 0} (a more : Answer A) (next next_more : A → Reader B) → Grows a more →
+pub then_grows : {A B : Type 0} (a more : Answer A) (next next_more : A → Reader B) → Grows a more →
     ((one : A) (left : List Text) → a ≡ got one left → Grows (next one left) (next_more one left)) →
     ((one : A) → Keeps (next_more one)) → Grows (and_then a next) (and_then more next_more)
 then_grows (got one left) more next next_more g n k = subst (λ m. Grows (next one left) (and_then m next_more)) (sym g) (n one left refl)
@@ -102,7 +102,7 @@ then_grows {A = A} (stop TooDeep left) more next next_more g n k = passed more g
     passed (got one ws) e = fewer (length (rest_of (next_more one ws))) (length ws) (length left) (k one ws) e
     passed (stop why ws) e = e
 
-abbrev LeadGrows : {A : Type 0} → Lead A → Lead A → Type 0
+abbrev pub LeadGrows : {A : Type 0} → Lead A → Lead A → Type 0
 LeadGrows (goes read) (goes more) = (words : List Text) → Grows (read words) (more words)
 LeadGrows (goes read) refused = ⊥
 LeadGrows (goes read) lower = ⊥
@@ -113,7 +113,7 @@ LeadGrows lower (goes more) = Keeps more
 LeadGrows lower refused = ⊥
 LeadGrows lower lower = ⊥
 
-led_grows : {A : Type 0} (lead more : Text → Lead A) → ((word : Text) → LeadGrows (lead word) (more word)) → (words : List Text) →
+pub led_grows : {A : Type 0} (lead more : Text → Lead A) → ((word : Text) → LeadGrows (lead word) (more word)) → (words : List Text) →
     Grows (led lead words) (led more words)
 led_grows lead more g [] = refl
 led_grows {A = A} lead more g (word ∷ words) = by_leads (lead word) (more word) (g word)
@@ -132,13 +132,13 @@ led_grows {A = A} lead more g (word ∷ words) = by_leads (lead word) (more word
     by_leads lower refused g = absurd g
     by_leads lower lower g = absurd g
 
-if_grows : {A : Type 0} (test : Bool) (one other more more_other : Lead A) → (test ≡ true → LeadGrows one more) →
+pub if_grows : {A : Type 0} (test : Bool) (one other more more_other : Lead A) → (test ≡ true → LeadGrows one more) →
     LeadGrows other more_other →
     LeadGrows (if test then one else other) (if test then more else more_other)
 if_grows true one other more more_other p q = p refl
 if_grows false one other more more_other p q = q
 
-past_grows : {A : Type 0} (text : Text) (read more : Reader A) → ((words : List Text) → Grows (read words) (more words)) →
+pub past_grows : {A : Type 0} (text : Text) (read more : Reader A) → ((words : List Text) → Grows (read words) (more words)) →
     (words : List Text) → Grows (past text read words) (past text more words)
 past_grows text read more g =
     led_grows (λ word. if bytes_eq text word then goes read else refused) (λ word. if bytes_eq text word then goes more else refused)
@@ -156,7 +156,7 @@ room_grows below levels read more e g k = by_tests (nat_le levels below) (nat_le
     by_tests false true e g = k
     by_tests b false e g = let clash : false ≡ true = e in absurd cc
 
-choose_grows : {A : Type 0} (test : Option Text → Bool) (one other more more_other : Reader A) (words : List Text) →
+pub choose_grows : {A : Type 0} (test : Option Text → Bool) (one other more more_other : Reader A) (words : List Text) →
     Grows (one words) (more words) → Grows (other words) (more_other words) →
     Grows (choose test one other words) (choose test more more_other words)
 choose_grows test one other more more_other words p q = by_test (test (front words))
@@ -169,7 +169,7 @@ module _ {A : Type 0} (I : A → Type 0) (turn more : A → Reader A) (test : Op
     (g : (tree : A) (words : List Text) → I tree → Grows (turn tree words) (more tree words))
     (kept : (tree : A) (words : List Text) (next : A) (left : List Text) → I tree → turn tree words ≡ got next left → I next)
     (k : (tree : A) → Keeps (more tree)) where
-  rounds_grow : (fuel : ℕ) (tree : A) (words : List Text) → I tree →
+  pub rounds_grow : (fuel : ℕ) (tree : A) (words : List Text) → I tree →
       Grows (rounds turn test fuel tree words) (rounds more test fuel tree words)
   rounds_grow zero tree words i = refl
   rounds_grow (suc fuel) tree words i =

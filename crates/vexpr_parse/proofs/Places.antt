@@ -129,13 +129,13 @@ stops_for_good below least words left e =
     reached below more e = omega arith
 
 -- where more was passed, the place is within it
-record Split (before left passed rest : List Text) : Type 0 where
-  word : Text
-  behind : List Text
-  at : left ≡ word ∷ (behind ++ rest)
-  is : passed ≡ before ++ word ∷ behind
+pub record Split (before left passed rest : List Text) : Type 0 where
+  pub word : Text
+  pub behind : List Text
+  pub at : left ≡ word ∷ (behind ++ rest)
+  pub is : passed ≡ before ++ word ∷ behind
 
-split : (before left passed rest : List Text) → before ++ left ≡ passed ++ rest → length rest < length left → Split before left passed rest
+pub split : (before left passed rest : List Text) → before ++ left ≡ passed ++ rest → length rest < length left → Split before left passed rest
 split [] left [] rest e less = absurd (below (length rest) (subst (λ n. length rest < n) (ap length e) less))
   where
     below : (n : ℕ) → n < n → ⊥

@@ -1,5 +1,5 @@
 -- Cases and their branches, of which one at most is a default.
-use Rattle.std.proofs.Common.{◌≡◌, ℕ, zero, suc, ◌+◌, ◌<◌, Bool, true, false, ◌&&◌, ◌||◌, not, max, nat_le, if◌then◌else◌, List, [], ◌∷◌, ◌++◌, Option, None, Some, length, flat_map, refl, sym, ap, ◌∙◌, arith, subst, append_assoc, codes}
+use Rattle.std.proofs.Common.{◌≡◌, ℕ, suc, ◌+◌, ◌<◌, Bool, true, false, ◌&&◌, ◌||◌, not, max, nat_le, if◌then◌else◌, List, [], ◌∷◌, ◌++◌, Option, None, Some, length, flat_map, refl, sym, ap, ◌∙◌, arith, subst, append_assoc, codes}
 use Rattle.std.specs.List.{list_all}
 use Rattle.std.proofs.lemmas.Bool.Decides.{nat_tests}
 use Rattle.basis.proofs.Bools.{and_left, and_right, and_both}
@@ -7,24 +7,23 @@ use Rattle.vast.specs.Syntax.{Text}
 use Rattle.vast.specs.Words.{reserved_words}
 use Rattle.vast.specs.Expressions.{ExpressionTree, ExpressionTrees, none, spell_expression, spell_parts, fits_expression, fits_parts, depth, greatest_depth}
 use Rattle.vast.specs.Expressions.{first as first_part}
-use Rattle.vast.specs.Statements.{StatementTree, empty, case_of, BranchTree, labelled, default, BranchTrees, no_branch, first_branch, case_word, spell_statement, spell_branch, spell_branches, statement_depth, branch_depth, branches_depth, fits_statement, fits_branch, fits_branches, is_default, defaults}
+use Rattle.vast.specs.Statements.{StatementTree, empty, BranchTree, labelled, default, case_word, spell_statement, spell_branch, spell_branches, statement_depth, branch_depth, branches_depth, fits_statement, fits_branch, fits_branches, is_default, defaults}
 use Rattle.vast.specs.declared.statement.CaseKind.{CaseKind}
 use Rattle.vexpr_parse.specs.declared.beginning.Beginning.TheVariants as start
-use Rattle.vexpr_parse.specs.declared.stop.Stop.TheVariants.{NoTree}
-use Rattle.vexpr_parse.specs.Readers.{got, stop, Reader, front, is_front, past}
+use Rattle.vexpr_parse.specs.Readers.{got, Reader, front, is_front, past}
 use Rattle.vexpr_parse.specs.Words.{beginning_of, binary_of, unary_of, ends}
 use Rattle.vexpr_parse.specs.Reading.{trees_in}
 use Rattle.vexpr_parse.specs.Lawful.{Ends}
 use Rattle.vexpr_parse.proofs.ReaderRules.{passed_over, same_text, stop_got, parts_of}
-use Rattle.vparse.specs.Parts.{Both, both, Either, one_way, other_way, made, linked, paired, many, maybe, either}
+use Rattle.vparse.specs.Parts.{Both, both, one_way, other_way, made, paired, many, maybe, either}
 use Rattle.vparse.specs.Statements.{value, List_of, comma_list, word_only, has_default, Branch, branch_of, default_branch, branch, branches_in, Case, case_parts_of, branches, case_parts, ends_statement}
-use Rattle.vparse.proofs.Phrases.{Shape, Phrase, Example, Worded, Makes, From, AreLinked, always, phrase_within, of_these, made_phrase, past_shape, past_phrase, past_example, nothing_phrase, linked_shape, linked_phrase, paired_shape, before_phrase, paired_example, next_phrase}
-use Rattle.vparse.proofs.PhraseChoices.{ends_maybe, maybe_shape, maybe_phrase, either_shape, either_phrase, Tested, ends_many, allows_all, many_shape, many_phrase}
+use Rattle.vparse.proofs.Phrases.{Shape, Phrase, Example, Worded, Makes, From, AreLinked, always, of_these, made_phrase, past_shape, past_phrase, nothing_phrase, linked_shape, linked_phrase, paired_shape, before_phrase, paired_example, next_phrase}
+use Rattle.vparse.proofs.PhraseChoices.{maybe_shape, maybe_phrase, either_shape, either_phrase, Tested, ends_many, allows_all, many_shape, many_phrase}
 use Rattle.vparse.proofs.LevelFacts.{larger_two, two_up, and_true, and_false, and_assoc, pair_valid}
-use Rattle.vparse.proofs.ValuePhrases.{value_shape, value_phrase, value_example, value_worded, nothing_example, only_shape, only_phrase, only_example, comma_shape, comma_phrase, allows_each}
-use Rattle.vparse.proofs.WordPhrases.{clash, refused_first, value_refuses}
+use Rattle.vparse.proofs.ValuePhrases.{value_shape, value_phrase, value_example, nothing_example, only_shape, only_phrase, only_example, comma_shape, comma_phrase, allows_each}
+use Rattle.vparse.proofs.WordPhrases.{refused_first, value_refuses}
 use Rattle.vparse.proofs.StatementShapes.{closes_statement, statement_shape, statement_closed, behind_condition, all_within, parts_spelled, parts_within}
-use Rattle.vparse.proofs.StatementPhrases.{guarded_shape, guarded_phrase, guarded_example, inner_example}
+use Rattle.vparse.proofs.StatementPhrases.{guarded_shape, guarded_phrase, guarded_example}
 
 positive : (n : ℕ) → 0 < suc n
 positive n = omega arith
@@ -34,7 +33,8 @@ longer : (words : List Text) (word : Text) (more : List Text) → 0 < length (wo
 longer [] word more = positive (length more)
 longer (one ∷ words) word more = positive (length (words ++ word ∷ more))
 
-pub phrase_of_these : {A : Type 0} {read : Reader A} {ends : Ends} (s : Shape A) (valid : A → Bool) → ((tree : A) → valid tree ≡ s.valid tree) →
+pub phrase_of_these : {A : Type 0} {read : Reader A} {ends : Ends} (s : Shape A) (valid : A → Bool) →
+    ((tree : A) → valid tree ≡ s.valid tree) →
     Phrase read ends s → Phrase read ends (of_these s valid)
 phrase_of_these s valid same p = record {
   lawful = p.lawful;
@@ -71,7 +71,8 @@ branch_worded (labelled labels body) = longer (spell_parts labels) (codes ":") (
 branch_worded (default true body) = positive _
 branch_worded (default false body) = positive _
 
-module _ (below : ℕ) (level : nat_le 1 below ≡ true) (read : Reader StatementTree) (p : Phrase read ends_statement (statement_shape below))
+module _ (below : ℕ) (level : nat_le 1 below ≡ true) (read : Reader StatementTree)
+    (p : Phrase read ends_statement (statement_shape below))
     (some : Worded (statement_shape below)) (no_colon : Tested (is_front (codes ":")) false (statement_shape below)) where
   abbrev S : Shape StatementTree
   S = statement_shape below
@@ -94,18 +95,22 @@ module _ (below : ℕ) (level : nat_le 1 below ≡ true) (read : Reader Statemen
   a_statement : Example S
   a_statement = record { tree = empty; valid = level }
 
-  new_default_phrase : Phrase (past (codes "default") (paired (maybe colon_next (word_only (codes ":"))) read)) ends_statement Default
+  new_default_phrase : Phrase
+      (past (codes "default") (paired (maybe colon_next (word_only (codes ":"))) read)) ends_statement Default
   new_default_phrase =
       past_phrase (codes "default")
-      (next_phrase (maybe_phrase colon_next (only_phrase (codes ":")) (λ tree v. positive _) (λ tree v rest. refl)) p a_statement some
+      (next_phrase (maybe_phrase colon_next (only_phrase (codes ":")) (λ tree v. positive _)
+      (λ tree v rest. refl)) p a_statement some
       (λ tree v rest c. ap not (no_colon tree v rest)))
       (paired_example no_colons a_statement)
     where
       no_colons : Example (maybe_shape colon_next always (only_shape (codes ":")))
       no_colons = record { tree = None; valid = refl }
 
-  default_phrase : (seen : Bool) → Phrase (default_branch read seen) ends_statement (of_these Default (λ tree. Default.valid tree && not seen))
-  default_phrase false = phrase_of_these Default (λ tree. Default.valid tree && true) (λ tree. and_true (Default.valid tree)) new_default_phrase
+  default_phrase : (seen : Bool) →
+      Phrase (default_branch read seen) ends_statement (of_these Default (λ tree. Default.valid tree && not seen))
+  default_phrase false = phrase_of_these Default (λ tree. Default.valid tree && true)
+      (λ tree. and_true (Default.valid tree)) new_default_phrase
   default_phrase true = record {
     lawful = λ words. record { before = []; whole = refl; near = λ other e. refl; more = λ e. absurd (below_zero 0 e) };
     sound = λ words tree left e. absurd (stop_got e);
@@ -121,18 +126,22 @@ module _ (below : ℕ) (level : nat_le 1 below ≡ true) (read : Reader Statemen
 
   labelled_phrase : Phrase (paired (comma_list (value below)) (past (codes ":") read)) ends_statement Labelled
   unfolding binary_of
-  labelled_phrase = before_phrase (codes ":") (comma_phrase (value_phrase below) (value_example below level) refl) p a_statement refl
+  labelled_phrase = before_phrase (codes ":")
+      (comma_phrase (value_phrase below) (value_example below level) refl) p a_statement refl
 
   labelled_worded : Worded Labelled
   labelled_worded (both (both label more) body) v =
-      longer (spell_expression label ++ flat_map (λ tree. codes "," ∷ spell_expression tree) more) (codes ":") (spell_statement body)
+      longer (spell_expression label ++ flat_map (λ tree. codes "," ∷ spell_expression tree) more) (codes ":")
+      (spell_statement body)
 
   -- a word that begins no expression begins no labels
-  labels_refuse : (word : Text) → beginning_of word ≡ start.Other → (words : List Text) (tree : Both (List_of ExpressionTree) StatementTree)
+  labels_refuse : (word : Text) → beginning_of word ≡ start.Other →
+      (words : List Text) (tree : Both (List_of ExpressionTree) StatementTree)
       (left : List Text) → paired (comma_list (value below)) (past (codes ":") read) (word ∷ words) ≡ got tree left → ⊥
   labels_refuse word is words tree left e =
       let a = parts_of (comma_list (value below) (word ∷ words)) (λ t. made (both t) (past (codes ":") read)) tree left e in
-      let b = parts_of (value below (word ∷ words)) (λ t. made (both t) (many (is_front (codes ",")) (λ list. past (codes ",") (value below))))
+      let b = parts_of (value below (word ∷ words))
+      (λ t. made (both t) (many (is_front (codes ",")) (λ list. past (codes ",") (value below))))
       a.one a.between a.first in
       value_refuses below word is words b.one b.between b.first
 
@@ -145,7 +154,8 @@ module _ (below : ℕ) (level : nat_le 1 below ≡ true) (read : Reader Statemen
   Parts list = either_shape (of_these Default (λ tree. Default.valid tree && not (has_default list))) Labelled
 
   parts_phrase : (list : List BranchTree) →
-      Phrase (either default_next (default_branch read (has_default list)) (paired (comma_list (value below)) (past (codes ":") read)))
+      Phrase (either default_next (default_branch read (has_default list))
+      (paired (comma_list (value below)) (past (codes ":") read)))
       ends_statement (Parts list)
   parts_phrase list =
       either_phrase default_next (default_phrase (has_default list)) labelled_phrase (λ tree v. positive _) labelled_worded
@@ -183,12 +193,14 @@ module _ (below : ℕ) (level : nat_le 1 below ≡ true) (read : Reader Statemen
       valid (one_way (both (Some end) body)) = refl
       valid (other_way (both (both label more) body)) = labels_valid label more body
 
-      closes : (tree : Branch) (next : Option Text) → closes_branch (branch_of tree) next ≡ true → (Parts list).closes tree next ≡ true
+      closes : (tree : Branch) (next : Option Text) → closes_branch (branch_of tree) next ≡ true →
+          (Parts list).closes tree next ≡ true
       closes (one_way (both None body)) next e = e
       closes (one_way (both (Some end) body)) next e = e
       closes (other_way (both (both label more) body)) next e = e
 
-      stops : (tree : Branch) (next : Option Text) → (Parts list).stops tree next ≡ true → closes_branch (branch_of tree) next ≡ true
+      stops : (tree : Branch) (next : Option Text) → (Parts list).stops tree next ≡ true → closes_branch (branch_of tree) next
+          ≡ true
       stops (one_way (both None body)) next e = e
       stops (one_way (both (Some end) body)) next e = e
       stops (other_way (both (both label more) body)) next e = e
@@ -202,9 +214,11 @@ module _ (below : ℕ) (level : nat_le 1 below ≡ true) (read : Reader Statemen
   list_back none = refl
   list_back (first_part tree more) = ap (first_part tree) (list_back more)
 
-  pub branch_phrase : (list : List BranchTree) → Phrase (branch below read list) ends_statement (of_these (branch_shape below) (allow below list))
+  pub branch_phrase : (list : List BranchTree) →
+      Phrase (branch below read list) ends_statement (of_these (branch_shape below) (allow below list))
   branch_phrase list =
-      made_phrase branch_of (of_these (branch_shape below) (allow below list)) back (branch_makes list) branch_closed (parts_phrase list)
+      made_phrase branch_of (of_these (branch_shape below) (allow below list)) back (branch_makes list) branch_closed
+      (parts_phrase list)
     where
       no_labels : (a b c : Bool) → (((false && a) && b) && c) ≡ true → ⊥
       no_labels a b c e = let no : false ≡ true = e in cc
@@ -216,17 +230,21 @@ module _ (below : ℕ) (level : nat_le 1 below ≡ true) (read : Reader Statemen
         parts = other_way (both (both label (list_of more)) body);
         is = ap (λ ts. labelled (first_part label ts) body) (list_back more);
       }
-      back (labelled none body) v = absurd (no_labels (fits_parts none) (fits_statement body) (nat_le (branch_depth (labelled none body)) below)
+      back (labelled none body) v = absurd
+          (no_labels (fits_parts none) (fits_statement body) (nat_le (branch_depth (labelled none body)) below)
           (and_left _ true v))
 
   -- a word that begins neither an expression nor a default begins no branch
   branch_refuses : (list : List BranchTree) (word : Text) → beginning_of word ≡ start.Other → default_next (Some word) ≡ false →
       (words : List Text) (tree : BranchTree) (left : List Text) → branch below read list (word ∷ words) ≡ got tree left → ⊥
   branch_refuses list word is other_word words tree left e =
-      let a = parts_of (either default_next (default_branch read (has_default list)) (paired (comma_list (value below)) (past (codes ":") read))
+      let a = parts_of (either default_next (default_branch read (has_default list))
+      (paired (comma_list (value below)) (past (codes ":") read))
       (word ∷ words)) (λ t. got (branch_of t)) tree left e in
-      let b = parts_of (paired (comma_list (value below)) (past (codes ":") read) (word ∷ words)) (λ t. got (other_way t)) a.one a.between
-      (sym (passed_over (default_next (Some word)) (made one_way (default_branch read (has_default list)) (word ∷ words)) _ other_word) ∙ a.first) in
+      let b = parts_of (paired (comma_list (value below)) (past (codes ":") read) (word ∷ words))
+      (λ t. got (other_way t)) a.one a.between
+      (sym (passed_over (default_next (Some word))
+      (made one_way (default_branch read (has_default list)) (word ∷ words)) _ other_word) ∙ a.first) in
       labels_refuse word is words b.one b.between b.first
 
   abbrev endcase_next : Option Text → Bool
@@ -266,13 +284,15 @@ module _ (below : ℕ) (level : nat_le 1 below ≡ true) (read : Reader Statemen
       linked_phrase More behind (branch_phrase [])
       (λ one. many_phrase not_endcase (λ list. branch below read (one ∷ list)) ends_statement (branch_shape below)
       (λ list. allow below (one ∷ list)) (λ list. branch_phrase (one ∷ list)) (λ list tree v. branch_worded tree)
-      (λ list tree rest v. ap not (no_endcase (one ∷ list) tree v rest)) (λ list tree rest v. ap not (no_else (one ∷ list) tree v rest)))
+      (λ list tree rest v. ap not (no_endcase (one ∷ list) tree v rest))
+      (λ list tree rest v. ap not (no_else (one ∷ list) tree v rest)))
       [] (λ one. refl) valid_branches (λ rest e. and_left (ends_statement (front rest)) _ e)
       (λ one more v none next e. and_left (ends_statement next) _ e)
       (λ one more rest v w f. and_both (allow below [] one) (behind one more) v w) split
     where
       ended : (one : BranchTree) (more : List BranchTree) → behind one more ≡ true → (rest : List Text) →
-          ends_many not_endcase ends_statement (front rest) ≡ true → ends_statement (front (flat_map spell_branch more ++ rest)) ≡ true
+          ends_many not_endcase ends_statement (front rest) ≡ true →
+          ends_statement (front (flat_map spell_branch more ++ rest)) ≡ true
       ended one [] v rest c = and_left (ends_statement (front rest)) _ c
       ended one (tree ∷ more) v rest c =
           ap (λ ws. ends_statement (front ws)) (append_assoc (spell_branch tree) (flat_map spell_branch more) rest)
@@ -291,7 +311,11 @@ module _ (below : ℕ) (level : nat_le 1 below ≡ true) (read : Reader Statemen
   a_default = default false empty
 
   branches_example : Example Branches
-  branches_example = record { tree = both a_default []; valid = and_both (allow below [] a_default) true (and_both _ true level refl) refl }
+  branches_example = record {
+    tree = both a_default [];
+    valid = and_both (allow below [] a_default) true
+        (and_both _ true level refl) refl;
+  }
 
   abbrev pub case_shape : Shape Case
   case_shape = guarded_shape below (paired_shape Branches (only_shape (codes "endcase")))
@@ -327,7 +351,8 @@ module _ (below : ℕ) (level : nat_le 1 below ≡ true) (read : Reader Statemen
       too_many : (k : ℕ) → nat_le (1 + (1 + k)) 1 ≡ false
       too_many k = grind (arith, nat_tests)
 
-  seen_behind : (so_far : List BranchTree) (tree : BranchTree) → has_default (so_far ++ tree ∷ []) ≡ (has_default so_far || is_default tree)
+  seen_behind : (so_far : List BranchTree) (tree : BranchTree) → has_default (so_far ++ tree ∷ [])
+      ≡ (has_default so_far || is_default tree)
   seen_behind [] tree = or_none (is_default tree)
     where
       or_none : (b : Bool) → (b || false) ≡ b
@@ -357,8 +382,10 @@ module _ (below : ℕ) (level : nat_le 1 below ≡ true) (read : Reader Statemen
       let seen = has_default (one ∷ so_far) in
       ap (λ b. (Fits tree && not (is_default tree && seen)) && b)
       (behind_valid one (so_far ++ tree ∷ []) more
-      ∙ ap (λ s. list_all (λ t. fits_branch t && nat_le (branch_depth t) below) more && few s more) (seen_behind (one ∷ so_far) tree))
-      ∙ pair_valid (Fits tree) (not (is_default tree && seen)) (list_all (λ t. fits_branch t && nat_le (branch_depth t) below) more)
+      ∙ ap (λ s. list_all (λ t. fits_branch t && nat_le (branch_depth t) below) more && few s more)
+      (seen_behind (one ∷ so_far) tree))
+      ∙ pair_valid (Fits tree) (not (is_default tree && seen))
+      (list_all (λ t. fits_branch t && nat_le (branch_depth t) below) more)
       (few (seen || is_default tree) more)
       ∙ ap (λ b. (Fits tree && list_all (λ t. fits_branch t && nat_le (branch_depth t) below) more) && b)
       (one_at_most (is_default tree) seen (defaults (branches_in more)))
@@ -372,8 +399,10 @@ module _ (below : ℕ) (level : nat_le 1 below ≡ true) (read : Reader Statemen
 
       spelled : (tree : Case) → spell_statement (case_parts_of kind tree) ≡ case_word kind ∷ case_shape.spell tree
       spelled (both tree (both (both one more) end)) =
-          ap (λ ws. case_word kind ∷ ws) (behind_condition tree ((spell_branch one ++ spell_branches (branches_in more)) ++ codes "endcase" ∷ [])
-          ∙ ap (λ ws. codes "(" ∷ (spell_expression tree ++ codes ")" ∷ ((spell_branch one ++ ws) ++ codes "endcase" ∷ []))) (all_spelled more))
+          ap (λ ws. case_word kind ∷ ws)
+          (behind_condition tree ((spell_branch one ++ spell_branches (branches_in more)) ++ codes "endcase" ∷ [])
+          ∙ ap (λ ws. codes "(" ∷ (spell_expression tree ++ codes ")" ∷ ((spell_branch one ++ ws) ++ codes "endcase" ∷ [])))
+          (all_spelled more))
 
       regroup : (f d g p q : Bool) → ((((f && true) && d) && g) && (p && q)) ≡ ((f && p) && ((g && q) && d))
       regroup false d g p q = refl
@@ -394,7 +423,8 @@ module _ (below : ℕ) (level : nat_le 1 below ≡ true) (read : Reader Statemen
           ∙ regroup (fits_expression tree) (nat_le most 1) (fits_branches (branches_in (one ∷ more))) (nat_le (depth tree) below)
           (nat_le (branches_depth (branches_in (one ∷ more))) below)
           ∙ ap (λ b. (fits_expression tree && nat_le (depth tree) below) && (b && nat_le most 1))
-          (all_within fits_branch branch_depth (λ l. fits_branches (branches_in l)) (λ l. branches_depth (branches_in l)) refl refl
+          (all_within fits_branch branch_depth (λ l. fits_branches (branches_in l))
+          (λ l. branches_depth (branches_in l)) refl refl
           (λ t ts. refl) (λ t ts. refl) below (one ∷ more))
           ∙ ap (λ b. (fits_expression tree && nat_le (depth tree) below) && b)
           (and_assoc (Fits one) all (nat_le most 1)

@@ -20,3 +20,11 @@ pub mod StatementShapes
 pub mod StatementPhrases
 pub mod TaskPhrases
 pub mod CasePhrases
+pub mod StatementLevels
+pub mod StatementReads
+pub mod Growth
+pub mod PartGrowth
+pub mod StatementGrowth
+pub mod PhrasePlaces
+pub mod StatementStops
+pub mod HeadPhrases

@@ -1,24 +1,22 @@
 -- Delays, event controls, arguments and what is dumped, behind their first words.
-use Rattle.std.proofs.Common.{◌≡◌, ℕ, zero, suc, ◌+◌, ◌<◌, Bool, true, false, ◌&&◌, ◌||◌, not, max, nat_le, if◌then◌else◌, List, [], ◌∷◌, ◌++◌, Option, None, Some, length, flat_map, refl, sym, ap, ◌∙◌, arith, subst, append_assoc, codes}
+use Rattle.std.proofs.Common.{◌≡◌, ℕ, suc, ◌<◌, Bool, true, false, ◌&&◌, not, nat_le, List, [], ◌∷◌, ◌++◌, Option, None, Some, length, flat_map, refl, sym, ap, ◌∙◌, arith, codes}
 use Rattle.std.specs.List.{list_all}
 use Rattle.std.specs.Str.{bytes_eq}
-use Rattle.std.proofs.lemmas.Bool.Decides.{nat_tests}
-use Rattle.basis.proofs.Bools.{and_left, and_right, and_both}
+use Rattle.basis.proofs.Bools.{and_left, and_both}
 use Rattle.vast.specs.Syntax.{Text}
 use Rattle.vast.specs.Words.{is_name, is_number, is_string, reserved_words}
 use Rattle.vast.specs.Expressions.{ExpressionTree, spell_expression, fits_expression, depth}
-use Rattle.vast.specs.Statements.{DelayTree, by_number, by_name, by_value, in_parentheses, spell_delay, delay_depth, fits_delay, TermTree, FurtherTerm, EventTree, by_event, by_any, by_any_enclosed, by_terms, edge_word, spell_edge, spell_term, spell_further_term, spell_event, event_depth, fits_event, fits_further_term, ArgumentTree, quoted, printed, spell_argument, argument_depth, fits_argument, SelectionTree, spell_path, fits_path}
+use Rattle.vast.specs.Statements.{DelayTree, by_number, by_name, by_value, in_parentheses, spell_delay, delay_depth, fits_delay, TermTree, FurtherTerm, EventTree, by_event, by_any, by_any_enclosed, by_terms, edge_word, spell_edge, spell_term, spell_further_term, fits_event, fits_further_term, ArgumentTree, quoted, printed, spell_argument, argument_depth, fits_argument, SelectionTree, spell_path, fits_path}
 use Rattle.vast.specs.declared.statement.Edge.{Edge}
 use Rattle.vast.specs.declared.statement.Edge.TheVariants as edge
-use Rattle.vexpr_parse.specs.Readers.{got, Reader, front, is_front, past}
-use Rattle.vexpr_parse.specs.Words.{binary_of, written, ends}
-use Rattle.vexpr_parse.specs.Lawful.{Ends}
+use Rattle.vexpr_parse.specs.Readers.{front, is_front, past}
+use Rattle.vexpr_parse.specs.Words.{binary_of, ends}
 use Rattle.vexpr_parse.proofs.ReaderRules.{same_text}
-use Rattle.vparse.specs.Parts.{Both, both, Either, one_way, other_way, made, paired, worded, many, maybe, either}
+use Rattle.vparse.specs.Parts.{Both, both, Either, one_way, other_way, paired, worded, many, either}
 use Rattle.vparse.specs.Starts.{is_word, edge_of, comma_of, comma_word, is_meant, is_some_meaning}
 use Rattle.vparse.specs.Statements.{value, named, numbered, List_of, comma_list, word_only, Amount, delay_of, amount, optional_delay, term_of, term, further_of, further_term, Terms, Event, event_of, enclosed_event, control, argument_of, argument, Arguments, arguments, path_of, path, Selection, selection_of, selection}
-use Rattle.vparse.proofs.Phrases.{Shape, Phrase, Example, Worded, Opens, Makes, From, always, phrase_within, made_phrase, past_shape, past_phrase, past_example, nothing_phrase, worded_shape, worded_phrase, paired_shape, paired_phrase, before_phrase, paired_example, free_phrase, next_phrase}
-use Rattle.vparse.proofs.PhraseChoices.{ends_maybe, maybe_shape, maybe_phrase, either_shape, either_phrase, Tested, ends_many, allows_all, many_shape, many_phrase}
+use Rattle.vparse.proofs.Phrases.{Shape, Phrase, Example, Worded, Makes, From, always, phrase_within, made_phrase, past_shape, past_phrase, nothing_phrase, worded_shape, worded_phrase, paired_shape, before_phrase, paired_example, free_phrase, next_phrase}
+use Rattle.vparse.proofs.PhraseChoices.{ends_maybe, maybe_shape, maybe_phrase, either_shape, either_phrase, Tested, allows_all, many_shape, many_phrase}
 use Rattle.vparse.proofs.LevelFacts.{one_within, and_true}
 use Rattle.vparse.proofs.ValuePhrases.{value_shape, value_phrase, value_example, value_worded, nothing_example, word_if_phrase, only_shape, only_phrase, only_example, comma, comma_shape, more_behind, comma_phrase, allows_each}
 use Rattle.vparse.proofs.WordPhrases.{clash, not_so, name_no_number, as_written, refused_first, value_refuses, string_is_other}
@@ -81,7 +79,8 @@ module _ (below : ℕ) (level : nat_le 1 below ≡ true) where
       (past (codes "(") (paired (value below) (word_only (codes ")")))))) always AmountParts
   amount_parts_phrase =
       either_phrase (is_word is_number) numbered_phrase
-      (either_phrase (is_word is_name) named_phrase enclosed_phrase (λ tree v. positive 0) (λ tree v. positive _) (λ tree v rest. v)
+      (either_phrase (is_word is_name) named_phrase enclosed_phrase (λ tree v. positive 0) (λ tree v. positive _)
+      (λ tree v rest. v)
       (λ tree v rest. refl))
       (λ tree v. positive 0) some (λ tree v rest. v) no_number
     where
@@ -101,7 +100,8 @@ module _ (below : ℕ) (level : nat_le 1 below ≡ true) where
       spelled (other_way (one_way letters)) = refl
       spelled (other_way (other_way (both tree end))) = refl
 
-      valid : (tree : Amount) → (fits_delay (delay_of tree) && nat_le (delay_depth (delay_of tree)) below) ≡ AmountParts.valid tree
+      valid : (tree : Amount) → (fits_delay (delay_of tree) && nat_le (delay_depth (delay_of tree)) below)
+          ≡ AmountParts.valid tree
       valid (one_way digits) = ap (λ b. is_number digits && b) level ∙ and_true (is_number digits)
       valid (other_way (one_way letters)) = ap (λ b. is_name letters && b) level ∙ and_true (is_name letters)
       valid (other_way (other_way (both tree end))) = sym (and_true (fits_expression tree && nat_le (depth tree) below))
@@ -147,7 +147,8 @@ no_meaning (Some tree) f = absurd (f tree refl)
 
 no_edge : (letters : Text) → is_name letters ≡ true → is_some_meaning (edge_of letters) ≡ false
 unfolding reserved_words
-no_edge letters is = no_meaning (edge_of letters) (λ kind e. reserved kind (as_written edge_word (edge.Rising ∷ edge.Falling ∷ []) letters kind e))
+no_edge letters is = no_meaning (edge_of letters)
+    (λ kind e. reserved kind (as_written edge_word (edge.Rising ∷ edge.Falling ∷ []) letters kind e))
   where
     edges_reserved : (kind : Edge) → is_name (edge_word kind) ≡ false
     edges_reserved edge.Rising = refl
@@ -178,8 +179,10 @@ term_makes = record { spelled = spelled; valid = valid; closes = λ tree next e.
 
 term_phrase : Phrase term always term_shape
 term_phrase =
-    made_phrase term_of term_shape (λ tree v. record { parts = both tree.edge tree.name; is = refl }) term_makes (λ tree next e. refl)
-    (next_phrase (maybe_phrase (is_meant edge_of) edge_phrase (λ kind v. positive 0) begins) named_phrase a_name (λ letters v. positive 0)
+    made_phrase term_of term_shape (λ tree v. record { parts = both tree.edge tree.name; is = refl }) term_makes
+    (λ tree next e. refl)
+    (next_phrase (maybe_phrase (is_meant edge_of) edge_phrase (λ kind v. positive 0) begins) named_phrase a_name
+    (λ letters v. positive 0)
     (λ letters v rest c. ap not (no_edge letters v)))
   where
     begins : Tested (is_meant edge_of) true edge_shape
@@ -207,17 +210,20 @@ further_shape = record { spell = spell_further_term; valid = fits_further_term; 
 further_makes : Makes further_of (paired_shape comma_kind_shape term_shape) further_shape []
 further_makes = record { spelled = spelled; valid = valid; closes = λ tree next e. closes tree next; stops = λ tree next e. refl }
   where
-    spelled : (tree : Both Bool TermTree) → spell_further_term (further_of tree) ≡ (paired_shape comma_kind_shape term_shape).spell tree
+    spelled : (tree : Both Bool TermTree) → spell_further_term (further_of tree)
+        ≡ (paired_shape comma_kind_shape term_shape).spell tree
     spelled (both kind tree) = refl
 
-    valid : (tree : Both Bool TermTree) → fits_further_term (further_of tree) ≡ (paired_shape comma_kind_shape term_shape).valid tree
+    valid : (tree : Both Bool TermTree) → fits_further_term (further_of tree)
+        ≡ (paired_shape comma_kind_shape term_shape).valid tree
     valid (both kind tree) = refl
 
     closes : (tree : Both Bool TermTree) (next : Option Text) → (paired_shape comma_kind_shape term_shape).closes tree next ≡ true
     closes (both kind tree) next = refl
 
 further_phrase : Phrase further_term always further_shape
-further_phrase = made_phrase further_of further_shape (λ tree v. record { parts = both tree.by_comma tree.term; is = refl }) further_makes
+further_phrase = made_phrase further_of further_shape
+    (λ tree v. record { parts = both tree.by_comma tree.term; is = refl }) further_makes
     (λ tree next e. refl) (free_phrase comma_kind_phrase term_phrase a_term)
 
 abbrev further : Option Text → Bool
@@ -225,7 +231,8 @@ further = is_meant comma_of
 
 abbrev pub terms_shape : Shape Terms
 terms_shape =
-    paired_shape (paired_shape term_shape (many_shape further always further_shape (λ list. fits_further_term))) (only_shape (codes ")"))
+    paired_shape (paired_shape term_shape (many_shape further always further_shape (λ list. fits_further_term)))
+    (only_shape (codes ")"))
 
 terms_phrase : Phrase (paired (paired term (many further (λ list. further_term))) (word_only (codes ")"))) always terms_shape
 terms_phrase =
@@ -255,13 +262,15 @@ no_star letters is = not_so (bytes_eq (codes "*") letters)
 
 enclosed_event_phrase : Phrase enclosed_event always enclosed_event_shape
 enclosed_event_phrase =
-    either_phrase star (past_phrase (codes "*") (only_phrase (codes ")")) (only_example (codes ")"))) terms_phrase (λ tree v. positive _)
+    either_phrase star (past_phrase (codes "*") (only_phrase (codes ")")) (only_example (codes ")"))) terms_phrase
+    (λ tree v. positive _)
     some (λ tree v rest. refl) no_stars
   where
     some : Worded terms_shape
     some (both (both tree more) end) v = by_edge tree.edge
       where
-        by_edge : (kind : Option Edge) → 0 < length (((spell_edge kind ++ tree.name ∷ []) ++ flat_map spell_further_term more) ++ codes ")" ∷ [])
+        by_edge : (kind : Option Edge) →
+            0 < length (((spell_edge kind ++ tree.name ∷ []) ++ flat_map spell_further_term more) ++ codes ")" ∷ [])
         by_edge None = positive _
         by_edge (Some kind) = positive _
 
@@ -285,7 +294,8 @@ abbrev pub event_shape : Shape EventTree
 event_shape = record { spell = event_words; valid = fits_event; closes = λ tree. always; stops = λ tree next. true }
 
 abbrev EventParts : Shape Event
-EventParts = either_shape (text_shape is_name) (either_shape (only_shape (codes "*")) (past_shape (codes "(") enclosed_event_shape))
+EventParts = either_shape (text_shape is_name)
+    (either_shape (only_shape (codes "*")) (past_shape (codes "(") enclosed_event_shape))
 
 event_makes : Makes event_of EventParts event_shape []
 event_makes = record { spelled = spelled; valid = valid; closes = λ tree next e. closes tree next; stops = λ tree next e. refl }
@@ -359,7 +369,8 @@ module _ (below : ℕ) (level : nat_le 1 below ≡ true) where
       valid (one_way letters) = ap (λ b. is_string letters && b) level ∙ and_true (is_string letters)
       valid (other_way tree) = refl
 
-      closes : (tree : Either Text ExpressionTree) (next : Option Text) → ends 0 next ≡ true → ArgumentParts.closes tree next ≡ true
+      closes : (tree : Either Text ExpressionTree) (next : Option Text) → ends 0 next ≡ true → ArgumentParts.closes tree next
+          ≡ true
       closes (one_way letters) next e = refl
       closes (other_way tree) next e = e
 
@@ -381,20 +392,41 @@ module _ (below : ℕ) (level : nat_le 1 below ≡ true) where
   abbrev pub arguments_shape : Shape Arguments
   arguments_shape = past_shape (codes "(") (paired_shape (comma_shape (ends 0) (argument_shape below)) (only_shape (codes ")")))
 
-  pub arguments_phrase : Phrase (arguments below) always arguments_shape
+  pub arguments_example : Example arguments_shape
+  arguments_example = record {
+    tree = both (both argument_example.tree []) tt;
+    valid = and_both _ true (and_both _ true argument_example.valid refl) refl;
+  }
+
+  pub arguments_inner_phrase : Phrase (paired (comma_list (argument below)) (word_only (codes ")"))) always
+      (paired_shape (comma_shape (ends 0) (argument_shape below)) (only_shape (codes ")")))
   unfolding binary_of
+  arguments_inner_phrase =
+      before_phrase (codes ")") (comma_phrase argument_phrase argument_example refl) (nothing_phrase always) nothing_example refl
+
+  pub arguments_phrase : Phrase (arguments below) always arguments_shape
   arguments_phrase =
-      past_phrase (codes "(")
-      (before_phrase (codes ")") (comma_phrase argument_phrase argument_example refl) (nothing_phrase always) nothing_example refl)
-      (record { tree = both (both argument_example.tree []) tt; valid = and_both _ true (and_both _ true argument_example.valid refl) refl })
+      past_phrase (codes "(") arguments_inner_phrase
+      (record {
+        tree = both (both argument_example.tree []) tt;
+        valid = and_both _ true
+            (and_both _ true argument_example.valid refl) refl;
+      })
 
 -- Paths and selections
 
 abbrev pub path_shape : Shape (List Text)
-path_shape = record { spell = spell_path; valid = fits_path; closes = λ tree next. not (is_front (codes ".") next); stops = λ tree next. true }
+path_shape = record {
+  spell = spell_path;
+  valid = fits_path;
+  closes = λ tree next. not
+      (is_front (codes ".") next);
+  stops = λ tree next. true;
+}
 
 abbrev PathParts : Shape (List_of Text)
-PathParts = paired_shape (text_shape is_name) (many_shape (is_front (codes ".")) always (past_shape (codes ".") (text_shape is_name)) (λ list. is_name))
+PathParts = paired_shape (text_shape is_name)
+    (many_shape (is_front (codes ".")) always (past_shape (codes ".") (text_shape is_name)) (λ list. is_name))
 
 path_makes : Makes path_of PathParts path_shape []
 path_makes = record { spelled = spelled; valid = valid; closes = closes; stops = λ tree next e. refl }
@@ -410,7 +442,8 @@ path_makes = record { spelled = spelled; valid = valid; closes = closes; stops =
         ap (λ b. b && (is_name letters && list_all is_name more)) (some (length more))
         ∙ ap (λ b. is_name letters && b) (sym (allows_each is_name [] more))
 
-    closes : (tree : List_of Text) (next : Option Text) → not (is_front (codes ".") next) ≡ true → PathParts.closes tree next ≡ true
+    closes : (tree : List_of Text) (next : Option Text) → not (is_front (codes ".") next) ≡ true → PathParts.closes tree next
+        ≡ true
     closes (both letters more) next e = e
 
 path_phrase : Phrase path (λ next. not (is_front (codes ".") next)) path_shape
@@ -429,7 +462,8 @@ a_path = record { tree = codes "a" ∷ []; valid = refl }
 abbrev SelectionParts : Shape Selection
 SelectionParts =
     past_shape (codes "(") (paired_shape (text_shape is_number)
-    (paired_shape (many_shape comma (λ next. not (is_front (codes ".") next)) (past_shape (codes ",") path_shape) (λ list. fits_path))
+    (paired_shape (many_shape comma (λ next. not (is_front (codes ".") next)) (past_shape (codes ",") path_shape)
+    (λ list. fits_path))
     (only_shape (codes ")"))))
 
 abbrev pub selection_shape : Shape SelectionTree
@@ -448,14 +482,16 @@ selection_makes = record { spelled = spelled; valid = valid; closes = λ tree ne
 
     valid : (tree : Selection) → selection_shape.valid (selection_of tree) ≡ SelectionParts.valid tree
     valid (both digits (both paths end)) =
-        ap (λ b. is_number digits && b) (sym (allows_each fits_path [] paths) ∙ sym (and_true (allows_all (λ list. fits_path) [] paths)))
+        ap (λ b. is_number digits && b)
+        (sym (allows_each fits_path [] paths) ∙ sym (and_true (allows_all (λ list. fits_path) [] paths)))
 
     closes : (tree : Selection) (next : Option Text) → SelectionParts.closes tree next ≡ true
     closes (both digits (both paths end)) next = refl
 
 pub selection_phrase : Phrase selection always selection_shape
 selection_phrase =
-    made_phrase selection_of selection_shape (λ tree v. record { parts = both tree.levels (both tree.paths tt); is = refl }) selection_makes
+    made_phrase selection_of selection_shape
+    (λ tree v. record { parts = both tree.levels (both tree.paths tt); is = refl }) selection_makes
     (λ tree next e. refl)
     (past_phrase (codes "(")
     (free_phrase numbered_phrase

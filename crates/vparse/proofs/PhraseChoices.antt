@@ -1,16 +1,16 @@
 -- What readers made of others read, continued: what may be left out, one or another, one behind the other, where levels are left.
-use Rattle.std.proofs.Common.{◌≡◌, ℕ, zero, suc, ◌+◌, ◌<◌, Bool, true, false, ◌&&◌, not, nat_le, if◌then◌else◌, List, [], ◌∷◌, ◌++◌, Option, None, Some, length, flat_map, refl, sym, ap, ◌∙◌, arith, inl, inr, subst, append_assoc, length-append}
+use Rattle.std.proofs.Common.{◌≡◌, ℕ, zero, suc, ◌<◌, Bool, true, false, ◌&&◌, not, nat_le, if◌then◌else◌, List, [], ◌∷◌, ◌++◌, Option, None, Some, length, flat_map, refl, sym, ap, ◌∙◌, arith, inl, inr, subst, append_assoc}
 use Rattle.std.proofs.lemmas.Bool.{cases_Bool}
 use Rattle.std.proofs.lemmas.List.{append-nil}
 use Rattle.basis.proofs.Bools.{and_left, and_right, and_both}
 use Rattle.vast.specs.Syntax.{Text}
 use Rattle.vexpr_parse.specs.declared.stop.Stop.TheVariants.{TooDeep}
-use Rattle.vexpr_parse.specs.Readers.{got, stop, Reader, front, and_then, choose, rounds, turns}
-use Rattle.vexpr_parse.specs.Lawful.{Ends, Sees, Lawful}
+use Rattle.vexpr_parse.specs.Readers.{got, stop, Reader, front, and_then, rounds, turns}
+use Rattle.vexpr_parse.specs.Lawful.{Ends, Lawful}
 use Rattle.vexpr_parse.proofs.ReaderRules.{chosen, passed_over, stop_got, got_tree, got_left, then_got, parts_of, Eats}
 use Rattle.vexpr_parse.proofs.ReaderLoops.{option_rule, choose_sees, turns_end, turns_on, turns_rule}
 use Rattle.vparse.specs.Parts.{Either, one_way, other_way, made, one_behind, many, maybe, either, roomy}
-use Rattle.vparse.proofs.Phrases.{Shape, IsGot, Sound, Complete, Phrase, same_got, Worded, sound_eats, lawful_within, Makes, made_lawful, made_sound, made_complete}
+use Rattle.vparse.proofs.Phrases.{Shape, Sound, Complete, Phrase, same_got, Worded, sound_eats, lawful_within, Makes, made_lawful, made_sound, made_complete}
 
 pub not_true : (b : Bool) → not b ≡ true → b ≡ false
 not_true true e = let clash : false ≡ true = e in absurd cc
@@ -23,7 +23,8 @@ made_eats make read eats words tree left e =
 
 -- a tree's first word passes the test
 abbrev pub Tested : {A : Type 0} → (Option Text → Bool) → Bool → Shape A → Type 0
-Tested {A = A} test answer s = (tree : A) → s.valid tree ≡ true → (rest : List Text) → test (front (s.spell tree ++ rest)) ≡ answer
+Tested {A = A} test answer s = (tree : A) → s.valid tree ≡ true → (rest : List Text) → test (front (s.spell tree ++ rest))
+    ≡ answer
 
 -- What may be left out
 
@@ -54,10 +55,12 @@ maybe_shape test ends s = record {
   stops = stops_maybe test s;
 }
 
-pub maybe_phrase : {A : Type 0} (test : Option Text → Bool) {read : Reader A} {ends : Ends} {s : Shape A} → Phrase read ends s → Worded s →
+pub maybe_phrase : {A : Type 0} (test : Option Text → Bool) {read : Reader A} {ends : Ends} {s : Shape A} →
+    Phrase read ends s → Worded s →
     Tested test true s → Phrase (maybe test read) (ends_maybe test ends) (maybe_shape test ends s)
 maybe_phrase {A = A} test {read = read} {ends = ends} {s = s} p some tests = record {
-  lawful = (option_rule test (made Some read) None (ends_maybe test ends) (made_eats Some read (sound_eats read s p.sound some)) not_tested
+  lawful = (option_rule test (made Some read) None (ends_maybe test ends)
+      (made_eats Some read (sound_eats read s p.sound some)) not_tested
       lawful).lawful;
   sound = sound;
   complete = complete;
@@ -91,7 +94,8 @@ maybe_phrase {A = A} test {read = read} {ends = ends} {s = s} p some tests = rec
         chosen (test (front (s.spell tree ++ rest))) _ _ (tests tree v rest)
         ∙ then_got (read (s.spell tree ++ rest)) (λ t. got (Some t)) tree rest (p.complete tree rest v c)
 
-    closed : (tree : Option A) (first : Option Text) → ends_maybe test ends first ≡ true → closes_maybe test ends s tree first ≡ true
+    closed : (tree : Option A) (first : Option Text) → ends_maybe test ends first ≡ true → closes_maybe test ends s tree first
+        ≡ true
     closed None first f = f
     closed (Some tree) first f = p.closed tree first (and_left (ends first) (not (test first)) f)
 
@@ -121,48 +125,82 @@ either_shape s t = record {
   stops = stops_either s t;
 }
 
-pub either_phrase : {A B : Type 0} (test : Option Text → Bool) {read : Reader A} {other : Reader B} {ends : Ends} {s : Shape A} {t : Shape B} →
-    Phrase read ends s → Phrase other ends t → Worded s → Worded t → Tested test true s → Tested test false t →
+module _ {A B : Type 0} (test : Option Text → Bool) {read : Reader A} {other : Reader B} {ends : Ends} {s : Shape A} {t : Shape B}
+    (p : Phrase read ends s) (q : Phrase other ends t) (some : Worded s)
+    (links : (tree : B) (words : List Text) → other words ≡ got tree words → ends (front words) ≡ true → test (front words) ≡ false)
+    (tests : Tested test true s)
+    (fails_test : (tree : B) → t.valid tree ≡ true → (rest : List Text) → t.closes tree (front rest) ≡ true →
+    test (front (t.spell tree ++ rest)) ≡ false) where
+  below : (n : ℕ) → n < n → ⊥
+  below n e = omega (arith, e)
+
+  makes_one : Makes one_way s (either_shape s t) []
+  makes_one = record { spelled = λ tree. refl; valid = λ tree. refl; closes = λ tree first e. e; stops = λ tree first e. e }
+
+  makes_other : Makes other_way t (either_shape s t) []
+  makes_other = record { spelled = λ tree. refl; valid = λ tree. refl; closes = λ tree first e. e; stops = λ tree first e. e }
+
+  no_other : (tree : Either A B) (words : List Text) → made other_way other words ≡ got tree words → ends (front words) ≡ true →
+      test (front words) ≡ false
+  no_other tree words is e =
+      let a = parts_of (other words) (λ t. got (other_way t)) tree words is in
+      links a.one words (a.first ∙ ap (got a.one) (got_left a.second)) e
+
+  either_lawful : Lawful (either test read other) ends
+  either_lawful words =
+      choose_sees test (made one_way read) (made other_way other) ends
+      (λ tree ws is e. absurd (below (length ws) (made_eats one_way read (sound_eats read s p.sound some) ws tree ws is))) no_other
+      words (λ e. made_lawful one_way read ends p.lawful words) (λ e. made_lawful other_way other ends q.lawful words)
+
+  either_sound : Sound (either test read other) (either_shape s t)
+  either_sound words tree left f =
+      elim (cases_Bool (test (front words))) [
+        | inl holds ↦ made_sound one_way read s (either_shape s t) [] makes_one p.sound words tree left
+            (sym (chosen (test (front words)) _ (made other_way other words) holds) ∙ f)
+        | inr fails ↦ made_sound other_way other t (either_shape s t) [] makes_other q.sound words tree left
+            (sym (passed_over (test (front words)) (made one_way read words) _ fails) ∙ f)
+      ]
+
+  either_complete : Complete (either test read other) (either_shape s t)
+  either_complete (one_way x) rest v c =
+      chosen (test (front (s.spell x ++ rest))) _ _ (tests x v rest)
+      ∙ made_complete one_way read s (either_shape s t) [] makes_one p.complete x rest v c
+  either_complete (other_way y) rest v c =
+      passed_over (test (front (t.spell y ++ rest))) _ _ (fails_test y v rest c)
+      ∙ made_complete other_way other t (either_shape s t) [] makes_other q.complete y rest v c
+
+  either_closed : (tree : Either A B) (first : Option Text) → ends first ≡ true → closes_either s t tree first ≡ true
+  either_closed (one_way x) first e = p.closed x first e
+  either_closed (other_way y) first e = q.closed y first e
+
+  -- the second one may have no words
+  pub either_open_phrase : Phrase (either test read other) ends (either_shape s t)
+  either_open_phrase = record {
+    lawful = either_lawful;
+    sound = either_sound;
+    complete = either_complete;
+    closed = either_closed;
+  }
+
+pub either_phrase : {A B : Type 0} (test : Option Text → Bool) {read : Reader A} {other : Reader B} {ends : Ends} {s : Shape A}
+    {t : Shape B} → Phrase read ends s → Phrase other ends t → Worded s → Worded t → Tested test true s → Tested test false t →
     Phrase (either test read other) ends (either_shape s t)
-either_phrase {A = A} {B = B} test {read = read} {other = other} {ends = ends} {s = s} {t = t} p q some some_other tests fails_test = record {
-  lawful = λ words. choose_sees test (made one_way read) (made other_way other) ends
-      (λ tree ws is e. absurd (below (length ws) (made_eats one_way read (sound_eats read s p.sound some) ws tree ws is)))
-      (λ tree ws is e. absurd (below (length ws) (made_eats other_way other (sound_eats other t q.sound some_other) ws tree ws is)))
-      words (λ e. made_lawful one_way read ends p.lawful words) (λ e. made_lawful other_way other ends q.lawful words);
-  sound = sound;
-  complete = complete;
-  closed = closed;
-}
+either_phrase test {other = other} {t = t} p q some some_other tests fails_test =
+    either_open_phrase test p q some (λ tree words is e. absurd (never (length words) (sound_eats other t q.sound some_other words tree words is)))
+    tests (λ tree v rest c. fails_test tree v rest)
   where
-    below : (n : ℕ) → n < n → ⊥
-    below n e = omega (arith, e)
+    never : (n : ℕ) → n < n → ⊥
+    never n e = omega (arith, e)
 
-    makes_one : Makes one_way s (either_shape s t) []
-    makes_one = record { spelled = λ tree. refl; valid = λ tree. refl; closes = λ tree first e. e; stops = λ tree first e. e }
+-- neither of two begins with such a word
+pub either_tested : {A B : Type 0} (test : Option Text → Bool) (answer : Bool) (s : Shape A) (t : Shape B) → Tested test answer s →
+    Tested test answer t → Tested test answer (either_shape s t)
+either_tested test answer s t p q (one_way x) v rest = p x v rest
+either_tested test answer s t p q (other_way y) v rest = q y v rest
 
-    makes_other : Makes other_way t (either_shape s t) []
-    makes_other = record { spelled = λ tree. refl; valid = λ tree. refl; closes = λ tree first e. e; stops = λ tree first e. e }
-
-    sound : Sound (either test read other) (either_shape s t)
-    sound words tree left f =
-        elim (cases_Bool (test (front words))) [
-          | inl holds ↦ made_sound one_way read s (either_shape s t) [] makes_one p.sound words tree left
-              (sym (chosen (test (front words)) _ (made other_way other words) holds) ∙ f)
-          | inr fails ↦ made_sound other_way other t (either_shape s t) [] makes_other q.sound words tree left
-              (sym (passed_over (test (front words)) (made one_way read words) _ fails) ∙ f)
-        ]
-
-    complete : Complete (either test read other) (either_shape s t)
-    complete (one_way x) rest v c =
-        chosen (test (front (s.spell x ++ rest))) _ _ (tests x v rest)
-        ∙ made_complete one_way read s (either_shape s t) [] makes_one p.complete x rest v c
-    complete (other_way y) rest v c =
-        passed_over (test (front (t.spell y ++ rest))) _ _ (fails_test y v rest)
-        ∙ made_complete other_way other t (either_shape s t) [] makes_other q.complete y rest v c
-
-    closed : (tree : Either A B) (first : Option Text) → ends first ≡ true → closes_either s t tree first ≡ true
-    closed (one_way x) first e = p.closed x first e
-    closed (other_way y) first e = q.closed y first e
+pub either_worded : {A B : Type 0} (s : Shape A) (t : Shape B) → Worded s → Worded t → Worded (either_shape s t)
+either_worded s t p q (one_way x) v = p x v
+either_worded s t p q (other_way y) v = q y v
 
 -- Where levels are left
 
@@ -180,7 +218,8 @@ roomy_phrase {A = A} below levels {read = read} {ends = ends} {s = s} p deep clo
     clash true e f = let no : true ≡ false = e in cc
     clash false e f = let no : false ≡ true = f in cc
 
-    by_room : (b : Bool) → nat_le levels below ≡ true → Phrase (λ words. if nat_le levels below then read words else stop TooDeep words) ends s
+    by_room : (b : Bool) → nat_le levels below ≡ true →
+        Phrase (λ words. if nat_le levels below then read words else stop TooDeep words) ends s
     by_room b e =
         subst (λ (c : Bool). Phrase (λ words. if c then read words else stop TooDeep words) ends s) (sym e) (p e)
 
@@ -221,11 +260,14 @@ many_shape test ends base allows = record {
   stops = λ list first. not (test first);
 }
 
-module _ {A : Type 0} (test : Option Text → Bool) (read : List A → Reader A) (ends : Ends) (base : Shape A) (allows : List A → A → Bool)
+module _ {A : Type 0} (test : Option Text → Bool) (read : List A → Reader A) (ends : Ends) (base : Shape A)
+    (allows : List A → A → Bool)
     (p : (list : List A) → Phrase (read list) ends (allowed base allows list))
     (some : (list : List A) (tree : A) → allows list tree ≡ true → 0 < length (base.spell tree))
-    (tests : (list : List A) (tree : A) (rest : List Text) → allows list tree ≡ true → test (front (base.spell tree ++ rest)) ≡ true)
-    (follows : (list : List A) (tree : A) (rest : List Text) → allows list tree ≡ true → ends (front (base.spell tree ++ rest)) ≡ true) where
+    (tests : (list : List A) (tree : A) (rest : List Text) → allows list tree ≡ true → test (front (base.spell tree ++ rest))
+    ≡ true)
+    (follows : (list : List A) (tree : A) (rest : List Text) → allows list tree ≡ true → ends (front (base.spell tree ++ rest))
+    ≡ true) where
   turn_eats : (list : List A) → Eats (one_behind read list)
   turn_eats list = made_eats (λ tree. list ++ tree ∷ []) (read list)
       (sound_eats (read list) (allowed base allows list) (p list).sound (some list))
@@ -269,7 +311,8 @@ module _ {A : Type 0} (test : Option Text → Bool) (read : List A → Reader A)
               stopped = r.stopped;
             }
         | inr fails ↦
-            let same = sym (passed_over (test (front words)) (and_then (one_behind read so_far words) (rounds (one_behind read) test fuel)) _ fails)
+            let same = sym (passed_over (test (front words))
+            (and_then (one_behind read so_far words) (rounds (one_behind read) test fuel)) _ fails)
             ∙ e in
             record {
               list = [];
@@ -290,17 +333,20 @@ module _ {A : Type 0} (test : Option Text → Bool) (read : List A → Reader A)
       }
 
   -- what follows an element ends it: another one, or what ends them all
-  pub behind_ended : (so_far more : List A) (rest : List Text) → allows_all allows so_far more ≡ true → ends_many test ends (front rest) ≡ true →
+  pub behind_ended : (so_far more : List A) (rest : List Text) → allows_all allows so_far more ≡ true →
+      ends_many test ends (front rest) ≡ true →
       ends (front (flat_map base.spell more ++ rest)) ≡ true
   behind_ended so_far [] rest v e = ended (front rest) e
   behind_ended so_far (next ∷ more) rest v e =
       ap (λ ws. ends (front ws)) (append_assoc (base.spell next) (flat_map base.spell more) rest)
       ∙ follows so_far next (flat_map base.spell more ++ rest) (and_left (allows so_far next) _ v)
 
-  turns_complete : (list so_far : List A) (rest : List Text) → allows_all allows so_far list ≡ true → ends_many test ends (front rest) ≡ true →
+  turns_complete : (list so_far : List A) (rest : List Text) → allows_all allows so_far list ≡ true →
+      ends_many test ends (front rest) ≡ true →
       turns (one_behind read) test so_far (flat_map base.spell list ++ rest) ≡ got (so_far ++ list) rest
   turns_complete [] so_far rest v e =
-      turns_end (one_behind read) test turn_eats so_far rest (not_tested (front rest) e) ∙ ap (λ l. got l rest) (sym (append-nil so_far))
+      turns_end (one_behind read) test turn_eats so_far rest (not_tested (front rest) e)
+      ∙ ap (λ l. got l rest) (sym (append-nil so_far))
   turns_complete (tree ∷ more) so_far rest v e =
       let after : List Text = flat_map base.spell more ++ rest in
       let here = and_left (allows so_far tree) _ v in

@@ -1,14 +1,12 @@
 -- What readers made of others read. A shape says the words of each tree, which trees may stand, what may follow one so that
 -- it is read, and what follows where one was read.
-use Rattle.std.proofs.Common.{◌≡◌, ℕ, zero, suc, ◌+◌, ◌<◌, Bool, true, false, ◌&&◌, not, if◌then◌else◌, List, [], ◌∷◌, ◌++◌, Option, None, Some, length, refl, sym, ap, ◌∙◌, arith, inl, inr, subst, append_assoc, length-append}
+use Rattle.std.proofs.Common.{◌≡◌, ℕ, suc, ◌+◌, ◌<◌, Bool, true, false, ◌&&◌, if◌then◌else◌, List, [], ◌∷◌, ◌++◌, Option, None, Some, length, refl, sym, ap, ◌∙◌, arith, subst, append_assoc, length-append}
 use Rattle.std.specs.Str.{bytes_eq}
-use Rattle.std.proofs.lemmas.Bool.{cases_Bool}
-use Rattle.std.proofs.lemmas.List.{append-nil}
 use Rattle.basis.proofs.Bools.{and_left, and_right, and_both}
 use Rattle.vast.specs.Syntax.{Text}
-use Rattle.vexpr_parse.specs.Readers.{Answer, got, stop, Reader, front, is_front, and_then, Lead, goes, refused, lower, follow, led, past, choose}
-use Rattle.vexpr_parse.specs.Lawful.{rest_of, Ends, IsWhole, Begins, GoesOn, Sees, Lawful, Rule}
-use Rattle.vexpr_parse.proofs.ReaderRules.{chosen, passed_over, same_text, text_same, stop_got, got_tree, got_left, then_got, parts_of, Eats, got_rule, IsLead, led_sees}
+use Rattle.vexpr_parse.specs.Readers.{Answer, got, stop, Reader, front, goes, refused, follow, past}
+use Rattle.vexpr_parse.specs.Lawful.{Ends, GoesOn, Sees, Lawful, Rule}
+use Rattle.vexpr_parse.proofs.ReaderRules.{chosen, same_text, text_same, stop_got, got_tree, got_left, then_got, parts_of, Eats, got_rule, IsLead, led_sees}
 use Rattle.vexpr_parse.proofs.ReaderLoops.{past_rule, links_ends, then_lawful}
 use Rattle.vparse.specs.Parts.{Both, both, made, linked, paired, if_meant, worded}
 
@@ -25,7 +23,8 @@ pub record IsGot {A : Type 0} (shape : Shape A) (words : List Text) (tree : A) (
   pub stopped : shape.stops tree (front left) ≡ true
 
 abbrev pub Sound : {A : Type 0} → Reader A → Shape A → Type 0
-Sound {A = A} read shape = (words : List Text) (tree : A) (left : List Text) → read words ≡ got tree left → IsGot shape words tree left
+Sound {A = A} read shape = (words : List Text) (tree : A) (left : List Text) → read words ≡ got tree left →
+    IsGot shape words tree left
 
 abbrev pub Complete : {A : Type 0} → Reader A → Shape A → Type 0
 Complete {A = A} read shape =
@@ -74,7 +73,8 @@ always first = true
 
 -- other ends
 
-pub lawful_within : {A : Type 0} (read : Reader A) (ends fewer : Ends) → ((first : Option Text) → fewer first ≡ true → ends first ≡ true) →
+pub lawful_within : {A : Type 0} (read : Reader A) (ends fewer : Ends) →
+    ((first : Option Text) → fewer first ≡ true → ends first ≡ true) →
     Lawful read ends → Lawful read fewer
 lawful_within {A = A} read ends fewer within lawful words = by_answer (read words) (lawful words)
   where
@@ -144,7 +144,8 @@ made_phrase {A = A} {B = B} make {read = read} {ends = ends} {shape = shape} out
   closed = closed;
 }
   where
-    by_make : (tree : B) (x : A) → make x ≡ tree → (rest : List Text) → out.valid tree ≡ true → out.closes tree (front rest) ≡ true →
+    by_make : (tree : B) (x : A) → make x ≡ tree → (rest : List Text) → out.valid tree ≡ true → out.closes tree (front rest)
+        ≡ true →
         made make read (out.spell tree ++ rest) ≡ got tree rest
     by_make tree x e rest =
         let P : B → Type 0 = λ t. out.valid t ≡ true → out.closes t (front rest) ≡ true →
@@ -183,7 +184,8 @@ pub past_sound : {A : Type 0} (text : Text) (read : Reader A) (shape : Shape A) 
 past_sound text read shape sound [] tree left e = absurd (stop_got e)
 past_sound text read shape sound (word ∷ words) tree left e = by_test (bytes_eq text word) refl e
   where
-    by_test : (test : Bool) → bytes_eq text word ≡ test → follow (if test then goes read else refused) word words ≡ got tree left →
+    by_test : (test : Bool) → bytes_eq text word ≡ test → follow (if test then goes read else refused) word words
+        ≡ got tree left →
         IsGot (past_shape text shape) (word ∷ words) tree left
     by_test false is e = absurd (stop_got e)
     by_test true is e =
@@ -194,7 +196,8 @@ past_sound text read shape sound (word ∷ words) tree left e = by_test (bytes_e
           stopped = g.stopped;
         }
 
-pub past_phrase : {A : Type 0} (text : Text) {read : Reader A} {ends : Ends} {shape : Shape A} → Phrase read ends shape → Example shape →
+pub past_phrase : {A : Type 0} (text : Text) {read : Reader A} {ends : Ends} {shape : Shape A} → Phrase read ends shape →
+    Example shape →
     Phrase (past text read) ends (past_shape text shape)
 past_phrase text {read = read} {ends = ends} {shape = shape} p e = record {
   lawful = (past_rule text read ends (shape.spell e.tree) (phrase_rule p e)).lawful;
@@ -213,7 +216,8 @@ worded_shape word valid ends = record { spell = λ tree. word tree ∷ []; valid
 
 pub worded_phrase : {A : Type 0} (meaning : Text → Option A) (word : A → Text) (valid : A → Bool) (ends : Ends) →
     ((text : Text) (tree : A) → meaning text ≡ Some tree → (word tree ≡ text) × (valid tree ≡ true)) →
-    ((tree : A) → valid tree ≡ true → meaning (word tree) ≡ Some tree) → Phrase (worded meaning) ends (worded_shape word valid ends)
+    ((tree : A) → valid tree ≡ true → meaning (word tree) ≡ Some tree) →
+    Phrase (worded meaning) ends (worded_shape word valid ends)
 worded_phrase {A = A} meaning word valid ends written meant = record {
   lawful = led_sees (λ text. if_meant (meaning text)) ends (λ text. leads (meaning text));
   sound = sound;
@@ -276,8 +280,10 @@ module _ {A B : Type 0} {read : Reader A} {next : A → Reader B} {ends ends_nex
     (allows : A → B → Bool) (p : Phrase read ends s) (q : (x : A) → Phrase (next x) ends_next (of_these t (allows x)))
     (example : B) (may : (x : A) → allows x example ≡ true) (valid : Both A B → Bool)
     (begins : (rest : List Text) → ends_next (front rest) ≡ true → ends (front (t.spell example ++ rest)) ≡ true)
-    (links : (x : A) (y : B) → allows x y ≡ true → t.spell y ≡ [] → (first : Option Text) → ends_next first ≡ true → ends first ≡ true)
-    (join : (x : A) (y : B) (rest : List Text) → s.valid x ≡ true → allows x y ≡ true → s.stops x (front (t.spell y ++ rest)) ≡ true →
+    (links : (x : A) (y : B) → allows x y ≡ true → t.spell y ≡ [] → (first : Option Text) → ends_next first ≡ true → ends first
+    ≡ true)
+    (join : (x : A) (y : B) (rest : List Text) → s.valid x ≡ true → allows x y ≡ true → s.stops x (front (t.spell y ++ rest))
+    ≡ true →
     valid (both x y) ≡ true)
     (split : (x : A) (y : B) → valid (both x y) ≡ true → AreLinked s (of_these t (allows x)) x y) where
   linked_lawful : Lawful (linked read next) ends_next
@@ -296,7 +302,8 @@ module _ {A B : Type 0} {read : Reader A} {next : A → Reader B} {ends ends_nex
       linking x tree left e f =
           let r = parts_of (next x left) (λ y. got (both x y)) tree left e in
           let g = (q x).sound left r.one r.between r.first in
-          links x r.one g.valid (no_words (t.spell r.one) left (g.whole ∙ ap (λ ws. t.spell r.one ++ ws) (got_left r.second))) (front left) f
+          links x r.one g.valid (no_words (t.spell r.one) left (g.whole ∙ ap (λ ws. t.spell r.one ++ ws) (got_left r.second)))
+          (front left) f
 
   linked_sound : Sound (linked read next) (linked_shape s t valid)
   linked_sound words tree left e =
@@ -328,7 +335,8 @@ module _ {A B : Type 0} {read : Reader A} {next : A → Reader B} {ends ends_nex
 
 -- where the second part begins, or ends if it has no words, the first one ends
 abbrev pub Opens : {B : Type 0} → Ends → Shape B → Type 0
-Opens {B = B} ends t = (y : B) → t.valid y ≡ true → (rest : List Text) → t.closes y (front rest) ≡ true → ends (front (t.spell y ++ rest)) ≡ true
+Opens {B = B} ends t = (y : B) → t.valid y ≡ true → (rest : List Text) → t.closes y (front rest) ≡ true →
+    ends (front (t.spell y ++ rest)) ≡ true
 
 pub paired_phrase : {A B : Type 0} {read : Reader A} {next : Reader B} {ends ends_next : Ends} {s : Shape A} {t : Shape B} →
     Phrase read ends s → Phrase next ends_next t → Example t → Opens ends t →
@@ -345,14 +353,20 @@ paired_phrase {ends = ends} {s = s} {t = t} p q e opens links =
     })
 
 pub paired_example : {A B : Type 0} {s : Shape A} {t : Shape B} → Example s → Example t → Example (paired_shape s t)
-paired_example {s = s} {t = t} e f = record { tree = both e.tree f.tree; valid = and_both (s.valid e.tree) (t.valid f.tree) e.valid f.valid }
+paired_example {s = s} {t = t} e f = record {
+  tree = both e.tree f.tree;
+  valid = and_both (s.valid e.tree)
+      (t.valid f.tree) e.valid f.valid;
+}
 
 -- a part, and then this very word
-pub before_phrase : {A B : Type 0} (text : Text) {read : Reader A} {next : Reader B} {ends ends_next : Ends} {s : Shape A} {t : Shape B} →
+pub before_phrase : {A B : Type 0}
+    (text : Text) {read : Reader A} {next : Reader B} {ends ends_next : Ends} {s : Shape A} {t : Shape B} →
     Phrase read ends s → Phrase next ends_next t → Example t → ends (Some text) ≡ true →
     Phrase (paired read (past text next)) ends_next (paired_shape s (past_shape text t))
 before_phrase text {t = t} p q e opens =
-    paired_phrase p (past_phrase text q e) (past_example text e) (λ y v rest c. opens) (λ y v clash. absurd (no_word text (t.spell y) clash))
+    paired_phrase p (past_phrase text q e) (past_example text e) (λ y v rest c. opens)
+    (λ y v clash. absurd (no_word text (t.spell y) clash))
   where
     no_word : (text : Text) (words : List Text) → text ∷ words ≡ [] → ⊥
     no_word text words e = cc
@@ -364,7 +378,8 @@ free_phrase p q e = paired_phrase p q e (λ y v rest c. refl) (λ y v clash firs
 
 -- a part, and another that has words
 pub next_phrase : {A B : Type 0} {read : Reader A} {next : Reader B} {ends ends_next : Ends} {s : Shape A} {t : Shape B} →
-    Phrase read ends s → Phrase next ends_next t → Example t → Worded t → Opens ends t → Phrase (paired read next) ends_next (paired_shape s t)
+    Phrase read ends s → Phrase next ends_next t → Example t → Worded t → Opens ends t →
+    Phrase (paired read next) ends_next (paired_shape s t)
 next_phrase {t = t} p q e some opens =
     paired_phrase p q e opens (λ y v none. absurd (no_length (t.spell y) none (some y v)))
   where

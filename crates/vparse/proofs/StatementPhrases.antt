@@ -1,30 +1,29 @@
 -- Statements round others, behind their first words.
-use Rattle.std.proofs.Common.{◌≡◌, ℕ, zero, suc, ◌+◌, ◌<◌, Bool, true, false, ◌&&◌, not, max, nat_le, if◌then◌else◌, List, [], ◌∷◌, ◌++◌, Option, None, Some, length, flat_map, refl, sym, ap, ◌∙◌, arith, subst, append_assoc, codes}
-use Rattle.std.specs.List.{list_all}
+use Rattle.std.proofs.Common.{◌≡◌, ℕ, suc, ◌+◌, ◌<◌, Bool, true, false, ◌&&◌, not, max, nat_le, List, [], ◌∷◌, ◌++◌, Option, None, Some, length, flat_map, refl, sym, ap, ◌∙◌, arith, subst, codes}
 use Rattle.std.proofs.lemmas.List.{append-nil}
 use Rattle.std.proofs.lemmas.Bool.Decides.{nat_tests}
 use Rattle.basis.proofs.Bools.{and_left, and_right, and_both}
 use Rattle.vast.specs.Syntax.{Text}
 use Rattle.vast.specs.Words.{is_name, reserved_words}
 use Rattle.vast.specs.Expressions.{ExpressionTree, spell_expression, fits_expression, depth}
-use Rattle.vast.specs.Statements.{TargetTree, DelayTree, EventTree, by_event, by_any, by_any_enclosed, by_terms, spell_target, spell_optional_delay, spell_event, delay_depth, optional_delay_depth, event_depth, target_depth, fits_target, fits_delay, fits_optional_delay, fits_event, StatementTree, empty, block, assign, nonblocking, trigger, if_true, if_else, while_true, repeat_times, forever, for_loop, wait_for, delay, event, StatementTrees, no_statement, first_statement, spell_statement, spell_statements, statement_depth, statements_depth, ends_in_if, fits_statement, fits_statements}
+use Rattle.vast.specs.Statements.{TargetTree, DelayTree, EventTree, by_event, by_any, by_any_enclosed, by_terms, spell_target, spell_optional_delay, spell_event, delay_depth, optional_delay_depth, event_depth, target_depth, fits_target, fits_delay, fits_optional_delay, fits_event, StatementTree, empty, forever, spell_statement, spell_statements, statement_depth, statements_depth, ends_in_if, fits_statement, fits_statements}
 use Rattle.vexpr_parse.specs.declared.beginning.Beginning.TheVariants as start
-use Rattle.vexpr_parse.specs.Readers.{got, Reader, front, is_front, past}
+use Rattle.vexpr_parse.specs.Readers.{got, Reader, front, is_front}
 use Rattle.vexpr_parse.specs.Words.{binary_of, unary_of, beginning_of, ends, ends_primary}
 use Rattle.vexpr_parse.specs.Lawful.{Ends}
 use Rattle.vexpr_parse.proofs.ReaderRules.{same_text, parts_of}
 use Rattle.vparse.specs.declared.start.Guard.{Guard}
 use Rattle.vparse.specs.declared.start.Guard.TheVariants as guard
-use Rattle.vparse.specs.Parts.{Both, both, Either, one_way, other_way, made, linked, paired, worded, many, maybe}
+use Rattle.vparse.specs.Parts.{Both, both, made, paired, worded}
 use Rattle.vparse.specs.Starts.{sign_of, sign_word, guard_word}
-use Rattle.vparse.specs.Statements.{value, named, word_only, amount, optional_delay, Assignment, assignment_of, assignment_parts, target, guarded, if_of, branches_of_if, guarded_of, setting, For, for_of, for_parts, delayed_of, control, event_body_of, statements_in, block_of, block_parts, trigger_of, ends_statement}
-use Rattle.vparse.proofs.Phrases.{Shape, Phrase, Example, Worded, Opens, Makes, AreLinked, always, phrase_within, past_shape, past_phrase, past_example, nothing_phrase, worded_shape, worded_phrase, linked_shape, linked_phrase, paired_shape, paired_phrase, before_phrase, paired_example, free_phrase, next_phrase}
-use Rattle.vparse.proofs.PhraseChoices.{ends_maybe, maybe_shape, maybe_phrase, Tested, ends_many, allows_all, many_shape, many_phrase}
-use Rattle.vparse.proofs.LevelFacts.{one_up, and_true, and_assoc}
+use Rattle.vparse.specs.Statements.{value, named, word_only, amount, optional_delay, Assignment, assignment_of, assignment_parts, guarded, if_of, branches_of_if, guarded_of, setting, For, for_of, for_parts, delayed_of, control, event_body_of, statements_in, block_of, block_parts, trigger_of, ends_statement}
+use Rattle.vparse.proofs.Phrases.{Shape, Phrase, Example, Worded, Opens, Makes, AreLinked, always, phrase_within, past_shape, past_phrase, past_example, nothing_phrase, worded_shape, worded_phrase, linked_shape, linked_phrase, paired_shape, before_phrase, paired_example, free_phrase, next_phrase}
+use Rattle.vparse.proofs.PhraseChoices.{maybe_shape, maybe_phrase, Tested, many_shape, many_phrase}
+use Rattle.vparse.proofs.LevelFacts.{one_up, and_true}
 use Rattle.vparse.proofs.ValuePhrases.{value_shape, value_phrase, value_example, value_worded, nothing_example, only_shape, only_phrase, only_example, allows_each}
 use Rattle.vparse.proofs.TargetPhrases.{target_shape, target_phrase, target_example}
 use Rattle.vparse.proofs.WordPhrases.{as_written, refused_first, value_refuses}
-use Rattle.vparse.proofs.PartPhrases.{text_shape, a_name, named_phrase, amount_shape, amount_words, amount_behind, amount_phrase, amount_example, optional_delay_phrase, event_words, event_shape, control_phrase}
+use Rattle.vparse.proofs.PartPhrases.{text_shape, a_name, named_phrase, amount_shape, amount_behind, amount_phrase, amount_example, optional_delay_phrase, event_words, event_shape, control_phrase}
 use Rattle.vparse.proofs.StatementShapes.{closes_statement, statement_shape, statement_closed, behind_condition, two_valid, three_valid, else_valid, for_valid, all_within}
 
 positive : (n : ℕ) → 0 < suc n
@@ -38,14 +37,16 @@ else_next = is_front (codes "else")
 abbrev pub guarded_shape : {A : Type 0} → ℕ → Shape A → Shape (Both ExpressionTree A)
 guarded_shape below s = past_shape (codes "(") (paired_shape (value_shape below) (past_shape (codes ")") s))
 
-pub guarded_phrase : {A : Type 0} (below : ℕ) → nat_le 1 below ≡ true → {read : Reader A} {ends : Ends} {s : Shape A} → Phrase read ends s →
+pub guarded_phrase : {A : Type 0} (below : ℕ) → nat_le 1 below ≡ true → {read : Reader A} {ends : Ends} {s : Shape A} →
+    Phrase read ends s →
     Example s → Phrase (guarded below read) ends (guarded_shape below s)
 unfolding binary_of
 guarded_phrase below level p e =
     past_phrase (codes "(") (before_phrase (codes ")") (value_phrase below) p e refl)
     (paired_example (value_example below level) (past_example (codes ")") e))
 
-pub guarded_example : {A : Type 0} (below : ℕ) → nat_le 1 below ≡ true → {s : Shape A} → Example s → Example (guarded_shape below s)
+pub guarded_example : {A : Type 0} (below : ℕ) → nat_le 1 below ≡ true → {s : Shape A} → Example s →
+    Example (guarded_shape below s)
 guarded_example below level e = past_example (codes "(") (paired_example (value_example below level) (past_example (codes ")") e))
 
 -- Assignments
@@ -91,9 +92,11 @@ assignment_makes below = record { spelled = spelled; valid = valid; closes = λ 
   where
     spelled : (tree : Assignment) → spell_statement (assignment_of tree) ≡ (assignment_shape below).spell tree
     spelled (both tree (both true (both wait (both right end)))) =
-        ap (λ ws. spell_target tree ++ codes "<=" ∷ (ws ++ (spell_expression right ++ codes ";" ∷ []))) (delay_part_spelled below wait)
+        ap (λ ws. spell_target tree ++ codes "<=" ∷ (ws ++ (spell_expression right ++ codes ";" ∷ [])))
+        (delay_part_spelled below wait)
     spelled (both tree (both false (both wait (both right end)))) =
-        ap (λ ws. spell_target tree ++ codes "=" ∷ (ws ++ (spell_expression right ++ codes ";" ∷ []))) (delay_part_spelled below wait)
+        ap (λ ws. spell_target tree ++ codes "=" ∷ (ws ++ (spell_expression right ++ codes ";" ∷ [])))
+        (delay_part_spelled below wait)
 
     parts_valid : (tree : TargetTree) (wait : Option DelayTree) (right : ExpressionTree) →
         (((fits_target tree && fits_optional_delay wait) && fits_expression right)
@@ -101,14 +104,17 @@ assignment_makes below = record { spelled = spelled; valid = valid; closes = λ 
         ≡ ((fits_target tree && nat_le (target_depth tree) below)
         && ((delay_part_shape below).valid wait && ((fits_expression right && nat_le (depth right) below) && true)))
     parts_valid tree wait right =
-        three_valid (fits_target tree) (fits_optional_delay wait) (fits_expression right) (target_depth tree) (optional_delay_depth wait)
+        three_valid (fits_target tree) (fits_optional_delay wait) (fits_expression right) (target_depth tree)
+        (optional_delay_depth wait)
         (depth right) below
-        ∙ ap (λ b. (fits_target tree && nat_le (target_depth tree) below) && (b && (fits_expression right && nat_le (depth right) below)))
+        ∙ ap (λ b. (fits_target tree && nat_le (target_depth tree) below) &&
+        (b && (fits_expression right && nat_le (depth right) below)))
         (delay_part_valid below wait)
         ∙ ap (λ b. (fits_target tree && nat_le (target_depth tree) below) && ((delay_part_shape below).valid wait && b))
         (sym (and_true (fits_expression right && nat_le (depth right) below)))
 
-    valid : (tree : Assignment) → (fits_statement (assignment_of tree) && nat_le (statement_depth (assignment_of tree)) (suc below))
+    valid : (tree : Assignment) →
+        (fits_statement (assignment_of tree) && nat_le (statement_depth (assignment_of tree)) (suc below))
         ≡ (assignment_shape below).valid tree
     valid (both tree (both true (both wait (both right end)))) = parts_valid tree wait right
     valid (both tree (both false (both wait (both right end)))) = parts_valid tree wait right
@@ -139,11 +145,13 @@ module _ (below : ℕ) (level : nat_le 1 below ≡ true) where
   unfolding beginning_of unary_of reserved_words
   no_hash = refused_first hash right_side_phrase right_side_worded refl refuses
     where
-      refuses : (word : Text) (words : List Text) (tree : Both ExpressionTree (Unit {0})) (left : List Text) → hash (Some word) ≡ true →
+      refuses : (word : Text) (words : List Text) (tree : Both ExpressionTree (Unit {0})) (left : List Text) → hash (Some word)
+          ≡ true →
           paired (value below) (word_only (codes ";")) (word ∷ words) ≡ got tree left → ⊥
       refuses word words tree left is e =
           let a = parts_of (value below (word ∷ words)) (λ t. made (both t) (word_only (codes ";"))) tree left e in
-          value_refuses below word (subst (λ w. beginning_of w ≡ start.Other) (same_text (codes "#") word is) refl) words a.one a.between a.first
+          value_refuses below word
+          (subst (λ w. beginning_of w ≡ start.Other) (same_text (codes "#") word is) refl) words a.one a.between a.first
 
   no_wait : Example (delay_part_shape below)
   no_wait = record { tree = None; valid = refl }
@@ -157,17 +165,21 @@ module _ (below : ℕ) (level : nat_le 1 below ≡ true) where
   signed_example : Example (paired_shape sign_shape (paired_shape (delay_part_shape below) (right_side_shape below)))
   signed_example = paired_example a_sign delayed_right_example
 
-  pub assignment_phrase : Phrase (assignment_parts below) always (assignment_shape below)
-  assignment_phrase =
-      next_phrase (target_phrase below)
-      (free_phrase sign_phrase delayed delayed_right_example) signed_example some opens
-    where
-      delayed : Phrase (paired (optional_delay below) (paired (value below) (word_only (codes ";")))) always
-          (paired_shape (delay_part_shape below) (right_side_shape below))
-      delayed =
-          next_phrase (optional_delay_phrase below level) right_side_phrase right_side_example right_side_worded
-          (λ tree v rest c. ap not (no_hash tree v rest))
+  delayed_right_phrase : Phrase (paired (optional_delay below) (paired (value below) (word_only (codes ";")))) always
+      (paired_shape (delay_part_shape below) (right_side_shape below))
+  delayed_right_phrase =
+      next_phrase (optional_delay_phrase below level) right_side_phrase right_side_example right_side_worded
+      (λ tree v rest c. ap not (no_hash tree v rest))
 
+  -- what stands behind a target
+  pub signed_phrase : Phrase
+      (paired (worded sign_of) (paired (optional_delay below) (paired (value below) (word_only (codes ";"))))) always
+      (paired_shape sign_shape (paired_shape (delay_part_shape below) (right_side_shape below)))
+  signed_phrase = free_phrase sign_phrase delayed_right_phrase delayed_right_example
+
+  pub assignment_phrase : Phrase (assignment_parts below) always (assignment_shape below)
+  assignment_phrase = next_phrase (target_phrase below) signed_phrase signed_example some opens
+    where
       some : Worded (paired_shape sign_shape (paired_shape (delay_part_shape below) (right_side_shape below)))
       some (both later more) v = positive _
 
@@ -180,13 +192,15 @@ module _ (below : ℕ) (level : nat_le 1 below ≡ true) where
 
   -- Triggers
 
-  pub trigger_phrase : Phrase (paired named (word_only (codes ";"))) always (paired_shape (text_shape is_name) (only_shape (codes ";")))
+  pub trigger_phrase : Phrase (paired named (word_only (codes ";"))) always
+      (paired_shape (text_shape is_name) (only_shape (codes ";")))
   trigger_phrase = free_phrase named_phrase (only_phrase (codes ";")) (only_example (codes ";"))
 
   pub trigger_example : Example (paired_shape (text_shape is_name) (only_shape (codes ";")))
   trigger_example = paired_example a_name (only_example (codes ";"))
 
-  pub trigger_makes : Makes trigger_of (paired_shape (text_shape is_name) (only_shape (codes ";"))) (statement_shape (suc below)) (codes "->" ∷ [])
+  pub trigger_makes : Makes trigger_of (paired_shape (text_shape is_name) (only_shape (codes ";")))
+      (statement_shape (suc below)) (codes "->" ∷ [])
   trigger_makes = record { spelled = spelled; valid = valid; closes = λ tree next e. closes tree next; stops = λ tree next e. stops tree next }
     where
       spelled : (tree : Both Text (Unit {0})) →
@@ -232,7 +246,8 @@ module _ (below : ℕ) (read : Reader StatementTree) (p : Phrase read ends_state
   branches_phrase level =
       phrase_within ends_statement
       (linked_phrase Otherwise (λ x. Otherwise.valid) p
-      (λ x. maybe_phrase else_next (past_phrase (codes "else") p (inner_example level)) (λ tree v. positive _) (λ tree v rest. refl))
+      (λ x. maybe_phrase else_next (past_phrase (codes "else") p (inner_example level)) (λ tree v. positive _)
+      (λ tree v rest. refl))
       None (λ x. refl) valid_if (λ rest e. and_left (ends_statement (front rest)) _ e)
       (λ x y v none next e. and_left (ends_statement next) _ e) join split)
       (λ next e. and_both (ends_statement next) (not (else_next next)) e e)
@@ -259,7 +274,8 @@ module _ (below : ℕ) (read : Reader StatementTree) (p : Phrase read ends_state
   if_branches_example : nat_le 1 below ≡ true → Example if_shape
   if_branches_example level = record { tree = both empty None; valid = level }
 
-  pub if_phrase : nat_le 1 below ≡ true → Phrase (guarded below (branches_of_if read)) ends_statement (guarded_shape below if_shape)
+  pub if_phrase : nat_le 1 below ≡ true →
+      Phrase (guarded below (branches_of_if read)) ends_statement (guarded_shape below if_shape)
   if_phrase level = guarded_phrase below level (branches_phrase level) (if_branches_example level)
 
   pub if_example : nat_le 1 below ≡ true → Example (guarded_shape below if_shape)
@@ -274,14 +290,16 @@ module _ (below : ℕ) (read : Reader StatementTree) (p : Phrase read ends_state
           ap (λ ws. codes "if" ∷ ws) (behind_condition condition (spell_statement body)
           ∙ ap (λ ws. codes "(" ∷ (spell_expression condition ++ codes ")" ∷ ws)) (sym (append-nil (spell_statement body))))
       spelled (both condition (both body (Some otherwise))) =
-          ap (λ ws. codes "if" ∷ ws) (behind_condition condition (spell_statement body ++ codes "else" ∷ spell_statement otherwise))
+          ap (λ ws. codes "if" ∷ ws)
+          (behind_condition condition (spell_statement body ++ codes "else" ∷ spell_statement otherwise))
 
       valid : (tree : Both ExpressionTree (Both StatementTree (Option StatementTree))) → Out.valid (if_of tree)
           ≡ (guarded_shape below if_shape).valid tree
       valid (both condition (both body None)) =
           two_valid (fits_expression condition) (fits_statement body) (depth condition) (statement_depth body) below
       valid (both condition (both body (Some otherwise))) =
-          else_valid (fits_expression condition) (not (ends_in_if body)) (fits_statement body) (fits_statement otherwise) (depth condition)
+          else_valid (fits_expression condition) (not (ends_in_if body)) (fits_statement body) (fits_statement otherwise)
+          (depth condition)
           (statement_depth body) (statement_depth otherwise) below
 
       closes : (tree : Both ExpressionTree (Both StatementTree (Option StatementTree))) (next : Option Text) →
@@ -311,10 +329,14 @@ module _ (below : ℕ) (read : Reader StatementTree) (p : Phrase read ends_state
       spelled guard.Repeat (both tree body) = ap (λ ws. codes "repeat" ∷ ws) (behind_condition tree (spell_statement body))
       spelled guard.Wait (both tree body) = ap (λ ws. codes "wait" ∷ ws) (behind_condition tree (spell_statement body))
 
-      valid : (kind : Guard) (tree : Both ExpressionTree StatementTree) → Out.valid (guarded_of kind tree) ≡ (guarded_shape below S).valid tree
-      valid guard.While (both tree body) = two_valid (fits_expression tree) (fits_statement body) (depth tree) (statement_depth body) below
-      valid guard.Repeat (both tree body) = two_valid (fits_expression tree) (fits_statement body) (depth tree) (statement_depth body) below
-      valid guard.Wait (both tree body) = two_valid (fits_expression tree) (fits_statement body) (depth tree) (statement_depth body) below
+      valid : (kind : Guard) (tree : Both ExpressionTree StatementTree) → Out.valid (guarded_of kind tree)
+          ≡ (guarded_shape below S).valid tree
+      valid guard.While (both tree body) = two_valid (fits_expression tree) (fits_statement body) (depth tree)
+          (statement_depth body) below
+      valid guard.Repeat (both tree body) = two_valid (fits_expression tree) (fits_statement body) (depth tree)
+          (statement_depth body) below
+      valid guard.Wait (both tree body) = two_valid (fits_expression tree) (fits_statement body) (depth tree)
+          (statement_depth body) below
 
       closes : (kind : Guard) (tree : Both ExpressionTree StatementTree) (next : Option Text) →
           closes_statement (guarded_of kind tree) next ≡ true → (guarded_shape below S).closes tree next ≡ true
@@ -345,7 +367,8 @@ module _ (below : ℕ) (read : Reader StatementTree) (p : Phrase read ends_state
 
   abbrev pub for_shape : Shape For
   for_shape =
-      past_shape (codes "(") (paired_shape Setting (past_shape (codes ";") (paired_shape (value_shape below) (past_shape (codes ";")
+      past_shape (codes "(")
+      (paired_shape Setting (past_shape (codes ";") (paired_shape (value_shape below) (past_shape (codes ";")
       (paired_shape Setting (past_shape (codes ")") S))))))
 
   setting_phrase : nat_le 1 below ≡ true → Phrase (setting below) (ends 0) Setting
@@ -362,7 +385,8 @@ module _ (below : ℕ) (read : Reader StatementTree) (p : Phrase read ends_state
   test_example level = paired_example (value_example below level) (past_example (codes ";") (body_example level))
 
   pub for_example : nat_le 1 below ≡ true → Example for_shape
-  for_example level = past_example (codes "(") (paired_example (setting_example level) (past_example (codes ";") (test_example level)))
+  for_example level = past_example
+      (codes "(") (paired_example (setting_example level) (past_example (codes ";") (test_example level)))
 
   pub for_phrase : nat_le 1 below ≡ true → Phrase (for_parts below read) ends_statement for_shape
   unfolding binary_of
@@ -383,7 +407,8 @@ module _ (below : ℕ) (read : Reader StatementTree) (p : Phrase read ends_state
 
       valid : (tree : For) → Out.valid (for_of tree) ≡ for_shape.valid tree
       valid (both (both tree right) (both condition (both (both next next_right) body))) =
-          for_valid (fits_target tree) (fits_expression right) (fits_expression condition) (fits_target next) (fits_expression next_right)
+          for_valid (fits_target tree) (fits_expression right) (fits_expression condition) (fits_target next)
+          (fits_expression next_right)
           (fits_statement body) (target_depth tree) (depth right) (depth condition) (target_depth next) (depth next_right)
           (statement_depth body) below
 
@@ -395,7 +420,8 @@ module _ (below : ℕ) (read : Reader StatementTree) (p : Phrase read ends_state
 
   -- # and @
 
-  pub delayed_phrase : nat_le 1 below ≡ true → Phrase (paired (amount below) read) ends_statement (paired_shape (amount_shape below) S)
+  pub delayed_phrase : nat_le 1 below ≡ true →
+      Phrase (paired (amount below) read) ends_statement (paired_shape (amount_shape below) S)
   delayed_phrase level = free_phrase (amount_phrase below level) p (inner_example level)
 
   pub delayed_example : nat_le 1 below ≡ true → Example (paired_shape (amount_shape below) S)
@@ -408,14 +434,16 @@ module _ (below : ℕ) (read : Reader StatementTree) (p : Phrase read ends_state
           spell_statement (delayed_of tree) ≡ codes "#" ∷ (paired_shape (amount_shape below) S).spell tree
       spelled (both wait body) = ap (λ ws. ws ++ spell_statement body) (amount_behind wait)
 
-      valid : (tree : Both DelayTree StatementTree) → Out.valid (delayed_of tree) ≡ (paired_shape (amount_shape below) S).valid tree
+      valid : (tree : Both DelayTree StatementTree) → Out.valid (delayed_of tree)
+          ≡ (paired_shape (amount_shape below) S).valid tree
       valid (both wait body) = two_valid (fits_delay wait) (fits_statement body) (delay_depth wait) (statement_depth body) below
 
       closes : (tree : Both DelayTree StatementTree) (next : Option Text) → closes_statement (delayed_of tree) next ≡ true →
           (paired_shape (amount_shape below) S).closes tree next ≡ true
       closes (both wait body) next e = e
 
-      stops : (tree : Both DelayTree StatementTree) (next : Option Text) → (paired_shape (amount_shape below) S).stops tree next ≡ true →
+      stops : (tree : Both DelayTree StatementTree) (next : Option Text) →
+          (paired_shape (amount_shape below) S).stops tree next ≡ true →
           closes_statement (delayed_of tree) next ≡ true
       stops (both wait body) next e = e
 
@@ -446,7 +474,8 @@ module _ (below : ℕ) (read : Reader StatementTree) (p : Phrase read ends_state
       shallow by_any_enclosed = no_deeper below
       shallow (by_terms tree more) = level
 
-      spelled : (tree : Both EventTree StatementTree) → spell_statement (event_body_of tree) ≡ codes "@" ∷ (paired_shape event_shape S).spell tree
+      spelled : (tree : Both EventTree StatementTree) → spell_statement (event_body_of tree)
+          ≡ codes "@" ∷ (paired_shape event_shape S).spell tree
       spelled (both kind body) = ap (λ ws. ws ++ spell_statement body) (event_behind kind)
 
       valid : (tree : Both EventTree StatementTree) → Out.valid (event_body_of tree) ≡ (paired_shape event_shape S).valid tree
@@ -489,13 +518,15 @@ module _ (below : ℕ) (read : Reader StatementTree) (p : Phrase read ends_state
       all_spelled [] = refl
       all_spelled (tree ∷ more) = ap (λ ws. spell_statement tree ++ ws) (all_spelled more)
 
-      spelled : (tree : Both (List StatementTree) (Unit {0})) → spell_statement (block_of tree) ≡ codes "begin" ∷ block_shape.spell tree
+      spelled : (tree : Both (List StatementTree) (Unit {0})) → spell_statement (block_of tree)
+          ≡ codes "begin" ∷ block_shape.spell tree
       spelled (both list end) = ap (λ ws. codes "begin" ∷ (ws ++ codes "end" ∷ [])) (all_spelled list)
 
       valid : (tree : Both (List StatementTree) (Unit {0})) → Out.valid (block_of tree) ≡ block_shape.valid tree
       valid (both list end) =
           ap (λ b. fits_statements (statements_in list) && b) (one_up (statements_depth (statements_in list)) below)
-          ∙ all_within fits_statement statement_depth (λ l. fits_statements (statements_in l)) (λ l. statements_depth (statements_in l)) refl refl
+          ∙ all_within fits_statement statement_depth (λ l. fits_statements (statements_in l))
+          (λ l. statements_depth (statements_in l)) refl refl
           (λ tree more. refl) (λ tree more. refl) below list
           ∙ sym (allows_each S.valid [] list)
           ∙ sym (and_true _)

@@ -1,16 +1,16 @@
 -- Statements as a shape: their words, which fit within so many levels, and where an else may follow.
-use Rattle.std.proofs.Common.{◌≡◌, ℕ, zero, suc, ◌+◌, ◌<◌, Bool, true, false, ◌&&◌, not, max, nat_le, List, [], ◌∷◌, ◌++◌, Option, None, Some, length, flat_map, refl, sym, ap, ◌∙◌, arith, append_assoc, codes}
+use Rattle.std.proofs.Common.{◌≡◌, ℕ, suc, ◌+◌, ◌<◌, Bool, true, false, ◌&&◌, not, max, nat_le, List, [], ◌∷◌, ◌++◌, Option, length, flat_map, refl, sym, ap, ◌∙◌, arith, append_assoc, codes}
 use Rattle.std.specs.List.{list_all}
 use Rattle.std.proofs.lemmas.Bool.Decides.{nat_tests}
 use Rattle.vast.specs.Syntax.{Text}
 use Rattle.vast.specs.Expressions.{ExpressionTree, spell_expression, spell_more_parts, fits_expression, fits_parts, depth, greatest_depth}
-use Rattle.vast.specs.Statements.{TargetTree, whole, bit, part, joined, DelayTree, by_number, by_name, by_value, EventTree, by_event, by_any, by_any_enclosed, by_terms, TaskTree, print, dump_file, dump_vars, dump, end_run, StatementTree, empty, block, assign, nonblocking, trigger, if_true, if_else, case_of, while_true, repeat_times, forever, for_loop, wait_for, delay, event, task, spell_condition, spell_statement, statement_depth, fits_statement, ends_in_if}
+use Rattle.vast.specs.Statements.{whole, bit, part, joined, by_number, by_name, by_value, by_event, by_any, by_any_enclosed, by_terms, print, dump_file, dump_vars, dump, end_run, StatementTree, empty, block, assign, nonblocking, trigger, if_true, if_else, case_of, while_true, repeat_times, forever, for_loop, wait_for, delay, event, task, spell_condition, spell_statement, statement_depth, fits_statement, ends_in_if}
 use Rattle.vexpr_parse.specs.Readers.{is_front}
 use Rattle.vexpr_parse.specs.Reading.{trees_in}
 use Rattle.vexpr_parse.specs.Lawful.{Ends}
 use Rattle.vparse.specs.Statements.{ends_statement}
 use Rattle.vparse.proofs.Phrases.{Shape}
-use Rattle.vparse.proofs.LevelFacts.{one_up, larger_two, two_up, and_true, and_false, and_assoc, pair_valid, triple_valid}
+use Rattle.vparse.proofs.LevelFacts.{larger_two, two_up, and_true, and_false, and_assoc, pair_valid, triple_valid}
 
 abbrev pub closes_statement : StatementTree → Ends
 closes_statement tree next = not (ends_in_if tree && is_front (codes "else") next)
@@ -23,7 +23,8 @@ statement_shape n = record {
   stops = closes_statement;
 }
 
-pub statement_closed : (tree : StatementTree) (next : Option Text) → ends_statement next ≡ true → closes_statement tree next ≡ true
+pub statement_closed : (tree : StatementTree) (next : Option Text) → ends_statement next ≡ true → closes_statement tree next
+    ≡ true
 statement_closed tree next e = by_tests (ends_in_if tree) (is_front (codes "else") next) e
   where
     by_tests : (a b : Bool) → not b ≡ true → not (a && b) ≡ true
@@ -116,7 +117,8 @@ else_valid f e g h b c d n =
 -- of a for
 pub for_valid : (f g h i j k : Bool) (a b c d e m n : ℕ) →
     ((((((f && g) && h) && i) && j) && k) && nat_le (1 + max (max a b) (max c (max (max d e) m))) (suc n))
-    ≡ (((f && nat_le a n) && (g && nat_le b n)) && ((h && nat_le c n) && (((i && nat_le d n) && (j && nat_le e n)) && (k && nat_le m n))))
+    ≡ (((f && nat_le a n) && (g && nat_le b n)) &&
+    ((h && nat_le c n) && (((i && nat_le d n) && (j && nat_le e n)) && (k && nat_le m n))))
 for_valid f g h i j k a b c d e m n =
     ap (λ t. (((((f && g) && h) && i) && j) && k) && t) levels
     ∙ regroup (nat_le a n) (nat_le b n) (nat_le c n) (nat_le d n) (nat_le e n) (nat_le m n)
@@ -127,7 +129,8 @@ for_valid f g h i j k a b c d e m n =
         two_up (max a b) (max c (max (max d e) m)) n
         ∙ ap (λ t. t && nat_le (max c (max (max d e) m)) n) (larger_two a b n)
         ∙ ap (λ t. (nat_le a n && nat_le b n) && t)
-        (larger_two c (max (max d e) m) n ∙ ap (λ t. nat_le c n && t) (larger_two (max d e) m n ∙ ap (λ t. t && nat_le m n) (larger_two d e n)))
+        (larger_two c (max (max d e) m) n
+        ∙ ap (λ t. nat_le c n && t) (larger_two (max d e) m n ∙ ap (λ t. t && nat_le m n) (larger_two d e n)))
 
     chain : (((((f && g) && h) && i) && j) && k) ≡ ((f && g) && (h && ((i && j) && k)))
     chain =
@@ -147,7 +150,8 @@ for_valid f g h i j k a b c d e m n =
         ∙ ap (λ x. (h && r) && x) (pair_valid (i && j) k (s && t) u ∙ ap (λ x. x && (k && u)) (pair_valid i j s t)))
 
 -- all of a list
-pub all_within : {A : Type 0} (fits : A → Bool) (deep : A → ℕ) (all : List A → Bool) (most : List A → ℕ) → all [] ≡ true → most [] ≡ 0 →
+pub all_within : {A : Type 0} (fits : A → Bool) (deep : A → ℕ) (all : List A → Bool) (most : List A → ℕ) → all [] ≡ true →
+    most [] ≡ 0 →
     ((tree : A) (more : List A) → all (tree ∷ more) ≡ (fits tree && all more)) →
     ((tree : A) (more : List A) → most (tree ∷ more) ≡ max (deep tree) (most more)) →
     (n : ℕ) (list : List A) → (all list && nat_le (most list) n) ≡ list_all (λ tree. fits tree && nat_le (deep tree) n) list
@@ -170,6 +174,8 @@ parts_spelled [] = refl
 parts_spelled (tree ∷ more) = ap (λ ws. codes "," ∷ (spell_expression tree ++ ws)) (parts_spelled more)
 
 pub parts_within : (n : ℕ) (list : List ExpressionTree) →
-    (fits_parts (trees_in list) && nat_le (greatest_depth (trees_in list)) n) ≡ list_all (λ tree. fits_expression tree && nat_le (depth tree) n) list
-parts_within = all_within fits_expression depth (λ list. fits_parts (trees_in list)) (λ list. greatest_depth (trees_in list)) refl refl
+    (fits_parts (trees_in list) && nat_le (greatest_depth (trees_in list)) n)
+    ≡ list_all (λ tree. fits_expression tree && nat_le (depth tree) n) list
+parts_within = all_within fits_expression depth (λ list. fits_parts (trees_in list))
+    (λ list. greatest_depth (trees_in list)) refl refl
     (λ tree more. refl) (λ tree more. refl)

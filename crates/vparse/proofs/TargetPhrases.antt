@@ -1,27 +1,25 @@
 -- What assignments write to, and delays.
-use Rattle.std.proofs.Common.{◌≡◌, ℕ, zero, suc, ◌+◌, ◌<◌, Bool, true, false, ◌&&◌, ◌||◌, max, nat_le, if◌then◌else◌, List, [], ◌∷◌, ◌++◌, Option, None, Some, length, flat_map, refl, sym, ap, ◌∙◌, arith, inl, inr, subst, append_assoc, codes}
+use Rattle.std.proofs.Common.{◌≡◌, ℕ, zero, suc, ◌+◌, ◌<◌, Bool, true, false, ◌&&◌, max, nat_le, if◌then◌else◌, List, [], ◌∷◌, ◌++◌, Option, None, Some, flat_map, refl, sym, ap, ◌∙◌, arith, subst, codes}
 use Rattle.std.specs.List.{list_all}
 use Rattle.std.specs.Str.{bytes_eq}
-use Rattle.std.proofs.lemmas.Bool.{cases_Bool}
 use Rattle.std.proofs.lemmas.Bool.Decides.{nat_tests}
 use Rattle.basis.proofs.Bools.{and_left, and_right, and_both}
 use Rattle.vast.specs.Syntax.{Text}
-use Rattle.vast.specs.Words.{is_name, is_number, reserved_words}
-use Rattle.vast.specs.Expressions.{ExpressionTree, spell_expression, fits_expression, depth}
-use Rattle.vast.specs.Statements.{TargetTree, whole, bit, part, joined, TargetTrees, none, first as first_target, spell_target, spell_more_targets, target_depth, greatest_target_depth, fits_target, fits_targets, DelayTree, by_number, by_name, by_value, spell_delay, delay_depth, fits_delay}
-use Rattle.vexpr_parse.specs.Readers.{got, Reader, front, is_front, Lead, goes, refused, lower, led, room, past}
+use Rattle.vast.specs.Words.{is_name, reserved_words}
+use Rattle.vast.specs.Expressions.{ExpressionTree, fits_expression, depth}
+use Rattle.vast.specs.Statements.{TargetTree, whole, bit, part, joined, TargetTrees, none, first as first_target, spell_target, spell_more_targets, target_depth, greatest_target_depth, fits_target, fits_targets}
+use Rattle.vexpr_parse.specs.Readers.{got, Reader, front, is_front, goes, refused, lower, led, room, past}
 use Rattle.vexpr_parse.specs.Words.{binary_of, ends, ends_primary}
-use Rattle.vexpr_parse.specs.Lawful.{Ends, Lawful}
-use Rattle.vexpr_parse.proofs.ReaderRules.{chosen, passed_over, same_text, IsLead, led_sees}
+use Rattle.vexpr_parse.proofs.ReaderRules.{chosen, same_text, IsLead, led_sees}
 use Rattle.vexpr_parse.proofs.ReaderLoops.{lead_if, lead_room}
-use Rattle.vparse.specs.Parts.{Both, both, Either, one_way, other_way, made, paired, maybe, either, roomy}
-use Rattle.vparse.specs.Starts.{begins_target, is_word}
-use Rattle.vparse.specs.Statements.{value, named, numbered, List_of, comma_list, word_only, Select, select, target_of, named_target, targets_in, joined_of, joined_targets, target_lead, target, Amount, delay_of, amount, optional_delay}
-use Rattle.vparse.proofs.Phrases.{Shape, Sound, Complete, Phrase, Example, Worded, Opens, Makes, always, phrase_within, made_phrase, past_shape, past_phrase, past_example, nothing_phrase, worded_shape, paired_shape, paired_phrase, before_phrase, paired_example, free_phrase}
-use Rattle.vparse.proofs.PhraseChoices.{ends_maybe, maybe_shape, maybe_phrase, either_shape, either_phrase, roomy_phrase, Tested, ends_many, allows_all}
+use Rattle.vparse.specs.Parts.{Both, both, Either, one_way, other_way, paired, maybe, roomy}
+use Rattle.vparse.specs.Starts.{begins_target}
+use Rattle.vparse.specs.Statements.{value, List_of, comma_list, word_only, Select, select, target_of, targets_in, joined_of, joined_targets, target_lead, target}
+use Rattle.vparse.proofs.Phrases.{Shape, Complete, Phrase, Example, Opens, Makes, always, phrase_within, past_shape, past_phrase, nothing_phrase, paired_shape, paired_phrase, before_phrase, paired_example}
+use Rattle.vparse.proofs.PhraseChoices.{ends_maybe, maybe_shape, maybe_phrase, either_shape, either_phrase, roomy_phrase}
 use Rattle.vparse.proofs.PhraseLeads.{LeadSound, led_sound, if_sound, room_sound, made_lead_sound, made_lead, led_complete, roomy_lead}
 use Rattle.vparse.proofs.LevelFacts.{one_up, two_up, larger_two, one_within, none_within, and_true, pair_valid, some_level}
-use Rattle.vparse.proofs.ValuePhrases.{value_shape, value_phrase, value_example, value_level, value_worded, nothing_example, word_if_phrase, only_shape, only_phrase, only_example, comma, comma_shape, comma_phrase, allows_each}
+use Rattle.vparse.proofs.ValuePhrases.{value_shape, value_phrase, value_example, value_level, nothing_example, only_shape, only_phrase, only_example, comma_shape, comma_phrase, allows_each}
 
 positive : (n : ℕ) → 0 < suc n
 positive n = omega arith
@@ -49,7 +47,7 @@ module _ (below : ℕ) (level : nat_le 1 below ≡ true) where
       no_word : (text : Text) {words : List Text} → text ∷ words ≡ [] → ⊥
       no_word text e = cc
 
-  select_phrase : Phrase (select below) always (select_shape below)
+  pub select_phrase : Phrase (select below) always (select_shape below)
   unfolding binary_of
   select_phrase =
       paired_phrase (value_phrase below)
@@ -65,7 +63,8 @@ module _ (below : ℕ) (level : nat_le 1 below ≡ true) where
       no_word e = cc
 
       links : (y : Either (Both ExpressionTree (Unit {0})) (Unit {0})) →
-          (either_shape (right_shape below) (only_shape (codes "]"))).valid y ≡ true → (either_shape (right_shape below) (only_shape (codes "]"))).spell y ≡ [] →
+          (either_shape (right_shape below) (only_shape (codes "]"))).valid y ≡ true →
+          (either_shape (right_shape below) (only_shape (codes "]"))).spell y ≡ [] →
           (next : Option Text) → always next ≡ true → ends 0 next ≡ true
       links (one_way (both right end)) v clash = absurd (no_word clash)
       links (other_way y) v clash = absurd (no_word clash)
@@ -87,7 +86,8 @@ bracket = is_front (codes "[")
 abbrev named_shape : ℕ → Shape (Option Select)
 named_shape below = maybe_shape bracket always (opened_shape below)
 
-opened_phrase : (below : ℕ) → Phrase (maybe bracket (roomy below 1 (past (codes "[") (select below)))) (ends_maybe bracket always) (named_shape below)
+opened_phrase : (below : ℕ) →
+    Phrase (maybe bracket (roomy below 1 (past (codes "[") (select below)))) (ends_maybe bracket always) (named_shape below)
 opened_phrase below =
     maybe_phrase bracket
     (roomy_phrase below 1 (λ level. past_phrase (codes "[") (select_phrase below level) (select_example below level)) deep closed)
@@ -110,7 +110,8 @@ target_shape n = record {
   stops = λ tree next. true;
 }
 
-named_makes : (below : ℕ) (letters : Text) → is_name letters ≡ true → Makes (target_of letters) (named_shape below) (target_shape (suc below)) (letters ∷ [])
+named_makes : (below : ℕ) (letters : Text) → is_name letters ≡ true →
+    Makes (target_of letters) (named_shape below) (target_shape (suc below)) (letters ∷ [])
 named_makes below letters is = record { spelled = spelled; valid = valid; closes = closes; stops = λ tree next e. refl }
   where
     spelled : (tree : Option Select) → spell_target (target_of letters tree) ≡ letters ∷ (named_shape below).spell tree
@@ -118,14 +119,17 @@ named_makes below letters is = record { spelled = spelled; valid = valid; closes
     spelled (Some (both left (one_way (both right end)))) = refl
     spelled (Some (both index (other_way end))) = refl
 
-    valid : (tree : Option Select) → (fits_target (target_of letters tree) && nat_le (target_depth (target_of letters tree)) (suc below))
+    valid : (tree : Option Select) →
+        (fits_target (target_of letters tree) && nat_le (target_depth (target_of letters tree)) (suc below))
         ≡ (named_shape below).valid tree
     valid None = ap (λ b. b && nat_le 1 (suc below)) is ∙ one_within below
     valid (Some (both left (one_way (both right end)))) =
-        ap (λ b. ((b && fits_expression left) && fits_expression right) && nat_le (1 + max (depth left) (depth right)) (suc below)) is
+        ap (λ b. ((b && fits_expression left) && fits_expression right) && nat_le (1 + max (depth left) (depth right))
+        (suc below)) is
         ∙ ap (λ b. (fits_expression left && fits_expression right) && b) (two_up (depth left) (depth right) below)
         ∙ pair_valid (fits_expression left) (fits_expression right) (nat_le (depth left) below) (nat_le (depth right) below)
-        ∙ ap (λ b. (fits_expression left && nat_le (depth left) below) && b) (sym (and_true (fits_expression right && nat_le (depth right) below)))
+        ∙ ap (λ b. (fits_expression left && nat_le (depth left) below) && b)
+        (sym (and_true (fits_expression right && nat_le (depth right) below)))
     valid (Some (both index (other_way end))) =
         ap (λ b. (b && fits_expression index) && nat_le (1 + depth index) (suc below)) is
         ∙ ap (λ b. fits_expression index && b) (one_up (depth index) below)
@@ -156,11 +160,13 @@ joined_makes below = record { spelled = spelled; valid = valid; closes = λ tree
     closes : (tree : Both (List_of TargetTree) (Unit {0})) (next : Option Text) → (targets_shape below).closes tree next ≡ true
     closes (both list end) next = refl
 
-    more_spelled : (list : List TargetTree) → spell_more_targets (targets_in list) ≡ flat_map (λ tree. codes "," ∷ spell_target tree) list
+    more_spelled : (list : List TargetTree) → spell_more_targets (targets_in list)
+        ≡ flat_map (λ tree. codes "," ∷ spell_target tree) list
     more_spelled [] = refl
     more_spelled (tree ∷ more) = ap (λ ws. codes "," ∷ (spell_target tree ++ ws)) (more_spelled more)
 
-    spelled : (tree : Both (List_of TargetTree) (Unit {0})) → spell_target (joined_of tree) ≡ codes "{" ∷ (targets_shape below).spell tree
+    spelled : (tree : Both (List_of TargetTree) (Unit {0})) → spell_target (joined_of tree)
+        ≡ codes "{" ∷ (targets_shape below).spell tree
     spelled (both (both tree more) end) = ap (λ ws. codes "{" ∷ ((spell_target tree ++ ws) ++ codes "}" ∷ [])) (more_spelled more)
 
     fits : TargetTree → Bool
@@ -169,16 +175,19 @@ joined_makes below = record { spelled = spelled; valid = valid; closes = λ tree
     no_deeper : (n : ℕ) → nat_le 0 n ≡ true
     no_deeper n = grind (arith, nat_tests)
 
-    more_valid : (list : List TargetTree) → (fits_targets (targets_in list) && nat_le (greatest_target_depth (targets_in list)) below)
+    more_valid : (list : List TargetTree) →
+        (fits_targets (targets_in list) && nat_le (greatest_target_depth (targets_in list)) below)
         ≡ list_all (λ tree. fits_target tree && nat_le (target_depth tree) below) list
     more_valid [] = no_deeper below
     more_valid (tree ∷ more) =
-        ap (λ b. (fits_target tree && fits_targets (targets_in more)) && b) (larger_two (target_depth tree) (greatest_target_depth (targets_in more)) below)
+        ap (λ b. (fits_target tree && fits_targets (targets_in more)) && b)
+        (larger_two (target_depth tree) (greatest_target_depth (targets_in more)) below)
         ∙ pair_valid (fits_target tree) (fits_targets (targets_in more)) (nat_le (target_depth tree) below)
         (nat_le (greatest_target_depth (targets_in more)) below)
         ∙ ap (λ b. (fits_target tree && nat_le (target_depth tree) below) && b) (more_valid more)
 
-    valid : (tree : Both (List_of TargetTree) (Unit {0})) → (fits_target (joined_of tree) && nat_le (target_depth (joined_of tree)) (suc below))
+    valid : (tree : Both (List_of TargetTree) (Unit {0})) →
+        (fits_target (joined_of tree) && nat_le (target_depth (joined_of tree)) (suc below))
         ≡ (targets_shape below).valid tree
     valid (both (both tree more) end) =
         ap (λ b. fits_targets (targets_in (tree ∷ more)) && b) (one_up (greatest_target_depth (targets_in (tree ∷ more))) below)
@@ -237,16 +246,18 @@ module _ (below : ℕ) (read : Reader TargetTree) (p : Phrase read ends_primary 
     valid = and_both _ true (and_both _ true (target_example below level).valid refl) refl;
   }
 
-  target_leads : (word : Text) → IsLead ends_primary (target_lead below read word)
+  pub target_leads : (word : Text) → IsLead ends_primary (target_lead below read word)
   target_leads word =
       lead_if ends_primary (is_name word) _ _ (made_lead (target_of word) named_tight (record { tree = None; valid = refl }))
       (lead_if ends_primary (bytes_eq (codes "{") word) _ _
       (lead_room ends_primary below 1 (goes (joined_targets read))
-      (λ level. made_lead joined_of (phrase_within ends_primary (targets_phrase level) (λ next e. refl)) (targets_example level))) tt)
+      (λ level. made_lead joined_of (phrase_within ends_primary (targets_phrase level) (λ next e. refl))
+      (targets_example level))) tt)
 
   target_leads_sound : (word : Text) → LeadSound Out word (target_lead below read word)
   target_leads_sound word =
-      if_sound Out word (is_name word) _ _ (λ is. made_lead_sound (target_of word) word Out (named_makes below word is) named_tight)
+      if_sound Out word (is_name word) _ _
+      (λ is. made_lead_sound (target_of word) word Out (named_makes below word is) named_tight)
       (if_sound Out word (bytes_eq (codes "{") word) _ _
       (λ is. subst (λ w. LeadSound Out w (room below 1 (goes (joined_targets read)))) (same_text (codes "{") word is)
       (room_sound Out (codes "{") below 1 (joined_targets read)
@@ -270,18 +281,22 @@ module _ (below : ℕ) (read : Reader TargetTree) (p : Phrase read ends_primary 
   target_complete (joined none) rest v c = absurd (no_truth (and_left false (nat_le (1 + 0) (suc below)) v))
   target_complete (joined (first_target tree more)) rest v c =
       subst P (targets_back more)
-      (λ w. led_complete (target_lead below read) joined_of (codes "{") Out (joined_makes below) (targets_phrase (level (targets_in (targets_of more)) w))
-      (roomy_lead below 1 (joined_targets read) (level (targets_in (targets_of more)) w)) (both (both tree (targets_of more)) tt) rest w c) v
+      (λ w. led_complete (target_lead below read) joined_of
+      (codes "{") Out (joined_makes below) (targets_phrase (level (targets_in (targets_of more)) w))
+      (roomy_lead below 1 (joined_targets read) (level (targets_in (targets_of more)) w))
+      (both (both tree (targets_of more)) tt) rest w c) v
     where
       P : TargetTrees → Type 0
       P ts = Out.valid (joined (first_target tree ts)) ≡ true →
-          led (target_lead below read) (spell_target (joined (first_target tree ts)) ++ rest) ≡ got (joined (first_target tree ts)) rest
+          led (target_lead below read) (spell_target (joined (first_target tree ts)) ++ rest)
+          ≡ got (joined (first_target tree ts)) rest
 
       level : (ts : TargetTrees) → Out.valid (joined (first_target tree ts)) ≡ true → nat_le 1 below ≡ true
       level ts w =
           some_level (target_depth tree) below (target_deep tree)
           (and_left (nat_le (target_depth tree) below) (nat_le (greatest_target_depth ts) below)
-          (sym (two_up (target_depth tree) (greatest_target_depth ts) below) ∙ and_right (fits_target (joined (first_target tree ts))) _ w))
+          (sym (two_up (target_depth tree) (greatest_target_depth ts) below)
+          ∙ and_right (fits_target (joined (first_target tree ts))) _ w))
 
   target_by_phrase : Phrase (led (target_lead below read)) ends_primary Out
   target_by_phrase = record {

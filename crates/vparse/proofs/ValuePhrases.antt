@@ -4,7 +4,7 @@ use Rattle.std.specs.List.{list_all}
 use Rattle.std.proofs.lemmas.Bool.Decides.{nat_tests}
 use Rattle.basis.proofs.Bools.{and_left, and_right, and_both}
 use Rattle.vast.specs.Syntax.{Text}
-use Rattle.vast.specs.Words.{is_name, reserved_words}
+use Rattle.vast.specs.Words.{reserved_words}
 use Rattle.vast.specs.Expressions.{ExpressionTree, name, spell_expression, fits_expression, depth, rank_of}
 use Rattle.vast.proofs.ExpressionLemmas.{depth_positive}
 use Rattle.vexpr_parse.specs.Readers.{got, Reader, front, is_front, past}
@@ -16,11 +16,11 @@ use Rattle.vexpr_parse.proofs.ReaderRules.{text_same, stop_got}
 use Rattle.vexpr_parse.proofs.ExpressionRules.{expression_rule}
 use Rattle.vexpr_parse.proofs.Sound.{Found, expression_found}
 use Rattle.vexpr_parse.proofs.Complete.{expression_complete}
-use Rattle.vparse.specs.Parts.{Both, both, paired, worded, many}
+use Rattle.vparse.specs.Parts.{worded, many}
 use Rattle.vparse.specs.Starts.{meant_if}
 use Rattle.vparse.specs.Statements.{value, List_of, comma_list, word_only}
-use Rattle.vparse.proofs.Phrases.{Shape, Sound, Phrase, Example, Worded, Opens, always, past_shape, past_phrase, past_example, nothing_shape, nothing_phrase, worded_shape, worded_phrase, paired_shape, paired_phrase}
-use Rattle.vparse.proofs.PhraseChoices.{ends_many, allows_all, many_shape, many_phrase, behind_ended}
+use Rattle.vparse.proofs.Phrases.{Shape, Sound, Phrase, Example, Worded, always, past_shape, past_phrase, past_example, nothing_shape, nothing_phrase, worded_shape, worded_phrase, paired_shape, paired_phrase}
+use Rattle.vparse.proofs.PhraseChoices.{ends_many, allows_all, many_shape, many_phrase}
 use Rattle.vparse.proofs.LevelFacts.{some_level}
 
 -- An expression
@@ -43,7 +43,8 @@ value_lawful (suc below) = (expression_rule below 0).lawful
 
 value_sound : (n : ℕ) → Sound (value n) (value_shape n)
 value_sound n words tree left e =
-    let f : Found (IsExpression n 0) words (got tree left) = subst (Found (IsExpression n 0) words) e (expression_found n 0 refl words) in
+    let f : Found (IsExpression n 0) words (got tree left) = subst (Found (IsExpression n 0) words) e
+    (expression_found n 0 refl words) in
     record {
       whole = f.1 ∙ ap (λ ws. ws ++ left) (sym f.2.spelled);
       valid = and_both (fits_expression tree) (nat_le (depth tree) n) f.2.fitting f.2.within;
@@ -68,7 +69,8 @@ value_example n e = record { tree = name (codes "a"); valid = e }
 
 -- where an expression stands, a level is left
 pub value_level : (n : ℕ) (tree : ExpressionTree) → (fits_expression tree && nat_le (depth tree) n) ≡ true → nat_le 1 n ≡ true
-value_level n tree v = some_level (depth tree) n (depth_positive tree) (and_right (fits_expression tree) (nat_le (depth tree) n) v)
+value_level n tree v = some_level (depth tree) n (depth_positive tree)
+    (and_right (fits_expression tree) (nat_le (depth tree) n) v)
 
 -- an expression has words
 pub value_worded : (n : ℕ) → Worded (value_shape n)
@@ -92,7 +94,8 @@ value_worded n tree v = by_words (spell_expression tree) (λ rest c. (value_phra
 pub word_if_phrase : (test : Text → Bool) → Phrase (worded (meant_if test)) always (worded_shape (λ text. text) test always)
 word_if_phrase test = worded_phrase (meant_if test) (λ text. text) test always written meant
   where
-    by_test : (b : Bool) (text tree : Text) → test text ≡ b → (if b then Some text else None) ≡ Some tree → (tree ≡ text) × (test tree ≡ true)
+    by_test : (b : Bool) (text tree : Text) → test text ≡ b → (if b then Some text else None) ≡ Some tree →
+        (tree ≡ text) × (test tree ≡ true)
     by_test true text tree is e =
         let same : Some text ≡ Some tree = e in
         let eq : text ≡ tree = cc in
@@ -139,18 +142,21 @@ more_behind text {read = read} {ends = ends} {s = s} p e opens =
     same : (text : Text) → is_front text (Some text) ≡ true
     same text = text_same text
 
-pub comma_phrase : {A : Type 0} {read : Reader A} {ends : Ends} {s : Shape A} → Phrase read ends s → Example s → ends (Some (codes ",")) ≡ true →
+pub comma_phrase : {A : Type 0} {read : Reader A} {ends : Ends} {s : Shape A} → Phrase read ends s → Example s →
+    ends (Some (codes ",")) ≡ true →
     Phrase (comma_list read) (ends_many comma ends) (comma_shape ends s)
 comma_phrase {read = read} {ends = ends} {s = s} p e opens =
     paired_phrase p (more_behind (codes ",") p e opens) (record { tree = []; valid = refl })
     (λ list v rest c. follows list rest v c)
     (λ list v none next f. and_left (ends next) (not (comma next)) f)
   where
-    follows : (list : List _) (rest : List Text) → allows_all (λ list. s.valid) [] list ≡ true → ends_many comma ends (front rest) ≡ true →
+    follows : (list : List _) (rest : List Text) → allows_all (λ list. s.valid) [] list ≡ true →
+        ends_many comma ends (front rest) ≡ true →
         ends (front (flat_map (λ tree. codes "," ∷ s.spell tree) list ++ rest)) ≡ true
     follows [] rest v c = and_left (ends (front rest)) (not (comma (front rest))) c
     follows (tree ∷ more) rest v c = opens
 
-pub allows_each : {A : Type 0} (valid : A → Bool) (so_far list : List A) → allows_all (λ l. valid) so_far list ≡ list_all valid list
+pub allows_each : {A : Type 0} (valid : A → Bool) (so_far list : List A) → allows_all (λ l. valid) so_far list
+    ≡ list_all valid list
 allows_each valid so_far [] = refl
 allows_each valid so_far (tree ∷ more) = ap (λ b. valid tree && b) (allows_each valid (so_far ++ tree ∷ []) more)

@@ -1,17 +1,14 @@
 -- Words that are told apart: by their first byte, by what they mean, by what no reader takes.
-use Rattle.std.proofs.Common.{◌≡◌, ℕ, zero, suc, ◌<◌, Bool, true, false, ◌&&◌, ◌||◌, ◌==◌, not, if◌then◌else◌, List, [], ◌∷◌, ◌++◌, Option, None, Some, length, refl, sym, ap, ◌∙◌, arith, inl, inr, subst, codes}
-use Rattle.std.specs.List.{list_all}
+use Rattle.std.proofs.Common.{◌≡◌, ℕ, zero, suc, ◌<◌, Bool, true, false, ◌||◌, ◌==◌, not, if◌then◌else◌, List, [], ◌∷◌, ◌++◌, Option, None, Some, length, refl, sym, ap, ◌∙◌, arith, subst}
 use Rattle.std.specs.Str.{bytes_eq}
 use Rattle.std.specs.Char.{is_ascii_digit}
-use Rattle.std.proofs.lemmas.Bool.{cases_Bool}
 use Rattle.std.proofs.lemmas.Bool.Decides.{nat_tests}
 use Rattle.basis.proofs.Bools.{and_left}
 use Rattle.vast.specs.Syntax.{Text}
-use Rattle.vast.specs.Words.{is_name, is_number, is_string, begins_name, is_in_name, is_reserved, reserved_words}
+use Rattle.vast.specs.Words.{is_name, is_number, is_string, begins_name, is_reserved}
 use Rattle.vast.specs.Expressions.{ExpressionTree}
-use Rattle.vexpr_parse.specs.declared.beginning.Beginning.{Beginning}
 use Rattle.vexpr_parse.specs.declared.beginning.Beginning.TheVariants as start
-use Rattle.vexpr_parse.specs.Readers.{got, stop, Reader, front, is_front, and_then, follow}
+use Rattle.vexpr_parse.specs.Readers.{got, Reader, front, and_then, follow}
 use Rattle.vexpr_parse.specs.Words.{written, beginning_of, unary_of}
 use Rattle.vexpr_parse.specs.Reading.{primary_by, onward, expression}
 use Rattle.vexpr_parse.specs.Lawful.{Ends}
@@ -49,9 +46,11 @@ as_written spell (one ∷ more) word tree e = by_test (bytes_eq (spell one) word
     by_test false is later e = later e
 
 -- a word that the reader refuses begins no tree
-pub refused_first : {A : Type 0} (test : Option Text → Bool) {read : Reader A} {ends : Ends} {s : Shape A} → Phrase read ends s → Worded s →
+pub refused_first : {A : Type 0} (test : Option Text → Bool) {read : Reader A} {ends : Ends} {s : Shape A} →
+    Phrase read ends s → Worded s →
     ends None ≡ true →
-    ((word : Text) (words : List Text) (tree : A) (left : List Text) → test (Some word) ≡ true → read (word ∷ words) ≡ got tree left → ⊥) →
+    ((word : Text) (words : List Text) (tree : A) (left : List Text) → test (Some word) ≡ true → read (word ∷ words)
+    ≡ got tree left → ⊥) →
     Tested test false s
 refused_first test {read = read} {s = s} p some end refuses tree v rest = by_words (s.spell tree) (some tree v)
     (p.complete tree [] v (p.closed tree None end))
@@ -69,7 +68,8 @@ pub value_refuses : (n : ℕ) (word : Text) → beginning_of word ≡ start.Othe
 unfolding expression
 value_refuses zero word is words tree left e = stop_got e
 value_refuses (suc below) word is words tree left e =
-    stop_got (sym (ap (λ b. and_then (follow (primary_by below (expression below) word b) word words) (onward below (expression below) 0)) is) ∙ e)
+    stop_got (sym (ap (λ b. and_then (follow (primary_by below (expression below) word b) word words)
+    (onward below (expression below) 0)) is) ∙ e)
 
 pub string_is_other : (word : Text) → is_string word ≡ true → beginning_of word ≡ start.Other
 unfolding beginning_of unary_of

@@ -7,4 +7,5 @@ pub mod Inner
 pub mod Parts
 pub mod Starts
 pub mod Statements
+pub mod StatementPlaces
 pub mod Modules

@@ -1,276 +1,249 @@
--- Reading of modules, one word at a time, to the end of a text (IEEE 1364-2005, A.1 and A.2).
-use Rattle.std.specs.Prelude.{ℕ, Bool, true, false, not, List, [], ◌∷◌, Option, Some, None, codes}
-use Rattle.vast.specs.Words.{is_name}
+-- Reading of modules, and of a whole text (IEEE 1364-2005, A.1 and A.2).
+use Rattle.std.specs.Prelude.{Bool, true, false, not, List, [], ◌∷◌, Option, Some, None, codes}
 use Rattle.vast.specs.Syntax.{Text}
 use Rattle.vast.specs.Expressions.{ExpressionTree}
 use Rattle.vast.specs.Statements.{StatementTree}
 use Rattle.vast.specs.Modules.{RangeTree, TypeTree, ParameterType, integer, typed, SettingTree, DeclaredTree, DirectionTree, input, output, PortTree, HeadParameter, ConnectionTree, ConnectionsTree, by_order, by_name, InstanceTree, DeclarationKind, variables, integers, ItemTree, parameters, declaration, events, assignments, initial, always, instances, ModuleTree, SourceTree, net_word, parameter_word}
 use Rattle.vast.specs.declared.module.NetKind.{NetKind}
 use Rattle.vast.specs.declared.module.NetKind.TheVariants as net
-use Rattle.vexpr_parse.specs.Readers.{Reader, Lead, goes, refused, got, led, past, choose, is_front}
+use Rattle.vexpr_parse.specs.Readers.{Reader, past, is_front}
 use Rattle.vexpr_parse.specs.Words.{written}
 use Rattle.vparse.specs.Parts.{Both, both, Either, one_way, other_way, made, paired, worded, many, maybe, either}
 use Rattle.vparse.specs.Starts.{is_word, is_meant}
+use Rattle.vast.specs.Words.{is_name}
 use Rattle.vparse.specs.Statements.{value, named, word_only, List_of, comma_list, statement}
 
--- how deep statements and expressions nest (docs/LANGUAGE.md, "Depth")
-abbrev pub most_levels : ℕ
-most_levels = 64
+-- an expression that stands in no statement
+abbrev pub free_value : Reader ExpressionTree
+free_value = value 64
 
-abbrev pub list_in : {A : Type 0} → List_of A → List A
-list_in (both one more) = one ∷ more
-
-abbrev pub whole_value : Reader ExpressionTree
-whole_value = value most_levels
-
--- Types
-
-abbrev pub range_of : Both ExpressionTree (Both ExpressionTree (Unit {0})) → RangeTree
-range_of (both left (both right end)) = record { left = left; right = right }
+abbrev pub listed_of : {A : Type 0} → List_of A → List A
+listed_of (both tree more) = tree ∷ more
 
 -- [ left : right ]
+
+abbrev pub range_of : Both ExpressionTree (Both ExpressionTree (Unit {0})) → RangeTree
+range_of (both one (both other end)) = record { left = one; right = other }
+
 abbrev pub range : Reader RangeTree
-range = made range_of (past (codes "[") (paired whole_value (past (codes ":") (paired whole_value (word_only (codes "]"))))))
+range = made range_of (past (codes "[") (paired free_value (past (codes ":") (paired free_value (word_only (codes "]"))))))
 
--- signed, or nothing
-abbrev pub sign : Reader Bool
-sign = choose (is_front (codes "signed")) (past (codes "signed") (got true)) (got false)
+abbrev pub is_there : Option (Unit {0}) → Bool
+is_there None = false
+is_there (Some end) = true
 
-abbrev pub type_of : Both Bool (Option RangeTree) → TypeTree
-type_of (both signed bounds) = record { signed = signed; range = bounds }
+abbrev pub type_of : Both (Option (Unit {0})) (Option RangeTree) → TypeTree
+type_of (both sign bounds) = record { signed = is_there sign; range = bounds }
 
-abbrev pub sign_and_range : Reader TypeTree
-sign_and_range = made type_of (paired sign (maybe (is_front (codes "[")) range))
+abbrev pub type : Reader TypeTree
+type = made type_of (paired (maybe (is_front (codes "signed")) (word_only (codes "signed"))) (maybe (is_front (codes "[")) range))
 
 abbrev pub parameter_type_of : Either (Unit {0}) TypeTree → ParameterType
-parameter_type_of (one_way word) = integer
-parameter_type_of (other_way type) = typed type
+parameter_type_of (one_way end) = integer
+parameter_type_of (other_way tree) = typed tree
 
 abbrev pub parameter_type : Reader ParameterType
-parameter_type = made parameter_type_of (either (is_front (codes "integer")) (word_only (codes "integer")) sign_and_range)
+parameter_type = made parameter_type_of (either (is_front (codes "integer")) (word_only (codes "integer")) type)
 
--- Settings
+-- name = value, and name alone
 
 abbrev pub setting_of : Both Text ExpressionTree → SettingTree
 setting_of (both letters tree) = record { name = letters; value = tree }
 
--- name = value
 abbrev pub setting : Reader SettingTree
-setting = made setting_of (paired named (past (codes "=") whole_value))
+setting = made setting_of (paired named (past (codes "=") free_value))
 
 abbrev pub declared_of : Both Text (Option ExpressionTree) → DeclaredTree
 declared_of (both letters tree) = record { name = letters; value = tree }
 
--- name, or name = value
 abbrev pub declared : Reader DeclaredTree
-declared = made declared_of (paired named (maybe (is_front (codes "=")) (past (codes "=") whole_value)))
+declared = made declared_of (paired named (maybe (is_front (codes "=")) (past (codes "=") free_value)))
 
--- What a module is given: parameters and ports
+-- Connections
 
-abbrev pub head_parameter_of : Both (Option ParameterType) SettingTree → HeadParameter
-head_parameter_of (both kind tree) = record { kind = kind; setting = tree }
+abbrev pub Value : Type 0
+Value = Either (Unit {0}) (Both ExpressionTree (Unit {0}))
 
-abbrev pub first_parameter_of : Both ParameterType SettingTree → HeadParameter
-first_parameter_of (both kind tree) = record { kind = Some kind; setting = tree }
+-- a value and ), or ) alone
+abbrev pub value_in : Reader Value
+value_in = either (is_front (codes ")")) (word_only (codes ")")) (paired free_value (word_only (codes ")")))
 
--- parameter type name = value
-abbrev pub first_parameter : Reader HeadParameter
-first_parameter = made first_parameter_of (past (codes "parameter") (paired parameter_type setting))
+abbrev pub connection_of : Both Text Value → ConnectionTree
+connection_of (both letters (one_way end)) = record { name = letters; value = None }
+connection_of (both letters (other_way (both tree end))) = record { name = letters; value = Some tree }
 
--- the same, or name = value
-abbrev pub next_parameter : Reader HeadParameter
-next_parameter = made head_parameter_of (paired (maybe (is_front (codes "parameter")) (past (codes "parameter") parameter_type)) setting)
-
--- the first one, and others behind a comma each
-abbrev pub led_list : {A : Type 0} → Reader A → Reader A → Reader (List_of A)
-led_list read next = paired read (many (is_front (codes ",")) (λ list. past (codes ",") next))
-
-abbrev pub enclosed_list_of : {A : Type 0} → Both (List_of A) (Unit {0}) → List A
-enclosed_list_of (both list end) = list_in list
-
--- behind # (
-abbrev pub head_parameters : Reader (List HeadParameter)
-head_parameters =
-    past (codes "#") (past (codes "(") (made enclosed_list_of (paired (led_list first_parameter next_parameter) (word_only (codes ")")))))
-
-abbrev pub nets : List NetKind
-nets = net.Wire ∷ net.Reg ∷ []
-
-abbrev pub net_of : Text → Option NetKind
-net_of word = written net_word nets word
-
-abbrev pub wire : Reader Bool
-wire = choose (is_front (codes "wire")) (past (codes "wire") (got true)) (got false)
-
-abbrev pub input_of : Both Bool TypeTree → DirectionTree
-input_of (both wired type) = input wired type
-
-abbrev pub output_of : Both (Option NetKind) TypeTree → DirectionTree
-output_of (both kind type) = output kind type
-
-abbrev pub either_in : {A : Type 0} → Either A A → A
-either_in (one_way tree) = tree
-either_in (other_way tree) = tree
-
--- input type, or output type, with the kind of net or variable before it
-abbrev pub direction : Reader DirectionTree
-direction =
-    made either_in (either (is_front (codes "input")) (made input_of (past (codes "input") (paired wire sign_and_range)))
-    (made output_of (past (codes "output") (paired (maybe (is_meant net_of) (worded net_of)) sign_and_range))))
-
-abbrev pub direction_word : Bool → Text
-direction_word true = codes "output"
-direction_word false = codes "input"
-
-abbrev pub direction_of : Text → Option Bool
-direction_of word = written direction_word (true ∷ false ∷ []) word
-
-abbrev pub first_port_of : Both DirectionTree Text → PortTree
-first_port_of (both way letters) = record { direction = Some way; name = letters }
-
-abbrev pub port_of : Both (Option DirectionTree) Text → PortTree
-port_of (both way letters) = record { direction = way; name = letters }
-
-abbrev pub first_port : Reader PortTree
-first_port = made first_port_of (paired direction named)
-
-abbrev pub next_port : Reader PortTree
-next_port = made port_of (paired (maybe (is_meant direction_of) direction) named)
-
-abbrev pub closed : {A : Type 0} → A → Reader A
-closed tree = past (codes ")") (got tree)
-
--- ( direction name, .. ), or ( )
-abbrev pub ports : Reader (List PortTree)
-ports =
-    past (codes "(") (choose (is_front (codes ")")) (closed [])
-    (made enclosed_list_of (paired (led_list first_port next_port) (word_only (codes ")")))))
-
--- Instances
-
-abbrev pub connection_of : Both Text (Both (Option ExpressionTree) (Unit {0})) → ConnectionTree
-connection_of (both letters (both tree end)) = record { name = letters; value = tree }
-
--- . name ( value ), or . name ( )
+-- behind .
 abbrev pub connection : Reader ConnectionTree
-connection =
-    made connection_of (past (codes ".") (paired named (past (codes "(")
-    (paired (maybe (λ next. not (is_front (codes ")") next)) whole_value) (word_only (codes ")"))))))
+connection = made connection_of (past (codes ".") (paired named (past (codes "(") value_in)))
 
-abbrev pub by_order_of : Both (List_of ExpressionTree) (Unit {0}) → ConnectionsTree
-by_order_of (both list end) = by_order (list_in list)
+abbrev pub Connections : Type 0
+Connections = Either (Both (List_of ConnectionTree) (Unit {0})) (Either (Unit {0}) (Both (List_of ExpressionTree) (Unit {0})))
 
-abbrev pub by_name_of : Both (List_of ConnectionTree) (Unit {0}) → ConnectionsTree
-by_name_of (both list end) = by_name (list_in list)
+abbrev pub connections_of : Connections → ConnectionsTree
+connections_of (one_way (both list end)) = by_name (listed_of list)
+connections_of (other_way (one_way end)) = by_order []
+connections_of (other_way (other_way (both list end))) = by_order (listed_of list)
 
--- ( value, .. ), ( .name(value), .. ) or ( )
 abbrev pub connections : Reader ConnectionsTree
 connections =
-    past (codes "(") (choose (is_front (codes ")")) (closed (by_order []))
-    (made either_in (either (is_front (codes ".")) (made by_name_of (paired (comma_list connection) (word_only (codes ")"))))
-    (made by_order_of (paired (comma_list whole_value) (word_only (codes ")")))))))
+    made connections_of (past (codes "(") (either (is_front (codes ".")) (paired (comma_list connection) (word_only (codes ")")))
+    (either (is_front (codes ")")) (word_only (codes ")")) (paired (comma_list free_value) (word_only (codes ")"))))))
 
 abbrev pub instance_of : Both Text ConnectionsTree → InstanceTree
 instance_of (both letters tree) = record { name = letters; connections = tree }
 
-abbrev pub instance : Reader InstanceTree
-instance = made instance_of (paired named connections)
+abbrev pub instance_behind : Reader InstanceTree
+instance_behind = made instance_of (paired named connections)
 
-abbrev pub Instances : Type 0
-Instances = Both (Option ConnectionsTree) (Both (List_of InstanceTree) (Unit {0}))
+abbrev pub overrides : Reader (Option ConnectionsTree)
+overrides = maybe (is_front (codes "#")) (past (codes "#") connections)
 
-abbrev pub instances_of : Text → Instances → ItemTree
-instances_of letters (both overrides (both list end)) = instances letters overrides (list_in list)
+-- Items. Each stands behind its first word.
 
--- behind the name of a module
-abbrev pub instance_list : Reader Instances
-instance_list =
-    paired (maybe (is_front (codes "#")) (past (codes "#") connections)) (paired (comma_list instance) (word_only (codes ";")))
+abbrev pub ended : {A : Type 0} → Reader A → Reader (Both (List_of A) (Unit {0}))
+ended read = paired (comma_list read) (word_only (codes ";"))
 
--- Items
+abbrev pub net_of : Text → Option NetKind
+net_of word = written net_word (net.Wire ∷ net.Reg ∷ []) word
 
-abbrev pub parameters_of : Bool → Both ParameterType (Both (List_of SettingTree) (Unit {0})) → ItemTree
-parameters_of local (both type (both list end)) = parameters local type (list_in list)
+abbrev pub local_of : Text → Option Bool
+local_of word = written parameter_word (false ∷ true ∷ []) word
 
-abbrev pub variables_of : NetKind → Both TypeTree (Both (List_of DeclaredTree) (Unit {0})) → ItemTree
-variables_of kind (both type (both list end)) = declaration (variables kind type) (list_in list)
+abbrev pub Parameters : Type 0
+Parameters = Both Bool (Both ParameterType (Both (List_of SettingTree) (Unit {0})))
+
+abbrev pub parameters_of : Parameters → ItemTree
+parameters_of (both local (both kind (both list end))) = parameters local kind (listed_of list)
+
+abbrev pub Variables : Type 0
+Variables = Both NetKind (Both TypeTree (Both (List_of DeclaredTree) (Unit {0})))
+
+abbrev pub variables_of : Variables → ItemTree
+variables_of (both kind (both tree (both list end))) = declaration (variables kind tree) (listed_of list)
 
 abbrev pub integers_of : Both (List_of DeclaredTree) (Unit {0}) → ItemTree
-integers_of (both list end) = declaration integers (list_in list)
+integers_of (both list end) = declaration integers (listed_of list)
 
 abbrev pub events_of : Both (List_of Text) (Unit {0}) → ItemTree
-events_of (both list end) = events (list_in list)
+events_of (both list end) = events (listed_of list)
 
 abbrev pub assignments_of : Both (List_of SettingTree) (Unit {0}) → ItemTree
-assignments_of (both list end) = assignments (list_in list)
+assignments_of (both list end) = assignments (listed_of list)
 
--- a list with commas, and a semicolon
-abbrev pub ended_list : {A : Type 0} → Reader A → Reader (Both (List_of A) (Unit {0}))
-ended_list read = paired (comma_list read) (word_only (codes ";"))
+abbrev pub Instances : Type 0
+Instances = Both Text (Both (Option ConnectionsTree) (Both (List_of InstanceTree) (Unit {0})))
 
--- what an item's first word begins, if it isn't the name of a module
-pub data ItemStart : Type 0 where
-  parameter_start : Bool → ItemStart
-  variable_start : NetKind → ItemStart
-  integer_start : ItemStart
-  event_start : ItemStart
-  assign_start : ItemStart
-  initial_start : ItemStart
-  always_start : ItemStart
+abbrev pub instances_of : Instances → ItemTree
+instances_of (both letters (both tree (both list end))) = instances letters tree (listed_of list)
 
-abbrev pub item_word : ItemStart → Text
-item_word (parameter_start local) = parameter_word local
-item_word (variable_start kind) = net_word kind
-item_word integer_start = codes "integer"
-item_word event_start = codes "event"
-item_word assign_start = codes "assign"
-item_word initial_start = codes "initial"
-item_word always_start = codes "always"
+abbrev pub Item : Type 0
+Item =
+    Either Parameters (Either Variables (Either (Both (List_of DeclaredTree) (Unit {0})) (Either (Both (List_of Text) (Unit {0}))
+    (Either (Both (List_of SettingTree) (Unit {0})) (Either StatementTree (Either StatementTree Instances))))))
 
-abbrev pub item_starts : List ItemStart
-item_starts =
-    parameter_start false ∷ parameter_start true ∷ variable_start net.Wire ∷ variable_start net.Reg ∷ integer_start ∷ event_start
-    ∷ assign_start ∷ initial_start ∷ always_start ∷ []
-
-unfoldable pub item_start_of : Text → Option ItemStart
-item_start_of word = written item_word item_starts word
-
-abbrev pub item_by : ItemStart → Reader ItemTree
-item_by (parameter_start local) = made (parameters_of local) (paired parameter_type (ended_list setting))
-item_by (variable_start kind) = made (variables_of kind) (paired sign_and_range (ended_list declared))
-item_by integer_start = made integers_of (ended_list declared)
-item_by event_start = made events_of (ended_list named)
-item_by assign_start = made assignments_of (ended_list setting)
-item_by initial_start = made initial (statement most_levels)
-item_by always_start = made always (statement most_levels)
-
-abbrev pub lead_of : Option ItemStart → Lead ItemTree
-lead_of None = refused
-lead_of (Some start) = goes (item_by start)
+abbrev pub item_of : Item → ItemTree
+item_of (one_way tree) = parameters_of tree
+item_of (other_way (one_way tree)) = variables_of tree
+item_of (other_way (other_way (one_way tree))) = integers_of tree
+item_of (other_way (other_way (other_way (one_way tree)))) = events_of tree
+item_of (other_way (other_way (other_way (other_way (one_way tree))))) = assignments_of tree
+item_of (other_way (other_way (other_way (other_way (other_way (one_way tree)))))) = initial tree
+item_of (other_way (other_way (other_way (other_way (other_way (other_way (one_way tree))))))) = always tree
+item_of (other_way (other_way (other_way (other_way (other_way (other_way (other_way tree))))))) = instances_of tree
 
 abbrev pub item : Reader ItemTree
 item =
-    choose (is_word is_name) (led (λ word. goes (made (instances_of word) instance_list))) (led (λ word. lead_of (item_start_of word)))
+    made item_of
+    (either (is_meant local_of) (paired (worded local_of) (paired parameter_type (ended setting)))
+    (either (is_meant net_of) (paired (worded net_of) (paired type (ended declared)))
+    (either (is_front (codes "integer")) (past (codes "integer") (ended declared))
+    (either (is_front (codes "event")) (past (codes "event") (ended named))
+    (either (is_front (codes "assign")) (past (codes "assign") (ended setting))
+    (either (is_front (codes "initial")) (past (codes "initial") (statement 64))
+    (either (is_front (codes "always")) (past (codes "always") (statement 64))
+    (paired named (paired overrides (ended instance_behind))))))))))
 
--- Modules
+-- The head of a module
 
-abbrev pub ModuleParts : Type 0
-ModuleParts = Both Text (Both (Option (List HeadParameter)) (Both (Option (List PortTree)) (Both (List ItemTree) (Unit {0}))))
+abbrev pub first_parameter_of : Both ParameterType SettingTree → HeadParameter
+first_parameter_of (both tree set) = record { kind = Some tree; setting = set }
 
-abbrev pub module_of : ModuleParts → ModuleTree
-module_of (both letters (both heads (both ways (both items end)))) =
-    record { name = letters; parameters = heads; ports = ways; items = items }
+abbrev pub head_parameter_of : Both (Option ParameterType) SettingTree → HeadParameter
+head_parameter_of (both tree set) = record { kind = tree; setting = set }
 
--- module name #( parameters ) ( ports ) ; items endmodule
-abbrev pub module_parts : Reader ModuleParts
-module_parts =
-    past (codes "module") (paired named (paired (maybe (is_front (codes "#")) head_parameters) (paired (maybe (is_front (codes "(")) ports)
-    (past (codes ";") (paired (many (λ next. not (is_front (codes "endmodule") next)) (λ list. item)) (word_only (codes "endmodule")))))))
+abbrev pub first_parameter : Reader HeadParameter
+first_parameter = made first_parameter_of (past (codes "parameter") (paired parameter_type setting))
+
+abbrev pub head_parameter : Reader HeadParameter
+head_parameter = made head_parameter_of (paired (maybe (is_front (codes "parameter")) (past (codes "parameter") parameter_type)) setting)
+
+-- behind #
+abbrev pub head_parameters : Reader (Both (List_of HeadParameter) (Unit {0}))
+head_parameters =
+    past (codes "(") (paired (paired first_parameter (many (is_front (codes ",")) (λ list. past (codes ",") head_parameter)))
+    (word_only (codes ")")))
+
+abbrev pub Direction : Type 0
+Direction = Either (Both (Option (Unit {0})) TypeTree) (Both (Option NetKind) TypeTree)
+
+abbrev pub direction_of : Direction → DirectionTree
+direction_of (one_way (both wire tree)) = input (is_there wire) tree
+direction_of (other_way (both kind tree)) = output kind tree
+
+abbrev pub direction : Reader DirectionTree
+direction =
+    made direction_of (either (is_front (codes "input"))
+    (past (codes "input") (paired (maybe (is_front (codes "wire")) (word_only (codes "wire"))) type))
+    (past (codes "output") (paired (maybe (is_meant net_of) (worded net_of)) type)))
+
+abbrev pub is_direction : Option Text → Bool
+is_direction = is_meant (λ word. written (λ text. text) (codes "input" ∷ codes "output" ∷ []) word)
+
+abbrev pub first_port_of : Both DirectionTree Text → PortTree
+first_port_of (both tree letters) = record { direction = Some tree; name = letters }
+
+abbrev pub port_of : Both (Option DirectionTree) Text → PortTree
+port_of (both tree letters) = record { direction = tree; name = letters }
+
+abbrev pub first_port : Reader PortTree
+first_port = made first_port_of (paired direction named)
+
+abbrev pub port : Reader PortTree
+port = made port_of (paired (maybe is_direction direction) named)
+
+abbrev pub Ports : Type 0
+Ports = Either (Unit {0}) (Both (List_of PortTree) (Unit {0}))
+
+abbrev pub ports_of : Ports → List PortTree
+ports_of (one_way end) = []
+ports_of (other_way (both list end)) = listed_of list
+
+abbrev pub ports : Reader (List PortTree)
+ports =
+    made ports_of (past (codes "(") (either (is_front (codes ")")) (word_only (codes ")"))
+    (paired (paired first_port (many (is_front (codes ",")) (λ list. past (codes ",") port))) (word_only (codes ")")))))
+
+abbrev pub head_list_of : Both (List_of HeadParameter) (Unit {0}) → List HeadParameter
+head_list_of (both list end) = listed_of list
+
+abbrev pub Module : Type 0
+Module = Both Text (Both (Option (List HeadParameter)) (Both (Option (List PortTree)) (Both (List ItemTree) (Unit {0}))))
+
+abbrev pub module_of : Module → ModuleTree
+module_of (both letters (both head (both list (both body end)))) =
+    record { name = letters; parameters = head; ports = list; items = body }
+
+abbrev pub module_tree : Reader ModuleTree
+module_tree =
+    made module_of (past (codes "module") (paired named
+    (paired (maybe (is_front (codes "#")) (past (codes "#") (made head_list_of head_parameters)))
+    (paired (maybe (is_front (codes "(")) ports)
+    (past (codes ";") (paired (many (λ next. not (is_front (codes "endmodule") next)) (λ list. item)) (word_only (codes "endmodule"))))))))
 
 abbrev pub is_some_word : Option Text → Bool
 is_some_word None = false
 is_some_word (Some word) = true
 
--- modules, to the end of the text
+-- modules to the end of the text
 unfoldable pub source : Reader SourceTree
-source = many is_some_word (λ list. made module_of module_parts)
+source = many is_some_word (λ list. module_tree)

@@ -1,12 +1,13 @@
 -- Reading of statements: one at the front of the words, of so many levels at most, one word at a time (IEEE 1364-2005, A.6).
-use Rattle.std.specs.Prelude.{ℕ, zero, suc, Bool, true, false, ◌&&◌, ◌||◌, not, if◌then◌else◌, List, [], ◌∷◌, ◌++◌, Option, Some, None, codes}
+use Rattle.std.specs.Prelude.{ℕ, zero, suc, Bool, true, false, ◌&&◌, ◌||◌, not, if◌then◌else◌, List, [], ◌∷◌, Option, Some, None, codes}
 use Rattle.std.specs.Str.{bytes_eq}
 use Rattle.vast.specs.Words.{is_name, is_number, is_string}
 use Rattle.vast.specs.Syntax.{Text}
 use Rattle.vast.specs.Expressions.{ExpressionTree}
 use Rattle.vast.specs.Expressions.{first as first_part}
-use Rattle.vast.specs.Statements.{TargetTree, whole, bit, part, joined, TargetTrees, none, first as first_target, DelayTree, by_number, by_name, by_value, TermTree, FurtherTerm, EventTree, by_event, by_any, by_any_enclosed, by_terms, ArgumentTree, quoted, printed, SelectionTree, TaskTree, print, dump_file, dump_vars, dump, end_run, StatementTree, empty, block, assign, nonblocking, trigger, if_true, if_else, case_of, while_true, repeat_times, forever, for_loop, wait_for, delay, event, task, StatementTrees, no_statement, first_statement, BranchTree, labelled, default, BranchTrees, no_branch, first_branch, is_default}
+use Rattle.vast.specs.Statements.{TargetTree, whole, bit, part, joined, TargetTrees, none, first as first_target, DelayTree, by_number, by_name, by_value, TermTree, FurtherTerm, EventTree, by_event, by_any, by_any_enclosed, by_terms, ArgumentTree, quoted, printed, SelectionTree, print, dump_file, dump_vars, dump, end_run, StatementTree, empty, block, assign, nonblocking, trigger, if_true, if_else, case_of, while_true, repeat_times, forever, for_loop, wait_for, delay, event, task, StatementTrees, no_statement, first_statement, BranchTree, labelled, default, BranchTrees, no_branch, first_branch, is_default, ends_in_if}
 use Rattle.vast.specs.declared.statement.CaseKind.{CaseKind}
+use Rattle.vast.specs.declared.statement.Dumping.{Dumping}
 use Rattle.vast.specs.declared.statement.Edge.{Edge}
 use Rattle.vast.specs.declared.statement.Printing.{Printing}
 use Rattle.vast.specs.declared.statement.Printing.TheVariants as printing
@@ -58,7 +59,8 @@ target_of letters (Some (both left (one_way (both right end)))) = part letters l
 target_of letters (Some (both index (other_way end))) = bit letters index
 
 abbrev pub named_target : ℕ → Text → Reader TargetTree
-named_target below letters = made (target_of letters) (maybe (is_front (codes "[")) (roomy below 1 (past (codes "[") (select below))))
+named_target below letters = made (target_of letters)
+    (maybe (is_front (codes "[")) (roomy below 1 (past (codes "[") (select below))))
 
 abbrev pub targets_in : List TargetTree → TargetTrees
 targets_in [] = none
@@ -103,7 +105,8 @@ abbrev pub Assignment : Type 0
 Assignment = Both TargetTree (Both Bool (Both (Option DelayTree) (Both ExpressionTree (Unit {0}))))
 
 abbrev pub assignment_of : Assignment → StatementTree
-assignment_of (both tree (both later (both wait (both right end)))) = if later then nonblocking tree wait right else assign tree wait right
+assignment_of (both tree
+    (both later (both wait (both right end)))) = if later then nonblocking tree wait right else assign tree wait right
 
 abbrev pub assignment_parts : ℕ → Reader Assignment
 assignment_parts below =
@@ -137,7 +140,8 @@ abbrev pub For : Type 0
 For = Both (Both TargetTree ExpressionTree) (Both ExpressionTree (Both (Both TargetTree ExpressionTree) StatementTree))
 
 abbrev pub for_of : For → StatementTree
-for_of (both (both tree right) (both condition (both (both next next_right) body))) = for_loop tree right condition next next_right body
+for_of (both (both tree right)
+    (both condition (both (both next next_right) body))) = for_loop tree right condition next next_right body
 
 abbrev pub for_parts : ℕ → Reader StatementTree → Reader For
 for_parts below read =
@@ -238,7 +242,8 @@ case_parts_of kind (both tree (both (both one more) end)) = case_of kind tree (f
 
 abbrev pub branches : ℕ → Reader StatementTree → Reader (List_of BranchTree)
 branches below read =
-    linked (branch below read []) (λ one. many (λ next. not (is_front (codes "endcase") next)) (λ list. branch below read (one ∷ list)))
+    linked (branch below read [])
+    (λ one. many (λ next. not (is_front (codes "endcase") next)) (λ list. branch below read (one ∷ list)))
 
 abbrev pub case_parts : ℕ → Reader StatementTree → Reader Case
 case_parts below read = guarded below (paired (branches below read) (word_only (codes "endcase")))
@@ -267,7 +272,8 @@ optional_print_of kind (both None end) = task (print kind [])
 optional_print_of kind (both (Some (both (both one more) closing)) end) = task (print kind (one ∷ more))
 
 abbrev pub print_lead : ℕ → Printing → Lead StatementTree
-print_lead below printing.Monitor = room below 1 (goes (made (print_of printing.Monitor) (paired (arguments below) (word_only (codes ";")))))
+print_lead below printing.Monitor = room below 1
+    (goes (made (print_of printing.Monitor) (paired (arguments below) (word_only (codes ";")))))
 print_lead below printing.Display =
     goes (made (optional_print_of printing.Display) (paired (maybe (is_front (codes "(")) (roomy below 1 (arguments below)))
     (word_only (codes ";"))))
@@ -306,7 +312,11 @@ end_of stops (both None end) = task (end_run stops None)
 end_of stops (both (Some (both digits closing)) end) = task (end_run stops (Some digits))
 
 abbrev pub end_parts : Reader (Both (Option (Both Text (Unit {0}))) (Unit {0}))
-end_parts = paired (maybe (is_front (codes "(")) (past (codes "(") (paired numbered (word_only (codes ")"))))) (word_only (codes ";"))
+end_parts = paired (maybe (is_front (codes "(")) (past (codes "(") (paired numbered (word_only (codes ")")))))
+    (word_only (codes ";"))
+
+abbrev pub dump_of : Dumping → Unit {0} → StatementTree
+dump_of kind end = task (dump kind)
 
 abbrev pub trigger_of : Both Text (Unit {0}) → StatementTree
 trigger_of (both letters end) = trigger letters
@@ -328,7 +338,7 @@ statement_by below read (start.Print kind) = print_lead below kind
 statement_by below read start.DumpFile = room below 1 (goes (made dump_file_of dump_file_parts))
 statement_by below read start.DumpVars =
     goes (made dump_vars_of (paired (maybe (is_front (codes "(")) selection) (word_only (codes ";"))))
-statement_by below read (start.Dump kind) = goes (past (codes ";") (got (task (dump kind))))
+statement_by below read (start.Dump kind) = goes (made (dump_of kind) (word_only (codes ";")))
 statement_by below read (start.End stops) = goes (made (end_of stops) end_parts)
 
 abbrev pub lead_by : ℕ → Reader StatementTree → Option StatementStart → Lead StatementTree
@@ -347,3 +357,7 @@ statement (suc below) =
 -- where a statement ends: an else goes on
 abbrev pub ends_statement : Option Text → Bool
 ends_statement next = not (is_front (codes "else") next)
+
+-- where this one ends: an else goes on from an if without one
+abbrev pub ends_tree : StatementTree → Option Text → Bool
+ends_tree tree next = not (ends_in_if tree && is_front (codes "else") next)

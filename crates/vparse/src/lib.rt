@@ -12,6 +12,7 @@ mod modules;
 mod parser;
 pub mod profile;
 pub mod start;
+pub mod statement_law;
 mod statements;
 mod stop;
 
