@@ -28,3 +28,4 @@ pub mod StatementGrowth
 pub mod PhrasePlaces
 pub mod StatementStops
 pub mod HeadPhrases
+pub mod ItemPhrases

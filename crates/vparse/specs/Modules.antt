@@ -151,17 +151,19 @@ item_of (other_way (other_way (other_way (other_way (other_way (one_way tree))))
 item_of (other_way (other_way (other_way (other_way (other_way (other_way (one_way tree))))))) = always tree
 item_of (other_way (other_way (other_way (other_way (other_way (other_way (other_way tree))))))) = instances_of tree
 
-abbrev pub item : Reader ItemTree
-item =
-    made item_of
-    (either (is_meant local_of) (paired (worded local_of) (paired parameter_type (ended setting)))
+abbrev pub item_parts : Reader Item
+item_parts =
+    either (is_meant local_of) (paired (worded local_of) (paired parameter_type (ended setting)))
     (either (is_meant net_of) (paired (worded net_of) (paired type (ended declared)))
     (either (is_front (codes "integer")) (past (codes "integer") (ended declared))
     (either (is_front (codes "event")) (past (codes "event") (ended named))
     (either (is_front (codes "assign")) (past (codes "assign") (ended setting))
     (either (is_front (codes "initial")) (past (codes "initial") (statement 64))
     (either (is_front (codes "always")) (past (codes "always") (statement 64))
-    (paired named (paired overrides (ended instance_behind))))))))))
+    (paired named (paired overrides (ended instance_behind)))))))))
+
+abbrev pub item : Reader ItemTree
+item = made item_of item_parts
 
 -- The head of a module
 
