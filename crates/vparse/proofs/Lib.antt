@@ -20,3 +20,4 @@ pub mod StatementShapes
 pub mod StatementPhrases
 pub mod TaskPhrases
 pub mod CasePhrases
+mod ManyTurns

@@ -283,9 +283,12 @@ module _ {A B : Type 0} {read : Reader A} {next : A → Reader B} {ends ends_nex
   linked_lawful : Lawful (linked read next) ends_next
   linked_lawful =
       then_lawful read (λ x. made (both x) (next x)) ends ends_next (t.spell example) linking begins
-      (λ x. (both x example, λ rest e.
-      then_got (next x (t.spell example ++ rest)) (λ y. got (both x y)) example rest
-      ((q x).complete example rest (may x) ((q x).closed example (front rest) e))))
+      (λ x. (
+        both x example,
+        λ rest e.
+            then_got (next x (t.spell example ++ rest)) (λ y. got (both x y)) example rest
+            ((q x).complete example rest (may x) ((q x).closed example (front rest) e)),
+      ))
       p.lawful (λ x. made_lawful (both x) (next x) ends_next (q x).lawful)
     where
       linking : (x : A) (tree : Both A B) (left : List Text) → made (both x) (next x) left ≡ got tree left →

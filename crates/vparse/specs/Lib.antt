@@ -8,3 +8,4 @@ pub mod Parts
 pub mod Starts
 pub mod Statements
 pub mod Modules
+pub mod Gives
