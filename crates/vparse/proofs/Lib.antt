@@ -21,3 +21,4 @@ pub mod StatementPhrases
 pub mod TaskPhrases
 pub mod CasePhrases
 mod ManyTurns
+mod TargetTurns
