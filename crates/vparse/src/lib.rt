@@ -3,6 +3,7 @@
 // is no other.
 #![tactic(auto)]
 
+pub mod amounts;
 pub mod beginning;
 mod cursor;
 mod fault;
@@ -15,6 +16,9 @@ pub mod start;
 pub mod statement_law;
 mod statements;
 mod stop;
+pub mod targets;
+pub mod values;
+pub mod words;
 
 pub use fault::SyntaxFault;
 pub use parser::parse;

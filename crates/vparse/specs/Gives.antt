@@ -1,0 +1,63 @@
+-- What the program's functions answer that read by the definitions. Nothing here has to be believed.
+use Rattle.std.specs.Prelude.{◌≡◌, ℕ, List, [], ◌∷◌, Some, Vec, map, codes, Result, Ok, Err}
+use Rattle.vast.specs.Syntax.{Text}
+use Rattle.vast.specs.Expressions.{ExpressionTree}
+use Rattle.std.specs.Borrow.{MutBor}
+use Rattle.vast.specs.ExpressionTrees.{tree_of}
+use Rattle.vast.specs.StatementTrees.{target_tree}
+use Rattle.vast.specs.declared.statement.Target.{Target}
+use Rattle.vast.specs.declared.expression.Expression.{Expression}
+use Rattle.basis.specs.declared.memory.OrMemory.{OrMemory}
+use Rattle.vexpr_parse.specs.declared.stop.Stop.{Stop}
+use Rattle.vexpr_parse.specs.Readers.{Answer, Reader, got, and_then, led, past, is_front, turns}
+use Rattle.vexpr_parse.specs.Answers.{Stops}
+use Rattle.vast.specs.Statements.{TargetTree, joined}
+use Rattle.vparse.specs.Parts.{Both, both, made, one_behind}
+use Rattle.vparse.specs.Statements.{select, target_of, target, targets_in, target_lead}
+
+-- what the definition reads is given, and what is behind it is left; or it stops there
+abbrev pub Gives : {A T : Type 0} → (T → A) → Answer A → List Text → Result T (OrMemory Stop) → Type 0
+Gives view answer left (Ok value) = answer ≡ got (view value) left
+Gives view answer left (Err e) = Stops answer left e
+
+-- the tree of an expression, and that a word ended it
+abbrev pub ended_tree : Expression → Both ExpressionTree (Unit {0})
+ended_tree value = both (tree_of value) tt
+
+-- a target with a select, behind its bracket
+abbrev pub selected_tree : Text → ℕ → Reader TargetTree
+selected_tree letters below = made (λ selected. target_of letters (Some selected)) (select below)
+
+-- each call reads as the definition does with so many levels
+abbrev pub ReadsTargets : ℕ → (MutBor (List Text) → Result Target (OrMemory Stop) → MutBor (List Text) → Type 0) → Type 0
+ReadsTargets below call =
+    (old new : MutBor (List Text)) (result : Result Target (OrMemory Stop)) → call old result new →
+    Gives target_tree (target below old.now) new.now result
+
+-- the trees of targets
+abbrev pub all_targets : {T : Type 0} → Vec Target T → List TargetTree
+all_targets targets = map target_tree targets.items
+
+-- the targets behind those that were read
+abbrev pub targets_from : ℕ → List TargetTree → Reader (List TargetTree)
+targets_from below = turns (one_behind (λ list. past (codes ",") (target below))) (is_front (codes ","))
+
+-- the targets with the first one
+abbrev pub targets_behind : ℕ → TargetTree → Reader (List TargetTree)
+targets_behind below first = targets_from below (first ∷ [])
+
+-- one, and more behind a comma each, up to this very word
+abbrev pub all_until : {A : Type 0} → Text → Reader A → Reader (List A)
+all_until text read words =
+    and_then (read words) (λ one left. and_then (turns (one_behind (λ list. past (codes ",") read)) (is_front (codes ",")) (one ∷ []) left)
+    (λ all. past text (got all)))
+
+abbrev pub targets_within : ℕ → Reader (List TargetTree)
+targets_within below = all_until (codes "}") (target below)
+
+abbrev pub in_braces : List TargetTree → TargetTree
+in_braces all = joined (targets_in all)
+
+-- with so many levels below it
+abbrev pub target_at : ℕ → Reader TargetTree
+target_at below = led (target_lead below (target below))
