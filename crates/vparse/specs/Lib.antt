@@ -10,3 +10,4 @@ pub mod Statements
 pub mod StatementPlaces
 pub mod Modules
 pub mod Gives
+pub mod ModuleGives

@@ -12,11 +12,13 @@ pub mod law;
 mod modules;
 mod parser;
 pub mod profile;
+pub mod settings;
 pub mod start;
 pub mod statement_law;
 mod statements;
 mod stop;
 pub mod targets;
+pub mod types;
 pub mod values;
 pub mod words;
 
