@@ -29,3 +29,5 @@ pub mod PhrasePlaces
 pub mod StatementStops
 pub mod HeadPhrases
 pub mod ItemPhrases
+pub mod ModulePhrases
+pub mod SourceReads

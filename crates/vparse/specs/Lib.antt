@@ -9,3 +9,4 @@ pub mod Starts
 pub mod Statements
 pub mod StatementPlaces
 pub mod Modules
+pub mod SourcePlaces

@@ -11,6 +11,7 @@ pub mod law;
 mod modules;
 mod parser;
 pub mod profile;
+pub mod source_law;
 pub mod start;
 pub mod statement_law;
 mod statements;
