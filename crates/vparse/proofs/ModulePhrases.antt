@@ -1,30 +1,30 @@
 -- Heads of modules, modules and whole texts.
-use Rattle.std.proofs.Common.{◌≡◌, ℕ, zero, suc, ◌<◌, Bool, true, false, ◌&&◌, not, nat_le, List, [], ◌∷◌, ◌++◌, Option, None, Some, length, flat_map, refl, sym, ap, ◌∙◌, arith, subst, codes}
+use Rattle.std.proofs.Common.{◌≡◌, ℕ, suc, ◌<◌, Bool, true, false, ◌&&◌, not, List, [], ◌∷◌, ◌++◌, Option, None, Some, length, flat_map, refl, sym, ap, ◌∙◌, arith, subst, codes}
 use Rattle.std.specs.List.{list_all}
 use Rattle.std.specs.Str.{bytes_eq}
 use Rattle.basis.proofs.Bools.{and_left, and_right, and_both}
 use Rattle.vast.specs.Syntax.{Text}
 use Rattle.vast.specs.Words.{is_name, reserved_words}
 use Rattle.vast.specs.Statements.{listed, in_parentheses}
-use Rattle.vast.specs.Modules.{RangeTree, TypeTree, ParameterType, typed, SettingTree, DirectionTree, input, output, PortTree, HeadParameter, ItemTree, parameters, declaration, variables, integers, events, assignments, initial, always as always_item, instances, ModuleTree, SourceTree, spell_range, spell_signed, spell_type, spell_direction, spell_port, spell_kind, spell_head_parameter, spell_head_parameters, spell_ports, spell_item, spell_module, fits_type, fits_direction, fits_port, is_directed, fits_ports, fits_kind, fits_head_parameter, is_kind, fits_head_parameters, fits_setting, fits_item, fits_optional_parameters, fits_optional_ports, fits_module, net_word}
+use Rattle.vast.specs.Modules.{RangeTree, TypeTree, ParameterType, typed, SettingTree, DirectionTree, input, output, PortTree, HeadParameter, ItemTree, parameters, declaration, variables, integers, events, assignments, initial, always as always_item, instances, ModuleTree, SourceTree, spell_range, spell_signed, spell_type, spell_direction, spell_port, spell_head_parameter, spell_module, fits_type, fits_direction, fits_port, is_directed, fits_ports, fits_head_parameter, is_kind, fits_head_parameters, fits_item, fits_module, net_word}
 use Rattle.vast.specs.declared.module.NetKind.{NetKind}
 use Rattle.vast.specs.declared.module.NetKind.TheVariants as net
 use Rattle.vexpr_parse.specs.declared.stop.Stop.TheVariants.{NoTree}
-use Rattle.vexpr_parse.specs.Readers.{got, stop, Reader, front, is_front, past}
+use Rattle.vexpr_parse.specs.Readers.{got, stop, front, is_front, past}
 use Rattle.vexpr_parse.specs.Words.{binary_of, written, ends}
 use Rattle.vexpr_parse.specs.Lawful.{Ends}
 use Rattle.vexpr_parse.proofs.ReaderRules.{same_text, stop_got}
-use Rattle.vparse.specs.Parts.{Both, both, Either, one_way, other_way, made, paired, worded, many, maybe, either}
+use Rattle.vparse.specs.Parts.{Both, both, one_way, other_way, made, paired, worded, many, maybe}
 use Rattle.vparse.specs.Starts.{is_meant, is_some_meaning}
-use Rattle.vparse.specs.Statements.{named, word_only, List_of, ends_statement}
-use Rattle.vparse.specs.Modules.{listed_of, is_there, type, parameter_type, setting, net_of, item, first_parameter_of, head_parameter_of, first_parameter, head_parameter, head_parameters, Direction, direction_of, direction, is_direction, first_port_of, port_of, first_port, port, Ports, ports_of, ports, head_list_of, Module, module_of, module_tree, is_some_word, source}
-use Rattle.vparse.proofs.Phrases.{Shape, Phrase, Example, Worded, Opens, Makes, From, always, phrase_within, made_phrase, past_shape, past_phrase, past_example, nothing_phrase, worded_shape, paired_shape, paired_phrase, before_phrase, paired_example, free_phrase, next_phrase}
+use Rattle.vparse.specs.Statements.{word_only, List_of, ends_statement}
+use Rattle.vparse.specs.Modules.{type, parameter_type, setting, net_of, item, first_parameter_of, head_parameter_of, first_parameter, head_parameter, head_parameters, Direction, direction_of, direction, is_direction, first_port_of, port_of, first_port, port, Ports, ports_of, ports, head_list_of, Module, module_of, module_tree, is_some_word, source}
+use Rattle.vparse.proofs.Phrases.{Shape, Phrase, Example, Worded, Opens, Makes, From, always, phrase_within, made_phrase, past_shape, past_phrase, past_example, nothing_phrase, paired_shape, paired_phrase, before_phrase, paired_example, free_phrase, next_phrase}
 use Rattle.vparse.proofs.PhraseChoices.{ends_maybe, maybe_shape, maybe_phrase, either_shape, either_phrase, Tested, ends_many, allows_all, many_shape, many_phrase}
 use Rattle.vparse.proofs.LevelFacts.{and_true, and_assoc}
-use Rattle.vparse.proofs.ValuePhrases.{nothing_example, only_shape, only_phrase, only_example, comma, list_phrase, allows_each}
+use Rattle.vparse.proofs.ValuePhrases.{nothing_example, only_shape, only_phrase, comma, list_phrase, allows_each}
 use Rattle.vparse.proofs.WordPhrases.{clash, not_so, refused_first}
 use Rattle.vparse.proofs.PartPhrases.{text_shape, a_name, named_phrase}
-use Rattle.vparse.proofs.HeadPhrases.{name_isnt, name_means_not, phrase_closing, ends_type, type_shape, type_phrase, ends_parameter_type, parameter_type_shape, parameter_type_phrase, name_ends_type, setting_shape, setting_phrase, a_setting}
+use Rattle.vparse.proofs.HeadPhrases.{name_isnt, name_means_not, phrase_closing, ends_type, type_phrase, ends_parameter_type, parameter_type_shape, parameter_type_phrase, name_ends_type, setting_shape, setting_phrase, a_setting}
 use Rattle.vparse.proofs.ItemPhrases.{net_shape, net_phrase, item_shape, item_phrase}
 
 positive : (n : ℕ) → 0 < suc n
@@ -39,7 +39,12 @@ abbrev parameter_next : Option Text → Bool
 parameter_next = is_front (codes "parameter")
 
 abbrev head_shape : Shape HeadParameter
-head_shape = record { spell = spell_head_parameter; valid = fits_head_parameter; closes = λ tree. ends 0; stops = λ tree next. true }
+head_shape = record {
+  spell = spell_head_parameter;
+  valid = fits_head_parameter;
+  closes = λ tree. ends 0;
+  stops = λ tree next. true;
+}
 
 abbrev first_shape : Shape HeadParameter
 first_shape = record {
@@ -76,7 +81,10 @@ first_parameter_phrase =
   where
     by_kind : (tree : HeadParameter) (o : Option ParameterType) → tree.kind ≡ o → is_kind o ≡ true → From first_parameter_of tree
     by_kind tree None e v = let none : false ≡ true = v in absurd cc
-    by_kind tree (Some kind) e v = record { parts = both kind tree.setting; is = λ i. record { kind = sym e i; setting = tree.setting } }
+    by_kind tree (Some kind) e v = record {
+      parts = both kind tree.setting;
+      is = λ i. record { kind = sym e i; setting = tree.setting };
+    }
 
     back : (tree : HeadParameter) → (is_kind tree.kind && fits_head_parameter tree) ≡ true → From first_parameter_of tree
     back tree v = by_kind tree tree.kind refl (and_left (is_kind tree.kind) _ v)
@@ -90,14 +98,17 @@ first_parameter_phrase =
         valid : (tree : Both ParameterType SettingTree) → first_shape.valid (first_parameter_of tree) ≡ FirstParts.valid tree
         valid (both kind set) = refl
 
-        closes : (tree : Both ParameterType SettingTree) (next : Option Text) → ends 0 next ≡ true → FirstParts.closes tree next ≡ true
+        closes : (tree : Both ParameterType SettingTree) (next : Option Text) → ends 0 next ≡ true →
+            FirstParts.closes tree next ≡ true
         closes (both kind set) next e = e
 
 head_parameter_phrase : Phrase head_parameter (ends 0) head_shape
 unfolding reserved_words
 head_parameter_phrase =
-    made_phrase head_parameter_of head_shape (λ tree v. record { parts = both tree.kind tree.setting; is = refl }) makes (λ tree next e. e)
-    (next_phrase (maybe_phrase parameter_next (past_phrase (codes "parameter") parameter_type_phrase a_type) (λ tree v. positive _)
+    made_phrase head_parameter_of head_shape (λ tree v. record { parts = both tree.kind tree.setting; is = refl }) makes
+    (λ tree next e. e)
+    (next_phrase (maybe_phrase parameter_next (past_phrase (codes "parameter") parameter_type_phrase a_type)
+    (λ tree v. positive _)
     (λ tree v rest. refl)) setting_phrase a_setting setting_worded opens)
   where
     opens : Opens (ends_maybe parameter_next ends_parameter_type) setting_shape
@@ -109,22 +120,31 @@ head_parameter_phrase =
     makes : Makes head_parameter_of HeadParts head_shape []
     makes = record { spelled = spelled; valid = valid; closes = closes; stops = λ tree next e. refl }
       where
-        spelled : (tree : Both (Option ParameterType) SettingTree) → spell_head_parameter (head_parameter_of tree) ≡ HeadParts.spell tree
+        spelled : (tree : Both (Option ParameterType) SettingTree) → spell_head_parameter (head_parameter_of tree)
+            ≡ HeadParts.spell tree
         spelled (both None set) = refl
         spelled (both (Some kind) set) = refl
 
-        valid : (tree : Both (Option ParameterType) SettingTree) → fits_head_parameter (head_parameter_of tree) ≡ HeadParts.valid tree
+        valid : (tree : Both (Option ParameterType) SettingTree) → fits_head_parameter (head_parameter_of tree)
+            ≡ HeadParts.valid tree
         valid (both None set) = refl
         valid (both (Some kind) set) = refl
 
-        closes : (tree : Both (Option ParameterType) SettingTree) (next : Option Text) → ends 0 next ≡ true → HeadParts.closes tree next ≡ true
+        closes : (tree : Both (Option ParameterType) SettingTree) (next : Option Text) → ends 0 next ≡ true →
+            HeadParts.closes tree next ≡ true
         closes (both kind set) next e = e
 
 an_unkinded : Example head_shape
 an_unkinded = record { tree = record { kind = None; setting = a_setting.tree }; valid = a_setting.valid }
 
 a_first : Example first_shape
-a_first = record { tree = record { kind = Some a_type.tree; setting = a_setting.tree }; valid = and_both _ _ a_type.valid a_setting.valid }
+a_first = record {
+  tree = record {
+    kind = Some a_type.tree;
+    setting = a_setting.tree;
+  };
+  valid = and_both _ _ a_type.valid a_setting.valid;
+}
 
 abbrev HeadList : Shape (List_of HeadParameter)
 HeadList = paired_shape first_shape (many_shape comma (ends 0) (past_shape (codes ",") head_shape) (λ list. fits_head_parameter))
@@ -156,10 +176,12 @@ heads_phrase =
     makes : Makes head_list_of HeadListParts heads_shape []
     makes = record { spelled = spelled; valid = valid; closes = λ tree next e. closes tree next; stops = λ tree next e. refl }
       where
-        spelled : (tree : Both (List_of HeadParameter) (Unit {0})) → heads_shape.spell (head_list_of tree) ≡ HeadListParts.spell tree
+        spelled : (tree : Both (List_of HeadParameter) (Unit {0})) → heads_shape.spell (head_list_of tree)
+            ≡ HeadListParts.spell tree
         spelled (both (both tree more) end) = refl
 
-        valid : (tree : Both (List_of HeadParameter) (Unit {0})) → fits_head_parameters (head_list_of tree) ≡ HeadListParts.valid tree
+        valid : (tree : Both (List_of HeadParameter) (Unit {0})) → fits_head_parameters (head_list_of tree)
+            ≡ HeadListParts.valid tree
         valid (both (both tree more) end) =
             sym (and_assoc (is_kind tree.kind) (fits_head_parameter tree) (list_all fits_head_parameter more))
             ∙ ap (λ b. (is_kind tree.kind && fits_head_parameter tree) && b) (sym (allows_each fits_head_parameter [] more))
@@ -228,7 +250,8 @@ no_net_part = record { tree = None; valid = refl }
 input_phrase : Phrase (past (codes "input") (paired (maybe wire_next (word_only (codes "wire"))) type)) ends_direction InputParts
 input_phrase =
     past_phrase (codes "input")
-    (paired_phrase (maybe_phrase wire_next (only_phrase (codes "wire")) (λ tree v. positive _) (λ tree v rest. refl)) last_type_phrase
+    (paired_phrase (maybe_phrase wire_next (only_phrase (codes "wire")) (λ tree v. positive _)
+    (λ tree v rest. refl)) last_type_phrase
     plain_type
     (type_opens (λ next. not (wire_next next)) refl refl (λ next e. no_wire next (and_right (ends_type next) _ e)))
     (λ y v none next e. no_wire next (and_right (ends_type next) _ e)))
@@ -257,7 +280,8 @@ direction_shape = record {
 direction_phrase : Phrase direction ends_direction direction_shape
 direction_phrase =
     made_phrase direction_of direction_shape back makes (λ tree next e. e)
-    (either_phrase (is_front (codes "input")) input_phrase output_phrase (λ tree v. positive _) (λ tree v. positive _) (λ tree v rest. refl)
+    (either_phrase (is_front (codes "input")) input_phrase output_phrase (λ tree v. positive _) (λ tree v. positive _)
+    (λ tree v rest. refl)
     (λ tree v rest. refl))
   where
     back : (tree : DirectionTree) → fits_direction (Some tree) ≡ true → From direction_of tree
@@ -268,7 +292,8 @@ direction_phrase =
     makes : Makes direction_of (either_shape InputParts OutputParts) direction_shape []
     makes = record { spelled = spelled; valid = valid; closes = closes; stops = λ tree next e. refl }
       where
-        spelled : (tree : Direction) → spell_direction (Some (direction_of tree)) ≡ (either_shape InputParts OutputParts).spell tree
+        spelled : (tree : Direction) → spell_direction (Some (direction_of tree))
+            ≡ (either_shape InputParts OutputParts).spell tree
         spelled (one_way (both None tree)) = refl
         spelled (one_way (both (Some end) tree)) = refl
         spelled (other_way (both None tree)) = refl
@@ -317,7 +342,8 @@ no_direction : (letters : Text) → is_name letters ≡ true → is_direction (S
 unfolding reserved_words
 no_direction letters is = by_meaning (written (λ text. text) (codes "input" ∷ codes "output" ∷ []) letters) refl
   where
-    by_meaning : (m : Option Text) → written (λ text. text) (codes "input" ∷ codes "output" ∷ []) letters ≡ m → is_some_meaning m ≡ false
+    by_meaning : (m : Option Text) → written (λ text. text) (codes "input" ∷ codes "output" ∷ []) letters ≡ m →
+        is_some_meaning m ≡ false
     by_meaning None e = refl
     by_meaning (Some text) e = by_tests (bytes_eq (codes "input") letters) (bytes_eq (codes "output") letters) refl refl e
       where
@@ -335,11 +361,16 @@ no_direction letters is = by_meaning (written (λ text. text) (codes "input" ∷
 first_port_phrase : Phrase first_port always first_port_shape
 first_port_phrase =
     made_phrase first_port_of first_port_shape back makes (λ tree next e. refl)
-    (next_phrase direction_phrase named_phrase a_name (λ letters v. positive 0) (λ letters v rest c. name_ends_direction letters v))
+    (next_phrase direction_phrase named_phrase a_name (λ letters v. positive 0)
+    (λ letters v rest c. name_ends_direction letters v))
   where
-    by_direction : (tree : PortTree) (o : Option DirectionTree) → tree.direction ≡ o → is_directed o ≡ true → From first_port_of tree
+    by_direction : (tree : PortTree) (o : Option DirectionTree) → tree.direction ≡ o → is_directed o ≡ true →
+        From first_port_of tree
     by_direction tree None e v = let none : false ≡ true = v in absurd cc
-    by_direction tree (Some way) e v = record { parts = both way tree.name; is = λ i. record { direction = sym e i; name = tree.name } }
+    by_direction tree (Some way) e v = record {
+      parts = both way tree.name;
+      is = λ i. record { direction = sym e i; name = tree.name };
+    }
 
     back : (tree : PortTree) → (is_directed tree.direction && fits_port tree) ≡ true → From first_port_of tree
     back tree v = by_direction tree tree.direction refl (and_left (is_directed tree.direction) _ v)
@@ -361,9 +392,11 @@ first_port_phrase =
 
 port_phrase : Phrase port always port_shape
 port_phrase =
-    made_phrase port_of port_shape (λ tree v. record { parts = both tree.direction tree.name; is = refl }) makes (λ tree next e. refl)
+    made_phrase port_of port_shape (λ tree v. record { parts = both tree.direction tree.name; is = refl }) makes
+    (λ tree next e. refl)
     (next_phrase (maybe_phrase is_direction direction_phrase some begins) named_phrase a_name (λ letters v. positive 0)
-    (λ letters v rest c. and_both (ends_direction (Some letters)) (not (is_direction (Some letters))) (name_ends_direction letters v)
+    (λ letters v rest c. and_both (ends_direction (Some letters)) (not (is_direction (Some letters)))
+    (name_ends_direction letters v)
     (ap not (no_direction letters v))))
   where
     some : Worded direction_shape
@@ -382,7 +415,8 @@ port_phrase =
         spelled (both None letters) = refl
         spelled (both (Some way) letters) = refl
 
-        valid : (tree : Both (Option DirectionTree) Text) → fits_port (port_of tree) ≡ (paired_shape PortPart (text_shape is_name)).valid tree
+        valid : (tree : Both (Option DirectionTree) Text) → fits_port (port_of tree)
+            ≡ (paired_shape PortPart (text_shape is_name)).valid tree
         valid (both None letters) = refl
         valid (both (Some way) letters) = refl
 
@@ -417,7 +451,8 @@ ports_phrase =
     made_phrase ports_of ports_shape back makes (λ list next e. refl)
     (past_phrase (codes "(")
     (either_phrase close (only_phrase (codes ")"))
-    (before_phrase (codes ")") (list_phrase first_port_phrase port_phrase a_port refl) (nothing_phrase always) nothing_example refl)
+    (before_phrase (codes ")") (list_phrase first_port_phrase port_phrase a_port refl)
+    (nothing_phrase always) nothing_example refl)
     (λ tree v. positive _) some (λ tree v rest. refl) not_close)
     (record { tree = one_way tt; valid = refl }))
   where
@@ -478,7 +513,8 @@ item_worded (always_item body) v = positive _
 item_worded (instances letters tree list) v = positive _
 
 -- a word that begins no item
-no_item : (text : Text) → ((words : List Text) → item (text ∷ words) ≡ stop NoTree (text ∷ words)) → Tested (is_front text) false item_shape
+no_item : (text : Text) → ((words : List Text) → item (text ∷ words) ≡ stop NoTree (text ∷ words)) →
+    Tested (is_front text) false item_shape
 no_item text none = refused_first (is_front text) item_phrase item_worded refl refuses
   where
     refuses : (word : Text) (words : List Text) (tree : ItemTree) (left : List Text) → is_front text (Some word) ≡ true →
@@ -530,14 +566,16 @@ ports_example = paired_example no_ports (past_example (codes ";") no_items)
 items_phrase : Phrase (paired (many not_endmodule (λ list. item)) (word_only (codes "endmodule"))) always Items
 items_phrase =
     before_phrase (codes "endmodule")
-    (many_phrase not_endmodule (λ list. item) ends_statement item_shape (λ list. fits_item) (λ list. item_phrase) (λ list tree v. item_worded tree v)
+    (many_phrase not_endmodule (λ list. item) ends_statement item_shape (λ list. fits_item) (λ list. item_phrase)
+    (λ list tree v. item_worded tree v)
     (λ list tree rest v. ap not (no_endmodule tree v rest)) (λ list tree rest v. ap not (no_else tree v rest)))
     (nothing_phrase always) nothing_example refl
 
 ports_part_phrase : Phrase (paired (maybe opening ports) (past (codes ";") (paired (many not_endmodule (λ list. item))
     (word_only (codes "endmodule"))))) always PortsPart
 ports_part_phrase =
-    before_phrase (codes ";") (maybe_phrase opening ports_phrase (λ tree v. positive _) (λ tree v rest. refl)) items_phrase no_items refl
+    before_phrase (codes ";")
+    (maybe_phrase opening ports_phrase (λ tree v. positive _) (λ tree v rest. refl)) items_phrase no_items refl
 
 pub module_phrase : Phrase module_tree always module_shape
 module_phrase =
@@ -546,7 +584,8 @@ module_phrase =
     (λ tree next e. refl)
     (past_phrase (codes "module")
     (free_phrase named_phrase
-    (next_phrase (maybe_phrase hash (past_phrase (codes "#") heads_phrase heads_example) (λ tree v. positive _) (λ tree v rest. refl))
+    (next_phrase (maybe_phrase hash (past_phrase (codes "#") heads_phrase heads_example) (λ tree v. positive _)
+    (λ tree v rest. refl))
     ports_part_phrase ports_example some opens)
     (paired_example no_head ports_example))
     (paired_example a_name (paired_example no_head ports_example)))
@@ -574,7 +613,8 @@ module_phrase =
         regroup true false c d = refl
         regroup false b c d = refl
 
-        parts_valid : (letters : Text) (a b : Bool) (body : List ItemTree) → (((is_name letters && a) && b) && list_all fits_item body)
+        parts_valid : (letters : Text) (a b : Bool) (body : List ItemTree) →
+            (((is_name letters && a) && b) && list_all fits_item body)
             ≡ (is_name letters && (a && (b && (allows_all (λ list. fits_item) [] body && true))))
         parts_valid letters a b body =
             regroup (is_name letters) a b (list_all fits_item body)
@@ -583,7 +623,8 @@ module_phrase =
         valid : (tree : Module) → fits_module (module_of tree) ≡ ModuleParts.valid tree
         valid (both letters (both None (both None (both body end)))) = parts_valid letters true true body
         valid (both letters (both None (both (Some list) (both body end)))) = parts_valid letters true (fits_ports list) body
-        valid (both letters (both (Some head) (both None (both body end)))) = parts_valid letters (fits_head_parameters head) true body
+        valid (both letters (both (Some head) (both None (both body end)))) = parts_valid letters
+            (fits_head_parameters head) true body
         valid (both letters (both (Some head) (both (Some list) (both body end)))) =
             parts_valid letters (fits_head_parameters head) (fits_ports list) body
 
@@ -598,5 +639,6 @@ source_shape = many_shape is_some_word always module_shape (λ list. fits_module
 pub source_phrase : Phrase source (ends_many is_some_word always) source_shape
 unfolding source
 source_phrase =
-    many_phrase is_some_word (λ list. module_tree) always module_shape (λ list. fits_module) (λ list. module_phrase) (λ list tree v. positive _)
+    many_phrase is_some_word (λ list. module_tree) always module_shape (λ list. fits_module) (λ list. module_phrase)
+    (λ list tree v. positive _)
     (λ list tree rest v. refl) (λ list tree rest v. refl)

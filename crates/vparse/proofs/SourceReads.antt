@@ -1,14 +1,14 @@
 -- Reading gives the one tree of the words of a text, or stops at the place from which they begin none.
-use Rattle.std.proofs.Common.{◌≡◌, Bool, true, false, not, List, [], ◌∷◌, ◌++◌, None, refl, sym, ap, ◌∙◌, subst}
+use Rattle.std.proofs.Common.{◌≡◌, true, false, not, List, [], ◌∷◌, ◌++◌, refl, sym, ap, ◌∙◌}
 use Rattle.std.proofs.lemmas.List.{append-nil}
 use Rattle.vast.specs.Syntax.{Text}
-use Rattle.vast.specs.Modules.{SourceTree, fits_module, spell, DerivesText}
-use Rattle.vexpr_parse.specs.Readers.{got, stop, front}
+use Rattle.vast.specs.Modules.{fits_module, spell}
+use Rattle.vexpr_parse.specs.Readers.{front}
 use Rattle.vexpr_parse.proofs.ReaderRules.{got_tree}
 use Rattle.vparse.specs.Modules.{is_some_word, source}
 use Rattle.vparse.specs.SourcePlaces.{ReadsSoundly, ReadsCompletely, IsOnly, StopsAtPlace}
 use Rattle.vparse.proofs.Phrases.{Example}
-use Rattle.vparse.proofs.PhrasePlaces.{IsBegun, stopped}
+use Rattle.vparse.proofs.PhrasePlaces.{stopped}
 use Rattle.vparse.proofs.ValuePhrases.{allows_each}
 use Rattle.vparse.proofs.ModulePhrases.{source_shape, source_phrase}
 

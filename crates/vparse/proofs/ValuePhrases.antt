@@ -143,15 +143,18 @@ more_behind text {read = read} {ends = ends} {s = s} p e opens =
     same text = text_same text
 
 -- one, and others behind commas
-pub list_phrase : {A : Type 0} {read more : Reader A} {ends : Ends} {s t : Shape A} → Phrase read ends s → Phrase more ends t → Example t →
+pub list_phrase : {A : Type 0} {read more : Reader A} {ends : Ends} {s t : Shape A} → Phrase read ends s → Phrase more ends t →
+    Example t →
     ends (Some (codes ",")) ≡ true →
     Phrase (paired read (many comma (λ list. past (codes ",") more))) (ends_many comma ends)
     (paired_shape s (many_shape comma ends (past_shape (codes ",") t) (λ list. t.valid)))
 list_phrase {ends = ends} {t = t} p q e opens =
-    paired_phrase p (more_behind (codes ",") q e opens) (record { tree = []; valid = refl }) (λ list v rest c. follows list rest v c)
+    paired_phrase p (more_behind (codes ",") q e opens) (record { tree = []; valid = refl })
+    (λ list v rest c. follows list rest v c)
     (λ list v none next f. and_left (ends next) (not (comma next)) f)
   where
-    follows : (list : List _) (rest : List Text) → allows_all (λ list. t.valid) [] list ≡ true → ends_many comma ends (front rest) ≡ true →
+    follows : (list : List _) (rest : List Text) → allows_all (λ list. t.valid) [] list ≡ true →
+        ends_many comma ends (front rest) ≡ true →
         ends (front (flat_map (λ tree. codes "," ∷ t.spell tree) list ++ rest)) ≡ true
     follows [] rest v c = and_left (ends (front rest)) (not (comma (front rest))) c
     follows (tree ∷ more) rest v c = opens

@@ -8,7 +8,8 @@ use Rattle.vparse.specs.Modules.{source}
 
 -- what is read is the tree of all the words
 abbrev pub ReadsSoundly : Type 0
-ReadsSoundly = (words : List Text) (tree : SourceTree) (left : List Text) → source words ≡ got tree left → (left ≡ []) × DerivesText words tree
+ReadsSoundly = (words : List Text) (tree : SourceTree) (left : List Text) → source words ≡ got tree left →
+    (left ≡ []) × DerivesText words tree
 
 -- the tree of words is read
 abbrev pub ReadsCompletely : Type 0
