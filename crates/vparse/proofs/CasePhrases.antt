@@ -391,7 +391,12 @@ module _ (below : ℕ) (level : nat_le 1 below ≡ true) (read : Reader Statemen
       (one_at_most (is_default tree) seen (defaults (branches_in more)))
 
   pub case_makes : (kind : CaseKind) → Makes (case_parts_of kind) case_shape Out (case_word kind ∷ [])
-  case_makes kind = record { spelled = spelled; valid = valid; closes = λ tree next e. closes tree next; stops = λ tree next e. stops tree next }
+  case_makes kind = record {
+    spelled = spelled;
+    valid = valid;
+    closes = λ tree next e. closes tree next;
+    stops = λ tree next e. stops tree next;
+  }
     where
       all_spelled : (list : List BranchTree) → spell_branches (branches_in list) ≡ flat_map spell_branch list
       all_spelled [] = refl

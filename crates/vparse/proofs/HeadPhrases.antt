@@ -1,27 +1,25 @@
 -- Types, settings, connections and other parts of modules.
-use Rattle.std.proofs.Common.{◌≡◌, ℕ, zero, suc, ◌<◌, Bool, true, false, ◌&&◌, not, nat_le, if◌then◌else◌, List, [], ◌∷◌, ◌++◌, Option, None, Some, length, flat_map, refl, sym, ap, ◌∙◌, arith, subst, append_assoc, codes}
+use Rattle.std.proofs.Common.{◌≡◌, ℕ, suc, ◌<◌, Bool, true, false, ◌&&◌, not, List, [], ◌∷◌, ◌++◌, Option, None, Some, length, refl, sym, ap, ◌∙◌, arith, codes}
 use Rattle.std.specs.List.{list_all}
 use Rattle.std.specs.Str.{bytes_eq}
 use Rattle.basis.proofs.Bools.{and_left, and_right, and_both}
 use Rattle.vast.specs.Syntax.{Text}
 use Rattle.vast.specs.Words.{is_name, reserved_words}
-use Rattle.vast.specs.Expressions.{ExpressionTree, spell_expression, fits_expression, depth}
-use Rattle.vast.specs.Modules.{RangeTree, TypeTree, ParameterType, integer, typed, SettingTree, DeclaredTree, ConnectionTree, ConnectionsTree, by_order, by_name, InstanceTree, spell_range, spell_signed, spell_type, spell_parameter_type, spell_setting, spell_declared, spell_connection, spell_connections, spell_instance, spell_overrides, fits_value, fits_range, fits_type, fits_parameter_type, fits_setting, fits_declared, fits_connection, fits_connections, fits_instance, are_some, net_word}
-use Rattle.vast.specs.declared.module.NetKind.{NetKind}
-use Rattle.vast.specs.declared.module.NetKind.TheVariants as net
-use Rattle.vexpr_parse.specs.Readers.{got, Reader, front, is_front, past}
+use Rattle.vast.specs.Expressions.{ExpressionTree}
+use Rattle.vast.specs.Modules.{RangeTree, TypeTree, ParameterType, integer, typed, SettingTree, DeclaredTree, spell_range, spell_signed, spell_type, spell_parameter_type, spell_setting, spell_declared, fits_value, fits_range, fits_type, fits_parameter_type, fits_setting, fits_declared, are_some}
+use Rattle.vexpr_parse.specs.Readers.{Reader, front, is_front}
 use Rattle.vexpr_parse.specs.Words.{binary_of, written, ends}
 use Rattle.vexpr_parse.specs.Lawful.{Ends}
 use Rattle.vexpr_parse.proofs.ReaderRules.{same_text}
-use Rattle.vparse.specs.Parts.{Both, both, Either, one_way, other_way, made, paired, worded, many, maybe, either}
-use Rattle.vparse.specs.Starts.{is_meant, is_some_meaning}
-use Rattle.vparse.specs.Statements.{named, word_only, List_of, comma_list}
-use Rattle.vparse.specs.Modules.{free_value, listed_of, range_of, range, is_there, type_of, type, parameter_type_of, parameter_type, setting_of, setting, declared_of, declared, Value, value_in, connection_of, connection, Connections, connections_of, connections, instance_of, instance_behind, overrides, ended, net_of}
-use Rattle.vparse.proofs.Phrases.{Shape, Phrase, Example, Worded, Opens, Makes, From, always, phrase_within, made_phrase, past_shape, past_phrase, past_example, nothing_phrase, worded_shape, worded_phrase, paired_shape, paired_phrase, before_phrase, paired_example, free_phrase, next_phrase}
-use Rattle.vparse.proofs.PhraseChoices.{ends_maybe, maybe_shape, maybe_phrase, either_shape, either_phrase, either_open_phrase, either_tested, either_worded, Tested, ends_many, allows_all, many_shape}
+use Rattle.vparse.specs.Parts.{Both, both, Either, one_way, other_way, paired}
+use Rattle.vparse.specs.Starts.{is_some_meaning}
+use Rattle.vparse.specs.Statements.{word_only, List_of}
+use Rattle.vparse.specs.Modules.{free_value, range_of, range, type_of, type, parameter_type_of, parameter_type, setting_of, setting, declared_of, declared, ended}
+use Rattle.vparse.proofs.Phrases.{Shape, Phrase, Example, Opens, Makes, From, always, phrase_within, made_phrase, past_shape, past_phrase, past_example, nothing_phrase, paired_shape, paired_phrase, before_phrase, paired_example, free_phrase}
+use Rattle.vparse.proofs.PhraseChoices.{ends_maybe, maybe_shape, maybe_phrase, either_shape, either_open_phrase, allows_all}
 use Rattle.vparse.proofs.LevelFacts.{one_within, and_true}
-use Rattle.vparse.proofs.ValuePhrases.{value_shape, value_phrase, value_example, value_worded, nothing_example, only_shape, only_phrase, only_example, comma, comma_shape, comma_phrase, allows_each}
-use Rattle.vparse.proofs.WordPhrases.{clash, not_so, as_written, refused_first, value_refuses}
+use Rattle.vparse.proofs.ValuePhrases.{value_shape, value_phrase, value_example, nothing_example, only_shape, only_phrase, only_example, comma_shape, comma_phrase, allows_each}
+use Rattle.vparse.proofs.WordPhrases.{clash, not_so, as_written}
 use Rattle.vparse.proofs.PartPhrases.{text_shape, a_name, named_phrase}
 
 positive : (n : ℕ) → 0 < suc n
@@ -33,7 +31,8 @@ name_isnt text none letters is =
     not_so (bytes_eq text letters) (λ e. clash (is_name letters) is (sym (ap is_name (same_text text letters e)) ∙ none))
 
 -- a name means nothing else
-pub name_means_not : {A : Type 0} (spell : A → Text) (all : List A) → ((tree : A) → is_name (spell tree) ≡ false) → (letters : Text) →
+pub name_means_not : {A : Type 0} (spell : A → Text) (all : List A) → ((tree : A) → is_name (spell tree) ≡ false) →
+    (letters : Text) →
     is_name letters ≡ true → is_some_meaning (written spell all letters) ≡ false
 name_means_not spell all none letters is = by_meaning (written spell all letters) (as_written spell all letters)
   where
@@ -47,7 +46,8 @@ pub phrase_closing : {A : Type 0} {read : Reader A} {ends : Ends} {s : Shape A} 
     Phrase read ends (record { spell = s.spell; valid = s.valid; closes = closes; stops = s.stops })
 phrase_closing closes p enough closed = record {
   lawful = p.lawful;
-  sound = λ words tree left e. let g = p.sound words tree left e in record { whole = g.whole; valid = g.valid; stopped = g.stopped };
+  sound = λ words tree left e. let g = p.sound words tree left e in
+      record { whole = g.whole; valid = g.valid; stopped = g.stopped };
   complete = λ tree rest v c. p.complete tree rest v (enough tree (front rest) c);
   closed = closed;
 }
@@ -77,13 +77,16 @@ range_shape = record {
 range_makes : Makes range_of RangeParts range_shape []
 range_makes = record { spelled = spelled; valid = valid; closes = λ tree next e. closes tree next; stops = λ tree next e. refl }
   where
-    spelled : (tree : Both ExpressionTree (Both ExpressionTree (Unit {0}))) → spell_range (Some (range_of tree)) ≡ RangeParts.spell tree
+    spelled : (tree : Both ExpressionTree (Both ExpressionTree (Unit {0}))) → spell_range (Some (range_of tree))
+        ≡ RangeParts.spell tree
     spelled (both left (both right end)) = refl
 
-    valid : (tree : Both ExpressionTree (Both ExpressionTree (Unit {0}))) → fits_range (Some (range_of tree)) ≡ RangeParts.valid tree
+    valid : (tree : Both ExpressionTree (Both ExpressionTree (Unit {0}))) → fits_range (Some (range_of tree))
+        ≡ RangeParts.valid tree
     valid (both left (both right end)) = ap (λ b. fits_value left && b) (sym (and_true (fits_value right)))
 
-    closes : (tree : Both ExpressionTree (Both ExpressionTree (Unit {0}))) (next : Option Text) → RangeParts.closes tree next ≡ true
+    closes : (tree : Both ExpressionTree (Both ExpressionTree (Unit {0}))) (next : Option Text) → RangeParts.closes tree next
+        ≡ true
     closes (both left (both right end)) next = refl
 
 right_bound : Phrase (paired free_value (word_only (codes "]"))) always (paired_shape Free (only_shape (codes "]")))
@@ -112,7 +115,8 @@ abbrev pub ends_type : Ends
 ends_type next = not_signed next && not (bracket next)
 
 abbrev TypeParts : Shape (Both (Option (Unit {0})) (Option RangeTree))
-TypeParts = paired_shape (maybe_shape signed_next always (only_shape (codes "signed"))) (maybe_shape bracket not_signed range_shape)
+TypeParts = paired_shape (maybe_shape signed_next always (only_shape (codes "signed")))
+    (maybe_shape bracket not_signed range_shape)
 
 abbrev pub type_shape : Shape TypeTree
 type_shape = record { spell = spell_type; valid = fits_type; closes = λ tree. ends_type; stops = λ tree next. true }
@@ -132,7 +136,8 @@ type_makes = record { spelled = spelled; valid = valid; closes = closes; stops =
     valid (both (Some end) None) = refl
     valid (both (Some end) (Some tree)) = refl
 
-    closes : (tree : Both (Option (Unit {0})) (Option RangeTree)) (next : Option Text) → ends_type next ≡ true → TypeParts.closes tree next ≡ true
+    closes : (tree : Both (Option (Unit {0})) (Option RangeTree)) (next : Option Text) → ends_type next ≡ true →
+        TypeParts.closes tree next ≡ true
     closes (both sign None) next e = e
     closes (both sign (Some tree)) next e = refl
 
@@ -187,12 +192,14 @@ parameter_type_phrase =
     made_phrase parameter_type_of parameter_type_shape back makes (λ tree next e. e)
     (either_open_phrase integer_next (phrase_within ends_parameter_type (only_phrase (codes "integer")) (λ next e. refl))
     (phrase_closing (λ tree. ends_parameter_type)
-    (phrase_within ends_parameter_type type_phrase (λ next e. and_left (ends_type next) _ e)) (λ tree next e. and_left (ends_type next) _ e)
+    (phrase_within ends_parameter_type type_phrase (λ next e. and_left (ends_type next) _ e))
+    (λ tree next e. and_left (ends_type next) _ e)
     (λ tree next e. e))
     (λ tree v. positive _) (λ tree words is e. no_integer (front words) e) (λ tree v rest. refl) fails)
   where
     no_integer : (next : Option Text) → ends_parameter_type next ≡ true → integer_next next ≡ false
-    no_integer next e = not_so (integer_next next) (λ f. clash (not (integer_next next)) (and_right (ends_type next) _ e) (ap not f))
+    no_integer next e = not_so (integer_next next)
+        (λ f. clash (not (integer_next next)) (and_right (ends_type next) _ e) (ap not f))
 
     by_parts : (sign : Bool) (bounds : Option RangeTree) (rest : List Text) → ends_parameter_type (front rest) ≡ true →
         integer_next (front ((spell_signed sign ++ spell_range bounds) ++ rest)) ≡ false
@@ -245,7 +252,8 @@ SettingParts = paired_shape (text_shape is_name) (past_shape (codes "=") Free)
 
 pub setting_phrase : Phrase setting (ends 0) setting_shape
 setting_phrase =
-    made_phrase setting_of setting_shape (λ tree v. record { parts = both tree.name tree.value; is = refl }) makes (λ tree next e. e)
+    made_phrase setting_of setting_shape (λ tree v. record { parts = both tree.name tree.value; is = refl }) makes
+    (λ tree next e. e)
     (free_phrase named_phrase (past_phrase (codes "=") free_phrase_value free_example) (past_example (codes "=") free_example))
   where
     makes : Makes setting_of SettingParts setting_shape []
@@ -257,11 +265,18 @@ setting_phrase =
         valid : (tree : Both Text ExpressionTree) → fits_setting (setting_of tree) ≡ SettingParts.valid tree
         valid (both letters tree) = refl
 
-        closes : (tree : Both Text ExpressionTree) (next : Option Text) → ends 0 next ≡ true → SettingParts.closes tree next ≡ true
+        closes : (tree : Both Text ExpressionTree) (next : Option Text) → ends 0 next ≡ true → SettingParts.closes tree next
+            ≡ true
         closes (both letters tree) next e = e
 
 pub a_setting : Example setting_shape
-a_setting = record { tree = record { name = a_name.tree; value = free_example.tree }; valid = and_both _ _ a_name.valid free_example.valid }
+a_setting = record {
+  tree = record {
+    name = a_name.tree;
+    value = free_example.tree;
+  };
+  valid = and_both _ _ a_name.valid free_example.valid;
+}
 
 abbrev equals : Option Text → Bool
 equals = is_front (codes "=")
@@ -279,7 +294,8 @@ DeclaredParts = paired_shape (text_shape is_name) (maybe_shape equals (ends 0) (
 
 pub declared_phrase : Phrase declared (ends_maybe equals (ends 0)) declared_shape
 declared_phrase =
-    made_phrase declared_of declared_shape (λ tree v. record { parts = both tree.name tree.value; is = refl }) makes (λ tree next e. e)
+    made_phrase declared_of declared_shape (λ tree v. record { parts = both tree.name tree.value; is = refl }) makes
+    (λ tree next e. e)
     (free_phrase named_phrase
     (maybe_phrase equals (past_phrase (codes "=") free_phrase_value free_example) (λ tree v. positive _) (λ tree v rest. refl))
     (record { tree = None; valid = refl }))
@@ -311,10 +327,14 @@ ended_shape ends s = paired_shape (comma_shape ends s) (only_shape (codes ";"))
 pub ended_phrase : {A : Type 0} {read : Reader A} {ends : Ends} {s : Shape A} → Phrase read ends s → Example s →
     ends (Some (codes ",")) ≡ true → ends (Some (codes ";")) ≡ true → Phrase (ended read) always (ended_shape ends s)
 ended_phrase {ends = ends} p e opens ending =
-    before_phrase (codes ";") (comma_phrase p e opens) (nothing_phrase always) nothing_example (and_both (ends (Some (codes ";"))) true ending refl)
+    before_phrase (codes ";") (comma_phrase p e opens) (nothing_phrase always) nothing_example
+    (and_both (ends (Some (codes ";"))) true ending refl)
 
 pub ended_example : {A : Type 0} (ends : Ends) {s : Shape A} → Example s → Example (ended_shape ends s)
-ended_example ends {s = s} e = record { tree = both (both e.tree []) tt; valid = and_both _ true (and_both (s.valid e.tree) true e.valid refl) refl }
+ended_example ends {s = s} e = record {
+  tree = both (both e.tree []) tt;
+  valid = and_both _ true (and_both (s.valid e.tree) true e.valid refl) refl;
+}
 
 -- a list that isn't empty
 pub some_valid : {A : Type 0} (fits : A → Bool) (one : A) (more : List A) →

@@ -1,13 +1,11 @@
 -- Connections, instances and the items of modules.
-use Rattle.std.proofs.Common.{◌≡◌, ℕ, zero, suc, ◌<◌, Bool, true, false, ◌&&◌, not, nat_le, List, [], ◌∷◌, ◌++◌, Option, None, Some, length, flat_map, refl, sym, ap, ◌∙◌, arith, subst, codes}
-use Rattle.std.specs.List.{list_all}
-use Rattle.std.specs.Str.{bytes_eq}
+use Rattle.std.proofs.Common.{◌≡◌, ℕ, suc, ◌<◌, Bool, true, false, ◌&&◌, not, List, [], ◌∷◌, ◌++◌, Option, None, Some, length, flat_map, refl, sym, ap, ◌∙◌, arith, subst, codes}
 use Rattle.basis.proofs.Bools.{and_left, and_right, and_both}
 use Rattle.vast.specs.Syntax.{Text}
 use Rattle.vast.specs.Words.{is_name, reserved_words}
 use Rattle.vast.specs.Expressions.{ExpressionTree, spell_expression}
 use Rattle.vast.specs.Statements.{StatementTree, empty}
-use Rattle.vast.specs.Modules.{SettingTree, DeclaredTree, ConnectionTree, ConnectionsTree, by_order, by_name, InstanceTree, DeclarationKind, variables, integers, ItemTree, parameters, declaration, events, assignments, initial, always as always_item, instances, integer, spell_setting, spell_value, spell_declared, spell_connection, spell_connections, spell_instance, spell_overrides, spell_type, spell_parameter_type, spell_item, parameter_word, net_word, fits_value, fits_type, fits_parameter_type, fits_setting, fits_declared, fits_connection, fits_connections, fits_overrides, fits_instance, fits_item, are_some}
+use Rattle.vast.specs.Modules.{SettingTree, DeclaredTree, ConnectionTree, ConnectionsTree, by_order, by_name, InstanceTree, variables, integers, ItemTree, parameters, declaration, events, assignments, initial, always as always_item, instances, integer, spell_value, spell_declared, spell_connection, spell_connections, spell_instance, spell_item, parameter_word, net_word, fits_value, fits_type, fits_parameter_type, fits_setting, fits_declared, fits_connection, fits_connections, fits_overrides, fits_instance, fits_item, are_some}
 use Rattle.vast.specs.declared.module.NetKind.{NetKind}
 use Rattle.vast.specs.declared.module.NetKind.TheVariants as net
 use Rattle.vexpr_parse.specs.declared.beginning.Beginning.TheVariants as start
@@ -15,14 +13,14 @@ use Rattle.vexpr_parse.specs.Readers.{got, Reader, front, is_front, past}
 use Rattle.vexpr_parse.specs.Words.{beginning_of, binary_of, unary_of, ends}
 use Rattle.vexpr_parse.specs.Lawful.{Ends}
 use Rattle.vexpr_parse.proofs.ReaderRules.{same_text, parts_of}
-use Rattle.vparse.specs.Parts.{Both, both, Either, one_way, other_way, made, paired, worded, many, maybe, either}
+use Rattle.vparse.specs.Parts.{Both, both, Either, one_way, other_way, made, paired, worded, many}
 use Rattle.vparse.specs.Starts.{is_meant}
 use Rattle.vparse.specs.Statements.{named, word_only, List_of, comma_list, statement, ends_statement}
-use Rattle.vparse.specs.Modules.{free_value, type, parameter_type, setting, declared, Value, value_in, connection_of, connection, Connections, connections_of, connections, instance_of, instance_behind, overrides, ended, net_of, local_of, Parameters, parameters_of, Variables, variables_of, integers_of, events_of, assignments_of, Instances, instances_of, Item, item_of, item_parts, item}
-use Rattle.vparse.proofs.Phrases.{Shape, Phrase, Example, Worded, Opens, Makes, From, always, phrase_within, made_phrase, past_shape, past_phrase, past_example, nothing_phrase, worded_shape, worded_phrase, paired_shape, paired_phrase, before_phrase, paired_example, free_phrase, next_phrase}
+use Rattle.vparse.specs.Modules.{free_value, type, parameter_type, setting, declared, Value, value_in, connection_of, connection, Connections, connections_of, connections, instance_of, instance_behind, overrides, ended, net_of, local_of, Parameters, Variables, Instances, Item, item_of, item_parts, item}
+use Rattle.vparse.proofs.Phrases.{Shape, Phrase, Example, Worded, Opens, Makes, From, always, phrase_within, made_phrase, past_shape, past_phrase, past_example, nothing_phrase, worded_shape, worded_phrase, paired_shape, before_phrase, paired_example, free_phrase, next_phrase}
 use Rattle.vparse.proofs.PhraseChoices.{ends_maybe, maybe_shape, maybe_phrase, either_shape, either_phrase, either_tested, either_worded, Tested, allows_all}
-use Rattle.vparse.proofs.LevelFacts.{one_within, and_true, and_assoc}
-use Rattle.vparse.proofs.ValuePhrases.{value_worded, nothing_example, only_shape, only_phrase, only_example, comma_shape, comma_phrase, allows_each}
+use Rattle.vparse.proofs.LevelFacts.{and_true, and_assoc}
+use Rattle.vparse.proofs.ValuePhrases.{nothing_example, only_shape, only_phrase, comma_shape, comma_phrase, allows_each}
 use Rattle.vparse.proofs.WordPhrases.{as_written, refused_first, value_refuses}
 use Rattle.vparse.proofs.PartPhrases.{text_shape, a_name, named_phrase}
 use Rattle.vparse.proofs.StatementShapes.{closes_statement, statement_shape, statement_closed}
@@ -66,18 +64,25 @@ value_in_phrase =
     either_phrase close (only_phrase (codes ")")) enclosed_phrase (λ tree v. positive _) enclosed_worded (λ tree v rest. refl)
     (refused_first close enclosed_phrase enclosed_worded refl refuses)
   where
-    refuses : (word : Text) (words : List Text) (tree : Both ExpressionTree (Unit {0})) (left : List Text) → close (Some word) ≡ true →
+    refuses : (word : Text) (words : List Text) (tree : Both ExpressionTree (Unit {0})) (left : List Text) → close (Some word)
+        ≡ true →
         paired free_value (word_only (codes ")")) (word ∷ words) ≡ got tree left → ⊥
     refuses word words tree left is e =
         let a = parts_of (free_value (word ∷ words)) (λ t. made (both t) (word_only (codes ")"))) tree left e in
-        value_refuses 64 word (subst (λ w. beginning_of w ≡ start.Other) (same_text (codes ")") word is) no_beginnings.0) words a.one a.between
+        value_refuses 64 word
+        (subst (λ w. beginning_of w ≡ start.Other) (same_text (codes ")") word is) no_beginnings.0) words a.one a.between
         a.first
 
 value_in_example : Example ValueIn
 value_in_example = record { tree = one_way tt; valid = refl }
 
 abbrev pub connection_shape : Shape ConnectionTree
-connection_shape = record { spell = spell_connection; valid = fits_connection; closes = λ tree. always; stops = λ tree next. true }
+connection_shape = record {
+  spell = spell_connection;
+  valid = fits_connection;
+  closes = λ tree. always;
+  stops = λ tree next. true;
+}
 
 abbrev ConnectionParts : Shape (Both Text Value)
 ConnectionParts = past_shape (codes ".") (paired_shape (text_shape is_name) (past_shape (codes "(") ValueIn))
@@ -125,11 +130,13 @@ abbrev ByOrder : Shape (Both (List_of ExpressionTree) (Unit {0}))
 ByOrder = paired_shape (comma_shape (ends 0) Free) (only_shape (codes ")"))
 
 by_name_phrase : Phrase (paired (comma_list connection) (word_only (codes ")"))) always ByName
-by_name_phrase = before_phrase (codes ")") (comma_phrase connection_phrase a_connection refl) (nothing_phrase always) nothing_example refl
+by_name_phrase = before_phrase (codes ")") (comma_phrase connection_phrase a_connection refl)
+    (nothing_phrase always) nothing_example refl
 
 by_order_phrase : Phrase (paired (comma_list free_value) (word_only (codes ")"))) always ByOrder
 unfolding binary_of
-by_order_phrase = before_phrase (codes ")") (comma_phrase free_phrase_value free_example refl) (nothing_phrase always) nothing_example refl
+by_order_phrase = before_phrase (codes ")") (comma_phrase free_phrase_value free_example refl)
+    (nothing_phrase always) nothing_example refl
 
 by_order_worded : Worded ByOrder
 by_order_worded (both (both tree more) end) v =
@@ -139,15 +146,23 @@ by_order_not : (text : Text) → beginning_of text ≡ start.Other → Tested (i
 by_order_not text none = refused_first (is_front text) by_order_phrase by_order_worded refl refuses
   where
     refuses : (word : Text) (words : List Text) (tree : Both (List_of ExpressionTree) (Unit {0})) (left : List Text) →
-        is_front text (Some word) ≡ true → paired (comma_list free_value) (word_only (codes ")")) (word ∷ words) ≡ got tree left → ⊥
+        is_front text (Some word) ≡ true → paired (comma_list free_value) (word_only (codes ")")) (word ∷ words)
+        ≡ got tree left → ⊥
     refuses word words tree left is e =
         let a = parts_of (comma_list free_value (word ∷ words)) (λ t. made (both t) (word_only (codes ")"))) tree left e in
-        let b = parts_of (free_value (word ∷ words)) (λ t. made (both t) (many (is_front (codes ",")) (λ list. past (codes ",") free_value)))
+        let b = parts_of (free_value (word ∷ words))
+        (λ t. made (both t) (many (is_front (codes ",")) (λ list. past (codes ",") free_value)))
         a.one a.between a.first in
-        value_refuses 64 word (subst (λ w. beginning_of w ≡ start.Other) (same_text text word is) none) words b.one b.between b.first
+        value_refuses 64 word
+        (subst (λ w. beginning_of w ≡ start.Other) (same_text text word is) none) words b.one b.between b.first
 
 abbrev pub connections_shape : Shape ConnectionsTree
-connections_shape = record { spell = spell_connections; valid = fits_connections; closes = λ tree. always; stops = λ tree next. true }
+connections_shape = record {
+  spell = spell_connections;
+  valid = fits_connections;
+  closes = λ tree. always;
+  stops = λ tree next. true;
+}
 
 abbrev Unnamed : Shape (Either (Unit {0}) (Both (List_of ExpressionTree) (Unit {0})))
 Unnamed = either_shape (only_shape (codes ")")) ByOrder
@@ -229,7 +244,13 @@ instance_phrase =
         closes (both letters tree) next = refl
 
 an_instance : Example instance_shape
-an_instance = record { tree = record { name = a_name.tree; connections = by_order [] }; valid = and_both _ true a_name.valid refl }
+an_instance = record {
+  tree = record {
+    name = a_name.tree;
+    connections = by_order [];
+  };
+  valid = and_both _ true a_name.valid refl;
+}
 
 abbrev hash : Option Text → Bool
 hash = is_front (codes "#")
@@ -238,7 +259,8 @@ abbrev Overrides : Shape (Option ConnectionsTree)
 Overrides = maybe_shape hash always (past_shape (codes "#") connections_shape)
 
 overrides_phrase : Phrase overrides (ends_maybe hash always) Overrides
-overrides_phrase = maybe_phrase hash (past_phrase (codes "#") connections_phrase no_connections) (λ tree v. positive _) (λ tree v rest. refl)
+overrides_phrase = maybe_phrase hash (past_phrase (codes "#") connections_phrase no_connections) (λ tree v. positive _)
+    (λ tree v rest. refl)
 
 -- The words that items begin with
 
@@ -353,7 +375,8 @@ overridden_example = paired_example no_overrides instance_list_example
 
 parameters_phrase : Phrase (paired (worded local_of) (paired parameter_type (ended setting))) always ParametersShape
 parameters_phrase =
-    free_phrase local_phrase (next_phrase parameter_type_phrase settings_phrase settings_example settings_worded opens) typed_settings_example
+    free_phrase local_phrase
+    (next_phrase parameter_type_phrase settings_phrase settings_example settings_worded opens) typed_settings_example
   where
     opens : Opens ends_parameter_type Settings
     opens (both (both tree more) end) v rest c =
@@ -361,7 +384,8 @@ parameters_phrase =
 
 variables_phrase : Phrase (paired (worded net_of) (paired type (ended declared))) always VariablesShape
 variables_phrase =
-    free_phrase net_phrase (next_phrase type_phrase declared_list_phrase declared_example declared_worded opens) typed_declared_example
+    free_phrase net_phrase
+    (next_phrase type_phrase declared_list_phrase declared_example declared_worded opens) typed_declared_example
   where
     opens : Opens ends_type Declared
     opens (both (both tree more) end) v rest c = by_value tree.value
@@ -404,35 +428,35 @@ item_shape = record { spell = spell_item; valid = fits_item; closes = closes_ite
 abbrev Body : Shape StatementTree
 Body = statement_shape 64
 
-abbrev R7 : Shape (Either StatementTree Instances)
-R7 = either_shape (past_shape (codes "always") Body) InstancesShape
+abbrev FromAlways : Shape (Either StatementTree Instances)
+FromAlways = either_shape (past_shape (codes "always") Body) InstancesShape
 
-abbrev R6 : Shape (Either StatementTree (Either StatementTree Instances))
-R6 = either_shape (past_shape (codes "initial") Body) R7
+abbrev FromInitial : Shape (Either StatementTree (Either StatementTree Instances))
+FromInitial = either_shape (past_shape (codes "initial") Body) FromAlways
 
-abbrev Rest5 : Type 0
-Rest5 = Either (Both (List_of SettingTree) (Unit {0})) (Either StatementTree (Either StatementTree Instances))
+abbrev AssignOrLater : Type 0
+AssignOrLater = Either (Both (List_of SettingTree) (Unit {0})) (Either StatementTree (Either StatementTree Instances))
 
-abbrev R5 : Shape Rest5
-R5 = either_shape (past_shape (codes "assign") Settings) R6
+abbrev FromAssign : Shape AssignOrLater
+FromAssign = either_shape (past_shape (codes "assign") Settings) FromInitial
 
-abbrev Rest4 : Type 0
-Rest4 = Either (Both (List_of Text) (Unit {0})) Rest5
+abbrev EventOrLater : Type 0
+EventOrLater = Either (Both (List_of Text) (Unit {0})) AssignOrLater
 
-abbrev R4 : Shape Rest4
-R4 = either_shape (past_shape (codes "event") Names) R5
+abbrev FromEvent : Shape EventOrLater
+FromEvent = either_shape (past_shape (codes "event") Names) FromAssign
 
-abbrev Rest3 : Type 0
-Rest3 = Either (Both (List_of DeclaredTree) (Unit {0})) Rest4
+abbrev IntegerOrLater : Type 0
+IntegerOrLater = Either (Both (List_of DeclaredTree) (Unit {0})) EventOrLater
 
-abbrev R3 : Shape Rest3
-R3 = either_shape (past_shape (codes "integer") Declared) R4
+abbrev FromInteger : Shape IntegerOrLater
+FromInteger = either_shape (past_shape (codes "integer") Declared) FromEvent
 
-abbrev R2 : Shape (Either Variables Rest3)
-R2 = either_shape VariablesShape R3
+abbrev FromVariables : Shape (Either Variables IntegerOrLater)
+FromVariables = either_shape VariablesShape FromInteger
 
 abbrev ItemParts : Shape Item
-ItemParts = either_shape ParametersShape R2
+ItemParts = either_shape ParametersShape FromVariables
 
 a_body : Example Body
 a_body = record { tree = empty; valid = refl }
@@ -448,7 +472,8 @@ instances_not : (test : Option Text → Bool) → ((letters : Text) → is_name 
     Tested test false InstancesShape
 instances_not test none (both letters more) v rest = none letters (and_left (is_name letters) _ v)
 
-variables_not : (test : Option Text → Bool) → ((kind : NetKind) → test (Some (net_word kind)) ≡ false) → Tested test false VariablesShape
+variables_not : (test : Option Text → Bool) → ((kind : NetKind) → test (Some (net_word kind)) ≡ false) →
+    Tested test false VariablesShape
 variables_not test none (both kind more) v rest = none kind
 
 instances_worded : Worded InstancesShape
@@ -460,23 +485,23 @@ variables_worded (both kind more) v = positive _
 parameters_worded : Worded ParametersShape
 parameters_worded (both local more) v = positive _
 
-W7 : Worded R7
-W7 = either_worded (past_shape (codes "always") Body) InstancesShape (λ tree v. positive _) instances_worded
+from_always_worded : Worded FromAlways
+from_always_worded = either_worded (past_shape (codes "always") Body) InstancesShape (λ tree v. positive _) instances_worded
 
-W6 : Worded R6
-W6 = either_worded (past_shape (codes "initial") Body) R7 (λ tree v. positive _) W7
+from_initial_worded : Worded FromInitial
+from_initial_worded = either_worded (past_shape (codes "initial") Body) FromAlways (λ tree v. positive _) from_always_worded
 
-W5 : Worded R5
-W5 = either_worded (past_shape (codes "assign") Settings) R6 (λ tree v. positive _) W6
+from_assign_worded : Worded FromAssign
+from_assign_worded = either_worded (past_shape (codes "assign") Settings) FromInitial (λ tree v. positive _) from_initial_worded
 
-W4 : Worded R4
-W4 = either_worded (past_shape (codes "event") Names) R5 (λ tree v. positive _) W5
+from_event_worded : Worded FromEvent
+from_event_worded = either_worded (past_shape (codes "event") Names) FromAssign (λ tree v. positive _) from_assign_worded
 
-W3 : Worded R3
-W3 = either_worded (past_shape (codes "integer") Declared) R4 (λ tree v. positive _) W4
+from_integer_worded : Worded FromInteger
+from_integer_worded = either_worded (past_shape (codes "integer") Declared) FromEvent (λ tree v. positive _) from_event_worded
 
-W2 : Worded R2
-W2 = either_worded VariablesShape R3 variables_worded W3
+from_variables_worded : Worded FromVariables
+from_variables_worded = either_worded VariablesShape FromInteger variables_worded from_integer_worded
 
 -- a reserved word is no name
 not_named : (text : Text) → is_name text ≡ false → Tested (is_front text) false InstancesShape
@@ -498,20 +523,25 @@ no_local_name true = refl
 no_local_name false = refl
 
 -- which words begin none of the rest
-rest7 : (test : Option Text → Bool) → test (Some (codes "always")) ≡ false → Tested test false InstancesShape → Tested test false R7
-rest7 test a i = either_tested test false (past_shape (codes "always") Body) InstancesShape (λ tree v rest. a) i
+from_always_not : (test : Option Text → Bool) → test (Some (codes "always")) ≡ false → Tested test false InstancesShape →
+    Tested test false FromAlways
+from_always_not test a i = either_tested test false (past_shape (codes "always") Body) InstancesShape (λ tree v rest. a) i
 
-rest6 : (test : Option Text → Bool) → test (Some (codes "initial")) ≡ false → Tested test false R7 → Tested test false R6
-rest6 test a r = either_tested test false (past_shape (codes "initial") Body) R7 (λ tree v rest. a) r
+from_initial_not : (test : Option Text → Bool) → test (Some (codes "initial")) ≡ false → Tested test false FromAlways →
+    Tested test false FromInitial
+from_initial_not test a r = either_tested test false (past_shape (codes "initial") Body) FromAlways (λ tree v rest. a) r
 
-rest5 : (test : Option Text → Bool) → test (Some (codes "assign")) ≡ false → Tested test false R6 → Tested test false R5
-rest5 test a r = either_tested test false (past_shape (codes "assign") Settings) R6 (λ tree v rest. a) r
+from_assign_not : (test : Option Text → Bool) → test (Some (codes "assign")) ≡ false → Tested test false FromInitial →
+    Tested test false FromAssign
+from_assign_not test a r = either_tested test false (past_shape (codes "assign") Settings) FromInitial (λ tree v rest. a) r
 
-rest4 : (test : Option Text → Bool) → test (Some (codes "event")) ≡ false → Tested test false R5 → Tested test false R4
-rest4 test a r = either_tested test false (past_shape (codes "event") Names) R5 (λ tree v rest. a) r
+from_event_not : (test : Option Text → Bool) → test (Some (codes "event")) ≡ false → Tested test false FromAssign →
+    Tested test false FromEvent
+from_event_not test a r = either_tested test false (past_shape (codes "event") Names) FromAssign (λ tree v rest. a) r
 
-rest3 : (test : Option Text → Bool) → test (Some (codes "integer")) ≡ false → Tested test false R4 → Tested test false R3
-rest3 test a r = either_tested test false (past_shape (codes "integer") Declared) R4 (λ tree v rest. a) r
+from_integer_not : (test : Option Text → Bool) → test (Some (codes "integer")) ≡ false → Tested test false FromEvent →
+    Tested test false FromInteger
+from_integer_not test a r = either_tested test false (past_shape (codes "integer") Declared) FromEvent (λ tree v rest. a) r
 
 not_net : Tested (is_meant net_of) false InstancesShape
 not_net = instances_not (is_meant net_of) (name_means_not net_word (net.Wire ∷ net.Reg ∷ []) no_net_name)
@@ -529,23 +559,28 @@ item_parts_phrase =
     (either_phrase (is_front (codes "initial")) (past_phrase (codes "initial") body_phrase a_body)
     (either_phrase (is_front (codes "always")) (past_phrase (codes "always") body_phrase a_body) (loose instances_phrase)
     (λ tree v. positive _) instances_worded (λ tree v rest. refl) (not_named (codes "always") no_names.0))
-    (λ tree v. positive _) W7 (λ tree v rest. refl)
-    (rest7 (is_front (codes "initial")) refl (not_named (codes "initial") no_names.1)))
-    (λ tree v. positive _) W6 (λ tree v rest. refl)
-    (rest6 (is_front (codes "assign")) refl (rest7 (is_front (codes "assign")) refl (not_named (codes "assign") no_names.2))))
-    (λ tree v. positive _) W5 (λ tree v rest. refl)
-    (rest5 (is_front (codes "event")) refl (rest6 (is_front (codes "event")) refl
-    (rest7 (is_front (codes "event")) refl (not_named (codes "event") no_names.3)))))
-    (λ tree v. positive _) W4 (λ tree v rest. refl)
-    (rest4 (is_front (codes "integer")) refl (rest5 (is_front (codes "integer")) refl (rest6 (is_front (codes "integer")) refl
-    (rest7 (is_front (codes "integer")) refl (not_named (codes "integer") no_names.4))))))
-    variables_worded W3 net_begins
-    (rest3 (is_meant net_of) refl (rest4 (is_meant net_of) refl (rest5 (is_meant net_of) refl (rest6 (is_meant net_of) refl
-    (rest7 (is_meant net_of) refl not_net))))))
-    parameters_worded W2 local_begins
-    (either_tested (is_meant local_of) false VariablesShape R3 (variables_not (is_meant local_of) net_not_local)
-    (rest3 (is_meant local_of) refl (rest4 (is_meant local_of) refl (rest5 (is_meant local_of) refl (rest6 (is_meant local_of) refl
-    (rest7 (is_meant local_of) refl not_local))))))
+    (λ tree v. positive _) from_always_worded (λ tree v rest. refl)
+    (from_always_not (is_front (codes "initial")) refl (not_named (codes "initial") no_names.1)))
+    (λ tree v. positive _) from_initial_worded (λ tree v rest. refl)
+    (from_initial_not (is_front (codes "assign")) refl
+    (from_always_not (is_front (codes "assign")) refl (not_named (codes "assign") no_names.2))))
+    (λ tree v. positive _) from_assign_worded (λ tree v rest. refl)
+    (from_assign_not (is_front (codes "event")) refl (from_initial_not (is_front (codes "event")) refl
+    (from_always_not (is_front (codes "event")) refl (not_named (codes "event") no_names.3)))))
+    (λ tree v. positive _) from_event_worded (λ tree v rest. refl)
+    (from_event_not (is_front (codes "integer")) refl
+    (from_assign_not (is_front (codes "integer")) refl (from_initial_not (is_front (codes "integer")) refl
+    (from_always_not (is_front (codes "integer")) refl (not_named (codes "integer") no_names.4))))))
+    variables_worded from_integer_worded net_begins
+    (from_integer_not (is_meant net_of) refl
+    (from_event_not (is_meant net_of) refl (from_assign_not (is_meant net_of) refl (from_initial_not (is_meant net_of) refl
+    (from_always_not (is_meant net_of) refl not_net))))))
+    parameters_worded from_variables_worded local_begins
+    (either_tested (is_meant local_of) false VariablesShape FromInteger (variables_not (is_meant local_of) net_not_local)
+    (from_integer_not (is_meant local_of) refl
+    (from_event_not (is_meant local_of) refl
+    (from_assign_not (is_meant local_of) refl (from_initial_not (is_meant local_of) refl
+    (from_always_not (is_meant local_of) refl not_local))))))
   where
     net_begins : Tested (is_meant net_of) true VariablesShape
     net_begins (both net.Wire more) v rest = refl
@@ -570,12 +605,16 @@ item_makes = record { spelled = spelled; valid = valid; closes = closes; stops =
     spelled (other_way (other_way (other_way (other_way (one_way (both (both one more) end)))))) = refl
     spelled (other_way (other_way (other_way (other_way (other_way (one_way tree)))))) = refl
     spelled (other_way (other_way (other_way (other_way (other_way (other_way (one_way tree))))))) = refl
-    spelled (other_way (other_way (other_way (other_way (other_way (other_way (other_way (both letters (both None (both (both one more) end)))))))))) = refl
-    spelled (other_way (other_way (other_way (other_way (other_way (other_way (other_way (both letters (both (Some tree) (both (both one more) end)))))))))) = refl
+    spelled (other_way (other_way
+        (other_way (other_way (other_way (other_way (other_way (both letters (both None (both (both one more) end)))))))))) = refl
+    spelled (other_way (other_way
+        (other_way (other_way
+        (other_way (other_way (other_way (both letters (both (Some tree) (both (both one more) end)))))))))) = refl
 
     overridden : (letters : Text) (tree : Option ConnectionsTree) (one : InstanceTree) (more : List InstanceTree) →
         ((is_name letters && fits_overrides tree) && are_some fits_instance (one ∷ more))
-        ≡ (is_name letters && (Overrides.valid tree && ((fits_instance one && allows_all (λ list. fits_instance) [] more) && true)))
+        ≡ (is_name letters &&
+        (Overrides.valid tree && ((fits_instance one && allows_all (λ list. fits_instance) [] more) && true)))
     overridden letters None one more =
         and_assoc (is_name letters) true (are_some fits_instance (one ∷ more))
         ∙ ap (λ b. is_name letters && b) (some_valid fits_instance one more)
@@ -593,7 +632,8 @@ item_makes = record { spelled = spelled; valid = valid; closes = closes; stops =
     valid (other_way (other_way (other_way (other_way (one_way (both (both one more) end)))))) = some_valid fits_setting one more
     valid (other_way (other_way (other_way (other_way (other_way (one_way tree)))))) = refl
     valid (other_way (other_way (other_way (other_way (other_way (other_way (one_way tree))))))) = refl
-    valid (other_way (other_way (other_way (other_way (other_way (other_way (other_way (both letters (both tree (both (both one more) end)))))))))) =
+    valid (other_way (other_way
+        (other_way (other_way (other_way (other_way (other_way (both letters (both tree (both (both one more) end)))))))))) =
         overridden letters tree one more
 
     closes : (tree : Item) (next : Option Text) → closes_item (item_of tree) next ≡ true → ItemParts.closes tree next ≡ true
@@ -604,7 +644,8 @@ item_makes = record { spelled = spelled; valid = valid; closes = closes; stops =
     closes (other_way (other_way (other_way (other_way (one_way (both list end)))))) next e = refl
     closes (other_way (other_way (other_way (other_way (other_way (one_way tree)))))) next e = e
     closes (other_way (other_way (other_way (other_way (other_way (other_way (one_way tree))))))) next e = e
-    closes (other_way (other_way (other_way (other_way (other_way (other_way (other_way (both letters (both tree (both list end)))))))))) next e = refl
+    closes (other_way (other_way
+        (other_way (other_way (other_way (other_way (other_way (both letters (both tree (both list end)))))))))) next e = refl
 
 item_closed : (tree : ItemTree) (next : Option Text) → ends_statement next ≡ true → closes_item tree next ≡ true
 item_closed (parameters local kind list) next e = refl
@@ -623,19 +664,38 @@ item_phrase = made_phrase item_of item_shape back item_makes item_closed item_pa
 
     back : (tree : ItemTree) → fits_item tree ≡ true → From item_of tree
     back (parameters local kind []) v = absurd (no_list (fits_parameter_type kind) true v)
-    back (parameters local kind (one ∷ more)) v = record { parts = one_way (both local (both kind (both (both one more) tt))); is = refl }
+    back (parameters local kind (one ∷ more)) v = record {
+      parts = one_way (both local (both kind (both (both one more) tt)));
+      is = refl;
+    }
     back (declaration (variables kind tree) []) v = absurd (no_list (fits_type tree) true v)
-    back (declaration (variables kind tree) (one ∷ more)) v = record { parts = other_way (one_way (both kind (both tree (both (both one more) tt)))); is = refl }
+    back (declaration (variables kind tree) (one ∷ more)) v = record {
+      parts = other_way (one_way (both kind (both tree (both (both one more) tt))));
+      is = refl;
+    }
     back (declaration integers []) v = absurd (no_list true true v)
-    back (declaration integers (one ∷ more)) v = record { parts = other_way (other_way (one_way (both (both one more) tt))); is = refl }
+    back (declaration integers (one ∷ more)) v = record {
+      parts = other_way (other_way (one_way (both (both one more) tt)));
+      is = refl;
+    }
     back (events []) v = absurd (no_list true true v)
-    back (events (one ∷ more)) v = record { parts = other_way (other_way (other_way (one_way (both (both one more) tt)))); is = refl }
+    back (events (one ∷ more)) v = record {
+      parts = other_way (other_way (other_way (one_way (both (both one more) tt))));
+      is = refl;
+    }
     back (assignments []) v = absurd (no_list true true v)
-    back (assignments (one ∷ more)) v = record { parts = other_way (other_way (other_way (other_way (one_way (both (both one more) tt))))); is = refl }
+    back (assignments (one ∷ more)) v = record {
+      parts = other_way (other_way (other_way (other_way (one_way (both (both one more) tt)))));
+      is = refl;
+    }
     back (initial body) v = record { parts = other_way (other_way (other_way (other_way (other_way (one_way body))))); is = refl }
-    back (always_item body) v = record { parts = other_way (other_way (other_way (other_way (other_way (other_way (one_way body)))))); is = refl }
+    back (always_item body) v = record {
+      parts = other_way (other_way (other_way (other_way (other_way (other_way (one_way body))))));
+      is = refl;
+    }
     back (instances letters tree []) v = absurd (no_list (is_name letters && fits_overrides tree) true v)
     back (instances letters tree (one ∷ more)) v = record {
-      parts = other_way (other_way (other_way (other_way (other_way (other_way (other_way (both letters (both tree (both (both one more) tt)))))))));
+      parts = other_way (other_way
+          (other_way (other_way (other_way (other_way (other_way (both letters (both tree (both (both one more) tt)))))))));
       is = refl;
     }

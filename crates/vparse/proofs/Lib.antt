@@ -31,3 +31,5 @@ pub mod HeadPhrases
 pub mod ItemPhrases
 mod ManyTurns
 mod TargetTurns
+pub mod ModulePhrases
+pub mod SourceReads

@@ -93,7 +93,12 @@ module _ (below : ℕ) (level : nat_le 1 below ≡ true) where
       no_number (other_way tree) v rest = refl
 
   amount_makes : Makes delay_of AmountParts (amount_shape below) []
-  amount_makes = record { spelled = spelled; valid = valid; closes = λ tree next e. closes tree next; stops = λ tree next e. refl }
+  amount_makes = record {
+    spelled = spelled;
+    valid = valid;
+    closes = λ tree next e. closes tree next;
+    stops = λ tree next e. refl;
+  }
     where
       spelled : (tree : Amount) → amount_words (delay_of tree) ≡ AmountParts.spell tree
       spelled (one_way digits) = refl
@@ -205,7 +210,12 @@ comma_kind_phrase = worded_phrase comma_of comma_word (λ kind. true) always
     meant false e = refl
 
 abbrev pub further_shape : Shape FurtherTerm
-further_shape = record { spell = spell_further_term; valid = fits_further_term; closes = λ tree. always; stops = λ tree next. true }
+further_shape = record {
+  spell = spell_further_term;
+  valid = fits_further_term;
+  closes = λ tree. always;
+  stops = λ tree next. true;
+}
 
 further_makes : Makes further_of (paired_shape comma_kind_shape term_shape) further_shape []
 further_makes = record { spelled = spelled; valid = valid; closes = λ tree next e. closes tree next; stops = λ tree next e. refl }
@@ -278,7 +288,8 @@ enclosed_event_phrase =
     no_stars (both (both tree more) end) v rest = by_edge tree.edge
       where
         by_edge : (kind : Option Edge) →
-            star (front ((((spell_edge kind ++ tree.name ∷ []) ++ flat_map spell_further_term more) ++ codes ")" ∷ []) ++ rest)) ≡ false
+            star (front ((((spell_edge kind ++ tree.name ∷ []) ++ flat_map spell_further_term more)
+            ++ codes ")" ∷ []) ++ rest)) ≡ false
         by_edge None = no_star tree.name (and_left (is_name tree.name) _ (and_left _ true v))
         by_edge (Some edge.Rising) = refl
         by_edge (Some edge.Falling) = refl
@@ -475,7 +486,12 @@ selection_shape = record {
 }
 
 selection_makes : Makes selection_of SelectionParts selection_shape []
-selection_makes = record { spelled = spelled; valid = valid; closes = λ tree next e. closes tree next; stops = λ tree next e. refl }
+selection_makes = record {
+  spelled = spelled;
+  valid = valid;
+  closes = λ tree next e. closes tree next;
+  stops = λ tree next e. refl;
+}
   where
     spelled : (tree : Selection) → selection_shape.spell (selection_of tree) ≡ SelectionParts.spell tree
     spelled (both digits (both paths end)) = refl

@@ -127,7 +127,8 @@ either_shape s t = record {
 
 module _ {A B : Type 0} (test : Option Text → Bool) {read : Reader A} {other : Reader B} {ends : Ends} {s : Shape A} {t : Shape B}
     (p : Phrase read ends s) (q : Phrase other ends t) (some : Worded s)
-    (links : (tree : B) (words : List Text) → other words ≡ got tree words → ends (front words) ≡ true → test (front words) ≡ false)
+    (links : (tree : B) (words : List Text) → other words ≡ got tree words → ends (front words) ≡ true → test (front words)
+    ≡ false)
     (tests : Tested test true s)
     (fails_test : (tree : B) → t.valid tree ≡ true → (rest : List Text) → t.closes tree (front rest) ≡ true →
     test (front (t.spell tree ++ rest)) ≡ false) where
@@ -149,7 +150,8 @@ module _ {A B : Type 0} (test : Option Text → Bool) {read : Reader A} {other :
   either_lawful : Lawful (either test read other) ends
   either_lawful words =
       choose_sees test (made one_way read) (made other_way other) ends
-      (λ tree ws is e. absurd (below (length ws) (made_eats one_way read (sound_eats read s p.sound some) ws tree ws is))) no_other
+      (λ tree ws is e. absurd
+      (below (length ws) (made_eats one_way read (sound_eats read s p.sound some) ws tree ws is))) no_other
       words (λ e. made_lawful one_way read ends p.lawful words) (λ e. made_lawful other_way other ends q.lawful words)
 
   either_sound : Sound (either test read other) (either_shape s t)
@@ -186,14 +188,16 @@ pub either_phrase : {A B : Type 0} (test : Option Text → Bool) {read : Reader 
     {t : Shape B} → Phrase read ends s → Phrase other ends t → Worded s → Worded t → Tested test true s → Tested test false t →
     Phrase (either test read other) ends (either_shape s t)
 either_phrase test {other = other} {t = t} p q some some_other tests fails_test =
-    either_open_phrase test p q some (λ tree words is e. absurd (never (length words) (sound_eats other t q.sound some_other words tree words is)))
+    either_open_phrase test p q some
+    (λ tree words is e. absurd (never (length words) (sound_eats other t q.sound some_other words tree words is)))
     tests (λ tree v rest c. fails_test tree v rest)
   where
     never : (n : ℕ) → n < n → ⊥
     never n e = omega (arith, e)
 
 -- neither of two begins with such a word
-pub either_tested : {A B : Type 0} (test : Option Text → Bool) (answer : Bool) (s : Shape A) (t : Shape B) → Tested test answer s →
+pub either_tested : {A B : Type 0} (test : Option Text → Bool) (answer : Bool) (s : Shape A) (t : Shape B) →
+    Tested test answer s →
     Tested test answer t → Tested test answer (either_shape s t)
 either_tested test answer s t p q (one_way x) v rest = p x v rest
 either_tested test answer s t p q (other_way y) v rest = q y v rest

@@ -212,7 +212,12 @@ past_example text e = record { tree = e.tree; valid = e.valid }
 -- A word, as what it means
 
 abbrev pub worded_shape : {A : Type 0} → (A → Text) → (A → Bool) → Ends → Shape A
-worded_shape word valid ends = record { spell = λ tree. word tree ∷ []; valid = valid; closes = λ tree. ends; stops = λ tree first. true }
+worded_shape word valid ends = record {
+  spell = λ tree. word tree ∷ [];
+  valid = valid;
+  closes = λ tree. ends;
+  stops = λ tree first. true;
+}
 
 pub worded_phrase : {A : Type 0} (meaning : Text → Option A) (word : A → Text) (valid : A → Bool) (ends : Ends) →
     ((text : Text) (tree : A) → meaning text ≡ Some tree → (word tree ≡ text) × (valid tree ≡ true)) →

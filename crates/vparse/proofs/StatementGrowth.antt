@@ -1,4 +1,5 @@
--- With three levels more: what was read as a statement or refused for good stays so, and a word that was refused for want of levels is passed.
+-- With three levels more: what was read as a statement or refused for good stays so, and a word that was refused for
+-- want of levels is passed.
 use Rattle.std.proofs.Common.{◌≡◌, ℕ, zero, suc, ◌<◌, ◌≤◌, Bool, true, false, ◌||◌, not, nat_le, if◌then◌else◌, List, [], ◌∷◌, Option, None, Some, length, refl, arith, codes}
 use Rattle.vast.specs.Syntax.{Text}
 use Rattle.vast.specs.Words.{is_name, is_number, is_string}

@@ -88,7 +88,12 @@ delay_part_valid below None = no_deeper below
 delay_part_valid below (Some tree) = refl
 
 pub assignment_makes : (below : ℕ) → Makes assignment_of (assignment_shape below) (statement_shape (suc below)) []
-assignment_makes below = record { spelled = spelled; valid = valid; closes = λ tree next e. closes tree next; stops = λ tree next e. stops tree next }
+assignment_makes below = record {
+  spelled = spelled;
+  valid = valid;
+  closes = λ tree next e. closes tree next;
+  stops = λ tree next e. stops tree next;
+}
   where
     spelled : (tree : Assignment) → spell_statement (assignment_of tree) ≡ (assignment_shape below).spell tree
     spelled (both tree (both true (both wait (both right end)))) =
@@ -201,7 +206,12 @@ module _ (below : ℕ) (level : nat_le 1 below ≡ true) where
 
   pub trigger_makes : Makes trigger_of (paired_shape (text_shape is_name) (only_shape (codes ";")))
       (statement_shape (suc below)) (codes "->" ∷ [])
-  trigger_makes = record { spelled = spelled; valid = valid; closes = λ tree next e. closes tree next; stops = λ tree next e. stops tree next }
+  trigger_makes = record {
+    spelled = spelled;
+    valid = valid;
+    closes = λ tree next e. closes tree next;
+    stops = λ tree next e. stops tree next;
+  }
     where
       spelled : (tree : Both Text (Unit {0})) →
           spell_statement (trigger_of tree) ≡ codes "->" ∷ (paired_shape (text_shape is_name) (only_shape (codes ";"))).spell tree
@@ -512,7 +522,12 @@ module _ (below : ℕ) (read : Reader StatementTree) (p : Phrase read ends_state
   block_example = record { tree = both [] tt; valid = refl }
 
   pub block_makes : Makes block_of block_shape Out (codes "begin" ∷ [])
-  block_makes = record { spelled = spelled; valid = valid; closes = λ tree next e. closes tree next; stops = λ tree next e. stops tree next }
+  block_makes = record {
+    spelled = spelled;
+    valid = valid;
+    closes = λ tree next e. closes tree next;
+    stops = λ tree next e. stops tree next;
+  }
     where
       all_spelled : (list : List StatementTree) → spell_statements (statements_in list) ≡ flat_map spell_statement list
       all_spelled [] = refl

@@ -155,7 +155,12 @@ targets_back none = refl
 targets_back (first_target tree more) = ap (first_target tree) (targets_back more)
 
 joined_makes : (below : ℕ) → Makes joined_of (targets_shape below) (target_shape (suc below)) (codes "{" ∷ [])
-joined_makes below = record { spelled = spelled; valid = valid; closes = λ tree next e. closes tree next; stops = λ tree next e. refl }
+joined_makes below = record {
+  spelled = spelled;
+  valid = valid;
+  closes = λ tree next e. closes tree next;
+  stops = λ tree next e. refl;
+}
   where
     closes : (tree : Both (List_of TargetTree) (Unit {0})) (next : Option Text) → (targets_shape below).closes tree next ≡ true
     closes (both list end) next = refl

@@ -100,7 +100,12 @@ module _ (below : ℕ) where
   print_example level = paired_example (arguments_example below level) (only_example (codes ";"))
 
   pub print_makes : (kind : Printing) → Makes (print_of kind) print_shape Out (print_word kind ∷ [])
-  print_makes kind = record { spelled = spelled; valid = valid; closes = λ tree next e. closes tree next; stops = λ tree next e. stops tree next }
+  print_makes kind = record {
+    spelled = spelled;
+    valid = valid;
+    closes = λ tree next e. closes tree next;
+    stops = λ tree next e. stops tree next;
+  }
     where
       spelled : (tree : Both Arguments (Unit {0})) → spell_statement (print_of kind tree)
           ≡ print_word kind ∷ print_shape.spell tree
@@ -169,7 +174,12 @@ module _ (below : ℕ) where
   dump_file_example = past_example (codes "(") (paired_example a_string (past_example (codes ")") (only_example (codes ";"))))
 
   pub dump_file_makes : nat_le 1 below ≡ true → Makes dump_file_of dump_file_shape Out (codes "$dumpfile" ∷ [])
-  dump_file_makes level = record { spelled = spelled; valid = valid; closes = λ tree next e. closes tree next; stops = λ tree next e. stops tree next }
+  dump_file_makes level = record {
+    spelled = spelled;
+    valid = valid;
+    closes = λ tree next e. closes tree next;
+    stops = λ tree next e. stops tree next;
+  }
     where
       spelled : (tree : Both Text (Unit {0})) → spell_statement (dump_file_of tree)
           ≡ codes "$dumpfile" ∷ dump_file_shape.spell tree

@@ -16,7 +16,7 @@ use Rattle.vexpr_parse.proofs.ReaderRules.{text_same, stop_got}
 use Rattle.vexpr_parse.proofs.ExpressionRules.{expression_rule}
 use Rattle.vexpr_parse.proofs.Sound.{Found, expression_found}
 use Rattle.vexpr_parse.proofs.Complete.{expression_complete}
-use Rattle.vparse.specs.Parts.{worded, many}
+use Rattle.vparse.specs.Parts.{worded, many, paired}
 use Rattle.vparse.specs.Starts.{meant_if}
 use Rattle.vparse.specs.Statements.{value, List_of, comma_list, word_only}
 use Rattle.vparse.proofs.Phrases.{Shape, Sound, Phrase, Example, Worded, always, past_shape, past_phrase, past_example, nothing_shape, nothing_phrase, worded_shape, worded_phrase, paired_shape, paired_phrase}
@@ -142,19 +142,26 @@ more_behind text {read = read} {ends = ends} {s = s} p e opens =
     same : (text : Text) → is_front text (Some text) ≡ true
     same text = text_same text
 
-pub comma_phrase : {A : Type 0} {read : Reader A} {ends : Ends} {s : Shape A} → Phrase read ends s → Example s →
+-- one, and others behind commas
+pub list_phrase : {A : Type 0} {read more : Reader A} {ends : Ends} {s t : Shape A} → Phrase read ends s → Phrase more ends t →
+    Example t →
     ends (Some (codes ",")) ≡ true →
-    Phrase (comma_list read) (ends_many comma ends) (comma_shape ends s)
-comma_phrase {read = read} {ends = ends} {s = s} p e opens =
-    paired_phrase p (more_behind (codes ",") p e opens) (record { tree = []; valid = refl })
+    Phrase (paired read (many comma (λ list. past (codes ",") more))) (ends_many comma ends)
+    (paired_shape s (many_shape comma ends (past_shape (codes ",") t) (λ list. t.valid)))
+list_phrase {ends = ends} {t = t} p q e opens =
+    paired_phrase p (more_behind (codes ",") q e opens) (record { tree = []; valid = refl })
     (λ list v rest c. follows list rest v c)
     (λ list v none next f. and_left (ends next) (not (comma next)) f)
   where
-    follows : (list : List _) (rest : List Text) → allows_all (λ list. s.valid) [] list ≡ true →
+    follows : (list : List _) (rest : List Text) → allows_all (λ list. t.valid) [] list ≡ true →
         ends_many comma ends (front rest) ≡ true →
-        ends (front (flat_map (λ tree. codes "," ∷ s.spell tree) list ++ rest)) ≡ true
+        ends (front (flat_map (λ tree. codes "," ∷ t.spell tree) list ++ rest)) ≡ true
     follows [] rest v c = and_left (ends (front rest)) (not (comma (front rest))) c
     follows (tree ∷ more) rest v c = opens
+
+pub comma_phrase : {A : Type 0} {read : Reader A} {ends : Ends} {s : Shape A} → Phrase read ends s → Example s →
+    ends (Some (codes ",")) ≡ true → Phrase (comma_list read) (ends_many comma ends) (comma_shape ends s)
+comma_phrase p e opens = list_phrase p p e opens
 
 pub allows_each : {A : Type 0} (valid : A → Bool) (so_far list : List A) → allows_all (λ l. valid) so_far list
     ≡ list_all valid list

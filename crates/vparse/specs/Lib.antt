@@ -11,3 +11,4 @@ pub mod StatementPlaces
 pub mod Modules
 pub mod Gives
 pub mod ModuleGives
+pub mod SourcePlaces

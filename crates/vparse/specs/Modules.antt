@@ -3,14 +3,13 @@ use Rattle.std.specs.Prelude.{Bool, true, false, not, List, [], ◌∷◌, Optio
 use Rattle.vast.specs.Syntax.{Text}
 use Rattle.vast.specs.Expressions.{ExpressionTree}
 use Rattle.vast.specs.Statements.{StatementTree}
-use Rattle.vast.specs.Modules.{RangeTree, TypeTree, ParameterType, integer, typed, SettingTree, DeclaredTree, DirectionTree, input, output, PortTree, HeadParameter, ConnectionTree, ConnectionsTree, by_order, by_name, InstanceTree, DeclarationKind, variables, integers, ItemTree, parameters, declaration, events, assignments, initial, always, instances, ModuleTree, SourceTree, net_word, parameter_word}
+use Rattle.vast.specs.Modules.{RangeTree, TypeTree, ParameterType, integer, typed, SettingTree, DeclaredTree, DirectionTree, input, output, PortTree, HeadParameter, ConnectionTree, ConnectionsTree, by_order, by_name, InstanceTree, variables, integers, ItemTree, parameters, declaration, events, assignments, initial, always, instances, ModuleTree, SourceTree, net_word, parameter_word}
 use Rattle.vast.specs.declared.module.NetKind.{NetKind}
 use Rattle.vast.specs.declared.module.NetKind.TheVariants as net
 use Rattle.vexpr_parse.specs.Readers.{Reader, past, is_front}
 use Rattle.vexpr_parse.specs.Words.{written}
 use Rattle.vparse.specs.Parts.{Both, both, Either, one_way, other_way, made, paired, worded, many, maybe, either}
-use Rattle.vparse.specs.Starts.{is_word, is_meant}
-use Rattle.vast.specs.Words.{is_name}
+use Rattle.vparse.specs.Starts.{is_meant}
 use Rattle.vparse.specs.Statements.{value, named, word_only, List_of, comma_list, statement}
 
 -- an expression that stands in no statement
@@ -177,7 +176,8 @@ abbrev pub first_parameter : Reader HeadParameter
 first_parameter = made first_parameter_of (past (codes "parameter") (paired parameter_type setting))
 
 abbrev pub head_parameter : Reader HeadParameter
-head_parameter = made head_parameter_of (paired (maybe (is_front (codes "parameter")) (past (codes "parameter") parameter_type)) setting)
+head_parameter = made head_parameter_of
+    (paired (maybe (is_front (codes "parameter")) (past (codes "parameter") parameter_type)) setting)
 
 -- behind #
 abbrev pub head_parameters : Reader (Both (List_of HeadParameter) (Unit {0}))
@@ -240,7 +240,8 @@ module_tree =
     made module_of (past (codes "module") (paired named
     (paired (maybe (is_front (codes "#")) (past (codes "#") (made head_list_of head_parameters)))
     (paired (maybe (is_front (codes "(")) ports)
-    (past (codes ";") (paired (many (λ next. not (is_front (codes "endmodule") next)) (λ list. item)) (word_only (codes "endmodule"))))))))
+    (past (codes ";") (paired (many (λ next. not (is_front (codes "endmodule") next)) (λ list. item))
+    (word_only (codes "endmodule"))))))))
 
 abbrev pub is_some_word : Option Text → Bool
 is_some_word None = false

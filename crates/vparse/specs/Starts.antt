@@ -39,7 +39,8 @@ start_word (start.End stops) = end_word stops
 
 abbrev pub statement_starts : List StatementStart
 statement_starts =
-    start.Empty ∷ start.Begin ∷ start.Trigger ∷ start.If ∷ start.Case case_kind.Exact ∷ start.Case case_kind.Z ∷ start.Case case_kind.X
+    start.Empty ∷ start.Begin ∷ start.Trigger ∷ start.If ∷ start.Case case_kind.Exact
+    ∷ start.Case case_kind.Z ∷ start.Case case_kind.X
     ∷ start.Guarded guard.While ∷ start.Guarded guard.Repeat ∷ start.Guarded guard.Wait ∷ start.Forever ∷ start.For ∷ start.Delay
     ∷ start.Event ∷ start.Print printing.Display ∷ start.Print printing.Strobe ∷ start.Print printing.Monitor ∷ start.DumpFile
     ∷ start.DumpVars ∷ start.Dump dumping.On ∷ start.Dump dumping.Off ∷ start.Dump dumping.All ∷ start.Dump dumping.Flush

@@ -13,6 +13,7 @@ mod modules;
 mod parser;
 pub mod profile;
 pub mod settings;
+pub mod source_law;
 pub mod start;
 pub mod statement_law;
 mod statements;
