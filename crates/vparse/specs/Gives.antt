@@ -4,16 +4,17 @@ use Rattle.vast.specs.Syntax.{Text}
 use Rattle.vast.specs.Expressions.{ExpressionTree}
 use Rattle.std.specs.Borrow.{MutBor}
 use Rattle.vast.specs.ExpressionTrees.{tree_of}
-use Rattle.vast.specs.StatementTrees.{target_tree}
+use Rattle.vast.specs.StatementTrees.{target_tree, statement_tree}
+use Rattle.vast.specs.declared.statement.Statement.{Statement}
 use Rattle.vast.specs.declared.statement.Target.{Target}
 use Rattle.vast.specs.declared.expression.Expression.{Expression}
 use Rattle.basis.specs.declared.memory.OrMemory.{OrMemory}
 use Rattle.vexpr_parse.specs.declared.stop.Stop.{Stop}
 use Rattle.vexpr_parse.specs.Readers.{Answer, Reader, got, and_then, led, past, is_front, turns}
 use Rattle.vexpr_parse.specs.Answers.{Stops}
-use Rattle.vast.specs.Statements.{TargetTree, joined}
-use Rattle.vparse.specs.Parts.{Both, both, made, one_behind}
-use Rattle.vparse.specs.Statements.{select, target_of, target, targets_in, target_lead}
+use Rattle.vast.specs.Statements.{TargetTree, joined, StatementTree}
+use Rattle.vparse.specs.Parts.{Both, both, made, paired, one_behind}
+use Rattle.vparse.specs.Statements.{select, target_of, target, targets_in, target_lead, named, word_only, trigger_of, statement}
 
 -- what the definition reads is given, and what is behind it is left; or it stops there
 abbrev pub Gives : {A T : Type 0} → (T → A) → Answer A → List Text → Result T (OrMemory Stop) → Type 0
@@ -61,3 +62,17 @@ in_braces all = joined (targets_in all)
 -- with so many levels below it
 abbrev pub target_at : ℕ → Reader TargetTree
 target_at below = led (target_lead below (target below))
+
+-- what is read is what is given
+abbrev pub itself : {A : Type 0} → A → A
+itself tree = tree
+
+-- behind ->
+abbrev pub trigger_at : Reader StatementTree
+trigger_at = made trigger_of (paired named (word_only (codes ";")))
+
+-- each call reads as the definition does with so many levels
+abbrev pub ReadsStatements : ℕ → (MutBor (List Text) → Result Statement (OrMemory Stop) → MutBor (List Text) → Type 0) → Type 0
+ReadsStatements below call =
+    (old new : MutBor (List Text)) (result : Result Statement (OrMemory Stop)) → call old result new →
+    Gives statement_tree (statement below old.now) new.now result

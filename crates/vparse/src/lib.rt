@@ -4,6 +4,7 @@
 #![tactic(auto)]
 
 pub mod amounts;
+pub mod assignments;
 pub mod beginning;
 mod cursor;
 mod fault;
