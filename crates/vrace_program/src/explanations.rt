@@ -21,19 +21,19 @@ const EXPLANATIONS: [Explanation; 27] = [
         number: 102,
         meaning: "bad character, number or escape",
         example: "8'b2, 1'b0g",
-        advice: "write digits of the base, and a blank before a letter",
+        advice: "write digits of the base, and a blank before a letter; save the file as plain ASCII, without a mark at its start",
     },
     Explanation {
         number: 110,
         meaning: "a directive is ill formed, not first on its line, or without its open conditional",
         example: "x `define A 1; `else alone",
-        advice: "write it first on its line, as docs/LANGUAGE.md says",
+        advice: "write it first on its line, as docs/LANGUAGE.md says; a macro can't have arguments",
     },
     Explanation {
         number: 111,
         meaning: "the name behind a backtick has no macro",
         example: "`X without a `define X",
-        advice: "define it before its use; a directive that docs/LANGUAGE.md doesn't list can't be used",
+        advice: "define it before its use; in place of an include name the files, in their order; a directive that docs/LANGUAGE.md doesn't list can't be used",
     },
     Explanation {
         number: 112,
@@ -57,7 +57,7 @@ const EXPLANATIONS: [Explanation; 27] = [
         number: 201,
         meaning: "the grammar takes no such text: this is the first word, or the end of the text, that no rule takes",
         example: "a = 1 and no semicolon; wire w;",
-        advice: "look at that word and the one before it; docs/LANGUAGE.md has the grammar of today",
+        advice: "look at the words of that line, and at the end of the line before it: a semicolon may be missing there; docs/LANGUAGE.md has the grammar of today",
     },
     Explanation {
         number: 202,
@@ -75,7 +75,7 @@ const EXPLANATIONS: [Explanation; 27] = [
         number: 301,
         meaning: "no module is the top",
         example: "a text without a module; two modules and no --top; --top of a name that isn't there",
-        advice: "name the module: --top NAME",
+        advice: "name the module: --top NAME; for check, which has the top from the report, give the files that the report was made of",
     },
     Explanation {
         number: 302,
@@ -111,7 +111,7 @@ const EXPLANATIONS: [Explanation; 27] = [
         number: 402,
         meaning: "a step that the log names isn't reached or hasn't that choice",
         example: "99:1 on a run of nine steps",
-        advice: "a log is for one text and one grain: was the text changed, or --grain left out?",
+        advice: "a log is for one text, one grain, one top and one time limit: was the text changed, or --grain, --top or --until left out?",
     },
     Explanation {
         number: 403,

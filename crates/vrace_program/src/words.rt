@@ -65,7 +65,7 @@ fn replay_command<'a>(alloc: Global) -> Result<Command<'a>, NoMemory> {
         alloc,
         "log",
         "L",
-        "The departures, as step:index joined by commas",
+        "The departures, as step:index joined by commas, or - for none; process/ or statement/ before it names the grain",
     )
     .default_value("-");
     let trace = Arg::new(alloc, "trace")
