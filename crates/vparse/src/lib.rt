@@ -13,6 +13,7 @@ pub mod law;
 mod modules;
 mod parser;
 pub mod profile;
+pub mod settings;
 pub mod start;
 mod statements;
 mod stop;
