@@ -15,6 +15,7 @@ use Rattle.vexpr_parse.specs.Answers.{Stops}
 use Rattle.vast.specs.Statements.{TargetTree, joined, StatementTree}
 use Rattle.vparse.specs.Parts.{Both, both, made, paired, one_behind}
 use Rattle.vparse.specs.Statements.{select, target_of, target, targets_in, target_lead, named, word_only, trigger_of, statement}
+use Rattle.vparse.specs.declared.settings.Setting.{Setting}
 
 -- what the definition reads is given, and what is behind it is left; or it stops there
 abbrev pub Gives : {A T : Type 0} → (T → A) → Answer A → List Text → Result T (OrMemory Stop) → Type 0
@@ -76,3 +77,7 @@ abbrev pub ReadsStatements : ℕ → (MutBor (List Text) → Result Statement (O
 ReadsStatements below call =
     (old new : MutBor (List Text)) (result : Result Statement (OrMemory Stop)) → call old result new →
     Gives statement_tree (statement below old.now) new.now result
+
+-- what a for writes
+abbrev pub setting_tree : Setting → Both TargetTree ExpressionTree
+setting_tree setting = both (target_tree setting.target) (tree_of setting.value)
