@@ -7,6 +7,7 @@ pub mod amounts;
 pub mod assignments;
 pub mod beginning;
 mod cursor;
+pub mod declarations;
 mod fault;
 mod items;
 pub mod law;
