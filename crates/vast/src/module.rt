@@ -106,7 +106,10 @@ pub struct Instance<'t> {
 #[derive(Drop)]
 pub enum DeclarationKind<'t> {
     /// `wire` or `reg`, and a type
-    Variables { net: NetKind, kind: SignAndRange<'t> },
+    Variables {
+        net: NetKind,
+        kind: SignAndRange<'t>,
+    },
     /// `integer`
     Integers,
 }
