@@ -1,4 +1,4 @@
--- `Derives words tree`: the grammar is a printer read backwards. A tree derives the words that it spells,
+-- `Derives words tree`, of the small grammar: the grammar is a printer read backwards. A tree derives the words that it spells,
 -- where it stands as the grammar lets it (IEEE 1364-2005, annex A; docs/LANGUAGE.md, "Grammar").
 use Rattle.std.specs.Prelude.{◌≡◌, IsTrue, Bool, true, ◌&&◌, ℕ, ◌+◌, max, nat_le, nat_lt, length, List, [], ◌∷◌, ◌++◌, Option, Some, None, codes, flat_map}
 use Rattle.std.specs.List.{list_all}

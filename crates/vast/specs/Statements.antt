@@ -1,4 +1,4 @@
--- Statements of the whole profile (IEEE 1364-2005, clause 9 and A.6, narrowed to docs/LANGUAGE.md): their trees, the words
+-- Statements of the whole profile (IEEE 1364-2005, clause 9 and A.6, narrowed to this product's profile): their trees, the words
 -- that these spell, how deep they nest, and which stand as the grammar lets them.
 use Rattle.std.specs.Prelude.{ℕ, ◌+◌, max, nat_le, Bool, true, false, ◌&&◌, not, if◌then◌else◌, List, [], ◌∷◌, ◌++◌, Option, Some, None, length, codes, flat_map}
 use Rattle.std.specs.List.{list_all}

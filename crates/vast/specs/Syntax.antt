@@ -1,4 +1,5 @@
--- The trees of a text, as the definitions see them (IEEE 1364-2005, annex A, narrowed to docs/LANGUAGE.md):
+-- The trees of the small grammar, which `parse` reads today (IEEE 1364-2005, annex A, narrowed to docs/LANGUAGE.md); those of
+-- the whole profile are in Expressions, Statements and Modules. As the definitions see them,
 -- names and numbers are words, all else is a shape.
 use Rattle.std.specs.Prelude.{ℕ, List, Option}
 

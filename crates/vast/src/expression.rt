@@ -1,4 +1,4 @@
-// Expressions of the whole profile (IEEE 1364-2005, clause 5 and A.8, narrowed to docs/LANGUAGE.md).
+// Expressions of the whole profile (IEEE 1364-2005, clause 5 and A.8, narrowed to this product's profile).
 
 use crate::syntax::Word;
 

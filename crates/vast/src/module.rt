@@ -1,4 +1,4 @@
-// Modules of the whole profile (IEEE 1364-2005, clauses 4 and 12, A.1 and A.2, narrowed to docs/LANGUAGE.md).
+// Modules of the whole profile (IEEE 1364-2005, clauses 4 and 12, A.1 and A.2, narrowed to this product's profile).
 
 use crate::expression::Expression;
 use crate::statement::Statement;

@@ -1,4 +1,4 @@
-// Statements of the whole profile (IEEE 1364-2005, clause 9 and A.6, narrowed to docs/LANGUAGE.md).
+// Statements of the whole profile (IEEE 1364-2005, clause 9 and A.6, narrowed to this product's profile).
 
 use crate::expression::Expression;
 use crate::syntax::Word;

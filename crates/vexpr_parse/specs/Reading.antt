@@ -126,7 +126,7 @@ onward below read least left words = and_then (turns (operator below read least)
 abbrev pub expression_by : ℕ → Below → ℕ → Reader ExpressionTree
 expression_by below read least words = and_then (primary below read words) (onward below read least)
 
--- an expression of so many levels at most, and of this rank at least
+-- an expression of so many levels at most, one or more, and of this rank at least
 unfoldable pub expression : ℕ → ℕ → Reader ExpressionTree
 expression zero least words = stop NoTree words
 expression (suc below) least words = expression_by below (expression below) least words

@@ -25,7 +25,8 @@ use Rattle.vmodel.specs.declared.choice.Choice.{Choice}
 use Rattle.vmodel.specs.declared.choice.Choice.TheVariants.{Run, Update, Advance}
 use Rattle.vmodel.specs.Choices.{choices}
 
--- ---- what a step of a process does: one equation for each row of the table of steps (docs/SCHEDULING.md, "Steps")
+-- ---- what a step of a process does: an equation for each action of the table of steps (docs/SCHEDULING.md, "Steps"); an
+-- update and an advance stand in `turn_of`
 
 -- what it has left, and all else that it does
 pub record Did : Type 0 where

@@ -87,7 +87,7 @@ connection_shape = record {
 abbrev ConnectionParts : Shape (Both Text Value)
 ConnectionParts = past_shape (codes ".") (paired_shape (text_shape is_name) (past_shape (codes "(") ValueIn))
 
-connection_phrase : Phrase connection always connection_shape
+pub connection_phrase : Phrase connection always connection_shape
 connection_phrase =
     made_phrase connection_of connection_shape back makes (λ tree next e. refl)
     (past_phrase (codes ".") (free_phrase named_phrase (past_phrase (codes "(") value_in_phrase value_in_example)
@@ -223,7 +223,7 @@ no_connections = record { tree = by_order []; valid = refl }
 abbrev pub instance_shape : Shape InstanceTree
 instance_shape = record { spell = spell_instance; valid = fits_instance; closes = λ tree. always; stops = λ tree next. true }
 
-instance_phrase : Phrase instance_behind always instance_shape
+pub instance_phrase : Phrase instance_behind always instance_shape
 instance_phrase =
     made_phrase instance_of instance_shape (λ tree v. record { parts = both tree.name tree.connections; is = refl }) makes
     (λ tree next e. refl) (free_phrase named_phrase connections_phrase no_connections)

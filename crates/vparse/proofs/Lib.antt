@@ -31,5 +31,10 @@ pub mod HeadPhrases
 pub mod ItemPhrases
 mod ManyTurns
 mod TargetTurns
+mod ListTurns
+mod ListKinds
+mod ModuleForms
+mod ConnectionParts
+mod StatementTurns
 pub mod ModulePhrases
 pub mod SourceReads

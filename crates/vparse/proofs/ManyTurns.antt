@@ -1,6 +1,7 @@
 -- What the code's loops go on from: a turn of many.
 use Rattle.std.specs.Str.{bytes_eq}
-use Rattle.std.proofs.Common.{◌≡◌, ℕ, zero, suc, ◌<◌, if◌then◌else◌, Bool, true, false, List, [], ◌∷◌, ◌++◌, codes, length, drop, Option, None, Some, refl, sym, ap, ◌∙◌, arith, subst}
+use Rattle.std.proofs.Common.{◌≡◌, ℕ, zero, suc, ◌<◌, if◌then◌else◌, Bool, true, false, List, [], ◌∷◌, ◌++◌, codes, length, drop, map, Option, refl, sym, ap, ◌∙◌, arith}
+use Rattle.std.proofs.lemmas.List.{map-append}
 use Rattle.vast.specs.Syntax.{Text}
 use Rattle.vexpr_parse.specs.declared.stop.Stop.{Stop}
 use Rattle.vexpr_parse.specs.Readers.{Answer, got, stop, Reader, front, is_front, and_then, past, follow, goes, refused, rounds, turns}
@@ -10,6 +11,7 @@ use Rattle.vexpr_parse.proofs.Turning.{past_on}
 use Rattle.vparse.specs.Parts.{Both, both, made, paired, one_behind, many}
 use Rattle.vparse.specs.Statements.{List_of, comma_list, word_only}
 use Rattle.vparse.specs.Gives.{all_until}
+use Rattle.vparse.specs.ModuleGives.{rest_until}
 use Rattle.vparse.proofs.PhraseChoices.{made_eats}
 
 -- what is read from here on, behind a list of what was read
@@ -34,6 +36,16 @@ module _ {A : Type 0} (test : Option Text → Bool) (read : List A → Reader A)
 
   pub no_more : (list : List A) (words : List Text) → test (front words) ≡ false → goes_on test read list words ≡ got list words
   no_more list words e = turns_end (one_behind read) test turn_eats list words e
+
+-- one of them was read, and pushed to those that the code has in hand
+module _ {A T : Type 0} (view : T → A) (test : Option Text → Bool) (read : Reader A) (eats : Eats read) where
+  pub pushed : (words : List Text) → test (front words) ≡ true → (items after : List T) (one : T) (left : List Text)
+      (all : Answer (List A)) → after ≡ items ++ one ∷ [] → read words ≡ got (view one) left →
+      goes_on test (λ list. read) (map view items) words ≡ all → goes_on test (λ list. read) (map view after) left ≡ all
+  pushed words here items after one left all same e before =
+      ap (λ ts. goes_on test (λ list. read) ts left) (ap (map view) same ∙ map-append view items (one ∷ []))
+      ∙ sym (one_more test (λ list. read) (λ list. eats) (map view items) words (view one) left here e)
+      ∙ before
 
 -- behind this very word, where it stands first
 pub behind_word : {A : Type 0} (text : Text) (read : Reader A) (words : List Text) (a : Answer A) → is_front text (front words) ≡ true →
@@ -143,3 +155,9 @@ module _ {A B : Type 0} (text : Text) (read : Reader A) (make : Both (List_of A)
 
   pub until_is : (words : List Text) → made make (paired (comma_list read) (word_only text)) words ≡ made whole (all_until text read) words
   until_is words = list_rule read (word_only text) make (λ all end. whole all) (λ one list end. same one list) words ∙ by_one (read words)
+
+  -- so where another reader reads the first one
+  pub first_until_is : (first : Reader A) (words : List Text) →
+      made make (paired (paired first (many (is_front (codes ",")) (λ list. past (codes ",") read))) (word_only text)) words
+      ≡ made whole (λ ws. and_then (first ws) (rest_until text read)) words
+  first_until_is first words = by_first read (word_only text) make (λ all end. whole all) (λ one list end. same one list) (first words) ∙ by_one (first words)

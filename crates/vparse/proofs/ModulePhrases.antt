@@ -38,7 +38,7 @@ no_list b e = let none : false ≡ true = e in cc
 abbrev parameter_next : Option Text → Bool
 parameter_next = is_front (codes "parameter")
 
-abbrev head_shape : Shape HeadParameter
+abbrev pub head_shape : Shape HeadParameter
 head_shape = record {
   spell = spell_head_parameter;
   valid = fits_head_parameter;
@@ -102,7 +102,7 @@ first_parameter_phrase =
             FirstParts.closes tree next ≡ true
         closes (both kind set) next e = e
 
-head_parameter_phrase : Phrase head_parameter (ends 0) head_shape
+pub head_parameter_phrase : Phrase head_parameter (ends 0) head_shape
 unfolding reserved_words
 head_parameter_phrase =
     made_phrase head_parameter_of head_shape (λ tree v. record { parts = both tree.kind tree.setting; is = refl }) makes
@@ -315,7 +315,7 @@ direction_phrase =
 abbrev PortPart : Shape (Option DirectionTree)
 PortPart = maybe_shape is_direction ends_direction direction_shape
 
-abbrev port_shape : Shape PortTree
+abbrev pub port_shape : Shape PortTree
 port_shape = record { spell = spell_port; valid = fits_port; closes = λ tree. always; stops = λ tree next. true }
 
 abbrev first_port_shape : Shape PortTree
@@ -390,7 +390,7 @@ first_port_phrase =
             (paired_shape direction_shape (text_shape is_name)).closes tree next ≡ true
         closes (both way letters) next = refl
 
-port_phrase : Phrase port always port_shape
+pub port_phrase : Phrase port always port_shape
 port_phrase =
     made_phrase port_of port_shape (λ tree v. record { parts = both tree.direction tree.name; is = refl }) makes
     (λ tree next e. refl)

@@ -231,7 +231,7 @@ further_makes = record { spelled = spelled; valid = valid; closes = λ tree next
     closes : (tree : Both Bool TermTree) (next : Option Text) → (paired_shape comma_kind_shape term_shape).closes tree next ≡ true
     closes (both kind tree) next = refl
 
-further_phrase : Phrase further_term always further_shape
+pub further_phrase : Phrase further_term always further_shape
 further_phrase = made_phrase further_of further_shape
     (λ tree v. record { parts = both tree.by_comma tree.term; is = refl }) further_makes
     (λ tree next e. refl) (free_phrase comma_kind_phrase term_phrase a_term)
@@ -385,7 +385,7 @@ module _ (below : ℕ) (level : nat_le 1 below ≡ true) where
       closes (one_way letters) next e = refl
       closes (other_way tree) next e = e
 
-  argument_phrase : Phrase (argument below) (ends 0) (argument_shape below)
+  pub argument_phrase : Phrase (argument below) (ends 0) (argument_shape below)
   argument_phrase =
       made_phrase argument_of (argument_shape below) back argument_makes (λ tree next e. e)
       (either_phrase (is_word is_string) (phrase_within (ends 0) (word_if_phrase is_string) (λ next e. refl)) (value_phrase below)
@@ -457,7 +457,7 @@ path_makes = record { spelled = spelled; valid = valid; closes = closes; stops =
         ≡ true
     closes (both letters more) next e = e
 
-path_phrase : Phrase path (λ next. not (is_front (codes ".") next)) path_shape
+pub path_phrase : Phrase path (λ next. not (is_front (codes ".") next)) path_shape
 path_phrase =
     made_phrase path_of path_shape back path_makes (λ tree next e. e)
     (free_phrase named_phrase (more_behind (codes ".") named_phrase a_name refl) (record { tree = []; valid = refl }))

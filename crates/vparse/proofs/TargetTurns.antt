@@ -1,5 +1,5 @@
 -- What the code that reads targets goes on from.
-use Rattle.std.proofs.Common.{◌≡◌, ◌≢◌, ℕ, zero, suc, ◌-◌, ◌<◌, arith, length, map, Bool, true, false, ◌||◌, if◌then◌else◌, List, [], ◌∷◌, ◌++◌, drop, codes, Vec, Global, Result, refl, sym, ap, subst, ◌∙◌}
+use Rattle.std.proofs.Common.{◌≡◌, ◌≢◌, ℕ, zero, suc, ◌-◌, ◌<◌, arith, length, map, Bool, true, false, ◌||◌, List, [], ◌∷◌, ◌++◌, drop, codes, Vec, Global, Result, refl, sym, ap, subst, ◌∙◌}
 use Rattle.std.specs.Str.{bytes_eq}
 use Rattle.vast.specs.Words.{is_name}
 use Rattle.vast.specs.Syntax.{Text}
@@ -11,7 +11,7 @@ use mathlib.Core.Former.{Count}
 use Rattle.basis.specs.declared.memory.OrMemory.{OrMemory}
 use Rattle.vexpr_parse.specs.declared.stop.Stop.{Stop}
 use Rattle.vexpr_parse.specs.declared.stop.Stop.TheVariants.{NoTree, TooDeep}
-use Rattle.vexpr_parse.specs.Readers.{Answer, got, stop, Reader, past, Lead, goes, refused, lower, and_then, follow, front, is_front}
+use Rattle.vexpr_parse.specs.Readers.{Answer, got, stop, Reader, past, refused, lower, and_then, follow, front, is_front}
 use Rattle.vexpr_parse.proofs.ReaderRules.{Eats, chosen, passed_over}
 use Rattle.vparse.specs.Starts.{begins_target}
 use Rattle.vparse.specs.Statements.{target, targets_in, joined_of, joined_targets}

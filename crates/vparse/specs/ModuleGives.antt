@@ -1,11 +1,23 @@
 -- What the program's functions answer that read modules. Nothing here has to be believed.
-use Rattle.std.specs.Prelude.{◌≡◌, Bool, true, false, List, ◌∷◌, Option, codes}
-use Rattle.vast.specs.Modules.{RangeTree}
-use Rattle.vast.specs.Expressions.{ExpressionTree}
-use Rattle.vparse.specs.Parts.{maybe}
-use Rattle.vparse.specs.Modules.{range, free_value}
+use Rattle.std.specs.Prelude.{◌≡◌, ◌≤◌, ◌⊎◌, Bool, true, false, not, List, [], ◌∷◌, Option, Some, None, Result, Ok, Err, Vec, length, map, drop, codes}
+use Rattle.std.specs.Borrow.{MutBor}
+use Rattle.basis.specs.declared.memory.OrMemory.{OrMemory}
+use Rattle.basis.specs.declared.memory.OrMemory.TheVariants.{Fault}
+use Rattle.basis.specs.Reasons.{Because}
 use Rattle.vast.specs.Syntax.{Text}
-use Rattle.vexpr_parse.specs.Readers.{Reader, front, is_front, past}
+use Rattle.vast.specs.Expressions.{ExpressionTree}
+use Rattle.vast.specs.ExpressionTrees.{tree_of}
+use Rattle.vast.specs.Modules.{RangeTree, ParameterType, DirectionTree, PortTree, HeadParameter, ConnectionsTree, by_order, by_name, variables, integers, ItemTree, parameters, declaration, events, assignments, initial, always, instances}
+use Rattle.vast.specs.declared.expression.Expression.{Expression}
+use Rattle.vast.specs.declared.module.NetKind.{NetKind}
+use Rattle.vexpr_parse.specs.declared.stop.Stop.{Stop}
+use Rattle.vexpr_parse.specs.declared.stop.Stop.TheVariants.{NoTree}
+use Rattle.vexpr_parse.specs.Readers.{Reader, got, and_then, front, is_front, past, choose, turns}
+use Rattle.vparse.specs.Gives.{Gives, all_until}
+use Rattle.vparse.specs.Parts.{both, one_way, other_way, made, paired, maybe, many, worded, one_behind}
+use Rattle.vparse.specs.Starts.{is_meant}
+use Rattle.vparse.specs.Statements.{named, word_only, statement}
+use Rattle.vparse.specs.Modules.{range, type, parameter_type, setting, declared, free_value, Value, connection, instance_behind, overrides, net_of, local_of, item, first_parameter, head_parameter, head_parameters, head_list_of, Direction, direction, is_direction, first_port, port, ports}
 
 -- this very word stands first and is passed, or another stands there
 abbrev pub Tells : Text → List Text → List Text → Bool → Type 0
@@ -19,3 +31,177 @@ optional_range = maybe (is_front (codes "[")) range
 -- a value behind its sign, if one stands there
 abbrev pub optional_value : Reader (Option ExpressionTree)
 optional_value = maybe (is_front (codes "=")) (past (codes "=") free_value)
+
+-- Lists with commas, by the calls that read their members
+
+-- what is said of each call: what it answered, with the words before it and behind it
+abbrev pub Calls : Type 0 → Type 1
+Calls T = MutBor (List Text) → Result T (OrMemory Stop) → MutBor (List Text) → Type 0
+
+-- one of these calls
+pub record IsCall {T : Type 0} (call : Calls T) (words : List Text) (result : Result T (OrMemory Stop)) (left : List Text) : Type 0 where
+  pub old : MutBor (List Text)
+  pub new : MutBor (List Text)
+  pub before : old.now ≡ words
+  pub behind : new.now ≡ left
+  pub is : call old result new
+
+-- no call that gives something leaves more words than it found
+abbrev pub NeverMore : {T : Type 0} → Calls T → Type 0
+NeverMore {T = T} call = (old new : MutBor (List Text)) (one : T) → call old (Ok one) new → length new.now ≤ length old.now
+
+-- these were read behind a comma each
+abbrev pub ReadBehind : {T : Type 0} → Calls T → List T → List Text → List Text → Type 0
+ReadBehind call [] words left = left ≡ words
+ReadBehind call (one ∷ more) words left =
+    (between : List Text) × (is_front (codes ",") (front words) ≡ true) × IsCall call (drop 1 words) (Ok one) between × ReadBehind call more between left
+
+-- the first one, and those that were read behind it
+pub record IsReached {T : Type 0} (call : Calls T) (first : T) (words left : List Text) (list : List T) : Type 0 where
+  pub more : List T
+  pub whole : list ≡ first ∷ more
+  pub read : ReadBehind call more words left
+
+pub record IsListed {T : Type 0} (call : Calls T) (first : T) (words left : List Text) (list : List T) : Type 0 where
+  pub reached : IsReached call first words left list
+  pub ended : is_front (codes ",") (front left) ≡ false
+
+-- behind some of them a call stopped
+pub record IsBroken {T : Type 0} (call : Calls T) (first : T) (words left : List Text) (why : Stop) : Type 0 where
+  pub list : List T
+  pub between : List Text
+  pub reached : IsReached call first words between list
+  pub comma : is_front (codes ",") (front between) ≡ true
+  pub stopped : IsCall call (drop 1 between) (Err (Fault why)) left
+
+abbrev pub Lists : {T R : Type 0} → Calls T → T → List Text → List Text → Result (Vec T R) (OrMemory Stop) → Type 0
+Lists call first words left (Ok all) = IsListed call first words left all.items
+Lists call first words left (Err e) = Because (IsBroken call first words left) e
+
+-- behind all of them another word stands than the one that ends them
+pub record IsUnended {T : Type 0} (call : Calls T) (first : T) (text : Text) (words left : List Text) (why : Stop) : Type 0 where
+  pub list : List T
+  pub listed : IsListed call first words left list
+  pub other : is_front text (front left) ≡ false
+  pub none : why ≡ NoTree
+
+-- so up to this very word, which is passed
+abbrev pub ListsUntil : {T R : Type 0} → Calls T → T → Text → List Text → List Text → Result (Vec T R) (OrMemory Stop) → Type 0
+ListsUntil call first text words left (Ok all) = IsListed call first words (text ∷ left) all.items
+ListsUntil call first text words left (Err e) =
+    Because (λ why. IsBroken call first words left why ⊎ IsUnended call first text words left why) e
+
+-- each call reads as this definition does
+abbrev pub ReadsAs : {A T : Type 0} → (T → A) → Reader A → Calls T → Type 0
+ReadsAs {T = T} view one call = (old new : MutBor (List Text)) (result : Result T (OrMemory Stop)) → call old result new →
+    Gives view (one old.now) new.now result
+
+-- the trees of what stands in a list
+abbrev pub all_of : {A T R : Type 0} → (T → A) → Vec T R → List A
+all_of view list = map view list.items
+
+-- what stands behind the first one, up to this very word
+abbrev pub rest_until : {A : Type 0} → Text → Reader A → A → Reader (List A)
+rest_until text read first words =
+    and_then (turns (one_behind (λ list. past (codes ",") read)) (is_front (codes ",")) (first ∷ []) words) (λ all. past text (got all))
+
+-- What is read, in the order in which it is read
+
+-- a value behind (, up to ), or none
+abbrev pub value_part : Option Expression → Value
+value_part None = one_way tt
+value_part (Some tree) = other_way (both (tree_of tree) tt)
+
+-- connections behind (
+abbrev pub connections_in : Reader ConnectionsTree
+connections_in =
+    choose (is_front (codes ".")) (made by_name (all_until (codes ")") connection))
+    (choose (is_front (codes ")")) (made (λ end. by_order []) (word_only (codes ")"))) (made by_order (all_until (codes ")") free_value)))
+
+-- parameters of a head behind (
+abbrev pub heads_in : Reader (List HeadParameter)
+heads_in words = and_then (first_parameter words) (rest_until (codes ")") head_parameter)
+
+-- parameter and a type, if it stands there
+abbrev pub optional_type : Reader (Option ParameterType)
+optional_type = maybe (is_front (codes "parameter")) (past (codes "parameter") parameter_type)
+
+-- a direction, if one stands there; its parts behind its first word
+abbrev pub optional_direction : Reader (Option DirectionTree)
+optional_direction = maybe is_direction direction
+
+abbrev pub input_parts : Reader Direction
+input_parts = made one_way (paired (maybe (is_front (codes "wire")) (word_only (codes "wire"))) type)
+
+abbrev pub output_parts : Reader Direction
+output_parts = made other_way (paired (maybe (is_meant net_of) (worded net_of)) type)
+
+-- ports behind (
+abbrev pub some_ports : Reader (List PortTree)
+some_ports words = and_then (first_port words) (rest_until (codes ")") port)
+
+abbrev pub ports_in : Reader (List PortTree)
+ports_in = choose (is_front (codes ")")) (made (λ end. []) (word_only (codes ")"))) some_ports
+
+-- what is read behind what was found, or else
+abbrev pub found_or : {A B : Type 0} → (A → Reader B) → Reader B → Option A → Reader B
+found_or next other None = other
+found_or next other (Some tree) = next tree
+
+-- the words that items begin with, where they stand
+abbrev pub optional_local : Reader (Option Bool)
+optional_local = maybe (is_meant local_of) (worded local_of)
+
+abbrev pub optional_net : Reader (Option NetKind)
+optional_net = maybe (is_meant net_of) (worded net_of)
+
+-- items behind the words that they begin with
+abbrev pub parameters_at : Bool → Reader ItemTree
+parameters_at local words = and_then (parameter_type words) (λ kind. made (parameters local kind) (all_until (codes ";") setting))
+
+abbrev pub variables_at : NetKind → Reader ItemTree
+variables_at net words = and_then (type words) (λ kind. made (declaration (variables net kind)) (all_until (codes ";") declared))
+
+abbrev pub integers_at : Reader ItemTree
+integers_at = made (declaration integers) (all_until (codes ";") declared)
+
+abbrev pub events_at : Reader ItemTree
+events_at = made events (all_until (codes ";") named)
+
+abbrev pub assignments_at : Reader ItemTree
+assignments_at = made assignments (all_until (codes ";") setting)
+
+abbrev pub instances_at : Text → Reader ItemTree
+instances_at letters words = and_then (overrides words) (λ tree. made (instances letters tree) (all_until (codes ";") instance_behind))
+
+-- an item that begins with none of the words of those above it
+abbrev pub instances_item : Reader ItemTree
+instances_item words = and_then (named words) instances_at
+
+abbrev pub process_item : Reader ItemTree
+process_item =
+    choose (is_front (codes "initial")) (past (codes "initial") (made initial (statement 64)))
+    (choose (is_front (codes "always")) (past (codes "always") (made always (statement 64))) instances_item)
+
+abbrev pub listed_item : Reader ItemTree
+listed_item =
+    choose (is_front (codes "integer")) (past (codes "integer") integers_at)
+    (choose (is_front (codes "event")) (past (codes "event") events_at)
+    (choose (is_front (codes "assign")) (past (codes "assign") assignments_at) process_item))
+
+abbrev pub variables_item : Reader ItemTree
+variables_item words = and_then (optional_net words) (found_or variables_at listed_item)
+
+abbrev pub any_item : Reader ItemTree
+any_item words = and_then (optional_local words) (found_or parameters_at variables_item)
+
+-- the parameters and the ports of a module's head, if they stand there
+abbrev pub optional_heads : Reader (Option (List HeadParameter))
+optional_heads = maybe (is_front (codes "#")) (past (codes "#") (made head_list_of head_parameters))
+
+abbrev pub optional_ports : Reader (Option (List PortTree))
+optional_ports = maybe (is_front (codes "(")) ports
+
+-- the items of a module
+abbrev pub all_items : Reader (List ItemTree)
+all_items = many (λ next. not (is_front (codes "endmodule") next)) (λ list. item)

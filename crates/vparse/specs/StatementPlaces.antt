@@ -44,7 +44,7 @@ pub record IsDeeper (levels : ℕ) (words left : List Text) : Type 0 where
   pub whole : words ≡ before ++ left
   pub viable : BeginsOne (suc (suc (suc levels))) (before ++ word ∷ [])
 
--- What reading gives
+-- ---- what reading gives
 
 -- what is read is a statement, at the front of the words, and it has ended
 abbrev pub ReadsSoundly : Type 0

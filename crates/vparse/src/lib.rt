@@ -4,15 +4,26 @@
 #![tactic(auto)]
 
 pub mod amounts;
+pub mod arguments;
 pub mod assignments;
 pub mod beginning;
+pub mod blocks;
+pub mod connections;
 mod cursor;
 pub mod declarations;
+pub mod events;
 mod fault;
+pub mod guarded;
+pub mod heads;
 mod items;
 pub mod law;
+pub mod lists;
+pub mod module_items;
+pub mod module_lists;
 mod modules;
 mod parser;
+pub mod paths;
+pub mod ports;
 pub mod profile;
 pub mod settings;
 pub mod source_law;
@@ -21,6 +32,8 @@ pub mod statement_law;
 mod statements;
 mod stop;
 pub mod targets;
+pub mod tasks;
+pub mod terms;
 pub mod types;
 pub mod values;
 pub mod words;

@@ -38,8 +38,8 @@ fn optional_range<'a>(
     }
 }
 
-// Whether this very word stands here, which is passed then.
-fn optional(cursor: &mut Cursor<'_, '_>, text: &[u8]) -> bool
+/// Whether this very word stands here, which is passed then.
+pub fn optional(cursor: &mut Cursor<'_, '_>, text: &[u8]) -> bool
     ensures { Tells text.now cursor.old cursor.new result }
 {
     if cursor.begins(text) {

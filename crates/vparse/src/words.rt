@@ -2,7 +2,10 @@
 
 ghost use Rattle.std.specs.Prelude.{◌≡◌};
 ghost use Rattle.vast.specs.Trees.{word_text};
+ghost use Rattle.vast.specs.Words.{is_string as is_string_text};
 ghost use Rattle.vparse.specs.Gives.{Gives};
+ghost use Rattle.vparse.specs.Parts.{worded};
+ghost use Rattle.vparse.specs.Starts.{meant_if};
 ghost use Rattle.vparse.specs.Statements as reading;
 
 use basis::OrMemory;
@@ -34,6 +37,33 @@ pub fn numbered<'a>(cursor: &mut Cursor<'_, 'a>) -> Result<Word<'a>, OrMemory<St
     match cursor.word() {
         Some(word) => {
             if is_number(word.text) {
+                cursor.pass();
+                Ok(word)
+            } else {
+                Err(OrMemory::Fault(Stop::NoTree))
+            }
+        }
+        None => Err(OrMemory::Fault(Stop::NoTree)),
+    }
+}
+
+/// Whether a token is a string: it begins with a quotation mark (3.6).
+pub fn is_string(text: &[u8]) -> bool
+    ensures { result ≡ is_string_text text.now }
+{
+    match text.first() {
+        None => false,
+        Some(first) => *first == b'"',
+    }
+}
+
+/// Passes a string.
+pub fn quoted<'a>(cursor: &mut Cursor<'_, 'a>) -> Result<Word<'a>, OrMemory<Stop>>
+    ensures { Gives word_text (worded (meant_if is_string_text) cursor.old) cursor.new result }
+{
+    match cursor.word() {
+        Some(word) => {
+            if is_string(word.text) {
                 cursor.pass();
                 Ok(word)
             } else {

@@ -62,7 +62,8 @@ redefined name text macros other = if bytes_eq name other then text else macros 
 
 -- ---- what a use makes
 
--- The text that was made, for each of its bytes where in the files it comes from, and how many uses were expanded.
+-- The text that was made, for each of its bytes a place in the files (its own, or that of the use that made it), and how many
+-- uses were expanded.
 pub record Made : Type 0 where
   pub text : List ℕ
   pub origins : List ℕ

@@ -69,7 +69,7 @@ place_in files = place_by (borders_of files) (feeds_of (joined files))
 
 -- ---- what files are expanded to
 
--- A text, for each of its bytes the file and line that it comes from, those of its end, and the timescale.
+-- A text, for each of its bytes a file and line (its own, or those of the use that made it), those of its end, and the timescale.
 pub record Source : Type 0 where
   pub text : List ℕ
   pub places : List Place

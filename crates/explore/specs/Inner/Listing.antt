@@ -5,7 +5,8 @@ use Rattle.statebook.specs.declared.entry.Entry.{Entry}
 use Rattle.shardbook.specs.Sights.{Sight}
 use Rattle.explore.specs.Found.{IsListedMark}
 
--- A state equal to this one is listed, under a log of at most d departures.
+-- A state equal to this one is listed, under a log of at most d departures: `IsListedMark` by the code's own test, which is
+-- asked the other way round.
 pub record IsShort {S : Type 0} (same : S → S → Bool) (marks : List (S × List (ℕ × ℕ))) (s : S) (d : ℕ) : Type 0 where
   pub place : ℕ
   pub found : S × List (ℕ × ℕ)

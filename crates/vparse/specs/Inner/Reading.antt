@@ -1,4 +1,4 @@
--- Reading by descent: the tree at the front of the words and the words behind it, one word at a time.
+-- Reading of the small grammar by descent: the tree at the front of the words and the words behind it, one word at a time.
 -- That this is the grammar read backwards is what `Derives` says of it.
 use Rattle.std.specs.Prelude.{ℕ, zero, suc, Bool, true, false, not, nat_lt, if◌then◌else◌, List, [], ◌∷◌, Option, Some, None, codes}
 use Rattle.std.specs.Str.{bytes_eq}

@@ -1,0 +1,27 @@
+-- What a connection is made of, and what may be left out.
+use Rattle.std.proofs.Common.{◌≡◌, Bool, true, List, drop, Option, None, Some, option_map, refl, sym, ap, ◌∙◌}
+use Rattle.vast.specs.Syntax.{Text}
+use Rattle.vast.specs.ExpressionTrees.{tree_of}
+use Rattle.vast.specs.Modules.{ConnectionTree}
+use Rattle.vast.specs.declared.expression.Expression.{Expression}
+use Rattle.vexpr_parse.specs.Readers.{Reader, got, and_then, front, is_front, past}
+use Rattle.vexpr_parse.proofs.ReaderRules.{chosen}
+use Rattle.vparse.specs.Parts.{both, made, maybe}
+use Rattle.vparse.specs.Modules.{connection_of}
+use Rattle.vparse.specs.ModuleGives.{value_part}
+use Rattle.vparse.proofs.ManyTurns.{behind_word}
+
+abbrev connected : Text → Option Expression → ConnectionTree
+connected letters value = record { name = letters; value = option_map tree_of value }
+
+pub connection_made : (letters : Text) (value : Option Expression) → connection_of (both letters (value_part value)) ≡ connected letters value
+connection_made letters None = refl
+connection_made letters (Some tree) = refl
+
+-- what may be left out, where it stands behind this very word
+pub maybe_past : {A : Type 0} (text : Text) (read : Reader A) (words between left : List Text) (tree : A) (seen : Bool) →
+    seen ≡ is_front text (front words) → seen ≡ true → between ≡ drop 1 words → read between ≡ got tree left →
+    maybe (is_front text) (past text read) words ≡ got (Some tree) left
+maybe_past text read words between left tree seen is here passed e =
+    chosen (is_front text (front words)) (made Some (past text read) words) (got None words) (sym is ∙ here)
+    ∙ ap (λ a. and_then a (λ t. got (Some t))) (behind_word text read words (got tree left) (sym is ∙ here) (ap read (sym passed) ∙ e))

@@ -1,0 +1,93 @@
+-- What stands in the lists of modules leaves fewer words where it is read.
+use Rattle.std.proofs.Common.{◌≡◌, ℕ, suc, ◌<◌, ◌≤◌, Option, None, Some, List, [], ◌∷◌, ◌++◌, length, arith}
+use Rattle.basis.proofs.Bools.{and_left}
+use Rattle.vast.specs.Syntax.{Text}
+use Rattle.vast.specs.Words.{is_name}
+use Rattle.vast.specs.Trees.{word_text}
+use Rattle.vast.specs.Expressions.{ExpressionTree, spell_expression}
+use Rattle.vast.specs.ExpressionTrees.{tree_of}
+use Rattle.vast.specs.Modules as trees
+use Rattle.vast.specs.ModuleTrees.{setting_tree, declared_tree, connection_tree, instance_tree, head_parameter as head_tree, port_tree}
+use Rattle.vast.specs.declared.syntax.Word.{Word}
+use Rattle.vast.specs.declared.expression.Expression.{Expression}
+use Rattle.vast.specs.declared.module.Setting.{Setting}
+use Rattle.vast.specs.declared.module.Declared.{Declared}
+use Rattle.vast.specs.declared.module.Connection.{Connection}
+use Rattle.vast.specs.declared.module.Instance.{Instance}
+use Rattle.vast.specs.declared.module.HeadParameter.{HeadParameter}
+use Rattle.vast.specs.declared.module.Port.{Port}
+use Rattle.vexpr_parse.specs.Readers.{Reader, got}
+use Rattle.vexpr_parse.proofs.ReaderRules.{Eats}
+use Rattle.vparse.specs.Statements.{named}
+use Rattle.vparse.specs.Modules.{free_value, setting, declared, connection, instance_behind, head_parameter, port}
+use Rattle.vparse.proofs.Phrases.{sound_eats}
+use Rattle.vparse.proofs.ValuePhrases.{value_worded}
+use Rattle.vparse.proofs.PartPhrases.{text_shape, named_phrase}
+use Rattle.vparse.proofs.HeadPhrases.{Free, free_phrase_value, setting_shape, setting_phrase, declared_shape, declared_phrase}
+use Rattle.vparse.proofs.ItemPhrases.{connection_shape, connection_phrase, instance_shape, instance_phrase}
+use Rattle.vparse.proofs.ModulePhrases.{head_shape, head_parameter_phrase, port_shape, port_phrase}
+
+positive : (n : ℕ) → 0 < suc n
+positive n = omega arith
+
+longer : (words : List Text) (word : Text) (more : List Text) → 0 < length (words ++ word ∷ more)
+longer [] word more = positive (length more)
+longer (one ∷ words) word more = positive (length (words ++ word ∷ more))
+
+no_more_words : {A : Type 0} (read : Reader A) → Eats read → (words left : List Text) (tree : A) → read words ≡ got tree left → length left ≤ length words
+no_more_words read eats words left tree e = weaker (length left) (length words) (eats words tree left e)
+  where
+    weaker : (a b : ℕ) → a < b → a ≤ b
+    weaker a b e = omega arith
+
+pub setting_eats : Eats setting
+setting_eats = sound_eats setting setting_shape setting_phrase.sound (λ tree v. positive _)
+
+pub declared_eats : Eats declared
+declared_eats = sound_eats declared declared_shape declared_phrase.sound (λ tree v. some tree.name tree.value)
+  where
+    some : (letters : Text) (value : Option ExpressionTree) → 0 < length (trees.spell_value letters value)
+    some letters None = positive _
+    some letters (Some value) = positive _
+
+pub named_eats : Eats named
+named_eats = sound_eats named (text_shape is_name) named_phrase.sound (λ tree v. positive _)
+
+pub connection_eats : Eats connection
+connection_eats = sound_eats connection connection_shape connection_phrase.sound (λ tree v. positive _)
+
+pub instance_eats : Eats instance_behind
+instance_eats = sound_eats instance_behind instance_shape instance_phrase.sound (λ tree v. positive _)
+
+pub head_eats : Eats head_parameter
+head_eats = sound_eats head_parameter head_shape head_parameter_phrase.sound (λ tree v. longer (trees.spell_kind tree.kind) tree.setting.name _)
+
+pub port_eats : Eats port
+port_eats = sound_eats port port_shape port_phrase.sound (λ tree v. longer (trees.spell_direction tree.direction) tree.name [])
+
+pub value_eats : Eats free_value
+value_eats = sound_eats free_value Free free_phrase_value.sound (λ tree v. value_worded 64 tree v)
+
+pub setting_fewer : (words left : List Text) (one : Setting) → setting words ≡ got (setting_tree one) left → length left ≤ length words
+setting_fewer words left one e = no_more_words setting setting_eats words left (setting_tree one) e
+
+pub declared_fewer : (words left : List Text) (one : Declared) → declared words ≡ got (declared_tree one) left → length left ≤ length words
+declared_fewer words left one e = no_more_words declared declared_eats words left (declared_tree one) e
+
+pub named_fewer : (words left : List Text) (one : Word) → named words ≡ got (word_text one) left → length left ≤ length words
+named_fewer words left one e = no_more_words named named_eats words left (word_text one) e
+
+pub value_fewer : (words left : List Text) (one : Expression) → free_value words ≡ got (tree_of one) left → length left ≤ length words
+value_fewer words left one e = no_more_words free_value value_eats words left (tree_of one) e
+
+pub connection_fewer : (words left : List Text) (one : Connection) → connection words ≡ got (connection_tree one) left → length left ≤ length words
+connection_fewer words left one e = no_more_words connection connection_eats words left (connection_tree one) e
+
+pub instance_fewer : (words left : List Text) (one : Instance) → instance_behind words ≡ got (instance_tree one) left → length left ≤ length words
+instance_fewer words left one e = no_more_words instance_behind instance_eats words left (instance_tree one) e
+
+pub head_fewer : (words left : List Text) (one : HeadParameter) → head_parameter words ≡ got (head_tree one) left → length left ≤ length words
+head_fewer words left one e = no_more_words head_parameter head_eats words left (head_tree one) e
+
+pub port_fewer : (words left : List Text) (one : Port) → port words ≡ got (port_tree one) left → length left ≤ length words
+port_fewer words left one e = no_more_words port port_eats words left (port_tree one) e

@@ -1,0 +1,119 @@
+-- Lists with commas: from the calls that read their members to what the definitions read.
+use Rattle.std.proofs.Common.{◌≡◌, ℕ, ◌<◌, ◌≤◌, inl, inr, Bool, true, false, List, [], ◌∷◌, ◌++◌, codes, length, drop, map, Vec, Result, Ok, Err, refl, sym, ap, ◌∙◌, arith, subst, append_assoc}
+use Rattle.std.proofs.lemmas.List.{map-append, append-nil}
+use Rattle.std.specs.Str.{bytes_eq}
+use Rattle.std.specs.Borrow.{MutBor}
+use Rattle.basis.specs.declared.memory.OrMemory.{OrMemory}
+use Rattle.basis.specs.declared.memory.OrMemory.TheVariants.{Fault, Memory}
+use Rattle.vast.specs.Syntax.{Text}
+use Rattle.vexpr_parse.specs.declared.stop.Stop.{Stop}
+use Rattle.vexpr_parse.specs.declared.stop.Stop.TheVariants.{NoTree}
+use Rattle.vexpr_parse.specs.Readers.{got, stop, Reader, front, is_front, and_then, past, follow, goes, refused}
+use Rattle.vexpr_parse.proofs.ReaderRules.{Eats, chosen, passed_over, text_same}
+use Rattle.vparse.specs.Gives.{Gives, all_until}
+use Rattle.vparse.specs.ModuleGives.{Calls, IsCall, NeverMore, ReadBehind, IsReached, IsListed, IsBroken, ListsUntil, ReadsAs, all_of, rest_until}
+use Rattle.vparse.proofs.ManyTurns.{goes_on, one_more, stopped_at, no_more, behind_word, past_eats_too}
+
+module _ {T : Type 0} (call : Calls T) where
+  behind_all : (more : List T) (words between : List Text) (one : T) (left : List Text) → ReadBehind call more words between →
+      is_front (codes ",") (front between) ≡ true → IsCall call (drop 1 between) (Ok one) left →
+      ReadBehind call (more ++ one ∷ []) words left
+  behind_all [] words between one left e comma is =
+      (left, subst (λ ws. is_front (codes ",") (front ws) ≡ true) e comma, subst (λ ws. IsCall call (drop 1 ws) (Ok one) left) e is, refl)
+  behind_all (first ∷ more) words between one left read comma is =
+      (read.0, read.1, read.2, behind_all more read.0 between one left read.3 comma is)
+
+  pub one_listed : (first : T) (words here between left : List Text) (list after : List T) (one : T) (old new : MutBor (List Text)) (seen : Bool) →
+      IsReached call first words here list → seen ≡ is_front (codes ",") (front here) → seen ≡ true → between ≡ drop 1 here →
+      after ≡ list ++ one ∷ [] → old.now ≡ between → new.now ≡ left → call old (Ok one) new → IsReached call first words left after
+  one_listed first words here between left list after one old new seen r is here_is passed whole before behind told = record {
+    more = r.more ++ one ∷ [];
+    whole = whole ∙ ap (λ ts. ts ++ one ∷ []) r.whole;
+    read = behind_all r.more words here one left r.read (sym is ∙ here_is)
+        (record { old = old; new = new; before = before ∙ passed; behind = behind; is = told });
+  }
+
+-- so of a call whatever its words are called
+call_gives : {T A : Type 0} (view : T → A) (one : Reader A) (call : Calls T) → ReadsAs view one call → (words left : List Text)
+    (result : Result T (OrMemory Stop)) → IsCall call words result left → Gives view (one words) left result
+call_gives view one call reads words left result c =
+    subst (λ ws. Gives view (one ws) left result) c.before (subst (λ ws. Gives view (one c.old.now) ws result) c.behind (reads c.old c.new result c.is))
+
+pub never_more : {T A : Type 0} (view : T → A) (one : Reader A) → Eats one → (call : Calls T) → ReadsAs view one call → NeverMore call
+never_more view one eats call reads old new tree told =
+    weaker (length new.now) (length old.now) (eats old.now (view tree) new.now (reads old new (Ok tree) told))
+  where
+    weaker : (a b : ℕ) → a < b → a ≤ b
+    weaker a b e = omega arith
+
+module _ {T A : Type 0} (view : T → A) (one : Reader A) (eats : Eats one) (call : Calls T) (reads : ReadsAs view one call) where
+  abbrev behind_comma : List A → Reader A
+  behind_comma list = past (codes ",") one
+
+  comma_eats : (list : List A) → Eats (behind_comma list)
+  comma_eats list = past_eats_too (codes ",") one eats
+
+  -- those that were read behind others
+  passed : (more list : List T) (words left : List Text) → ReadBehind call more words left →
+      goes_on (is_front (codes ",")) behind_comma (map view list) words ≡ goes_on (is_front (codes ",")) behind_comma (map view (list ++ more)) left
+  passed [] list words left e =
+      ap (λ ws. goes_on (is_front (codes ",")) behind_comma (map view list) ws) (sym e)
+      ∙ ap (λ ts. goes_on (is_front (codes ",")) behind_comma (map view ts) left) (sym (append-nil list))
+  passed (tree ∷ more) list words left r =
+      one_more (is_front (codes ",")) behind_comma comma_eats (map view list) words (view tree) r.0 r.1
+      (behind_word (codes ",") one words (got (view tree) r.0) r.1 (call_gives view one call reads (drop 1 words) r.0 (Ok tree) r.2))
+      ∙ ap (λ ts. goes_on (is_front (codes ",")) behind_comma ts r.0) (sym (map-append view list (tree ∷ [])))
+      ∙ passed more (list ++ tree ∷ []) r.0 left r.3
+      ∙ ap (λ ts. goes_on (is_front (codes ",")) behind_comma (map view ts) left) (append_assoc list (tree ∷ []) more)
+
+  reached : (first : T) (words left : List Text) (list : List T) → IsReached call first words left list →
+      goes_on (is_front (codes ",")) behind_comma (view first ∷ []) words ≡ goes_on (is_front (codes ",")) behind_comma (map view list) left
+  reached first words left list r =
+      passed r.more (first ∷ []) words left r.read
+      ∙ ap (λ ts. goes_on (is_front (codes ",")) behind_comma (map view ts) left) (sym r.whole)
+
+  listed : (first : T) (words left : List Text) (list : List T) → IsListed call first words left list →
+      goes_on (is_front (codes ",")) behind_comma (view first ∷ []) words ≡ got (map view list) left
+  listed first words left list l =
+      reached first words left list l.reached ∙ no_more (is_front (codes ",")) behind_comma comma_eats (map view list) left l.ended
+
+  broken : (first : T) (words left : List Text) (why : Stop) → IsBroken call first words left why →
+      goes_on (is_front (codes ",")) behind_comma (view first ∷ []) words ≡ stop why left
+  broken first words left why b =
+      reached first words b.between b.list b.reached
+      ∙ stopped_at (is_front (codes ",")) behind_comma comma_eats (map view b.list) b.between left why b.comma
+      (behind_word (codes ",") one b.between (stop why left) b.comma
+      (call_gives view one call reads (drop 1 b.between) left (Err (Fault why)) b.stopped))
+
+  past_it : (text : Text) (all : List A) (left : List Text) → past text (got all) (text ∷ left) ≡ got all left
+  past_it text all left = ap (λ l. follow l text left) (chosen (bytes_eq text text) (goes (got all)) refused (text_same text))
+
+  past_not : (text : Text) (all : List A) (left : List Text) → is_front text (front left) ≡ false → past text (got all) left ≡ stop NoTree left
+  past_not text all [] e = refl
+  past_not text all (word ∷ left) e = ap (λ l. follow l word left) (passed_over (bytes_eq text word) (goes (got all)) refused e)
+
+  pub until_given : {R : Type 0} (text : Text) (first : T) (words left : List Text) (result : Result (Vec T R) (OrMemory Stop)) →
+      ListsUntil call first text words left result → Gives (all_of view) (rest_until text one (view first) words) left result
+  until_given text first words left (Ok all) l =
+      ap (λ a. and_then a (λ all. past text (got all))) (listed first words (text ∷ left) all.items l) ∙ past_it text (map view all.items) left
+  until_given text first words left (Err (Memory m)) l = tt
+  until_given text first words left (Err (Fault why)) (inl b) =
+      ap (λ a. and_then a (λ all. past text (got all))) (broken first words left why b)
+  until_given text first words left (Err (Fault why)) (inr u) =
+      ap (λ a. and_then a (λ all. past text (got all))) (listed first words left u.list u.listed)
+      ∙ past_not text (map view u.list) left u.other
+      ∙ ap (λ w. stop w left) (sym u.none)
+
+  -- with the first one, which another reader read before them
+  pub behind_given : {R : Type 0} (head : Reader A) (text : Text) (first : T) (words between left : List Text)
+      (result : Result (Vec T R) (OrMemory Stop)) →
+      head words ≡ got (view first) between → ListsUntil call first text between left result →
+      Gives (all_of view) (and_then (head words) (rest_until text one)) left result
+  behind_given head text first words between left result e l =
+      subst (λ a. Gives (all_of view) (and_then a (rest_until text one)) left result) (sym e)
+      (until_given text first between left result l)
+
+  pub list_given : {R : Type 0} (text : Text) (first : T) (words between left : List Text) (result : Result (Vec T R) (OrMemory Stop)) →
+      one words ≡ got (view first) between → ListsUntil call first text between left result →
+      Gives (all_of view) (all_until text one words) left result
+  list_given = behind_given one

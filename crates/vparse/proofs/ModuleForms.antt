@@ -1,0 +1,312 @@
+-- Each definition of a part of modules, in the order in which its parts are read.
+use Rattle.std.proofs.Common.{◌≡◌, Bool, true, false, if◌then◌else◌, List, [], ◌∷◌, Result, Vec, Option, None, Some, codes, refl, sym, ap, ◌∙◌, subst}
+use Rattle.std.specs.Str.{bytes_eq}
+use Rattle.basis.specs.declared.memory.OrMemory.{OrMemory}
+use Rattle.vast.specs.Syntax.{Text}
+use Rattle.vast.specs.ExpressionTrees.{tree_of}
+use Rattle.vast.specs.Statements.{StatementTree}
+use Rattle.vast.specs.Expressions.{ExpressionTree}
+use Rattle.vast.specs.Modules.{HeadParameter, SettingTree, DeclaredTree, ConnectionTree, ConnectionsTree, initial, always, PortTree, by_order, by_name, ItemTree, parameters, declaration, variables, integers, events, assignments, instances}
+use Rattle.vast.specs.ModuleTrees.{connections_tree, head_parameter as head_tree, port_tree, item_tree}
+use Rattle.vast.specs.declared.module.Connections.{Connections}
+use Rattle.vast.specs.declared.module.HeadParameter.{HeadParameter as HeadWords}
+use Rattle.vast.specs.declared.module.Port.{Port}
+use Rattle.vast.specs.declared.module.ModuleItem.{ModuleItem}
+use Rattle.vexpr_parse.specs.declared.stop.Stop.{Stop}
+use Rattle.vexpr_parse.specs.Readers.{Answer, got, stop, Reader, front, is_front, and_then, past, follow, goes, refused, choose}
+use Rattle.vparse.specs.Gives.{Gives, all_until}
+use Rattle.vparse.specs.Parts.{Both, both, Either, one_way, other_way, made, paired, worded, many, maybe, either}
+use Rattle.vparse.specs.Starts.{is_meant}
+use Rattle.vparse.specs.Statements.{named, word_only, List_of, comma_list, statement}
+use Rattle.vparse.specs.Modules.{Parameters, Variables, Instances, free_value, type, parameter_type, setting, declared, connection, connections_of, connections, instance_behind, overrides, ended, net_of, local_of, parameters_of, variables_of, integers_of, events_of, assignments_of, instances_of, item_of, item, head_list_of, first_parameter, head_parameter, head_parameters, ports_of, first_port, port, ports}
+use Rattle.vparse.specs.ModuleGives.{all_of, connections_in, heads_in, some_ports, ports_in, found_or, parameters_at, variables_at, integers_at, events_at, assignments_at, instances_at, instances_item, process_item, listed_item, variables_item, any_item, rest_until}
+use Rattle.vparse.proofs.ManyTurns.{until_is, first_until_is}
+
+-- what is made is made of each part
+
+then_same : {A B : Type 0} (a : Answer A) (f g : A → Reader B) → ((tree : A) (left : List Text) → f tree left ≡ g tree left) → and_then a f ≡ and_then a g
+then_same (got tree left) f g same = same tree left
+then_same (stop why left) f g same = refl
+
+then_got : {A : Type 0} (a : Answer A) → and_then a (λ tree. got tree) ≡ a
+then_got (got tree left) = refl
+then_got (stop why left) = refl
+
+past_same : {A : Type 0} (text : Text) (one other : Reader A) → ((words : List Text) → one words ≡ other words) → (words : List Text) → past text one words ≡ past text other words
+past_same text one other same [] = refl
+past_same text one other same (word ∷ words) = by_test (bytes_eq text word)
+  where
+    by_test : (b : Bool) → follow (if b then goes one else refused) word words ≡ follow (if b then goes other else refused) word words
+    by_test true = same words
+    by_test false = refl
+
+choose_same : {A : Type 0} (test : Option Text → Bool) (one one' other other' : Reader A) (words : List Text) → one words ≡ one' words → other words ≡ other' words →
+    choose test one other words ≡ choose test one' other' words
+choose_same test one one' other other' words p q =
+    ap (λ a. if test (front words) then a else other words) p ∙ ap (λ a. if test (front words) then one' words else a) q
+
+made_past : {A B : Type 0} (make : A → B) (text : Text) (read : Reader A) (words : List Text) → made make (past text read) words ≡ past text (made make read) words
+made_past make text read [] = refl
+made_past make text read (word ∷ words) = by_test (bytes_eq text word)
+  where
+    by_test : (b : Bool) → and_then (follow (if b then goes read else refused) word words) (λ tree. got (make tree))
+        ≡ follow (if b then goes (made make read) else refused) word words
+    by_test true = refl
+    by_test false = refl
+
+made_twice : {A B C : Type 0} (make : A → B) (more : B → C) (a : Answer A) →
+    and_then (and_then a (λ tree. got (make tree))) (λ tree. got (more tree)) ≡ and_then a (λ tree. got (more (make tree)))
+made_twice make more (got tree left) = refl
+made_twice make more (stop why left) = refl
+
+made_either : {A B C : Type 0} (make : Either A B → C) (test : Option Text → Bool) (read : Reader A) (other : Reader B) (words : List Text) →
+    made make (either test read other) words ≡ choose test (made (λ tree. make (one_way tree)) read) (made (λ tree. make (other_way tree)) other) words
+made_either make test read other words = by_test (test (front words))
+  where
+    by_test : (b : Bool) →
+        and_then (if b then made one_way read words else made other_way other words) (λ tree. got (make tree))
+        ≡ (if b then made (λ tree. make (one_way tree)) read words else made (λ tree. make (other_way tree)) other words)
+    by_test true = made_twice one_way make (read words)
+    by_test false = made_twice other_way make (other words)
+
+made_paired : {A B C : Type 0} (make : _ → C) (read : Reader A) (next : Reader B) (words : List Text) →
+    made make (paired read next) words ≡ and_then (read words) (λ one. made (λ other. make (both one other)) next)
+made_paired make read next words = by_answer (read words)
+  where
+    by_answer : (a : Answer _) → and_then (and_then a (λ one. made (both one) next)) (λ tree. got (make tree))
+        ≡ and_then a (λ one. made (λ other. make (both one other)) next)
+    by_answer (got one left) = made_twice (both one) make (next left)
+    by_answer (stop why left) = refl
+
+either_rule : {A B C : Type 0} (make : Either A B → C) (test : Option Text → Bool) (read : Reader A) (other : Reader B) (one two : Reader C) (words : List Text) →
+    made (λ tree. make (one_way tree)) read words ≡ one words → made (λ tree. make (other_way tree)) other words ≡ two words →
+    made make (either test read other) words ≡ choose test one two words
+either_rule make test read other one two words p q =
+    made_either make test read other words
+    ∙ choose_same test (made (λ tree. make (one_way tree)) read) one (made (λ tree. make (other_way tree)) other) two words p q
+
+past_rule : {A B : Type 0} (make : A → B) (text : Text) (read : Reader A) (one : Reader B) → ((words : List Text) → made make read words ≡ one words) →
+    (words : List Text) → made make (past text read) words ≡ past text one words
+past_rule make text read one same words = made_past make text read words ∙ past_same text (made make read) one same words
+
+-- connections
+
+abbrev close : Reader (Unit {0})
+close = word_only (codes ")")
+
+abbrev ByName : Type 0
+ByName = Both (List_of ConnectionTree) (Unit {0})
+
+abbrev ByOrder : Type 0
+ByOrder = Both (List_of ExpressionTree) (Unit {0})
+
+abbrev all_by_name : Reader ByName
+all_by_name = paired (comma_list connection) close
+
+abbrev all_by_order : Reader ByOrder
+all_by_order = paired (comma_list free_value) close
+
+abbrev order_parts : Reader (Either (Unit {0}) ByOrder)
+order_parts = either (is_front (codes ")")) close all_by_order
+
+abbrev order_in : Reader ConnectionsTree
+order_in = choose (is_front (codes ")")) (made (λ end. by_order []) close) (made by_order (all_until (codes ")") free_value))
+
+pub connections_is : (words : List Text) → connections words ≡ past (codes "(") connections_in words
+connections_is = past_rule connections_of (codes "(") (either (is_front (codes ".")) all_by_name order_parts) connections_in inside
+  where
+    inside : (words : List Text) → made connections_of (either (is_front (codes ".")) all_by_name order_parts) words ≡ connections_in words
+    inside words =
+        either_rule connections_of (is_front (codes ".")) all_by_name order_parts (made by_name (all_until (codes ")") connection)) order_in words
+        (until_is (codes ")") connection (λ tree. connections_of (one_way tree)) by_name (λ one list. refl) words)
+        (either_rule (λ tree. connections_of (other_way tree)) (is_front (codes ")")) close all_by_order (made (λ end. by_order []) close)
+        (made by_order (all_until (codes ")") free_value)) words refl
+        (until_is (codes ")") free_value (λ tree. connections_of (other_way (other_way tree))) by_order (λ one list. refl) words))
+
+-- heads
+
+abbrev head_parts : Reader (Both (List_of HeadParameter) (Unit {0}))
+head_parts = paired (paired first_parameter (many (is_front (codes ",")) (λ list. past (codes ",") head_parameter))) close
+
+pub heads_is : (words : List Text) → made head_list_of head_parameters words ≡ past (codes "(") heads_in words
+heads_is = past_rule head_list_of (codes "(") head_parts heads_in inside
+  where
+    inside : (words : List Text) → made head_list_of head_parts words ≡ heads_in words
+    inside words = first_until_is (codes ")") head_parameter head_list_of (λ list. list) (λ one list. refl) first_parameter words ∙ then_got (heads_in words)
+
+abbrev port_parts : Reader (Both (List_of PortTree) (Unit {0}))
+port_parts = paired (paired first_port (many (is_front (codes ",")) (λ list. past (codes ",") port))) close
+
+pub ports_is : (words : List Text) → ports words ≡ past (codes "(") ports_in words
+ports_is = past_rule ports_of (codes "(") (either (is_front (codes ")")) close port_parts) ports_in inside
+  where
+    inside : (words : List Text) → made ports_of (either (is_front (codes ")")) close port_parts) words ≡ ports_in words
+    inside words =
+        either_rule ports_of (is_front (codes ")")) close port_parts (made (λ end. []) close) some_ports words refl
+        (first_until_is (codes ")") port (λ tree. ports_of (other_way tree)) (λ list. list) (λ one list. refl) first_port words ∙ then_got (some_ports words))
+
+-- items
+
+found_choice : {A B : Type 0} (test : Option Text → Bool) (read : Reader A) (next : A → Reader B) (other : Reader B) (words : List Text) →
+    choose test (λ ws. and_then (read ws) next) other words ≡ and_then (maybe test read words) (found_or next other)
+found_choice test read next other words = by_test (test (front words))
+  where
+    by_answer : (a : Answer _) → and_then a next ≡ and_then (and_then a (λ tree. got (Some tree))) (found_or next other)
+    by_answer (got tree left) = refl
+    by_answer (stop why left) = refl
+
+    by_test : (b : Bool) → (if b then and_then (read words) next else other words)
+        ≡ and_then (if b then made Some read words else got None words) (found_or next other)
+    by_test true = by_answer (read words)
+    by_test false = refl
+
+parameters_is : (words : List Text) → made parameters_of (paired (worded local_of) (paired parameter_type (ended setting))) words ≡ and_then (worded local_of words) parameters_at
+parameters_is words =
+    made_paired parameters_of (worded local_of) (paired parameter_type (ended setting)) words
+    ∙ then_same (worded local_of words) (λ local. made (λ tree. parameters_of (both local tree)) (paired parameter_type (ended setting))) parameters_at
+    (λ local left. made_paired (λ tree. parameters_of (both local tree)) parameter_type (ended setting) left
+    ∙ then_same (parameter_type left) (λ kind. made (λ tree. parameters_of (both local (both kind tree))) (ended setting))
+    (λ kind. made (parameters local kind) (all_until (codes ";") setting))
+    (λ kind left. until_is (codes ";") setting (λ tree. parameters_of (both local (both kind tree))) (parameters local kind) (λ one list. refl) left))
+
+variables_is : (words : List Text) → made variables_of (paired (worded net_of) (paired type (ended declared))) words ≡ and_then (worded net_of words) variables_at
+variables_is words =
+    made_paired variables_of (worded net_of) (paired type (ended declared)) words
+    ∙ then_same (worded net_of words) (λ net. made (λ tree. variables_of (both net tree)) (paired type (ended declared))) variables_at
+    (λ net left. made_paired (λ tree. variables_of (both net tree)) type (ended declared) left
+    ∙ then_same (type left) (λ kind. made (λ tree. variables_of (both net (both kind tree))) (ended declared))
+    (λ kind. made (declaration (variables net kind)) (all_until (codes ";") declared))
+    (λ kind left. until_is (codes ";") declared (λ tree. variables_of (both net (both kind tree))) (declaration (variables net kind)) (λ one list. refl) left))
+
+instances_is : (words : List Text) → made instances_of (paired named (paired overrides (ended instance_behind))) words ≡ instances_item words
+instances_is words =
+    made_paired instances_of named (paired overrides (ended instance_behind)) words
+    ∙ then_same (named words) (λ letters. made (λ tree. instances_of (both letters tree)) (paired overrides (ended instance_behind))) instances_at
+    (λ letters left. made_paired (λ tree. instances_of (both letters tree)) overrides (ended instance_behind) left
+    ∙ then_same (overrides left) (λ tree. made (λ p. instances_of (both letters (both tree p))) (ended instance_behind))
+    (λ tree. made (instances letters tree) (all_until (codes ";") instance_behind))
+    (λ tree left. until_is (codes ";") instance_behind (λ p. instances_of (both letters (both tree p))) (instances letters tree) (λ one list. refl) left))
+
+abbrev read_parameters : Reader Parameters
+read_parameters = paired (worded local_of) (paired parameter_type (ended setting))
+
+abbrev read_variables : Reader Variables
+read_variables = paired (worded net_of) (paired type (ended declared))
+
+abbrev Alone : Type 0
+Alone = Either StatementTree Instances
+
+abbrev alone_parts : Reader Alone
+alone_parts = either (is_front (codes "always")) (past (codes "always") (statement 64)) (paired named (paired overrides (ended instance_behind)))
+
+abbrev Process : Type 0
+Process = Either StatementTree Alone
+
+abbrev process_parts : Reader Process
+process_parts = either (is_front (codes "initial")) (past (codes "initial") (statement 64)) alone_parts
+
+abbrev Assigned : Type 0
+Assigned = Either (Both (List_of SettingTree) (Unit {0})) Process
+
+abbrev assigned_parts : Reader Assigned
+assigned_parts = either (is_front (codes "assign")) (past (codes "assign") (ended setting)) process_parts
+
+abbrev Named : Type 0
+Named = Either (Both (List_of Text) (Unit {0})) Assigned
+
+abbrev named_parts : Reader Named
+named_parts = either (is_front (codes "event")) (past (codes "event") (ended named)) assigned_parts
+
+abbrev Listed : Type 0
+Listed = Either (Both (List_of DeclaredTree) (Unit {0})) Named
+
+abbrev listed_parts : Reader Listed
+listed_parts = either (is_front (codes "integer")) (past (codes "integer") (ended declared)) named_parts
+
+abbrev variable_parts : Reader (Either Variables Listed)
+variable_parts = either (is_meant net_of) read_variables listed_parts
+
+abbrev of_variables : Either Variables Listed → ItemTree
+of_variables tree = item_of (other_way tree)
+
+abbrev of_listed : Listed → ItemTree
+of_listed tree = of_variables (other_way tree)
+
+abbrev of_named : Named → ItemTree
+of_named tree = of_listed (other_way tree)
+
+abbrev of_assigned : Assigned → ItemTree
+of_assigned tree = of_named (other_way tree)
+
+abbrev of_process : Process → ItemTree
+of_process tree = of_assigned (other_way tree)
+
+abbrev of_alone : Alone → ItemTree
+of_alone tree = of_process (other_way tree)
+
+abbrev alone_item : Reader ItemTree
+alone_item = choose (is_front (codes "always")) (past (codes "always") (made always (statement 64))) instances_item
+
+abbrev assigned_item : Reader ItemTree
+assigned_item = choose (is_front (codes "assign")) (past (codes "assign") assignments_at) process_item
+
+abbrev named_item : Reader ItemTree
+named_item = choose (is_front (codes "event")) (past (codes "event") events_at) assigned_item
+
+process_is : (words : List Text) → made of_process process_parts words ≡ process_item words
+process_is words =
+    either_rule of_process (is_front (codes "initial")) (past (codes "initial") (statement 64)) alone_parts
+    (past (codes "initial") (made initial (statement 64))) alone_item words
+    (made_past initial (codes "initial") (statement 64) words)
+    (either_rule of_alone (is_front (codes "always")) (past (codes "always") (statement 64)) (paired named (paired overrides (ended instance_behind)))
+    (past (codes "always") (made always (statement 64))) instances_item words
+    (made_past always (codes "always") (statement 64) words) (instances_is words))
+
+listed_is : (words : List Text) → made of_listed listed_parts words ≡ listed_item words
+listed_is words =
+    either_rule of_listed (is_front (codes "integer")) (past (codes "integer") (ended declared)) named_parts
+    (past (codes "integer") integers_at) named_item words
+    (past_rule integers_of (codes "integer") (ended declared) integers_at
+    (until_is (codes ";") declared integers_of (declaration integers) (λ one list. refl)) words)
+    (either_rule of_named (is_front (codes "event")) (past (codes "event") (ended named)) assigned_parts
+    (past (codes "event") events_at) assigned_item words
+    (past_rule events_of (codes "event") (ended named) events_at (until_is (codes ";") named events_of events (λ one list. refl)) words)
+    (either_rule of_assigned (is_front (codes "assign")) (past (codes "assign") (ended setting)) process_parts
+    (past (codes "assign") assignments_at) process_item words
+    (past_rule assignments_of (codes "assign") (ended setting) assignments_at
+    (until_is (codes ";") setting assignments_of assignments (λ one list. refl)) words)
+    (process_is words)))
+
+variables_item_is : (words : List Text) → made of_variables variable_parts words ≡ variables_item words
+variables_item_is words =
+    either_rule of_variables (is_meant net_of) read_variables listed_parts (λ ws. and_then (worded net_of ws) variables_at) listed_item words
+    (variables_is words) (listed_is words)
+    ∙ found_choice (is_meant net_of) (worded net_of) variables_at listed_item words
+
+pub item_is : (words : List Text) → item words ≡ any_item words
+item_is words =
+    either_rule item_of (is_meant local_of) read_parameters variable_parts (λ ws. and_then (worded local_of ws) parameters_at) variables_item words
+    (parameters_is words) (variables_item_is words)
+    ∙ found_choice (is_meant local_of) (worded local_of) parameters_at variables_item words
+
+-- so what the program gives
+
+same_gives : {A T : Type 0} (view : T → A) (one other : Answer A) → one ≡ other → (left : List Text) (result : Result T (OrMemory Stop)) →
+    Gives view other left result → Gives view one left result
+same_gives view one other e left result given = subst (λ a. Gives view a left result) (sym e) given
+
+pub gives_connections : (words left : List Text) (result : Result Connections (OrMemory Stop)) →
+    Gives connections_tree (past (codes "(") connections_in words) left result → Gives connections_tree (connections words) left result
+gives_connections words left result given = same_gives connections_tree (connections words) _ (connections_is words) left result given
+
+pub gives_heads : {R : Type 0} (words left : List Text) (result : Result (Vec HeadWords R) (OrMemory Stop)) →
+    Gives (all_of head_tree) (past (codes "(") heads_in words) left result → Gives (all_of head_tree) (made head_list_of head_parameters words) left result
+gives_heads words left result given = same_gives (all_of head_tree) (made head_list_of head_parameters words) _ (heads_is words) left result given
+
+pub gives_ports : {R : Type 0} (words left : List Text) (result : Result (Vec Port R) (OrMemory Stop)) →
+    Gives (all_of port_tree) (past (codes "(") ports_in words) left result → Gives (all_of port_tree) (ports words) left result
+gives_ports words left result given = same_gives (all_of port_tree) (ports words) _ (ports_is words) left result given
+
+pub gives_item : (words left : List Text) (result : Result ModuleItem (OrMemory Stop)) →
+    Gives item_tree (any_item words) left result → Gives item_tree (item words) left result
+gives_item words left result given = same_gives item_tree (item words) _ (item_is words) left result given

@@ -1,0 +1,46 @@
+// Lists with commas.
+
+ghost use Rattle.std.specs.Prelude.{◌≡◌, length};
+ghost use Rattle.vparse.specs.ModuleGives.{Lists, ListsUntil, NeverMore};
+
+use basis::OrMemory;
+use std::alloc::Global;
+use vexpr_parse::{Cursor, Stop};
+
+/// What stands behind the first one, a comma before each, with the first one.
+pub fn list_behind<'a, T: Drop, F: Fn(&mut Cursor<'_, 'a>) -> Result<T, OrMemory<Stop>>>(
+    alloc: Global,
+    read: &F,
+    cursor: &mut Cursor<'_, 'a>,
+    first: T,
+) -> Result<Vec<T>, OrMemory<Stop>>
+    requires callable { F.IsAlwaysCallable read.now }
+    requires fewer { NeverMore (F.post read.now) }
+    ensures { Lists (F.post read.now) first cursor.old cursor.new result }
+{
+    let mut list: Vec<T> = Vec::new(alloc);
+    list.push(first)?;
+    'list: while cursor.begins(b",") {
+        cursor.pass();
+        let one = read(cursor)?;
+        list.push(one)?;
+    }
+    Ok(list)
+}
+
+/// What stands behind the first one, with the first one, up to this very word, which is passed.
+pub fn list_until<'a, T: Drop, F: Fn(&mut Cursor<'_, 'a>) -> Result<T, OrMemory<Stop>>>(
+    alloc: Global,
+    read: &F,
+    cursor: &mut Cursor<'_, 'a>,
+    first: T,
+    text: &[u8],
+) -> Result<Vec<T>, OrMemory<Stop>>
+    requires callable { F.IsAlwaysCallable read.now }
+    requires fewer { NeverMore (F.post read.now) }
+    ensures { ListsUntil (F.post read.now) first text.now cursor.old cursor.new result }
+{
+    let list = list_behind(alloc, read, cursor, first)?;
+    cursor.symbol(text)?;
+    Ok(list)
+}

@@ -1,0 +1,29 @@
+// Tokens to trees. In: the words of a text, as its tokens stand. Out: the tree that derives them, or why
+// there is none. The law: reading by descent gives a tree exactly where one derives the words, and there
+// is no other.
+#![tactic(auto)]
+
+pub mod amounts;
+pub mod assignments;
+pub mod beginning;
+mod cursor;
+mod fault;
+pub mod guarded;
+mod items;
+pub mod law;
+mod modules;
+mod parser;
+pub mod parts;
+pub mod profile;
+pub mod settings;
+pub mod start;
+mod statements;
+mod stop;
+pub mod targets;
+pub mod tasks;
+pub mod terms;
+pub mod values;
+pub mod words;
+
+pub use fault::SyntaxFault;
+pub use parser::parse;
