@@ -6,10 +6,10 @@ use Rattle.vast.specs.Modules.{ConnectionTree}
 use Rattle.vast.specs.declared.expression.Expression.{Expression}
 use Rattle.vexpr_parse.specs.Readers.{Reader, got, and_then, front, is_front, past}
 use Rattle.vexpr_parse.proofs.ReaderRules.{chosen}
-use Rattle.vparse.specs.Parts.{both, made, maybe}
-use Rattle.vparse.specs.Modules.{connection_of}
+use Rattle.vgrammar.specs.Parts.{both, made, maybe}
+use Rattle.vgrammar.specs.Modules.{connection_of}
 use Rattle.vparse.specs.ModuleGives.{value_part}
-use Rattle.vparse.proofs.ManyTurns.{behind_word}
+use Rattle.vgrammar.proofs.ManyTurns.{behind_word}
 
 abbrev connected : Text → Option Expression → ConnectionTree
 connected letters value = record { name = letters; value = option_map tree_of value }

@@ -18,14 +18,14 @@ use Rattle.vast.specs.declared.module.HeadParameter.{HeadParameter}
 use Rattle.vast.specs.declared.module.Port.{Port}
 use Rattle.vexpr_parse.specs.Readers.{Reader, got}
 use Rattle.vexpr_parse.proofs.ReaderRules.{Eats}
-use Rattle.vparse.specs.Statements.{named}
-use Rattle.vparse.specs.Modules.{free_value, setting, declared, connection, instance_behind, head_parameter, port}
-use Rattle.vparse.proofs.Phrases.{sound_eats}
-use Rattle.vparse.proofs.ValuePhrases.{value_worded}
-use Rattle.vparse.proofs.PartPhrases.{text_shape, named_phrase}
-use Rattle.vparse.proofs.HeadPhrases.{Free, free_phrase_value, setting_shape, setting_phrase, declared_shape, declared_phrase}
-use Rattle.vparse.proofs.ItemPhrases.{connection_shape, connection_phrase, instance_shape, instance_phrase}
-use Rattle.vparse.proofs.ModulePhrases.{head_shape, head_parameter_phrase, port_shape, port_phrase}
+use Rattle.vgrammar.specs.Statements.{named}
+use Rattle.vgrammar.specs.Modules.{free_value, setting, declared, connection, instance_behind, head_parameter, port}
+use Rattle.vgrammar.proofs.Phrases.{sound_eats}
+use Rattle.vgrammar.proofs.ValuePhrases.{value_worded}
+use Rattle.vgrammar.proofs.PartPhrases.{text_shape, named_phrase}
+use Rattle.vgrammar.proofs.HeadPhrases.{Free, free_phrase_value, setting_shape, setting_phrase, declared_shape, declared_phrase}
+use Rattle.vgrammar.proofs.ItemPhrases.{connection_shape, connection_phrase, instance_shape, instance_phrase}
+use Rattle.vgrammar.proofs.ModulePhrases.{head_shape, head_parameter_phrase, port_shape, port_phrase}
 
 positive : (n : ℕ) → 0 < suc n
 positive n = omega arith

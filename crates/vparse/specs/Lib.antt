@@ -4,11 +4,4 @@ pub mod Profile
 pub mod Words
 pub mod Laws
 pub mod Inner
-pub mod Parts
-pub mod Starts
-pub mod Statements
-pub mod StatementPlaces
-pub mod Modules
-pub mod Gives
 pub mod ModuleGives
-pub mod SourcePlaces

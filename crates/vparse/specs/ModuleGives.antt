@@ -13,11 +13,11 @@ use Rattle.vast.specs.declared.module.NetKind.{NetKind}
 use Rattle.vexpr_parse.specs.declared.stop.Stop.{Stop}
 use Rattle.vexpr_parse.specs.declared.stop.Stop.TheVariants.{NoTree}
 use Rattle.vexpr_parse.specs.Readers.{Reader, got, and_then, front, is_front, past, choose, turns}
-use Rattle.vparse.specs.Gives.{Gives, all_until}
-use Rattle.vparse.specs.Parts.{both, one_way, other_way, made, paired, maybe, many, worded, one_behind}
-use Rattle.vparse.specs.Starts.{is_meant}
-use Rattle.vparse.specs.Statements.{named, word_only, statement}
-use Rattle.vparse.specs.Modules.{range, type, parameter_type, setting, declared, free_value, Value, connection, instance_behind, overrides, net_of, local_of, item, first_parameter, head_parameter, head_parameters, head_list_of, Direction, direction, is_direction, first_port, port, ports}
+use Rattle.vstatement_parse.specs.Gives.{Gives, all_until}
+use Rattle.vgrammar.specs.Parts.{both, one_way, other_way, made, paired, maybe, many, worded, one_behind}
+use Rattle.vgrammar.specs.Starts.{is_meant}
+use Rattle.vgrammar.specs.Statements.{named, word_only, statement}
+use Rattle.vgrammar.specs.Modules.{range, type, parameter_type, setting, declared, free_value, Value, connection, instance_behind, overrides, net_of, local_of, item, first_parameter, head_parameter, head_parameters, head_list_of, Direction, direction, is_direction, first_port, port, ports}
 
 -- this very word stands first and is passed, or another stands there
 abbrev pub Tells : Text → List Text → List Text → Bool → Type 0

@@ -2,20 +2,20 @@
 
 ghost use Rattle.std.specs.Prelude.{◌≡◌, ◌<◌, codes, option_map};
 ghost use Rattle.vast.specs.ModuleTrees.{connection_tree, connections_tree, instance_tree};
-ghost use Rattle.vparse.specs.Gives.{Gives, all_until};
+ghost use Rattle.vstatement_parse.specs.Gives.{Gives, all_until};
 ghost use Rattle.vparse.specs.ModuleGives.{all_of, connections_in, value_part};
-ghost use Rattle.vparse.specs.Modules as reading;
+ghost use Rattle.vgrammar.specs.Modules as reading;
 
 use crate::lists::list_until;
 use crate::module_lists::values;
 use crate::types::LEVELS;
-use crate::values::ended;
-use crate::words::named;
 use basis::OrMemory;
 use std::alloc::Global;
 use vast::expression::Expression;
 use vast::module::{Connection, Connections, Instance};
 use vexpr_parse::{Cursor, Stop};
+use vstatement_parse::values::ended;
+use vstatement_parse::words::named;
 
 // What stands behind `(`: a value, or none, and `)`.
 fn value_in<'a>(

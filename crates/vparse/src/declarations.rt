@@ -3,17 +3,17 @@
 ghost use Rattle.std.specs.Prelude.{◌≡◌, ◌<◌, option_map};
 ghost use Rattle.vast.specs.ModuleTrees.{setting_tree, declared_tree};
 ghost use Rattle.vast.specs.ExpressionTrees.{tree_of};
-ghost use Rattle.vparse.specs.Gives.{Gives};
+ghost use Rattle.vstatement_parse.specs.Gives.{Gives};
 ghost use Rattle.vparse.specs.ModuleGives.{optional_value};
-ghost use Rattle.vparse.specs.Modules as reading;
+ghost use Rattle.vgrammar.specs.Modules as reading;
 
 use crate::types::LEVELS;
-use crate::words::named;
 use basis::OrMemory;
 use std::alloc::Global;
 use vast::expression::Expression;
 use vast::module::{Declared, Setting};
 use vexpr_parse::{Cursor, Stop, expression};
+use vstatement_parse::words::named;
 
 /// `name = value`
 pub fn setting<'a>(

@@ -2,10 +2,10 @@
 
 ghost use Rattle.std.specs.Prelude.{◌≡◌, codes, option_map};
 ghost use Rattle.vast.specs.ModuleTrees.{head_parameter as head_tree, parameter_type as type_tree};
-ghost use Rattle.vparse.specs.Gives.{Gives};
+ghost use Rattle.vstatement_parse.specs.Gives.{Gives};
 ghost use Rattle.vparse.specs.ModuleGives.{all_of, heads_in, optional_heads, optional_type};
-ghost use Rattle.vparse.specs.Modules as reading;
-ghost use Rattle.vparse.specs.Parts.{made};
+ghost use Rattle.vgrammar.specs.Modules as reading;
+ghost use Rattle.vgrammar.specs.Parts.{made};
 
 use crate::declarations::setting;
 use crate::lists::list_until;

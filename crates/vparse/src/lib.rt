@@ -3,17 +3,11 @@
 // is no other.
 #![tactic(auto)]
 
-pub mod amounts;
-pub mod arguments;
-pub mod assignments;
 pub mod beginning;
-pub mod blocks;
 pub mod connections;
 mod cursor;
 pub mod declarations;
-pub mod events;
 mod fault;
-pub mod guarded;
 pub mod heads;
 mod items;
 pub mod law;
@@ -22,21 +16,11 @@ pub mod module_items;
 pub mod module_lists;
 mod modules;
 mod parser;
-pub mod paths;
 pub mod ports;
 pub mod profile;
-pub mod settings;
-pub mod source_law;
-pub mod start;
-pub mod statement_law;
 mod statements;
 mod stop;
-pub mod targets;
-pub mod tasks;
-pub mod terms;
 pub mod types;
-pub mod values;
-pub mod words;
 
 pub use fault::SyntaxFault;
 pub use parser::parse;

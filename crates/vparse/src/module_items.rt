@@ -4,21 +4,21 @@ ghost use Rattle.std.specs.Prelude.{◌≡◌, codes};
 ghost use Rattle.vast.specs.ModuleTrees.{item_tree};
 ghost use Rattle.vast.specs.Trees.{word_text};
 ghost use Rattle.vexpr_parse.specs.Readers.{got};
-ghost use Rattle.vparse.specs.Gives.{Gives, ReadsStatements};
+ghost use Rattle.vstatement_parse.specs.Gives.{Gives, ReadsStatements};
 ghost use Rattle.vparse.specs.ModuleGives.{any_item, assignments_at, events_at, instances_at, instances_item, integers_at, listed_item, optional_local as local_reader, parameters_at, process_item, variables_at, variables_item};
-ghost use Rattle.vparse.specs.Modules as reading;
+ghost use Rattle.vgrammar.specs.Modules as reading;
 
 use crate::connections::{instances, overrides};
 use crate::module_lists::{all_declared, names, settings};
 use crate::ports::optional_net;
 use crate::types::{parameter_type, sign_and_range};
-use crate::words::named;
 use basis::OrMemory;
 use std::alloc::Global;
 use vast::module::{DeclarationKind, ModuleItem, NetKind};
 use vast::statement::Statement;
 use vast::syntax::Word;
 use vexpr_parse::{Cursor, Stop};
+use vstatement_parse::words::named;
 
 // Behind `parameter` or `localparam`.
 fn parameters<'a>(

@@ -4,21 +4,21 @@ ghost use Rattle.std.specs.Prelude.{◌≡◌, codes};
 ghost use Rattle.vast.specs.ExpressionTrees.{tree_of};
 ghost use Rattle.vast.specs.ModuleTrees.{declared_tree, setting_tree};
 ghost use Rattle.vast.specs.Trees.{word_text};
-ghost use Rattle.vparse.specs.Gives.{Gives, all_until};
+ghost use Rattle.vstatement_parse.specs.Gives.{Gives, all_until};
 ghost use Rattle.vparse.specs.ModuleGives.{all_of};
-ghost use Rattle.vparse.specs.Modules as reading;
-ghost use Rattle.vparse.specs.Statements as reading_words;
+ghost use Rattle.vgrammar.specs.Modules as reading;
+ghost use Rattle.vgrammar.specs.Statements as reading_words;
 
 use crate::declarations::{declared, setting};
 use crate::lists::list_until;
 use crate::types::LEVELS;
-use crate::words::named;
 use basis::OrMemory;
 use std::alloc::Global;
 use vast::expression::Expression;
 use vast::module::{Declared, Setting};
 use vast::syntax::Word;
 use vexpr_parse::{Cursor, Stop, expression};
+use vstatement_parse::words::named;
 
 // An expression that stands in no statement.
 fn value<'a>(alloc: Global, cursor: &mut Cursor<'_, 'a>) -> Result<Expression<'a>, OrMemory<Stop>>

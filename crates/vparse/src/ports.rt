@@ -3,18 +3,18 @@
 ghost use Rattle.std.specs.Prelude.{◌≡◌, codes, option_map};
 ghost use Rattle.vast.specs.ModuleTrees.{direction_tree, port_tree};
 ghost use Rattle.vexpr_parse.specs.Readers.{front, got};
-ghost use Rattle.vparse.specs.Gives.{Gives};
+ghost use Rattle.vstatement_parse.specs.Gives.{Gives};
 ghost use Rattle.vparse.specs.ModuleGives.{all_of, input_parts, optional_direction, optional_net as net_reader, optional_ports, output_parts, ports_in, some_ports};
-ghost use Rattle.vparse.specs.Modules as reading;
-ghost use Rattle.vparse.specs.Parts.{made};
+ghost use Rattle.vgrammar.specs.Modules as reading;
+ghost use Rattle.vgrammar.specs.Parts.{made};
 
 use crate::lists::list_until;
 use crate::types::{optional, sign_and_range};
-use crate::words::named;
 use basis::OrMemory;
 use std::alloc::Global;
 use vast::module::{Direction, NetKind, Port};
 use vexpr_parse::{Cursor, Stop};
+use vstatement_parse::words::named;
 
 /// `wire` or `reg`, if one stands there.
 pub fn optional_net(cursor: &mut Cursor<'_, '_>) -> Option<NetKind>

@@ -2,15 +2,15 @@
 
 ghost use Rattle.std.specs.Prelude.{◌≡◌, ◌<◌, codes, option_map};
 ghost use Rattle.vast.specs.ModuleTrees.{range_tree, type_tree, parameter_type};
-ghost use Rattle.vparse.specs.Gives.{Gives};
+ghost use Rattle.vstatement_parse.specs.Gives.{Gives};
 ghost use Rattle.vparse.specs.ModuleGives.{Tells, optional_range};
-ghost use Rattle.vparse.specs.Modules as reading;
+ghost use Rattle.vgrammar.specs.Modules as reading;
 
-use crate::values::ended;
 use basis::OrMemory;
 use std::alloc::Global;
 use vast::module::{Bounds, ParameterType, SignAndRange};
 use vexpr_parse::{Cursor, Stop, expression};
+use vstatement_parse::values::ended;
 
 /// How deep expressions and statements nest in a module (docs/LANGUAGE.md, "Depth").
 pub const LEVELS: u32 = 64;

@@ -1,5 +1,5 @@
 use Rattle.vast.specs.Trees.{word_text}
-use Rattle.vparse.specs.Statements.{named}
+use Rattle.vgrammar.specs.Statements.{named}
 use Rattle.vparse.proofs.ListKinds.{named_eats}
 use Rattle.vparse.proofs.ListTurns.{list_given}
 use Rattle.vparse.proofs.module_lists.names.Goals as goal

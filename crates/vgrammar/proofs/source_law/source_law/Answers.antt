@@ -1,0 +1,14 @@
+use Rattle.vgrammar.proofs.SourceReads.{reads_soundly, reads_completely, is_only, stops_at_place}
+use Rattle.vgrammar.proofs.source_law.source_law.Goals as goal
+
+pub returns-clause-sound : goal.returns-clause-sound
+returns-clause-sound c = reads_soundly
+
+pub returns-clause-complete : goal.returns-clause-complete
+returns-clause-complete c = reads_completely
+
+pub returns-clause-only : goal.returns-clause-only
+returns-clause-only c = is_only
+
+pub returns-clause-place : goal.returns-clause-place
+returns-clause-place c = stops_at_place

@@ -1,0 +1,6 @@
+pub mod Parts
+pub mod Starts
+pub mod Statements
+pub mod StatementPlaces
+pub mod Modules
+pub mod SourcePlaces

@@ -1,0 +1,252 @@
+-- Reading of modules, and of a whole text (IEEE 1364-2005, A.1 and A.2).
+use Rattle.std.specs.Prelude.{Bool, true, false, not, List, [], ◌∷◌, Option, Some, None, codes}
+use Rattle.vast.specs.Syntax.{Text}
+use Rattle.vast.specs.Expressions.{ExpressionTree}
+use Rattle.vast.specs.Statements.{StatementTree}
+use Rattle.vast.specs.Modules.{RangeTree, TypeTree, ParameterType, integer, typed, SettingTree, DeclaredTree, DirectionTree, input, output, PortTree, HeadParameter, ConnectionTree, ConnectionsTree, by_order, by_name, InstanceTree, variables, integers, ItemTree, parameters, declaration, events, assignments, initial, always, instances, ModuleTree, SourceTree, net_word, parameter_word}
+use Rattle.vast.specs.declared.module.NetKind.{NetKind}
+use Rattle.vast.specs.declared.module.NetKind.TheVariants as net
+use Rattle.vexpr_parse.specs.Readers.{Reader, past, is_front}
+use Rattle.vexpr_parse.specs.Words.{written}
+use Rattle.vgrammar.specs.Parts.{Both, both, Either, one_way, other_way, made, paired, worded, many, maybe, either}
+use Rattle.vgrammar.specs.Starts.{is_meant}
+use Rattle.vgrammar.specs.Statements.{value, named, word_only, List_of, comma_list, statement}
+
+-- an expression that stands in no statement
+abbrev pub free_value : Reader ExpressionTree
+free_value = value 64
+
+abbrev pub listed_of : {A : Type 0} → List_of A → List A
+listed_of (both tree more) = tree ∷ more
+
+-- [ left : right ]
+
+abbrev pub range_of : Both ExpressionTree (Both ExpressionTree (Unit {0})) → RangeTree
+range_of (both one (both other end)) = record { left = one; right = other }
+
+abbrev pub range : Reader RangeTree
+range = made range_of (past (codes "[") (paired free_value (past (codes ":") (paired free_value (word_only (codes "]"))))))
+
+abbrev pub is_there : Option (Unit {0}) → Bool
+is_there None = false
+is_there (Some end) = true
+
+abbrev pub type_of : Both (Option (Unit {0})) (Option RangeTree) → TypeTree
+type_of (both sign bounds) = record { signed = is_there sign; range = bounds }
+
+abbrev pub type : Reader TypeTree
+type = made type_of (paired (maybe (is_front (codes "signed")) (word_only (codes "signed"))) (maybe (is_front (codes "[")) range))
+
+abbrev pub parameter_type_of : Either (Unit {0}) TypeTree → ParameterType
+parameter_type_of (one_way end) = integer
+parameter_type_of (other_way tree) = typed tree
+
+abbrev pub parameter_type : Reader ParameterType
+parameter_type = made parameter_type_of (either (is_front (codes "integer")) (word_only (codes "integer")) type)
+
+-- name = value, and name alone
+
+abbrev pub setting_of : Both Text ExpressionTree → SettingTree
+setting_of (both letters tree) = record { name = letters; value = tree }
+
+abbrev pub setting : Reader SettingTree
+setting = made setting_of (paired named (past (codes "=") free_value))
+
+abbrev pub declared_of : Both Text (Option ExpressionTree) → DeclaredTree
+declared_of (both letters tree) = record { name = letters; value = tree }
+
+abbrev pub declared : Reader DeclaredTree
+declared = made declared_of (paired named (maybe (is_front (codes "=")) (past (codes "=") free_value)))
+
+-- Connections
+
+abbrev pub Value : Type 0
+Value = Either (Unit {0}) (Both ExpressionTree (Unit {0}))
+
+-- a value and ), or ) alone
+abbrev pub value_in : Reader Value
+value_in = either (is_front (codes ")")) (word_only (codes ")")) (paired free_value (word_only (codes ")")))
+
+abbrev pub connection_of : Both Text Value → ConnectionTree
+connection_of (both letters (one_way end)) = record { name = letters; value = None }
+connection_of (both letters (other_way (both tree end))) = record { name = letters; value = Some tree }
+
+-- behind .
+abbrev pub connection : Reader ConnectionTree
+connection = made connection_of (past (codes ".") (paired named (past (codes "(") value_in)))
+
+abbrev pub Connections : Type 0
+Connections = Either (Both (List_of ConnectionTree) (Unit {0})) (Either (Unit {0}) (Both (List_of ExpressionTree) (Unit {0})))
+
+abbrev pub connections_of : Connections → ConnectionsTree
+connections_of (one_way (both list end)) = by_name (listed_of list)
+connections_of (other_way (one_way end)) = by_order []
+connections_of (other_way (other_way (both list end))) = by_order (listed_of list)
+
+abbrev pub connections : Reader ConnectionsTree
+connections =
+    made connections_of (past (codes "(") (either (is_front (codes ".")) (paired (comma_list connection) (word_only (codes ")")))
+    (either (is_front (codes ")")) (word_only (codes ")")) (paired (comma_list free_value) (word_only (codes ")"))))))
+
+abbrev pub instance_of : Both Text ConnectionsTree → InstanceTree
+instance_of (both letters tree) = record { name = letters; connections = tree }
+
+abbrev pub instance_behind : Reader InstanceTree
+instance_behind = made instance_of (paired named connections)
+
+abbrev pub overrides : Reader (Option ConnectionsTree)
+overrides = maybe (is_front (codes "#")) (past (codes "#") connections)
+
+-- Items. Each stands behind its first word.
+
+abbrev pub ended : {A : Type 0} → Reader A → Reader (Both (List_of A) (Unit {0}))
+ended read = paired (comma_list read) (word_only (codes ";"))
+
+abbrev pub net_of : Text → Option NetKind
+net_of word = written net_word (net.Wire ∷ net.Reg ∷ []) word
+
+abbrev pub local_of : Text → Option Bool
+local_of word = written parameter_word (false ∷ true ∷ []) word
+
+abbrev pub Parameters : Type 0
+Parameters = Both Bool (Both ParameterType (Both (List_of SettingTree) (Unit {0})))
+
+abbrev pub parameters_of : Parameters → ItemTree
+parameters_of (both local (both kind (both list end))) = parameters local kind (listed_of list)
+
+abbrev pub Variables : Type 0
+Variables = Both NetKind (Both TypeTree (Both (List_of DeclaredTree) (Unit {0})))
+
+abbrev pub variables_of : Variables → ItemTree
+variables_of (both kind (both tree (both list end))) = declaration (variables kind tree) (listed_of list)
+
+abbrev pub integers_of : Both (List_of DeclaredTree) (Unit {0}) → ItemTree
+integers_of (both list end) = declaration integers (listed_of list)
+
+abbrev pub events_of : Both (List_of Text) (Unit {0}) → ItemTree
+events_of (both list end) = events (listed_of list)
+
+abbrev pub assignments_of : Both (List_of SettingTree) (Unit {0}) → ItemTree
+assignments_of (both list end) = assignments (listed_of list)
+
+abbrev pub Instances : Type 0
+Instances = Both Text (Both (Option ConnectionsTree) (Both (List_of InstanceTree) (Unit {0})))
+
+abbrev pub instances_of : Instances → ItemTree
+instances_of (both letters (both tree (both list end))) = instances letters tree (listed_of list)
+
+abbrev pub Item : Type 0
+Item =
+    Either Parameters (Either Variables (Either (Both (List_of DeclaredTree) (Unit {0})) (Either (Both (List_of Text) (Unit {0}))
+    (Either (Both (List_of SettingTree) (Unit {0})) (Either StatementTree (Either StatementTree Instances))))))
+
+abbrev pub item_of : Item → ItemTree
+item_of (one_way tree) = parameters_of tree
+item_of (other_way (one_way tree)) = variables_of tree
+item_of (other_way (other_way (one_way tree))) = integers_of tree
+item_of (other_way (other_way (other_way (one_way tree)))) = events_of tree
+item_of (other_way (other_way (other_way (other_way (one_way tree))))) = assignments_of tree
+item_of (other_way (other_way (other_way (other_way (other_way (one_way tree)))))) = initial tree
+item_of (other_way (other_way (other_way (other_way (other_way (other_way (one_way tree))))))) = always tree
+item_of (other_way (other_way (other_way (other_way (other_way (other_way (other_way tree))))))) = instances_of tree
+
+abbrev pub item_parts : Reader Item
+item_parts =
+    either (is_meant local_of) (paired (worded local_of) (paired parameter_type (ended setting)))
+    (either (is_meant net_of) (paired (worded net_of) (paired type (ended declared)))
+    (either (is_front (codes "integer")) (past (codes "integer") (ended declared))
+    (either (is_front (codes "event")) (past (codes "event") (ended named))
+    (either (is_front (codes "assign")) (past (codes "assign") (ended setting))
+    (either (is_front (codes "initial")) (past (codes "initial") (statement 64))
+    (either (is_front (codes "always")) (past (codes "always") (statement 64))
+    (paired named (paired overrides (ended instance_behind)))))))))
+
+abbrev pub item : Reader ItemTree
+item = made item_of item_parts
+
+-- The head of a module
+
+abbrev pub first_parameter_of : Both ParameterType SettingTree → HeadParameter
+first_parameter_of (both tree set) = record { kind = Some tree; setting = set }
+
+abbrev pub head_parameter_of : Both (Option ParameterType) SettingTree → HeadParameter
+head_parameter_of (both tree set) = record { kind = tree; setting = set }
+
+abbrev pub first_parameter : Reader HeadParameter
+first_parameter = made first_parameter_of (past (codes "parameter") (paired parameter_type setting))
+
+abbrev pub head_parameter : Reader HeadParameter
+head_parameter = made head_parameter_of
+    (paired (maybe (is_front (codes "parameter")) (past (codes "parameter") parameter_type)) setting)
+
+-- behind #
+abbrev pub head_parameters : Reader (Both (List_of HeadParameter) (Unit {0}))
+head_parameters =
+    past (codes "(") (paired (paired first_parameter (many (is_front (codes ",")) (λ list. past (codes ",") head_parameter)))
+    (word_only (codes ")")))
+
+abbrev pub Direction : Type 0
+Direction = Either (Both (Option (Unit {0})) TypeTree) (Both (Option NetKind) TypeTree)
+
+abbrev pub direction_of : Direction → DirectionTree
+direction_of (one_way (both wire tree)) = input (is_there wire) tree
+direction_of (other_way (both kind tree)) = output kind tree
+
+abbrev pub direction : Reader DirectionTree
+direction =
+    made direction_of (either (is_front (codes "input"))
+    (past (codes "input") (paired (maybe (is_front (codes "wire")) (word_only (codes "wire"))) type))
+    (past (codes "output") (paired (maybe (is_meant net_of) (worded net_of)) type)))
+
+abbrev pub is_direction : Option Text → Bool
+is_direction = is_meant (λ word. written (λ text. text) (codes "input" ∷ codes "output" ∷ []) word)
+
+abbrev pub first_port_of : Both DirectionTree Text → PortTree
+first_port_of (both tree letters) = record { direction = Some tree; name = letters }
+
+abbrev pub port_of : Both (Option DirectionTree) Text → PortTree
+port_of (both tree letters) = record { direction = tree; name = letters }
+
+abbrev pub first_port : Reader PortTree
+first_port = made first_port_of (paired direction named)
+
+abbrev pub port : Reader PortTree
+port = made port_of (paired (maybe is_direction direction) named)
+
+abbrev pub Ports : Type 0
+Ports = Either (Unit {0}) (Both (List_of PortTree) (Unit {0}))
+
+abbrev pub ports_of : Ports → List PortTree
+ports_of (one_way end) = []
+ports_of (other_way (both list end)) = listed_of list
+
+abbrev pub ports : Reader (List PortTree)
+ports =
+    made ports_of (past (codes "(") (either (is_front (codes ")")) (word_only (codes ")"))
+    (paired (paired first_port (many (is_front (codes ",")) (λ list. past (codes ",") port))) (word_only (codes ")")))))
+
+abbrev pub head_list_of : Both (List_of HeadParameter) (Unit {0}) → List HeadParameter
+head_list_of (both list end) = listed_of list
+
+abbrev pub Module : Type 0
+Module = Both Text (Both (Option (List HeadParameter)) (Both (Option (List PortTree)) (Both (List ItemTree) (Unit {0}))))
+
+abbrev pub module_of : Module → ModuleTree
+module_of (both letters (both head (both list (both body end)))) =
+    record { name = letters; parameters = head; ports = list; items = body }
+
+abbrev pub module_tree : Reader ModuleTree
+module_tree =
+    made module_of (past (codes "module") (paired named
+    (paired (maybe (is_front (codes "#")) (past (codes "#") (made head_list_of head_parameters)))
+    (paired (maybe (is_front (codes "(")) ports)
+    (past (codes ";") (paired (many (λ next. not (is_front (codes "endmodule") next)) (λ list. item))
+    (word_only (codes "endmodule"))))))))
+
+abbrev pub is_some_word : Option Text → Bool
+is_some_word None = false
+is_some_word (Some word) = true
+
+-- modules to the end of the text
+unfoldable pub source : Reader SourceTree
+source = many is_some_word (λ list. module_tree)

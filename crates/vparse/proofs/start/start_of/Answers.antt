@@ -1,6 +1,0 @@
-use Rattle.vparse.specs.Starts.{start_of}
-use Rattle.vparse.proofs.start.start_of.Goals as goal
-
-pub returns : goal.returns
-unfolding start_of
-returns c = c.start_among.ensures

@@ -1,0 +1,2 @@
+pub mod TargetTurns
+pub mod StatementTurns

@@ -1,0 +1,129 @@
+-- What the code that reads lists in statements goes on from.
+use Rattle.std.proofs.Common.{◌≡◌, ℕ, zero, suc, nat_le, ◌<◌, arith, length, Bool, true, false, if◌then◌else◌, codes, Result, subst, List, [], ◌∷◌, map, Vec, Global, refl, sym, ap, ◌∙◌}
+use Rattle.vast.specs.Syntax.{Text}
+use Rattle.vast.specs.Statements.{block, first_statement, ArgumentTree, quoted, printed, spell_argument}
+use Rattle.vast.specs.StatementTrees.{statement_tree, statement_trees, event_tree}
+use Rattle.vast.specs.Words.{is_name}
+use Rattle.vast.specs.declared.statement.Event.{Event}
+use Rattle.basis.specs.declared.memory.OrMemory.{OrMemory}
+use Rattle.vexpr_parse.specs.declared.stop.Stop.{Stop}
+use Rattle.vast.specs.declared.statement.Statement.{Statement, Block}
+use Rattle.vast.proofs.WholeTreeLemmas.{tree_of_whole_block}
+use Rattle.vexpr_parse.specs.Readers.{Answer, Reader, got, stop, and_then, past, front, is_front}
+use Rattle.vexpr_parse.proofs.ReaderRules.{Eats}
+use Rattle.vgrammar.specs.Parts.{both, other_way, one_way, made, paired, many, either}
+use Rattle.vgrammar.specs.Starts.{comma_word, is_word}
+use Rattle.vgrammar.specs.Statements.{further_term, statement, statements_in, block_of, block_parts, named, term, word_only, event_of, enclosed_event, control, path, path_of, argument}
+use Rattle.vstatement_parse.specs.Gives.{Gives, block_at, enclosed_at, terms_at, further_terms, names_behind, path_at}
+use Rattle.vgrammar.proofs.ManyTurns.{goes_on_first, past_eats_too}
+use Rattle.vgrammar.proofs.Phrases.{sound_eats}
+use Rattle.vgrammar.proofs.PartPhrases.{further_shape, further_phrase, text_shape, named_phrase, path_shape, path_phrase, argument_shape, argument_phrase}
+use Rattle.vgrammar.proofs.StatementShapes.{statement_shape, statement_worded}
+use Rattle.vgrammar.proofs.StatementLevels.{statement_phrase}
+use Rattle.vgrammar.proofs.LevelFacts.{one_within}
+use Rattle.vgrammar.proofs.ValuePhrases.{value_worded}
+
+pub further_eats : Eats further_term
+further_eats = sound_eats further_term further_shape further_phrase.sound (λ tree v. some tree.by_comma _)
+  where
+    some : (kind : Bool) (words : List Text) → 0 < length (comma_word kind ∷ words)
+    some kind words = omega arith
+
+pub statement_eats : (below : ℕ) → Eats (statement below)
+statement_eats below =
+    sound_eats (statement below) (statement_shape below) (statement_phrase below).sound (λ tree v. statement_worded tree)
+
+-- blocks
+
+trees_in_list : (list : List Statement) → statement_trees list ≡ statements_in (map statement_tree list)
+trees_in_list [] = refl
+trees_in_list (one ∷ more) = ap (first_statement (statement_tree one)) (trees_in_list more)
+
+pub block_got : (below : ℕ) (statements : Vec Statement Global) (words left : List Text) →
+    block_parts (statement below) words ≡ got (both (map statement_tree statements.items) tt) left →
+    block_at below words ≡ got (statement_tree (Block statements)) left
+block_got below statements words left e =
+    ap (λ a. and_then a (λ parts. got (block_of parts))) e
+    ∙ ap (λ t. got t left) (sym (tree_of_whole_block statements ∙ ap block (trees_in_list statements.items)))
+
+-- what is made of what was made
+twice : {A B C : Type 0} (make : A → B) (again : B → C) (a : Answer A) →
+    and_then (and_then a (λ tree. got (make tree))) (λ tree. got (again tree)) ≡ and_then a (λ tree. got (again (make tree)))
+twice make again (got tree left) = refl
+twice make again (stop why left) = refl
+
+-- what is waited for
+
+terms_there : (words : List Text) → is_front (codes "*") (front words) ≡ false → enclosed_at words ≡ terms_at words
+terms_there words e =
+    ap (λ b. and_then (if b then made one_way (past (codes "*") (word_only (codes ")"))) words
+    else made other_way (paired (paired term further_terms) (word_only (codes ")"))) words)
+    (λ inner. got (event_of (other_way (other_way inner))))) e
+    ∙ twice other_way (λ inner. event_of (other_way (other_way inner))) (paired (paired term further_terms) (word_only (codes ")")) words)
+
+pub gives_terms : (words left : List Text) (result : Result Event (OrMemory Stop)) (star : Bool) →
+    star ≡ is_front (codes "*") (front words) → star ≡ false → Gives event_tree (terms_at words) left result →
+    Gives event_tree (enclosed_at words) left result
+gives_terms words left result star is e given = subst (λ a. Gives event_tree a left result) (sym (terms_there words (sym is ∙ e))) given
+
+enclosed_there : (after : List Text) → is_name (codes "(") ≡ false → control (codes "(" ∷ after) ≡ enclosed_at after
+enclosed_there after e =
+    let Inner : Reader _ = either (is_front (codes "*")) (word_only (codes "*")) (past (codes "(") enclosed_event) in
+    ap (λ b. and_then (if b then made one_way named (codes "(" ∷ after) else made other_way Inner (codes "(" ∷ after))
+    (λ kind. got (event_of kind))) e
+    ∙ twice other_way event_of (Inner (codes "(" ∷ after))
+    ∙ twice other_way (λ inner. event_of (other_way inner)) (enclosed_event after)
+
+pub gives_enclosed : (words after left : List Text) (result : Result Event (OrMemory Stop)) (name : Bool) →
+    name ≡ is_word is_name (front words) → name ≡ false → words ≡ codes "(" ∷ after →
+    Gives event_tree (enclosed_at after) left result → Gives event_tree (control words) left result
+gives_enclosed words after left result name is e bracket given =
+    subst (λ ws. Gives event_tree (control ws) left result) (sym bracket)
+    (subst (λ a. Gives event_tree a left result)
+    (sym (enclosed_there after (ap (λ ws. is_word is_name (front ws)) (sym bracket) ∙ sym is ∙ e))) given)
+
+-- paths
+
+pub name_eats : Eats (past (codes ".") named)
+name_eats = past_eats_too (codes ".") named (sound_eats named (text_shape is_name) named_phrase.sound (λ tree v. omega arith))
+
+pub path_eats : Eats (past (codes ",") path)
+path_eats = past_eats_too (codes ",") path (sound_eats path path_shape path_phrase.sound some)
+  where
+    some : (tree : List Text) → path_shape.valid tree ≡ true → 0 < length (path_shape.spell tree)
+    some [] v = let no : false ≡ true = v in absurd cc
+    some (letters ∷ more) v = omega arith
+
+path_is : (words : List Text) → path words ≡ path_at words
+path_is words = by_first (named words)
+  where
+    by_more : (one : Text) (a : Answer (List Text)) →
+        and_then (and_then a (λ list. got (both one list))) (λ parts. got (path_of parts)) ≡ and_then a (λ list. got (one ∷ list))
+    by_more one (got list left) = refl
+    by_more one (stop why left) = refl
+
+    by_first : (a : Answer Text) →
+        and_then (and_then a (λ one. made (both one) (many (is_front (codes ".")) (λ list. past (codes ".") named)))) (λ parts. got (path_of parts))
+        ≡ and_then a names_behind
+    by_first (got one left) =
+        by_more one (many (is_front (codes ".")) (λ list. past (codes ".") named) left)
+        ∙ sym (goes_on_first (is_front (codes ".")) (past (codes ".") named) one [] left)
+    by_first (stop why left) = refl
+
+pub path_answers : (words : List Text) (a : Answer (List Text)) → path_at words ≡ a → path words ≡ a
+path_answers words a e = path_is words ∙ e
+
+-- arguments
+
+level_of : (below : ℕ) → 0 < below → nat_le 1 below ≡ true
+level_of zero e = absurd (omega (arith, e))
+level_of (suc n) e = one_within n
+
+pub argument_eats : (below : ℕ) → 0 < below → Eats (past (codes ",") (argument below))
+argument_eats below e =
+    past_eats_too (codes ",") (argument below) (sound_eats (argument below) (argument_shape below)
+    (argument_phrase below (level_of below e)).sound some)
+  where
+    some : (tree : ArgumentTree) → (argument_shape below).valid tree ≡ true → 0 < length (spell_argument tree)
+    some (quoted letters) v = omega arith
+    some (printed tree) v = value_worded below tree v

@@ -1,0 +1,16 @@
+use Rattle.std.proofs.Common.{◌≡◌, codes, length, map}
+use Rattle.vast.specs.StatementTrees.{argument_tree}
+use Rattle.vexpr_parse.specs.Readers.{past, is_front}
+use Rattle.vstatement_parse.specs.Gives.{arguments_behind}
+use Rattle.vgrammar.specs.Statements.{argument}
+use Rattle.vgrammar.proofs.ManyTurns.{goes_on}
+use Rattle.vstatement_parse.proofs.arguments.more_arguments.Given as goal
+
+-- the arguments so far, and those that are read of the words that are left, are all that is read
+abbrev pub invariant-list : goal.invariant-list
+invariant-list l =
+    goes_on (is_front (codes ",")) (λ list. past (codes ",") (argument l.below)) (map argument_tree l.list.items) l.cursor
+    ≡ arguments_behind l.below (argument_tree l.fn.first) l.fn.cursor
+
+abbrev pub decreases-list : goal.decreases-list
+decreases-list l = length l.cursor

@@ -1,0 +1,16 @@
+use Rattle.std.proofs.Common.{◌≡◌, not, codes, length, map}
+use Rattle.vast.specs.StatementTrees.{statement_tree}
+use Rattle.vexpr_parse.specs.Readers.{is_front}
+use Rattle.vstatement_parse.specs.Gives.{block_list}
+use Rattle.vgrammar.specs.Statements.{statement}
+use Rattle.vgrammar.proofs.ManyTurns.{goes_on}
+use Rattle.vstatement_parse.proofs.blocks.list.Given as goal
+
+-- the statements so far, and those that are read of the words that are left, are all that is read
+abbrev pub invariant-list : goal.invariant-list
+invariant-list g l =
+    goes_on (λ next. not (is_front (codes "end") next)) (λ list. statement l.below) (map statement_tree l.list.items) l.cursor
+    ≡ block_list l.below l.fn.cursor
+
+abbrev pub decreases-list : goal.decreases-list
+decreases-list g l = length l.cursor

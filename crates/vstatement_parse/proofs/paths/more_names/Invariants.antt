@@ -1,0 +1,16 @@
+use Rattle.std.proofs.Common.{◌≡◌, codes, length, map}
+use Rattle.vast.specs.Trees.{word_text}
+use Rattle.vexpr_parse.specs.Readers.{past, is_front}
+use Rattle.vstatement_parse.specs.Gives.{names_behind}
+use Rattle.vgrammar.specs.Statements.{named}
+use Rattle.vgrammar.proofs.ManyTurns.{goes_on}
+use Rattle.vstatement_parse.proofs.paths.more_names.Given as goal
+
+-- the names so far, and those that are read of the words that are left, are all that is read
+abbrev pub invariant-names : goal.invariant-names
+invariant-names l =
+    goes_on (is_front (codes ".")) (λ list. past (codes ".") named) (map word_text l.names.items) l.cursor
+    ≡ names_behind (word_text l.fn.first) l.fn.cursor
+
+abbrev pub decreases-names : goal.decreases-names
+decreases-names l = length l.cursor

@@ -1,0 +1,15 @@
+use Rattle.std.proofs.Common.{◌≡◌, codes, length, map}
+use Rattle.vast.specs.StatementTrees.{path_tree}
+use Rattle.vexpr_parse.specs.Readers.{past, is_front}
+use Rattle.vstatement_parse.specs.Gives.{paths_at}
+use Rattle.vgrammar.specs.Statements.{path}
+use Rattle.vgrammar.proofs.ManyTurns.{goes_on}
+use Rattle.vstatement_parse.proofs.paths.paths.Given as goal
+
+-- the paths so far, and those that are read of the words that are left, are all that is read
+abbrev pub invariant-paths : goal.invariant-paths
+invariant-paths l =
+    goes_on (is_front (codes ",")) (λ list. past (codes ",") path) (map path_tree l.paths.items) l.cursor ≡ paths_at l.fn.cursor
+
+abbrev pub decreases-paths : goal.decreases-paths
+decreases-paths l = length l.cursor

@@ -1,0 +1,198 @@
+-- What the program's functions answer that read by the definitions. Nothing here has to be believed.
+use Rattle.std.specs.Prelude.{◌≡◌, ℕ, Bool, not, List, [], ◌∷◌, Option, Some, Vec, map, option_map, codes, Result, Ok, Err}
+use Rattle.vast.specs.Syntax.{Text}
+use Rattle.vast.specs.Expressions.{ExpressionTree}
+use Rattle.std.specs.Borrow.{MutBor}
+use Rattle.vast.specs.ExpressionTrees.{tree_of}
+use Rattle.vast.specs.StatementTrees.{target_tree, statement_tree, path_tree, argument_tree, further_term as further_tree}
+use Rattle.vast.specs.declared.statement.Statement.{Statement}
+use Rattle.vast.specs.declared.statement.Target.{Target}
+use Rattle.vast.specs.declared.expression.Expression.{Expression}
+use Rattle.basis.specs.declared.memory.OrMemory.{OrMemory}
+use Rattle.vexpr_parse.specs.declared.stop.Stop.{Stop}
+use Rattle.vexpr_parse.specs.Readers.{Answer, Reader, got, and_then, led, past, is_front, turns}
+use Rattle.vexpr_parse.specs.Answers.{Stops}
+use Rattle.vast.specs.Statements.{TargetTree, joined, StatementTree, task, dump, forever, FurtherTerm, EventTree, SelectionTree, ArgumentTree}
+use Rattle.vgrammar.specs.Parts.{Both, both, other_way, made, maybe, paired, worded, one_behind, many}
+use Rattle.vgrammar.specs.Starts.{is_meant, edge_of, comma_of}
+use Rattle.vast.specs.declared.statement.Edge.{Edge}
+use Rattle.vast.specs.declared.statement.Path.{Path}
+use Rattle.vast.specs.declared.statement.FurtherTerm.{FurtherTerm as FurtherWords}
+use Rattle.vgrammar.specs.Statements.{select, target_of, target, targets_in, target_lead, named, word_only, trigger_of, numbered, end_of, end_parts, dump_file_of, dump_file_parts, statement, guarded_of, guarded, delayed_of, amount, term, further_term, event_of, enclosed_event, event_body_of, control, block_of, block_parts, path, selection, dump_vars_of, argument}
+use Rattle.vgrammar.specs.declared.start.Guard.{Guard}
+use Rattle.vast.specs.declared.syntax.Word.{Word}
+use Rattle.vast.specs.Trees.{word_text}
+use Rattle.vast.specs.declared.statement.Dumping.{Dumping}
+use Rattle.vstatement_parse.specs.declared.settings.Setting.{Setting}
+use Rattle.vast.specs.declared.statement.Argument.{Argument}
+
+-- what the definition reads is given, and what is behind it is left; or it stops there
+abbrev pub Gives : {A T : Type 0} → (T → A) → Answer A → List Text → Result T (OrMemory Stop) → Type 0
+Gives view answer left (Ok value) = answer ≡ got (view value) left
+Gives view answer left (Err e) = Stops answer left e
+
+-- the tree of an expression, and that a word ended it
+abbrev pub ended_tree : Expression → Both ExpressionTree (Unit {0})
+ended_tree value = both (tree_of value) tt
+
+-- a target with a select, behind its bracket
+abbrev pub selected_tree : Text → ℕ → Reader TargetTree
+selected_tree letters below = made (λ selected. target_of letters (Some selected)) (select below)
+
+-- each call reads as the definition does with so many levels
+abbrev pub ReadsTargets : ℕ → (MutBor (List Text) → Result Target (OrMemory Stop) → MutBor (List Text) → Type 0) → Type 0
+ReadsTargets below call =
+    (old new : MutBor (List Text)) (result : Result Target (OrMemory Stop)) → call old result new →
+    Gives target_tree (target below old.now) new.now result
+
+-- the trees of targets
+abbrev pub all_targets : {T : Type 0} → Vec Target T → List TargetTree
+all_targets targets = map target_tree targets.items
+
+-- the targets behind those that were read
+abbrev pub targets_from : ℕ → List TargetTree → Reader (List TargetTree)
+targets_from below = turns (one_behind (λ list. past (codes ",") (target below))) (is_front (codes ","))
+
+-- the targets with the first one
+abbrev pub targets_behind : ℕ → TargetTree → Reader (List TargetTree)
+targets_behind below first = targets_from below (first ∷ [])
+
+-- one, and more behind a comma each, up to this very word
+abbrev pub all_until : {A : Type 0} → Text → Reader A → Reader (List A)
+all_until text read words =
+    and_then (read words) (λ one left. and_then (turns (one_behind (λ list. past (codes ",") read)) (is_front (codes ",")) (one ∷ []) left)
+    (λ all. past text (got all)))
+
+abbrev pub targets_within : ℕ → Reader (List TargetTree)
+targets_within below = all_until (codes "}") (target below)
+
+abbrev pub in_braces : List TargetTree → TargetTree
+in_braces all = joined (targets_in all)
+
+-- with so many levels below it
+abbrev pub target_at : ℕ → Reader TargetTree
+target_at below = led (target_lead below (target below))
+
+-- what is read is what is given
+abbrev pub itself : {A : Type 0} → A → A
+itself tree = tree
+
+-- behind ->
+abbrev pub trigger_at : Reader StatementTree
+trigger_at = made trigger_of (paired named (word_only (codes ";")))
+
+-- each call reads as the definition does with so many levels
+abbrev pub ReadsStatements : ℕ → (MutBor (List Text) → Result Statement (OrMemory Stop) → MutBor (List Text) → Type 0) → Type 0
+ReadsStatements below call =
+    (old new : MutBor (List Text)) (result : Result Statement (OrMemory Stop)) → call old result new →
+    Gives statement_tree (statement below old.now) new.now result
+
+-- what a for writes
+abbrev pub setting_tree : Setting → Both TargetTree ExpressionTree
+setting_tree setting = both (target_tree setting.target) (tree_of setting.value)
+
+-- behind $dumpon, and the like
+abbrev pub dump_at : Dumping → Reader StatementTree
+dump_at kind = past (codes ";") (got (task (dump kind)))
+
+-- behind $dumpfile
+abbrev pub dump_file_at : Reader StatementTree
+dump_file_at = made dump_file_of dump_file_parts
+
+-- a number between parentheses, or none
+abbrev pub ended_number : Word → Both Text (Unit {0})
+ended_number word = both (word_text word) tt
+
+abbrev pub numbers_tree : Option Word → Option (Both Text (Unit {0}))
+numbers_tree number = option_map ended_number number
+
+abbrev pub optional_number_at : Reader (Option (Both Text (Unit {0})))
+optional_number_at = maybe (is_front (codes "(")) (past (codes "(") (paired numbered (word_only (codes ")"))))
+
+-- behind $stop, or $finish
+abbrev pub end_at : Bool → Reader StatementTree
+end_at stops = made (end_of stops) end_parts
+
+-- which change of a name is waited for
+abbrev pub optional_edge : Reader (Option Edge)
+optional_edge = maybe (is_meant edge_of) (worded edge_of)
+
+-- what stands behind while, and the like
+abbrev pub guarded_at : ℕ → Guard → Reader StatementTree
+guarded_at below kind = made (guarded_of kind) (guarded below (statement below))
+
+-- behind forever
+abbrev pub forever_at : ℕ → Reader StatementTree
+forever_at below = made forever (statement below)
+
+-- behind #
+abbrev pub delayed_at : ℕ → Reader StatementTree
+delayed_at below = made delayed_of (paired (amount below) (statement below))
+
+-- the further names whose changes are waited for
+abbrev pub all_further : {T : Type 0} → Vec FurtherWords T → List FurtherTerm
+all_further further = map further_tree further.items
+
+abbrev pub further_terms : Reader (List FurtherTerm)
+further_terms = many (is_meant comma_of) (λ list. further_term)
+
+-- behind @ (
+abbrev pub terms_at : Reader EventTree
+terms_at = made (λ terms. event_of (other_way (other_way (other_way terms)))) (paired (paired term further_terms) (word_only (codes ")")))
+
+abbrev pub enclosed_at : Reader EventTree
+enclosed_at = made (λ inner. event_of (other_way (other_way inner))) enclosed_event
+
+-- behind @
+abbrev pub event_at : ℕ → Reader StatementTree
+event_at below = made event_body_of (paired control (statement below))
+
+-- the statements of a block
+abbrev pub all_statements : {T : Type 0} → Vec Statement T → List StatementTree
+all_statements statements = map statement_tree statements.items
+
+abbrev pub block_list : ℕ → Reader (List StatementTree)
+block_list below = many (λ next. not (is_front (codes "end") next)) (λ list. statement below)
+
+abbrev pub ended_list : {T : Type 0} → Vec Statement T → Both (List StatementTree) (Unit {0})
+ended_list statements = both (all_statements statements) tt
+
+-- behind begin
+abbrev pub block_at : ℕ → Reader StatementTree
+block_at below = made block_of (block_parts (statement below))
+
+-- the names of a path
+abbrev pub all_names : {T : Type 0} → Vec Word T → List Text
+all_names names = map word_text names.items
+
+-- the names with the first one
+abbrev pub names_behind : Text → Reader (List Text)
+names_behind one = turns (one_behind (λ list. past (codes ".") named)) (is_front (codes ".")) (one ∷ [])
+
+abbrev pub path_at : Reader (List Text)
+path_at words = and_then (named words) names_behind
+
+abbrev pub all_paths : {T : Type 0} → Vec Path T → List (List Text)
+all_paths paths = map path_tree paths.items
+
+abbrev pub paths_at : Reader (List (List Text))
+paths_at = many (is_front (codes ",")) (λ list. past (codes ",") path)
+
+abbrev pub optional_selection : Reader (Option SelectionTree)
+optional_selection = maybe (is_front (codes "(")) selection
+
+-- behind $dumpvars
+abbrev pub dump_vars_at : Reader StatementTree
+dump_vars_at = made dump_vars_of (paired optional_selection (word_only (codes ";")))
+
+-- what is printed
+abbrev pub all_arguments : {T : Type 0} → Vec Argument T → List ArgumentTree
+all_arguments arguments = map argument_tree arguments.items
+
+-- the arguments with the first one
+abbrev pub arguments_behind : ℕ → ArgumentTree → Reader (List ArgumentTree)
+arguments_behind below one = turns (one_behind (λ list. past (codes ",") (argument below))) (is_front (codes ",")) (one ∷ [])
+
+-- behind the parenthesis
+abbrev pub arguments_within : ℕ → Reader (List ArgumentTree)
+arguments_within below = all_until (codes ")") (argument below)

@@ -1,0 +1,109 @@
+// Statements round others, behind their first words (IEEE 1364-2005, 9.4 to 9.7).
+
+ghost use Rattle.std.specs.Prelude.{◌≡◌, ◌<◌, IfOk};
+ghost use Rattle.vast.specs.ExpressionTrees.{tree_of};
+ghost use Rattle.vast.specs.StatementTrees.{statement_tree};
+ghost use Rattle.vstatement_parse.specs.Gives.{Gives, ReadsStatements, delayed_at, forever_at, guarded_at};
+ghost use Rattle.vgrammar.specs.Parts.{both};
+ghost use Rattle.vgrammar.specs.Statements as reading;
+
+use crate::amounts::amount;
+use basis::{NoMemory, OrMemory};
+use std::alloc::Global;
+use vast::expression::Expression;
+use vast::statement::Statement;
+use vexpr_parse::{Cursor, Stop, expression};
+use vgrammar::start::Guard;
+
+// A statement behind a condition, or a count.
+fn around<'a>(
+    alloc: Global,
+    guard: Guard,
+    at: u32,
+    value: Expression<'a>,
+    inner: Statement<'a>,
+) -> Result<Statement<'a>, NoMemory>
+    ensures { IfOk result (λ made. statement_tree made
+        ≡ reading.guarded_of guard (both (tree_of value.entry) (statement_tree inner.entry))) }
+{
+    let body = Box::new(alloc, inner)?;
+    match guard {
+        Guard::While => Ok(Statement::While {
+            at,
+            condition: value,
+            body,
+        }),
+        Guard::Repeat => Ok(Statement::Repeat {
+            at,
+            count: value,
+            body,
+        }),
+        Guard::Wait => Ok(Statement::Wait {
+            at,
+            condition: value,
+            body,
+        }),
+    }
+}
+
+/// What stands behind `while`, `repeat` or `wait`, the token of this number (9.6 and 9.7.6).
+pub fn guarded<'a, F: Fn(&mut Cursor<'_, 'a>) -> Result<Statement<'a>, OrMemory<Stop>>>(
+    alloc: Global,
+    read: &F,
+    below: u32,
+    cursor: &mut Cursor<'_, 'a>,
+    at: u32,
+    guard: Guard,
+) -> Result<Statement<'a>, OrMemory<Stop>>
+    requires some { 0 < below }
+    requires callable { F.IsAlwaysCallable read.now }
+    requires reads { ReadsStatements below (F.post read.now) }
+    ensures { Gives statement_tree (guarded_at below guard cursor.old) cursor.new result }
+{
+    cursor.symbol(b"(")?;
+    let value = expression(alloc, cursor, below)?.tree;
+    cursor.symbol(b")")?;
+    let body = read(cursor)?;
+    Ok(around(alloc, guard, at, value, body)?)
+}
+
+/// What stands behind `forever`, the token of this number (9.6).
+pub fn forever<'a, F: Fn(&mut Cursor<'_, 'a>) -> Result<Statement<'a>, OrMemory<Stop>>>(
+    alloc: Global,
+    read: &F,
+    below: u32,
+    cursor: &mut Cursor<'_, 'a>,
+    at: u32,
+) -> Result<Statement<'a>, OrMemory<Stop>>
+    requires callable { F.IsAlwaysCallable read.now }
+    requires reads { ReadsStatements below (F.post read.now) }
+    ensures { Gives statement_tree (forever_at below cursor.old) cursor.new result }
+{
+    let body = read(cursor)?;
+    Ok(Statement::Forever {
+        at,
+        body: Box::new(alloc, body)?,
+    })
+}
+
+/// What stands behind `#`, the token of this number (9.7.1).
+pub fn delayed<'a, F: Fn(&mut Cursor<'_, 'a>) -> Result<Statement<'a>, OrMemory<Stop>>>(
+    alloc: Global,
+    read: &F,
+    below: u32,
+    cursor: &mut Cursor<'_, 'a>,
+    at: u32,
+) -> Result<Statement<'a>, OrMemory<Stop>>
+    requires some { 0 < below }
+    requires callable { F.IsAlwaysCallable read.now }
+    requires reads { ReadsStatements below (F.post read.now) }
+    ensures { Gives statement_tree (delayed_at below cursor.old) cursor.new result }
+{
+    let delay = amount(alloc, cursor, below)?;
+    let body = read(cursor)?;
+    Ok(Statement::Delayed {
+        at,
+        delay,
+        body: Box::new(alloc, body)?,
+    })
+}
