@@ -10,9 +10,8 @@ use Rattle.vexpr_parse.proofs.ReaderLoops.{turns_on, turns_end}
 use Rattle.vexpr_parse.proofs.Turning.{past_on}
 use Rattle.vgrammar.specs.Parts.{Both, both, made, paired, one_behind, many}
 use Rattle.vgrammar.specs.Statements.{List_of, comma_list, word_only}
-use Rattle.vstatement_parse.specs.Gives.{all_until}
-use Rattle.vparse.specs.ModuleGives.{rest_until}
 use Rattle.vgrammar.proofs.PhraseChoices.{made_eats}
+use Rattle.vgrammar.specs.Lists.{all_until, rest_until}
 
 -- what is read from here on, behind a list of what was read
 abbrev pub goes_on : {A : Type 0} → (Option Text → Bool) → (List A → Reader A) → List A → Reader (List A)

@@ -1,4 +1,5 @@
 pub mod Parts
+pub mod Lists
 pub mod Starts
 pub mod Statements
 pub mod StatementPlaces

@@ -10,9 +10,10 @@ use Rattle.vexpr_parse.specs.declared.stop.Stop.{Stop}
 use Rattle.vexpr_parse.specs.declared.stop.Stop.TheVariants.{NoTree}
 use Rattle.vexpr_parse.specs.Readers.{got, stop, Reader, front, is_front, and_then, past, follow, goes, refused}
 use Rattle.vexpr_parse.proofs.ReaderRules.{Eats, chosen, passed_over, text_same}
-use Rattle.vstatement_parse.specs.Gives.{Gives, all_until}
-use Rattle.vparse.specs.ModuleGives.{Calls, IsCall, NeverMore, ReadBehind, IsReached, IsListed, IsBroken, ListsUntil, ReadsAs, all_of, rest_until}
+use Rattle.vstatement_parse.specs.Gives.{Gives}
+use Rattle.vparse.specs.ModuleGives.{Calls, IsCall, NeverMore, ReadBehind, IsReached, IsListed, IsBroken, ListsUntil, ReadsAs, all_of}
 use Rattle.vgrammar.proofs.ManyTurns.{goes_on, one_more, stopped_at, no_more, behind_word, past_eats_too}
+use Rattle.vgrammar.specs.Lists.{all_until, rest_until}
 
 module _ {T : Type 0} (call : Calls T) where
   behind_all : (more : List T) (words between : List Text) (one : T) (left : List Text) → ReadBehind call more words between →

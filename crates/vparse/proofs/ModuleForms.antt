@@ -14,13 +14,14 @@ use Rattle.vast.specs.declared.module.Port.{Port}
 use Rattle.vast.specs.declared.module.ModuleItem.{ModuleItem}
 use Rattle.vexpr_parse.specs.declared.stop.Stop.{Stop}
 use Rattle.vexpr_parse.specs.Readers.{Answer, got, stop, Reader, front, is_front, and_then, past, follow, goes, refused, choose}
-use Rattle.vstatement_parse.specs.Gives.{Gives, all_until}
+use Rattle.vstatement_parse.specs.Gives.{Gives}
 use Rattle.vgrammar.specs.Parts.{Both, both, Either, one_way, other_way, made, paired, worded, many, maybe, either}
 use Rattle.vgrammar.specs.Starts.{is_meant}
 use Rattle.vgrammar.specs.Statements.{named, word_only, List_of, comma_list, statement}
 use Rattle.vgrammar.specs.Modules.{Parameters, Variables, Instances, free_value, type, parameter_type, setting, declared, connection, connections_of, connections, instance_behind, overrides, ended, net_of, local_of, parameters_of, variables_of, integers_of, events_of, assignments_of, instances_of, item_of, item, head_list_of, first_parameter, head_parameter, head_parameters, ports_of, first_port, port, ports}
-use Rattle.vparse.specs.ModuleGives.{all_of, connections_in, heads_in, some_ports, ports_in, found_or, parameters_at, variables_at, integers_at, events_at, assignments_at, instances_at, instances_item, process_item, listed_item, variables_item, any_item, rest_until}
+use Rattle.vparse.specs.ModuleGives.{all_of, connections_in, heads_in, some_ports, ports_in, found_or, parameters_at, variables_at, integers_at, events_at, assignments_at, instances_at, instances_item, process_item, listed_item, variables_item, any_item}
 use Rattle.vgrammar.proofs.ManyTurns.{until_is, first_until_is}
+use Rattle.vgrammar.specs.Lists.{all_until, rest_until}
 
 -- what is made is made of each part
 

@@ -13,11 +13,12 @@ use Rattle.vast.specs.declared.module.NetKind.{NetKind}
 use Rattle.vexpr_parse.specs.declared.stop.Stop.{Stop}
 use Rattle.vexpr_parse.specs.declared.stop.Stop.TheVariants.{NoTree}
 use Rattle.vexpr_parse.specs.Readers.{Reader, got, and_then, front, is_front, past, choose, turns}
-use Rattle.vstatement_parse.specs.Gives.{Gives, all_until}
+use Rattle.vstatement_parse.specs.Gives.{Gives}
 use Rattle.vgrammar.specs.Parts.{both, one_way, other_way, made, paired, maybe, many, worded, one_behind}
 use Rattle.vgrammar.specs.Starts.{is_meant}
 use Rattle.vgrammar.specs.Statements.{named, word_only, statement}
 use Rattle.vgrammar.specs.Modules.{range, type, parameter_type, setting, declared, free_value, Value, connection, instance_behind, overrides, net_of, local_of, item, first_parameter, head_parameter, head_parameters, head_list_of, Direction, direction, is_direction, first_port, port, ports}
+use Rattle.vgrammar.specs.Lists.{all_until, rest_until}
 
 -- this very word stands first and is passed, or another stands there
 abbrev pub Tells : Text → List Text → List Text → Bool → Type 0
@@ -99,11 +100,6 @@ ReadsAs {T = T} view one call = (old new : MutBor (List Text)) (result : Result 
 -- the trees of what stands in a list
 abbrev pub all_of : {A T R : Type 0} → (T → A) → Vec T R → List A
 all_of view list = map view list.items
-
--- what stands behind the first one, up to this very word
-abbrev pub rest_until : {A : Type 0} → Text → Reader A → A → Reader (List A)
-rest_until text read first words =
-    and_then (turns (one_behind (λ list. past (codes ",") read)) (is_front (codes ",")) (first ∷ []) words) (λ all. past text (got all))
 
 -- What is read, in the order in which it is read
 

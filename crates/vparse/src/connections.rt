@@ -2,9 +2,10 @@
 
 ghost use Rattle.std.specs.Prelude.{◌≡◌, ◌<◌, codes, option_map};
 ghost use Rattle.vast.specs.ModuleTrees.{connection_tree, connections_tree, instance_tree};
-ghost use Rattle.vstatement_parse.specs.Gives.{Gives, all_until};
+ghost use Rattle.vstatement_parse.specs.Gives.{Gives};
 ghost use Rattle.vparse.specs.ModuleGives.{all_of, connections_in, value_part};
 ghost use Rattle.vgrammar.specs.Modules as reading;
+ghost use Rattle.vgrammar.specs.Lists.{all_until};
 
 use crate::lists::list_until;
 use crate::module_lists::values;

@@ -25,6 +25,7 @@ use Rattle.vast.specs.Trees.{word_text}
 use Rattle.vast.specs.declared.statement.Dumping.{Dumping}
 use Rattle.vstatement_parse.specs.declared.settings.Setting.{Setting}
 use Rattle.vast.specs.declared.statement.Argument.{Argument}
+use Rattle.vgrammar.specs.Lists.{all_until}
 
 -- what the definition reads is given, and what is behind it is left; or it stops there
 abbrev pub Gives : {A T : Type 0} → (T → A) → Answer A → List Text → Result T (OrMemory Stop) → Type 0
@@ -56,12 +57,6 @@ targets_from below = turns (one_behind (λ list. past (codes ",") (target below)
 -- the targets with the first one
 abbrev pub targets_behind : ℕ → TargetTree → Reader (List TargetTree)
 targets_behind below first = targets_from below (first ∷ [])
-
--- one, and more behind a comma each, up to this very word
-abbrev pub all_until : {A : Type 0} → Text → Reader A → Reader (List A)
-all_until text read words =
-    and_then (read words) (λ one left. and_then (turns (one_behind (λ list. past (codes ",") read)) (is_front (codes ",")) (one ∷ []) left)
-    (λ all. past text (got all)))
 
 abbrev pub targets_within : ℕ → Reader (List TargetTree)
 targets_within below = all_until (codes "}") (target below)
