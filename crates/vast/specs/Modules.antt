@@ -5,7 +5,7 @@ use Rattle.std.specs.List.{list_all}
 use Rattle.vast.specs.Words.{is_name}
 use Rattle.vast.specs.Syntax.{Text}
 use Rattle.vast.specs.Expressions.{ExpressionTree, spell_expression, depth, fits_expression}
-use Rattle.vast.specs.Statements.{TargetTree, StatementTree, listed, in_parentheses, spell_statement, statement_depth, fits_statement}
+use Rattle.vast.specs.Statements.{StatementTree, listed, in_parentheses, spell_statement, statement_depth, fits_statement}
 use Rattle.vast.specs.declared.module.NetKind.{NetKind}
 use Rattle.vast.specs.declared.module.NetKind.TheVariants as net
 
@@ -193,115 +193,125 @@ spell_module m =
 abbrev pub spell : SourceTree → List Text
 spell modules = flat_map spell_module modules
 
--- What stands as the grammar lets it: names in their places, lists that aren't empty, and nothing deeper than 64 levels
+-- What stands as the grammar lets it: names in their places, lists that aren't empty, and no statement and no expression deeper
+-- than so many levels
 
 -- an expression that stands in no statement
-abbrev pub fits_value : ExpressionTree → Bool
-fits_value tree = fits_expression tree && nat_le (depth tree) 64
+abbrev pub fits_value : ℕ → ExpressionTree → Bool
+fits_value levels tree = fits_expression tree && nat_le (depth tree) levels
 
-abbrev pub fits_optional : Option ExpressionTree → Bool
-fits_optional None = true
-fits_optional (Some tree) = fits_value tree
+abbrev pub fits_optional : ℕ → Option ExpressionTree → Bool
+fits_optional levels None = true
+fits_optional levels (Some tree) = fits_value levels tree
 
-abbrev pub fits_range : Option RangeTree → Bool
-fits_range None = true
-fits_range (Some range) = fits_value range.left && fits_value range.right
+abbrev pub fits_range : ℕ → Option RangeTree → Bool
+fits_range levels None = true
+fits_range levels (Some range) = fits_value levels range.left && fits_value levels range.right
 
-abbrev pub fits_type : TypeTree → Bool
-fits_type type = fits_range type.range
+abbrev pub fits_type : ℕ → TypeTree → Bool
+fits_type levels type = fits_range levels type.range
 
-abbrev pub fits_parameter_type : ParameterType → Bool
-fits_parameter_type integer = true
-fits_parameter_type (typed type) = fits_type type
+abbrev pub fits_parameter_type : ℕ → ParameterType → Bool
+fits_parameter_type levels integer = true
+fits_parameter_type levels (typed type) = fits_type levels type
 
-abbrev pub fits_setting : SettingTree → Bool
-fits_setting setting = is_name setting.name && fits_value setting.value
+abbrev pub fits_setting : ℕ → SettingTree → Bool
+fits_setting levels setting = is_name setting.name && fits_value levels setting.value
 
-abbrev pub fits_declared : DeclaredTree → Bool
-fits_declared declared = is_name declared.name && fits_optional declared.value
+abbrev pub fits_declared : ℕ → DeclaredTree → Bool
+fits_declared levels declared = is_name declared.name && fits_optional levels declared.value
 
-abbrev pub fits_direction : Option DirectionTree → Bool
-fits_direction None = true
-fits_direction (Some (input wire type)) = fits_type type
-fits_direction (Some (output kind type)) = fits_type type
+abbrev pub fits_direction : ℕ → Option DirectionTree → Bool
+fits_direction levels None = true
+fits_direction levels (Some (input wire type)) = fits_type levels type
+fits_direction levels (Some (output kind type)) = fits_type levels type
 
-abbrev pub fits_port : PortTree → Bool
-fits_port port = fits_direction port.direction && is_name port.name
+abbrev pub fits_port : ℕ → PortTree → Bool
+fits_port levels port = fits_direction levels port.direction && is_name port.name
 
 abbrev pub is_directed : Option DirectionTree → Bool
 is_directed None = false
 is_directed (Some direction) = true
 
 -- the first port says which way it goes
-abbrev pub fits_ports : List PortTree → Bool
-fits_ports [] = true
-fits_ports (port ∷ more) = is_directed port.direction && list_all fits_port (port ∷ more)
+abbrev pub fits_ports : ℕ → List PortTree → Bool
+fits_ports levels [] = true
+fits_ports levels (port ∷ more) = is_directed port.direction && list_all (fits_port levels) (port ∷ more)
 
-abbrev pub fits_kind : Option ParameterType → Bool
-fits_kind None = true
-fits_kind (Some type) = fits_parameter_type type
+abbrev pub fits_kind : ℕ → Option ParameterType → Bool
+fits_kind levels None = true
+fits_kind levels (Some type) = fits_parameter_type levels type
 
-abbrev pub fits_head_parameter : HeadParameter → Bool
-fits_head_parameter parameter = fits_kind parameter.kind && fits_setting parameter.setting
+abbrev pub fits_head_parameter : ℕ → HeadParameter → Bool
+fits_head_parameter levels parameter = fits_kind levels parameter.kind && fits_setting levels parameter.setting
 
 abbrev pub is_kind : Option ParameterType → Bool
 is_kind None = false
 is_kind (Some type) = true
 
 -- the first parameter stands behind the word
-abbrev pub fits_head_parameters : List HeadParameter → Bool
-fits_head_parameters [] = false
-fits_head_parameters (parameter ∷ more) = is_kind parameter.kind && list_all fits_head_parameter (parameter ∷ more)
+abbrev pub fits_head_parameters : ℕ → List HeadParameter → Bool
+fits_head_parameters levels [] = false
+fits_head_parameters levels (parameter ∷ more) =
+    is_kind parameter.kind && list_all (fits_head_parameter levels) (parameter ∷ more)
 
-abbrev pub fits_connection : ConnectionTree → Bool
-fits_connection connection = is_name connection.name && fits_optional connection.value
+abbrev pub fits_connection : ℕ → ConnectionTree → Bool
+fits_connection levels connection = is_name connection.name && fits_optional levels connection.value
 
 -- no connection at all is one by order
-abbrev pub fits_connections : ConnectionsTree → Bool
-fits_connections (by_order values) = list_all fits_value values
-fits_connections (by_name connections) = nat_le 1 (length connections) && list_all fits_connection connections
+abbrev pub fits_connections : ℕ → ConnectionsTree → Bool
+fits_connections levels (by_order values) = list_all (fits_value levels) values
+fits_connections levels (by_name connections) = nat_le 1 (length connections) && list_all (fits_connection levels) connections
 
-abbrev pub fits_overrides : Option ConnectionsTree → Bool
-fits_overrides None = true
-fits_overrides (Some connections) = fits_connections connections
+abbrev pub fits_overrides : ℕ → Option ConnectionsTree → Bool
+fits_overrides levels None = true
+fits_overrides levels (Some connections) = fits_connections levels connections
 
-abbrev pub fits_instance : InstanceTree → Bool
-fits_instance instance = is_name instance.name && fits_connections instance.connections
+abbrev pub fits_instance : ℕ → InstanceTree → Bool
+fits_instance levels instance = is_name instance.name && fits_connections levels instance.connections
 
-abbrev pub fits_declaration_kind : DeclarationKind → Bool
-fits_declaration_kind (variables kind type) = fits_type type
-fits_declaration_kind integers = true
+abbrev pub fits_declaration_kind : ℕ → DeclarationKind → Bool
+fits_declaration_kind levels (variables kind type) = fits_type levels type
+fits_declaration_kind levels integers = true
 
 abbrev pub are_some : {A : Type 0} → (A → Bool) → List A → Bool
 are_some test list = nat_le 1 (length list) && list_all test list
 
-abbrev pub fits_body : StatementTree → Bool
-fits_body statement = fits_statement statement && nat_le (statement_depth statement) 64
+abbrev pub fits_body : ℕ → StatementTree → Bool
+fits_body levels statement = fits_statement statement && nat_le (statement_depth statement) levels
 
-abbrev pub fits_item : ItemTree → Bool
-fits_item (parameters local type settings) = fits_parameter_type type && are_some fits_setting settings
-fits_item (declaration kind declared) = fits_declaration_kind kind && are_some fits_declared declared
-fits_item (events names) = are_some is_name names
-fits_item (assignments list) = are_some fits_setting list
-fits_item (initial statement) = fits_body statement
-fits_item (always statement) = fits_body statement
-fits_item (instances name overrides list) = is_name name && fits_overrides overrides && are_some fits_instance list
+abbrev pub fits_item : ℕ → ItemTree → Bool
+fits_item levels (parameters local type settings) = fits_parameter_type levels type && are_some (fits_setting levels) settings
+fits_item levels (declaration kind declared) = fits_declaration_kind levels kind && are_some (fits_declared levels) declared
+fits_item levels (events names) = are_some is_name names
+fits_item levels (assignments list) = are_some (fits_setting levels) list
+fits_item levels (initial statement) = fits_body levels statement
+fits_item levels (always statement) = fits_body levels statement
+fits_item levels (instances name overrides list) =
+    is_name name && fits_overrides levels overrides && are_some (fits_instance levels) list
 
-abbrev pub fits_optional_parameters : Option (List HeadParameter) → Bool
-fits_optional_parameters None = true
-fits_optional_parameters (Some list) = fits_head_parameters list
+abbrev pub fits_optional_parameters : ℕ → Option (List HeadParameter) → Bool
+fits_optional_parameters levels None = true
+fits_optional_parameters levels (Some list) = fits_head_parameters levels list
 
-abbrev pub fits_optional_ports : Option (List PortTree) → Bool
-fits_optional_ports None = true
-fits_optional_ports (Some list) = fits_ports list
+abbrev pub fits_optional_ports : ℕ → Option (List PortTree) → Bool
+fits_optional_ports levels None = true
+fits_optional_ports levels (Some list) = fits_ports levels list
 
-abbrev pub fits_module : ModuleTree → Bool
-fits_module m = is_name m.name && fits_optional_parameters m.parameters && fits_optional_ports m.ports && list_all fits_item m.items
+abbrev pub fits_module : ℕ → ModuleTree → Bool
+fits_module levels m =
+    is_name m.name && fits_optional_parameters levels m.parameters && fits_optional_ports levels m.ports
+    && list_all (fits_item levels) m.items
 
-abbrev pub fits : SourceTree → Bool
-fits modules = list_all fits_module modules
+abbrev pub fits : ℕ → SourceTree → Bool
+fits levels modules = list_all (fits_module levels) modules
 
--- the words are those of the tree, which stands as the grammar lets it
-pub record DerivesText (words : List Text) (tree : SourceTree) : Type 0 where
+-- the words are those of the tree, which stands as the grammar lets it and whose statements and expressions have so many
+-- levels at most
+pub record DerivesWithin (levels : ℕ) (words : List Text) (tree : SourceTree) : Type 0 where
   pub spelled : spell tree ≡ words
-  pub fitting : IsTrue (fits tree)
+  pub fitting : IsTrue (fits levels tree)
+
+-- the profile's depth
+abbrev pub DerivesText : List Text → SourceTree → Type 0
+DerivesText words tree = DerivesWithin 64 words tree

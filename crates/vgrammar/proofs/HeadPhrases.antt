@@ -52,56 +52,6 @@ phrase_closing closes p enough closed = record {
   closed = closed;
 }
 
--- Ranges and types
-
-abbrev pub Free : Shape ExpressionTree
-Free = value_shape 64
-
-pub free_phrase_value : Phrase free_value (ends 0) Free
-free_phrase_value = value_phrase 64
-
-pub free_example : Example Free
-free_example = value_example 64 refl
-
-abbrev RangeParts : Shape (Both ExpressionTree (Both ExpressionTree (Unit {0})))
-RangeParts = past_shape (codes "[") (paired_shape Free (past_shape (codes ":") (paired_shape Free (only_shape (codes "]")))))
-
-abbrev pub range_shape : Shape RangeTree
-range_shape = record {
-  spell = λ tree. spell_range (Some tree);
-  valid = λ tree. fits_range (Some tree);
-  closes = λ tree. always;
-  stops = λ tree next. true;
-}
-
-range_makes : Makes range_of RangeParts range_shape []
-range_makes = record { spelled = spelled; valid = valid; closes = λ tree next e. closes tree next; stops = λ tree next e. refl }
-  where
-    spelled : (tree : Both ExpressionTree (Both ExpressionTree (Unit {0}))) → spell_range (Some (range_of tree))
-        ≡ RangeParts.spell tree
-    spelled (both left (both right end)) = refl
-
-    valid : (tree : Both ExpressionTree (Both ExpressionTree (Unit {0}))) → fits_range (Some (range_of tree))
-        ≡ RangeParts.valid tree
-    valid (both left (both right end)) = ap (λ b. fits_value left && b) (sym (and_true (fits_value right)))
-
-    closes : (tree : Both ExpressionTree (Both ExpressionTree (Unit {0}))) (next : Option Text) → RangeParts.closes tree next
-        ≡ true
-    closes (both left (both right end)) next = refl
-
-right_bound : Phrase (paired free_value (word_only (codes "]"))) always (paired_shape Free (only_shape (codes "]")))
-unfolding binary_of
-right_bound = before_phrase (codes "]") free_phrase_value (nothing_phrase always) nothing_example refl
-
-range_phrase : Phrase range always range_shape
-unfolding binary_of
-range_phrase =
-    made_phrase range_of range_shape (λ tree v. record { parts = both tree.left (both tree.right tt); is = refl }) range_makes
-    (λ tree next e. refl)
-    (past_phrase (codes "[")
-    (before_phrase (codes ":") free_phrase_value right_bound (paired_example free_example (only_example (codes "]"))) refl)
-    (paired_example free_example (past_example (codes ":") (paired_example free_example (only_example (codes "]"))))))
-
 abbrev signed_next : Option Text → Bool
 signed_next = is_front (codes "signed")
 
@@ -114,124 +64,12 @@ not_signed next = not (signed_next next)
 abbrev pub ends_type : Ends
 ends_type next = not_signed next && not (bracket next)
 
-abbrev TypeParts : Shape (Both (Option (Unit {0})) (Option RangeTree))
-TypeParts = paired_shape (maybe_shape signed_next always (only_shape (codes "signed")))
-    (maybe_shape bracket not_signed range_shape)
-
-abbrev pub type_shape : Shape TypeTree
-type_shape = record { spell = spell_type; valid = fits_type; closes = λ tree. ends_type; stops = λ tree next. true }
-
-type_makes : Makes type_of TypeParts type_shape []
-type_makes = record { spelled = spelled; valid = valid; closes = closes; stops = λ tree next e. refl }
-  where
-    spelled : (tree : Both (Option (Unit {0})) (Option RangeTree)) → spell_type (type_of tree) ≡ TypeParts.spell tree
-    spelled (both None None) = refl
-    spelled (both None (Some tree)) = refl
-    spelled (both (Some end) None) = refl
-    spelled (both (Some end) (Some tree)) = refl
-
-    valid : (tree : Both (Option (Unit {0})) (Option RangeTree)) → fits_type (type_of tree) ≡ TypeParts.valid tree
-    valid (both None None) = refl
-    valid (both None (Some tree)) = refl
-    valid (both (Some end) None) = refl
-    valid (both (Some end) (Some tree)) = refl
-
-    closes : (tree : Both (Option (Unit {0})) (Option RangeTree)) (next : Option Text) → ends_type next ≡ true →
-        TypeParts.closes tree next ≡ true
-    closes (both sign None) next e = e
-    closes (both sign (Some tree)) next e = refl
-
-no_type : Example TypeParts
-no_type = record { tree = both None None; valid = refl }
-
-pub type_phrase : Phrase type ends_type type_shape
-type_phrase =
-    made_phrase type_of type_shape back type_makes (λ tree next e. e)
-    (paired_phrase (maybe_phrase signed_next (only_phrase (codes "signed")) (λ tree v. positive _) (λ tree v rest. refl))
-    (maybe_phrase bracket (phrase_within not_signed range_phrase (λ next e. refl)) (λ tree v. positive _) (λ tree v rest. refl))
-    no_range opens (λ y v none next f. and_left (not_signed next) _ f))
-  where
-    no_range : Example (maybe_shape bracket not_signed range_shape)
-    no_range = record { tree = None; valid = refl }
-
-    opens : Opens (ends_maybe signed_next always) (maybe_shape bracket not_signed range_shape)
-    opens None v rest c = and_left (not_signed (front rest)) _ c
-    opens (Some tree) v rest c = refl
-
-    sign_of_type : Bool → Option (Unit {0})
-    sign_of_type true = Some tt
-    sign_of_type false = None
-
-    back : (tree : TypeTree) → fits_type tree ≡ true → From type_of tree
-    back tree v = by_sign tree.signed refl
-      where
-        by_sign : (b : Bool) → tree.signed ≡ b → From type_of tree
-        by_sign true e = record { parts = both (Some tt) tree.range; is = λ i. record { signed = sym e i; range = tree.range } }
-        by_sign false e = record { parts = both None tree.range; is = λ i. record { signed = sym e i; range = tree.range } }
-
 -- what may follow the type of a parameter
 abbrev integer_next : Option Text → Bool
 integer_next = is_front (codes "integer")
 
 abbrev pub ends_parameter_type : Ends
 ends_parameter_type next = ends_type next && not (integer_next next)
-
-abbrev pub parameter_type_shape : Shape ParameterType
-parameter_type_shape = record {
-  spell = spell_parameter_type;
-  valid = fits_parameter_type;
-  closes = λ tree. ends_parameter_type;
-  stops = λ tree next. true;
-}
-
-abbrev ClosingType : Shape TypeTree
-ClosingType = record { spell = spell_type; valid = fits_type; closes = λ tree. ends_parameter_type; stops = λ tree next. true }
-
-pub parameter_type_phrase : Phrase parameter_type ends_parameter_type parameter_type_shape
-parameter_type_phrase =
-    made_phrase parameter_type_of parameter_type_shape back makes (λ tree next e. e)
-    (either_open_phrase integer_next (phrase_within ends_parameter_type (only_phrase (codes "integer")) (λ next e. refl))
-    (phrase_closing (λ tree. ends_parameter_type)
-    (phrase_within ends_parameter_type type_phrase (λ next e. and_left (ends_type next) _ e))
-    (λ tree next e. and_left (ends_type next) _ e)
-    (λ tree next e. e))
-    (λ tree v. positive _) (λ tree words is e. no_integer (front words) e) (λ tree v rest. refl) fails)
-  where
-    no_integer : (next : Option Text) → ends_parameter_type next ≡ true → integer_next next ≡ false
-    no_integer next e = not_so (integer_next next)
-        (λ f. clash (not (integer_next next)) (and_right (ends_type next) _ e) (ap not f))
-
-    by_parts : (sign : Bool) (bounds : Option RangeTree) (rest : List Text) → ends_parameter_type (front rest) ≡ true →
-        integer_next (front ((spell_signed sign ++ spell_range bounds) ++ rest)) ≡ false
-    by_parts true bounds rest e = refl
-    by_parts false None rest e = no_integer (front rest) e
-    by_parts false (Some tree) rest e = refl
-
-    fails : (tree : TypeTree) → fits_type tree ≡ true → (rest : List Text) → ends_parameter_type (front rest) ≡ true →
-        integer_next (front (spell_type tree ++ rest)) ≡ false
-    fails tree v rest c = by_parts tree.signed tree.range rest c
-
-    back : (tree : ParameterType) → fits_parameter_type tree ≡ true → From parameter_type_of tree
-    back integer v = record { parts = one_way tt; is = refl }
-    back (typed tree) v = record { parts = other_way tree; is = refl }
-
-    makes : Makes parameter_type_of (either_shape (only_shape (codes "integer")) ClosingType) parameter_type_shape []
-    makes = record { spelled = spelled; valid = valid; closes = closes; stops = λ tree next e. refl }
-      where
-        spelled : (tree : Either (Unit {0}) TypeTree) →
-            spell_parameter_type (parameter_type_of tree) ≡ (either_shape (only_shape (codes "integer")) ClosingType).spell tree
-        spelled (one_way end) = refl
-        spelled (other_way tree) = refl
-
-        valid : (tree : Either (Unit {0}) TypeTree) →
-            fits_parameter_type (parameter_type_of tree) ≡ (either_shape (only_shape (codes "integer")) ClosingType).valid tree
-        valid (one_way end) = refl
-        valid (other_way tree) = refl
-
-        closes : (tree : Either (Unit {0}) TypeTree) (next : Option Text) → ends_parameter_type next ≡ true →
-            (either_shape (only_shape (codes "integer")) ClosingType).closes tree next ≡ true
-        closes (one_way end) next e = refl
-        closes (other_way tree) next e = e
 
 -- a name ends a type
 pub name_ends_type : (letters : Text) → is_name letters ≡ true → ends_parameter_type (Some letters) ≡ true
@@ -242,82 +80,8 @@ name_ends_type letters is =
     (ap not (name_isnt (codes "signed") refl letters is)) (ap not (name_isnt (codes "[") refl letters is)))
     (ap not (name_isnt (codes "integer") refl letters is))
 
--- Settings
-
-abbrev pub setting_shape : Shape SettingTree
-setting_shape = record { spell = spell_setting; valid = fits_setting; closes = λ tree. ends 0; stops = λ tree next. true }
-
-abbrev SettingParts : Shape (Both Text ExpressionTree)
-SettingParts = paired_shape (text_shape is_name) (past_shape (codes "=") Free)
-
-pub setting_phrase : Phrase setting (ends 0) setting_shape
-setting_phrase =
-    made_phrase setting_of setting_shape (λ tree v. record { parts = both tree.name tree.value; is = refl }) makes
-    (λ tree next e. e)
-    (free_phrase named_phrase (past_phrase (codes "=") free_phrase_value free_example) (past_example (codes "=") free_example))
-  where
-    makes : Makes setting_of SettingParts setting_shape []
-    makes = record { spelled = spelled; valid = valid; closes = closes; stops = λ tree next e. refl }
-      where
-        spelled : (tree : Both Text ExpressionTree) → spell_setting (setting_of tree) ≡ SettingParts.spell tree
-        spelled (both letters tree) = refl
-
-        valid : (tree : Both Text ExpressionTree) → fits_setting (setting_of tree) ≡ SettingParts.valid tree
-        valid (both letters tree) = refl
-
-        closes : (tree : Both Text ExpressionTree) (next : Option Text) → ends 0 next ≡ true → SettingParts.closes tree next
-            ≡ true
-        closes (both letters tree) next e = e
-
-pub a_setting : Example setting_shape
-a_setting = record {
-  tree = record {
-    name = a_name.tree;
-    value = free_example.tree;
-  };
-  valid = and_both _ _ a_name.valid free_example.valid;
-}
-
 abbrev equals : Option Text → Bool
 equals = is_front (codes "=")
-
-abbrev pub declared_shape : Shape DeclaredTree
-declared_shape = record {
-  spell = spell_declared;
-  valid = fits_declared;
-  closes = λ tree. ends_maybe equals (ends 0);
-  stops = λ tree next. true;
-}
-
-abbrev DeclaredParts : Shape (Both Text (Option ExpressionTree))
-DeclaredParts = paired_shape (text_shape is_name) (maybe_shape equals (ends 0) (past_shape (codes "=") Free))
-
-pub declared_phrase : Phrase declared (ends_maybe equals (ends 0)) declared_shape
-declared_phrase =
-    made_phrase declared_of declared_shape (λ tree v. record { parts = both tree.name tree.value; is = refl }) makes
-    (λ tree next e. e)
-    (free_phrase named_phrase
-    (maybe_phrase equals (past_phrase (codes "=") free_phrase_value free_example) (λ tree v. positive _) (λ tree v rest. refl))
-    (record { tree = None; valid = refl }))
-  where
-    makes : Makes declared_of DeclaredParts declared_shape []
-    makes = record { spelled = spelled; valid = valid; closes = closes; stops = λ tree next e. refl }
-      where
-        spelled : (tree : Both Text (Option ExpressionTree)) → spell_declared (declared_of tree) ≡ DeclaredParts.spell tree
-        spelled (both letters None) = refl
-        spelled (both letters (Some tree)) = refl
-
-        valid : (tree : Both Text (Option ExpressionTree)) → fits_declared (declared_of tree) ≡ DeclaredParts.valid tree
-        valid (both letters None) = refl
-        valid (both letters (Some tree)) = refl
-
-        closes : (tree : Both Text (Option ExpressionTree)) (next : Option Text) → ends_maybe equals (ends 0) next ≡ true →
-            DeclaredParts.closes tree next ≡ true
-        closes (both letters None) next e = e
-        closes (both letters (Some tree)) next e = and_left (ends 0 next) _ e
-
-pub a_declared : Example declared_shape
-a_declared = record { tree = record { name = a_name.tree; value = None }; valid = and_both _ true a_name.valid refl }
 
 -- Lists to a semicolon
 
@@ -343,3 +107,243 @@ some_valid fits one more =
     ap (λ b. b && (fits one && list_all fits more)) (one_within (length more))
     ∙ ap (λ b. fits one && b) (sym (allows_each fits [] more))
     ∙ sym (and_true _)
+
+module _ (below : ℕ) where
+  abbrev levels : ℕ
+  levels = suc below
+
+  -- Ranges and types
+
+  abbrev pub Free : Shape ExpressionTree
+  Free = value_shape levels
+
+  pub free_phrase_value : Phrase (free_value levels) (ends 0) Free
+  free_phrase_value = value_phrase levels
+
+  pub free_example : Example Free
+  free_example = value_example levels (one_within below)
+
+  abbrev RangeParts : Shape (Both ExpressionTree (Both ExpressionTree (Unit {0})))
+  RangeParts = past_shape (codes "[") (paired_shape Free (past_shape (codes ":") (paired_shape Free (only_shape (codes "]")))))
+
+  abbrev pub range_shape : Shape RangeTree
+  range_shape = record {
+    spell = λ tree. spell_range (Some tree);
+    valid = λ tree. fits_range levels (Some tree);
+    closes = λ tree. always;
+    stops = λ tree next. true;
+  }
+
+  range_makes : Makes range_of RangeParts range_shape []
+  range_makes = record { spelled = spelled; valid = valid; closes = λ tree next e. closes tree next; stops = λ tree next e. refl }
+    where
+      spelled : (tree : Both ExpressionTree (Both ExpressionTree (Unit {0}))) → spell_range (Some (range_of tree))
+          ≡ RangeParts.spell tree
+      spelled (both left (both right end)) = refl
+
+      valid : (tree : Both ExpressionTree (Both ExpressionTree (Unit {0}))) → fits_range levels (Some (range_of tree))
+          ≡ RangeParts.valid tree
+      valid (both left (both right end)) = ap (λ b. fits_value levels left && b) (sym (and_true (fits_value levels right)))
+
+      closes : (tree : Both ExpressionTree (Both ExpressionTree (Unit {0}))) (next : Option Text) → RangeParts.closes tree next
+          ≡ true
+      closes (both left (both right end)) next = refl
+
+  right_bound : Phrase (paired (free_value levels) (word_only (codes "]"))) always (paired_shape Free (only_shape (codes "]")))
+  unfolding binary_of
+  right_bound = before_phrase (codes "]") free_phrase_value (nothing_phrase always) nothing_example refl
+
+  range_phrase : Phrase (range levels) always range_shape
+  unfolding binary_of
+  range_phrase =
+      made_phrase range_of range_shape (λ tree v. record { parts = both tree.left (both tree.right tt); is = refl }) range_makes
+      (λ tree next e. refl)
+      (past_phrase (codes "[")
+      (before_phrase (codes ":") free_phrase_value right_bound (paired_example free_example (only_example (codes "]"))) refl)
+      (paired_example free_example (past_example (codes ":") (paired_example free_example (only_example (codes "]"))))))
+
+  abbrev TypeParts : Shape (Both (Option (Unit {0})) (Option RangeTree))
+  TypeParts = paired_shape (maybe_shape signed_next always (only_shape (codes "signed")))
+      (maybe_shape bracket not_signed range_shape)
+
+  abbrev pub type_shape : Shape TypeTree
+  type_shape = record { spell = spell_type; valid = fits_type levels; closes = λ tree. ends_type; stops = λ tree next. true }
+
+  type_makes : Makes type_of TypeParts type_shape []
+  type_makes = record { spelled = spelled; valid = valid; closes = closes; stops = λ tree next e. refl }
+    where
+      spelled : (tree : Both (Option (Unit {0})) (Option RangeTree)) → spell_type (type_of tree) ≡ TypeParts.spell tree
+      spelled (both None None) = refl
+      spelled (both None (Some tree)) = refl
+      spelled (both (Some end) None) = refl
+      spelled (both (Some end) (Some tree)) = refl
+
+      valid : (tree : Both (Option (Unit {0})) (Option RangeTree)) → fits_type levels (type_of tree) ≡ TypeParts.valid tree
+      valid (both None None) = refl
+      valid (both None (Some tree)) = refl
+      valid (both (Some end) None) = refl
+      valid (both (Some end) (Some tree)) = refl
+
+      closes : (tree : Both (Option (Unit {0})) (Option RangeTree)) (next : Option Text) → ends_type next ≡ true →
+          TypeParts.closes tree next ≡ true
+      closes (both sign None) next e = e
+      closes (both sign (Some tree)) next e = refl
+
+  no_type : Example TypeParts
+  no_type = record { tree = both None None; valid = refl }
+
+  pub type_phrase : Phrase (type levels) ends_type type_shape
+  type_phrase =
+      made_phrase type_of type_shape back type_makes (λ tree next e. e)
+      (paired_phrase (maybe_phrase signed_next (only_phrase (codes "signed")) (λ tree v. positive _) (λ tree v rest. refl))
+      (maybe_phrase bracket (phrase_within not_signed range_phrase (λ next e. refl)) (λ tree v. positive _) (λ tree v rest. refl))
+      no_range opens (λ y v none next f. and_left (not_signed next) _ f))
+    where
+      no_range : Example (maybe_shape bracket not_signed range_shape)
+      no_range = record { tree = None; valid = refl }
+
+      opens : Opens (ends_maybe signed_next always) (maybe_shape bracket not_signed range_shape)
+      opens None v rest c = and_left (not_signed (front rest)) _ c
+      opens (Some tree) v rest c = refl
+
+      sign_of_type : Bool → Option (Unit {0})
+      sign_of_type true = Some tt
+      sign_of_type false = None
+
+      back : (tree : TypeTree) → fits_type levels tree ≡ true → From type_of tree
+      back tree v = by_sign tree.signed refl
+        where
+          by_sign : (b : Bool) → tree.signed ≡ b → From type_of tree
+          by_sign true e = record { parts = both (Some tt) tree.range; is = λ i. record { signed = sym e i; range = tree.range } }
+          by_sign false e = record { parts = both None tree.range; is = λ i. record { signed = sym e i; range = tree.range } }
+
+  abbrev pub parameter_type_shape : Shape ParameterType
+  parameter_type_shape = record {
+    spell = spell_parameter_type;
+    valid = fits_parameter_type levels;
+    closes = λ tree. ends_parameter_type;
+    stops = λ tree next. true;
+  }
+
+  abbrev ClosingType : Shape TypeTree
+  ClosingType = record { spell = spell_type; valid = fits_type levels; closes = λ tree. ends_parameter_type; stops = λ tree next. true }
+
+  pub parameter_type_phrase : Phrase (parameter_type levels) ends_parameter_type parameter_type_shape
+  parameter_type_phrase =
+      made_phrase parameter_type_of parameter_type_shape back makes (λ tree next e. e)
+      (either_open_phrase integer_next (phrase_within ends_parameter_type (only_phrase (codes "integer")) (λ next e. refl))
+      (phrase_closing (λ tree. ends_parameter_type)
+      (phrase_within ends_parameter_type type_phrase (λ next e. and_left (ends_type next) _ e))
+      (λ tree next e. and_left (ends_type next) _ e)
+      (λ tree next e. e))
+      (λ tree v. positive _) (λ tree words is e. no_integer (front words) e) (λ tree v rest. refl) fails)
+    where
+      no_integer : (next : Option Text) → ends_parameter_type next ≡ true → integer_next next ≡ false
+      no_integer next e = not_so (integer_next next)
+          (λ f. clash (not (integer_next next)) (and_right (ends_type next) _ e) (ap not f))
+
+      by_parts : (sign : Bool) (bounds : Option RangeTree) (rest : List Text) → ends_parameter_type (front rest) ≡ true →
+          integer_next (front ((spell_signed sign ++ spell_range bounds) ++ rest)) ≡ false
+      by_parts true bounds rest e = refl
+      by_parts false None rest e = no_integer (front rest) e
+      by_parts false (Some tree) rest e = refl
+
+      fails : (tree : TypeTree) → fits_type levels tree ≡ true → (rest : List Text) → ends_parameter_type (front rest) ≡ true →
+          integer_next (front (spell_type tree ++ rest)) ≡ false
+      fails tree v rest c = by_parts tree.signed tree.range rest c
+
+      back : (tree : ParameterType) → fits_parameter_type levels tree ≡ true → From parameter_type_of tree
+      back integer v = record { parts = one_way tt; is = refl }
+      back (typed tree) v = record { parts = other_way tree; is = refl }
+
+      makes : Makes parameter_type_of (either_shape (only_shape (codes "integer")) ClosingType) parameter_type_shape []
+      makes = record { spelled = spelled; valid = valid; closes = closes; stops = λ tree next e. refl }
+        where
+          spelled : (tree : Either (Unit {0}) TypeTree) →
+              spell_parameter_type (parameter_type_of tree) ≡ (either_shape (only_shape (codes "integer")) ClosingType).spell tree
+          spelled (one_way end) = refl
+          spelled (other_way tree) = refl
+
+          valid : (tree : Either (Unit {0}) TypeTree) →
+              fits_parameter_type levels (parameter_type_of tree) ≡ (either_shape (only_shape (codes "integer")) ClosingType).valid tree
+          valid (one_way end) = refl
+          valid (other_way tree) = refl
+
+          closes : (tree : Either (Unit {0}) TypeTree) (next : Option Text) → ends_parameter_type next ≡ true →
+              (either_shape (only_shape (codes "integer")) ClosingType).closes tree next ≡ true
+          closes (one_way end) next e = refl
+          closes (other_way tree) next e = e
+
+  -- Settings
+
+  abbrev pub setting_shape : Shape SettingTree
+  setting_shape = record { spell = spell_setting; valid = fits_setting levels; closes = λ tree. ends 0; stops = λ tree next. true }
+
+  abbrev SettingParts : Shape (Both Text ExpressionTree)
+  SettingParts = paired_shape (text_shape is_name) (past_shape (codes "=") Free)
+
+  pub setting_phrase : Phrase (setting levels) (ends 0) setting_shape
+  setting_phrase =
+      made_phrase setting_of setting_shape (λ tree v. record { parts = both tree.name tree.value; is = refl }) makes
+      (λ tree next e. e)
+      (free_phrase named_phrase (past_phrase (codes "=") free_phrase_value free_example) (past_example (codes "=") free_example))
+    where
+      makes : Makes setting_of SettingParts setting_shape []
+      makes = record { spelled = spelled; valid = valid; closes = closes; stops = λ tree next e. refl }
+        where
+          spelled : (tree : Both Text ExpressionTree) → spell_setting (setting_of tree) ≡ SettingParts.spell tree
+          spelled (both letters tree) = refl
+
+          valid : (tree : Both Text ExpressionTree) → fits_setting levels (setting_of tree) ≡ SettingParts.valid tree
+          valid (both letters tree) = refl
+
+          closes : (tree : Both Text ExpressionTree) (next : Option Text) → ends 0 next ≡ true → SettingParts.closes tree next
+              ≡ true
+          closes (both letters tree) next e = e
+
+  pub a_setting : Example setting_shape
+  a_setting = record {
+    tree = record {
+      name = a_name.tree;
+      value = free_example.tree;
+    };
+    valid = and_both _ _ a_name.valid free_example.valid;
+  }
+
+  abbrev pub declared_shape : Shape DeclaredTree
+  declared_shape = record {
+    spell = spell_declared;
+    valid = fits_declared levels;
+    closes = λ tree. ends_maybe equals (ends 0);
+    stops = λ tree next. true;
+  }
+
+  abbrev DeclaredParts : Shape (Both Text (Option ExpressionTree))
+  DeclaredParts = paired_shape (text_shape is_name) (maybe_shape equals (ends 0) (past_shape (codes "=") Free))
+
+  pub declared_phrase : Phrase (declared levels) (ends_maybe equals (ends 0)) declared_shape
+  declared_phrase =
+      made_phrase declared_of declared_shape (λ tree v. record { parts = both tree.name tree.value; is = refl }) makes
+      (λ tree next e. e)
+      (free_phrase named_phrase
+      (maybe_phrase equals (past_phrase (codes "=") free_phrase_value free_example) (λ tree v. positive _) (λ tree v rest. refl))
+      (record { tree = None; valid = refl }))
+    where
+      makes : Makes declared_of DeclaredParts declared_shape []
+      makes = record { spelled = spelled; valid = valid; closes = closes; stops = λ tree next e. refl }
+        where
+          spelled : (tree : Both Text (Option ExpressionTree)) → spell_declared (declared_of tree) ≡ DeclaredParts.spell tree
+          spelled (both letters None) = refl
+          spelled (both letters (Some tree)) = refl
+
+          valid : (tree : Both Text (Option ExpressionTree)) → fits_declared levels (declared_of tree) ≡ DeclaredParts.valid tree
+          valid (both letters None) = refl
+          valid (both letters (Some tree)) = refl
+
+          closes : (tree : Both Text (Option ExpressionTree)) (next : Option Text) → ends_maybe equals (ends 0) next ≡ true →
+              DeclaredParts.closes tree next ≡ true
+          closes (both letters None) next e = e
+          closes (both letters (Some tree)) next e = and_left (ends 0 next) _ e
+
+  pub a_declared : Example declared_shape
+  a_declared = record { tree = record { name = a_name.tree; value = None }; valid = and_both _ true a_name.valid refl }

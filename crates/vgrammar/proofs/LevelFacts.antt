@@ -1,5 +1,5 @@
 -- Levels of trees, and truth values in another order.
-use Rattle.std.proofs.Common.{◌≡◌, ℕ, suc, ◌+◌, ◌<◌, Bool, true, false, ◌&&◌, max, nat_le, refl, ap, ◌∙◌, arith}
+use Rattle.std.proofs.Common.{◌≡◌, ℕ, suc, ◌+◌, ◌<◌, ◌≤◌, Bool, true, false, ◌&&◌, max, nat_le, refl, ap, ◌∙◌, arith}
 use Rattle.std.proofs.lemmas.Bool.Decides.{nat_tests}
 use Rattle.basis.proofs.Bools.{and_left, and_right, and_both, same_truth}
 
@@ -46,6 +46,10 @@ none_within d e = true_false (nat_le (1 + d) 0) e (none d)
 -- a depth of one at least asks for a level
 pub some_level : (d n : ℕ) → 0 < d → nat_le d n ≡ true → nat_le 1 n ≡ true
 some_level d n p e = grind (arith, nat_tests)
+
+-- so many levels at most are so many more at most
+pub within_more : (d n m : ℕ) → n ≤ m → nat_le d n ≡ true → nat_le d m ≡ true
+within_more d n m e f = grind (arith, nat_tests)
 
 pub and_true : (a : Bool) → (a && true) ≡ a
 and_true true = refl

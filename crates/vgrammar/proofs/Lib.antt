@@ -21,4 +21,7 @@ pub mod HeadPhrases
 pub mod ItemPhrases
 pub mod ManyTurns
 pub mod ModulePhrases
+pub mod MoreLevels
+pub mod ModuleGrowth
 pub mod SourceReads
+pub mod SourceStops

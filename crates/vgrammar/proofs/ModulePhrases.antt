@@ -33,168 +33,8 @@ positive n = omega arith
 no_list : (b : Bool) → (false && b) ≡ true → ⊥
 no_list b e = let none : false ≡ true = e in cc
 
--- Parameters of a head
-
 abbrev parameter_next : Option Text → Bool
 parameter_next = is_front (codes "parameter")
-
-abbrev pub head_shape : Shape HeadParameter
-head_shape = record {
-  spell = spell_head_parameter;
-  valid = fits_head_parameter;
-  closes = λ tree. ends 0;
-  stops = λ tree next. true;
-}
-
-abbrev first_shape : Shape HeadParameter
-first_shape = record {
-  spell = spell_head_parameter;
-  valid = λ tree. is_kind tree.kind && fits_head_parameter tree;
-  closes = λ tree. ends 0;
-  stops = λ tree next. true;
-}
-
-abbrev FirstParts : Shape (Both ParameterType SettingTree)
-FirstParts = past_shape (codes "parameter") (paired_shape parameter_type_shape setting_shape)
-
-abbrev KindPart : Shape (Option ParameterType)
-KindPart = maybe_shape parameter_next ends_parameter_type (past_shape (codes "parameter") parameter_type_shape)
-
-abbrev HeadParts : Shape (Both (Option ParameterType) SettingTree)
-HeadParts = paired_shape KindPart setting_shape
-
-a_type : Example parameter_type_shape
-a_type = record { tree = typed (record { signed = false; range = None }); valid = refl }
-
-setting_worded : Worded setting_shape
-setting_worded tree v = positive _
-
-typed_setting : Phrase (paired parameter_type setting) (ends 0) (paired_shape parameter_type_shape setting_shape)
-typed_setting =
-    next_phrase parameter_type_phrase setting_phrase a_setting setting_worded
-    (λ tree v rest c. name_ends_type tree.name (and_left (is_name tree.name) _ v))
-
-first_parameter_phrase : Phrase first_parameter (ends 0) first_shape
-first_parameter_phrase =
-    made_phrase first_parameter_of first_shape back makes (λ tree next e. e)
-    (past_phrase (codes "parameter") typed_setting (paired_example a_type a_setting))
-  where
-    by_kind : (tree : HeadParameter) (o : Option ParameterType) → tree.kind ≡ o → is_kind o ≡ true → From first_parameter_of tree
-    by_kind tree None e v = let none : false ≡ true = v in absurd cc
-    by_kind tree (Some kind) e v = record {
-      parts = both kind tree.setting;
-      is = λ i. record { kind = sym e i; setting = tree.setting };
-    }
-
-    back : (tree : HeadParameter) → (is_kind tree.kind && fits_head_parameter tree) ≡ true → From first_parameter_of tree
-    back tree v = by_kind tree tree.kind refl (and_left (is_kind tree.kind) _ v)
-
-    makes : Makes first_parameter_of FirstParts first_shape []
-    makes = record { spelled = spelled; valid = valid; closes = closes; stops = λ tree next e. refl }
-      where
-        spelled : (tree : Both ParameterType SettingTree) → spell_head_parameter (first_parameter_of tree) ≡ FirstParts.spell tree
-        spelled (both kind set) = refl
-
-        valid : (tree : Both ParameterType SettingTree) → first_shape.valid (first_parameter_of tree) ≡ FirstParts.valid tree
-        valid (both kind set) = refl
-
-        closes : (tree : Both ParameterType SettingTree) (next : Option Text) → ends 0 next ≡ true →
-            FirstParts.closes tree next ≡ true
-        closes (both kind set) next e = e
-
-pub head_parameter_phrase : Phrase head_parameter (ends 0) head_shape
-unfolding reserved_words
-head_parameter_phrase =
-    made_phrase head_parameter_of head_shape (λ tree v. record { parts = both tree.kind tree.setting; is = refl }) makes
-    (λ tree next e. e)
-    (next_phrase (maybe_phrase parameter_next (past_phrase (codes "parameter") parameter_type_phrase a_type)
-    (λ tree v. positive _)
-    (λ tree v rest. refl)) setting_phrase a_setting setting_worded opens)
-  where
-    opens : Opens (ends_maybe parameter_next ends_parameter_type) setting_shape
-    opens tree v rest c =
-        and_both (ends_parameter_type (Some tree.name)) (not (parameter_next (Some tree.name)))
-        (name_ends_type tree.name (and_left (is_name tree.name) _ v))
-        (ap not (name_isnt (codes "parameter") refl tree.name (and_left (is_name tree.name) _ v)))
-
-    makes : Makes head_parameter_of HeadParts head_shape []
-    makes = record { spelled = spelled; valid = valid; closes = closes; stops = λ tree next e. refl }
-      where
-        spelled : (tree : Both (Option ParameterType) SettingTree) → spell_head_parameter (head_parameter_of tree)
-            ≡ HeadParts.spell tree
-        spelled (both None set) = refl
-        spelled (both (Some kind) set) = refl
-
-        valid : (tree : Both (Option ParameterType) SettingTree) → fits_head_parameter (head_parameter_of tree)
-            ≡ HeadParts.valid tree
-        valid (both None set) = refl
-        valid (both (Some kind) set) = refl
-
-        closes : (tree : Both (Option ParameterType) SettingTree) (next : Option Text) → ends 0 next ≡ true →
-            HeadParts.closes tree next ≡ true
-        closes (both kind set) next e = e
-
-an_unkinded : Example head_shape
-an_unkinded = record { tree = record { kind = None; setting = a_setting.tree }; valid = a_setting.valid }
-
-a_first : Example first_shape
-a_first = record {
-  tree = record {
-    kind = Some a_type.tree;
-    setting = a_setting.tree;
-  };
-  valid = and_both _ _ a_type.valid a_setting.valid;
-}
-
-abbrev HeadList : Shape (List_of HeadParameter)
-HeadList = paired_shape first_shape (many_shape comma (ends 0) (past_shape (codes ",") head_shape) (λ list. fits_head_parameter))
-
-abbrev HeadListParts : Shape (Both (List_of HeadParameter) (Unit {0}))
-HeadListParts = past_shape (codes "(") (paired_shape HeadList (only_shape (codes ")")))
-
-abbrev heads_shape : Shape (List HeadParameter)
-heads_shape = record {
-  spell = λ list. in_parentheses (listed spell_head_parameter list);
-  valid = fits_head_parameters;
-  closes = λ list. always;
-  stops = λ list next. true;
-}
-
-heads_phrase : Phrase (made head_list_of head_parameters) always heads_shape
-unfolding binary_of
-heads_phrase =
-    made_phrase head_list_of heads_shape back makes (λ list next e. refl)
-    (past_phrase (codes "(")
-    (before_phrase (codes ")") (list_phrase first_parameter_phrase head_parameter_phrase an_unkinded refl) (nothing_phrase always)
-    nothing_example refl)
-    (record { tree = both (both a_first.tree []) tt; valid = and_both _ true (and_both _ true a_first.valid refl) refl }))
-  where
-    back : (list : List HeadParameter) → fits_head_parameters list ≡ true → From head_list_of list
-    back [] v = let none : false ≡ true = v in absurd cc
-    back (tree ∷ more) v = record { parts = both (both tree more) tt; is = refl }
-
-    makes : Makes head_list_of HeadListParts heads_shape []
-    makes = record { spelled = spelled; valid = valid; closes = λ tree next e. closes tree next; stops = λ tree next e. refl }
-      where
-        spelled : (tree : Both (List_of HeadParameter) (Unit {0})) → heads_shape.spell (head_list_of tree)
-            ≡ HeadListParts.spell tree
-        spelled (both (both tree more) end) = refl
-
-        valid : (tree : Both (List_of HeadParameter) (Unit {0})) → fits_head_parameters (head_list_of tree)
-            ≡ HeadListParts.valid tree
-        valid (both (both tree more) end) =
-            sym (and_assoc (is_kind tree.kind) (fits_head_parameter tree) (list_all fits_head_parameter more))
-            ∙ ap (λ b. (is_kind tree.kind && fits_head_parameter tree) && b) (sym (allows_each fits_head_parameter [] more))
-            ∙ sym (and_true _)
-
-        closes : (tree : Both (List_of HeadParameter) (Unit {0})) (next : Option Text) → HeadListParts.closes tree next ≡ true
-        closes (both list end) next = refl
-
-heads_example : Example heads_shape
-unfolding a_first
-heads_example = record { tree = a_first.tree ∷ []; valid = and_both _ true a_first.valid refl }
-
--- Directions
 
 abbrev net_next : Option Text → Bool
 net_next = is_meant net_of
@@ -214,117 +54,11 @@ no_wire (Some word) e =
     false_true : false ≡ true → ⊥
     false_true e = cc
 
-abbrev LastType : Shape TypeTree
-LastType = record { spell = spell_type; valid = fits_type; closes = λ tree. ends_direction; stops = λ tree next. true }
-
-last_type_phrase : Phrase type ends_direction LastType
-last_type_phrase =
-    phrase_closing (λ tree. ends_direction) (phrase_within ends_direction type_phrase (λ next e. and_left (ends_type next) _ e))
-    (λ tree next e. and_left (ends_type next) _ e) (λ tree next e. e)
-
-plain_type : Example LastType
-plain_type = record { tree = record { signed = false; range = None }; valid = refl }
-
--- what ends before a type: what doesn't begin one, and what ends it
-type_opens : (here : Ends) → here (Some (codes "signed")) ≡ true → here (Some (codes "[")) ≡ true →
-    ((next : Option Text) → ends_direction next ≡ true → here next ≡ true) → Opens here LastType
-type_opens here a b c tree v rest e = by_parts tree.signed tree.range
-  where
-    by_parts : (sign : Bool) (bounds : Option RangeTree) → here (front ((spell_signed sign ++ spell_range bounds) ++ rest)) ≡ true
-    by_parts true bounds = a
-    by_parts false None = c (front rest) e
-    by_parts false (Some tree) = b
-
-abbrev InputParts : Shape (Both (Option (Unit {0})) TypeTree)
-InputParts = past_shape (codes "input") (paired_shape (maybe_shape wire_next always (only_shape (codes "wire"))) LastType)
-
-abbrev OutputParts : Shape (Both (Option NetKind) TypeTree)
-OutputParts = past_shape (codes "output") (paired_shape (maybe_shape net_next always net_shape) LastType)
-
 no_wire_part : Example (maybe_shape wire_next always (only_shape (codes "wire")))
 no_wire_part = record { tree = None; valid = refl }
 
 no_net_part : Example (maybe_shape net_next always net_shape)
 no_net_part = record { tree = None; valid = refl }
-
-input_phrase : Phrase (past (codes "input") (paired (maybe wire_next (word_only (codes "wire"))) type)) ends_direction InputParts
-input_phrase =
-    past_phrase (codes "input")
-    (paired_phrase (maybe_phrase wire_next (only_phrase (codes "wire")) (λ tree v. positive _)
-    (λ tree v rest. refl)) last_type_phrase
-    plain_type
-    (type_opens (λ next. not (wire_next next)) refl refl (λ next e. no_wire next (and_right (ends_type next) _ e)))
-    (λ y v none next e. no_wire next (and_right (ends_type next) _ e)))
-    (paired_example no_wire_part plain_type)
-
-output_phrase : Phrase (past (codes "output") (paired (maybe net_next (worded net_of)) type)) ends_direction OutputParts
-output_phrase =
-    past_phrase (codes "output")
-    (paired_phrase (maybe_phrase net_next net_phrase (λ tree v. positive 0) begins) last_type_phrase plain_type
-    (type_opens (λ next. not (net_next next)) refl refl (λ next e. and_right (ends_type next) _ e))
-    (λ y v none next e. and_right (ends_type next) _ e))
-    (paired_example no_net_part plain_type)
-  where
-    begins : Tested net_next true net_shape
-    begins net.Wire v rest = refl
-    begins net.Reg v rest = refl
-
-abbrev direction_shape : Shape DirectionTree
-direction_shape = record {
-  spell = λ tree. spell_direction (Some tree);
-  valid = λ tree. fits_direction (Some tree);
-  closes = λ tree. ends_direction;
-  stops = λ tree next. true;
-}
-
-direction_phrase : Phrase direction ends_direction direction_shape
-direction_phrase =
-    made_phrase direction_of direction_shape back makes (λ tree next e. e)
-    (either_phrase (is_front (codes "input")) input_phrase output_phrase (λ tree v. positive _) (λ tree v. positive _)
-    (λ tree v rest. refl)
-    (λ tree v rest. refl))
-  where
-    back : (tree : DirectionTree) → fits_direction (Some tree) ≡ true → From direction_of tree
-    back (input true tree) v = record { parts = one_way (both (Some tt) tree); is = refl }
-    back (input false tree) v = record { parts = one_way (both None tree); is = refl }
-    back (output kind tree) v = record { parts = other_way (both kind tree); is = refl }
-
-    makes : Makes direction_of (either_shape InputParts OutputParts) direction_shape []
-    makes = record { spelled = spelled; valid = valid; closes = closes; stops = λ tree next e. refl }
-      where
-        spelled : (tree : Direction) → spell_direction (Some (direction_of tree))
-            ≡ (either_shape InputParts OutputParts).spell tree
-        spelled (one_way (both None tree)) = refl
-        spelled (one_way (both (Some end) tree)) = refl
-        spelled (other_way (both None tree)) = refl
-        spelled (other_way (both (Some kind) tree)) = refl
-
-        valid : (tree : Direction) → fits_direction (Some (direction_of tree)) ≡ (either_shape InputParts OutputParts).valid tree
-        valid (one_way (both None tree)) = refl
-        valid (one_way (both (Some end) tree)) = refl
-        valid (other_way (both None tree)) = refl
-        valid (other_way (both (Some kind) tree)) = refl
-
-        closes : (tree : Direction) (next : Option Text) → ends_direction next ≡ true →
-            (either_shape InputParts OutputParts).closes tree next ≡ true
-        closes (one_way (both wire tree)) next e = e
-        closes (other_way (both kind tree)) next e = e
-
--- Ports
-
-abbrev PortPart : Shape (Option DirectionTree)
-PortPart = maybe_shape is_direction ends_direction direction_shape
-
-abbrev pub port_shape : Shape PortTree
-port_shape = record { spell = spell_port; valid = fits_port; closes = λ tree. always; stops = λ tree next. true }
-
-abbrev first_port_shape : Shape PortTree
-first_port_shape = record {
-  spell = spell_port;
-  valid = λ tree. is_directed tree.direction && fits_port tree;
-  closes = λ tree. always;
-  stops = λ tree next. true;
-}
 
 -- a name stands behind a direction
 name_ends_direction : (letters : Text) → is_name letters ≡ true → ends_direction (Some letters) ≡ true
@@ -358,177 +92,11 @@ no_direction letters is = by_meaning (written (λ text. text) (codes "input" ∷
                 written (λ text. text) (codes "input" ∷ codes "output" ∷ []) letters ≡ None
             nothing_written p q = rw p (rw q refl)
 
-first_port_phrase : Phrase first_port always first_port_shape
-first_port_phrase =
-    made_phrase first_port_of first_port_shape back makes (λ tree next e. refl)
-    (next_phrase direction_phrase named_phrase a_name (λ letters v. positive 0)
-    (λ letters v rest c. name_ends_direction letters v))
-  where
-    by_direction : (tree : PortTree) (o : Option DirectionTree) → tree.direction ≡ o → is_directed o ≡ true →
-        From first_port_of tree
-    by_direction tree None e v = let none : false ≡ true = v in absurd cc
-    by_direction tree (Some way) e v = record {
-      parts = both way tree.name;
-      is = λ i. record { direction = sym e i; name = tree.name };
-    }
-
-    back : (tree : PortTree) → (is_directed tree.direction && fits_port tree) ≡ true → From first_port_of tree
-    back tree v = by_direction tree tree.direction refl (and_left (is_directed tree.direction) _ v)
-
-    makes : Makes first_port_of (paired_shape direction_shape (text_shape is_name)) first_port_shape []
-    makes = record { spelled = spelled; valid = valid; closes = λ tree next e. closes tree next; stops = λ tree next e. refl }
-      where
-        spelled : (tree : Both DirectionTree Text) →
-            spell_port (first_port_of tree) ≡ (paired_shape direction_shape (text_shape is_name)).spell tree
-        spelled (both way letters) = refl
-
-        valid : (tree : Both DirectionTree Text) →
-            first_port_shape.valid (first_port_of tree) ≡ (paired_shape direction_shape (text_shape is_name)).valid tree
-        valid (both way letters) = refl
-
-        closes : (tree : Both DirectionTree Text) (next : Option Text) →
-            (paired_shape direction_shape (text_shape is_name)).closes tree next ≡ true
-        closes (both way letters) next = refl
-
-pub port_phrase : Phrase port always port_shape
-port_phrase =
-    made_phrase port_of port_shape (λ tree v. record { parts = both tree.direction tree.name; is = refl }) makes
-    (λ tree next e. refl)
-    (next_phrase (maybe_phrase is_direction direction_phrase some begins) named_phrase a_name (λ letters v. positive 0)
-    (λ letters v rest c. and_both (ends_direction (Some letters)) (not (is_direction (Some letters)))
-    (name_ends_direction letters v)
-    (ap not (no_direction letters v))))
-  where
-    some : Worded direction_shape
-    some (input wire tree) v = positive _
-    some (output kind tree) v = positive _
-
-    begins : Tested is_direction true direction_shape
-    begins (input wire tree) v rest = refl
-    begins (output kind tree) v rest = refl
-
-    makes : Makes port_of (paired_shape PortPart (text_shape is_name)) port_shape []
-    makes = record { spelled = spelled; valid = valid; closes = λ tree next e. closes tree next; stops = λ tree next e. refl }
-      where
-        spelled : (tree : Both (Option DirectionTree) Text) →
-            spell_port (port_of tree) ≡ (paired_shape PortPart (text_shape is_name)).spell tree
-        spelled (both None letters) = refl
-        spelled (both (Some way) letters) = refl
-
-        valid : (tree : Both (Option DirectionTree) Text) → fits_port (port_of tree)
-            ≡ (paired_shape PortPart (text_shape is_name)).valid tree
-        valid (both None letters) = refl
-        valid (both (Some way) letters) = refl
-
-        closes : (tree : Both (Option DirectionTree) Text) (next : Option Text) →
-            (paired_shape PortPart (text_shape is_name)).closes tree next ≡ true
-        closes (both way letters) next = refl
-
-a_port : Example port_shape
-a_port = record { tree = record { direction = None; name = a_name.tree }; valid = a_name.valid }
-
-abbrev PortList : Shape (Both (List_of PortTree) (Unit {0}))
-PortList =
-    paired_shape (paired_shape first_port_shape (many_shape comma always (past_shape (codes ",") port_shape) (λ list. fits_port)))
-    (only_shape (codes ")"))
-
-abbrev PortsParts : Shape Ports
-PortsParts = past_shape (codes "(") (either_shape (only_shape (codes ")")) PortList)
-
-abbrev ports_shape : Shape (List PortTree)
-ports_shape = record {
-  spell = λ list. in_parentheses (listed spell_port list);
-  valid = fits_ports;
-  closes = λ list. always;
-  stops = λ list next. true;
-}
-
 abbrev close : Option Text → Bool
 close = is_front (codes ")")
 
-ports_phrase : Phrase ports always ports_shape
-ports_phrase =
-    made_phrase ports_of ports_shape back makes (λ list next e. refl)
-    (past_phrase (codes "(")
-    (either_phrase close (only_phrase (codes ")"))
-    (before_phrase (codes ")") (list_phrase first_port_phrase port_phrase a_port refl)
-    (nothing_phrase always) nothing_example refl)
-    (λ tree v. positive _) some (λ tree v rest. refl) not_close)
-    (record { tree = one_way tt; valid = refl }))
-  where
-    some : Worded PortList
-    some (both (both tree more) end) v = by_direction tree.direction
-      where
-        by_direction : (o : Option DirectionTree) → 0 < length (((spell_direction o ++ tree.name ∷ [])
-            ++ flat_map (λ other. codes "," ∷ spell_port other) more) ++ codes ")" ∷ [])
-        by_direction None = positive _
-        by_direction (Some (input wire kind)) = positive _
-        by_direction (Some (output kind way)) = positive _
-
-    not_close : Tested close false PortList
-    not_close (both (both tree more) end) v rest =
-        by_direction tree.direction (and_left (is_directed tree.direction) _ (and_left _ _ (and_left _ true v)))
-      where
-        by_direction : (o : Option DirectionTree) → is_directed o ≡ true → close (front ((((spell_direction o ++ tree.name ∷ [])
-            ++ flat_map (λ other. codes "," ∷ spell_port other) more) ++ codes ")" ∷ []) ++ rest)) ≡ false
-        by_direction None e = let none : false ≡ true = e in absurd cc
-        by_direction (Some (input wire kind)) e = refl
-        by_direction (Some (output kind way)) e = refl
-
-    back : (list : List PortTree) → fits_ports list ≡ true → From ports_of list
-    back [] v = record { parts = one_way tt; is = refl }
-    back (tree ∷ more) v = record { parts = other_way (both (both tree more) tt); is = refl }
-
-    makes : Makes ports_of PortsParts ports_shape []
-    makes = record { spelled = spelled; valid = valid; closes = λ tree next e. closes tree next; stops = λ tree next e. refl }
-      where
-        spelled : (tree : Ports) → ports_shape.spell (ports_of tree) ≡ PortsParts.spell tree
-        spelled (one_way end) = refl
-        spelled (other_way (both (both tree more) end)) = refl
-
-        valid : (tree : Ports) → fits_ports (ports_of tree) ≡ PortsParts.valid tree
-        valid (one_way end) = refl
-        valid (other_way (both (both tree more) end)) =
-            sym (and_assoc (is_directed tree.direction) (fits_port tree) (list_all fits_port more))
-            ∙ ap (λ b. (is_directed tree.direction && fits_port tree) && b) (sym (allows_each fits_port [] more))
-            ∙ sym (and_true _)
-
-        closes : (tree : Ports) (next : Option Text) → PortsParts.closes tree next ≡ true
-        closes (one_way end) next = refl
-        closes (other_way (both list end)) next = refl
-
--- Modules
-
 abbrev not_endmodule : Option Text → Bool
 not_endmodule next = not (is_front (codes "endmodule") next)
-
-item_worded : Worded item_shape
-item_worded (parameters local kind list) v = positive _
-item_worded (declaration (variables kind tree) list) v = positive _
-item_worded (declaration integers list) v = positive _
-item_worded (events list) v = positive _
-item_worded (assignments list) v = positive _
-item_worded (initial body) v = positive _
-item_worded (always_item body) v = positive _
-item_worded (instances letters tree list) v = positive _
-
--- a word that begins no item
-no_item : (text : Text) → ((words : List Text) → item (text ∷ words) ≡ stop NoTree (text ∷ words)) →
-    Tested (is_front text) false item_shape
-no_item text none = refused_first (is_front text) item_phrase item_worded refl refuses
-  where
-    refuses : (word : Text) (words : List Text) (tree : ItemTree) (left : List Text) → is_front text (Some word) ≡ true →
-        item (word ∷ words) ≡ got tree left → ⊥
-    refuses word words tree left is e =
-        stop_got (sym (none words) ∙ ap (λ w. item (w ∷ words)) (same_text text word is) ∙ e)
-
-no_endmodule : Tested (is_front (codes "endmodule")) false item_shape
-unfolding reserved_words
-no_endmodule = no_item (codes "endmodule") (λ words. refl)
-
-no_else : Tested (is_front (codes "else")) false item_shape
-unfolding reserved_words
-no_else = no_item (codes "else") (λ words. refl)
 
 abbrev hash : Option Text → Bool
 hash = is_front (codes "#")
@@ -536,109 +104,541 @@ hash = is_front (codes "#")
 abbrev opening : Option Text → Bool
 opening = is_front (codes "(")
 
-abbrev Items : Shape (Both (List ItemTree) (Unit {0}))
-Items = paired_shape (many_shape not_endmodule ends_statement item_shape (λ list. fits_item)) (only_shape (codes "endmodule"))
+module _ (below : ℕ) where
+  abbrev levels : ℕ
+  levels = suc below
 
-abbrev PortsPart : Shape (Both (Option (List PortTree)) (Both (List ItemTree) (Unit {0})))
-PortsPart = paired_shape (maybe_shape opening always ports_shape) (past_shape (codes ";") Items)
+  -- Parameters of a head
 
-abbrev HeadPart : Shape (Option (List HeadParameter))
-HeadPart = maybe_shape hash always (past_shape (codes "#") heads_shape)
+  abbrev pub head_shape : Shape HeadParameter
+  head_shape = record {
+    spell = spell_head_parameter;
+    valid = fits_head_parameter levels;
+    closes = λ tree. ends 0;
+    stops = λ tree next. true;
+  }
 
-abbrev ModuleParts : Shape Module
-ModuleParts = past_shape (codes "module") (paired_shape (text_shape is_name) (paired_shape HeadPart PortsPart))
+  abbrev first_shape : Shape HeadParameter
+  first_shape = record {
+    spell = spell_head_parameter;
+    valid = λ tree. is_kind tree.kind && fits_head_parameter levels tree;
+    closes = λ tree. ends 0;
+    stops = λ tree next. true;
+  }
 
-abbrev pub module_shape : Shape ModuleTree
-module_shape = record { spell = spell_module; valid = fits_module; closes = λ tree. always; stops = λ tree next. true }
+  abbrev FirstParts : Shape (Both ParameterType SettingTree)
+  FirstParts = past_shape (codes "parameter") (paired_shape (parameter_type_shape below) (setting_shape below))
 
-no_items : Example Items
-no_items = record { tree = both [] tt; valid = refl }
+  abbrev KindPart : Shape (Option ParameterType)
+  KindPart = maybe_shape parameter_next ends_parameter_type (past_shape (codes "parameter") (parameter_type_shape below))
 
-no_ports : Example (maybe_shape opening always ports_shape)
-no_ports = record { tree = None; valid = refl }
+  abbrev HeadParts : Shape (Both (Option ParameterType) SettingTree)
+  HeadParts = paired_shape KindPart (setting_shape below)
 
-no_head : Example HeadPart
-no_head = record { tree = None; valid = refl }
+  a_type : Example (parameter_type_shape below)
+  a_type = record { tree = typed (record { signed = false; range = None }); valid = refl }
 
-ports_example : Example PortsPart
-ports_example = paired_example no_ports (past_example (codes ";") no_items)
+  setting_worded : Worded (setting_shape below)
+  setting_worded tree v = positive _
 
-items_phrase : Phrase (paired (many not_endmodule (λ list. item)) (word_only (codes "endmodule"))) always Items
-items_phrase =
-    before_phrase (codes "endmodule")
-    (many_phrase not_endmodule (λ list. item) ends_statement item_shape (λ list. fits_item) (λ list. item_phrase)
-    (λ list tree v. item_worded tree v)
-    (λ list tree rest v. ap not (no_endmodule tree v rest)) (λ list tree rest v. ap not (no_else tree v rest)))
-    (nothing_phrase always) nothing_example refl
+  typed_setting : Phrase (paired (parameter_type levels) (setting levels)) (ends 0) (paired_shape (parameter_type_shape below) (setting_shape below))
+  typed_setting =
+      next_phrase (parameter_type_phrase below) (setting_phrase below) (a_setting below) setting_worded
+      (λ tree v rest c. name_ends_type tree.name (and_left (is_name tree.name) _ v))
 
-ports_part_phrase : Phrase (paired (maybe opening ports) (past (codes ";") (paired (many not_endmodule (λ list. item))
-    (word_only (codes "endmodule"))))) always PortsPart
-ports_part_phrase =
-    before_phrase (codes ";")
-    (maybe_phrase opening ports_phrase (λ tree v. positive _) (λ tree v rest. refl)) items_phrase no_items refl
+  first_parameter_phrase : Phrase (first_parameter levels) (ends 0) first_shape
+  first_parameter_phrase =
+      made_phrase first_parameter_of first_shape back makes (λ tree next e. e)
+      (past_phrase (codes "parameter") typed_setting (paired_example a_type (a_setting below)))
+    where
+      by_kind : (tree : HeadParameter) (o : Option ParameterType) → tree.kind ≡ o → is_kind o ≡ true → From first_parameter_of tree
+      by_kind tree None e v = let none : false ≡ true = v in absurd cc
+      by_kind tree (Some kind) e v = record {
+        parts = both kind tree.setting;
+        is = λ i. record { kind = sym e i; setting = tree.setting };
+      }
 
-pub module_phrase : Phrase module_tree always module_shape
-module_phrase =
-    made_phrase module_of module_shape
-    (λ tree v. record { parts = both tree.name (both tree.parameters (both tree.ports (both tree.items tt))); is = refl }) makes
-    (λ tree next e. refl)
-    (past_phrase (codes "module")
-    (free_phrase named_phrase
-    (next_phrase (maybe_phrase hash (past_phrase (codes "#") heads_phrase heads_example) (λ tree v. positive _)
-    (λ tree v rest. refl))
-    ports_part_phrase ports_example some opens)
-    (paired_example no_head ports_example))
-    (paired_example a_name (paired_example no_head ports_example)))
-  where
-    some : Worded PortsPart
-    some (both None body) v = positive _
-    some (both (Some list) body) v = positive _
+      back : (tree : HeadParameter) → (is_kind tree.kind && fits_head_parameter levels tree) ≡ true → From first_parameter_of tree
+      back tree v = by_kind tree tree.kind refl (and_left (is_kind tree.kind) _ v)
 
-    opens : Opens (ends_maybe hash always) PortsPart
-    opens (both None body) v rest c = refl
-    opens (both (Some list) body) v rest c = refl
+      makes : Makes first_parameter_of FirstParts first_shape []
+      makes = record { spelled = spelled; valid = valid; closes = closes; stops = λ tree next e. refl }
+        where
+          spelled : (tree : Both ParameterType SettingTree) → spell_head_parameter (first_parameter_of tree) ≡ FirstParts.spell tree
+          spelled (both kind set) = refl
 
-    makes : Makes module_of ModuleParts module_shape []
-    makes = record { spelled = spelled; valid = valid; closes = λ tree next e. closes tree next; stops = λ tree next e. refl }
-      where
-        spelled : (tree : Module) → spell_module (module_of tree) ≡ ModuleParts.spell tree
-        spelled (both letters (both None (both None (both body end)))) = refl
-        spelled (both letters (both None (both (Some list) (both body end)))) = refl
-        spelled (both letters (both (Some head) (both None (both body end)))) = refl
-        spelled (both letters (both (Some head) (both (Some list) (both body end)))) = refl
+          valid : (tree : Both ParameterType SettingTree) → first_shape.valid (first_parameter_of tree) ≡ FirstParts.valid tree
+          valid (both kind set) = refl
 
-        regroup : (a b c d : Bool) → (((a && b) && c) && d) ≡ (a && (b && (c && (d && true))))
-        regroup true true true d = sym (and_true d)
-        regroup true true false d = refl
-        regroup true false c d = refl
-        regroup false b c d = refl
+          closes : (tree : Both ParameterType SettingTree) (next : Option Text) → ends 0 next ≡ true →
+              FirstParts.closes tree next ≡ true
+          closes (both kind set) next e = e
 
-        parts_valid : (letters : Text) (a b : Bool) (body : List ItemTree) →
-            (((is_name letters && a) && b) && list_all fits_item body)
-            ≡ (is_name letters && (a && (b && (allows_all (λ list. fits_item) [] body && true))))
-        parts_valid letters a b body =
-            regroup (is_name letters) a b (list_all fits_item body)
-            ∙ ap (λ x. is_name letters && (a && (b && (x && true)))) (sym (allows_each fits_item [] body))
+  pub head_parameter_phrase : Phrase (head_parameter levels) (ends 0) head_shape
+  unfolding reserved_words
+  head_parameter_phrase =
+      made_phrase head_parameter_of head_shape (λ tree v. record { parts = both tree.kind tree.setting; is = refl }) makes
+      (λ tree next e. e)
+      (next_phrase (maybe_phrase parameter_next (past_phrase (codes "parameter") (parameter_type_phrase below) a_type)
+      (λ tree v. positive _)
+      (λ tree v rest. refl)) (setting_phrase below) (a_setting below) setting_worded opens)
+    where
+      opens : Opens (ends_maybe parameter_next ends_parameter_type) (setting_shape below)
+      opens tree v rest c =
+          and_both (ends_parameter_type (Some tree.name)) (not (parameter_next (Some tree.name)))
+          (name_ends_type tree.name (and_left (is_name tree.name) _ v))
+          (ap not (name_isnt (codes "parameter") refl tree.name (and_left (is_name tree.name) _ v)))
 
-        valid : (tree : Module) → fits_module (module_of tree) ≡ ModuleParts.valid tree
-        valid (both letters (both None (both None (both body end)))) = parts_valid letters true true body
-        valid (both letters (both None (both (Some list) (both body end)))) = parts_valid letters true (fits_ports list) body
-        valid (both letters (both (Some head) (both None (both body end)))) = parts_valid letters
-            (fits_head_parameters head) true body
-        valid (both letters (both (Some head) (both (Some list) (both body end)))) =
-            parts_valid letters (fits_head_parameters head) (fits_ports list) body
+      makes : Makes head_parameter_of HeadParts head_shape []
+      makes = record { spelled = spelled; valid = valid; closes = closes; stops = λ tree next e. refl }
+        where
+          spelled : (tree : Both (Option ParameterType) SettingTree) → spell_head_parameter (head_parameter_of tree)
+              ≡ HeadParts.spell tree
+          spelled (both None set) = refl
+          spelled (both (Some kind) set) = refl
 
-        closes : (tree : Module) (next : Option Text) → ModuleParts.closes tree next ≡ true
-        closes (both letters (both head (both list (both body end)))) next = refl
+          valid : (tree : Both (Option ParameterType) SettingTree) → fits_head_parameter levels (head_parameter_of tree)
+              ≡ HeadParts.valid tree
+          valid (both None set) = refl
+          valid (both (Some kind) set) = refl
 
--- Whole texts
+          closes : (tree : Both (Option ParameterType) SettingTree) (next : Option Text) → ends 0 next ≡ true →
+              HeadParts.closes tree next ≡ true
+          closes (both kind set) next e = e
 
-abbrev pub source_shape : Shape SourceTree
-source_shape = many_shape is_some_word always module_shape (λ list. fits_module)
+  an_unkinded : Example head_shape
+  an_unkinded = record { tree = record { kind = None; setting = (a_setting below).tree }; valid = (a_setting below).valid }
 
-pub source_phrase : Phrase source (ends_many is_some_word always) source_shape
-unfolding source
-source_phrase =
-    many_phrase is_some_word (λ list. module_tree) always module_shape (λ list. fits_module) (λ list. module_phrase)
-    (λ list tree v. positive _)
-    (λ list tree rest v. refl) (λ list tree rest v. refl)
+  a_first : Example first_shape
+  a_first = record {
+    tree = record {
+      kind = Some a_type.tree;
+      setting = (a_setting below).tree;
+    };
+    valid = and_both _ _ a_type.valid (a_setting below).valid;
+  }
+
+  abbrev HeadList : Shape (List_of HeadParameter)
+  HeadList = paired_shape first_shape (many_shape comma (ends 0) (past_shape (codes ",") head_shape) (λ list. fits_head_parameter levels))
+
+  abbrev HeadListParts : Shape (Both (List_of HeadParameter) (Unit {0}))
+  HeadListParts = past_shape (codes "(") (paired_shape HeadList (only_shape (codes ")")))
+
+  abbrev heads_shape : Shape (List HeadParameter)
+  heads_shape = record {
+    spell = λ list. in_parentheses (listed spell_head_parameter list);
+    valid = fits_head_parameters levels;
+    closes = λ list. always;
+    stops = λ list next. true;
+  }
+
+  heads_phrase : Phrase (made head_list_of (head_parameters levels)) always heads_shape
+  unfolding binary_of
+  heads_phrase =
+      made_phrase head_list_of heads_shape back makes (λ list next e. refl)
+      (past_phrase (codes "(")
+      (before_phrase (codes ")") (list_phrase first_parameter_phrase head_parameter_phrase an_unkinded refl) (nothing_phrase always)
+      nothing_example refl)
+      (record { tree = both (both a_first.tree []) tt; valid = and_both _ true (and_both _ true a_first.valid refl) refl }))
+    where
+      back : (list : List HeadParameter) → fits_head_parameters levels list ≡ true → From head_list_of list
+      back [] v = let none : false ≡ true = v in absurd cc
+      back (tree ∷ more) v = record { parts = both (both tree more) tt; is = refl }
+
+      makes : Makes head_list_of HeadListParts heads_shape []
+      makes = record { spelled = spelled; valid = valid; closes = λ tree next e. closes tree next; stops = λ tree next e. refl }
+        where
+          spelled : (tree : Both (List_of HeadParameter) (Unit {0})) → heads_shape.spell (head_list_of tree)
+              ≡ HeadListParts.spell tree
+          spelled (both (both tree more) end) = refl
+
+          valid : (tree : Both (List_of HeadParameter) (Unit {0})) → fits_head_parameters levels (head_list_of tree)
+              ≡ HeadListParts.valid tree
+          valid (both (both tree more) end) =
+              sym (and_assoc (is_kind tree.kind) (fits_head_parameter levels tree) (list_all (fits_head_parameter levels) more))
+              ∙ ap (λ b. (is_kind tree.kind && fits_head_parameter levels tree) && b) (sym (allows_each (fits_head_parameter levels) [] more))
+              ∙ sym (and_true _)
+
+          closes : (tree : Both (List_of HeadParameter) (Unit {0})) (next : Option Text) → HeadListParts.closes tree next ≡ true
+          closes (both list end) next = refl
+
+  heads_example : Example heads_shape
+  unfolding a_first
+  heads_example = record { tree = a_first.tree ∷ []; valid = and_both _ true a_first.valid refl }
+
+  abbrev LastType : Shape TypeTree
+  LastType = record { spell = spell_type; valid = fits_type levels; closes = λ tree. ends_direction; stops = λ tree next. true }
+
+  last_type_phrase : Phrase (type levels) ends_direction LastType
+  last_type_phrase =
+      phrase_closing (λ tree. ends_direction) (phrase_within ends_direction (type_phrase below) (λ next e. and_left (ends_type next) _ e))
+      (λ tree next e. and_left (ends_type next) _ e) (λ tree next e. e)
+
+  plain_type : Example LastType
+  plain_type = record { tree = record { signed = false; range = None }; valid = refl }
+
+  -- what ends before a type: what doesn't begin one, and what ends it
+  type_opens : (here : Ends) → here (Some (codes "signed")) ≡ true → here (Some (codes "[")) ≡ true →
+      ((next : Option Text) → ends_direction next ≡ true → here next ≡ true) → Opens here LastType
+  type_opens here a b c tree v rest e = by_parts tree.signed tree.range
+    where
+      by_parts : (sign : Bool) (bounds : Option RangeTree) → here (front ((spell_signed sign ++ spell_range bounds) ++ rest)) ≡ true
+      by_parts true bounds = a
+      by_parts false None = c (front rest) e
+      by_parts false (Some tree) = b
+
+  abbrev InputParts : Shape (Both (Option (Unit {0})) TypeTree)
+  InputParts = past_shape (codes "input") (paired_shape (maybe_shape wire_next always (only_shape (codes "wire"))) LastType)
+
+  abbrev OutputParts : Shape (Both (Option NetKind) TypeTree)
+  OutputParts = past_shape (codes "output") (paired_shape (maybe_shape net_next always net_shape) LastType)
+
+  input_phrase : Phrase (past (codes "input") (paired (maybe wire_next (word_only (codes "wire"))) (type levels))) ends_direction InputParts
+  input_phrase =
+      past_phrase (codes "input")
+      (paired_phrase (maybe_phrase wire_next (only_phrase (codes "wire")) (λ tree v. positive _)
+      (λ tree v rest. refl)) last_type_phrase
+      plain_type
+      (type_opens (λ next. not (wire_next next)) refl refl (λ next e. no_wire next (and_right (ends_type next) _ e)))
+      (λ y v none next e. no_wire next (and_right (ends_type next) _ e)))
+      (paired_example no_wire_part plain_type)
+
+  output_phrase : Phrase (past (codes "output") (paired (maybe net_next (worded net_of)) (type levels))) ends_direction OutputParts
+  output_phrase =
+      past_phrase (codes "output")
+      (paired_phrase (maybe_phrase net_next net_phrase (λ tree v. positive 0) begins) last_type_phrase plain_type
+      (type_opens (λ next. not (net_next next)) refl refl (λ next e. and_right (ends_type next) _ e))
+      (λ y v none next e. and_right (ends_type next) _ e))
+      (paired_example no_net_part plain_type)
+    where
+      begins : Tested net_next true net_shape
+      begins net.Wire v rest = refl
+      begins net.Reg v rest = refl
+
+  abbrev direction_shape : Shape DirectionTree
+  direction_shape = record {
+    spell = λ tree. spell_direction (Some tree);
+    valid = λ tree. fits_direction levels (Some tree);
+    closes = λ tree. ends_direction;
+    stops = λ tree next. true;
+  }
+
+  direction_phrase : Phrase (direction levels) ends_direction direction_shape
+  direction_phrase =
+      made_phrase direction_of direction_shape back makes (λ tree next e. e)
+      (either_phrase (is_front (codes "input")) input_phrase output_phrase (λ tree v. positive _) (λ tree v. positive _)
+      (λ tree v rest. refl)
+      (λ tree v rest. refl))
+    where
+      back : (tree : DirectionTree) → fits_direction levels (Some tree) ≡ true → From direction_of tree
+      back (input true tree) v = record { parts = one_way (both (Some tt) tree); is = refl }
+      back (input false tree) v = record { parts = one_way (both None tree); is = refl }
+      back (output kind tree) v = record { parts = other_way (both kind tree); is = refl }
+
+      makes : Makes direction_of (either_shape InputParts OutputParts) direction_shape []
+      makes = record { spelled = spelled; valid = valid; closes = closes; stops = λ tree next e. refl }
+        where
+          spelled : (tree : Direction) → spell_direction (Some (direction_of tree))
+              ≡ (either_shape InputParts OutputParts).spell tree
+          spelled (one_way (both None tree)) = refl
+          spelled (one_way (both (Some end) tree)) = refl
+          spelled (other_way (both None tree)) = refl
+          spelled (other_way (both (Some kind) tree)) = refl
+
+          valid : (tree : Direction) → fits_direction levels (Some (direction_of tree)) ≡ (either_shape InputParts OutputParts).valid tree
+          valid (one_way (both None tree)) = refl
+          valid (one_way (both (Some end) tree)) = refl
+          valid (other_way (both None tree)) = refl
+          valid (other_way (both (Some kind) tree)) = refl
+
+          closes : (tree : Direction) (next : Option Text) → ends_direction next ≡ true →
+              (either_shape InputParts OutputParts).closes tree next ≡ true
+          closes (one_way (both wire tree)) next e = e
+          closes (other_way (both kind tree)) next e = e
+
+  -- Ports
+
+  abbrev PortPart : Shape (Option DirectionTree)
+  PortPart = maybe_shape is_direction ends_direction direction_shape
+
+  abbrev pub port_shape : Shape PortTree
+  port_shape = record { spell = spell_port; valid = fits_port levels; closes = λ tree. always; stops = λ tree next. true }
+
+  abbrev first_port_shape : Shape PortTree
+  first_port_shape = record {
+    spell = spell_port;
+    valid = λ tree. is_directed tree.direction && fits_port levels tree;
+    closes = λ tree. always;
+    stops = λ tree next. true;
+  }
+
+  first_port_phrase : Phrase (first_port levels) always first_port_shape
+  first_port_phrase =
+      made_phrase first_port_of first_port_shape back makes (λ tree next e. refl)
+      (next_phrase direction_phrase named_phrase a_name (λ letters v. positive 0)
+      (λ letters v rest c. name_ends_direction letters v))
+    where
+      by_direction : (tree : PortTree) (o : Option DirectionTree) → tree.direction ≡ o → is_directed o ≡ true →
+          From first_port_of tree
+      by_direction tree None e v = let none : false ≡ true = v in absurd cc
+      by_direction tree (Some way) e v = record {
+        parts = both way tree.name;
+        is = λ i. record { direction = sym e i; name = tree.name };
+      }
+
+      back : (tree : PortTree) → (is_directed tree.direction && fits_port levels tree) ≡ true → From first_port_of tree
+      back tree v = by_direction tree tree.direction refl (and_left (is_directed tree.direction) _ v)
+
+      makes : Makes first_port_of (paired_shape direction_shape (text_shape is_name)) first_port_shape []
+      makes = record { spelled = spelled; valid = valid; closes = λ tree next e. closes tree next; stops = λ tree next e. refl }
+        where
+          spelled : (tree : Both DirectionTree Text) →
+              spell_port (first_port_of tree) ≡ (paired_shape direction_shape (text_shape is_name)).spell tree
+          spelled (both way letters) = refl
+
+          valid : (tree : Both DirectionTree Text) →
+              first_port_shape.valid (first_port_of tree) ≡ (paired_shape direction_shape (text_shape is_name)).valid tree
+          valid (both way letters) = refl
+
+          closes : (tree : Both DirectionTree Text) (next : Option Text) →
+              (paired_shape direction_shape (text_shape is_name)).closes tree next ≡ true
+          closes (both way letters) next = refl
+
+  pub port_phrase : Phrase (port levels) always port_shape
+  port_phrase =
+      made_phrase port_of port_shape (λ tree v. record { parts = both tree.direction tree.name; is = refl }) makes
+      (λ tree next e. refl)
+      (next_phrase (maybe_phrase is_direction direction_phrase some begins) named_phrase a_name (λ letters v. positive 0)
+      (λ letters v rest c. and_both (ends_direction (Some letters)) (not (is_direction (Some letters)))
+      (name_ends_direction letters v)
+      (ap not (no_direction letters v))))
+    where
+      some : Worded direction_shape
+      some (input wire tree) v = positive _
+      some (output kind tree) v = positive _
+
+      begins : Tested is_direction true direction_shape
+      begins (input wire tree) v rest = refl
+      begins (output kind tree) v rest = refl
+
+      makes : Makes port_of (paired_shape PortPart (text_shape is_name)) port_shape []
+      makes = record { spelled = spelled; valid = valid; closes = λ tree next e. closes tree next; stops = λ tree next e. refl }
+        where
+          spelled : (tree : Both (Option DirectionTree) Text) →
+              spell_port (port_of tree) ≡ (paired_shape PortPart (text_shape is_name)).spell tree
+          spelled (both None letters) = refl
+          spelled (both (Some way) letters) = refl
+
+          valid : (tree : Both (Option DirectionTree) Text) → fits_port levels (port_of tree)
+              ≡ (paired_shape PortPart (text_shape is_name)).valid tree
+          valid (both None letters) = refl
+          valid (both (Some way) letters) = refl
+
+          closes : (tree : Both (Option DirectionTree) Text) (next : Option Text) →
+              (paired_shape PortPart (text_shape is_name)).closes tree next ≡ true
+          closes (both way letters) next = refl
+
+  a_port : Example port_shape
+  a_port = record { tree = record { direction = None; name = a_name.tree }; valid = a_name.valid }
+
+  abbrev PortList : Shape (Both (List_of PortTree) (Unit {0}))
+  PortList =
+      paired_shape (paired_shape first_port_shape (many_shape comma always (past_shape (codes ",") port_shape) (λ list. fits_port levels)))
+      (only_shape (codes ")"))
+
+  abbrev PortsParts : Shape Ports
+  PortsParts = past_shape (codes "(") (either_shape (only_shape (codes ")")) PortList)
+
+  abbrev ports_shape : Shape (List PortTree)
+  ports_shape = record {
+    spell = λ list. in_parentheses (listed spell_port list);
+    valid = fits_ports levels;
+    closes = λ list. always;
+    stops = λ list next. true;
+  }
+
+  ports_phrase : Phrase (ports levels) always ports_shape
+  ports_phrase =
+      made_phrase ports_of ports_shape back makes (λ list next e. refl)
+      (past_phrase (codes "(")
+      (either_phrase close (only_phrase (codes ")"))
+      (before_phrase (codes ")") (list_phrase first_port_phrase port_phrase a_port refl)
+      (nothing_phrase always) nothing_example refl)
+      (λ tree v. positive _) some (λ tree v rest. refl) not_close)
+      (record { tree = one_way tt; valid = refl }))
+    where
+      some : Worded PortList
+      some (both (both tree more) end) v = by_direction tree.direction
+        where
+          by_direction : (o : Option DirectionTree) → 0 < length (((spell_direction o ++ tree.name ∷ [])
+              ++ flat_map (λ other. codes "," ∷ spell_port other) more) ++ codes ")" ∷ [])
+          by_direction None = positive _
+          by_direction (Some (input wire kind)) = positive _
+          by_direction (Some (output kind way)) = positive _
+
+      not_close : Tested close false PortList
+      not_close (both (both tree more) end) v rest =
+          by_direction tree.direction (and_left (is_directed tree.direction) _ (and_left _ _ (and_left _ true v)))
+        where
+          by_direction : (o : Option DirectionTree) → is_directed o ≡ true → close (front ((((spell_direction o ++ tree.name ∷ [])
+              ++ flat_map (λ other. codes "," ∷ spell_port other) more) ++ codes ")" ∷ []) ++ rest)) ≡ false
+          by_direction None e = let none : false ≡ true = e in absurd cc
+          by_direction (Some (input wire kind)) e = refl
+          by_direction (Some (output kind way)) e = refl
+
+      back : (list : List PortTree) → fits_ports levels list ≡ true → From ports_of list
+      back [] v = record { parts = one_way tt; is = refl }
+      back (tree ∷ more) v = record { parts = other_way (both (both tree more) tt); is = refl }
+
+      makes : Makes ports_of PortsParts ports_shape []
+      makes = record { spelled = spelled; valid = valid; closes = λ tree next e. closes tree next; stops = λ tree next e. refl }
+        where
+          spelled : (tree : Ports) → ports_shape.spell (ports_of tree) ≡ PortsParts.spell tree
+          spelled (one_way end) = refl
+          spelled (other_way (both (both tree more) end)) = refl
+
+          valid : (tree : Ports) → fits_ports levels (ports_of tree) ≡ PortsParts.valid tree
+          valid (one_way end) = refl
+          valid (other_way (both (both tree more) end)) =
+              sym (and_assoc (is_directed tree.direction) (fits_port levels tree) (list_all (fits_port levels) more))
+              ∙ ap (λ b. (is_directed tree.direction && fits_port levels tree) && b) (sym (allows_each (fits_port levels) [] more))
+              ∙ sym (and_true _)
+
+          closes : (tree : Ports) (next : Option Text) → PortsParts.closes tree next ≡ true
+          closes (one_way end) next = refl
+          closes (other_way (both list end)) next = refl
+
+  item_worded : Worded (item_shape below)
+  item_worded (parameters local kind list) v = positive _
+  item_worded (declaration (variables kind tree) list) v = positive _
+  item_worded (declaration integers list) v = positive _
+  item_worded (events list) v = positive _
+  item_worded (assignments list) v = positive _
+  item_worded (initial body) v = positive _
+  item_worded (always_item body) v = positive _
+  item_worded (instances letters tree list) v = positive _
+
+  -- a word that begins no item
+  no_item : (text : Text) → ((words : List Text) → item levels (text ∷ words) ≡ stop NoTree (text ∷ words)) →
+      Tested (is_front text) false (item_shape below)
+  no_item text none = refused_first (is_front text) (item_phrase below) item_worded refl refuses
+    where
+      refuses : (word : Text) (words : List Text) (tree : ItemTree) (left : List Text) → is_front text (Some word) ≡ true →
+          item levels (word ∷ words) ≡ got tree left → ⊥
+      refuses word words tree left is e =
+          stop_got (sym (none words) ∙ ap (λ w. item levels (w ∷ words)) (same_text text word is) ∙ e)
+
+  no_endmodule : Tested (is_front (codes "endmodule")) false (item_shape below)
+  unfolding reserved_words
+  no_endmodule = no_item (codes "endmodule") (λ words. refl)
+
+  no_else : Tested (is_front (codes "else")) false (item_shape below)
+  unfolding reserved_words
+  no_else = no_item (codes "else") (λ words. refl)
+
+  abbrev Items : Shape (Both (List ItemTree) (Unit {0}))
+  Items = paired_shape (many_shape not_endmodule ends_statement (item_shape below) (λ list. fits_item levels)) (only_shape (codes "endmodule"))
+
+  abbrev PortsPart : Shape (Both (Option (List PortTree)) (Both (List ItemTree) (Unit {0})))
+  PortsPart = paired_shape (maybe_shape opening always ports_shape) (past_shape (codes ";") Items)
+
+  abbrev HeadPart : Shape (Option (List HeadParameter))
+  HeadPart = maybe_shape hash always (past_shape (codes "#") heads_shape)
+
+  abbrev ModuleParts : Shape Module
+  ModuleParts = past_shape (codes "module") (paired_shape (text_shape is_name) (paired_shape HeadPart PortsPart))
+
+  abbrev pub module_shape : Shape ModuleTree
+  module_shape = record { spell = spell_module; valid = fits_module levels; closes = λ tree. always; stops = λ tree next. true }
+
+  no_items : Example Items
+  no_items = record { tree = both [] tt; valid = refl }
+
+  no_ports : Example (maybe_shape opening always ports_shape)
+  no_ports = record { tree = None; valid = refl }
+
+  no_head : Example HeadPart
+  no_head = record { tree = None; valid = refl }
+
+  ports_example : Example PortsPart
+  ports_example = paired_example no_ports (past_example (codes ";") no_items)
+
+  items_phrase : Phrase (paired (many not_endmodule (λ list. item levels)) (word_only (codes "endmodule"))) always Items
+  items_phrase =
+      before_phrase (codes "endmodule")
+      (many_phrase not_endmodule (λ list. item levels) ends_statement (item_shape below) (λ list. fits_item levels) (λ list. (item_phrase below))
+      (λ list tree v. item_worded tree v)
+      (λ list tree rest v. ap not (no_endmodule tree v rest)) (λ list tree rest v. ap not (no_else tree v rest)))
+      (nothing_phrase always) nothing_example refl
+
+  ports_part_phrase : Phrase (paired (maybe opening (ports levels)) (past (codes ";") (paired (many not_endmodule (λ list. item levels))
+      (word_only (codes "endmodule"))))) always PortsPart
+  ports_part_phrase =
+      before_phrase (codes ";")
+      (maybe_phrase opening ports_phrase (λ tree v. positive _) (λ tree v rest. refl)) items_phrase no_items refl
+
+  pub module_phrase : Phrase (module_tree levels) always module_shape
+  module_phrase =
+      made_phrase module_of module_shape
+      (λ tree v. record { parts = both tree.name (both tree.parameters (both tree.ports (both tree.items tt))); is = refl }) makes
+      (λ tree next e. refl)
+      (past_phrase (codes "module")
+      (free_phrase named_phrase
+      (next_phrase (maybe_phrase hash (past_phrase (codes "#") heads_phrase heads_example) (λ tree v. positive _)
+      (λ tree v rest. refl))
+      ports_part_phrase ports_example some opens)
+      (paired_example no_head ports_example))
+      (paired_example a_name (paired_example no_head ports_example)))
+    where
+      some : Worded PortsPart
+      some (both None body) v = positive _
+      some (both (Some list) body) v = positive _
+
+      opens : Opens (ends_maybe hash always) PortsPart
+      opens (both None body) v rest c = refl
+      opens (both (Some list) body) v rest c = refl
+
+      makes : Makes module_of ModuleParts module_shape []
+      makes = record { spelled = spelled; valid = valid; closes = λ tree next e. closes tree next; stops = λ tree next e. refl }
+        where
+          spelled : (tree : Module) → spell_module (module_of tree) ≡ ModuleParts.spell tree
+          spelled (both letters (both None (both None (both body end)))) = refl
+          spelled (both letters (both None (both (Some list) (both body end)))) = refl
+          spelled (both letters (both (Some head) (both None (both body end)))) = refl
+          spelled (both letters (both (Some head) (both (Some list) (both body end)))) = refl
+
+          regroup : (a b c d : Bool) → (((a && b) && c) && d) ≡ (a && (b && (c && (d && true))))
+          regroup true true true d = sym (and_true d)
+          regroup true true false d = refl
+          regroup true false c d = refl
+          regroup false b c d = refl
+
+          parts_valid : (letters : Text) (a b : Bool) (body : List ItemTree) →
+              (((is_name letters && a) && b) && list_all (fits_item levels) body)
+              ≡ (is_name letters && (a && (b && (allows_all (λ list. fits_item levels) [] body && true))))
+          parts_valid letters a b body =
+              regroup (is_name letters) a b (list_all (fits_item levels) body)
+              ∙ ap (λ x. is_name letters && (a && (b && (x && true)))) (sym (allows_each (fits_item levels) [] body))
+
+          valid : (tree : Module) → fits_module levels (module_of tree) ≡ ModuleParts.valid tree
+          valid (both letters (both None (both None (both body end)))) = parts_valid letters true true body
+          valid (both letters (both None (both (Some list) (both body end)))) = parts_valid letters true (fits_ports levels list) body
+          valid (both letters (both (Some head) (both None (both body end)))) = parts_valid letters
+              (fits_head_parameters levels head) true body
+          valid (both letters (both (Some head) (both (Some list) (both body end)))) =
+              parts_valid letters (fits_head_parameters levels head) (fits_ports levels list) body
+
+          closes : (tree : Module) (next : Option Text) → ModuleParts.closes tree next ≡ true
+          closes (both letters (both head (both list (both body end)))) next = refl
+
+  -- Whole texts
+
+  abbrev pub source_shape : Shape SourceTree
+  source_shape = many_shape is_some_word always module_shape (λ list. fits_module levels)
+
+  pub source_phrase : Phrase (source levels) (ends_many is_some_word always) source_shape
+  unfolding source
+  source_phrase =
+      many_phrase is_some_word (λ list. module_tree levels) always module_shape (λ list. fits_module levels) (λ list. module_phrase)
+      (λ list tree v. positive _)
+      (λ list tree rest v. refl) (λ list tree rest v. refl)

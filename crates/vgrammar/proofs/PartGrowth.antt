@@ -112,7 +112,7 @@ optional_delay_growth below level = maybe_growth (is_front (codes "#")) (past_gr
 
 -- Event controls
 
-named_word : Growth named named
+pub named_word : Growth named named
 named_word = worded_growth (meant_if is_name)
 
 term_growth : Growth term term

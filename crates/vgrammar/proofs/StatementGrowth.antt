@@ -222,3 +222,6 @@ pub statement_grows : (n : ℕ) (words : List Text) → Grows (statement n words
 unfolding statement
 statement_grows zero words = none_rise words
 statement_grows (suc below) words = (reading_growth below (rising_growth below (statement_grows below))).rises words
+
+pub statement_growth : (n : ℕ) → Growth (statement n) (statement (up n))
+statement_growth n = rising_growth n (statement_grows n)

@@ -1,6 +1,5 @@
 -- Reading of statements stops at the place from which the words begin none.
-use Rattle.std.proofs.Common.{◌≡◌, ℕ, zero, suc, ◌+◌, ◌*◌, ◌≤◌, true, nat_le, List, [], ◌∷◌, ◌++◌, refl, sym, ap, ◌∙◌, arith, subst}
-use Rattle.std.proofs.lemmas.Bool.Decides.{nat_tests}
+use Rattle.std.proofs.Common.{◌≡◌, ℕ, zero, suc, ◌+◌, ◌*◌, ◌≤◌, nat_le, List, [], ◌∷◌, ◌++◌, refl, sym, ap, ◌∙◌, arith, subst}
 use Rattle.basis.proofs.Bools.{and_left, and_right, and_both}
 use Rattle.vast.specs.Syntax.{Text}
 use Rattle.vast.specs.Statements.{empty, statement_depth, fits_statement}
@@ -14,7 +13,7 @@ use Rattle.vgrammar.specs.StatementPlaces.{BeginsOne, BeginsNone, StopsAtPlace, 
 use Rattle.vgrammar.proofs.Phrases.{Example}
 use Rattle.vgrammar.proofs.Growth.{up, phrase_keep}
 use Rattle.vgrammar.proofs.PhrasePlaces.{IsBegun, stopped, passed}
-use Rattle.vgrammar.proofs.LevelFacts.{one_within}
+use Rattle.vgrammar.proofs.LevelFacts.{one_within, within_more}
 use Rattle.vgrammar.proofs.StatementShapes.{statement_shape}
 use Rattle.vgrammar.proofs.StatementLevels.{statement_phrase}
 use Rattle.vgrammar.proofs.StatementReads.{read_whole}
@@ -57,10 +56,6 @@ stops_too_deep below words left e =
       whole = s.whole;
       viable = begins_one (up (suc below)) (s.before ++ s.word ∷ []) s.viable;
     }
-
--- a tree of some levels has so many more
-within_more : (d n m : ℕ) → n ≤ m → nat_le d n ≡ true → nat_le d m ≡ true
-within_more d n m e f = grind (arith, nat_tests)
 
 -- what is refused for good is so with three levels more, and so with any number more
 stays : (n below : ℕ) (words left : List Text) → statement (suc below) words ≡ stop NoTree left →

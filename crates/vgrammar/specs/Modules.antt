@@ -1,5 +1,6 @@
--- Reading of modules, and of a whole text (IEEE 1364-2005, A.1 and A.2).
-use Rattle.std.specs.Prelude.{Bool, true, false, not, List, [], ◌∷◌, Option, Some, None, codes}
+-- Reading of modules, and of a whole text (IEEE 1364-2005, A.1 and A.2), whose statements and expressions have so many levels at
+-- most.
+use Rattle.std.specs.Prelude.{ℕ, Bool, true, false, not, List, [], ◌∷◌, Option, Some, None, codes}
 use Rattle.vast.specs.Syntax.{Text}
 use Rattle.vast.specs.Expressions.{ExpressionTree}
 use Rattle.vast.specs.Statements.{StatementTree}
@@ -13,8 +14,8 @@ use Rattle.vgrammar.specs.Starts.{is_meant}
 use Rattle.vgrammar.specs.Statements.{value, named, word_only, List_of, comma_list, statement}
 
 -- an expression that stands in no statement
-abbrev pub free_value : Reader ExpressionTree
-free_value = value 64
+abbrev pub free_value : ℕ → Reader ExpressionTree
+free_value levels = value levels
 
 abbrev pub listed_of : {A : Type 0} → List_of A → List A
 listed_of (both tree more) = tree ∷ more
@@ -24,8 +25,10 @@ listed_of (both tree more) = tree ∷ more
 abbrev pub range_of : Both ExpressionTree (Both ExpressionTree (Unit {0})) → RangeTree
 range_of (both one (both other end)) = record { left = one; right = other }
 
-abbrev pub range : Reader RangeTree
-range = made range_of (past (codes "[") (paired free_value (past (codes ":") (paired free_value (word_only (codes "]"))))))
+abbrev pub range : ℕ → Reader RangeTree
+range levels =
+    made range_of (past (codes "[") (paired (free_value levels) (past (codes ":")
+    (paired (free_value levels) (word_only (codes "]"))))))
 
 abbrev pub is_there : Option (Unit {0}) → Bool
 is_there None = false
@@ -34,29 +37,32 @@ is_there (Some end) = true
 abbrev pub type_of : Both (Option (Unit {0})) (Option RangeTree) → TypeTree
 type_of (both sign bounds) = record { signed = is_there sign; range = bounds }
 
-abbrev pub type : Reader TypeTree
-type = made type_of (paired (maybe (is_front (codes "signed")) (word_only (codes "signed"))) (maybe (is_front (codes "[")) range))
+abbrev pub type : ℕ → Reader TypeTree
+type levels =
+    made type_of (paired (maybe (is_front (codes "signed")) (word_only (codes "signed")))
+    (maybe (is_front (codes "[")) (range levels)))
 
 abbrev pub parameter_type_of : Either (Unit {0}) TypeTree → ParameterType
 parameter_type_of (one_way end) = integer
 parameter_type_of (other_way tree) = typed tree
 
-abbrev pub parameter_type : Reader ParameterType
-parameter_type = made parameter_type_of (either (is_front (codes "integer")) (word_only (codes "integer")) type)
+abbrev pub parameter_type : ℕ → Reader ParameterType
+parameter_type levels =
+    made parameter_type_of (either (is_front (codes "integer")) (word_only (codes "integer")) (type levels))
 
 -- name = value, and name alone
 
 abbrev pub setting_of : Both Text ExpressionTree → SettingTree
 setting_of (both letters tree) = record { name = letters; value = tree }
 
-abbrev pub setting : Reader SettingTree
-setting = made setting_of (paired named (past (codes "=") free_value))
+abbrev pub setting : ℕ → Reader SettingTree
+setting levels = made setting_of (paired named (past (codes "=") (free_value levels)))
 
 abbrev pub declared_of : Both Text (Option ExpressionTree) → DeclaredTree
 declared_of (both letters tree) = record { name = letters; value = tree }
 
-abbrev pub declared : Reader DeclaredTree
-declared = made declared_of (paired named (maybe (is_front (codes "=")) (past (codes "=") free_value)))
+abbrev pub declared : ℕ → Reader DeclaredTree
+declared levels = made declared_of (paired named (maybe (is_front (codes "=")) (past (codes "=") (free_value levels))))
 
 -- Connections
 
@@ -64,16 +70,16 @@ abbrev pub Value : Type 0
 Value = Either (Unit {0}) (Both ExpressionTree (Unit {0}))
 
 -- a value and ), or ) alone
-abbrev pub value_in : Reader Value
-value_in = either (is_front (codes ")")) (word_only (codes ")")) (paired free_value (word_only (codes ")")))
+abbrev pub value_in : ℕ → Reader Value
+value_in levels = either (is_front (codes ")")) (word_only (codes ")")) (paired (free_value levels) (word_only (codes ")")))
 
 abbrev pub connection_of : Both Text Value → ConnectionTree
 connection_of (both letters (one_way end)) = record { name = letters; value = None }
 connection_of (both letters (other_way (both tree end))) = record { name = letters; value = Some tree }
 
 -- behind .
-abbrev pub connection : Reader ConnectionTree
-connection = made connection_of (past (codes ".") (paired named (past (codes "(") value_in)))
+abbrev pub connection : ℕ → Reader ConnectionTree
+connection levels = made connection_of (past (codes ".") (paired named (past (codes "(") (value_in levels))))
 
 abbrev pub Connections : Type 0
 Connections = Either (Both (List_of ConnectionTree) (Unit {0})) (Either (Unit {0}) (Both (List_of ExpressionTree) (Unit {0})))
@@ -83,19 +89,20 @@ connections_of (one_way (both list end)) = by_name (listed_of list)
 connections_of (other_way (one_way end)) = by_order []
 connections_of (other_way (other_way (both list end))) = by_order (listed_of list)
 
-abbrev pub connections : Reader ConnectionsTree
-connections =
-    made connections_of (past (codes "(") (either (is_front (codes ".")) (paired (comma_list connection) (word_only (codes ")")))
-    (either (is_front (codes ")")) (word_only (codes ")")) (paired (comma_list free_value) (word_only (codes ")"))))))
+abbrev pub connections : ℕ → Reader ConnectionsTree
+connections levels =
+    made connections_of (past (codes "(") (either (is_front (codes ".")) (paired (comma_list (connection levels))
+    (word_only (codes ")"))) (either (is_front (codes ")")) (word_only (codes ")"))
+    (paired (comma_list (free_value levels)) (word_only (codes ")"))))))
 
 abbrev pub instance_of : Both Text ConnectionsTree → InstanceTree
 instance_of (both letters tree) = record { name = letters; connections = tree }
 
-abbrev pub instance_behind : Reader InstanceTree
-instance_behind = made instance_of (paired named connections)
+abbrev pub instance_behind : ℕ → Reader InstanceTree
+instance_behind levels = made instance_of (paired named (connections levels))
 
-abbrev pub overrides : Reader (Option ConnectionsTree)
-overrides = maybe (is_front (codes "#")) (past (codes "#") connections)
+abbrev pub overrides : ℕ → Reader (Option ConnectionsTree)
+overrides levels = maybe (is_front (codes "#")) (past (codes "#") (connections levels))
 
 -- Items. Each stands behind its first word.
 
@@ -150,19 +157,19 @@ item_of (other_way (other_way (other_way (other_way (other_way (one_way tree))))
 item_of (other_way (other_way (other_way (other_way (other_way (other_way (one_way tree))))))) = always tree
 item_of (other_way (other_way (other_way (other_way (other_way (other_way (other_way tree))))))) = instances_of tree
 
-abbrev pub item_parts : Reader Item
-item_parts =
-    either (is_meant local_of) (paired (worded local_of) (paired parameter_type (ended setting)))
-    (either (is_meant net_of) (paired (worded net_of) (paired type (ended declared)))
-    (either (is_front (codes "integer")) (past (codes "integer") (ended declared))
+abbrev pub item_parts : ℕ → Reader Item
+item_parts levels =
+    either (is_meant local_of) (paired (worded local_of) (paired (parameter_type levels) (ended (setting levels))))
+    (either (is_meant net_of) (paired (worded net_of) (paired (type levels) (ended (declared levels))))
+    (either (is_front (codes "integer")) (past (codes "integer") (ended (declared levels)))
     (either (is_front (codes "event")) (past (codes "event") (ended named))
-    (either (is_front (codes "assign")) (past (codes "assign") (ended setting))
-    (either (is_front (codes "initial")) (past (codes "initial") (statement 64))
-    (either (is_front (codes "always")) (past (codes "always") (statement 64))
-    (paired named (paired overrides (ended instance_behind)))))))))
+    (either (is_front (codes "assign")) (past (codes "assign") (ended (setting levels)))
+    (either (is_front (codes "initial")) (past (codes "initial") (statement levels))
+    (either (is_front (codes "always")) (past (codes "always") (statement levels))
+    (paired named (paired (overrides levels) (ended (instance_behind levels))))))))))
 
-abbrev pub item : Reader ItemTree
-item = made item_of item_parts
+abbrev pub item : ℕ → Reader ItemTree
+item levels = made item_of (item_parts levels)
 
 -- The head of a module
 
@@ -172,18 +179,18 @@ first_parameter_of (both tree set) = record { kind = Some tree; setting = set }
 abbrev pub head_parameter_of : Both (Option ParameterType) SettingTree → HeadParameter
 head_parameter_of (both tree set) = record { kind = tree; setting = set }
 
-abbrev pub first_parameter : Reader HeadParameter
-first_parameter = made first_parameter_of (past (codes "parameter") (paired parameter_type setting))
+abbrev pub first_parameter : ℕ → Reader HeadParameter
+first_parameter levels = made first_parameter_of (past (codes "parameter") (paired (parameter_type levels) (setting levels)))
 
-abbrev pub head_parameter : Reader HeadParameter
-head_parameter = made head_parameter_of
-    (paired (maybe (is_front (codes "parameter")) (past (codes "parameter") parameter_type)) setting)
+abbrev pub head_parameter : ℕ → Reader HeadParameter
+head_parameter levels = made head_parameter_of
+    (paired (maybe (is_front (codes "parameter")) (past (codes "parameter") (parameter_type levels))) (setting levels))
 
 -- behind #
-abbrev pub head_parameters : Reader (Both (List_of HeadParameter) (Unit {0}))
-head_parameters =
-    past (codes "(") (paired (paired first_parameter (many (is_front (codes ",")) (λ list. past (codes ",") head_parameter)))
-    (word_only (codes ")")))
+abbrev pub head_parameters : ℕ → Reader (Both (List_of HeadParameter) (Unit {0}))
+head_parameters levels =
+    past (codes "(") (paired (paired (first_parameter levels)
+    (many (is_front (codes ",")) (λ list. past (codes ",") (head_parameter levels)))) (word_only (codes ")")))
 
 abbrev pub Direction : Type 0
 Direction = Either (Both (Option (Unit {0})) TypeTree) (Both (Option NetKind) TypeTree)
@@ -192,11 +199,11 @@ abbrev pub direction_of : Direction → DirectionTree
 direction_of (one_way (both wire tree)) = input (is_there wire) tree
 direction_of (other_way (both kind tree)) = output kind tree
 
-abbrev pub direction : Reader DirectionTree
-direction =
+abbrev pub direction : ℕ → Reader DirectionTree
+direction levels =
     made direction_of (either (is_front (codes "input"))
-    (past (codes "input") (paired (maybe (is_front (codes "wire")) (word_only (codes "wire"))) type))
-    (past (codes "output") (paired (maybe (is_meant net_of) (worded net_of)) type)))
+    (past (codes "input") (paired (maybe (is_front (codes "wire")) (word_only (codes "wire"))) (type levels)))
+    (past (codes "output") (paired (maybe (is_meant net_of) (worded net_of)) (type levels))))
 
 abbrev pub is_direction : Option Text → Bool
 is_direction = is_meant (λ word. written (λ text. text) (codes "input" ∷ codes "output" ∷ []) word)
@@ -207,11 +214,11 @@ first_port_of (both tree letters) = record { direction = Some tree; name = lette
 abbrev pub port_of : Both (Option DirectionTree) Text → PortTree
 port_of (both tree letters) = record { direction = tree; name = letters }
 
-abbrev pub first_port : Reader PortTree
-first_port = made first_port_of (paired direction named)
+abbrev pub first_port : ℕ → Reader PortTree
+first_port levels = made first_port_of (paired (direction levels) named)
 
-abbrev pub port : Reader PortTree
-port = made port_of (paired (maybe is_direction direction) named)
+abbrev pub port : ℕ → Reader PortTree
+port levels = made port_of (paired (maybe is_direction (direction levels)) named)
 
 abbrev pub Ports : Type 0
 Ports = Either (Unit {0}) (Both (List_of PortTree) (Unit {0}))
@@ -220,10 +227,11 @@ abbrev pub ports_of : Ports → List PortTree
 ports_of (one_way end) = []
 ports_of (other_way (both list end)) = listed_of list
 
-abbrev pub ports : Reader (List PortTree)
-ports =
+abbrev pub ports : ℕ → Reader (List PortTree)
+ports levels =
     made ports_of (past (codes "(") (either (is_front (codes ")")) (word_only (codes ")"))
-    (paired (paired first_port (many (is_front (codes ",")) (λ list. past (codes ",") port))) (word_only (codes ")")))))
+    (paired (paired (first_port levels) (many (is_front (codes ",")) (λ list. past (codes ",") (port levels))))
+    (word_only (codes ")")))))
 
 abbrev pub head_list_of : Both (List_of HeadParameter) (Unit {0}) → List HeadParameter
 head_list_of (both list end) = listed_of list
@@ -235,12 +243,12 @@ abbrev pub module_of : Module → ModuleTree
 module_of (both letters (both head (both list (both body end)))) =
     record { name = letters; parameters = head; ports = list; items = body }
 
-abbrev pub module_tree : Reader ModuleTree
-module_tree =
+abbrev pub module_tree : ℕ → Reader ModuleTree
+module_tree levels =
     made module_of (past (codes "module") (paired named
-    (paired (maybe (is_front (codes "#")) (past (codes "#") (made head_list_of head_parameters)))
-    (paired (maybe (is_front (codes "(")) ports)
-    (past (codes ";") (paired (many (λ next. not (is_front (codes "endmodule") next)) (λ list. item))
+    (paired (maybe (is_front (codes "#")) (past (codes "#") (made head_list_of (head_parameters levels))))
+    (paired (maybe (is_front (codes "(")) (ports levels))
+    (past (codes ";") (paired (many (λ next. not (is_front (codes "endmodule") next)) (λ list. item levels))
     (word_only (codes "endmodule"))))))))
 
 abbrev pub is_some_word : Option Text → Bool
@@ -248,5 +256,5 @@ is_some_word None = false
 is_some_word (Some word) = true
 
 -- modules to the end of the text
-unfoldable pub source : Reader SourceTree
-source = many is_some_word (λ list. module_tree)
+unfoldable pub source : ℕ → Reader SourceTree
+source levels = many is_some_word (λ list. module_tree levels)

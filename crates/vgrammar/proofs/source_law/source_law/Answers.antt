@@ -1,4 +1,4 @@
-use Rattle.vgrammar.proofs.SourceReads.{reads_soundly, reads_completely, is_only, stops_at_place}
+use Rattle.vgrammar.proofs.SourceReads.{reads_soundly, reads_completely, is_only}
 use Rattle.vgrammar.proofs.source_law.source_law.Goals as goal
 
 pub returns-clause-sound : goal.returns-clause-sound
@@ -9,6 +9,3 @@ returns-clause-complete c = reads_completely
 
 pub returns-clause-only : goal.returns-clause-only
 returns-clause-only c = is_only
-
-pub returns-clause-place : goal.returns-clause-place
-returns-clause-place c = stops_at_place
