@@ -226,7 +226,12 @@ module _ (below : ℕ) where
   }
 
   abbrev ClosingType : Shape TypeTree
-  ClosingType = record { spell = spell_type; valid = fits_type levels; closes = λ tree. ends_parameter_type; stops = λ tree next. true }
+  ClosingType = record {
+    spell = spell_type;
+    valid = fits_type levels;
+    closes = λ tree. ends_parameter_type;
+    stops = λ tree next. true;
+  }
 
   pub parameter_type_phrase : Phrase (parameter_type levels) ends_parameter_type parameter_type_shape
   parameter_type_phrase =
@@ -265,7 +270,8 @@ module _ (below : ℕ) where
           spelled (other_way tree) = refl
 
           valid : (tree : Either (Unit {0}) TypeTree) →
-              fits_parameter_type levels (parameter_type_of tree) ≡ (either_shape (only_shape (codes "integer")) ClosingType).valid tree
+              fits_parameter_type levels (parameter_type_of tree)
+              ≡ (either_shape (only_shape (codes "integer")) ClosingType).valid tree
           valid (one_way end) = refl
           valid (other_way tree) = refl
 
@@ -277,7 +283,12 @@ module _ (below : ℕ) where
   -- Settings
 
   abbrev pub setting_shape : Shape SettingTree
-  setting_shape = record { spell = spell_setting; valid = fits_setting levels; closes = λ tree. ends 0; stops = λ tree next. true }
+  setting_shape = record {
+    spell = spell_setting;
+    valid = fits_setting levels;
+    closes = λ tree. ends 0;
+    stops = λ tree next. true;
+  }
 
   abbrev SettingParts : Shape (Both Text ExpressionTree)
   SettingParts = paired_shape (text_shape is_name) (past_shape (codes "=") Free)

@@ -203,7 +203,8 @@ module _ (below : ℕ) where
 
           valid : (tree : Both Text Value) → fits_connection levels (connection_of tree) ≡ ConnectionParts.valid tree
           valid (both letters (one_way end)) = refl
-          valid (both letters (other_way (both tree end))) = ap (λ b. is_name letters && b) (sym (and_true (fits_value levels tree)))
+          valid (both letters (other_way (both tree end))) =
+              ap (λ b. is_name letters && b) (sym (and_true (fits_value levels tree)))
 
           closes : (tree : Both Text Value) (next : Option Text) → ConnectionParts.closes tree next ≡ true
           closes (both letters (one_way end)) next = refl
@@ -240,7 +241,8 @@ module _ (below : ℕ) where
           is_front text (Some word) ≡ true → paired (comma_list (free_value levels)) (word_only (codes ")")) (word ∷ words)
           ≡ got tree left → ⊥
       refuses word words tree left is e =
-          let a = parts_of (comma_list (free_value levels) (word ∷ words)) (λ t. made (both t) (word_only (codes ")"))) tree left e in
+          let a = parts_of (comma_list (free_value levels) (word ∷ words))
+          (λ t. made (both t) (word_only (codes ")"))) tree left e in
           let b = parts_of (free_value levels (word ∷ words))
           (λ t. made (both t) (many (is_front (codes ",")) (λ list. past (codes ",") (free_value levels))))
           a.one a.between a.first in
@@ -312,7 +314,12 @@ module _ (below : ℕ) where
   -- Instances
 
   abbrev pub instance_shape : Shape InstanceTree
-  instance_shape = record { spell = spell_instance; valid = fits_instance levels; closes = λ tree. always; stops = λ tree next. true }
+  instance_shape = record {
+    spell = spell_instance;
+    valid = fits_instance levels;
+    closes = λ tree. always;
+    stops = λ tree next. true;
+  }
 
   pub instance_phrase : Phrase (instance_behind levels) always instance_shape
   instance_phrase =
@@ -422,7 +429,8 @@ module _ (below : ℕ) where
   overridden_example : Example (paired_shape Overrides InstanceList)
   overridden_example = paired_example no_overrides instance_list_example
 
-  parameters_phrase : Phrase (paired (worded local_of) (paired (parameter_type levels) (ended (setting levels)))) always ParametersShape
+  parameters_phrase : Phrase (paired (worded local_of)
+      (paired (parameter_type levels) (ended (setting levels)))) always ParametersShape
   parameters_phrase =
       free_phrase local_phrase
       (next_phrase (parameter_type_phrase below) settings_phrase settings_example settings_worded opens) typed_settings_example
@@ -442,7 +450,8 @@ module _ (below : ℕ) where
           ends_here : ends_type (Some tree.name) ≡ true
           ends_here =
               and_left (ends_type (Some tree.name)) _
-              (name_ends_type tree.name (and_left (is_name tree.name) _ (and_left (fits_declared levels tree) _ (and_left _ true v))))
+              (name_ends_type tree.name (and_left (is_name tree.name) _
+              (and_left (fits_declared levels tree) _ (and_left _ true v))))
 
           by_value : (o : Option ExpressionTree) → ends_type (front (((spell_value tree.name o
               ++ flat_map (λ other. codes "," ∷ spell_declared other) more) ++ codes ";" ∷ []) ++ rest)) ≡ true
@@ -452,7 +461,8 @@ module _ (below : ℕ) where
   instances_phrase : Phrase (paired named (paired (overrides levels) (ended (instance_behind levels)))) always InstancesShape
   unfolding reserved_words
   instances_phrase =
-      free_phrase named_phrase (next_phrase overrides_phrase instance_list_phrase instance_list_example instance_list_worded opens)
+      free_phrase named_phrase
+      (next_phrase overrides_phrase instance_list_phrase instance_list_example instance_list_worded opens)
       overridden_example
     where
       opens : Opens (ends_maybe hash always) InstanceList
@@ -619,7 +629,8 @@ module _ (below : ℕ) where
       spelled (other_way (other_way (other_way (other_way (other_way (one_way tree)))))) = refl
       spelled (other_way (other_way (other_way (other_way (other_way (other_way (one_way tree))))))) = refl
       spelled (other_way (other_way
-          (other_way (other_way (other_way (other_way (other_way (both letters (both None (both (both one more) end)))))))))) = refl
+          (other_way (other_way (other_way (other_way (other_way (both letters (both None (both (both one more) end)))))))))) =
+          refl
       spelled (other_way (other_way
           (other_way (other_way
           (other_way (other_way (other_way (both letters (both (Some tree) (both (both one more) end)))))))))) = refl
@@ -642,7 +653,8 @@ module _ (below : ℕ) where
           ap (λ b. fits_type levels tree && b) (some_valid (fits_declared levels) one more)
       valid (other_way (other_way (one_way (both (both one more) end)))) = some_valid (fits_declared levels) one more
       valid (other_way (other_way (other_way (one_way (both (both one more) end))))) = some_valid is_name one more
-      valid (other_way (other_way (other_way (other_way (one_way (both (both one more) end)))))) = some_valid (fits_setting levels) one more
+      valid (other_way (other_way (other_way (other_way (one_way (both (both one more) end)))))) =
+          some_valid (fits_setting levels) one more
       valid (other_way (other_way (other_way (other_way (other_way (one_way tree)))))) = refl
       valid (other_way (other_way (other_way (other_way (other_way (other_way (one_way tree))))))) = refl
       valid (other_way (other_way
@@ -692,7 +704,10 @@ module _ (below : ℕ) where
         parts = other_way (other_way (other_way (other_way (one_way (both (both one more) tt)))));
         is = refl;
       }
-      back (initial body) v = record { parts = other_way (other_way (other_way (other_way (other_way (one_way body))))); is = refl }
+      back (initial body) v = record {
+        parts = other_way (other_way (other_way (other_way (other_way (one_way body)))));
+        is = refl;
+      }
       back (always_item body) v = record {
         parts = other_way (other_way (other_way (other_way (other_way (other_way (one_way body))))));
         is = refl;

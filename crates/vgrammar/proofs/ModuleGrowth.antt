@@ -43,7 +43,8 @@ module _ (below : ℕ) where
 
   declared_growth : Growth (declared levels) (declared (up levels))
   declared_growth =
-      made_growth declared_of (paired_growth named_word (maybe_growth (is_front (codes "=")) (past_growth (codes "=") free_growth)))
+      made_growth declared_of (paired_growth named_word
+      (maybe_growth (is_front (codes "=")) (past_growth (codes "=") free_growth)))
 
   value_in_growth : Growth (value_in levels) (value_in (up levels))
   value_in_growth =

@@ -141,7 +141,8 @@ module _ (below : ℕ) where
   setting_worded : Worded (setting_shape below)
   setting_worded tree v = positive _
 
-  typed_setting : Phrase (paired (parameter_type levels) (setting levels)) (ends 0) (paired_shape (parameter_type_shape below) (setting_shape below))
+  typed_setting : Phrase (paired (parameter_type levels) (setting levels)) (ends 0)
+      (paired_shape (parameter_type_shape below) (setting_shape below))
   typed_setting =
       next_phrase (parameter_type_phrase below) (setting_phrase below) (a_setting below) setting_worded
       (λ tree v rest c. name_ends_type tree.name (and_left (is_name tree.name) _ v))
@@ -151,7 +152,8 @@ module _ (below : ℕ) where
       made_phrase first_parameter_of first_shape back makes (λ tree next e. e)
       (past_phrase (codes "parameter") typed_setting (paired_example a_type (a_setting below)))
     where
-      by_kind : (tree : HeadParameter) (o : Option ParameterType) → tree.kind ≡ o → is_kind o ≡ true → From first_parameter_of tree
+      by_kind : (tree : HeadParameter) (o : Option ParameterType) → tree.kind ≡ o → is_kind o ≡ true →
+          From first_parameter_of tree
       by_kind tree None e v = let none : false ≡ true = v in absurd cc
       by_kind tree (Some kind) e v = record {
         parts = both kind tree.setting;
@@ -164,7 +166,8 @@ module _ (below : ℕ) where
       makes : Makes first_parameter_of FirstParts first_shape []
       makes = record { spelled = spelled; valid = valid; closes = closes; stops = λ tree next e. refl }
         where
-          spelled : (tree : Both ParameterType SettingTree) → spell_head_parameter (first_parameter_of tree) ≡ FirstParts.spell tree
+          spelled : (tree : Both ParameterType SettingTree) → spell_head_parameter (first_parameter_of tree)
+              ≡ FirstParts.spell tree
           spelled (both kind set) = refl
 
           valid : (tree : Both ParameterType SettingTree) → first_shape.valid (first_parameter_of tree) ≡ FirstParts.valid tree
@@ -219,7 +222,8 @@ module _ (below : ℕ) where
   }
 
   abbrev HeadList : Shape (List_of HeadParameter)
-  HeadList = paired_shape first_shape (many_shape comma (ends 0) (past_shape (codes ",") head_shape) (λ list. fits_head_parameter levels))
+  HeadList = paired_shape first_shape (many_shape comma (ends 0) (past_shape (codes ",") head_shape)
+      (λ list. fits_head_parameter levels))
 
   abbrev HeadListParts : Shape (Both (List_of HeadParameter) (Unit {0}))
   HeadListParts = past_shape (codes "(") (paired_shape HeadList (only_shape (codes ")")))
@@ -237,7 +241,8 @@ module _ (below : ℕ) where
   heads_phrase =
       made_phrase head_list_of heads_shape back makes (λ list next e. refl)
       (past_phrase (codes "(")
-      (before_phrase (codes ")") (list_phrase first_parameter_phrase head_parameter_phrase an_unkinded refl) (nothing_phrase always)
+      (before_phrase (codes ")") (list_phrase first_parameter_phrase head_parameter_phrase an_unkinded refl)
+      (nothing_phrase always)
       nothing_example refl)
       (record { tree = both (both a_first.tree []) tt; valid = and_both _ true (and_both _ true a_first.valid refl) refl }))
     where
@@ -256,7 +261,8 @@ module _ (below : ℕ) where
               ≡ HeadListParts.valid tree
           valid (both (both tree more) end) =
               sym (and_assoc (is_kind tree.kind) (fits_head_parameter levels tree) (list_all (fits_head_parameter levels) more))
-              ∙ ap (λ b. (is_kind tree.kind && fits_head_parameter levels tree) && b) (sym (allows_each (fits_head_parameter levels) [] more))
+              ∙ ap (λ b. (is_kind tree.kind && fits_head_parameter levels tree) && b)
+              (sym (allows_each (fits_head_parameter levels) [] more))
               ∙ sym (and_true _)
 
           closes : (tree : Both (List_of HeadParameter) (Unit {0})) (next : Option Text) → HeadListParts.closes tree next ≡ true
@@ -271,7 +277,8 @@ module _ (below : ℕ) where
 
   last_type_phrase : Phrase (type levels) ends_direction LastType
   last_type_phrase =
-      phrase_closing (λ tree. ends_direction) (phrase_within ends_direction (type_phrase below) (λ next e. and_left (ends_type next) _ e))
+      phrase_closing (λ tree. ends_direction)
+      (phrase_within ends_direction (type_phrase below) (λ next e. and_left (ends_type next) _ e))
       (λ tree next e. and_left (ends_type next) _ e) (λ tree next e. e)
 
   plain_type : Example LastType
@@ -282,7 +289,8 @@ module _ (below : ℕ) where
       ((next : Option Text) → ends_direction next ≡ true → here next ≡ true) → Opens here LastType
   type_opens here a b c tree v rest e = by_parts tree.signed tree.range
     where
-      by_parts : (sign : Bool) (bounds : Option RangeTree) → here (front ((spell_signed sign ++ spell_range bounds) ++ rest)) ≡ true
+      by_parts : (sign : Bool) (bounds : Option RangeTree) →
+          here (front ((spell_signed sign ++ spell_range bounds) ++ rest)) ≡ true
       by_parts true bounds = a
       by_parts false None = c (front rest) e
       by_parts false (Some tree) = b
@@ -293,7 +301,8 @@ module _ (below : ℕ) where
   abbrev OutputParts : Shape (Both (Option NetKind) TypeTree)
   OutputParts = past_shape (codes "output") (paired_shape (maybe_shape net_next always net_shape) LastType)
 
-  input_phrase : Phrase (past (codes "input") (paired (maybe wire_next (word_only (codes "wire"))) (type levels))) ends_direction InputParts
+  input_phrase : Phrase (past (codes "input")
+      (paired (maybe wire_next (word_only (codes "wire"))) (type levels))) ends_direction InputParts
   input_phrase =
       past_phrase (codes "input")
       (paired_phrase (maybe_phrase wire_next (only_phrase (codes "wire")) (λ tree v. positive _)
@@ -303,7 +312,8 @@ module _ (below : ℕ) where
       (λ y v none next e. no_wire next (and_right (ends_type next) _ e)))
       (paired_example no_wire_part plain_type)
 
-  output_phrase : Phrase (past (codes "output") (paired (maybe net_next (worded net_of)) (type levels))) ends_direction OutputParts
+  output_phrase : Phrase (past (codes "output")
+      (paired (maybe net_next (worded net_of)) (type levels))) ends_direction OutputParts
   output_phrase =
       past_phrase (codes "output")
       (paired_phrase (maybe_phrase net_next net_phrase (λ tree v. positive 0) begins) last_type_phrase plain_type
@@ -345,7 +355,8 @@ module _ (below : ℕ) where
           spelled (other_way (both None tree)) = refl
           spelled (other_way (both (Some kind) tree)) = refl
 
-          valid : (tree : Direction) → fits_direction levels (Some (direction_of tree)) ≡ (either_shape InputParts OutputParts).valid tree
+          valid : (tree : Direction) → fits_direction levels (Some (direction_of tree))
+              ≡ (either_shape InputParts OutputParts).valid tree
           valid (one_way (both None tree)) = refl
           valid (one_way (both (Some end) tree)) = refl
           valid (other_way (both None tree)) = refl
@@ -443,7 +454,8 @@ module _ (below : ℕ) where
 
   abbrev PortList : Shape (Both (List_of PortTree) (Unit {0}))
   PortList =
-      paired_shape (paired_shape first_port_shape (many_shape comma always (past_shape (codes ",") port_shape) (λ list. fits_port levels)))
+      paired_shape (paired_shape first_port_shape
+      (many_shape comma always (past_shape (codes ",") port_shape) (λ list. fits_port levels)))
       (only_shape (codes ")"))
 
   abbrev PortsParts : Shape Ports
@@ -501,7 +513,8 @@ module _ (below : ℕ) where
           valid (one_way end) = refl
           valid (other_way (both (both tree more) end)) =
               sym (and_assoc (is_directed tree.direction) (fits_port levels tree) (list_all (fits_port levels) more))
-              ∙ ap (λ b. (is_directed tree.direction && fits_port levels tree) && b) (sym (allows_each (fits_port levels) [] more))
+              ∙ ap (λ b. (is_directed tree.direction && fits_port levels tree) && b)
+              (sym (allows_each (fits_port levels) [] more))
               ∙ sym (and_true _)
 
           closes : (tree : Ports) (next : Option Text) → PortsParts.closes tree next ≡ true
@@ -537,7 +550,8 @@ module _ (below : ℕ) where
   no_else = no_item (codes "else") (λ words. refl)
 
   abbrev Items : Shape (Both (List ItemTree) (Unit {0}))
-  Items = paired_shape (many_shape not_endmodule ends_statement (item_shape below) (λ list. fits_item levels)) (only_shape (codes "endmodule"))
+  Items = paired_shape (many_shape not_endmodule ends_statement (item_shape below) (λ list. fits_item levels))
+      (only_shape (codes "endmodule"))
 
   abbrev PortsPart : Shape (Both (Option (List PortTree)) (Both (List ItemTree) (Unit {0})))
   PortsPart = paired_shape (maybe_shape opening always ports_shape) (past_shape (codes ";") Items)
@@ -566,12 +580,14 @@ module _ (below : ℕ) where
   items_phrase : Phrase (paired (many not_endmodule (λ list. item levels)) (word_only (codes "endmodule"))) always Items
   items_phrase =
       before_phrase (codes "endmodule")
-      (many_phrase not_endmodule (λ list. item levels) ends_statement (item_shape below) (λ list. fits_item levels) (λ list. (item_phrase below))
+      (many_phrase not_endmodule (λ list. item levels) ends_statement (item_shape below) (λ list. fits_item levels)
+      (λ list. item_phrase below)
       (λ list tree v. item_worded tree v)
       (λ list tree rest v. ap not (no_endmodule tree v rest)) (λ list tree rest v. ap not (no_else tree v rest)))
       (nothing_phrase always) nothing_example refl
 
-  ports_part_phrase : Phrase (paired (maybe opening (ports levels)) (past (codes ";") (paired (many not_endmodule (λ list. item levels))
+  ports_part_phrase : Phrase (paired (maybe opening (ports levels))
+      (past (codes ";") (paired (many not_endmodule (λ list. item levels))
       (word_only (codes "endmodule"))))) always PortsPart
   ports_part_phrase =
       before_phrase (codes ";")
@@ -622,7 +638,8 @@ module _ (below : ℕ) where
 
           valid : (tree : Module) → fits_module levels (module_of tree) ≡ ModuleParts.valid tree
           valid (both letters (both None (both None (both body end)))) = parts_valid letters true true body
-          valid (both letters (both None (both (Some list) (both body end)))) = parts_valid letters true (fits_ports levels list) body
+          valid (both letters (both None (both (Some list) (both body end)))) =
+              parts_valid letters true (fits_ports levels list) body
           valid (both letters (both (Some head) (both None (both body end)))) = parts_valid letters
               (fits_head_parameters levels head) true body
           valid (both letters (both (Some head) (both (Some list) (both body end)))) =
@@ -639,6 +656,7 @@ module _ (below : ℕ) where
   pub source_phrase : Phrase (source levels) (ends_many is_some_word always) source_shape
   unfolding source
   source_phrase =
-      many_phrase is_some_word (λ list. module_tree levels) always module_shape (λ list. fits_module levels) (λ list. module_phrase)
+      many_phrase is_some_word (λ list. module_tree levels) always module_shape (λ list. fits_module levels)
+      (λ list. module_phrase)
       (λ list tree v. positive _)
       (λ list tree rest v. refl) (λ list tree rest v. refl)

@@ -123,7 +123,8 @@ module _ (n m : ℕ) (fewer : n ≤ m) where
       (are_some (fits_setting m) list) (parameter_type_more kind) (settings_more list) v
   item_more (declaration kind list) v =
       both_more (fits_declaration_kind n kind) (are_some (fits_declared n) list) (fits_declaration_kind m kind)
-      (are_some (fits_declared m) list) (declaration_more kind) (some_more (fits_declared n) (fits_declared m) declared_more list) v
+      (are_some (fits_declared m) list) (declaration_more kind)
+      (some_more (fits_declared n) (fits_declared m) declared_more list) v
   item_more (events names) v = v
   item_more (assignments list) v = settings_more list v
   item_more (initial body) v = body_more body v

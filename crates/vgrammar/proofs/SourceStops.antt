@@ -36,12 +36,14 @@ stops_at_place below words left why e =
       before = s.before;
       whole = s.whole;
       viable = begins_one below s.before s.viable;
-      refused = λ other tree same d. s.refused other tree same (allows_each (fits_module (suc below)) [] tree ∙ d.fitting) d.spelled;
+      refused = λ other tree same d. s.refused other tree same
+          (allows_each (fits_module (suc below)) [] tree ∙ d.fitting) d.spelled;
     }
 
 pub stops_too_deep : StopsTooDeep
 stops_too_deep below words left e =
-    let s = passed (source_phrase below) (source_phrase (up below)) refl (no_modules (up below)) (source_growth below) words left e in
+    let s = passed (source_phrase below) (source_phrase (up below)) refl (no_modules (up below))
+    (source_growth below) words left e in
     record {
       before = s.before;
       word = s.word;
