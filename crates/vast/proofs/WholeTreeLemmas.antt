@@ -1,7 +1,7 @@
 -- The trees of blocks and of cases.
-use Rattle.std.proofs.Common.{◌≡◌, ℕ, Vec, Global, refl, ap, ◌∙◌}
+use Rattle.std.proofs.Common.{◌≡◌, ℕ, Box, Vec, Global, refl, ap, ◌∙◌}
 use Rattle.vast.specs.Statements.{block, case_of, first_statement, first_branch}
-use Rattle.vast.specs.ExpressionTrees.{tree_of}
+use Rattle.vast.specs.ExpressionTrees.{boxed_tree}
 use Rattle.vast.specs.StatementTrees.{statement_tree, branch_tree, statement_row, branch_row, statement_trees, branch_trees}
 use Rattle.vast.specs.declared.expression.Expression.{Expression}
 use Rattle.vast.specs.declared.statement.CaseKind.{CaseKind}
@@ -31,9 +31,9 @@ trees_of_branches : (n : _) (row : Row_of-Branch n) → branch_row row ≡ branc
 trees_of_branches n end_of-Branch = refl
 trees_of_branches n (more_of-Branch one more) = ap (first_branch (branch_tree one)) (trees_of_branches _ more)
 
-pub tree_of_case : (at : ℕ) (kind : CaseKind) (value : Expression) (branches : Vec Branch Global) →
-    statement_tree (Case at kind value branches) ≡ case_of kind (tree_of value) (branch_trees branches.items)
+pub tree_of_case : (at : ℕ) (kind : CaseKind) (value : Box Expression Global) (branches : Vec Branch Global) →
+    statement_tree (Case at kind value branches) ≡ case_of kind (boxed_tree value) (branch_trees branches.items)
 tree_of_case at kind value branches =
     let row = branches_of (Case at kind value branches) in
     let same = items_hidden-the_row-Branch-1 branches in
-    ap (case_of kind (tree_of value)) (trees_of_branches row.0 row.1 ∙ ap branch_trees same)
+    ap (case_of kind (boxed_tree value)) (trees_of_branches row.0 row.1 ∙ ap branch_trees same)

@@ -1,5 +1,5 @@
 -- The tree that an expression of the program stands for.
-use Rattle.std.specs.Prelude.{List, [], ◌∷◌}
+use Rattle.std.specs.Prelude.{List, [], ◌∷◌, Box}
 use Rattle.vast.specs.Expressions.{ExpressionTree, number, name, time, bit, part, parentheses, concatenation, replication, conversion, apply, combine, conditional, ExpressionTrees, none, first}
 use Rattle.vast.specs.Trees.{word_text}
 use Rattle.vast.specs.declared.expression.Expression.{Expression, Number, Name, Time, Bit', Part', Parentheses', Concatenation', Replication', Conversion', Unary', Binary', Conditional', Row_of-Expression, end_of-Expression, more_of-Expression}
@@ -27,3 +27,7 @@ abbrev mutual
 abbrev pub trees_of : List Expression → ExpressionTrees
 trees_of [] = none
 trees_of (one ∷ more) = first (tree_of one) (trees_of more)
+
+-- the tree of an expression behind a box
+abbrev pub boxed_tree : {A : Type 0} → Box Expression A → ExpressionTree
+boxed_tree expression = tree_of expression.value

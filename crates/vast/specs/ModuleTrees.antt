@@ -2,7 +2,7 @@
 use Rattle.std.specs.Prelude.{List, Option, map, option_map}
 use Rattle.vast.specs.Syntax.{Text}
 use Rattle.vast.specs.Trees.{word_text}
-use Rattle.vast.specs.ExpressionTrees.{tree_of}
+use Rattle.vast.specs.ExpressionTrees.{tree_of, boxed_tree}
 use Rattle.vast.specs.StatementTrees.{statement_tree}
 use Rattle.vast.specs.Modules.{RangeTree, TypeTree, ParameterType, integer, typed, SettingTree, DeclaredTree, DirectionTree, input, output, PortTree, HeadParameter, ConnectionTree, ConnectionsTree, by_order, by_name, InstanceTree, DeclarationKind, variables, integers, ItemTree, parameters, declaration, events, assignments, initial, always, instances, ModuleTree, SourceTree}
 use Rattle.vast.specs.declared.syntax.Word.{Word}
@@ -28,7 +28,7 @@ use Rattle.vast.specs.declared.module.ModuleTree.{ModuleTree as ModuleWords}
 use Rattle.vast.specs.declared.module.TextTree.{TextTree}
 
 abbrev pub range_tree : Bounds → RangeTree
-range_tree bounds = record { left = tree_of bounds.left; right = tree_of bounds.right }
+range_tree bounds = record { left = boxed_tree bounds.left; right = boxed_tree bounds.right }
 
 abbrev pub type_tree : SignAndRange → TypeTree
 type_tree type = record { signed = type.signed; range = option_map range_tree type.range }
@@ -38,10 +38,10 @@ parameter_type kinds.Integer = integer
 parameter_type (kinds.Typed type) = typed (type_tree type)
 
 abbrev pub setting_tree : Setting → SettingTree
-setting_tree setting = record { name = word_text setting.name; value = tree_of setting.value }
+setting_tree setting = record { name = word_text setting.name; value = boxed_tree setting.value }
 
 abbrev pub declared_tree : Declared → DeclaredTree
-declared_tree declared = record { name = word_text declared.name; value = option_map tree_of declared.value }
+declared_tree declared = record { name = word_text declared.name; value = option_map boxed_tree declared.value }
 
 abbrev pub direction_tree : Direction → DirectionTree
 direction_tree (directions.Input wire type) = input wire (type_tree type)
@@ -54,7 +54,7 @@ abbrev pub head_parameter : HeadWords → HeadParameter
 head_parameter head = record { kind = option_map parameter_type head.kind; setting = setting_tree head.setting }
 
 abbrev pub connection_tree : Connection → ConnectionTree
-connection_tree connection = record { name = word_text connection.name; value = option_map tree_of connection.value }
+connection_tree connection = record { name = word_text connection.name; value = option_map boxed_tree connection.value }
 
 abbrev pub connections_tree : Connections → ConnectionsTree
 connections_tree (connecting.ByOrder values) = by_order (map tree_of values.items)

@@ -2,7 +2,7 @@
 use Rattle.std.specs.Prelude.{List, [], ◌∷◌, Option, map, option_map}
 use Rattle.vast.specs.Syntax.{Text}
 use Rattle.vast.specs.Trees.{word_text}
-use Rattle.vast.specs.ExpressionTrees.{tree_of, trees_of}
+use Rattle.vast.specs.ExpressionTrees.{boxed_tree, trees_of}
 use Rattle.vast.specs.Statements.{TargetTree, whole, bit, part, joined, TargetTrees, none, first, DelayTree, by_number, by_name, by_value, TermTree, FurtherTerm, EventTree, by_event, by_any, by_any_enclosed, by_terms, ArgumentTree, quoted, printed, SelectionTree, TaskTree, print, dump_file, dump_vars, dump, end_run, StatementTree, empty, block, assign, nonblocking, trigger, if_true, if_else, case_of, while_true, repeat_times, forever, for_loop, wait_for, delay, event, task, StatementTrees, no_statement, first_statement, BranchTree, labelled, default, BranchTrees, no_branch, first_branch}
 use Rattle.vast.specs.declared.statement.Target.{Target, Whole, Bit, Part, Joined', Row_of-Target, end_of-Target, more_of-Target}
 use Rattle.vast.specs.declared.statement.Delay.{Delay}
@@ -23,8 +23,8 @@ use Rattle.vast.specs.declared.statement.Branch.{Branch, Labelled, Default}
 abbrev mutual
   pub target_tree : Target → TargetTree
   target_tree (Whole word) = whole (word_text word)
-  target_tree (Bit word index) = bit (word_text word) (tree_of index)
-  target_tree (Part word left right) = part (word_text word) (tree_of left) (tree_of right)
+  target_tree (Bit word index) = bit (word_text word) (boxed_tree index)
+  target_tree (Part word left right) = part (word_text word) (boxed_tree left) (boxed_tree right)
   target_tree (Joined' at shape row) = joined (target_row row)
 
   pub target_row : {m : _} → Row_of-Target m → TargetTrees
@@ -39,7 +39,7 @@ target_trees (one ∷ more) = first (target_tree one) (target_trees more)
 abbrev pub delay_tree : Delay → DelayTree
 delay_tree (delays.Number word) = by_number (word_text word)
 delay_tree (delays.Name word) = by_name (word_text word)
-delay_tree (delays.Value value) = by_value (tree_of value)
+delay_tree (delays.Value value) = by_value (boxed_tree value)
 
 abbrev pub term_tree : Term → TermTree
 term_tree term = record { edge = term.edge; name = word_text term.name }
@@ -55,7 +55,7 @@ event_tree (events.Terms term further) = by_terms (term_tree term) (map further_
 
 abbrev pub argument_tree : Argument → ArgumentTree
 argument_tree (arguments.Text word) = quoted (word_text word)
-argument_tree (arguments.Value value) = printed (tree_of value)
+argument_tree (arguments.Value value) = printed (boxed_tree value)
 
 abbrev pub path_tree : Path → List Text
 path_tree path = map word_text path.names.items
@@ -74,18 +74,18 @@ abbrev mutual
   pub statement_tree : Statement → StatementTree
   statement_tree Empty = empty
   statement_tree (Block' shape row) = block (statement_row row)
-  statement_tree (Assign at target amount value) = assign (target_tree target) (option_map delay_tree amount) (tree_of value)
-  statement_tree (Nonblocking at target amount value) = nonblocking (target_tree target) (option_map delay_tree amount) (tree_of value)
+  statement_tree (Assign at target amount value) = assign (target_tree target) (option_map delay_tree amount) (boxed_tree value)
+  statement_tree (Nonblocking at target amount value) = nonblocking (target_tree target) (option_map delay_tree amount) (boxed_tree value)
   statement_tree (Trigger at word) = trigger (word_text word)
-  statement_tree (If' at condition place body) = if_true (tree_of condition) (statement_tree body)
-  statement_tree (IfElse' at condition place body place_too other) = if_else (tree_of condition) (statement_tree body) (statement_tree other)
-  statement_tree (Case' at kind value shape row) = case_of kind (tree_of value) (branch_row row)
-  statement_tree (While' at condition place body) = while_true (tree_of condition) (statement_tree body)
-  statement_tree (Repeat' at count place body) = repeat_times (tree_of count) (statement_tree body)
+  statement_tree (If' at condition place body) = if_true (boxed_tree condition) (statement_tree body)
+  statement_tree (IfElse' at condition place body place_too other) = if_else (boxed_tree condition) (statement_tree body) (statement_tree other)
+  statement_tree (Case' at kind value shape row) = case_of kind (boxed_tree value) (branch_row row)
+  statement_tree (While' at condition place body) = while_true (boxed_tree condition) (statement_tree body)
+  statement_tree (Repeat' at count place body) = repeat_times (boxed_tree count) (statement_tree body)
   statement_tree (Forever' at place body) = forever (statement_tree body)
   statement_tree (For' at target value condition next_target next_value place body) =
-      for_loop (target_tree target) (tree_of value) (tree_of condition) (target_tree next_target) (tree_of next_value) (statement_tree body)
-  statement_tree (Wait' at condition place body) = wait_for (tree_of condition) (statement_tree body)
+      for_loop (target_tree target) (boxed_tree value) (boxed_tree condition) (target_tree next_target) (boxed_tree next_value) (statement_tree body)
+  statement_tree (Wait' at condition place body) = wait_for (boxed_tree condition) (statement_tree body)
   statement_tree (Delayed' at amount place body) = delay (delay_tree amount) (statement_tree body)
   statement_tree (OnEvent' at control place body) = event (event_tree control) (statement_tree body)
   statement_tree (Call at call) = task (task_tree call)

@@ -16,8 +16,8 @@ pub enum NetKind {
 /// `[left:right]` (4.3.1)
 #[derive(Drop)]
 pub struct Bounds<'t> {
-    pub left: Expression<'t>,
-    pub right: Expression<'t>,
+    pub left: Box<Expression<'t>>,
+    pub right: Box<Expression<'t>>,
 }
 
 /// `signed [left:right]`, each if it stands there (4.3)
@@ -40,14 +40,14 @@ pub enum ParameterType<'t> {
 #[derive(Drop)]
 pub struct Setting<'t> {
     pub name: Word<'t>,
-    pub value: Expression<'t>,
+    pub value: Box<Expression<'t>>,
 }
 
 /// `name = value`, or `name`
 #[derive(Drop)]
 pub struct Declared<'t> {
     pub name: Word<'t>,
-    pub value: Option<Expression<'t>>,
+    pub value: Option<Box<Expression<'t>>>,
 }
 
 /// Which way a port goes (12.3.3).
@@ -83,7 +83,7 @@ pub struct HeadParameter<'t> {
 #[derive(Drop)]
 pub struct Connection<'t> {
     pub name: Word<'t>,
-    pub value: Option<Expression<'t>>,
+    pub value: Option<Box<Expression<'t>>>,
 }
 
 /// What an instance is connected to (12.3.5, 12.3.6).

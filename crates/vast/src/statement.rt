@@ -55,13 +55,13 @@ pub enum Target<'t> {
     /// `name[index]` (5.2.1)
     Bit {
         name: Word<'t>,
-        index: Expression<'t>,
+        index: Box<Expression<'t>>,
     },
     /// `name[left:right]` (5.2.1)
     Part {
         name: Word<'t>,
-        left: Expression<'t>,
-        right: Expression<'t>,
+        left: Box<Expression<'t>>,
+        right: Box<Expression<'t>>,
     },
     /// `{target, ..}` (5.1.14); `at` is the number of its first token
     Joined {
@@ -78,7 +78,7 @@ pub enum Delay<'t> {
     /// `#name`
     Name(Word<'t>),
     /// `#(amount)`
-    Value(Expression<'t>),
+    Value(Box<Expression<'t>>),
 }
 
 /// A name whose changes are waited for, or those to one side (9.7.2).
@@ -117,7 +117,7 @@ pub enum Argument<'t> {
     /// `"letters"`
     Text(Word<'t>),
     /// An expression.
-    Value(Expression<'t>),
+    Value(Box<Expression<'t>>),
 }
 
 /// `name.name..` (12.4)
@@ -167,14 +167,14 @@ pub enum Statement<'t> {
         at: u32,
         target: Target<'t>,
         delay: Option<Delay<'t>>,
-        value: Expression<'t>,
+        value: Box<Expression<'t>>,
     },
     /// `target <= #delay value;` (9.2.2)
     Nonblocking {
         at: u32,
         target: Target<'t>,
         delay: Option<Delay<'t>>,
-        value: Expression<'t>,
+        value: Box<Expression<'t>>,
     },
     /// `-> name;` (9.7.3)
     Trigger {
@@ -184,13 +184,13 @@ pub enum Statement<'t> {
     /// `if (condition) body` (9.4)
     If {
         at: u32,
-        condition: Expression<'t>,
+        condition: Box<Expression<'t>>,
         body: Box<Statement<'t>>,
     },
     /// `if (condition) body else other` (9.4)
     IfElse {
         at: u32,
-        condition: Expression<'t>,
+        condition: Box<Expression<'t>>,
         body: Box<Statement<'t>>,
         other: Box<Statement<'t>>,
     },
@@ -198,19 +198,19 @@ pub enum Statement<'t> {
     Case {
         at: u32,
         kind: CaseKind,
-        value: Expression<'t>,
+        value: Box<Expression<'t>>,
         branches: Vec<Branch<'t>>,
     },
     /// `while (condition) body` (9.6)
     While {
         at: u32,
-        condition: Expression<'t>,
+        condition: Box<Expression<'t>>,
         body: Box<Statement<'t>>,
     },
     /// `repeat (count) body` (9.6)
     Repeat {
         at: u32,
-        count: Expression<'t>,
+        count: Box<Expression<'t>>,
         body: Box<Statement<'t>>,
     },
     /// `forever body` (9.6)
@@ -222,16 +222,16 @@ pub enum Statement<'t> {
     For {
         at: u32,
         target: Target<'t>,
-        value: Expression<'t>,
-        condition: Expression<'t>,
+        value: Box<Expression<'t>>,
+        condition: Box<Expression<'t>>,
         next_target: Target<'t>,
-        next_value: Expression<'t>,
+        next_value: Box<Expression<'t>>,
         body: Box<Statement<'t>>,
     },
     /// `wait (condition) body` (9.7.6)
     Wait {
         at: u32,
-        condition: Expression<'t>,
+        condition: Box<Expression<'t>>,
         body: Box<Statement<'t>>,
     },
     /// `#delay body` (9.7.1)

@@ -1,9 +1,9 @@
 -- What the program's functions answer that read by the definitions. Nothing here has to be believed.
-use Rattle.std.specs.Prelude.{◌≡◌, ℕ, Bool, not, List, [], ◌∷◌, Option, Some, Vec, map, option_map, codes, Result, Ok, Err}
+use Rattle.std.specs.Prelude.{◌≡◌, ℕ, Bool, not, List, [], ◌∷◌, Option, Some, Box, Vec, map, option_map, codes, Result, Ok, Err}
 use Rattle.vast.specs.Syntax.{Text}
 use Rattle.vast.specs.Expressions.{ExpressionTree}
 use Rattle.std.specs.Borrow.{MutBor}
-use Rattle.vast.specs.ExpressionTrees.{tree_of}
+use Rattle.vast.specs.ExpressionTrees.{boxed_tree}
 use Rattle.vast.specs.StatementTrees.{target_tree, statement_tree, path_tree, argument_tree, further_term as further_tree}
 use Rattle.vast.specs.declared.statement.Statement.{Statement}
 use Rattle.vast.specs.declared.statement.Target.{Target}
@@ -33,8 +33,8 @@ Gives view answer left (Ok value) = answer ≡ got (view value) left
 Gives view answer left (Err e) = Stops answer left e
 
 -- the tree of an expression, and that a word ended it
-abbrev pub ended_tree : Expression → Both ExpressionTree (Unit {0})
-ended_tree value = both (tree_of value) tt
+abbrev pub ended_tree : {T : Type 0} → Box Expression T → Both ExpressionTree (Unit {0})
+ended_tree value = both (boxed_tree value) tt
 
 -- a target with a select, behind its bracket
 abbrev pub selected_tree : Text → ℕ → Reader TargetTree
@@ -84,7 +84,7 @@ ReadsStatements below call =
 
 -- what a for writes
 abbrev pub setting_tree : Setting → Both TargetTree ExpressionTree
-setting_tree setting = both (target_tree setting.target) (tree_of setting.value)
+setting_tree setting = both (target_tree setting.target) (boxed_tree setting.value)
 
 -- behind $dumpon, and the like
 abbrev pub dump_at : Dumping → Reader StatementTree

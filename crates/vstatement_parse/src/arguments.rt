@@ -6,11 +6,12 @@ ghost use Rattle.vexpr_parse.specs.Readers.{past};
 ghost use Rattle.vstatement_parse.specs.Gives.{Gives, all_arguments, arguments_behind, arguments_within};
 ghost use Rattle.vgrammar.specs.Statements as reading;
 
+use crate::values::value;
 use crate::words::is_string;
 use basis::OrMemory;
 use std::alloc::Global;
 use vast::statement::Argument;
-use vexpr_parse::{Cursor, Stop, expression};
+use vexpr_parse::{Cursor, Stop};
 
 // A string, or an expression.
 fn argument<'a>(
@@ -27,7 +28,7 @@ fn argument<'a>(
             return Ok(Argument::Text(word));
         }
     }
-    Ok(Argument::Value(expression(alloc, cursor, below)?.tree))
+    Ok(Argument::Value(value(alloc, cursor, below)?))
 }
 
 // An argument, with the comma before it.

@@ -8,6 +8,7 @@ ghost use Rattle.vgrammar.specs.Starts.{comma_of, is_meant, is_word};
 ghost use Rattle.vast.specs.Words.{is_name as is_name_text};
 ghost use Rattle.vgrammar.specs.Statements as reading;
 
+use crate::guarded::boxed;
 use crate::terms::{further_term, read_term};
 use crate::words::named;
 use basis::OrMemory;
@@ -105,6 +106,6 @@ pub fn waiting<'a, F: Fn(&mut Cursor<'_, 'a>) -> Result<Statement<'a>, OrMemory<
     Ok(Statement::OnEvent {
         at,
         event,
-        body: Box::new(alloc, body)?,
+        body: boxed(alloc, body)?,
     })
 }

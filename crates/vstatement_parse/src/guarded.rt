@@ -1,32 +1,40 @@
 // Statements round others, behind their first words (IEEE 1364-2005, 9.4 to 9.7).
 
 ghost use Rattle.std.specs.Prelude.{◌≡◌, ◌<◌, IfOk};
-ghost use Rattle.vast.specs.ExpressionTrees.{tree_of};
+ghost use Rattle.vast.specs.ExpressionTrees.{boxed_tree};
 ghost use Rattle.vast.specs.StatementTrees.{statement_tree};
 ghost use Rattle.vstatement_parse.specs.Gives.{Gives, ReadsStatements, delayed_at, forever_at, guarded_at};
 ghost use Rattle.vgrammar.specs.Parts.{both};
 ghost use Rattle.vgrammar.specs.Statements as reading;
 
 use crate::amounts::amount;
+use crate::values::value as read_value;
 use basis::{NoMemory, OrMemory};
 use std::alloc::Global;
 use vast::expression::Expression;
 use vast::statement::Statement;
-use vexpr_parse::{Cursor, Stop, expression};
+use vexpr_parse::{Cursor, Stop};
 use vgrammar::start::Guard;
+
+/// A statement behind a box.
+pub fn boxed<'a>(alloc: Global, statement: Statement<'a>) -> Result<Box<Statement<'a>>, NoMemory>
+    ensures { IfOk result (λ made. statement_tree made.value ≡ statement_tree statement.entry) }
+{
+    Ok(Box::new(alloc, statement)?)
+}
 
 // A statement behind a condition, or a count.
 fn around<'a>(
     alloc: Global,
     guard: Guard,
     at: u32,
-    value: Expression<'a>,
+    value: Box<Expression<'a>>,
     inner: Statement<'a>,
 ) -> Result<Statement<'a>, NoMemory>
     ensures { IfOk result (λ made. statement_tree made
-        ≡ reading.guarded_of guard (both (tree_of value.entry) (statement_tree inner.entry))) }
+        ≡ reading.guarded_of guard (both (boxed_tree value.entry) (statement_tree inner.entry))) }
 {
-    let body = Box::new(alloc, inner)?;
+    let body = boxed(alloc, inner)?;
     match guard {
         Guard::While => Ok(Statement::While {
             at,
@@ -61,7 +69,7 @@ pub fn guarded<'a, F: Fn(&mut Cursor<'_, 'a>) -> Result<Statement<'a>, OrMemory<
     ensures { Gives statement_tree (guarded_at below guard cursor.old) cursor.new result }
 {
     cursor.symbol(b"(")?;
-    let value = expression(alloc, cursor, below)?.tree;
+    let value = read_value(alloc, cursor, below)?;
     cursor.symbol(b")")?;
     let body = read(cursor)?;
     Ok(around(alloc, guard, at, value, body)?)
@@ -82,7 +90,7 @@ pub fn forever<'a, F: Fn(&mut Cursor<'_, 'a>) -> Result<Statement<'a>, OrMemory<
     let body = read(cursor)?;
     Ok(Statement::Forever {
         at,
-        body: Box::new(alloc, body)?,
+        body: boxed(alloc, body)?,
     })
 }
 
@@ -104,6 +112,6 @@ pub fn delayed<'a, F: Fn(&mut Cursor<'_, 'a>) -> Result<Statement<'a>, OrMemory<
     Ok(Statement::Delayed {
         at,
         delay,
-        body: Box::new(alloc, body)?,
+        body: boxed(alloc, body)?,
     })
 }

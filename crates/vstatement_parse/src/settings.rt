@@ -5,17 +5,18 @@ ghost use Rattle.vstatement_parse.specs.Gives.{Gives, setting_tree};
 ghost use Rattle.vgrammar.specs.Statements as reading;
 
 use crate::targets::target;
+use crate::values::value;
 use basis::OrMemory;
 use std::alloc::Global;
 use vast::expression::Expression;
 use vast::statement::Target;
-use vexpr_parse::{Cursor, Stop, expression};
+use vexpr_parse::{Cursor, Stop};
 
 /// `target = value`
 #[derive(Drop)]
 pub struct Setting<'t> {
     pub target: Target<'t>,
-    pub value: Expression<'t>,
+    pub value: Box<Expression<'t>>,
 }
 
 /// `target = value`
@@ -29,6 +30,6 @@ pub fn read_setting<'a>(
 {
     let target = target(alloc, cursor, below)?;
     cursor.symbol(b"=")?;
-    let value = expression(alloc, cursor, below)?.tree;
+    let value = value(alloc, cursor, below)?;
     Ok(Setting { target, value })
 }

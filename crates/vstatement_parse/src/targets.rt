@@ -8,13 +8,13 @@ ghost use Rattle.vstatement_parse.specs.Gives.{Gives, ReadsTargets, all_targets,
 ghost use Rattle.vgrammar.specs.Parts.{made};
 ghost use Rattle.vgrammar.specs.Statements as reading;
 
-use crate::values::ended;
+use crate::values::{ended, value};
 use basis::OrMemory;
 use std::alloc::Global;
 use vast::statement::Target;
 use vast::syntax::Word;
 use vast::words::is_name;
-use vexpr_parse::{Cursor, Stop, expression};
+use vexpr_parse::{Cursor, Stop};
 use vgrammar::start::begins_target;
 
 // What stands behind `name [` (5.2.1).
@@ -27,7 +27,7 @@ fn select<'a>(
     requires { 0 < below }
     ensures { Gives target_tree (selected_tree (word_text name.entry) below cursor.old) cursor.new result }
 {
-    let index = expression(alloc, cursor, below)?.tree;
+    let index = value(alloc, cursor, below)?;
     if cursor.begins(b":") {
         cursor.pass();
         let left = index;

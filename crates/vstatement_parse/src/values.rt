@@ -1,6 +1,7 @@
 // Expressions, with the word behind them.
 
 ghost use Rattle.std.specs.Prelude.{◌≡◌, ◌<◌, codes};
+ghost use Rattle.vast.specs.ExpressionTrees.{boxed_tree};
 ghost use Rattle.vexpr_parse.specs.Readers.{past};
 ghost use Rattle.vstatement_parse.specs.Gives.{Gives, ended_tree};
 ghost use Rattle.vgrammar.specs.Parts.{paired};
@@ -11,19 +12,32 @@ use std::alloc::Global;
 use vast::expression::Expression;
 use vexpr_parse::{Cursor, Stop, expression};
 
+/// An expression.
+pub fn value<'a>(
+    alloc: Global,
+    cursor: &mut Cursor<'_, 'a>,
+    below: u32,
+) -> Result<Box<Expression<'a>>, OrMemory<Stop>>
+    requires { 0 < below }
+    ensures { Gives boxed_tree (reading.value below cursor.old) cursor.new result }
+{
+    let found = expression(alloc, cursor, below)?;
+    Ok(Box::new(alloc, found.tree)?)
+}
+
 /// An expression, and this very word behind it.
 pub fn ended<'a>(
     alloc: Global,
     cursor: &mut Cursor<'_, 'a>,
     below: u32,
     text: &[u8],
-) -> Result<Expression<'a>, OrMemory<Stop>>
+) -> Result<Box<Expression<'a>>, OrMemory<Stop>>
     requires { 0 < below }
     ensures { Gives ended_tree (paired (reading.value below) (reading.word_only text.now) cursor.old) cursor.new result }
 {
-    let found = expression(alloc, cursor, below)?;
+    let found = value(alloc, cursor, below)?;
     cursor.symbol(text)?;
-    Ok(found.tree)
+    Ok(found)
 }
 
 /// An expression between parentheses.
@@ -31,7 +45,7 @@ pub fn enclosed<'a>(
     alloc: Global,
     cursor: &mut Cursor<'_, 'a>,
     below: u32,
-) -> Result<Expression<'a>, OrMemory<Stop>>
+) -> Result<Box<Expression<'a>>, OrMemory<Stop>>
     requires { 0 < below }
     ensures { Gives ended_tree (past (codes "(") (paired (reading.value below)
         (reading.word_only (codes ")"))) cursor.old) cursor.new result }
