@@ -502,7 +502,7 @@ ports_phrase =
 abbrev not_endmodule : Option Text → Bool
 not_endmodule next = not (is_front (codes "endmodule") next)
 
-item_worded : Worded item_shape
+pub item_worded : Worded item_shape
 item_worded (parameters local kind list) v = positive _
 item_worded (declaration (variables kind tree) list) v = positive _
 item_worded (declaration integers list) v = positive _

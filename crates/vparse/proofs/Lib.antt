@@ -12,3 +12,4 @@ mod ListTurns
 mod ListKinds
 mod ModuleForms
 mod ConnectionParts
+mod ItemTurns
