@@ -13,3 +13,4 @@ mod ListKinds
 mod ModuleForms
 mod ConnectionParts
 mod ItemTurns
+mod RefusalLaws
