@@ -14,3 +14,5 @@ mod ModuleForms
 mod ConnectionParts
 mod ItemTurns
 mod RefusalLaws
+mod DeepWords
+mod DeepSources

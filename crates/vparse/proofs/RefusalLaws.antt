@@ -1,5 +1,5 @@
 -- What is read of a whole text, and where reading stops, as facts about its words.
-use Rattle.std.proofs.Common.{◌≡◌, ℕ, ◌+◌, ◌-◌, ◌≤◌, Bool, List, [], ◌++◌, length, drop, map, Vec, sym, ap, ◌∙◌, subst, arith}
+use Rattle.std.proofs.Common.{◌≡◌, ℕ, zero, suc, ◌+◌, ◌-◌, ◌≤◌, Bool, false, List, [], ◌∷◌, ◌++◌, length, drop, map, Vec, refl, sym, ap, ◌∙◌, subst, arith}
 use Rattle.std.specs.List.{slice_get}
 use Rattle.std.proofs.lemmas.List.{length-append, length-map, drop_at}
 use Rattle.vsrc.specs.Source.{place_of}
@@ -10,7 +10,8 @@ use Rattle.vast.specs.Modules.{SourceTree, DerivesText}
 use Rattle.vast.specs.ModuleTrees.{module_tree}
 use Rattle.vast.specs.declared.module.ModuleTree.{ModuleTree as ModuleWords}
 use Rattle.vexpr_parse.specs.declared.stop.Stop.{Stop}
-use Rattle.vexpr_parse.specs.Readers.{got, stop}
+use Rattle.vexpr_parse.specs.declared.stop.Stop.TheVariants.{TooDeep}
+use Rattle.vexpr_parse.specs.Readers.{got, stop, front}
 use Rattle.vexpr_parse.specs.Texts.{words_of}
 use Rattle.vexpr_parse.proofs.ReaderRules.{stop_got}
 use Rattle.vgrammar.specs.Modules.{source}
@@ -18,6 +19,7 @@ use Rattle.vgrammar.specs.SourcePlaces.{IsPlace}
 use Rattle.vgrammar.proofs.SourceReads.{reads_soundly, reads_completely, is_only, stops_at_place}
 use Rattle.vparse.specs.ModuleGives.{all_of}
 use Rattle.vparse.specs.Profile.{is_any_outside}
+use Rattle.vparse.proofs.DeepSources.{deep_inside}
 use Rattle.vparse.specs.Refusals.{IsOnlyText, HasNoText, IsRefusedAt}
 
 -- what is read is the tree of all the words, and their only one
@@ -32,6 +34,12 @@ pub read_all : (words left : List Text) (tree : SourceTree) → source words ≡
 read_all words left tree e = (reads_soundly words tree left e).0
 
 -- where reading stops
+
+front_at : (words : List Text) (index : ℕ) → slice_get words index ≡ front (drop index words)
+front_at [] zero = refl
+front_at [] (suc index) = refl
+front_at (word ∷ words) zero = refl
+front_at (word ∷ words) (suc index) = front_at words index
 
 pub stopped_none : (words left : List Text) (why : Stop) → source words ≡ stop why left → HasNoText words
 stopped_none words left why e tree d = stop_got (sym e ∙ reads_completely words tree d)
@@ -87,10 +95,21 @@ text_none words start left why same e = stopped_none words left why (ap source (
 pub text_stopped : (words start left : List Text) (why : Stop) → start ≡ words → source start ≡ stop why left → source words ≡ stop why left
 text_stopped words start left why same e = ap source (sym same) ∙ e
 
-pub refused_at : (tokens : Tokenized) (left : List Text) (why : Stop) → source (words_of tokens) ≡ stop why left →
-    (count here index : ℕ) → count ≡ length (pieces_of tokens) → here ≡ length left → index ≡ count - here →
-    (place : Place) → place ≡ place_of tokens.source (start_of tokens index) →
-    (seen outside : Bool) → seen ≡ is_any_outside (slice_get (words_of tokens) index) → seen ≡ outside → IsRefusedAt tokens place outside
-refused_at tokens left why e count here index counted stands is place placed seen outside judged same =
-    let long : count ≡ length (words_of tokens) = counted ∙ sym (length-map (pieces_of tokens) (λ piece. piece.text)) in
-    stopped_at tokens left why index place outside e (is ∙ ap (λ n. n - here) long ∙ ap (λ n. length (words_of tokens) - n) stands) placed (sym judged ∙ same)
+module _ (tokens : Tokenized) (left : List Text) (count here index : ℕ) (counted : count ≡ length (pieces_of tokens)) (stands : here ≡ length left)
+    (is : index ≡ count - here) (place : Place) (placed : place ≡ place_of tokens.source (start_of tokens index)) where
+  behind : index ≡ length (words_of tokens) - length left
+  behind =
+      let long : count ≡ length (words_of tokens) = counted ∙ sym (length-map (pieces_of tokens) (λ piece. piece.text)) in
+      is ∙ ap (λ n. n - here) long ∙ ap (λ n. length (words_of tokens) - n) stands
+
+  -- by a test of the word there
+  pub refused_at : (why : Stop) → source (words_of tokens) ≡ stop why left → (seen outside : Bool) →
+      seen ≡ is_any_outside (slice_get (words_of tokens) index) → seen ≡ outside → IsRefusedAt tokens place outside
+  refused_at why e seen outside judged same = stopped_at tokens left why index place outside e behind placed (sym judged ∙ same)
+
+  -- for want of levels
+  pub deep_at : source (words_of tokens) ≡ stop TooDeep left → IsRefusedAt tokens place false
+  deep_at e =
+      let b = stopped_behind (words_of tokens) left TooDeep index e behind in
+      stopped_at tokens left TooDeep index place false e behind placed
+      (ap is_any_outside (front_at (words_of tokens) index ∙ ap front b.behind) ∙ deep_inside (words_of tokens) left e)

@@ -69,12 +69,15 @@ fn fault(tokens: &Tokens<'_>, cursor: &Cursor<'_, '_>, why: Stop) -> SyntaxFault
 {
     let at = tokens.len().saturating_sub(cursor.left());
     let place = tokens.place(at);
-    if stands_outside(tokens, at) {
-        return SyntaxFault::Outside { place };
-    }
     match why {
         Stop::TooDeep => SyntaxFault::TooDeep { place },
-        Stop::NoTree => SyntaxFault::NoTree { place },
+        Stop::NoTree => {
+            if stands_outside(tokens, at) {
+                SyntaxFault::Outside { place }
+            } else {
+                SyntaxFault::NoTree { place }
+            }
+        }
     }
 }
 
