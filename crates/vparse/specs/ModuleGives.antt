@@ -8,10 +8,11 @@ use Rattle.vast.specs.Syntax.{Text}
 use Rattle.vast.specs.Expressions.{ExpressionTree}
 use Rattle.vast.specs.ExpressionTrees.{tree_of}
 use Rattle.vast.specs.Modules.{RangeTree, ParameterType, DirectionTree, PortTree, HeadParameter, ConnectionsTree, by_order, by_name, variables, integers, ItemTree, parameters, declaration, events, assignments, initial, always, instances, ModuleTree}
-use Rattle.vast.specs.ModuleTrees.{head_parameter as head_tree, port_tree}
+use Rattle.vast.specs.ModuleTrees.{head_parameter as head_tree, port_tree, module_tree as tree_of_module}
 use Rattle.vast.specs.Trees.{word_text}
 use Rattle.vast.specs.declared.expression.Expression.{Expression}
 use Rattle.vast.specs.declared.module.HeadParameter.{HeadParameter as HeadWords}
+use Rattle.vast.specs.declared.module.ModuleTree.{ModuleTree as ModuleWords}
 use Rattle.vast.specs.declared.module.NetKind.{NetKind}
 use Rattle.vast.specs.declared.module.Port.{Port}
 use Rattle.vast.specs.declared.syntax.Word.{Word}
@@ -230,12 +231,15 @@ module_named letters words = and_then (optional_heads words) (module_headed lett
 abbrev pub module_at : Reader ModuleTree
 module_at = past (codes "module") (λ words. and_then (named words) module_named)
 
--- so of what the program has in hand
-abbrev pub with_head : {R : Type 0} → Word → Option (Vec HeadWords R) → Reader ModuleTree
-with_head name heads = module_headed (word_text name) (option_map (all_of head_tree) heads)
+-- a module is given, where the program has these parts of it in hand
+abbrev pub GivesHeaded : {R : Type 0} → Word → Option (Vec HeadWords R) → List Text → List Text → Result ModuleWords (OrMemory Stop) → Type 0
+GivesHeaded name heads words left result =
+    Gives tree_of_module (module_headed (word_text name) (option_map (all_of head_tree) heads) words) left result
 
-abbrev pub with_parts : {R S : Type 0} → Word → Option (Vec HeadWords R) → Option (Vec Port S) → Reader ModuleTree
-with_parts name heads list = module_with (word_text name) (option_map (all_of head_tree) heads) (option_map (all_of port_tree) list)
+abbrev pub GivesWith : {R S : Type 0} → Word → Option (Vec HeadWords R) → Option (Vec Port S) → List Text → List Text →
+    Result ModuleWords (OrMemory Stop) → Type 0
+GivesWith name heads list words left result =
+    Gives tree_of_module (module_with (word_text name) (option_map (all_of head_tree) heads) (option_map (all_of port_tree) list) words) left result
 
 -- the modules behind those that were read
 abbrev pub modules_from : List ModuleTree → Reader (List ModuleTree)

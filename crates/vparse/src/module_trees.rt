@@ -4,7 +4,7 @@ ghost use Rattle.std.specs.Prelude.{◌≡◌, codes, not};
 ghost use Rattle.vast.specs.ModuleTrees.{item_tree, module_tree};
 ghost use Rattle.vexpr_parse.specs.Readers.{front, is_front};
 ghost use Rattle.vstatement_parse.specs.Gives.{Gives, ReadsStatements};
-ghost use Rattle.vparse.specs.ModuleGives.{all_items, all_of, module_body, with_head, with_parts};
+ghost use Rattle.vparse.specs.ModuleGives.{all_items, all_of, module_body, GivesHeaded, GivesWith};
 ghost use Rattle.vgrammar.specs.Modules as reading;
 
 use crate::heads::optional_heads;
@@ -71,7 +71,7 @@ fn module_with<'a, F: Fn(&mut Cursor<'_, 'a>) -> Result<Statement<'a>, OrMemory<
 ) -> Result<ModuleTree<'a>, OrMemory<Stop>>
     requires callable { F.IsAlwaysCallable read.now }
     requires reads { ReadsStatements 64 (F.post read.now) }
-    ensures { Gives module_tree (with_parts name.entry parameters.entry ports.entry cursor.old) cursor.new result }
+    ensures { GivesWith name.entry parameters.entry ports.entry cursor.old cursor.new result }
 {
     let items = module_body(alloc, read, cursor)?;
     Ok(ModuleTree {
@@ -92,7 +92,7 @@ fn module_headed<'a, F: Fn(&mut Cursor<'_, 'a>) -> Result<Statement<'a>, OrMemor
 ) -> Result<ModuleTree<'a>, OrMemory<Stop>>
     requires callable { F.IsAlwaysCallable read.now }
     requires reads { ReadsStatements 64 (F.post read.now) }
-    ensures { Gives module_tree (with_head name.entry parameters.entry cursor.old) cursor.new result }
+    ensures { GivesHeaded name.entry parameters.entry cursor.old cursor.new result }
 {
     let ports = optional_ports(alloc, cursor)?;
     module_with(alloc, read, cursor, name, parameters, ports)
