@@ -521,7 +521,7 @@ module _ (below : ℕ) where
           closes (one_way end) next = refl
           closes (other_way (both list end)) next = refl
 
-  item_worded : Worded (item_shape below)
+  pub item_worded : Worded (item_shape below)
   item_worded (parameters local kind list) v = positive _
   item_worded (declaration (variables kind tree) list) v = positive _
   item_worded (declaration integers list) v = positive _

@@ -12,3 +12,7 @@ mod ListTurns
 mod ListKinds
 mod ModuleForms
 mod ConnectionParts
+mod ItemTurns
+mod RefusalLaws
+mod DeepWords
+mod DeepSources

@@ -1,10 +1,9 @@
 -- What stands in the lists of modules leaves fewer words where it is read.
 use Rattle.std.proofs.Common.{◌≡◌, ℕ, suc, ◌<◌, ◌≤◌, Option, None, Some, List, [], ◌∷◌, ◌++◌, length, arith}
-use Rattle.basis.proofs.Bools.{and_left}
 use Rattle.vast.specs.Syntax.{Text}
 use Rattle.vast.specs.Words.{is_name}
 use Rattle.vast.specs.Trees.{word_text}
-use Rattle.vast.specs.Expressions.{ExpressionTree, spell_expression}
+use Rattle.vast.specs.Expressions.{ExpressionTree}
 use Rattle.vast.specs.ExpressionTrees.{tree_of}
 use Rattle.vast.specs.Modules as trees
 use Rattle.vast.specs.ModuleTrees.{setting_tree, declared_tree, connection_tree, instance_tree, head_parameter as head_tree, port_tree}

@@ -3,25 +3,25 @@ use Rattle.std.proofs.Common.{◌≡◌, Bool, true, false, if◌then◌else◌,
 use Rattle.std.specs.Str.{bytes_eq}
 use Rattle.basis.specs.declared.memory.OrMemory.{OrMemory}
 use Rattle.vast.specs.Syntax.{Text}
-use Rattle.vast.specs.ExpressionTrees.{tree_of}
 use Rattle.vast.specs.Statements.{StatementTree}
 use Rattle.vast.specs.Expressions.{ExpressionTree}
-use Rattle.vast.specs.Modules.{HeadParameter, SettingTree, DeclaredTree, ConnectionTree, ConnectionsTree, initial, always, PortTree, by_order, by_name, ItemTree, parameters, declaration, variables, integers, events, assignments, instances}
-use Rattle.vast.specs.ModuleTrees.{connections_tree, head_parameter as head_tree, port_tree, item_tree}
+use Rattle.vast.specs.Modules.{HeadParameter, SettingTree, DeclaredTree, ConnectionTree, ConnectionsTree, initial, always, PortTree, by_order, by_name, ItemTree, parameters, declaration, variables, integers, events, assignments, instances, ModuleTree}
+use Rattle.vast.specs.ModuleTrees.{connections_tree, head_parameter as head_tree, port_tree, item_tree, module_tree}
 use Rattle.vast.specs.declared.module.Connections.{Connections}
 use Rattle.vast.specs.declared.module.HeadParameter.{HeadParameter as HeadWords}
 use Rattle.vast.specs.declared.module.Port.{Port}
 use Rattle.vast.specs.declared.module.ModuleItem.{ModuleItem}
+use Rattle.vast.specs.declared.module.ModuleTree.{ModuleTree as ModuleWords}
 use Rattle.vexpr_parse.specs.declared.stop.Stop.{Stop}
 use Rattle.vexpr_parse.specs.Readers.{Answer, got, stop, Reader, front, is_front, and_then, past, follow, goes, refused, choose}
 use Rattle.vstatement_parse.specs.Gives.{Gives}
 use Rattle.vgrammar.specs.Parts.{Both, both, Either, one_way, other_way, made, paired, worded, many, maybe, either}
 use Rattle.vgrammar.specs.Starts.{is_meant}
 use Rattle.vgrammar.specs.Statements.{named, word_only, List_of, comma_list, statement}
-use Rattle.vgrammar.specs.Modules.{Parameters, Variables, Instances, free_value, type, parameter_type, setting, declared, connection, connections_of, connections, instance_behind, overrides, ended, net_of, local_of, parameters_of, variables_of, integers_of, events_of, assignments_of, instances_of, item_of, item, head_list_of, first_parameter, head_parameter, head_parameters, ports_of, first_port, port, ports}
-use Rattle.vparse.specs.ModuleGives.{all_of, connections_in, heads_in, some_ports, ports_in, found_or, parameters_at, variables_at, integers_at, events_at, assignments_at, instances_at, instances_item, process_item, listed_item, variables_item, any_item}
+use Rattle.vgrammar.specs.Modules.{Parameters, Variables, Instances, free_value, type, parameter_type, setting, declared, connection, connections_of, connections, instance_behind, overrides, ended, net_of, local_of, parameters_of, variables_of, integers_of, events_of, assignments_of, instances_of, item_of, item, head_list_of, first_parameter, head_parameter, head_parameters, ports_of, first_port, port, ports, module_of, module_tree as module_reader}
+use Rattle.vparse.specs.ModuleGives.{all_of, connections_in, heads_in, some_ports, ports_in, found_or, parameters_at, variables_at, integers_at, events_at, assignments_at, instances_at, instances_item, process_item, listed_item, variables_item, any_item, optional_heads, optional_ports, all_items, items_in, module_with, module_headed, module_named, module_at}
 use Rattle.vgrammar.proofs.ManyTurns.{until_is, first_until_is}
-use Rattle.vgrammar.specs.Lists.{all_until, rest_until}
+use Rattle.vgrammar.specs.Lists.{all_until}
 
 -- what is made is made of each part
 
@@ -290,6 +290,71 @@ item_is words =
     (parameters_is words) (variables_item_is words)
     ∙ found_choice (is_meant local_of) (worded local_of) parameters_at variables_item words
 
+-- modules
+
+abbrev item_parts : Reader (Both (List ItemTree) (Unit {0}))
+item_parts = paired all_items (word_only (codes "endmodule"))
+
+abbrev body_parts : Reader (Both (List ItemTree) (Unit {0}))
+body_parts = past (codes ";") item_parts
+
+abbrev port_and_body : Reader (Both (Option (List PortTree)) (Both (List ItemTree) (Unit {0})))
+port_and_body = paired optional_ports body_parts
+
+abbrev head_and_body : Reader (Both (Option (List HeadParameter)) (Both (Option (List PortTree)) (Both (List ItemTree) (Unit {0}))))
+head_and_body = paired optional_heads port_and_body
+
+module _ (letters : Text) (heads : Option (List HeadParameter)) (list : Option (List PortTree)) where
+  abbrev make : Both (List ItemTree) (Unit {0}) → ModuleTree
+  make parts = module_of (both letters (both heads (both list parts)))
+
+  abbrev whole : List ItemTree → ModuleTree
+  whole body = record { name = letters; parameters = heads; ports = list; items = body }
+
+  by_word : (all : List ItemTree) (word : Text) (words : List Text) (b : Bool) →
+      and_then (and_then (follow (if b then goes (got tt) else refused) word words) (λ end. got (both all end))) (λ parts. got (make parts))
+      ≡ and_then (follow (if b then goes (got all) else refused) word words) (λ body. got (whole body))
+  by_word all word words true = refl
+  by_word all word words false = refl
+
+  by_end : (all : List ItemTree) (words : List Text) →
+      and_then (made (both all) (word_only (codes "endmodule")) words) (λ parts. got (make parts))
+      ≡ and_then (past (codes "endmodule") (got all) words) (λ body. got (whole body))
+  by_end all [] = refl
+  by_end all (word ∷ words) = by_word all word words (bytes_eq (codes "endmodule") word)
+
+  by_items : (a : Answer (List ItemTree)) →
+      and_then (and_then a (λ all. made (both all) (word_only (codes "endmodule")))) (λ parts. got (make parts))
+      ≡ and_then (and_then a (λ all. past (codes "endmodule") (got all))) (λ body. got (whole body))
+  by_items (got all left) = by_end all left
+  by_items (stop why left) = refl
+
+  body_is : (words : List Text) → made make body_parts words ≡ module_with letters heads list words
+  body_is words =
+      made_past make (codes ";") item_parts words
+      ∙ past_same (codes ";") (made make item_parts) (made whole items_in) (λ ws. by_items (all_items ws)) words
+      ∙ sym (made_past whole (codes ";") items_in words)
+
+headed_is : (letters : Text) (heads : Option (List HeadParameter)) (words : List Text) →
+    made (λ parts. module_of (both letters (both heads parts))) port_and_body words ≡ module_headed letters heads words
+headed_is letters heads words =
+    made_paired (λ parts. module_of (both letters (both heads parts))) optional_ports body_parts words
+    ∙ then_same (optional_ports words) (λ list. made (make letters heads list) body_parts) (module_with letters heads) (body_is letters heads)
+
+named_is : (letters : Text) (words : List Text) → made (λ parts. module_of (both letters parts)) head_and_body words ≡ module_named letters words
+named_is letters words =
+    made_paired (λ parts. module_of (both letters parts)) optional_heads port_and_body words
+    ∙ then_same (optional_heads words) (λ heads. made (λ parts. module_of (both letters (both heads parts))) port_and_body) (module_headed letters)
+    (headed_is letters)
+
+pub module_is : (words : List Text) → module_reader words ≡ module_at words
+module_is = past_rule module_of (codes "module") (paired named head_and_body) (λ words. and_then (named words) module_named) inside
+  where
+    inside : (words : List Text) → made module_of (paired named head_and_body) words ≡ and_then (named words) module_named
+    inside words =
+        made_paired module_of named head_and_body words
+        ∙ then_same (named words) (λ letters. made (λ parts. module_of (both letters parts)) head_and_body) module_named named_is
+
 -- so what the program gives
 
 same_gives : {A T : Type 0} (view : T → A) (one other : Answer A) → one ≡ other → (left : List Text) (result : Result T (OrMemory Stop)) →
@@ -311,3 +376,7 @@ gives_ports words left result given = same_gives (all_of port_tree) (ports words
 pub gives_item : (words left : List Text) (result : Result ModuleItem (OrMemory Stop)) →
     Gives item_tree (any_item words) left result → Gives item_tree (item words) left result
 gives_item words left result given = same_gives item_tree (item words) _ (item_is words) left result given
+
+pub gives_module : (words left : List Text) (result : Result ModuleWords (OrMemory Stop)) →
+    Gives module_tree (module_at words) left result → Gives module_tree (module_reader words) left result
+gives_module words left result given = same_gives module_tree (module_reader words) _ (module_is words) left result given

@@ -5,3 +5,4 @@ pub mod Words
 pub mod Laws
 pub mod Inner
 pub mod ModuleGives
+pub mod Refusals

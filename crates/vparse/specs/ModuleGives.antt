@@ -1,5 +1,5 @@
 -- What the program's functions answer that read modules. Nothing here has to be believed.
-use Rattle.std.specs.Prelude.{◌≡◌, ◌≤◌, ◌⊎◌, Bool, true, false, not, List, [], ◌∷◌, Option, Some, None, Result, Ok, Err, Vec, length, map, drop, codes}
+use Rattle.std.specs.Prelude.{◌≡◌, ◌≤◌, ◌⊎◌, Bool, true, false, not, List, [], ◌∷◌, Option, Some, None, Result, Ok, Err, Vec, length, map, drop, option_map, codes}
 use Rattle.std.specs.Borrow.{MutBor}
 use Rattle.basis.specs.declared.memory.OrMemory.{OrMemory}
 use Rattle.basis.specs.declared.memory.OrMemory.TheVariants.{Fault}
@@ -7,9 +7,15 @@ use Rattle.basis.specs.Reasons.{Because}
 use Rattle.vast.specs.Syntax.{Text}
 use Rattle.vast.specs.Expressions.{ExpressionTree}
 use Rattle.vast.specs.ExpressionTrees.{tree_of}
-use Rattle.vast.specs.Modules.{RangeTree, ParameterType, DirectionTree, PortTree, HeadParameter, ConnectionsTree, by_order, by_name, variables, integers, ItemTree, parameters, declaration, events, assignments, initial, always, instances}
+use Rattle.vast.specs.Modules.{RangeTree, ParameterType, DirectionTree, PortTree, HeadParameter, ConnectionsTree, by_order, by_name, variables, integers, ItemTree, parameters, declaration, events, assignments, initial, always, instances, ModuleTree}
+use Rattle.vast.specs.ModuleTrees.{head_parameter as head_tree, port_tree, module_tree as tree_of_module}
+use Rattle.vast.specs.Trees.{word_text}
 use Rattle.vast.specs.declared.expression.Expression.{Expression}
+use Rattle.vast.specs.declared.module.HeadParameter.{HeadParameter as HeadWords}
+use Rattle.vast.specs.declared.module.ModuleTree.{ModuleTree as ModuleWords}
 use Rattle.vast.specs.declared.module.NetKind.{NetKind}
+use Rattle.vast.specs.declared.module.Port.{Port}
+use Rattle.vast.specs.declared.syntax.Word.{Word}
 use Rattle.vexpr_parse.specs.declared.stop.Stop.{Stop}
 use Rattle.vexpr_parse.specs.declared.stop.Stop.TheVariants.{NoTree}
 use Rattle.vexpr_parse.specs.Readers.{Reader, got, and_then, front, is_front, past, choose, turns}
@@ -17,7 +23,7 @@ use Rattle.vstatement_parse.specs.Gives.{Gives}
 use Rattle.vgrammar.specs.Parts.{both, one_way, other_way, made, paired, maybe, many, worded, one_behind}
 use Rattle.vgrammar.specs.Starts.{is_meant}
 use Rattle.vgrammar.specs.Statements.{named, word_only, statement}
-use Rattle.vgrammar.specs.Modules.{range, type, parameter_type, setting, declared, free_value, Value, connection, instance_behind, overrides, net_of, local_of, item, first_parameter, head_parameter, head_parameters, head_list_of, Direction, direction, is_direction, first_port, port, ports}
+use Rattle.vgrammar.specs.Modules.{range, type, parameter_type, setting, declared, free_value, Value, connection, instance_behind, overrides, net_of, local_of, item, first_parameter, head_parameter, head_parameters, head_list_of, Direction, direction, is_direction, first_port, port, ports, module_tree, is_some_word}
 use Rattle.vgrammar.specs.Lists.{all_until, rest_until}
 
 -- this very word stands first and is passed, or another stands there
@@ -201,3 +207,40 @@ optional_ports = maybe (is_front (codes "(")) ports
 -- the items of a module
 abbrev pub all_items : Reader (List ItemTree)
 all_items = many (λ next. not (is_front (codes "endmodule") next)) (λ list. item)
+
+-- the items behind those that were read
+abbrev pub items_from : List ItemTree → Reader (List ItemTree)
+items_from = turns (one_behind (λ list. item)) (λ next. not (is_front (codes "endmodule") next))
+
+-- a module, by what was read of it
+abbrev pub items_in : Reader (List ItemTree)
+items_in words = and_then (all_items words) (λ list. past (codes "endmodule") (got list))
+
+abbrev pub module_body : Reader (List ItemTree)
+module_body = past (codes ";") items_in
+
+abbrev pub module_with : Text → Option (List HeadParameter) → Option (List PortTree) → Reader ModuleTree
+module_with letters heads list = made (λ body. record { name = letters; parameters = heads; ports = list; items = body }) module_body
+
+abbrev pub module_headed : Text → Option (List HeadParameter) → Reader ModuleTree
+module_headed letters heads words = and_then (optional_ports words) (module_with letters heads)
+
+abbrev pub module_named : Text → Reader ModuleTree
+module_named letters words = and_then (optional_heads words) (module_headed letters)
+
+abbrev pub module_at : Reader ModuleTree
+module_at = past (codes "module") (λ words. and_then (named words) module_named)
+
+-- a module is given, where the program has these parts of it in hand
+abbrev pub GivesHeaded : {R : Type 0} → Word → Option (Vec HeadWords R) → List Text → List Text → Result ModuleWords (OrMemory Stop) → Type 0
+GivesHeaded name heads words left result =
+    Gives tree_of_module (module_headed (word_text name) (option_map (all_of head_tree) heads) words) left result
+
+abbrev pub GivesWith : {R S : Type 0} → Word → Option (Vec HeadWords R) → Option (Vec Port S) → List Text → List Text →
+    Result ModuleWords (OrMemory Stop) → Type 0
+GivesWith name heads list words left result =
+    Gives tree_of_module (module_with (word_text name) (option_map (all_of head_tree) heads) (option_map (all_of port_tree) list) words) left result
+
+-- the modules behind those that were read
+abbrev pub modules_from : List ModuleTree → Reader (List ModuleTree)
+modules_from = turns (one_behind (λ list. module_tree)) is_some_word

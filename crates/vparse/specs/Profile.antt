@@ -1,6 +1,6 @@
 -- Words outside the profile: reserved words and system names that no rule of the grammar names, and the operators
 -- that it leaves out (docs/LANGUAGE.md, "Words" and "Grammar").
-use Rattle.std.specs.Prelude.{Bool, false, ◌&&◌, ◌||◌, ◌==◌, not, List, [], ◌∷◌, codes}
+use Rattle.std.specs.Prelude.{Bool, false, ◌&&◌, ◌||◌, ◌==◌, not, List, [], ◌∷◌, Option, None, Some, codes}
 use Rattle.std.specs.List.{list_any}
 use Rattle.std.specs.Str.{bytes_eq}
 use Rattle.vast.specs.Words.{is_reserved}
@@ -37,3 +37,8 @@ is_system (c ∷ cs) = c == 36
 abbrev pub is_outside : Text → Bool
 is_outside word =
     (is_reserved word && not (is_among keywords word)) || (is_system word && not (is_among system_names word)) || is_among left_out word
+
+-- whether a word stands outside the profile, where there is one
+abbrev pub is_any_outside : Option Text → Bool
+is_any_outside None = false
+is_any_outside (Some word) = is_outside word

@@ -14,12 +14,14 @@ pub mod law;
 pub mod lists;
 pub mod module_items;
 pub mod module_lists;
+pub mod module_trees;
 mod modules;
 mod parser;
 pub mod ports;
 pub mod profile;
 mod statements;
 mod stop;
+pub mod texts;
 pub mod types;
 
 pub use fault::SyntaxFault;

@@ -1,0 +1,11 @@
+use Rattle.std.proofs.Common.{◌≡◌, [], length, map}
+use Rattle.vast.specs.ModuleTrees.{item_tree}
+use Rattle.vparse.specs.ModuleGives.{items_from}
+use Rattle.vparse.proofs.module_trees.all_items.Given as goal
+
+-- the items so far, and those that are read of the words that are left, are all that is read
+abbrev pub invariant-items : goal.invariant-items
+invariant-items g l = items_from (map item_tree l.items.items) l.cursor ≡ items_from [] l.fn.cursor
+
+abbrev pub decreases-items : goal.decreases-items
+decreases-items g l = length l.cursor

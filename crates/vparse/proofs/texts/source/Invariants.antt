@@ -1,0 +1,12 @@
+use Rattle.std.proofs.Common.{◌≡◌, length, map}
+use Rattle.vast.specs.ModuleTrees.{module_tree}
+use Rattle.vgrammar.specs.Modules.{source}
+use Rattle.vparse.specs.ModuleGives.{modules_from}
+use Rattle.vparse.proofs.texts.source.Given as goal
+
+-- the modules so far, and those that are read of the words that are left, are all that is read
+abbrev pub invariant-modules : goal.invariant-modules
+invariant-modules g l = modules_from (map module_tree l.modules.items) l.cursor ≡ source l.fn.cursor
+
+abbrev pub decreases-modules : goal.decreases-modules
+decreases-modules g l = length l.cursor

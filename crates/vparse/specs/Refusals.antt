@@ -1,0 +1,35 @@
+-- What a fault says of a text (docs/LANGUAGE.md, "Grammar").
+use Rattle.std.specs.Prelude.{◌≡◌, ℕ, ◌≤◌, Bool, true, false, List, length, drop, slice_get}
+use Rattle.vsrc.specs.Source.{place_of}
+use Rattle.vsrc.specs.declared.expanded.Place.{Place}
+use Rattle.vlex.specs.Tokenized.{Tokenized, start_of}
+use Rattle.vast.specs.Syntax.{Text}
+use Rattle.vast.specs.Modules.{SourceTree, DerivesText}
+use Rattle.vexpr_parse.specs.Texts.{words_of}
+use Rattle.vgrammar.specs.SourcePlaces.{IsPlace}
+use Rattle.vparse.specs.declared.fault.SyntaxFault.{SyntaxFault}
+use Rattle.vparse.specs.declared.fault.SyntaxFault.TheVariants.{NoTree, Outside, TooDeep}
+use Rattle.vparse.specs.Profile.{is_any_outside}
+
+-- a tree is the words' only one
+abbrev pub IsOnlyText : List Text → SourceTree → Type 0
+IsOnlyText words tree = (other : SourceTree) → DerivesText words other → other ≡ tree
+
+-- no tree derives the words
+abbrev pub HasNoText : List Text → Type 0
+HasNoText words = (tree : SourceTree) → DerivesText words tree → ⊥
+
+-- The token of this number begins at the place, or the text ends there. With its word those before it begin no text, and
+-- without it they begin one. The word stands outside the profile or not.
+pub record IsRefusedAt (tokens : Tokenized) (place : Place) (outside : Bool) : Type 0 where
+  pub index : ℕ
+  pub within : index ≤ length (words_of tokens)
+  pub placed : place ≡ place_of tokens.source (start_of tokens index)
+  pub refused : IsPlace (words_of tokens) (drop index (words_of tokens))
+  pub judged : is_any_outside (slice_get (words_of tokens) index) ≡ outside
+
+-- E202 comes where the refused word stands outside the profile, and the others only where it doesn't
+abbrev pub IsRefusal : Tokenized → SyntaxFault → Type 0
+IsRefusal tokens (NoTree place) = IsRefusedAt tokens place false
+IsRefusal tokens (Outside place) = IsRefusedAt tokens place true
+IsRefusal tokens (TooDeep place) = IsRefusedAt tokens place false

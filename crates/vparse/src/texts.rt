@@ -1,0 +1,107 @@
+// Whole texts (IEEE 1364-2005, A.1.2).
+
+ghost use Rattle.std.specs.Prelude.{◌≡◌, slice_get, IfOk};
+ghost use Rattle.basis.specs.Reasons.{IfFault};
+ghost use Rattle.vast.specs.ModuleTrees.{module_tree, source_tree};
+ghost use Rattle.vast.specs.Modules.{DerivesText};
+ghost use Rattle.vexpr_parse.specs.Readers.{front, stop};
+ghost use Rattle.vexpr_parse.specs.Texts.{words_of};
+ghost use Rattle.vstatement_parse.specs.Gives.{Gives, ReadsStatements};
+ghost use Rattle.vparse.specs.ModuleGives.{all_of};
+ghost use Rattle.vparse.specs.Profile.{is_any_outside};
+ghost use Rattle.vparse.specs.Refusals.{HasNoText, IsOnlyText, IsRefusal};
+ghost use Rattle.vgrammar.specs.Modules.{is_some_word, source};
+
+use crate::fault::SyntaxFault;
+use crate::module_trees::module_tree;
+use crate::profile::is_outside;
+use basis::OrMemory;
+use std::alloc::Global;
+use vast::module::{ModuleTree, TextTree};
+use vast::statement::Statement;
+use vexpr_parse::{Cursor, Stop};
+use vlex::Tokens;
+
+// Whether a word is left.
+fn is_left(cursor: &Cursor<'_, '_>) -> bool
+    ensures { result ≡ is_some_word (front cursor.now) }
+{
+    match cursor.word() {
+        None => false,
+        Some(_word) => true,
+    }
+}
+
+/// The modules of a text, to its end, where this reads statements.
+#[tactic(auto, using(crate::proofs::ItemTurns::source_is, crate::proofs::ItemTurns::modules_stopped, crate::proofs::ItemTurns::modules_ended))]
+pub fn source<'a, F: Fn(&mut Cursor<'_, 'a>) -> Result<Statement<'a>, OrMemory<Stop>>>(
+    alloc: Global,
+    read: &F,
+    cursor: &mut Cursor<'_, 'a>,
+) -> Result<Vec<ModuleTree<'a>>, OrMemory<Stop>>
+    requires callable { F.IsAlwaysCallable read.now }
+    requires reads { ReadsStatements 64 (F.post read.now) }
+    ensures { Gives (all_of module_tree) (source cursor.old) cursor.new result }
+{
+    let mut modules: Vec<ModuleTree<'a>> = Vec::new(alloc);
+    'modules: while is_left(cursor) {
+        let one = module_tree(alloc, read, cursor)?;
+        modules.push(one)?;
+    }
+    Ok(modules)
+}
+
+// Whether the word of this token stands outside the profile.
+fn stands_outside(tokens: &Tokens<'_>, at: usize) -> bool
+    ensures { result ≡ is_any_outside (slice_get (words_of tokens.now) at) }
+{
+    if at < tokens.len() {
+        is_outside(tokens.text(at))
+    } else {
+        false
+    }
+}
+
+// What is wrong at the word where reading stopped.
+fn fault(tokens: &Tokens<'_>, cursor: &Cursor<'_, '_>, why: Stop) -> SyntaxFault
+    requires { source (words_of tokens.now) ≡ stop why cursor.now }
+    ensures { IsRefusal tokens.now result }
+{
+    let at = tokens.len().saturating_sub(cursor.left());
+    let place = tokens.place(at);
+    match why {
+        Stop::TooDeep => SyntaxFault::TooDeep { place },
+        Stop::NoTree => {
+            if stands_outside(tokens, at) {
+                SyntaxFault::Outside { place }
+            } else {
+                SyntaxFault::NoTree { place }
+            }
+        }
+    }
+}
+
+/// The tree of the tokens, where this reads statements: the one that derives their words (IEEE 1364-2005, annex A;
+/// docs/LANGUAGE.md, "Grammar"). The first token whose word can't follow those before it decides of the fault: E202
+/// where the word stands outside the profile, else E203 where it would stand inside more than 64 levels, else E201.
+/// E901 where a growth was refused.
+#[tactic(auto, using(crate::proofs::RefusalLaws::text_none, crate::proofs::RefusalLaws::text_stopped))]
+pub fn text<'a, F: Fn(&mut Cursor<'_, 'a>) -> Result<Statement<'a>, OrMemory<Stop>>>(
+    alloc: Global,
+    read: &F,
+    tokens: &Tokens<'a>,
+) -> Result<TextTree<'a>, OrMemory<SyntaxFault>>
+    requires callable { F.IsAlwaysCallable read.now }
+    requires reads { ReadsStatements 64 (F.post read.now) }
+    ensures derives { IfOk result (λ text. DerivesText (words_of tokens.now) (source_tree text)) }
+    ensures only { IfOk result (λ text. IsOnlyText (words_of tokens.now) (source_tree text)) }
+    ensures none { IfFault result (λ fault. HasNoText (words_of tokens.now)) }
+    ensures reason { IfFault result (λ fault. IsRefusal tokens.now fault) }
+{
+    let mut cursor = Cursor::new(tokens);
+    match source(alloc, read, &mut cursor) {
+        Ok(modules) => Ok(TextTree { modules }),
+        Err(OrMemory::Fault(why)) => Err(OrMemory::Fault(fault(tokens, &cursor, why))),
+        Err(OrMemory::Memory(refused)) => Err(OrMemory::Memory(refused)),
+    }
+}
