@@ -1,7 +1,7 @@
 -- What a connection is made of, and what may be left out.
-use Rattle.std.proofs.Common.{◌≡◌, Bool, true, List, drop, Option, None, Some, option_map, refl, sym, ap, ◌∙◌}
+use Rattle.std.proofs.Common.{◌≡◌, Box, Bool, true, List, drop, Option, None, Some, option_map, refl, sym, ap, ◌∙◌}
 use Rattle.vast.specs.Syntax.{Text}
-use Rattle.vast.specs.ExpressionTrees.{tree_of}
+use Rattle.vast.specs.ExpressionTrees.{boxed_tree}
 use Rattle.vast.specs.Modules.{ConnectionTree}
 use Rattle.vast.specs.declared.expression.Expression.{Expression}
 use Rattle.vexpr_parse.specs.Readers.{Reader, got, and_then, front, is_front, past}
@@ -11,10 +11,10 @@ use Rattle.vgrammar.specs.Modules.{connection_of}
 use Rattle.vparse.specs.ModuleGives.{value_part}
 use Rattle.vgrammar.proofs.ManyTurns.{behind_word}
 
-abbrev connected : Text → Option Expression → ConnectionTree
-connected letters value = record { name = letters; value = option_map tree_of value }
+abbrev connected : {T : Type 0} → Text → Option (Box Expression T) → ConnectionTree
+connected letters value = record { name = letters; value = option_map boxed_tree value }
 
-pub connection_made : (letters : Text) (value : Option Expression) → connection_of (both letters (value_part value)) ≡ connected letters value
+pub connection_made : {T : Type 0} (letters : Text) (value : Option (Box Expression T)) → connection_of (both letters (value_part value)) ≡ connected letters value
 connection_made letters None = refl
 connection_made letters (Some tree) = refl
 

@@ -12,7 +12,9 @@ use Rattle.vgrammar.specs.declared.start.StatementStart.TheVariants as start
 use Rattle.vgrammar.specs.Parts.{made, paired, maybe, roomy}
 use Rattle.vgrammar.specs.Starts.{start_of, start_word, statement_starts, begins_target, is_target, is_some_meaning, is_meant, meant_if, is_word, sign_of, edge_of, comma_of}
 use Rattle.vgrammar.specs.Statements.{value, named, numbered, word_only, comma_list, select, target_of, named_target, joined_of, joined_targets, target, delay_of, amount, assignment_of, assignment, guarded, if_of, guarded_of, setting, for_of, delayed_of, term_of, term, further_of, event_of, control, event_body_of, block_of, has_default, branch_of, default_branch, branch, case_parts_of, case_parts, argument_of, arguments, print_of, optional_print_of, dump_file_of, path_of, selection_of, selection, dump_vars_of, end_of, dump_of, trigger_of, statement_by, lead_by, begins_statement, statement}
-use Rattle.vgrammar.specs.Modules.{free_value, range_of, range, type_of, type, parameter_type_of, parameter_type, setting_of, setting as module_setting, declared_of, declared, connection_of, connection, connections_of, connections, instance_of, ended, net_of, local_of, item_of, item, first_parameter_of, head_parameter_of, head_parameters, direction_of, direction, is_direction, first_port_of, port_of, ports_of, ports, head_list_of, module_of, module_tree, is_some_word, source}
+use Rattle.vgrammar.specs.Modules.{range_of, type_of, parameter_type_of, setting_of, declared_of, connection_of, connections_of, instance_of, ended, net_of, local_of, item_of, first_parameter_of, head_parameter_of, direction_of, is_direction, first_port_of, port_of, ports_of, head_list_of, module_of, is_some_word}
+use Rattle.vgrammar.specs.Modules as with_levels
+use Rattle.vparse.specs.TextReaders.{free_value, range, type, parameter_type, setting as module_setting, declared, connection, connections, item, head_parameters, direction, ports, module_tree, source}
 use Rattle.vparse.specs.Profile.{keywords, system_names, left_out, is_any_outside}
 use Rattle.vparse.proofs.DeepWords.{Inside, same_inside, written_inside, name_inside, Fine, Safe, LeadFine, got_safe, then_fine, led_safe, if_fine, room_fine, past_safe, choose_where, made_safe, linked_safe, paired_safe, maybe_safe, either_safe, worded_safe, many_safe, roomy_fine, first_inside, bracket_inside, brace_inside, parenthesis_inside, expression_safe}
 
@@ -274,7 +276,7 @@ module_safe =
     (only_safe (codes "endmodule"))))))))
 
 source_safe : Safe source
-unfolding source
+unfolding with_levels.source
 source_safe = many_safe is_some_word (λ list. module_safe)
 
 -- the word at which reading stops for want of levels

@@ -8,7 +8,9 @@ use Rattle.vast.specs.declared.module.ModuleTree.{ModuleTree as ModuleWords}
 use Rattle.vexpr_parse.specs.declared.stop.Stop.{Stop}
 use Rattle.vexpr_parse.specs.Readers.{Answer, got, stop, front, is_front}
 use Rattle.vexpr_parse.proofs.ReaderRules.{Eats}
-use Rattle.vgrammar.specs.Modules.{item, module_tree as module_reader, is_some_word, source}
+use Rattle.vgrammar.specs.Modules.{is_some_word}
+use Rattle.vgrammar.specs.Modules as with_levels
+use Rattle.vparse.specs.TextReaders.{item, module_tree as module_reader, source}
 use Rattle.vparse.specs.ModuleGives.{items_from, modules_from}
 use Rattle.vgrammar.proofs.Phrases.{sound_eats}
 use Rattle.vgrammar.proofs.ItemPhrases.{item_shape, item_phrase}
@@ -16,7 +18,7 @@ use Rattle.vgrammar.proofs.ModulePhrases.{item_worded, module_shape, module_phra
 use Rattle.vgrammar.proofs.ManyTurns.{pushed, stopped_at, no_more}
 
 pub item_eats : Eats item
-item_eats = sound_eats item item_shape item_phrase.sound item_worded
+item_eats = sound_eats item (item_shape 63) (item_phrase 63).sound (item_worded 63)
 
 abbrev within : Option Text → Bool
 within next = not (is_front (codes "endmodule") next)
@@ -39,10 +41,10 @@ positive : (n : ℕ) → 0 < suc n
 positive n = omega arith
 
 pub module_eats : Eats module_reader
-module_eats = sound_eats module_reader module_shape module_phrase.sound (λ tree v. positive _)
+module_eats = sound_eats module_reader (module_shape 63) (module_phrase 63).sound (λ tree v. positive _)
 
 pub source_is : (words : List Text) → modules_from [] words ≡ source words
-unfolding source
+unfolding with_levels.source
 source_is words = refl
 
 module _ (words : List Text) (seen : Bool) (is : seen ≡ is_some_word (front words)) where

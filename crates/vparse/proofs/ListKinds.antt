@@ -18,7 +18,7 @@ use Rattle.vast.specs.declared.module.Port.{Port}
 use Rattle.vexpr_parse.specs.Readers.{Reader, got}
 use Rattle.vexpr_parse.proofs.ReaderRules.{Eats}
 use Rattle.vgrammar.specs.Statements.{named}
-use Rattle.vgrammar.specs.Modules.{free_value, setting, declared, connection, instance_behind, head_parameter, port}
+use Rattle.vparse.specs.TextReaders.{free_value, setting, declared, connection, instance_behind, head_parameter, port}
 use Rattle.vgrammar.proofs.Phrases.{sound_eats}
 use Rattle.vgrammar.proofs.ValuePhrases.{value_worded}
 use Rattle.vgrammar.proofs.PartPhrases.{text_shape, named_phrase}
@@ -40,10 +40,10 @@ no_more_words read eats words left tree e = weaker (length left) (length words) 
     weaker a b e = omega arith
 
 pub setting_eats : Eats setting
-setting_eats = sound_eats setting setting_shape setting_phrase.sound (λ tree v. positive _)
+setting_eats = sound_eats setting (setting_shape 63) (setting_phrase 63).sound (λ tree v. positive _)
 
 pub declared_eats : Eats declared
-declared_eats = sound_eats declared declared_shape declared_phrase.sound (λ tree v. some tree.name tree.value)
+declared_eats = sound_eats declared (declared_shape 63) (declared_phrase 63).sound (λ tree v. some tree.name tree.value)
   where
     some : (letters : Text) (value : Option ExpressionTree) → 0 < length (trees.spell_value letters value)
     some letters None = positive _
@@ -53,19 +53,19 @@ pub named_eats : Eats named
 named_eats = sound_eats named (text_shape is_name) named_phrase.sound (λ tree v. positive _)
 
 pub connection_eats : Eats connection
-connection_eats = sound_eats connection connection_shape connection_phrase.sound (λ tree v. positive _)
+connection_eats = sound_eats connection (connection_shape 63) (connection_phrase 63).sound (λ tree v. positive _)
 
 pub instance_eats : Eats instance_behind
-instance_eats = sound_eats instance_behind instance_shape instance_phrase.sound (λ tree v. positive _)
+instance_eats = sound_eats instance_behind (instance_shape 63) (instance_phrase 63).sound (λ tree v. positive _)
 
 pub head_eats : Eats head_parameter
-head_eats = sound_eats head_parameter head_shape head_parameter_phrase.sound (λ tree v. longer (trees.spell_kind tree.kind) tree.setting.name _)
+head_eats = sound_eats head_parameter (head_shape 63) (head_parameter_phrase 63).sound (λ tree v. longer (trees.spell_kind tree.kind) tree.setting.name _)
 
 pub port_eats : Eats port
-port_eats = sound_eats port port_shape port_phrase.sound (λ tree v. longer (trees.spell_direction tree.direction) tree.name [])
+port_eats = sound_eats port (port_shape 63) (port_phrase 63).sound (λ tree v. longer (trees.spell_direction tree.direction) tree.name [])
 
 pub value_eats : Eats free_value
-value_eats = sound_eats free_value Free free_phrase_value.sound (λ tree v. value_worded 64 tree v)
+value_eats = sound_eats free_value (Free 63) (free_phrase_value 63).sound (λ tree v. value_worded 64 tree v)
 
 pub setting_fewer : (words left : List Text) (one : Setting) → setting words ≡ got (setting_tree one) left → length left ≤ length words
 setting_fewer words left one e = no_more_words setting setting_eats words left (setting_tree one) e

@@ -18,7 +18,8 @@ use Rattle.vstatement_parse.specs.Gives.{Gives}
 use Rattle.vgrammar.specs.Parts.{Both, both, Either, one_way, other_way, made, paired, worded, many, maybe, either}
 use Rattle.vgrammar.specs.Starts.{is_meant}
 use Rattle.vgrammar.specs.Statements.{named, word_only, List_of, comma_list, statement}
-use Rattle.vgrammar.specs.Modules.{Parameters, Variables, Instances, free_value, type, parameter_type, setting, declared, connection, connections_of, connections, instance_behind, overrides, ended, net_of, local_of, parameters_of, variables_of, integers_of, events_of, assignments_of, instances_of, item_of, item, head_list_of, first_parameter, head_parameter, head_parameters, ports_of, first_port, port, ports, module_of, module_tree as module_reader}
+use Rattle.vgrammar.specs.Modules.{Parameters, Variables, Instances, connections_of, ended, net_of, local_of, parameters_of, variables_of, integers_of, events_of, assignments_of, instances_of, item_of, head_list_of, ports_of, module_of}
+use Rattle.vparse.specs.TextReaders.{free_value, type, parameter_type, setting, declared, connection, connections, instance_behind, overrides, item, first_parameter, head_parameter, head_parameters, first_port, port, ports, module_tree as module_reader}
 use Rattle.vparse.specs.ModuleGives.{all_of, connections_in, heads_in, some_ports, ports_in, found_or, parameters_at, variables_at, integers_at, events_at, assignments_at, instances_at, instances_item, process_item, listed_item, variables_item, any_item, optional_heads, optional_ports, all_items, items_in, module_with, module_headed, module_named, module_at}
 use Rattle.vgrammar.proofs.ManyTurns.{until_is, first_until_is}
 use Rattle.vgrammar.specs.Lists.{all_until}

@@ -10,13 +10,14 @@ use Rattle.vast.specs.Modules.{SourceTree, DerivesText}
 use Rattle.vast.specs.ModuleTrees.{module_tree}
 use Rattle.vast.specs.declared.module.ModuleTree.{ModuleTree as ModuleWords}
 use Rattle.vexpr_parse.specs.declared.stop.Stop.{Stop}
-use Rattle.vexpr_parse.specs.declared.stop.Stop.TheVariants.{TooDeep}
+use Rattle.vexpr_parse.specs.declared.stop.Stop.TheVariants.{NoTree, TooDeep}
 use Rattle.vexpr_parse.specs.Readers.{got, stop, front}
 use Rattle.vexpr_parse.specs.Texts.{words_of}
 use Rattle.vexpr_parse.proofs.ReaderRules.{stop_got}
-use Rattle.vgrammar.specs.Modules.{source}
-use Rattle.vgrammar.specs.SourcePlaces.{IsPlace}
-use Rattle.vgrammar.proofs.SourceReads.{reads_soundly, reads_completely, is_only, stops_at_place}
+use Rattle.vparse.specs.TextReaders.{source}
+use Rattle.vgrammar.specs.SourcePlaces.{IsPlace, IsRefused, IsDeeper}
+use Rattle.vgrammar.proofs.SourceReads.{reads_soundly, reads_completely, is_only}
+use Rattle.vgrammar.proofs.SourceStops.{stops_at_place, stops_for_good, stops_too_deep}
 use Rattle.vparse.specs.ModuleGives.{all_of}
 use Rattle.vparse.specs.Profile.{is_any_outside}
 use Rattle.vparse.proofs.DeepSources.{deep_inside}
@@ -25,13 +26,13 @@ use Rattle.vparse.specs.Refusals.{IsOnlyText, HasNoText, IsRefusedAt}
 -- what is read is the tree of all the words, and their only one
 
 pub read_derives : (words left : List Text) (tree : SourceTree) → source words ≡ got tree left → DerivesText words tree
-read_derives words left tree e = (reads_soundly words tree left e).1
+read_derives words left tree e = (reads_soundly 63 words tree left e).1
 
 pub read_only : (words left : List Text) (tree : SourceTree) → source words ≡ got tree left → IsOnlyText words tree
-read_only words left tree e other d = is_only words other tree d (read_derives words left tree e)
+read_only words left tree e other d = is_only 64 64 words other tree d (read_derives words left tree e)
 
 pub read_all : (words left : List Text) (tree : SourceTree) → source words ≡ got tree left → left ≡ []
-read_all words left tree e = (reads_soundly words tree left e).0
+read_all words left tree e = (reads_soundly 63 words tree left e).0
 
 -- where reading stops
 
@@ -42,7 +43,7 @@ front_at (word ∷ words) zero = refl
 front_at (word ∷ words) (suc index) = front_at words index
 
 pub stopped_none : (words left : List Text) (why : Stop) → source words ≡ stop why left → HasNoText words
-stopped_none words left why e tree d = stop_got (sym e ∙ reads_completely words tree d)
+stopped_none words left why e tree d = stop_got (sym e ∙ reads_completely 63 words tree d)
 
 -- the words from the refused one on are those behind a number of words
 record IsBehind (words left : List Text) (index : ℕ) : Type 0 where
@@ -61,19 +62,20 @@ split_at words before left index whole is =
 stopped_behind : (words left : List Text) (why : Stop) (index : ℕ) → source words ≡ stop why left →
     index ≡ length words - length left → IsBehind words left index
 stopped_behind words left why index e is =
-    let place = stops_at_place words left why e in split_at words place.before left index place.whole is
+    let place = stops_at_place 63 words left why e in split_at words place.before left index place.whole is
 
 stopped_at : (tokens : Tokenized) (left : List Text) (why : Stop) (index : ℕ) (place : Place) (outside : Bool) →
     source (words_of tokens) ≡ stop why left → index ≡ length (words_of tokens) - length left →
     place ≡ place_of tokens.source (start_of tokens index) → is_any_outside (slice_get (words_of tokens) index) ≡ outside →
-    IsRefusedAt tokens place outside
-stopped_at tokens left why index place outside e is placed judged =
+    (helps : List Text → List Text → Type 0) → helps (words_of tokens) left → IsRefusedAt tokens place outside helps
+stopped_at tokens left why index place outside e is placed judged helps more =
     let b = stopped_behind (words_of tokens) left why index e is in
     record {
       index = index;
       within = b.within;
       placed = placed;
-      refused = subst (IsPlace (words_of tokens)) (sym b.behind) (stops_at_place (words_of tokens) left why e);
+      refused = subst (IsPlace 64 (words_of tokens)) (sym b.behind) (stops_at_place 63 (words_of tokens) left why e);
+      with_more = subst (helps (words_of tokens)) (sym b.behind) more;
       judged = judged;
     }
 
@@ -103,13 +105,15 @@ module _ (tokens : Tokenized) (left : List Text) (count here index : ℕ) (count
       is ∙ ap (λ n. n - here) long ∙ ap (λ n. length (words_of tokens) - n) stands
 
   -- by a test of the word there
-  pub refused_at : (why : Stop) → source (words_of tokens) ≡ stop why left → (seen outside : Bool) →
-      seen ≡ is_any_outside (slice_get (words_of tokens) index) → seen ≡ outside → IsRefusedAt tokens place outside
-  refused_at why e seen outside judged same = stopped_at tokens left why index place outside e behind placed (sym judged ∙ same)
+  pub refused_at : source (words_of tokens) ≡ stop NoTree left → (seen outside : Bool) →
+      seen ≡ is_any_outside (slice_get (words_of tokens) index) → seen ≡ outside → IsRefusedAt tokens place outside (IsRefused 64)
+  refused_at e seen outside judged same =
+      stopped_at tokens left NoTree index place outside e behind placed (sym judged ∙ same) (IsRefused 64)
+      (stops_for_good 63 (words_of tokens) left e)
 
   -- for want of levels
-  pub deep_at : source (words_of tokens) ≡ stop TooDeep left → IsRefusedAt tokens place false
+  pub deep_at : source (words_of tokens) ≡ stop TooDeep left → IsRefusedAt tokens place false (IsDeeper 64)
   deep_at e =
       let b = stopped_behind (words_of tokens) left TooDeep index e behind in
       stopped_at tokens left TooDeep index place false e behind placed
-      (ap is_any_outside (front_at (words_of tokens) index ∙ ap front b.behind) ∙ deep_inside (words_of tokens) left e)
+      (ap is_any_outside (front_at (words_of tokens) index ∙ ap front b.behind) ∙ deep_inside (words_of tokens) left e) (IsDeeper 64) (stops_too_deep 63 (words_of tokens) left e)

@@ -4,5 +4,6 @@ pub mod Profile
 pub mod Words
 pub mod Laws
 pub mod Inner
+pub mod TextReaders
 pub mod ModuleGives
 pub mod Refusals

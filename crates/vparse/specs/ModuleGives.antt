@@ -1,12 +1,12 @@
 -- What the program's functions answer that read modules. Nothing here has to be believed.
-use Rattle.std.specs.Prelude.{◌≡◌, ◌≤◌, ◌⊎◌, Bool, true, false, not, List, [], ◌∷◌, Option, Some, None, Result, Ok, Err, Vec, length, map, drop, option_map, codes}
+use Rattle.std.specs.Prelude.{◌≡◌, ◌≤◌, ◌⊎◌, Bool, true, false, not, List, [], ◌∷◌, Option, Some, None, Result, Ok, Err, Box, Vec, length, map, drop, option_map, codes}
 use Rattle.std.specs.Borrow.{MutBor}
 use Rattle.basis.specs.declared.memory.OrMemory.{OrMemory}
 use Rattle.basis.specs.declared.memory.OrMemory.TheVariants.{Fault}
 use Rattle.basis.specs.Reasons.{Because}
 use Rattle.vast.specs.Syntax.{Text}
 use Rattle.vast.specs.Expressions.{ExpressionTree}
-use Rattle.vast.specs.ExpressionTrees.{tree_of}
+use Rattle.vast.specs.ExpressionTrees.{boxed_tree}
 use Rattle.vast.specs.Modules.{RangeTree, ParameterType, DirectionTree, PortTree, HeadParameter, ConnectionsTree, by_order, by_name, variables, integers, ItemTree, parameters, declaration, events, assignments, initial, always, instances, ModuleTree}
 use Rattle.vast.specs.ModuleTrees.{head_parameter as head_tree, port_tree, module_tree as tree_of_module}
 use Rattle.vast.specs.Trees.{word_text}
@@ -23,7 +23,8 @@ use Rattle.vstatement_parse.specs.Gives.{Gives}
 use Rattle.vgrammar.specs.Parts.{both, one_way, other_way, made, paired, maybe, many, worded, one_behind}
 use Rattle.vgrammar.specs.Starts.{is_meant}
 use Rattle.vgrammar.specs.Statements.{named, word_only, statement}
-use Rattle.vgrammar.specs.Modules.{range, type, parameter_type, setting, declared, free_value, Value, connection, instance_behind, overrides, net_of, local_of, item, first_parameter, head_parameter, head_parameters, head_list_of, Direction, direction, is_direction, first_port, port, ports, module_tree, is_some_word}
+use Rattle.vgrammar.specs.Modules.{Value, net_of, local_of, head_list_of, Direction, is_direction, is_some_word}
+use Rattle.vparse.specs.TextReaders.{range, type, parameter_type, setting, declared, free_value, connection, instance_behind, overrides, item, first_parameter, head_parameter, head_parameters, direction, first_port, port, ports, module_tree}
 use Rattle.vgrammar.specs.Lists.{all_until, rest_until}
 
 -- this very word stands first and is passed, or another stands there
@@ -110,9 +111,9 @@ all_of view list = map view list.items
 -- What is read, in the order in which it is read
 
 -- a value behind (, up to ), or none
-abbrev pub value_part : Option Expression → Value
+abbrev pub value_part : {T : Type 0} → Option (Box Expression T) → Value
 value_part None = one_way tt
-value_part (Some tree) = other_way (both (tree_of tree) tt)
+value_part (Some tree) = other_way (both (boxed_tree tree) tt)
 
 -- connections behind (
 abbrev pub connections_in : Reader ConnectionsTree

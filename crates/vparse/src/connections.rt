@@ -4,7 +4,7 @@ ghost use Rattle.std.specs.Prelude.{◌≡◌, ◌<◌, codes, option_map};
 ghost use Rattle.vast.specs.ModuleTrees.{connection_tree, connections_tree, instance_tree};
 ghost use Rattle.vstatement_parse.specs.Gives.{Gives};
 ghost use Rattle.vparse.specs.ModuleGives.{all_of, connections_in, value_part};
-ghost use Rattle.vgrammar.specs.Modules as reading;
+ghost use Rattle.vparse.specs.TextReaders as reading;
 ghost use Rattle.vgrammar.specs.Lists.{all_until};
 
 use crate::lists::list_until;
@@ -22,7 +22,7 @@ use vstatement_parse::words::named;
 fn value_in<'a>(
     alloc: Global,
     cursor: &mut Cursor<'_, 'a>,
-) -> Result<Option<Expression<'a>>, OrMemory<Stop>>
+) -> Result<Option<Box<Expression<'a>>>, OrMemory<Stop>>
     ensures { Gives value_part (reading.value_in cursor.old) cursor.new result }
 {
     if cursor.begins(b")") {

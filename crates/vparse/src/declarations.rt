@@ -2,17 +2,18 @@
 
 ghost use Rattle.std.specs.Prelude.{◌≡◌, ◌<◌, option_map};
 ghost use Rattle.vast.specs.ModuleTrees.{setting_tree, declared_tree};
-ghost use Rattle.vast.specs.ExpressionTrees.{tree_of};
+ghost use Rattle.vast.specs.ExpressionTrees.{boxed_tree};
 ghost use Rattle.vstatement_parse.specs.Gives.{Gives};
 ghost use Rattle.vparse.specs.ModuleGives.{optional_value};
-ghost use Rattle.vgrammar.specs.Modules as reading;
+ghost use Rattle.vparse.specs.TextReaders as reading;
 
 use crate::types::LEVELS;
 use basis::OrMemory;
 use std::alloc::Global;
 use vast::expression::Expression;
 use vast::module::{Declared, Setting};
-use vexpr_parse::{Cursor, Stop, expression};
+use vexpr_parse::{Cursor, Stop};
+use vstatement_parse::values::value as read_value;
 use vstatement_parse::words::named;
 
 /// `name = value`
@@ -24,7 +25,7 @@ pub fn setting<'a>(
 {
     let name = named(cursor)?;
     cursor.symbol(b"=")?;
-    let value = expression(alloc, cursor, LEVELS)?.tree;
+    let value = read_value(alloc, cursor, LEVELS)?;
     Ok(Setting { name, value })
 }
 
@@ -32,12 +33,12 @@ pub fn setting<'a>(
 fn optional_value<'a>(
     alloc: Global,
     cursor: &mut Cursor<'_, 'a>,
-) -> Result<Option<Expression<'a>>, OrMemory<Stop>>
-    ensures { Gives (option_map tree_of) (optional_value cursor.old) cursor.new result }
+) -> Result<Option<Box<Expression<'a>>>, OrMemory<Stop>>
+    ensures { Gives (option_map boxed_tree) (optional_value cursor.old) cursor.new result }
 {
     if cursor.begins(b"=") {
         cursor.pass();
-        Ok(Some(expression(alloc, cursor, LEVELS)?.tree))
+        Ok(Some(read_value(alloc, cursor, LEVELS)?))
     } else {
         Ok(None)
     }

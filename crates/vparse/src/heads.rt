@@ -4,7 +4,8 @@ ghost use Rattle.std.specs.Prelude.{◌≡◌, codes, option_map};
 ghost use Rattle.vast.specs.ModuleTrees.{head_parameter as head_tree, parameter_type as type_tree};
 ghost use Rattle.vstatement_parse.specs.Gives.{Gives};
 ghost use Rattle.vparse.specs.ModuleGives.{all_of, heads_in, optional_heads, optional_type};
-ghost use Rattle.vgrammar.specs.Modules as reading;
+ghost use Rattle.vgrammar.specs.Modules as parts;
+ghost use Rattle.vparse.specs.TextReaders as reading;
 ghost use Rattle.vgrammar.specs.Parts.{made};
 
 use crate::declarations::setting;
@@ -83,7 +84,7 @@ fn head_parameters<'a>(
     alloc: Global,
     cursor: &mut Cursor<'_, 'a>,
 ) -> Result<Vec<HeadParameter<'a>>, OrMemory<Stop>>
-    ensures { Gives (all_of head_tree) (made reading.head_list_of reading.head_parameters cursor.old) cursor.new result }
+    ensures { Gives (all_of head_tree) (made parts.head_list_of reading.head_parameters cursor.old) cursor.new result }
 {
     cursor.symbol(b"(")?;
     heads_in(alloc, cursor)

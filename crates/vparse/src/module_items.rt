@@ -6,7 +6,7 @@ ghost use Rattle.vast.specs.Trees.{word_text};
 ghost use Rattle.vexpr_parse.specs.Readers.{got};
 ghost use Rattle.vstatement_parse.specs.Gives.{Gives, ReadsStatements};
 ghost use Rattle.vparse.specs.ModuleGives.{any_item, assignments_at, events_at, instances_at, instances_item, integers_at, listed_item, optional_local as local_reader, parameters_at, process_item, variables_at, variables_item};
-ghost use Rattle.vgrammar.specs.Modules as reading;
+ghost use Rattle.vparse.specs.TextReaders as reading;
 
 use crate::connections::{instances, overrides};
 use crate::module_lists::{all_declared, names, settings};

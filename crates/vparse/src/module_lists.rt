@@ -6,7 +6,7 @@ ghost use Rattle.vast.specs.ModuleTrees.{declared_tree, setting_tree};
 ghost use Rattle.vast.specs.Trees.{word_text};
 ghost use Rattle.vstatement_parse.specs.Gives.{Gives};
 ghost use Rattle.vparse.specs.ModuleGives.{all_of};
-ghost use Rattle.vgrammar.specs.Modules as reading;
+ghost use Rattle.vparse.specs.TextReaders as reading;
 ghost use Rattle.vgrammar.specs.Statements as reading_words;
 ghost use Rattle.vgrammar.specs.Lists.{all_until};
 

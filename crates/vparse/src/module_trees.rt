@@ -5,7 +5,7 @@ ghost use Rattle.vast.specs.ModuleTrees.{item_tree, module_tree};
 ghost use Rattle.vexpr_parse.specs.Readers.{front, is_front};
 ghost use Rattle.vstatement_parse.specs.Gives.{Gives, ReadsStatements};
 ghost use Rattle.vparse.specs.ModuleGives.{all_items, all_of, module_body, GivesHeaded, GivesWith};
-ghost use Rattle.vgrammar.specs.Modules as reading;
+ghost use Rattle.vparse.specs.TextReaders as reading;
 
 use crate::heads::optional_heads;
 use crate::module_items::item;

@@ -5,7 +5,8 @@ ghost use Rattle.vast.specs.ModuleTrees.{direction_tree, port_tree};
 ghost use Rattle.vexpr_parse.specs.Readers.{front, got};
 ghost use Rattle.vstatement_parse.specs.Gives.{Gives};
 ghost use Rattle.vparse.specs.ModuleGives.{all_of, input_parts, optional_direction, optional_net as net_reader, optional_ports, output_parts, ports_in, some_ports};
-ghost use Rattle.vgrammar.specs.Modules as reading;
+ghost use Rattle.vgrammar.specs.Modules as parts;
+ghost use Rattle.vparse.specs.TextReaders as reading;
 ghost use Rattle.vgrammar.specs.Parts.{made};
 
 use crate::lists::list_until;
@@ -33,7 +34,7 @@ pub fn optional_net(cursor: &mut Cursor<'_, '_>) -> Option<NetKind>
 
 // What stands behind `input`.
 fn input<'a>(alloc: Global, cursor: &mut Cursor<'_, 'a>) -> Result<Direction<'a>, OrMemory<Stop>>
-    ensures { Gives direction_tree (made reading.direction_of input_parts cursor.old) cursor.new result }
+    ensures { Gives direction_tree (made parts.direction_of input_parts cursor.old) cursor.new result }
 {
     let wire = optional(cursor, b"wire");
     let kind = sign_and_range(alloc, cursor)?;
@@ -42,7 +43,7 @@ fn input<'a>(alloc: Global, cursor: &mut Cursor<'_, 'a>) -> Result<Direction<'a>
 
 // What stands behind `output`.
 fn output<'a>(alloc: Global, cursor: &mut Cursor<'_, 'a>) -> Result<Direction<'a>, OrMemory<Stop>>
-    ensures { Gives direction_tree (made reading.direction_of output_parts cursor.old) cursor.new result }
+    ensures { Gives direction_tree (made parts.direction_of output_parts cursor.old) cursor.new result }
 {
     let net = optional_net(cursor);
     let kind = sign_and_range(alloc, cursor)?;
@@ -66,7 +67,7 @@ fn direction<'a>(
 
 // Whether a direction begins here.
 fn is_direction(cursor: &Cursor<'_, '_>) -> bool
-    ensures { result ≡ reading.is_direction (front cursor.now) }
+    ensures { result ≡ parts.is_direction (front cursor.now) }
 {
     cursor.begins(b"input") || cursor.begins(b"output")
 }

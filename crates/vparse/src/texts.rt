@@ -10,7 +10,8 @@ ghost use Rattle.vstatement_parse.specs.Gives.{Gives, ReadsStatements};
 ghost use Rattle.vparse.specs.ModuleGives.{all_of};
 ghost use Rattle.vparse.specs.Profile.{is_any_outside};
 ghost use Rattle.vparse.specs.Refusals.{HasNoText, IsOnlyText, IsRefusal};
-ghost use Rattle.vgrammar.specs.Modules.{is_some_word, source};
+ghost use Rattle.vgrammar.specs.Modules.{is_some_word};
+ghost use Rattle.vparse.specs.TextReaders.{source};
 
 use crate::fault::SyntaxFault;
 use crate::module_trees::module_tree;

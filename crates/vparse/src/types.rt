@@ -4,13 +4,13 @@ ghost use Rattle.std.specs.Prelude.{◌≡◌, ◌<◌, codes, option_map};
 ghost use Rattle.vast.specs.ModuleTrees.{range_tree, type_tree, parameter_type};
 ghost use Rattle.vstatement_parse.specs.Gives.{Gives};
 ghost use Rattle.vparse.specs.ModuleGives.{Tells, optional_range};
-ghost use Rattle.vgrammar.specs.Modules as reading;
+ghost use Rattle.vparse.specs.TextReaders as reading;
 
 use basis::OrMemory;
 use std::alloc::Global;
 use vast::module::{Bounds, ParameterType, SignAndRange};
-use vexpr_parse::{Cursor, Stop, expression};
-use vstatement_parse::values::ended;
+use vexpr_parse::{Cursor, Stop};
+use vstatement_parse::values::{ended, value};
 
 /// How deep expressions and statements nest in a module (docs/LANGUAGE.md, "Depth").
 pub const LEVELS: u32 = 64;
@@ -19,7 +19,7 @@ fn range<'a>(alloc: Global, cursor: &mut Cursor<'_, 'a>) -> Result<Bounds<'a>, O
     ensures { Gives range_tree (reading.range cursor.old) cursor.new result }
 {
     cursor.symbol(b"[")?;
-    let left = expression(alloc, cursor, LEVELS)?.tree;
+    let left = value(alloc, cursor, LEVELS)?;
     cursor.symbol(b":")?;
     let right = ended(alloc, cursor, LEVELS, b"]")?;
     Ok(Bounds { left, right })

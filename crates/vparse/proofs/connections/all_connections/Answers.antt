@@ -1,5 +1,5 @@
 use Rattle.vast.specs.ModuleTrees.{connection_tree}
-use Rattle.vgrammar.specs.Modules.{connection}
+use Rattle.vparse.specs.TextReaders.{connection}
 use Rattle.vparse.proofs.ListKinds.{connection_eats}
 use Rattle.vparse.proofs.ListTurns.{list_given}
 use Rattle.vparse.proofs.connections.all_connections.Goals as goal

@@ -1,5 +1,5 @@
 use Rattle.vast.specs.ModuleTrees.{instance_tree}
-use Rattle.vgrammar.specs.Modules.{instance_behind}
+use Rattle.vparse.specs.TextReaders.{instance_behind}
 use Rattle.vparse.proofs.ListKinds.{instance_eats}
 use Rattle.vparse.proofs.ListTurns.{list_given}
 use Rattle.vparse.proofs.connections.instances.Goals as goal

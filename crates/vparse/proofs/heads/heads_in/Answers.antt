@@ -1,6 +1,6 @@
 use Rattle.std.proofs.Common.{rules, refl}
 use Rattle.vast.specs.ModuleTrees.{head_parameter as head_tree}
-use Rattle.vgrammar.specs.Modules.{head_parameter, first_parameter}
+use Rattle.vparse.specs.TextReaders.{head_parameter, first_parameter}
 use Rattle.vparse.proofs.ListKinds.{head_eats, head_fewer}
 use Rattle.vparse.proofs.ListTurns.{behind_given}
 use Rattle.vparse.proofs.heads.heads_in.Goals as goal

@@ -1,6 +1,6 @@
 use Rattle.std.proofs.Common.{codes}
 use Rattle.vast.specs.ModuleTrees.{parameter_type as type_tree}
-use Rattle.vgrammar.specs.Modules.{parameter_type}
+use Rattle.vparse.specs.TextReaders.{parameter_type}
 use Rattle.vparse.proofs.ConnectionParts.{maybe_past}
 use Rattle.vparse.proofs.heads.optional_type.Goals as goal
 

@@ -1,5 +1,5 @@
 use Rattle.vast.specs.ModuleTrees.{declared_tree}
-use Rattle.vgrammar.specs.Modules.{declared}
+use Rattle.vparse.specs.TextReaders.{declared}
 use Rattle.vparse.proofs.ListKinds.{declared_eats}
 use Rattle.vparse.proofs.ListTurns.{list_given}
 use Rattle.vparse.proofs.module_lists.all_declared.Goals as goal

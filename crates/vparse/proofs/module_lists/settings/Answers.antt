@@ -1,5 +1,5 @@
 use Rattle.vast.specs.ModuleTrees.{setting_tree}
-use Rattle.vgrammar.specs.Modules.{setting}
+use Rattle.vparse.specs.TextReaders.{setting}
 use Rattle.vparse.proofs.ListKinds.{setting_eats}
 use Rattle.vparse.proofs.ListTurns.{list_given}
 use Rattle.vparse.proofs.module_lists.settings.Goals as goal

@@ -1,5 +1,5 @@
 use Rattle.vast.specs.ExpressionTrees.{tree_of}
-use Rattle.vgrammar.specs.Modules.{free_value}
+use Rattle.vparse.specs.TextReaders.{free_value}
 use Rattle.vparse.proofs.ListKinds.{value_eats}
 use Rattle.vparse.proofs.ListTurns.{list_given}
 use Rattle.vparse.proofs.module_lists.values.Goals as goal

@@ -1,6 +1,6 @@
 use Rattle.std.proofs.Common.{rules, refl}
 use Rattle.vast.specs.ModuleTrees.{port_tree}
-use Rattle.vgrammar.specs.Modules.{port, first_port}
+use Rattle.vparse.specs.TextReaders.{port, first_port}
 use Rattle.vparse.proofs.ListKinds.{port_eats, port_fewer}
 use Rattle.vparse.proofs.ListTurns.{behind_given}
 use Rattle.vparse.proofs.ports.some_ports.Goals as goal

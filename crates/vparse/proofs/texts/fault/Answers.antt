@@ -11,11 +11,11 @@ returns-in-TooDeep c =
 pub returns-then-stands_outside : goal.returns-then-stands_outside
 returns-then-stands_outside c =
     refused_at c.args.tokens.now c.args.cursor.now c.len.result c.left.result c.saturating_sub-at.result c.len.ensures.value c.left.ensures
-    c.saturating_sub-at.ensures c.place-place.result c.place-place.ensures c.args.why c.requires c.stands_outside.result true
+    c.saturating_sub-at.ensures c.place-place.result c.place-place.ensures (c.requires ∙ ap (λ why. stop why c.args.cursor.now) c.in-NoTree.is) c.stands_outside.result true
     c.stands_outside.ensures c.if-stands_outside.true
 
 pub returns-else-stands_outside : goal.returns-else-stands_outside
 returns-else-stands_outside c =
     refused_at c.args.tokens.now c.args.cursor.now c.len.result c.left.result c.saturating_sub-at.result c.len.ensures.value c.left.ensures
-    c.saturating_sub-at.ensures c.place-place.result c.place-place.ensures c.args.why c.requires c.stands_outside.result false
+    c.saturating_sub-at.ensures c.place-place.result c.place-place.ensures (c.requires ∙ ap (λ why. stop why c.args.cursor.now) c.in-NoTree.is) c.stands_outside.result false
     c.stands_outside.ensures c.if-stands_outside.false

@@ -1,6 +1,6 @@
 use Rattle.std.proofs.Common.{◌≡◌, length, map}
 use Rattle.vast.specs.ModuleTrees.{module_tree}
-use Rattle.vgrammar.specs.Modules.{source}
+use Rattle.vparse.specs.TextReaders.{source}
 use Rattle.vparse.specs.ModuleGives.{modules_from}
 use Rattle.vparse.proofs.texts.source.Given as goal
 
