@@ -30,14 +30,14 @@ statement-returns-in-Block t c =
 pub statement-returns-in_err-target-in-Assign : goal.statement-returns-in_err-target-in-Assign
 statement-returns-in_err-target-in-Assign t c =
     stops trees.statement_tree (run_of c.args.whole.now)
-    (runnable_assignment small.assign (target_tree c.in-Assign.target) (option_map delay_tree c.in-Assign.delay) (tree_of c.in-Assign.value) ≡ None)
+    (runnable_assignment small.assign (target_tree c.in-Assign.target) (option_map delay_tree c.in-Assign.delay) (tree_of c.in-Assign.value.value) ≡ None)
     c.from_residual-in_err-target-in-Assign.result c.in_err-target-in-Assign.field-0.0 c.from_residual-in_err-target-in-Assign.ensures.1
     (c.in_err-target-in-Assign.ensures small.assign) (λ none. ap run_of c.in-Assign.is ∙ none)
 
 pub statement-returns-in_err-target-in-Nonblocking : goal.statement-returns-in_err-target-in-Nonblocking
 statement-returns-in_err-target-in-Nonblocking t c =
     stops trees.statement_tree (run_of c.args.whole.now)
-    (runnable_assignment small.nonblocking (target_tree c.in-Nonblocking.target) (option_map delay_tree c.in-Nonblocking.delay) (tree_of c.in-Nonblocking.value) ≡ None)
+    (runnable_assignment small.nonblocking (target_tree c.in-Nonblocking.target) (option_map delay_tree c.in-Nonblocking.delay) (tree_of c.in-Nonblocking.value.value) ≡ None)
     c.from_residual-in_err-target-in-Nonblocking.result c.in_err-target-in-Nonblocking.field-0.0
     c.from_residual-in_err-target-in-Nonblocking.ensures.1
     (c.in_err-target-in-Nonblocking.ensures small.nonblocking) (λ none. ap run_of c.in-Nonblocking.is ∙ none)
