@@ -1,2 +1,4 @@
 pub mod TargetTurns
 pub mod StatementTurns
+pub mod CaseTurns
+pub mod PrintTurns

@@ -1,1 +1,4 @@
 pub mod Gives
+pub mod Rounds
+pub mod Cases
+pub mod Begun

@@ -1,0 +1,104 @@
+-- What the code that reads printing tasks goes on from.
+use Rattle.std.specs.Str.{bytes_eq}
+use Rattle.std.proofs.Common.{◌≡◌, ℕ, nat_le, Bool, true, false, if◌then◌else◌, Some, None, codes, Result, subst, List, [], ◌∷◌, refl, sym, ap, ◌∙◌}
+use Rattle.vast.specs.Syntax.{Text}
+use Rattle.vast.specs.Statements.{StatementTree, ArgumentTree, task, print}
+use Rattle.vast.specs.StatementTrees.{statement_tree}
+use Rattle.vast.specs.declared.statement.Printing.{Printing}
+use Rattle.vast.specs.declared.statement.Printing.TheVariants as printing
+use Rattle.vast.specs.declared.statement.Statement.{Statement}
+use Rattle.basis.specs.declared.memory.OrMemory.{OrMemory}
+use Rattle.vexpr_parse.specs.declared.stop.Stop.{Stop}
+use Rattle.vexpr_parse.specs.declared.stop.Stop.TheVariants.{TooDeep}
+use Rattle.vexpr_parse.specs.Readers.{Answer, Reader, got, stop, and_then, past, follow, goes, refused, front, is_front}
+use Rattle.vgrammar.specs.Parts.{Both, both, made, paired, roomy}
+use Rattle.vgrammar.specs.Statements.{comma_list, word_only, argument, Arguments, arguments, print_of, optional_print_of}
+use Rattle.vgrammar.proofs.ManyTurns.{until_is}
+use Rattle.vstatement_parse.specs.Gives.{Gives, arguments_within}
+use Rattle.vstatement_parse.specs.Begun.{print_at, monitor_at, required_arguments, optional_arguments, printed_with}
+
+abbrev list_of : Arguments → List ArgumentTree
+list_of (both (both one more) closing) = one ∷ more
+
+-- behind the parenthesis
+within_is : (below : ℕ) (words : List Text) →
+    made list_of (paired (comma_list (argument below)) (word_only (codes ")"))) words ≡ arguments_within below words
+within_is below words = until_is (codes ")") (argument below) list_of (λ all. all) (λ one list. refl) words ∙ as_it_is (arguments_within below words)
+  where
+    as_it_is : (a : Answer (List ArgumentTree)) → and_then a (λ all. got all) ≡ a
+    as_it_is (got all left) = refl
+    as_it_is (stop why left) = refl
+
+required_is : (below : ℕ) (words : List Text) → made list_of (arguments below) words ≡ required_arguments below words
+required_is below [] = refl
+required_is below (word ∷ words) = by_test (bytes_eq (codes "(") word)
+  where
+    by_test : (b : Bool) →
+        and_then (follow (if b then goes (paired (comma_list (argument below)) (word_only (codes ")"))) else refused) word words)
+        (λ tree. got (list_of tree))
+        ≡ follow (if b then goes (arguments_within below) else refused) word words
+    by_test true = within_is below words
+    by_test false = refl
+
+-- the semicolon, and the statement
+ended : {E : Type 0} (e : E) (make : Both E (Unit {0}) → StatementTree) (tree : StatementTree) → make (both e tt) ≡ tree →
+    (words : List Text) →
+    and_then (and_then (word_only (codes ";") words) (λ end. got (both e end))) (λ parts. got (make parts))
+    ≡ past (codes ";") (got tree) words
+ended e make tree same [] = refl
+ended e make tree same (word ∷ words) = by_test (bytes_eq (codes ";") word)
+  where
+    by_test : (b : Bool) →
+        and_then (and_then (follow (if b then goes (got tt) else refused) word words) (λ end. got (both e end))) (λ parts. got (make parts))
+        ≡ follow (if b then goes (got tree) else refused) word words
+    by_test true = ap (λ t. got t words) same
+    by_test false = refl
+
+module _ (kind : Printing) where
+  abbrev printed : List ArgumentTree → Reader StatementTree
+  printed all = past (codes ";") (got (task (print kind all)))
+
+  by_some : (a : Answer Arguments) →
+      and_then (and_then a (λ some. made (both some) (word_only (codes ";")))) (λ parts. got (print_of kind parts))
+      ≡ and_then (and_then a (λ some. got (list_of some))) printed
+  by_some (got (both (both one more) closing) left) =
+      ended (both (both one more) closing) (print_of kind) (task (print kind (one ∷ more))) refl left
+  by_some (stop why left) = refl
+
+  by_optional : (a : Answer Arguments) →
+      and_then (and_then (and_then a (λ some. got (Some some))) (λ some. made (both some) (word_only (codes ";"))))
+      (λ parts. got (optional_print_of kind parts))
+      ≡ and_then (and_then a (λ some. got (list_of some))) printed
+  by_optional (got (both (both one more) closing) left) =
+      ended (Some (both (both one more) closing)) (optional_print_of kind) (task (print kind (one ∷ more))) refl left
+  by_optional (stop why left) = refl
+
+  module _ (below : ℕ) (words : List Text) where
+    by_room : (b : Bool) →
+        and_then (and_then (and_then (if b then arguments below words else stop TooDeep words) (λ some. got (Some some)))
+        (λ some. made (both some) (word_only (codes ";")))) (λ parts. got (optional_print_of kind parts))
+        ≡ and_then (if b then required_arguments below words else stop TooDeep words) printed
+    by_room true = by_optional (arguments below words) ∙ ap (λ a. and_then a printed) (required_is below words)
+    by_room false = refl
+
+    by_bracket : (b : Bool) →
+        and_then (and_then (if b then made Some (roomy below 1 (arguments below)) words else got None words)
+        (λ some. made (both some) (word_only (codes ";")))) (λ parts. got (optional_print_of kind parts))
+        ≡ and_then (if b then roomy below 1 (required_arguments below) words else got [] words) printed
+    by_bracket true = by_room (nat_le 1 below)
+    by_bracket false = ended None (optional_print_of kind) (task (print kind [])) refl words
+
+    print_is : print_at kind below words ≡ printed_with kind (optional_arguments below) words
+    print_is = by_bracket (is_front (codes "(") (front words))
+
+    pub gives_print : (left : List Text) (result : Result Statement (OrMemory Stop)) →
+        Gives statement_tree (printed_with kind (optional_arguments below) words) left result →
+        Gives statement_tree (print_at kind below words) left result
+    gives_print left result given = subst (λ a. Gives statement_tree a left result) (sym print_is) given
+
+pub gives_monitor : (below : ℕ) (words left : List Text) (result : Result Statement (OrMemory Stop)) →
+    Gives statement_tree (printed_with printing.Monitor (required_arguments below) words) left result →
+    Gives statement_tree (monitor_at below words) left result
+gives_monitor below words left result given =
+    subst (λ a. Gives statement_tree a left result)
+    (sym (by_some printing.Monitor (arguments below words) ∙ ap (λ a. and_then a (printed printing.Monitor)) (required_is below words))) given

@@ -1,0 +1,5 @@
+use Rattle.vstatement_parse.proofs.CaseTurns.{case_made}
+use Rattle.vstatement_parse.proofs.cases.of_branches.Goals as goal
+
+pub returns : goal.returns
+returns c = case_made c.args.at c.args.kind c.args.value c.args.branches

@@ -1,0 +1,17 @@
+use Rattle.std.proofs.Common.{codes, sym, ◌∙◌}
+use Rattle.vast.specs.ExpressionTrees.{tree_of}
+use Rattle.vexpr_parse.specs.Readers.{past, is_front}
+use Rattle.vgrammar.specs.Statements.{value}
+use Rattle.vgrammar.proofs.ManyTurns.{pushed}
+use Rattle.vstatement_parse.proofs.CaseTurns.{label_eats}
+use Rattle.vstatement_parse.proofs.labels.more_labels.Goals as goal
+
+pub labels-smaller : goal.labels-smaller
+labels-smaller c =
+    label_eats c.args.below c.labels.cursor (tree_of c.in_ok-label.label) c.further_label.new.cursor c.in_ok-label.ensures
+
+pub labels-preserved : goal.labels-preserved
+labels-preserved c =
+    pushed tree_of (is_front (codes ",")) (past (codes ",") (value c.args.below)) (label_eats c.args.below)
+    c.labels.cursor (sym c.begins.ensures ∙ c.labels-test.true) c.labels.labels.items c.push-in-labels.new.self.items c.in_ok-label.label
+    c.further_label.new.cursor _ c.in_ok-push-2.ensures.items c.in_ok-label.ensures c.labels.invariant

@@ -1,0 +1,50 @@
+-- What is read of statements round others: of an if, and of a for. Nothing here has to be believed.
+use Rattle.std.specs.Prelude.{ℕ, Option, option_map, Box, codes}
+use Rattle.vast.specs.Expressions.{ExpressionTree}
+use Rattle.vast.specs.ExpressionTrees.{tree_of}
+use Rattle.vast.specs.Statements.{TargetTree, StatementTree}
+use Rattle.vast.specs.StatementTrees.{statement_tree}
+use Rattle.vexpr_parse.specs.Readers.{Reader, past, is_front}
+use Rattle.vgrammar.specs.Parts.{Both, both, made, maybe, paired}
+use Rattle.vgrammar.specs.Statements.{statement, guarded, if_of, branches_of_if, setting, value, for_of, for_parts}
+use Rattle.vast.specs.declared.statement.Statement.{Statement}
+use Rattle.vstatement_parse.specs.declared.conditions.Choice.{Choice}
+use Rattle.vstatement_parse.specs.declared.loops.Step.{Step}
+use Rattle.vstatement_parse.specs.declared.loops.Going.{Going}
+use Rattle.vstatement_parse.specs.Gives.{setting_tree}
+
+-- the tree of a statement behind a pointer
+abbrev pub boxed_tree : {A : Type 0} → Box Statement A → StatementTree
+boxed_tree body = statement_tree body.value
+
+-- what stands behind else, if it is there
+abbrev pub otherwise_at : ℕ → Reader (Option StatementTree)
+otherwise_at below = maybe (is_front (codes "else")) (past (codes "else") (statement below))
+
+abbrev pub optional_tree : {A : Type 0} → Option (Box Statement A) → Option StatementTree
+optional_tree body = option_map boxed_tree body
+
+abbrev pub choice_tree : Choice → Both StatementTree (Option StatementTree)
+choice_tree choice = both (boxed_tree choice.body) (optional_tree choice.other)
+
+-- behind if
+abbrev pub if_at : ℕ → Reader StatementTree
+if_at below = made if_of (guarded below (branches_of_if (statement below)))
+
+-- what a for does behind each turn, and its statement
+abbrev pub step_at : ℕ → Reader (Both (Both TargetTree ExpressionTree) StatementTree)
+step_at below = paired (setting below) (past (codes ")") (statement below))
+
+abbrev pub step_tree : Step → Both (Both TargetTree ExpressionTree) StatementTree
+step_tree step = both (setting_tree step.next) (boxed_tree step.body)
+
+-- behind the first semicolon of a for
+abbrev pub going_at : ℕ → Reader (Both ExpressionTree (Both (Both TargetTree ExpressionTree) StatementTree))
+going_at below = paired (value below) (past (codes ";") (step_at below))
+
+abbrev pub going_tree : Going → Both ExpressionTree (Both (Both TargetTree ExpressionTree) StatementTree)
+going_tree going = both (tree_of going.condition) (step_tree going.step)
+
+-- behind for
+abbrev pub for_at : ℕ → Reader StatementTree
+for_at below = made for_of (for_parts below (statement below))

@@ -1,0 +1,106 @@
+// Printing tasks, behind their names (IEEE 1364-2005, 17.1).
+
+ghost use Rattle.std.specs.Prelude.{◌≡◌, ◌<◌};
+ghost use Rattle.vast.specs.StatementTrees.{statement_tree};
+ghost use Rattle.vstatement_parse.specs.Gives.{Gives, all_arguments};
+ghost use Rattle.vstatement_parse.specs.Begun.{monitor_at, optional_arguments as optional_arguments_at, print_at, required_arguments as required_arguments_at, printed_with};
+
+use crate::arguments::arguments;
+use basis::OrMemory;
+use std::alloc::Global;
+use vast::statement::{Argument, Printing, Statement, Task};
+use vexpr_parse::{Cursor, Stop};
+
+// The arguments between parentheses, where one stands.
+fn optional_arguments<'a>(
+    alloc: Global,
+    cursor: &mut Cursor<'_, 'a>,
+    below: u32,
+) -> Result<Vec<Argument<'a>>, OrMemory<Stop>>
+    ensures { Gives all_arguments (optional_arguments_at below cursor.old) cursor.new result }
+{
+    if cursor.begins(b"(") {
+        cursor.enter(below, 1)?;
+        arguments(alloc, cursor, below)
+    } else {
+        Ok(Vec::new(alloc))
+    }
+}
+
+// The arguments between parentheses.
+fn required_arguments<'a>(
+    alloc: Global,
+    cursor: &mut Cursor<'_, 'a>,
+    below: u32,
+) -> Result<Vec<Argument<'a>>, OrMemory<Stop>>
+    requires { 0 < below }
+    ensures { Gives all_arguments (required_arguments_at below cursor.old) cursor.new result }
+{
+    cursor.symbol(b"(")?;
+    arguments(alloc, cursor, below)
+}
+
+// What a printing task prints, if anything, and its end.
+fn printed<'a>(
+    alloc: Global,
+    cursor: &mut Cursor<'_, 'a>,
+    below: u32,
+    at: u32,
+    kind: Printing,
+) -> Result<Statement<'a>, OrMemory<Stop>>
+    ensures { Gives statement_tree (printed_with kind (optional_arguments_at below)
+        cursor.old) cursor.new result }
+{
+    let arguments = optional_arguments(alloc, cursor, below)?;
+    cursor.symbol(b";")?;
+    Ok(Statement::Task {
+        at,
+        task: Task::Print { kind, arguments },
+    })
+}
+
+// What a printing task prints, and its end.
+fn monitored<'a>(
+    alloc: Global,
+    cursor: &mut Cursor<'_, 'a>,
+    below: u32,
+    at: u32,
+    kind: Printing,
+) -> Result<Statement<'a>, OrMemory<Stop>>
+    requires { 0 < below }
+    ensures { Gives statement_tree (printed_with kind (required_arguments_at below)
+        cursor.old) cursor.new result }
+{
+    let arguments = required_arguments(alloc, cursor, below)?;
+    cursor.symbol(b";")?;
+    Ok(Statement::Task {
+        at,
+        task: Task::Print { kind, arguments },
+    })
+}
+
+/// What stands behind `$display` or `$strobe`, the token of this number (17.1.1 and 17.1.2).
+pub fn print<'a>(
+    alloc: Global,
+    cursor: &mut Cursor<'_, 'a>,
+    below: u32,
+    at: u32,
+    kind: Printing,
+) -> Result<Statement<'a>, OrMemory<Stop>>
+    ensures { Gives statement_tree (print_at kind below cursor.old) cursor.new result }
+{
+    printed(alloc, cursor, below, at, kind)
+}
+
+/// What stands behind `$monitor`, the token of this number (17.1.3).
+pub fn monitor<'a>(
+    alloc: Global,
+    cursor: &mut Cursor<'_, 'a>,
+    below: u32,
+    at: u32,
+) -> Result<Statement<'a>, OrMemory<Stop>>
+    requires { 0 < below }
+    ensures { Gives statement_tree (monitor_at below cursor.old) cursor.new result }
+{
+    monitored(alloc, cursor, below, at, Printing::Monitor)
+}
