@@ -10,3 +10,5 @@ mod dumps;
 mod logs;
 #[cfg(test)]
 mod texts;
+#[cfg(test)]
+mod wholes;

@@ -1,11 +1,11 @@
 -- What the code that reads a case goes on from.
 use Rattle.std.specs.Str.{bytes_eq}
-use Rattle.std.proofs.Common.{◌≡◌, ℕ, zero, suc, ◌<◌, arith, length, nat_le, Bool, true, false, ◌||◌, Option, Some, None, not, if◌then◌else◌, codes, Result, subst, List, [], ◌∷◌, ◌++◌, map, Vec, Global, refl, sym, ap, ◌∙◌}
+use Rattle.std.proofs.Common.{◌≡◌, ℕ, zero, suc, ◌<◌, arith, length, nat_le, Bool, true, false, ◌||◌, Option, Some, None, not, if◌then◌else◌, codes, Result, subst, List, [], ◌∷◌, ◌++◌, map, Box, Vec, Global, refl, sym, ap, ◌∙◌}
 use Rattle.std.proofs.lemmas.List.{map-append}
 use Rattle.vast.specs.Syntax.{Text}
 use Rattle.vast.specs.Words.{reserved_words}
 use Rattle.vast.specs.Expressions.{ExpressionTree, spell_parts}
-use Rattle.vast.specs.ExpressionTrees.{tree_of}
+use Rattle.vast.specs.ExpressionTrees.{tree_of, boxed_tree}
 use Rattle.vast.specs.Statements.{StatementTree, BranchTree, labelled, default, is_default, first_branch, spell_branch, spell_statement, case_of}
 use Rattle.vast.specs.StatementTrees.{statement_tree, branch_tree, branch_trees}
 use Rattle.vast.specs.declared.expression.Expression.{Expression}
@@ -372,6 +372,6 @@ branches_same : (list : List BranchWords) → branches_in (map branch_tree list)
 branches_same [] = refl
 branches_same (one ∷ more) = ap (first_branch (branch_tree one)) (branches_same more)
 
-pub case_made : (at : ℕ) (kind : CaseKind) (value : Expression) (list : Vec BranchWords Global) →
-    statement_tree (CaseWords at kind value list) ≡ case_of kind (tree_of value) (branches_in (map branch_tree list.items))
-case_made at kind value list = tree_of_case at kind value list ∙ ap (case_of kind (tree_of value)) (sym (branches_same list.items))
+pub case_made : (at : ℕ) (kind : CaseKind) (value : Box Expression Global) (list : Vec BranchWords Global) →
+    statement_tree (CaseWords at kind value list) ≡ case_of kind (boxed_tree value) (branches_in (map branch_tree list.items))
+case_made at kind value list = tree_of_case at kind value list ∙ ap (case_of kind (boxed_tree value)) (sym (branches_same list.items))

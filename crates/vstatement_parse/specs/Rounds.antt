@@ -1,7 +1,7 @@
 -- What is read of statements round others: of an if, and of a for. Nothing here has to be believed.
 use Rattle.std.specs.Prelude.{ℕ, Option, option_map, Box, codes}
 use Rattle.vast.specs.Expressions.{ExpressionTree}
-use Rattle.vast.specs.ExpressionTrees.{tree_of}
+use Rattle.vast.specs.ExpressionTrees.{boxed_tree}
 use Rattle.vast.specs.Statements.{TargetTree, StatementTree}
 use Rattle.vast.specs.StatementTrees.{statement_tree}
 use Rattle.vexpr_parse.specs.Readers.{Reader, past, is_front}
@@ -14,18 +14,18 @@ use Rattle.vstatement_parse.specs.declared.loops.Going.{Going}
 use Rattle.vstatement_parse.specs.Gives.{setting_tree}
 
 -- the tree of a statement behind a pointer
-abbrev pub boxed_tree : {A : Type 0} → Box Statement A → StatementTree
-boxed_tree body = statement_tree body.value
+abbrev pub body_tree : {A : Type 0} → Box Statement A → StatementTree
+body_tree body = statement_tree body.value
 
 -- what stands behind else, if it is there
 abbrev pub otherwise_at : ℕ → Reader (Option StatementTree)
 otherwise_at below = maybe (is_front (codes "else")) (past (codes "else") (statement below))
 
 abbrev pub optional_tree : {A : Type 0} → Option (Box Statement A) → Option StatementTree
-optional_tree body = option_map boxed_tree body
+optional_tree body = option_map body_tree body
 
 abbrev pub choice_tree : Choice → Both StatementTree (Option StatementTree)
-choice_tree choice = both (boxed_tree choice.body) (optional_tree choice.other)
+choice_tree choice = both (body_tree choice.body) (optional_tree choice.other)
 
 -- behind if
 abbrev pub if_at : ℕ → Reader StatementTree
@@ -36,14 +36,14 @@ abbrev pub step_at : ℕ → Reader (Both (Both TargetTree ExpressionTree) State
 step_at below = paired (setting below) (past (codes ")") (statement below))
 
 abbrev pub step_tree : Step → Both (Both TargetTree ExpressionTree) StatementTree
-step_tree step = both (setting_tree step.next) (boxed_tree step.body)
+step_tree step = both (setting_tree step.next) (body_tree step.body)
 
 -- behind the first semicolon of a for
 abbrev pub going_at : ℕ → Reader (Both ExpressionTree (Both (Both TargetTree ExpressionTree) StatementTree))
 going_at below = paired (value below) (past (codes ";") (step_at below))
 
 abbrev pub going_tree : Going → Both ExpressionTree (Both (Both TargetTree ExpressionTree) StatementTree)
-going_tree going = both (tree_of going.condition) (step_tree going.step)
+going_tree going = both (boxed_tree going.condition) (step_tree going.step)
 
 -- behind for
 abbrev pub for_at : ℕ → Reader StatementTree

@@ -1,7 +1,7 @@
 // Statements behind `case` (IEEE 1364-2005, 9.5).
 
 ghost use Rattle.std.specs.Prelude.{◌≡◌, ◌<◌};
-ghost use Rattle.vast.specs.ExpressionTrees.{tree_of};
+ghost use Rattle.vast.specs.ExpressionTrees.{boxed_tree};
 ghost use Rattle.vast.specs.Statements.{case_of};
 ghost use Rattle.vast.specs.StatementTrees.{statement_tree};
 ghost use Rattle.vstatement_parse.specs.Gives.{Gives, ReadsStatements};
@@ -9,20 +9,21 @@ ghost use Rattle.vstatement_parse.specs.Cases.{all_branches, case_at, case_whole
 ghost use Rattle.vgrammar.specs.Statements as reading;
 
 use crate::branches::branches_within;
+use crate::values::value as read_value;
 use basis::OrMemory;
 use std::alloc::Global;
 use vast::expression::Expression;
 use vast::statement::{Branch, CaseKind, Statement};
-use vexpr_parse::{Cursor, Stop, expression};
+use vexpr_parse::{Cursor, Stop};
 
 // The statement of all that was read.
 fn of_branches<'a>(
     at: u32,
     kind: CaseKind,
-    value: Expression<'a>,
+    value: Box<Expression<'a>>,
     branches: Vec<Branch<'a>>,
 ) -> Statement<'a>
-    ensures { statement_tree result ≡ case_of kind (tree_of value.entry)
+    ensures { statement_tree result ≡ case_of kind (boxed_tree value.entry)
         (reading.branches_in (all_branches branches.entry)) }
 {
     Statement::Case {
@@ -48,7 +49,7 @@ fn behind_word<'a, F: Fn(&mut Cursor<'_, 'a>) -> Result<Statement<'a>, OrMemory<
     ensures { Gives statement_tree (case_whole below kind cursor.old) cursor.new result }
 {
     cursor.symbol(b"(")?;
-    let value = expression(alloc, cursor, below)?.tree;
+    let value = read_value(alloc, cursor, below)?;
     cursor.symbol(b")")?;
     let branches = branches_within(alloc, read, below, cursor)?;
     Ok(of_branches(at, kind, value, branches))

@@ -1,18 +1,19 @@
 // Statements behind `if` (IEEE 1364-2005, 9.4).
 
 ghost use Rattle.std.specs.Prelude.{◌≡◌, ◌<◌};
-ghost use Rattle.vast.specs.ExpressionTrees.{tree_of};
+ghost use Rattle.vast.specs.ExpressionTrees.{boxed_tree};
 ghost use Rattle.vast.specs.StatementTrees.{statement_tree};
 ghost use Rattle.vstatement_parse.specs.Gives.{Gives, ReadsStatements};
-ghost use Rattle.vstatement_parse.specs.Rounds.{boxed_tree, choice_tree, if_at, optional_tree, otherwise_at};
+ghost use Rattle.vstatement_parse.specs.Rounds.{body_tree, choice_tree, if_at, optional_tree, otherwise_at};
 ghost use Rattle.vgrammar.specs.Parts.{both};
 ghost use Rattle.vgrammar.specs.Statements as reading;
 
+use crate::values::value;
 use basis::OrMemory;
 use std::alloc::Global;
 use vast::expression::Expression;
 use vast::statement::Statement;
-use vexpr_parse::{Cursor, Stop, expression};
+use vexpr_parse::{Cursor, Stop};
 
 /// The statement of an `if`, and that behind its `else`.
 #[derive(Drop)]
@@ -30,7 +31,7 @@ pub fn boxed<'a, F: Fn(&mut Cursor<'_, 'a>) -> Result<Statement<'a>, OrMemory<St
 ) -> Result<Box<Statement<'a>>, OrMemory<Stop>>
     requires callable { F.IsAlwaysCallable read.now }
     requires reads { ReadsStatements below (F.post read.now) }
-    ensures { Gives boxed_tree (reading.statement below cursor.old) cursor.new result }
+    ensures { Gives body_tree (reading.statement below cursor.old) cursor.new result }
 {
     let body = read(cursor)?;
     Ok(Box::new(alloc, body)?)
@@ -73,9 +74,9 @@ fn read_choice<'a, F: Fn(&mut Cursor<'_, 'a>) -> Result<Statement<'a>, OrMemory<
 }
 
 // The statement of one branch, or of two.
-fn chosen<'a>(at: u32, condition: Expression<'a>, choice: Choice<'a>) -> Statement<'a>
+fn chosen<'a>(at: u32, condition: Box<Expression<'a>>, choice: Choice<'a>) -> Statement<'a>
     ensures { statement_tree result
-        ≡ reading.if_of (both (tree_of condition.entry) (choice_tree choice.entry)) }
+        ≡ reading.if_of (both (boxed_tree condition.entry) (choice_tree choice.entry)) }
 {
     let body = choice.body;
     match choice.other {
@@ -107,7 +108,7 @@ pub fn conditional<'a, F: Fn(&mut Cursor<'_, 'a>) -> Result<Statement<'a>, OrMem
     ensures { Gives statement_tree (if_at below cursor.old) cursor.new result }
 {
     cursor.symbol(b"(")?;
-    let condition = expression(alloc, cursor, below)?.tree;
+    let condition = value(alloc, cursor, below)?;
     cursor.symbol(b")")?;
     let choice = read_choice(alloc, read, below, cursor)?;
     Ok(chosen(at, condition, choice))

@@ -9,11 +9,12 @@ ghost use Rattle.vgrammar.specs.Statements as reading;
 
 use crate::conditions::boxed;
 use crate::settings::{Setting, read_setting};
+use crate::values::value;
 use basis::OrMemory;
 use std::alloc::Global;
 use vast::expression::Expression;
 use vast::statement::Statement;
-use vexpr_parse::{Cursor, Stop, expression};
+use vexpr_parse::{Cursor, Stop};
 
 /// What is written behind each turn, and the statement of the turns.
 #[derive(Drop)]
@@ -25,7 +26,7 @@ pub struct Step<'t> {
 /// How long it goes on, and the step.
 #[derive(Drop)]
 pub struct Going<'t> {
-    pub condition: Expression<'t>,
+    pub condition: Box<Expression<'t>>,
     pub step: Step<'t>,
 }
 
@@ -59,7 +60,7 @@ fn read_going<'a, F: Fn(&mut Cursor<'_, 'a>) -> Result<Statement<'a>, OrMemory<S
     requires reads { ReadsStatements below (F.post read.now) }
     ensures { Gives going_tree (going_at below cursor.old) cursor.new result }
 {
-    let condition = expression(alloc, cursor, below)?.tree;
+    let condition = value(alloc, cursor, below)?;
     cursor.symbol(b";")?;
     let step = read_step(alloc, read, below, cursor)?;
     Ok(Going { condition, step })

@@ -30,17 +30,21 @@ statement-returns-in-Block t c =
 pub statement-returns-in_err-target-in-Assign : goal.statement-returns-in_err-target-in-Assign
 statement-returns-in_err-target-in-Assign t c =
     stops trees.statement_tree (run_of c.args.whole.now)
-    (runnable_assignment small.assign (target_tree c.in-Assign.target) (option_map delay_tree c.in-Assign.delay) (tree_of c.in-Assign.value.value) ≡ None)
+    (runnable_assignment small.assign (target_tree c.in-Assign.target) (option_map delay_tree c.in-Assign.delay) (tree_of c.deref-in-Assign.result.now) ≡ None)
     c.from_residual-in_err-target-in-Assign.result c.in_err-target-in-Assign.field-0.0 c.from_residual-in_err-target-in-Assign.ensures.1
-    (c.in_err-target-in-Assign.ensures small.assign) (λ none. ap run_of c.in-Assign.is ∙ none)
+    (c.in_err-target-in-Assign.ensures small.assign)
+    (λ none. ap run_of c.in-Assign.is ∙ ap (λ e. runnable_assignment small.assign (target_tree c.in-Assign.target)
+    (option_map delay_tree c.in-Assign.delay) (tree_of e)) (sym c.deref-in-Assign.ensures) ∙ none)
 
 pub statement-returns-in_err-target-in-Nonblocking : goal.statement-returns-in_err-target-in-Nonblocking
 statement-returns-in_err-target-in-Nonblocking t c =
     stops trees.statement_tree (run_of c.args.whole.now)
-    (runnable_assignment small.nonblocking (target_tree c.in-Nonblocking.target) (option_map delay_tree c.in-Nonblocking.delay) (tree_of c.in-Nonblocking.value.value) ≡ None)
+    (runnable_assignment small.nonblocking (target_tree c.in-Nonblocking.target) (option_map delay_tree c.in-Nonblocking.delay) (tree_of c.deref-in-Nonblocking.result.now) ≡ None)
     c.from_residual-in_err-target-in-Nonblocking.result c.in_err-target-in-Nonblocking.field-0.0
     c.from_residual-in_err-target-in-Nonblocking.ensures.1
-    (c.in_err-target-in-Nonblocking.ensures small.nonblocking) (λ none. ap run_of c.in-Nonblocking.is ∙ none)
+    (c.in_err-target-in-Nonblocking.ensures small.nonblocking)
+    (λ none. ap run_of c.in-Nonblocking.is ∙ ap (λ e. runnable_assignment small.nonblocking (target_tree c.in-Nonblocking.target)
+    (option_map delay_tree c.in-Nonblocking.delay) (tree_of e)) (sym c.deref-in-Nonblocking.ensures) ∙ none)
 
 pub statements-loop-one-preserved : goal.statements-loop-one-preserved
 statements-loop-one-preserved t c =
