@@ -10,5 +10,3 @@ mod dumps;
 mod logs;
 #[cfg(test)]
 mod texts;
-#[cfg(test)]
-mod wholes;

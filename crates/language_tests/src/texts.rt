@@ -14,7 +14,7 @@ use vmodel::{opening, slow_step, slow_width};
 use vparse::parse;
 use vsrc::{Expanded, Place, expand};
 
-pub fn source(alloc: Global, texts: &[&[u8]]) -> Result<Expanded, Fail> {
+fn source(alloc: Global, texts: &[&[u8]]) -> Result<Expanded, Fail> {
     let mut files = Vec::new(alloc);
     for text in texts {
         files.push(Vec::from_slice(alloc, text)?)?;

@@ -2,3 +2,4 @@ pub mod TargetTurns
 pub mod StatementTurns
 pub mod CaseTurns
 pub mod PrintTurns
+pub mod LevelTurns

@@ -16,6 +16,7 @@ pub mod loops;
 pub mod paths;
 pub mod printing;
 pub mod settings;
+pub mod statements;
 pub mod targets;
 pub mod tasks;
 pub mod terms;
