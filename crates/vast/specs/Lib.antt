@@ -10,5 +10,6 @@ pub mod Expressions
 pub mod ExpressionTrees
 pub mod Statements
 pub mod Modules
+pub mod TokenTexts
 pub mod StatementTrees
 pub mod ModuleTrees

@@ -1,6 +1,6 @@
 // Expressions of the whole profile (IEEE 1364-2005, clause 5 and A.8, narrowed to this product's profile).
 
-use crate::syntax::Word;
+use crate::token::Token;
 
 /// An operator before its operand (5.1, A.8.6).
 #[derive(Clone, Copy, Debug, PartialEq, Eq)]
@@ -84,59 +84,59 @@ pub enum BinaryOperator {
 
 /// An expression (clause 5), its parentheses kept.
 #[derive(Drop)]
-pub enum Expression<'t> {
+pub enum Expression {
     /// `8'hff` (3.5.1)
-    Number(Word<'t>),
+    Number(Token),
     /// `name` (3.7)
-    Name(Word<'t>),
+    Name(Token),
     /// `$time`, the token of this number (17.7.1)
     Time {
         at: u32,
     },
     /// `name[index]` (5.2.1)
     Bit {
-        name: Word<'t>,
-        index: Box<Expression<'t>>,
+        name: Token,
+        index: Box<Expression>,
     },
     /// `name[left:right]` (5.2.1)
     Part {
-        name: Word<'t>,
-        left: Box<Expression<'t>>,
-        right: Box<Expression<'t>>,
+        name: Token,
+        left: Box<Expression>,
+        right: Box<Expression>,
     },
     /// `(inner)`
-    Parentheses(Box<Expression<'t>>),
+    Parentheses(Box<Expression>),
     /// `{part, ..}` (5.1.14); `at` is the number of its first token
     Concatenation {
         at: u32,
-        parts: Vec<Expression<'t>>,
+        parts: Vec<Expression>,
     },
     /// `{count{part, ..}}` (5.1.14); `at` is the number of its first token
     Replication {
         at: u32,
-        count: Box<Expression<'t>>,
-        parts: Vec<Expression<'t>>,
+        count: Box<Expression>,
+        parts: Vec<Expression>,
     },
     /// `$signed(operand)`, or `$unsigned(operand)` (5.5)
     Conversion {
         signed: bool,
-        operand: Box<Expression<'t>>,
+        operand: Box<Expression>,
     },
     /// `- operand` (5.1.2)
     Unary {
         operator: UnaryOperator,
-        operand: Box<Expression<'t>>,
+        operand: Box<Expression>,
     },
     /// `left + right` (5.1.2)
     Binary {
         operator: BinaryOperator,
-        left: Box<Expression<'t>>,
-        right: Box<Expression<'t>>,
+        left: Box<Expression>,
+        right: Box<Expression>,
     },
     /// `condition ? when_true : when_false` (5.1.13)
     Conditional {
-        condition: Box<Expression<'t>>,
-        when_true: Box<Expression<'t>>,
-        when_false: Box<Expression<'t>>,
+        condition: Box<Expression>,
+        when_true: Box<Expression>,
+        when_false: Box<Expression>,
     },
 }

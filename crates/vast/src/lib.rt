@@ -11,6 +11,7 @@ pub mod operators;
 pub mod spelling;
 pub mod statement;
 pub mod syntax;
+pub mod token;
 pub mod words;
 
 pub use fitting::fits;

@@ -2,7 +2,7 @@
 
 use crate::expression::Expression;
 use crate::statement::Statement;
-use crate::syntax::Word;
+use crate::token::Token;
 
 /// What holds a value: a net or a variable (4.2).
 #[derive(Clone, Copy, Debug, PartialEq, Eq)]
@@ -15,100 +15,100 @@ pub enum NetKind {
 
 /// `[left:right]` (4.3.1)
 #[derive(Drop)]
-pub struct Bounds<'t> {
-    pub left: Box<Expression<'t>>,
-    pub right: Box<Expression<'t>>,
+pub struct Bounds {
+    pub left: Box<Expression>,
+    pub right: Box<Expression>,
 }
 
 /// `signed [left:right]`, each if it stands there (4.3)
 #[derive(Drop)]
-pub struct SignAndRange<'t> {
+pub struct SignAndRange {
     pub signed: bool,
-    pub range: Option<Bounds<'t>>,
+    pub range: Option<Bounds>,
 }
 
 /// The type of a parameter (4.10.1).
 #[derive(Drop)]
-pub enum ParameterType<'t> {
+pub enum ParameterType {
     /// `integer`
     Integer,
     /// A sign and a range, or neither.
-    Typed(SignAndRange<'t>),
+    Typed(SignAndRange),
 }
 
 /// `name = value`
 #[derive(Drop)]
-pub struct Setting<'t> {
-    pub name: Word<'t>,
-    pub value: Box<Expression<'t>>,
+pub struct Setting {
+    pub name: Token,
+    pub value: Box<Expression>,
 }
 
 /// `name = value`, or `name`
 #[derive(Drop)]
-pub struct Declared<'t> {
-    pub name: Word<'t>,
-    pub value: Option<Box<Expression<'t>>>,
+pub struct Declared {
+    pub name: Token,
+    pub value: Option<Box<Expression>>,
 }
 
 /// Which way a port goes (12.3.3).
 #[derive(Drop)]
-pub enum Direction<'t> {
+pub enum Direction {
     /// `input`, or `input wire`
     Input {
         wire: bool,
-        kind: SignAndRange<'t>,
+        kind: SignAndRange,
     },
     /// `output`, `output wire` or `output reg`
     Output {
         net: Option<NetKind>,
-        kind: SignAndRange<'t>,
+        kind: SignAndRange,
     },
 }
 
 /// A port; without a direction it has that of the one before it (12.3.4).
 #[derive(Drop)]
-pub struct Port<'t> {
-    pub direction: Option<Direction<'t>>,
-    pub name: Word<'t>,
+pub struct Port {
+    pub direction: Option<Direction>,
+    pub name: Token,
 }
 
 /// A parameter of a module's head; without a type it has that of the one before it (12.2).
 #[derive(Drop)]
-pub struct HeadParameter<'t> {
-    pub kind: Option<ParameterType<'t>>,
-    pub setting: Setting<'t>,
+pub struct HeadParameter {
+    pub kind: Option<ParameterType>,
+    pub setting: Setting,
 }
 
 /// `.name(value)`, or `.name()` (12.3.6)
 #[derive(Drop)]
-pub struct Connection<'t> {
-    pub name: Word<'t>,
-    pub value: Option<Box<Expression<'t>>>,
+pub struct Connection {
+    pub name: Token,
+    pub value: Option<Box<Expression>>,
 }
 
 /// What an instance is connected to (12.3.5, 12.3.6).
 #[derive(Drop)]
-pub enum Connections<'t> {
+pub enum Connections {
     /// `(value, ..)`
-    ByOrder(Vec<Expression<'t>>),
+    ByOrder(Vec<Expression>),
     /// `(.name(value), ..)`
-    ByName(Vec<Connection<'t>>),
+    ByName(Vec<Connection>),
 }
 
 /// `name(connections)` (12.1.2)
 #[derive(Drop)]
-pub struct Instance<'t> {
-    pub name: Word<'t>,
-    pub connections: Connections<'t>,
+pub struct Instance {
+    pub name: Token,
+    pub connections: Connections,
 }
 
 /// What is declared together (4.2, 4.8).
 #[derive(Drop)]
-pub enum DeclarationKind<'t> {
+pub enum DeclarationKind {
     /// `wire` or `reg`, and a type
     Variables {
         net: NetKind,
-        kind: SignAndRange<'t>,
+        kind: SignAndRange,
     },
     /// `integer`
     Integers,
@@ -116,59 +116,59 @@ pub enum DeclarationKind<'t> {
 
 /// What a module holds (A.1.4); `at` is the number of its first token.
 #[derive(Drop)]
-pub enum ModuleItem<'t> {
+pub enum ModuleItem {
     /// `parameter type setting, ..;`, or `localparam ..` (4.10)
     Parameters {
         at: u32,
         local: bool,
-        kind: ParameterType<'t>,
-        settings: Vec<Setting<'t>>,
+        kind: ParameterType,
+        settings: Vec<Setting>,
     },
     /// `reg type name, name = value, ..;` (4.2)
     Declaration {
         at: u32,
-        kind: DeclarationKind<'t>,
-        declared: Vec<Declared<'t>>,
+        kind: DeclarationKind,
+        declared: Vec<Declared>,
     },
     /// `event name, ..;` (9.7.3)
     Events {
         at: u32,
-        names: Vec<Word<'t>>,
+        names: Vec<Token>,
     },
     /// `assign name = value, ..;` (6.1)
     Assignments {
         at: u32,
-        settings: Vec<Setting<'t>>,
+        settings: Vec<Setting>,
     },
     /// `initial statement` (9.9.1)
     Initial {
         at: u32,
-        statement: Statement<'t>,
+        statement: Statement,
     },
     /// `always statement` (9.9.2)
     Always {
         at: u32,
-        statement: Statement<'t>,
+        statement: Statement,
     },
     /// `name #(connections) instance, ..;` (12.1.2)
     Instances {
-        module: Word<'t>,
-        overrides: Option<Connections<'t>>,
-        instances: Vec<Instance<'t>>,
+        module: Token,
+        overrides: Option<Connections>,
+        instances: Vec<Instance>,
     },
 }
 
 /// `module name #(parameters) (ports); .. endmodule` (12.1)
 #[derive(Drop)]
-pub struct ModuleTree<'t> {
-    pub name: Word<'t>,
-    pub parameters: Option<Vec<HeadParameter<'t>>>,
-    pub ports: Option<Vec<Port<'t>>>,
-    pub items: Vec<ModuleItem<'t>>,
+pub struct ModuleTree {
+    pub name: Token,
+    pub parameters: Option<Vec<HeadParameter>>,
+    pub ports: Option<Vec<Port>>,
+    pub items: Vec<ModuleItem>,
 }
 
 /// A whole text: its modules in order.
 #[derive(Drop)]
-pub struct TextTree<'t> {
-    pub modules: Vec<ModuleTree<'t>>,
+pub struct TextTree {
+    pub modules: Vec<ModuleTree>,
 }

@@ -1,7 +1,7 @@
 // Statements of the whole profile (IEEE 1364-2005, clause 9 and A.6, narrowed to this product's profile).
 
 use crate::expression::Expression;
-use crate::syntax::Word;
+use crate::token::Token;
 
 /// How a case compares its value with a label (9.5).
 #[derive(Clone, Copy, Debug, PartialEq, Eq)]
@@ -49,222 +49,222 @@ pub enum Dumping {
 
 /// What an assignment writes to (A.8.5).
 #[derive(Drop)]
-pub enum Target<'t> {
+pub enum Target {
     /// `name`
-    Whole(Word<'t>),
+    Whole(Token),
     /// `name[index]` (5.2.1)
     Bit {
-        name: Word<'t>,
-        index: Box<Expression<'t>>,
+        name: Token,
+        index: Box<Expression>,
     },
     /// `name[left:right]` (5.2.1)
     Part {
-        name: Word<'t>,
-        left: Box<Expression<'t>>,
-        right: Box<Expression<'t>>,
+        name: Token,
+        left: Box<Expression>,
+        right: Box<Expression>,
     },
     /// `{target, ..}` (5.1.14); `at` is the number of its first token
     Joined {
         at: u32,
-        targets: Vec<Target<'t>>,
+        targets: Vec<Target>,
     },
 }
 
 /// How long is waited (9.7.1).
 #[derive(Drop)]
-pub enum Delay<'t> {
+pub enum Delay {
     /// `#5`
-    Number(Word<'t>),
+    Number(Token),
     /// `#name`
-    Name(Word<'t>),
+    Name(Token),
     /// `#(amount)`
-    Value(Box<Expression<'t>>),
+    Value(Box<Expression>),
 }
 
 /// A name whose changes are waited for, or those to one side (9.7.2).
 #[derive(Clone, Copy, Debug)]
-pub struct Term<'t> {
+pub struct Term {
     pub edge: Option<Edge>,
-    pub name: Word<'t>,
+    pub name: Token,
 }
 
 /// A further term of an event control, behind a comma or behind `or` (9.7.3).
 #[derive(Clone, Copy, Debug)]
-pub struct FurtherTerm<'t> {
+pub struct FurtherTerm {
     pub by_comma: bool,
-    pub term: Term<'t>,
+    pub term: Term,
 }
 
 /// What is waited for (9.7).
 #[derive(Drop)]
-pub enum Event<'t> {
+pub enum Event {
     /// `@name`
-    Named(Word<'t>),
+    Named(Token),
     /// `@*` (9.7.5)
     Any,
     /// `@(*)` (9.7.5)
     AnyEnclosed,
     /// `@(term or term, ..)`
     Terms {
-        term: Term<'t>,
-        further: Vec<FurtherTerm<'t>>,
+        term: Term,
+        further: Vec<FurtherTerm>,
     },
 }
 
 /// What a printing task is given (17.1.1).
 #[derive(Drop)]
-pub enum Argument<'t> {
+pub enum Argument {
     /// `"letters"`
-    Text(Word<'t>),
+    Text(Token),
     /// An expression.
-    Value(Box<Expression<'t>>),
+    Value(Box<Expression>),
 }
 
 /// `name.name..` (12.4)
 #[derive(Drop)]
-pub struct Path<'t> {
-    pub names: Vec<Word<'t>>,
+pub struct Path {
+    pub names: Vec<Token>,
 }
 
 /// What is dumped: so many levels of the scopes that are named (18.1.2).
 #[derive(Drop)]
-pub struct Selection<'t> {
-    pub levels: Word<'t>,
-    pub paths: Vec<Path<'t>>,
+pub struct Selection {
+    pub levels: Token,
+    pub paths: Vec<Path>,
 }
 
 /// A call of a system task (clauses 17 and 18).
 #[derive(Drop)]
-pub enum Task<'t> {
+pub enum Task {
     /// `$display(argument, ..)`, or `$display`
     Print {
         kind: Printing,
-        arguments: Vec<Argument<'t>>,
+        arguments: Vec<Argument>,
     },
     /// `$dumpfile("letters")` (18.1.1)
-    DumpFile(Word<'t>),
+    DumpFile(Token),
     /// `$dumpvars(levels, path, ..)`, or `$dumpvars` (18.1.2)
-    DumpVars(Option<Selection<'t>>),
+    DumpVars(Option<Selection>),
     /// `$dumpon`
     Dump(Dumping),
     /// `$stop(number)`, or `$finish` (17.4)
     End {
         stops: bool,
-        number: Option<Word<'t>>,
+        number: Option<Token>,
     },
 }
 
 /// A statement (clause 9); `at` is the number of its first token.
 #[cycle(statement)]
 #[derive(Drop)]
-pub enum Statement<'t> {
+pub enum Statement {
     /// `;`
     Empty,
     /// `begin .. end` (9.8.1)
-    Block(Vec<Statement<'t>>),
+    Block(Vec<Statement>),
     /// `target = #delay value;` (9.2.1)
     Assign {
         at: u32,
-        target: Target<'t>,
-        delay: Option<Delay<'t>>,
-        value: Box<Expression<'t>>,
+        target: Target,
+        delay: Option<Delay>,
+        value: Box<Expression>,
     },
     /// `target <= #delay value;` (9.2.2)
     Nonblocking {
         at: u32,
-        target: Target<'t>,
-        delay: Option<Delay<'t>>,
-        value: Box<Expression<'t>>,
+        target: Target,
+        delay: Option<Delay>,
+        value: Box<Expression>,
     },
     /// `-> name;` (9.7.3)
     Trigger {
         at: u32,
-        name: Word<'t>,
+        name: Token,
     },
     /// `if (condition) body` (9.4)
     If {
         at: u32,
-        condition: Box<Expression<'t>>,
-        body: Box<Statement<'t>>,
+        condition: Box<Expression>,
+        body: Box<Statement>,
     },
     /// `if (condition) body else other` (9.4)
     IfElse {
         at: u32,
-        condition: Box<Expression<'t>>,
-        body: Box<Statement<'t>>,
-        other: Box<Statement<'t>>,
+        condition: Box<Expression>,
+        body: Box<Statement>,
+        other: Box<Statement>,
     },
     /// `case (value) branch .. endcase` (9.5)
     Case {
         at: u32,
         kind: CaseKind,
-        value: Box<Expression<'t>>,
-        branches: Vec<Branch<'t>>,
+        value: Box<Expression>,
+        branches: Vec<Branch>,
     },
     /// `while (condition) body` (9.6)
     While {
         at: u32,
-        condition: Box<Expression<'t>>,
-        body: Box<Statement<'t>>,
+        condition: Box<Expression>,
+        body: Box<Statement>,
     },
     /// `repeat (count) body` (9.6)
     Repeat {
         at: u32,
-        count: Box<Expression<'t>>,
-        body: Box<Statement<'t>>,
+        count: Box<Expression>,
+        body: Box<Statement>,
     },
     /// `forever body` (9.6)
     Forever {
         at: u32,
-        body: Box<Statement<'t>>,
+        body: Box<Statement>,
     },
     /// `for (target = value; condition; next_target = next_value) body` (9.6)
     For {
         at: u32,
-        target: Target<'t>,
-        value: Box<Expression<'t>>,
-        condition: Box<Expression<'t>>,
-        next_target: Target<'t>,
-        next_value: Box<Expression<'t>>,
-        body: Box<Statement<'t>>,
+        target: Target,
+        value: Box<Expression>,
+        condition: Box<Expression>,
+        next_target: Target,
+        next_value: Box<Expression>,
+        body: Box<Statement>,
     },
     /// `wait (condition) body` (9.7.6)
     Wait {
         at: u32,
-        condition: Box<Expression<'t>>,
-        body: Box<Statement<'t>>,
+        condition: Box<Expression>,
+        body: Box<Statement>,
     },
     /// `#delay body` (9.7.1)
     Delayed {
         at: u32,
-        delay: Delay<'t>,
-        body: Box<Statement<'t>>,
+        delay: Delay,
+        body: Box<Statement>,
     },
     /// `@event body` (9.7)
     OnEvent {
         at: u32,
-        event: Event<'t>,
-        body: Box<Statement<'t>>,
+        event: Event,
+        body: Box<Statement>,
     },
     /// A call of a system task.
     Task {
         at: u32,
-        task: Task<'t>,
+        task: Task,
     },
 }
 
 /// A branch of a case (9.5).
 #[cycle(statement)]
 #[derive(Drop)]
-pub enum Branch<'t> {
+pub enum Branch {
     /// `label, .. : body`
     Labelled {
-        labels: Vec<Expression<'t>>,
-        body: Statement<'t>,
+        labels: Vec<Expression>,
+        body: Statement,
     },
     /// `default : body`, or `default body`
     Default {
         colon: bool,
-        body: Statement<'t>,
+        body: Statement,
     },
 }

@@ -226,13 +226,13 @@ stopped_so (suc below) words left TooDeep some e =
     (stops_at_place below 0 refl words left TooDeep e, stops_too_deep below 0 refl words left e)
 
 -- what the program answers
-pub found_result : (levels : ℕ) (words left : List Text) (result : Result Read (OrMemory Stop)) →
-    Finds levels (expression levels 0 words) left result → IfOk result (λ found. IsFound levels words left (tree_in found))
-found_result levels words left (Ok found) f = found_so levels words left (tree_in found) f.0
-found_result levels words left (Err e) f = tt
+pub found_result : (text : List Text) (levels : ℕ) (words left : List Text) (result : Result Read (OrMemory Stop)) →
+    Finds text levels (expression levels 0 words) left result → IfOk result (λ found. IsFound levels words left (tree_in text found))
+found_result text levels words left (Ok found) f = found_so levels words left (tree_in text found) f.0
+found_result text levels words left (Err e) f = tt
 
-pub stop_result : (levels : ℕ) (words left : List Text) (result : Result Read (OrMemory Stop)) → 0 < levels →
-    Finds levels (expression levels 0 words) left result → IfFault result (λ why. IsStopped levels words left why)
-stop_result levels words left (Ok found) some f = tt
-stop_result levels words left (Err (Fault why)) some f = stopped_so levels words left why some f
-stop_result levels words left (Err (Memory m)) some f = tt
+pub stop_result : (text : List Text) (levels : ℕ) (words left : List Text) (result : Result Read (OrMemory Stop)) → 0 < levels →
+    Finds text levels (expression levels 0 words) left result → IfFault result (λ why. IsStopped levels words left why)
+stop_result text levels words left (Ok found) some f = tt
+stop_result text levels words left (Err (Fault why)) some f = stopped_so levels words left why some f
+stop_result text levels words left (Err (Memory m)) some f = tt

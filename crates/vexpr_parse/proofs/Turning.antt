@@ -4,7 +4,7 @@ use Rattle.std.specs.Str.{bytes_eq}
 use Rattle.std.proofs.lemmas.Bool.Decides.{nat_tests}
 use Rattle.std.proofs.lemmas.List.{map-append}
 use Rattle.vast.specs.Syntax.{Text}
-use Rattle.vast.specs.Expressions.{ExpressionTree, concatenation, replication, first, combine, depth, greatest_depth, rank}
+use Rattle.vast.specs.Expressions.{ExpressionTree, name, time, concatenation, replication, first, combine, depth, greatest_depth, rank}
 use Rattle.vast.specs.ExpressionTrees.{tree_of, trees_of}
 use Rattle.vast.specs.declared.expression.Expression.{Expression}
 use Rattle.vast.specs.declared.expression.BinaryOperator.{BinaryOperator}
@@ -12,9 +12,11 @@ use Rattle.basis.specs.declared.memory.OrMemory.{OrMemory}
 use Rattle.basis.specs.declared.memory.OrMemory.TheVariants.{Fault, Memory}
 use Rattle.vexpr_parse.specs.declared.stop.Stop.{Stop}
 use Rattle.vexpr_parse.specs.declared.stop.Stop.TheVariants.{NoTree, TooDeep}
+use Rattle.vexpr_parse.specs.declared.beginning.Beginning.{Beginning}
+use Rattle.vexpr_parse.specs.declared.beginning.Beginning.TheVariants as start
 use Rattle.vexpr_parse.specs.Readers.{Answer, got, stop, Reader, front, is_front, and_then, goes, refused, lower, follow, room, past, turns}
-use Rattle.vexpr_parse.specs.Words.{binary_of, is_ranked, is_joined, is_asked}
-use Rattle.vexpr_parse.specs.Reading.{trees_in, one_more, joined, repeated, operator_by, operator, branches, question, expression_by, expression}
+use Rattle.vexpr_parse.specs.Words.{beginning_of, binary_of, is_ranked, is_joined, is_asked}
+use Rattle.vexpr_parse.specs.Reading.{trees_in, one_more, named, primary_by, primary, joined, repeated, operator_by, operator, branches, question, expression_by, expression}
 use Rattle.vexpr_parse.specs.declared.found.Found.{Found}
 use Rattle.vexpr_parse.specs.Answers.{joining, ranked, Stops, IsMade, IsMeasured, Finds}
 use Rattle.vexpr_parse.proofs.ReaderRules.{Eats, chosen, passed_over, stop_got}
@@ -28,15 +30,30 @@ pub stops_so : {A B : Type 0} (a : Answer A) (b : Answer B) (left : List Text) (
 stops_so a b left (Fault why) same s = same why s
 stops_so a b left (Memory m) same s = tt
 
--- where a word stands first, something is left
-pub some_left : (text : Text) (words : List Text) → is_front text (front words) ≡ true → 0 < length words
-some_left text [] e = let clash : false ≡ true = e in absurd cc
-some_left text (word ∷ words) e = omega arith
-
 pub past_on : {A : Type 0} (text : Text) (read : Reader A) (words : List Text) → is_front text (front words) ≡ true →
     past text read words ≡ read (drop 1 words)
 past_on text read [] e = let clash : false ≡ true = e in absurd cc
 past_on text read (word ∷ words) e = ap (λ l. follow l word words) (chosen (bytes_eq text word) (goes read) refused e)
+
+-- Trees round no other
+
+pub named_alone : (below : ℕ) (letters : Text) (words : List Text) (tree : ExpressionTree) (seen : Bool) →
+    seen ≡ is_front (codes "[") (front words) → seen ≡ false → tree ≡ name letters →
+    named below (expression below) letters words ≡ got tree words
+named_alone below letters words tree seen is none made =
+    passed_over (is_front (codes "[") (front words)) _ _ (sym is ∙ none) ∙ ap (λ t. got t words) (sym made)
+
+pub time_alone : (below : ℕ) (text : Text) (words left : List Text) (tree : ExpressionTree) (begun : Beginning) →
+    words ≡ text ∷ drop 1 words → begun ≡ beginning_of text → begun ≡ start.Time → left ≡ drop 1 words → tree ≡ time →
+    primary below (expression below) words ≡ got tree left
+time_alone below text words left tree begun here is at passed made =
+    ap (primary below (expression below)) here
+    ∙ ap (λ b. follow (primary_by below (expression below) text b) text (drop 1 words)) (sym is ∙ at)
+    ∙ ap (got time) (sym passed)
+    ∙ ap (λ t. got t left) (sym made)
+
+pub one_level : (below : ℕ) → 1 ≤ 1 + below
+one_level below = omega arith
 
 -- Parts
 
@@ -89,19 +106,19 @@ part_fewer below words between left tree seen is here passed e =
     ∙ ap (λ a. and_then a (λ one. got ([] ++ one ∷ []))) (ap (expression below 0) (sym passed) ∙ e))
 
 -- the list that was read is that of the program's trees
-pub trees_same : (parts : List Expression) → trees_in (map tree_of parts) ≡ trees_of parts
-trees_same [] = refl
-trees_same (one ∷ more) = ap (first (tree_of one)) (trees_same more)
+pub trees_same : (text : List Text) (parts : List Expression) → trees_in (map (tree_of text) parts) ≡ trees_of text parts
+trees_same text [] = refl
+trees_same text (one ∷ more) = ap (first (tree_of text one)) (trees_same text more)
 
-pub deepest_on : (parts : List Expression) (part : Expression) →
-    greatest_depth (trees_of (parts ++ part ∷ [])) ≡ max (greatest_depth (trees_of parts)) (depth (tree_of part))
-deepest_on [] part = sides (depth (tree_of part))
+pub deepest_on : (text : List Text) (parts : List Expression) (part : Expression) →
+    greatest_depth (trees_of text (parts ++ part ∷ [])) ≡ max (greatest_depth (trees_of text parts)) (depth (tree_of text part))
+deepest_on text [] part = sides (depth (tree_of text part))
   where
     sides : (n : ℕ) → max n 0 ≡ max 0 n
     sides n = grind arith
-deepest_on (one ∷ more) part =
-    ap (max (depth (tree_of one))) (deepest_on more part)
-    ∙ regroup (depth (tree_of one)) (greatest_depth (trees_of more)) (depth (tree_of part))
+deepest_on text (one ∷ more) part =
+    ap (max (depth (tree_of text one))) (deepest_on text more part)
+    ∙ regroup (depth (tree_of text one)) (greatest_depth (trees_of text more)) (depth (tree_of text part))
   where
     regroup : (a b c : ℕ) → max a (max b c) ≡ max (max a b) c
     regroup a b c = grind arith
@@ -135,30 +152,30 @@ joined_not least (word ∷ words) e = by_operator (binary_of word) e
 
 -- Depths that the code tells
 
-pub deepest_so : (parts after : List Expression) (part : Expression) (deep largest told : ℕ) → after ≡ parts ++ part ∷ [] →
-    deep ≡ greatest_depth (trees_of parts) → told ≡ depth (tree_of part) → largest ≡ max deep told →
-    largest ≡ greatest_depth (trees_of after)
-deepest_so parts after part deep largest told same d t l =
-    l ∙ ap (λ n. max n told) d ∙ ap (max (greatest_depth (trees_of parts))) t ∙ sym (deepest_on parts part)
-    ∙ sym (ap (λ xs. greatest_depth (trees_of xs)) same)
+pub deepest_so : (text : List Text) (parts after : List Expression) (part : Expression) (deep largest told : ℕ) → after ≡ parts ++ part ∷ [] →
+    deep ≡ greatest_depth (trees_of text parts) → told ≡ depth (tree_of text part) → largest ≡ max deep told →
+    largest ≡ greatest_depth (trees_of text after)
+deepest_so text parts after part deep largest told same d t l =
+    l ∙ ap (λ n. max n told) d ∙ ap (max (greatest_depth (trees_of text parts))) t ∙ sym (deepest_on text parts part)
+    ∙ sym (ap (λ xs. greatest_depth (trees_of text xs)) same)
 
 pub both_within : (a b largest below : ℕ) → largest ≡ max a b → a ≤ below → b ≤ below → largest ≤ below
 both_within a b largest below l p q = grind arith
 
 -- what is read from the parts on, one more among them, is what was read before it
-pub parts_pushed : (below : ℕ) (parts after : List Expression) (part : Expression) (words between left : List Text)
+pub parts_pushed : (text : List Text) (below : ℕ) (parts after : List Expression) (part : Expression) (words between left : List Text)
     (seen : Bool) (all : Answer (List ExpressionTree)) →
     after ≡ parts ++ part ∷ [] → seen ≡ is_front (codes ",") (front words) → seen ≡ true → between ≡ drop 1 words →
-    expression below 0 between ≡ got (tree_of part) left → part_turns below (map tree_of parts) words ≡ all →
-    part_turns below (map tree_of after) left ≡ all
-parts_pushed below parts after part words between left seen all same is here passed e before =
-    ap (λ ts. part_turns below ts left) (ap (map tree_of) same ∙ map-append tree_of parts (part ∷ []))
-    ∙ sym (parts_on below (map tree_of parts) words (tree_of part) left (sym is ∙ here) (ap (expression below 0) (sym passed) ∙ e))
+    expression below 0 between ≡ got (tree_of text part) left → part_turns below (map (tree_of text) parts) words ≡ all →
+    part_turns below (map (tree_of text) after) left ≡ all
+parts_pushed text below parts after part words between left seen all same is here passed e before =
+    ap (λ ts. part_turns below ts left) (ap (map (tree_of text)) same ∙ map-append (tree_of text) parts (part ∷ []))
+    ∙ sym (parts_on below (map (tree_of text) parts) words (tree_of text part) left (sym is ∙ here) (ap (expression below 0) (sym passed) ∙ e))
     ∙ before
 
-pub measured : (tree : ExpressionTree) (deep levels : ℕ) (found : Found) → IsMade tree deep found → deep ≡ depth tree → deep ≤ levels →
-    IsMeasured levels found
-measured tree deep levels found made d within = (made.1 ∙ d ∙ sym (ap depth made.0), subst (λ n. n ≤ levels) (sym made.1) within)
+pub measured : (text : List Text) (tree : ExpressionTree) (deep levels : ℕ) (found : Found) → IsMade text tree deep found → deep ≡ depth tree → deep ≤ levels →
+    IsMeasured text levels found
+measured text tree deep levels found made d within = (made.1 ∙ d ∙ sym (ap depth made.0), subst (λ n. n ≤ levels) (sym made.1) within)
 
 pub one_more_level : (a b : ℕ) → a ≤ b → 1 + a ≤ 1 + b
 one_more_level a b e = omega (arith, e)
@@ -174,28 +191,28 @@ both_deep a b c d p q = ap (λ n. 1 + max n b) p ∙ ap (λ n. 1 + max c n) q
 
 -- What a concatenation and a replication are read as, step by step
 
-pub joined_so : (below : ℕ) (one made : ExpressionTree) (parts : List Expression) (words between left : List Text) →
-    part_turns below (one ∷ []) words ≡ got (map tree_of parts) between → between ≡ codes "}" ∷ left →
-    made ≡ concatenation (trees_of parts) → joined (expression below) one words ≡ got made left
-joined_so below one made parts words between left e closed same =
-    ap (λ a. and_then a (λ trees. past (codes "}") (got (concatenation (trees_in trees))))) (e ∙ ap (got (map tree_of parts)) closed)
-    ∙ past_word (codes "}") (got (concatenation (trees_in (map tree_of parts)))) left
-    ∙ ap (λ ts. got (concatenation ts) left) (trees_same parts)
+pub joined_so : (text : List Text) (below : ℕ) (one made : ExpressionTree) (parts : List Expression) (words between left : List Text) →
+    part_turns below (one ∷ []) words ≡ got (map (tree_of text) parts) between → between ≡ codes "}" ∷ left →
+    made ≡ concatenation (trees_of text parts) → joined (expression below) one words ≡ got made left
+joined_so text below one made parts words between left e closed same =
+    ap (λ a. and_then a (λ trees. past (codes "}") (got (concatenation (trees_in trees))))) (e ∙ ap (got (map (tree_of text) parts)) closed)
+    ∙ past_word (codes "}") (got (concatenation (trees_in (map (tree_of text) parts)))) left
+    ∙ ap (λ ts. got (concatenation ts) left) (trees_same text parts)
     ∙ ap (λ t. got t left) (sym same)
 
-pub repeated_so : (below : ℕ) (count one made : ExpressionTree) (parts : List Expression) (words ws xs ys zs left : List Text) →
-    words ≡ codes "{" ∷ ws → expression below 0 ws ≡ got one xs → part_turns below (one ∷ []) xs ≡ got (map tree_of parts) ys →
-    ys ≡ codes "}" ∷ zs → zs ≡ codes "}" ∷ left → made ≡ replication count (trees_of parts) →
+pub repeated_so : (text : List Text) (below : ℕ) (count one made : ExpressionTree) (parts : List Expression) (words ws xs ys zs left : List Text) →
+    words ≡ codes "{" ∷ ws → expression below 0 ws ≡ got one xs → part_turns below (one ∷ []) xs ≡ got (map (tree_of text) parts) ys →
+    ys ≡ codes "}" ∷ zs → zs ≡ codes "}" ∷ left → made ≡ replication count (trees_of text parts) →
     repeated (expression below) count words ≡ got made left
-repeated_so below count one made parts words ws xs ys zs left opened e more closed again same =
+repeated_so text below count one made parts words ws xs ys zs left opened e more closed again same =
     ap (repeated (expression below) count) opened
     ∙ past_word (codes "{") (λ vs. and_then (and_then (expression below 0 vs) (λ tree. part_turns below (tree ∷ []))) ends_both) ws
     ∙ ap (λ a. and_then (and_then a (λ tree. part_turns below (tree ∷ []))) ends_both) e
-    ∙ ap (λ a. and_then a ends_both) (more ∙ ap (got (map tree_of parts)) closed)
-    ∙ past_word (codes "}") (past (codes "}") (got (replication count (trees_in (map tree_of parts))))) zs
-    ∙ ap (past (codes "}") (got (replication count (trees_in (map tree_of parts))))) again
-    ∙ past_word (codes "}") (got (replication count (trees_in (map tree_of parts)))) left
-    ∙ ap (λ ts. got (replication count ts) left) (trees_same parts)
+    ∙ ap (λ a. and_then a ends_both) (more ∙ ap (got (map (tree_of text) parts)) closed)
+    ∙ past_word (codes "}") (past (codes "}") (got (replication count (trees_in (map (tree_of text) parts))))) zs
+    ∙ ap (past (codes "}") (got (replication count (trees_in (map (tree_of text) parts))))) again
+    ∙ past_word (codes "}") (got (replication count (trees_in (map (tree_of text) parts)))) left
+    ∙ ap (λ ts. got (replication count ts) left) (trees_same text parts)
     ∙ ap (λ t. got t left) (sym same)
   where
     ends_both : List ExpressionTree → Reader ExpressionTree
@@ -280,12 +297,8 @@ turn_low below least left (word ∷ words) one e fits = by_operator (binary_of w
     by_operator None e = let clash : None ≡ Some one = e in absurd cc
     by_operator (Some other) e = by_test (nat_le least (rank other)) other e
 
--- where something joins, a word is left
-pub joining_left : (least : ℕ) (words : List Text) (one : BinaryOperator) → joining least (front words) ≡ Some one → 0 < length words
-joining_left least [] one e = let clash : None ≡ Some one = e in absurd cc
-joining_left least (word ∷ words) one e = omega arith
-
-pub asked_left : (least : ℕ) (words : List Text) → is_asked least (front words) ≡ true → 0 < length words
+-- where a conditional goes on, a word is left
+asked_left : (least : ℕ) (words : List Text) → is_asked least (front words) ≡ true → 0 < length words
 asked_left least [] e = none (nat_le least 0) e
   where
     none : (b : Bool) → (b && false) ≡ true → 0 < 0
@@ -338,15 +351,15 @@ unfolding expression
 none_at_zero levels least words none = ap (λ n. expression n least words) none
 
 -- what is read with a level less below is what is read
-pub finds_up : (levels least : ℕ) (words left : List Text) (result : Result Found (OrMemory Stop)) → levels ≢ 0 →
-    Finds (1 + (levels - 1)) (expression_by (levels - 1) (expression (levels - 1)) least words) left result →
-    Finds levels (expression levels least words) left result
-finds_up zero least words left result some f = absurd (some refl)
-finds_up (suc below) least words left result some f = by_lower (suc below - 1) (1 + (suc below - 1)) (omega arith) (omega arith) f
+pub finds_up : (text : List Text) (levels least : ℕ) (words left : List Text) (result : Result Found (OrMemory Stop)) → levels ≢ 0 →
+    Finds text (1 + (levels - 1)) (expression_by (levels - 1) (expression (levels - 1)) least words) left result →
+    Finds text levels (expression levels least words) left result
+finds_up text zero least words left result some f = absurd (some refl)
+finds_up text (suc below) least words left result some f = by_lower (suc below - 1) (1 + (suc below - 1)) (omega arith) (omega arith) f
   where
-    by_lower : (n up : ℕ) → n ≡ below → up ≡ suc below → Finds up (expression_by n (expression n) least words) left result →
-        Finds (suc below) (expression (suc below) least words) left result
+    by_lower : (n up : ℕ) → n ≡ below → up ≡ suc below → Finds text up (expression_by n (expression n) least words) left result →
+        Finds text (suc below) (expression (suc below) least words) left result
     by_lower n up same one f =
-        subst (λ a. Finds (suc below) a left result) (sym (by_level below least words))
-        (subst (λ u. Finds u (expression_by below (expression below) least words) left result) one
-        (subst (λ m. Finds up (expression_by m (expression m) least words) left result) same f))
+        subst (λ a. Finds text (suc below) a left result) (sym (by_level below least words))
+        (subst (λ u. Finds text u (expression_by below (expression below) least words) left result) one
+        (subst (λ m. Finds text up (expression_by m (expression m) least words) left result) same f))

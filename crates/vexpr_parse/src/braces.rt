@@ -1,8 +1,8 @@
 // Concatenations and replications (IEEE 1364-2005, 5.1.14).
 
 ghost use Rattle.std.specs.Prelude.{◌≡◌, ◌+◌, ◌<◌, ◌^◌};
-ghost use Rattle.vexpr_parse.specs.Answers.{FindsParts, Reads, IsMeasured};
-ghost use Rattle.vexpr_parse.specs.Rules.{FindsOver, parts_at, joined_at, repeated_at, braces_at};
+ghost use Rattle.vexpr_parse.specs.Answers.{Reads};
+ghost use Rattle.vexpr_parse.specs.Rules.{FindsAt, IsMeasuredIn, FindsMore, FindsJoined, FindsRepeated, braces_at};
 
 use crate::cursor::Cursor;
 use crate::found::{Found, Parts, joined, larger, repeated};
@@ -10,25 +10,27 @@ use crate::stop::Stop;
 use basis::OrMemory;
 use std::alloc::Global;
 use vast::expression::Expression;
+use vlex::Tokens;
 
 // The parts behind the first one, with the commas between them.
-fn more_parts<'a, F: Fn(&mut Cursor<'_, 'a>, u32) -> Result<Found<'a>, OrMemory<Stop>>>(
+fn more_parts<F: Fn(&mut Cursor, u32) -> Result<Found, OrMemory<Stop>>>(
     alloc: Global,
     read: &F,
     below: u32,
-    cursor: &mut Cursor<'_, 'a>,
-    first: Found<'a>,
-) -> Result<Parts<'a>, OrMemory<Stop>>
+    tokens: &Tokens<'_>,
+    cursor: &mut Cursor,
+    first: Found,
+) -> Result<Parts, OrMemory<Stop>>
     requires callable { F.IsAlwaysCallable read.now }
-    requires reads { Reads below (F.post read.now) }
-    requires first { IsMeasured below first }
-    ensures { FindsParts below (parts_at below first.entry cursor.old) cursor.new result }
+    requires reads { Reads tokens.now below (F.post read.now) }
+    requires first { IsMeasuredIn tokens.now below first }
+    ensures { FindsMore tokens.now below first cursor.old cursor.new result }
 {
     let mut depth = first.depth;
-    let mut trees: Vec<Expression<'a>> = Vec::new(alloc);
+    let mut trees: Vec<Expression> = Vec::new(alloc);
     trees.push(first.tree)?;
-    'parts: while cursor.begins(b",") {
-        cursor.pass();
+    'parts: while cursor.begins(tokens, b",") {
+        cursor.pass(tokens);
         let part = read(cursor, 0)?;
         depth = larger(depth, part.depth);
         trees.push(part.tree)?;
@@ -37,62 +39,65 @@ fn more_parts<'a, F: Fn(&mut Cursor<'_, 'a>, u32) -> Result<Found<'a>, OrMemory<
 }
 
 // What follows the first part of a concatenation; `at` is the number of its first token.
-fn join<'a, F: Fn(&mut Cursor<'_, 'a>, u32) -> Result<Found<'a>, OrMemory<Stop>>>(
+fn join<F: Fn(&mut Cursor, u32) -> Result<Found, OrMemory<Stop>>>(
     alloc: Global,
     read: &F,
     below: u32,
-    cursor: &mut Cursor<'_, 'a>,
+    tokens: &Tokens<'_>,
+    cursor: &mut Cursor,
     at: u32,
-    first: Found<'a>,
-) -> Result<Found<'a>, OrMemory<Stop>>
+    first: Found,
+) -> Result<Found, OrMemory<Stop>>
     requires callable { F.IsAlwaysCallable read.now }
-    requires reads { Reads below (F.post read.now) }
-    requires first { IsMeasured below first }
-    ensures { FindsOver below (joined_at below first.entry cursor.old) cursor.new result }
+    requires reads { Reads tokens.now below (F.post read.now) }
+    requires first { IsMeasuredIn tokens.now below first }
+    ensures { FindsJoined tokens.now below first cursor.old cursor.new result }
 {
-    let parts = more_parts(alloc, read, below, cursor, first)?;
-    cursor.symbol(b"}")?;
+    let parts = more_parts(alloc, read, below, tokens, cursor, first)?;
+    cursor.symbol(tokens, b"}")?;
     Ok(joined(at, parts))
 }
 
 // What follows the count of a replication; `at` is the number of its first token.
-fn repeat<'a, F: Fn(&mut Cursor<'_, 'a>, u32) -> Result<Found<'a>, OrMemory<Stop>>>(
+fn repeat<F: Fn(&mut Cursor, u32) -> Result<Found, OrMemory<Stop>>>(
     alloc: Global,
     read: &F,
     below: u32,
-    cursor: &mut Cursor<'_, 'a>,
+    tokens: &Tokens<'_>,
+    cursor: &mut Cursor,
     at: u32,
-    count: Found<'a>,
-) -> Result<Found<'a>, OrMemory<Stop>>
+    count: Found,
+) -> Result<Found, OrMemory<Stop>>
     requires callable { F.IsAlwaysCallable read.now }
-    requires reads { Reads below (F.post read.now) }
-    requires count { IsMeasured below count }
-    ensures { FindsOver below (repeated_at below count.entry cursor.old) cursor.new result }
+    requires reads { Reads tokens.now below (F.post read.now) }
+    requires count { IsMeasuredIn tokens.now below count }
+    ensures { FindsRepeated tokens.now below count cursor.old cursor.new result }
 {
-    cursor.symbol(b"{")?;
+    cursor.symbol(tokens, b"{")?;
     let first = read(cursor, 0)?;
-    let parts = more_parts(alloc, read, below, cursor, first)?;
-    cursor.symbol(b"}")?;
-    cursor.symbol(b"}")?;
+    let parts = more_parts(alloc, read, below, tokens, cursor, first)?;
+    cursor.symbol(tokens, b"}")?;
+    cursor.symbol(tokens, b"}")?;
     Ok(repeated(alloc, at, count, parts)?)
 }
 
 /// What follows `{`, the token of this number.
-pub fn braces<'a, F: Fn(&mut Cursor<'_, 'a>, u32) -> Result<Found<'a>, OrMemory<Stop>>>(
+pub fn braces<F: Fn(&mut Cursor, u32) -> Result<Found, OrMemory<Stop>>>(
     alloc: Global,
     read: &F,
     below: u32,
-    cursor: &mut Cursor<'_, 'a>,
+    tokens: &Tokens<'_>,
+    cursor: &mut Cursor,
     at: u32,
-) -> Result<Found<'a>, OrMemory<Stop>>
+) -> Result<Found, OrMemory<Stop>>
     requires callable { F.IsAlwaysCallable read.now }
-    requires reads { Reads below (F.post read.now) }
-    ensures { FindsOver below (braces_at below cursor.old) cursor.new result }
+    requires reads { Reads tokens.now below (F.post read.now) }
+    ensures { FindsAt tokens.now below (braces_at below) cursor.old cursor.new result }
 {
     let one = read(cursor, 0)?;
-    if cursor.begins(b"{") {
-        repeat(alloc, read, below, cursor, at, one)
+    if cursor.begins(tokens, b"{") {
+        repeat(alloc, read, below, tokens, cursor, at, one)
     } else {
-        join(alloc, read, below, cursor, at, one)
+        join(alloc, read, below, tokens, cursor, at, one)
     }
 }

@@ -1,99 +1,86 @@
 // A place between two tokens, and what stands at it.
 
-ghost use Rattle.std.specs.Prelude.{◌≡◌, ◌<◌, ◌^◌, [], ◌∷◌, length, drop, codes, MatchOption};
-ghost use Rattle.vlex.specs.Tokenized.{pieces_of};
-ghost use Rattle.vast.specs.Trees.{word_text};
+ghost use Rattle.std.specs.Prelude.{◌≡◌, [], length, drop, codes, MatchOption};
+ghost use Rattle.vlex.specs.Tokenized.{Tokenized};
 ghost use Rattle.vexpr_parse.specs.Texts.{words_of};
 ghost use Rattle.vexpr_parse.specs.Readers.{front, is_front};
 ghost use Rattle.vexpr_parse.specs.Words.{is_asked as is_asked_word};
-ghost use Rattle.vexpr_parse.specs.Answers.{Heads, Passes, Enters, joining};
+ghost use Rattle.vexpr_parse.specs.Answers.{ahead, Heads, PassesAt, EntersAt, joining};
 
 use crate::stop::Stop;
 use crate::words::{binary_of, is};
 use basis::OrMemory;
-use std::marker::Model;
 use vast::expression::BinaryOperator;
 use vast::operators::rank;
-use vast::syntax::Word;
+use vast::token::Token;
 use vlex::Tokens;
 
-/// A place between two tokens. It stands for the words that are left behind it.
-#[derive(Drop)]
-pub struct Cursor<'c, 'a> {
-    tokens: &'c Tokens<'a>,
+/// A place between two tokens, and the words that are left behind it.
+#[derive(Clone, Copy, Debug)]
+pub struct Cursor {
     at: u32,
-    end: u32,
 }
 
-impl<'c, 'a> Model for Cursor<'c, 'a> {
-    ghost use Rattle.std.specs.Prelude.{◌≡◌, List, length, drop};
-    ghost use Rattle.vast.specs.Syntax.{Text};
-    ghost use Rattle.vlex.specs.Tokenized.{pieces_of};
-    ghost use Rattle.vexpr_parse.specs.Texts.{words_of};
-
-    ghost Value = { List Text };
-
-    ghost view = { λ c. drop c.at (words_of c.tokens.now) };
-
-    ghost invariant = { λ c. c.end ≡ length (pieces_of c.tokens.now) };
+/// A word at a place: its letters, and its token, which a tree keeps.
+#[derive(Clone, Copy, Debug)]
+pub struct Word<'t> {
+    pub text: &'t [u8],
+    pub token: Token,
 }
 
-impl<'c, 'a> Cursor<'c, 'a> {
+impl Cursor {
     /// The place before the first token.
-    pub fn new(tokens: &'c Tokens<'a>) -> Cursor<'c, 'a>
-        ensures { result ≡ words_of tokens.now }
+    pub fn start() -> Cursor
+        ensures { (tokens : Tokenized) → ahead tokens result ≡ words_of tokens }
     {
-        Cursor {
-            tokens,
-            at: 0,
-            end: tokens.len() as u32,
-        }
+        Cursor { at: 0 }
     }
 
     /// How many words are left.
-    pub fn left(&self) -> usize
-        ensures { result ≡ length self.now }
+    pub fn left(&self, tokens: &Tokens<'_>) -> usize
+        ensures { result ≡ length (ahead tokens.now self.now) }
     {
-        self.end.saturating_sub(self.at) as usize
+        tokens.len().saturating_sub(self.at as usize)
     }
 
     /// The word here, if there is one.
-    pub fn word(&self) -> Option<Word<'a>>
-        ensures { MatchOption result (self.now ≡ []) (Heads self.now) }
+    pub fn word<'t>(&self, tokens: &Tokens<'t>) -> Option<Word<'t>>
+        ensures { MatchOption result (ahead tokens.now self.now ≡ []) (Heads tokens.now self.now) }
     {
-        if self.at < self.end {
+        if (self.at as usize) < tokens.len() {
             Some(Word {
-                text: self.tokens.text(self.at as usize),
-                at: self.at,
+                text: tokens.text(self.at as usize),
+                token: Token { number: self.at },
             })
         } else {
             None
         }
     }
 
-    /// Passes the word here.
-    pub fn pass(&mut self)
-        requires { 0 < length self.old }
-        ensures { self.new ≡ drop 1 self.old }
+    /// Passes the word here, if there is one.
+    pub fn pass(&mut self, tokens: &Tokens<'_>)
+        ensures { ahead tokens.now self.new ≡ drop 1 (ahead tokens.now self.old) }
     {
-        self.at += 1;
+        if (self.at as usize) < tokens.len() {
+            self.at += 1;
+        }
     }
 
     /// Whether this very word stands here.
-    pub fn begins(&self, text: &[u8]) -> bool
-        ensures { result ≡ is_front text.now (front self.now) }
+    pub fn begins(&self, tokens: &Tokens<'_>, text: &[u8]) -> bool
+        ensures { result ≡ is_front text.now (front (ahead tokens.now self.now)) }
     {
-        match self.word() {
+        match self.word(tokens) {
             None => false,
             Some(word) => is(word.text, text),
         }
     }
 
     /// The binary operator here, if one of this rank at least stands here.
-    pub fn operator(&self, least: u32) -> Option<BinaryOperator>
-        ensures { result ≡ joining least (front self.now) }
+    pub fn operator(&self, tokens: &Tokens<'_>, least: u32) -> Option<BinaryOperator>
+        ensures { result ≡ joining least (front (ahead tokens.now self.now)) }
     {
-        match self.word() {
+        match self.word(tokens) {
             None => None,
             Some(word) => match binary_of(word.text) {
                 None => None,
@@ -109,18 +96,18 @@ impl<'c, 'a> Cursor<'c, 'a> {
     }
 
     /// Whether a conditional goes on here, where its rank, 0, is high enough.
-    pub fn is_asked(&self, least: u32) -> bool
-        ensures { result ≡ is_asked_word least (front self.now) }
+    pub fn is_asked(&self, tokens: &Tokens<'_>, least: u32) -> bool
+        ensures { result ≡ is_asked_word least (front (ahead tokens.now self.now)) }
     {
-        least == 0 && self.begins(b"?")
+        least == 0 && self.begins(tokens, b"?")
     }
 
     /// Passes this very word.
-    pub fn symbol(&mut self, text: &[u8]) -> Result<(), OrMemory<Stop>>
-        ensures { Passes text.now self.old self.new result }
+    pub fn symbol(&mut self, tokens: &Tokens<'_>, text: &[u8]) -> Result<(), OrMemory<Stop>>
+        ensures { PassesAt tokens.now text.now self.old self.new result }
     {
-        if self.begins(text) {
-            self.pass();
+        if self.begins(tokens, text) {
+            self.pass(tokens);
             Ok(())
         } else {
             Err(OrMemory::Fault(Stop::NoTree))
@@ -128,12 +115,16 @@ impl<'c, 'a> Cursor<'c, 'a> {
     }
 
     /// Passes the word here, which stands round so many levels, where so many are left below.
-    pub fn enter(&mut self, below: u32, levels: u64) -> Result<(), OrMemory<Stop>>
-        requires { 0 < length self.old }
-        ensures { Enters below levels self.old self.new result }
+    pub fn enter(
+        &mut self,
+        tokens: &Tokens<'_>,
+        below: u32,
+        levels: u64,
+    ) -> Result<(), OrMemory<Stop>>
+        ensures { EntersAt tokens.now below levels self.old self.new result }
     {
         if levels <= below as u64 {
-            self.pass();
+            self.pass(tokens);
             Ok(())
         } else {
             Err(OrMemory::Fault(Stop::TooDeep))

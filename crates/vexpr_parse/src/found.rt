@@ -1,7 +1,8 @@
 // What readers of expressions hand on: a tree, and how deep it nests.
 
-ghost use Rattle.std.specs.Prelude.{◌≡◌, max, IfOk};
-ghost use Rattle.vast.specs.Trees.{word_text};
+ghost use Rattle.std.specs.Prelude.{◌≡◌, List, max, IfOk};
+ghost use Rattle.vast.specs.Syntax.{Text};
+ghost use Rattle.vast.specs.TokenTexts.{token_text};
 ghost use Rattle.vast.specs.Expressions.{bit, part, parentheses, conversion, apply, combine};
 ghost use Rattle.vast.specs.ExpressionTrees.{tree_of};
 ghost use Rattle.vexpr_parse.specs.Answers.{IsShallow, IsMade, IsRound, IsRoundBoth, IsChosen, IsJoined, IsRepeated};
@@ -9,19 +10,19 @@ ghost use Rattle.vexpr_parse.specs.Answers.{IsShallow, IsMade, IsRound, IsRoundB
 use basis::NoMemory;
 use std::alloc::Global;
 use vast::expression::{BinaryOperator, Expression, UnaryOperator};
-use vast::syntax::Word;
+use vast::token::Token;
 
 /// An expression that was read, and its depth (docs/LANGUAGE.md, "Depth").
 #[derive(Drop)]
-pub struct Found<'a> {
-    pub tree: Expression<'a>,
+pub struct Found {
+    pub tree: Expression,
     pub depth: u64,
 }
 
 /// The parts of a concatenation, and the greatest of their depths.
 #[derive(Drop)]
-pub struct Parts<'a> {
-    pub trees: Vec<Expression<'a>>,
+pub struct Parts {
+    pub trees: Vec<Expression>,
     pub depth: u64,
 }
 
@@ -33,16 +34,16 @@ pub fn larger(a: u64, b: u64) -> u64
 }
 
 /// A tree round no other.
-pub fn leaf<'a>(tree: Expression<'a>) -> Found<'a>
-    ensures { IsMade (tree_of tree.entry) 1 result }
+pub fn leaf(tree: Expression) -> Found
+    ensures { (words : List Text) → IsMade words (tree_of words tree) 1 result }
 {
     Found { tree, depth: 1 }
 }
 
 /// `(inner)`
-pub fn in_parentheses<'a>(alloc: Global, inner: Found<'a>) -> Result<Found<'a>, NoMemory>
+pub fn in_parentheses(alloc: Global, inner: Found) -> Result<Found, NoMemory>
     requires { IsShallow inner.depth }
-    ensures { IfOk result (IsRound parentheses inner.entry) }
+    ensures { (words : List Text) → IfOk result (IsRound words parentheses inner) }
 {
     Ok(Found {
         depth: 1 + inner.depth,
@@ -51,9 +52,9 @@ pub fn in_parentheses<'a>(alloc: Global, inner: Found<'a>) -> Result<Found<'a>, 
 }
 
 /// `$signed(operand)`, or `$unsigned(operand)` (5.5)
-pub fn converted<'a>(alloc: Global, signed: bool, operand: Found<'a>) -> Result<Found<'a>, NoMemory>
+pub fn converted(alloc: Global, signed: bool, operand: Found) -> Result<Found, NoMemory>
     requires { IsShallow operand.depth }
-    ensures { IfOk result (IsRound (conversion signed) operand.entry) }
+    ensures { (words : List Text) → IfOk result (IsRound words (conversion signed) operand) }
 {
     Ok(Found {
         depth: 1 + operand.depth,
@@ -65,13 +66,9 @@ pub fn converted<'a>(alloc: Global, signed: bool, operand: Found<'a>) -> Result<
 }
 
 /// An operator before its operand (5.1).
-pub fn applied<'a>(
-    alloc: Global,
-    operator: UnaryOperator,
-    operand: Found<'a>,
-) -> Result<Found<'a>, NoMemory>
+pub fn applied(alloc: Global, operator: UnaryOperator, operand: Found) -> Result<Found, NoMemory>
     requires { IsShallow operand.depth }
-    ensures { IfOk result (IsRound (apply operator) operand.entry) }
+    ensures { (words : List Text) → IfOk result (IsRound words (apply operator) operand) }
 {
     Ok(Found {
         depth: 1 + operand.depth,
@@ -83,14 +80,14 @@ pub fn applied<'a>(
 }
 
 /// An operator between its operands (5.1).
-pub fn combined<'a>(
+pub fn combined(
     alloc: Global,
     operator: BinaryOperator,
-    left: Found<'a>,
-    right: Found<'a>,
-) -> Result<Found<'a>, NoMemory>
+    left: Found,
+    right: Found,
+) -> Result<Found, NoMemory>
     requires { IsShallow left.depth × IsShallow right.depth }
-    ensures { IfOk result (IsRoundBoth (combine operator) left.entry right.entry) }
+    ensures { (words : List Text) → IfOk result (IsRoundBoth words (combine operator) left right) }
 {
     Ok(Found {
         depth: 1 + larger(left.depth, right.depth),
@@ -103,14 +100,14 @@ pub fn combined<'a>(
 }
 
 /// `condition ? when_true : when_false` (5.1.13)
-pub fn chosen<'a>(
+pub fn chosen(
     alloc: Global,
-    condition: Found<'a>,
-    when_true: Found<'a>,
-    when_false: Found<'a>,
-) -> Result<Found<'a>, NoMemory>
+    condition: Found,
+    when_true: Found,
+    when_false: Found,
+) -> Result<Found, NoMemory>
     requires { IsShallow condition.depth × IsShallow when_true.depth × IsShallow when_false.depth }
-    ensures { IfOk result (IsChosen condition.entry when_true.entry when_false.entry) }
+    ensures { (words : List Text) → IfOk result (IsChosen words condition when_true when_false) }
 {
     Ok(Found {
         depth: 1 + larger(condition.depth, larger(when_true.depth, when_false.depth)),
@@ -123,33 +120,35 @@ pub fn chosen<'a>(
 }
 
 /// `name[index]` (5.2.1)
-pub fn selected<'a>(alloc: Global, word: Word<'a>, index: Found<'a>) -> Result<Found<'a>, NoMemory>
+pub fn selected(alloc: Global, name: Token, index: Found) -> Result<Found, NoMemory>
     requires { IsShallow index.depth }
-    ensures { IfOk result (IsRound (bit (word_text word.entry)) index.entry) }
+    ensures { (words : List Text) →
+        IfOk result (IsRound words (bit (token_text words name)) index) }
 {
     Ok(Found {
         depth: 1 + index.depth,
         tree: Expression::Bit {
-            name: word,
+            name,
             index: Box::new(alloc, index.tree)?,
         },
     })
 }
 
 /// `name[left:right]` (5.2.1)
-pub fn part_selected<'a>(
+pub fn part_selected(
     alloc: Global,
-    word: Word<'a>,
-    left: Found<'a>,
-    right: Found<'a>,
-) -> Result<Found<'a>, NoMemory>
+    name: Token,
+    left: Found,
+    right: Found,
+) -> Result<Found, NoMemory>
     requires { IsShallow left.depth × IsShallow right.depth }
-    ensures { IfOk result (IsRoundBoth (part (word_text word.entry)) left.entry right.entry) }
+    ensures { (words : List Text) →
+        IfOk result (IsRoundBoth words (part (token_text words name)) left right) }
 {
     Ok(Found {
         depth: 1 + larger(left.depth, right.depth),
         tree: Expression::Part {
-            name: word,
+            name,
             left: Box::new(alloc, left.tree)?,
             right: Box::new(alloc, right.tree)?,
         },
@@ -157,9 +156,9 @@ pub fn part_selected<'a>(
 }
 
 /// `{part, ..}` (5.1.14)
-pub fn joined<'a>(at: u32, parts: Parts<'a>) -> Found<'a>
+pub fn joined(at: u32, parts: Parts) -> Found
     requires { IsShallow parts.depth }
-    ensures { IsJoined parts.entry result }
+    ensures { (words : List Text) → IsJoined words parts result }
 {
     Found {
         depth: 1 + parts.depth,
@@ -171,14 +170,9 @@ pub fn joined<'a>(at: u32, parts: Parts<'a>) -> Found<'a>
 }
 
 /// `{count{part, ..}}` (5.1.14)
-pub fn repeated<'a>(
-    alloc: Global,
-    at: u32,
-    count: Found<'a>,
-    parts: Parts<'a>,
-) -> Result<Found<'a>, NoMemory>
+pub fn repeated(alloc: Global, at: u32, count: Found, parts: Parts) -> Result<Found, NoMemory>
     requires { IsShallow count.depth × IsShallow parts.depth }
-    ensures { IfOk result (IsRepeated count.entry parts.entry) }
+    ensures { (words : List Text) → IfOk result (IsRepeated words count parts) }
 {
     Ok(Found {
         depth: 1 + larger(count.depth, parts.depth),

@@ -2,10 +2,8 @@
 
 ghost use Rattle.std.specs.Prelude.{IfOk, ◌≡◌, ◌+◌, ◌-◌, ◌<◌, ◌^◌};
 ghost use Rattle.basis.specs.Reasons.{IfFault};
-ghost use Rattle.vexpr_parse.specs.Reading.{expression as reading};
-ghost use Rattle.vexpr_parse.specs.Answers.{Finds, Reads, tree_in};
-ghost use Rattle.vexpr_parse.specs.Places.{IsFound, IsStopped};
-ghost use Rattle.vexpr_parse.specs.Rules.{FindsOver, expression_at};
+ghost use Rattle.vexpr_parse.specs.Answers.{Reads};
+ghost use Rattle.vexpr_parse.specs.Rules.{FindsAt, FindsRanked, IsFoundAt, IsStoppedAt, expression_at};
 
 use crate::cursor::Cursor;
 use crate::found::Found;
@@ -14,33 +12,36 @@ use crate::primary::primary;
 use crate::stop::Stop;
 use basis::OrMemory;
 use std::alloc::Global;
+use vlex::Tokens;
 
 // An expression of this rank at least, with so many levels below it.
-fn at_level<'a, F: Fn(&mut Cursor<'_, 'a>, u32) -> Result<Found<'a>, OrMemory<Stop>>>(
+fn at_level<F: Fn(&mut Cursor, u32) -> Result<Found, OrMemory<Stop>>>(
     alloc: Global,
     read: F,
     below: u32,
-    cursor: &mut Cursor<'_, 'a>,
+    tokens: &Tokens<'_>,
+    cursor: &mut Cursor,
     least: u32,
-) -> Result<Found<'a>, OrMemory<Stop>>
+) -> Result<Found, OrMemory<Stop>>
     requires callable { F.IsAlwaysCallable read }
-    requires reads { Reads below (F.post read) }
-    ensures { FindsOver below (expression_at below least cursor.old) cursor.new result }
+    requires reads { Reads tokens.now below (F.post read) }
+    ensures { FindsAt tokens.now below (expression_at below least) cursor.old cursor.new result }
 {
-    let first = primary(alloc, &read, below, cursor)?;
-    let left = operators(alloc, &read, below, cursor, least, first)?;
-    question(alloc, &read, below, cursor, least, left)
+    let first = primary(alloc, &read, below, tokens, cursor)?;
+    let left = operators(alloc, &read, below, tokens, cursor, least, first)?;
+    question(alloc, &read, below, tokens, cursor, least, left)
 }
 
 // An expression of so many levels at most, and of this rank at least.
 #[cycle(levels)]
-fn of_rank<'a>(
+fn of_rank(
     alloc: Global,
-    cursor: &mut Cursor<'_, 'a>,
+    tokens: &Tokens<'_>,
+    cursor: &mut Cursor,
     levels: u32,
     least: u32,
-) -> Result<Found<'a>, OrMemory<Stop>>
-    ensures { Finds levels (reading levels least cursor.old) cursor.new result }
+) -> Result<Found, OrMemory<Stop>>
+    ensures { FindsRanked tokens.now levels least cursor.old cursor.new result }
 {
     if levels == 0 {
         return Err(OrMemory::Fault(Stop::NoTree));
@@ -49,9 +50,10 @@ fn of_rank<'a>(
     at_level(
         alloc,
         |cursor, least|
-            ensures { Finds below (reading below least cursor.entry.now) cursor.exit.now result }
-        { of_rank(alloc, cursor, below, least) },
+            ensures { FindsRanked tokens.entry.now below least cursor.entry.now cursor.exit.now result }
+        { of_rank(alloc, tokens, cursor, below, least) },
         below,
+        tokens,
         cursor,
         least,
     )
@@ -60,15 +62,16 @@ fn of_rank<'a>(
 /// The longest expression at the front of the words, of so many levels at most, one or more. The cursor is left behind
 /// it, or at the first word with which the words before it begin none: of any depth (`NoTree`), or only for want of a
 /// level (`TooDeep`). Want of memory leaves it anywhere.
-pub fn expression<'a>(
+pub fn expression(
     alloc: Global,
-    cursor: &mut Cursor<'_, 'a>,
+    tokens: &Tokens<'_>,
+    cursor: &mut Cursor,
     levels: u32,
-) -> Result<Found<'a>, OrMemory<Stop>>
+) -> Result<Found, OrMemory<Stop>>
     requires { 0 < levels }
-    ensures reads { Finds levels (reading levels 0 cursor.old) cursor.new result }
-    ensures found { IfOk result (λ found. IsFound levels cursor.old cursor.new (tree_in found)) }
-    ensures stop { IfFault result (λ stop. IsStopped levels cursor.old cursor.new stop) }
+    ensures reads { FindsRanked tokens.now levels 0 cursor.old cursor.new result }
+    ensures found { IfOk result (IsFoundAt tokens.now levels cursor.old cursor.new) }
+    ensures stop { IfFault result (IsStoppedAt tokens.now levels cursor.old cursor.new) }
 {
-    of_rank(alloc, cursor, levels, 0)
+    of_rank(alloc, tokens, cursor, levels, 0)
 }

@@ -14,6 +14,6 @@ mod primary;
 mod stop;
 mod words;
 
-pub use cursor::Cursor;
+pub use cursor::{Cursor, Word};
 pub use levels::expression;
 pub use stop::Stop;

@@ -2,11 +2,11 @@
 
 ghost use Rattle.std.specs.Prelude.{◌≡◌, ◌+◌, ◌<◌, ◌^◌};
 ghost use Rattle.vexpr_parse.specs.Answers.{Heads, Reads};
-ghost use Rattle.vexpr_parse.specs.Rules.{FindsOver, enclosed_at, converted_at, operand_at, round_at, index_at, named_at, primary_at};
+ghost use Rattle.vexpr_parse.specs.Rules.{FindsAt, enclosed_at, converted_at, operand_at, round_at, FindsIndex, FindsNamed, primary_at};
 
 use crate::beginning::{Beginning, Round};
 use crate::braces::braces;
-use crate::cursor::Cursor;
+use crate::cursor::{Cursor, Word};
 use crate::found::{Found, applied, converted, in_parentheses, leaf, part_selected, selected};
 use crate::stop::Stop;
 use crate::words::beginning_of;
@@ -14,168 +14,179 @@ use basis::OrMemory;
 use std::alloc::Global;
 use vast::expression::{Expression, UnaryOperator};
 use vast::operators::UNARY_RANK;
-use vast::syntax::Word;
+use vast::token::Token;
+use vlex::Tokens;
 
 // An expression, and the parenthesis behind it.
-fn enclosed<'a, F: Fn(&mut Cursor<'_, 'a>, u32) -> Result<Found<'a>, OrMemory<Stop>>>(
+fn enclosed<F: Fn(&mut Cursor, u32) -> Result<Found, OrMemory<Stop>>>(
     alloc: Global,
     read: &F,
     below: u32,
-    cursor: &mut Cursor<'_, 'a>,
-) -> Result<Found<'a>, OrMemory<Stop>>
+    tokens: &Tokens<'_>,
+    cursor: &mut Cursor,
+) -> Result<Found, OrMemory<Stop>>
     requires callable { F.IsAlwaysCallable read.now }
-    requires reads { Reads below (F.post read.now) }
-    ensures { FindsOver below (enclosed_at below cursor.old) cursor.new result }
+    requires reads { Reads tokens.now below (F.post read.now) }
+    ensures { FindsAt tokens.now below (enclosed_at below) cursor.old cursor.new result }
 {
     let inner = read(cursor, 0)?;
-    cursor.symbol(b")")?;
+    cursor.symbol(tokens, b")")?;
     Ok(in_parentheses(alloc, inner)?)
 }
 
 // What follows `$signed` or `$unsigned` (5.5).
-fn conversion<'a, F: Fn(&mut Cursor<'_, 'a>, u32) -> Result<Found<'a>, OrMemory<Stop>>>(
+fn conversion<F: Fn(&mut Cursor, u32) -> Result<Found, OrMemory<Stop>>>(
     alloc: Global,
     read: &F,
     below: u32,
-    cursor: &mut Cursor<'_, 'a>,
+    tokens: &Tokens<'_>,
+    cursor: &mut Cursor,
     signed: bool,
-) -> Result<Found<'a>, OrMemory<Stop>>
+) -> Result<Found, OrMemory<Stop>>
     requires callable { F.IsAlwaysCallable read.now }
-    requires reads { Reads below (F.post read.now) }
-    ensures { FindsOver below (converted_at below signed cursor.old) cursor.new result }
+    requires reads { Reads tokens.now below (F.post read.now) }
+    ensures { FindsAt tokens.now below (converted_at below signed) cursor.old cursor.new result }
 {
-    cursor.symbol(b"(")?;
+    cursor.symbol(tokens, b"(")?;
     let operand = read(cursor, 0)?;
-    cursor.symbol(b")")?;
+    cursor.symbol(tokens, b")")?;
     Ok(converted(alloc, signed, operand)?)
 }
 
 // The operand of an operator (5.1).
-fn operand<'a, F: Fn(&mut Cursor<'_, 'a>, u32) -> Result<Found<'a>, OrMemory<Stop>>>(
+fn operand<F: Fn(&mut Cursor, u32) -> Result<Found, OrMemory<Stop>>>(
     alloc: Global,
     read: &F,
     below: u32,
-    cursor: &mut Cursor<'_, 'a>,
+    tokens: &Tokens<'_>,
+    cursor: &mut Cursor,
     operator: UnaryOperator,
-) -> Result<Found<'a>, OrMemory<Stop>>
+) -> Result<Found, OrMemory<Stop>>
     requires callable { F.IsAlwaysCallable read.now }
-    requires reads { Reads below (F.post read.now) }
-    ensures { FindsOver below (operand_at below operator cursor.old) cursor.new result }
+    requires reads { Reads tokens.now below (F.post read.now) }
+    ensures { FindsAt tokens.now below (operand_at below operator) cursor.old cursor.new result }
 {
     let operand = read(cursor, UNARY_RANK)?;
     Ok(applied(alloc, operator, operand)?)
 }
 
 // What follows a word that begins a tree round another; `at` is the number of that word.
-fn round<'a, F: Fn(&mut Cursor<'_, 'a>, u32) -> Result<Found<'a>, OrMemory<Stop>>>(
+fn round<F: Fn(&mut Cursor, u32) -> Result<Found, OrMemory<Stop>>>(
     alloc: Global,
     read: &F,
     below: u32,
-    cursor: &mut Cursor<'_, 'a>,
+    tokens: &Tokens<'_>,
+    cursor: &mut Cursor,
     at: u32,
     kind: Round,
-) -> Result<Found<'a>, OrMemory<Stop>>
+) -> Result<Found, OrMemory<Stop>>
     requires callable { F.IsAlwaysCallable read.now }
-    requires reads { Reads below (F.post read.now) }
-    ensures { FindsOver below (round_at below kind cursor.old) cursor.new result }
+    requires reads { Reads tokens.now below (F.post read.now) }
+    ensures { FindsAt tokens.now below (round_at below kind) cursor.old cursor.new result }
 {
     match kind {
-        Round::Parenthesis => enclosed(alloc, read, below, cursor),
-        Round::Brace => braces(alloc, read, below, cursor, at),
-        Round::Conversion(signed) => conversion(alloc, read, below, cursor, signed),
-        Round::Operator(operator) => operand(alloc, read, below, cursor, operator),
+        Round::Parenthesis => enclosed(alloc, read, below, tokens, cursor),
+        Round::Brace => braces(alloc, read, below, tokens, cursor, at),
+        Round::Conversion(signed) => conversion(alloc, read, below, tokens, cursor, signed),
+        Round::Operator(operator) => operand(alloc, read, below, tokens, cursor, operator),
     }
 }
 
 // What follows `name [` (5.2.1).
-fn index<'a, F: Fn(&mut Cursor<'_, 'a>, u32) -> Result<Found<'a>, OrMemory<Stop>>>(
+fn index<F: Fn(&mut Cursor, u32) -> Result<Found, OrMemory<Stop>>>(
     alloc: Global,
     read: &F,
     below: u32,
-    cursor: &mut Cursor<'_, 'a>,
-    name: Word<'a>,
-) -> Result<Found<'a>, OrMemory<Stop>>
+    tokens: &Tokens<'_>,
+    cursor: &mut Cursor,
+    name: Token,
+) -> Result<Found, OrMemory<Stop>>
     requires callable { F.IsAlwaysCallable read.now }
-    requires reads { Reads below (F.post read.now) }
-    ensures { FindsOver below (index_at below name.entry cursor.old) cursor.new result }
+    requires reads { Reads tokens.now below (F.post read.now) }
+    ensures { FindsIndex tokens.now below name cursor.old cursor.new result }
 {
     let index = read(cursor, 0)?;
-    if cursor.begins(b"]") {
-        cursor.pass();
+    if cursor.begins(tokens, b"]") {
+        cursor.pass(tokens);
         return Ok(selected(alloc, name, index)?);
     }
-    cursor.symbol(b":")?;
+    cursor.symbol(tokens, b":")?;
     let right = read(cursor, 0)?;
-    cursor.symbol(b"]")?;
+    cursor.symbol(tokens, b"]")?;
     Ok(part_selected(alloc, name, index, right)?)
 }
 
 // What follows a name.
-fn named<'a, F: Fn(&mut Cursor<'_, 'a>, u32) -> Result<Found<'a>, OrMemory<Stop>>>(
+fn named<F: Fn(&mut Cursor, u32) -> Result<Found, OrMemory<Stop>>>(
     alloc: Global,
     read: &F,
     below: u32,
-    cursor: &mut Cursor<'_, 'a>,
-    name: Word<'a>,
-) -> Result<Found<'a>, OrMemory<Stop>>
+    tokens: &Tokens<'_>,
+    cursor: &mut Cursor,
+    name: Token,
+) -> Result<Found, OrMemory<Stop>>
     requires callable { F.IsAlwaysCallable read.now }
-    requires reads { Reads below (F.post read.now) }
-    ensures { FindsOver below (named_at below name.entry cursor.old) cursor.new result }
+    requires reads { Reads tokens.now below (F.post read.now) }
+    ensures { FindsNamed tokens.now below name cursor.old cursor.new result }
 {
-    if cursor.begins(b"[") {
-        cursor.enter(below, 1)?;
-        index(alloc, read, below, cursor, name)
+    if cursor.begins(tokens, b"[") {
+        cursor.enter(tokens, below, 1)?;
+        index(alloc, read, below, tokens, cursor, name)
     } else {
         Ok(leaf(Expression::Name(name)))
     }
 }
 
 /// A tree that no binary operator makes, with so many levels below it.
-pub fn primary<'a, F: Fn(&mut Cursor<'_, 'a>, u32) -> Result<Found<'a>, OrMemory<Stop>>>(
+pub fn primary<F: Fn(&mut Cursor, u32) -> Result<Found, OrMemory<Stop>>>(
     alloc: Global,
     read: &F,
     below: u32,
-    cursor: &mut Cursor<'_, 'a>,
-) -> Result<Found<'a>, OrMemory<Stop>>
+    tokens: &Tokens<'_>,
+    cursor: &mut Cursor,
+) -> Result<Found, OrMemory<Stop>>
     requires callable { F.IsAlwaysCallable read.now }
-    requires reads { Reads below (F.post read.now) }
-    ensures { FindsOver below (primary_at below cursor.old) cursor.new result }
+    requires reads { Reads tokens.now below (F.post read.now) }
+    ensures { FindsAt tokens.now below (primary_at below) cursor.old cursor.new result }
 {
-    match cursor.word() {
+    match cursor.word(tokens) {
         None => Err(OrMemory::Fault(Stop::NoTree)),
-        Some(word) => led(alloc, read, below, cursor, word),
+        Some(word) => led(alloc, read, below, tokens, cursor, word),
     }
 }
 
 // The tree that begins with the word here.
-fn led<'a, F: Fn(&mut Cursor<'_, 'a>, u32) -> Result<Found<'a>, OrMemory<Stop>>>(
+fn led<F: Fn(&mut Cursor, u32) -> Result<Found, OrMemory<Stop>>>(
     alloc: Global,
     read: &F,
     below: u32,
-    cursor: &mut Cursor<'_, 'a>,
-    word: Word<'a>,
-) -> Result<Found<'a>, OrMemory<Stop>>
+    tokens: &Tokens<'_>,
+    cursor: &mut Cursor,
+    word: Word<'_>,
+) -> Result<Found, OrMemory<Stop>>
     requires callable { F.IsAlwaysCallable read.now }
-    requires reads { Reads below (F.post read.now) }
-    requires here { Heads cursor.old word }
-    ensures { FindsOver below (primary_at below cursor.old) cursor.new result }
+    requires reads { Reads tokens.now below (F.post read.now) }
+    requires here { Heads tokens.now cursor.old word }
+    ensures { FindsAt tokens.now below (primary_at below) cursor.old cursor.new result }
 {
     match beginning_of(word.text) {
         Beginning::Number => {
-            cursor.pass();
-            Ok(leaf(Expression::Number(word)))
+            cursor.pass(tokens);
+            Ok(leaf(Expression::Number(word.token)))
         }
         Beginning::Name => {
-            cursor.pass();
-            named(alloc, read, below, cursor, word)
+            cursor.pass(tokens);
+            named(alloc, read, below, tokens, cursor, word.token)
         }
         Beginning::Time => {
-            cursor.pass();
-            Ok(leaf(Expression::Time { at: word.at }))
+            cursor.pass(tokens);
+            Ok(leaf(Expression::Time {
+                at: word.token.number,
+            }))
         }
         Beginning::Round(kind) => {
-            cursor.enter(below, 1)?;
-            round(alloc, read, below, cursor, word.at, kind)
+            cursor.enter(tokens, below, 1)?;
+            round(alloc, read, below, tokens, cursor, word.token.number, kind)
         }
         Beginning::Other => Err(OrMemory::Fault(Stop::NoTree)),
     }

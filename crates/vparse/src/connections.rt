@@ -19,49 +19,52 @@ use vstatement_parse::values::ended;
 use vstatement_parse::words::named;
 
 // What stands behind `(`: a value, or none, and `)`.
-fn value_in<'a>(
+fn value_in(
     alloc: Global,
-    cursor: &mut Cursor<'_, 'a>,
-) -> Result<Option<Box<Expression<'a>>>, OrMemory<Stop>>
-    ensures { Gives value_part (reading.value_in cursor.old) cursor.new result }
+    tokens: &Tokens<'_>,
+    cursor: &mut Cursor,
+) -> Result<Option<Box<Expression>>, OrMemory<Stop>>
+    ensures { Gives value_part reading.value_in tokens.now cursor.old cursor.new result }
 {
-    if cursor.begins(b")") {
-        cursor.pass();
+    if cursor.begins(tokens, b")") {
+        cursor.pass(tokens);
         Ok(None)
     } else {
-        Ok(Some(ended(alloc, cursor, LEVELS, b")")?))
+        Ok(Some(ended(alloc, tokens, cursor, LEVELS, b")")?))
     }
 }
 
 // `.name(value)`, or `.name()`
 #[tactic(auto, using(crate::proofs::ConnectionParts::connection_made))]
-fn connection<'a>(
+fn connection(
     alloc: Global,
-    cursor: &mut Cursor<'_, 'a>,
-) -> Result<Connection<'a>, OrMemory<Stop>>
-    ensures { Gives connection_tree (reading.connection cursor.old) cursor.new result }
+    tokens: &Tokens<'_>,
+    cursor: &mut Cursor,
+) -> Result<Connection, OrMemory<Stop>>
+    ensures { Gives connection_tree reading.connection tokens.now cursor.old cursor.new result }
 {
-    cursor.symbol(b".")?;
-    let name = named(cursor)?;
-    cursor.symbol(b"(")?;
-    let value = value_in(alloc, cursor)?;
+    cursor.symbol(tokens, b".")?;
+    let name = named(tokens, cursor)?;
+    cursor.symbol(tokens, b"(")?;
+    let value = value_in(alloc, tokens, cursor)?;
     Ok(Connection { name, value })
 }
 
 // Connections by name, up to `)`.
 #[tactic(auto, using(crate::proofs::ListKinds::connection_fewer))]
-fn all_connections<'a>(
+fn all_connections(
     alloc: Global,
-    cursor: &mut Cursor<'_, 'a>,
-) -> Result<Vec<Connection<'a>>, OrMemory<Stop>>
+    tokens: &Tokens<'_>,
+    cursor: &mut Cursor,
+) -> Result<Vec<Connection>, OrMemory<Stop>>
     ensures { Gives (all_of connection_tree) (all_until (codes ")") reading.connection cursor.old) cursor.new result }
 {
-    let first = connection(alloc, cursor)?;
+    let first = connection(alloc, tokens, cursor)?;
     list_until(
         alloc,
         &|cursor|
-            ensures { Gives connection_tree (reading.connection cursor.entry.now) cursor.exit.now result }
-        { connection(alloc, cursor) },
+            ensures { Gives connection_tree reading.connection tokens.now cursor.entry.now cursor.exit.now result }
+        { connection(alloc, tokens, cursor) },
         cursor,
         first,
         b")",
@@ -69,72 +72,79 @@ fn all_connections<'a>(
 }
 
 // What stands behind the first parenthesis.
-fn connected<'a>(
+fn connected(
     alloc: Global,
-    cursor: &mut Cursor<'_, 'a>,
-) -> Result<Connections<'a>, OrMemory<Stop>>
-    ensures { Gives connections_tree (connections_in cursor.old) cursor.new result }
+    tokens: &Tokens<'_>,
+    cursor: &mut Cursor,
+) -> Result<Connections, OrMemory<Stop>>
+    ensures { Gives connections_tree connections_in tokens.now cursor.old cursor.new result }
 {
-    if cursor.begins(b".") {
-        Ok(Connections::ByName(all_connections(alloc, cursor)?))
-    } else if cursor.begins(b")") {
-        cursor.pass();
+    if cursor.begins(tokens, b".") {
+        Ok(Connections::ByName(all_connections(alloc, tokens, cursor)?))
+    } else if cursor.begins(tokens, b")") {
+        cursor.pass(tokens);
         Ok(Connections::ByOrder(Vec::new(alloc)))
     } else {
-        Ok(Connections::ByOrder(values(alloc, cursor)?))
+        Ok(Connections::ByOrder(values(alloc, tokens, cursor)?))
     }
 }
 
 /// Connections in parentheses.
 #[tactic(auto, using(crate::proofs::ModuleForms::gives_connections))]
-pub fn connections<'a>(
+pub fn connections(
     alloc: Global,
-    cursor: &mut Cursor<'_, 'a>,
-) -> Result<Connections<'a>, OrMemory<Stop>>
-    ensures { Gives connections_tree (reading.connections cursor.old) cursor.new result }
+    tokens: &Tokens<'_>,
+    cursor: &mut Cursor,
+) -> Result<Connections, OrMemory<Stop>>
+    ensures { Gives connections_tree reading.connections tokens.now cursor.old cursor.new result }
 {
-    cursor.symbol(b"(")?;
-    connected(alloc, cursor)
+    cursor.symbol(tokens, b"(")?;
+    connected(alloc, tokens, cursor)
 }
 
 /// `#` and connections, if they stand there.
-pub fn overrides<'a>(
+pub fn overrides(
     alloc: Global,
-    cursor: &mut Cursor<'_, 'a>,
-) -> Result<Option<Connections<'a>>, OrMemory<Stop>>
-    ensures { Gives (option_map connections_tree) (reading.overrides cursor.old) cursor.new result }
+    tokens: &Tokens<'_>,
+    cursor: &mut Cursor,
+) -> Result<Option<Connections>, OrMemory<Stop>>
+    ensures { Gives (option_map connections_tree) reading.overrides
+        tokens.now cursor.old cursor.new result }
 {
-    if cursor.begins(b"#") {
-        cursor.pass();
-        Ok(Some(connections(alloc, cursor)?))
+    if cursor.begins(tokens, b"#") {
+        cursor.pass(tokens);
+        Ok(Some(connections(alloc, tokens, cursor)?))
     } else {
         Ok(None)
     }
 }
 
 // `name(connections)`
-fn instance<'a>(alloc: Global, cursor: &mut Cursor<'_, 'a>) -> Result<Instance<'a>, OrMemory<Stop>>
-    ensures { Gives instance_tree (reading.instance_behind cursor.old) cursor.new result }
+fn instance(alloc: Global, tokens: &Tokens<'_>,
+    cursor: &mut Cursor) -> Result<Instance, OrMemory<Stop>>
+    ensures { Gives instance_tree reading.instance_behind tokens.now cursor.old cursor.new result }
 {
-    let name = named(cursor)?;
-    let connections = connections(alloc, cursor)?;
+    let name = named(tokens, cursor)?;
+    let connections = connections(alloc, tokens, cursor)?;
     Ok(Instance { name, connections })
 }
 
 /// Instances, up to `;`.
 #[tactic(auto, using(crate::proofs::ListKinds::instance_fewer))]
-pub fn instances<'a>(
+pub fn instances(
     alloc: Global,
-    cursor: &mut Cursor<'_, 'a>,
-) -> Result<Vec<Instance<'a>>, OrMemory<Stop>>
-    ensures { Gives (all_of instance_tree) (all_until (codes ";") reading.instance_behind cursor.old) cursor.new result }
+    tokens: &Tokens<'_>,
+    cursor: &mut Cursor,
+) -> Result<Vec<Instance>, OrMemory<Stop>>
+    ensures { Gives (all_of instance_tree) (all_until (codes ";") reading.instance_behind)
+        tokens.now cursor.old cursor.new result }
 {
-    let first = instance(alloc, cursor)?;
+    let first = instance(alloc, tokens, cursor)?;
     list_until(
         alloc,
         &|cursor|
-            ensures { Gives instance_tree (reading.instance_behind cursor.entry.now) cursor.exit.now result }
-        { instance(alloc, cursor) },
+            ensures { Gives instance_tree reading.instance_behind tokens.now cursor.entry.now cursor.exit.now result }
+        { instance(alloc, tokens, cursor) },
         cursor,
         first,
         b";",

@@ -17,41 +17,44 @@ use vstatement_parse::values::value as read_value;
 use vstatement_parse::words::named;
 
 /// `name = value`
-pub fn setting<'a>(
+pub fn setting(
     alloc: Global,
-    cursor: &mut Cursor<'_, 'a>,
-) -> Result<Setting<'a>, OrMemory<Stop>>
-    ensures { Gives setting_tree (reading.setting cursor.old) cursor.new result }
+    tokens: &Tokens<'_>,
+    cursor: &mut Cursor,
+) -> Result<Setting, OrMemory<Stop>>
+    ensures { Gives setting_tree reading.setting tokens.now cursor.old cursor.new result }
 {
-    let name = named(cursor)?;
-    cursor.symbol(b"=")?;
-    let value = read_value(alloc, cursor, LEVELS)?;
+    let name = named(tokens, cursor)?;
+    cursor.symbol(tokens, b"=")?;
+    let value = read_value(alloc, tokens, cursor, LEVELS)?;
     Ok(Setting { name, value })
 }
 
 // `= value`, if it stands there.
-fn optional_value<'a>(
+fn optional_value(
     alloc: Global,
-    cursor: &mut Cursor<'_, 'a>,
-) -> Result<Option<Box<Expression<'a>>>, OrMemory<Stop>>
-    ensures { Gives (option_map boxed_tree) (optional_value cursor.old) cursor.new result }
+    tokens: &Tokens<'_>,
+    cursor: &mut Cursor,
+) -> Result<Option<Box<Expression>>, OrMemory<Stop>>
+    ensures { Gives (option_map boxed_tree) optional_value tokens.now cursor.old cursor.new result }
 {
-    if cursor.begins(b"=") {
-        cursor.pass();
-        Ok(Some(read_value(alloc, cursor, LEVELS)?))
+    if cursor.begins(tokens, b"=") {
+        cursor.pass(tokens);
+        Ok(Some(read_value(alloc, tokens, cursor, LEVELS)?))
     } else {
         Ok(None)
     }
 }
 
 /// `name`, or `name = value`
-pub fn declared<'a>(
+pub fn declared(
     alloc: Global,
-    cursor: &mut Cursor<'_, 'a>,
-) -> Result<Declared<'a>, OrMemory<Stop>>
-    ensures { Gives declared_tree (reading.declared cursor.old) cursor.new result }
+    tokens: &Tokens<'_>,
+    cursor: &mut Cursor,
+) -> Result<Declared, OrMemory<Stop>>
+    ensures { Gives declared_tree reading.declared tokens.now cursor.old cursor.new result }
 {
-    let name = named(cursor)?;
-    let value = optional_value(alloc, cursor)?;
+    let name = named(tokens, cursor)?;
+    let value = optional_value(alloc, tokens, cursor)?;
     Ok(Declared { name, value })
 }

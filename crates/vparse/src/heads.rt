@@ -17,15 +17,16 @@ use vast::module::{HeadParameter, ParameterType};
 use vexpr_parse::{Cursor, Stop};
 
 // `parameter type name = value`
-fn first_parameter<'a>(
+fn first_parameter(
     alloc: Global,
-    cursor: &mut Cursor<'_, 'a>,
-) -> Result<HeadParameter<'a>, OrMemory<Stop>>
-    ensures { Gives head_tree (reading.first_parameter cursor.old) cursor.new result }
+    tokens: &Tokens<'_>,
+    cursor: &mut Cursor,
+) -> Result<HeadParameter, OrMemory<Stop>>
+    ensures { Gives head_tree reading.first_parameter tokens.now cursor.old cursor.new result }
 {
-    cursor.symbol(b"parameter")?;
-    let kind = parameter_type(alloc, cursor)?;
-    let setting = setting(alloc, cursor)?;
+    cursor.symbol(tokens, b"parameter")?;
+    let kind = parameter_type(alloc, tokens, cursor)?;
+    let setting = setting(alloc, tokens, cursor)?;
     Ok(HeadParameter {
         kind: Some(kind),
         setting,
@@ -33,45 +34,48 @@ fn first_parameter<'a>(
 }
 
 // `parameter type`, if it stands there.
-fn optional_type<'a>(
+fn optional_type(
     alloc: Global,
-    cursor: &mut Cursor<'_, 'a>,
-) -> Result<Option<ParameterType<'a>>, OrMemory<Stop>>
-    ensures { Gives (option_map type_tree) (optional_type cursor.old) cursor.new result }
+    tokens: &Tokens<'_>,
+    cursor: &mut Cursor,
+) -> Result<Option<ParameterType>, OrMemory<Stop>>
+    ensures { Gives (option_map type_tree) optional_type tokens.now cursor.old cursor.new result }
 {
-    if cursor.begins(b"parameter") {
-        cursor.pass();
-        Ok(Some(parameter_type(alloc, cursor)?))
+    if cursor.begins(tokens, b"parameter") {
+        cursor.pass(tokens);
+        Ok(Some(parameter_type(alloc, tokens, cursor)?))
     } else {
         Ok(None)
     }
 }
 
 // A parameter behind a comma.
-fn head_parameter<'a>(
+fn head_parameter(
     alloc: Global,
-    cursor: &mut Cursor<'_, 'a>,
-) -> Result<HeadParameter<'a>, OrMemory<Stop>>
-    ensures { Gives head_tree (reading.head_parameter cursor.old) cursor.new result }
+    tokens: &Tokens<'_>,
+    cursor: &mut Cursor,
+) -> Result<HeadParameter, OrMemory<Stop>>
+    ensures { Gives head_tree reading.head_parameter tokens.now cursor.old cursor.new result }
 {
-    let kind = optional_type(alloc, cursor)?;
-    let setting = setting(alloc, cursor)?;
+    let kind = optional_type(alloc, tokens, cursor)?;
+    let setting = setting(alloc, tokens, cursor)?;
     Ok(HeadParameter { kind, setting })
 }
 
 // What stands behind the first parenthesis.
-fn heads_in<'a>(
+fn heads_in(
     alloc: Global,
-    cursor: &mut Cursor<'_, 'a>,
-) -> Result<Vec<HeadParameter<'a>>, OrMemory<Stop>>
-    ensures { Gives (all_of head_tree) (heads_in cursor.old) cursor.new result }
+    tokens: &Tokens<'_>,
+    cursor: &mut Cursor,
+) -> Result<Vec<HeadParameter>, OrMemory<Stop>>
+    ensures { Gives (all_of head_tree) heads_in tokens.now cursor.old cursor.new result }
 {
-    let first = first_parameter(alloc, cursor)?;
+    let first = first_parameter(alloc, tokens, cursor)?;
     list_until(
         alloc,
         &|cursor|
-            ensures { Gives head_tree (reading.head_parameter cursor.entry.now) cursor.exit.now result }
-        { head_parameter(alloc, cursor) },
+            ensures { Gives head_tree reading.head_parameter tokens.now cursor.entry.now cursor.exit.now result }
+        { head_parameter(alloc, tokens, cursor) },
         cursor,
         first,
         b")",
@@ -80,26 +84,30 @@ fn heads_in<'a>(
 
 // What stands behind `#`.
 #[tactic(auto, using(crate::proofs::ModuleForms::gives_heads))]
-fn head_parameters<'a>(
+fn head_parameters(
     alloc: Global,
-    cursor: &mut Cursor<'_, 'a>,
-) -> Result<Vec<HeadParameter<'a>>, OrMemory<Stop>>
-    ensures { Gives (all_of head_tree) (made parts.head_list_of reading.head_parameters cursor.old) cursor.new result }
+    tokens: &Tokens<'_>,
+    cursor: &mut Cursor,
+) -> Result<Vec<HeadParameter>, OrMemory<Stop>>
+    ensures { Gives (all_of head_tree) (made parts.head_list_of reading.head_parameters)
+        tokens.now cursor.old cursor.new result }
 {
-    cursor.symbol(b"(")?;
-    heads_in(alloc, cursor)
+    cursor.symbol(tokens, b"(")?;
+    heads_in(alloc, tokens, cursor)
 }
 
 /// `#` and parameters, if they stand there.
-pub fn optional_heads<'a>(
+pub fn optional_heads(
     alloc: Global,
-    cursor: &mut Cursor<'_, 'a>,
-) -> Result<Option<Vec<HeadParameter<'a>>>, OrMemory<Stop>>
-    ensures { Gives (option_map (all_of head_tree)) (optional_heads cursor.old) cursor.new result }
+    tokens: &Tokens<'_>,
+    cursor: &mut Cursor,
+) -> Result<Option<Vec<HeadParameter>>, OrMemory<Stop>>
+    ensures { Gives (option_map (all_of head_tree)) optional_heads
+        tokens.now cursor.old cursor.new result }
 {
-    if cursor.begins(b"#") {
-        cursor.pass();
-        Ok(Some(head_parameters(alloc, cursor)?))
+    if cursor.begins(tokens, b"#") {
+        cursor.pass(tokens);
+        Ok(Some(head_parameters(alloc, tokens, cursor)?))
     } else {
         Ok(None)
     }

@@ -8,10 +8,11 @@ use std::alloc::Global;
 use vexpr_parse::{Cursor, Stop};
 
 /// What stands behind the first one, a comma before each, with the first one.
-pub fn list_behind<'a, T: Drop, F: Fn(&mut Cursor<'_, 'a>) -> Result<T, OrMemory<Stop>>>(
+pub fn list_behind<T: Drop, F: Fn(&mut Cursor) -> Result<T, OrMemory<Stop>>>(
     alloc: Global,
     read: &F,
-    cursor: &mut Cursor<'_, 'a>,
+    tokens: &Tokens<'_>,
+    cursor: &mut Cursor,
     first: T,
 ) -> Result<Vec<T>, OrMemory<Stop>>
     requires callable { F.IsAlwaysCallable read.now }
@@ -20,8 +21,8 @@ pub fn list_behind<'a, T: Drop, F: Fn(&mut Cursor<'_, 'a>) -> Result<T, OrMemory
 {
     let mut list: Vec<T> = Vec::new(alloc);
     list.push(first)?;
-    'list: while cursor.begins(b",") {
-        cursor.pass();
+    'list: while cursor.begins(tokens, b",") {
+        cursor.pass(tokens);
         let one = read(cursor)?;
         list.push(one)?;
     }
@@ -29,10 +30,11 @@ pub fn list_behind<'a, T: Drop, F: Fn(&mut Cursor<'_, 'a>) -> Result<T, OrMemory
 }
 
 /// What stands behind the first one, with the first one, up to this very word, which is passed.
-pub fn list_until<'a, T: Drop, F: Fn(&mut Cursor<'_, 'a>) -> Result<T, OrMemory<Stop>>>(
+pub fn list_until<T: Drop, F: Fn(&mut Cursor) -> Result<T, OrMemory<Stop>>>(
     alloc: Global,
     read: &F,
-    cursor: &mut Cursor<'_, 'a>,
+    tokens: &Tokens<'_>,
+    cursor: &mut Cursor,
     first: T,
     text: &[u8],
 ) -> Result<Vec<T>, OrMemory<Stop>>
@@ -40,7 +42,7 @@ pub fn list_until<'a, T: Drop, F: Fn(&mut Cursor<'_, 'a>) -> Result<T, OrMemory<
     requires fewer { NeverMore (F.post read.now) }
     ensures { ListsUntil (F.post read.now) first text.now cursor.old cursor.new result }
 {
-    let list = list_behind(alloc, read, cursor, first)?;
-    cursor.symbol(text)?;
+    let list = list_behind(alloc, read, tokens, cursor, first)?;
+    cursor.symbol(tokens, text)?;
     Ok(list)
 }

@@ -16,21 +16,22 @@ use basis::OrMemory;
 use std::alloc::Global;
 use vast::module::{DeclarationKind, ModuleItem, NetKind};
 use vast::statement::Statement;
-use vast::syntax::Word;
+use vast::token::Token;
 use vexpr_parse::{Cursor, Stop};
 use vstatement_parse::words::named;
 
 // Behind `parameter` or `localparam`.
-fn parameters<'a>(
+fn parameters(
     alloc: Global,
-    cursor: &mut Cursor<'_, 'a>,
+    tokens: &Tokens<'_>,
+    cursor: &mut Cursor,
     at: u32,
     local: bool,
-) -> Result<ModuleItem<'a>, OrMemory<Stop>>
-    ensures { Gives item_tree (parameters_at local cursor.old) cursor.new result }
+) -> Result<ModuleItem, OrMemory<Stop>>
+    ensures { Gives item_tree (parameters_at local) tokens.now cursor.old cursor.new result }
 {
-    let kind = parameter_type(alloc, cursor)?;
-    let settings = settings(alloc, cursor)?;
+    let kind = parameter_type(alloc, tokens, cursor)?;
+    let settings = settings(alloc, tokens, cursor)?;
     Ok(ModuleItem::Parameters {
         at,
         local,
@@ -40,16 +41,17 @@ fn parameters<'a>(
 }
 
 // Behind `wire` or `reg`.
-fn variables<'a>(
+fn variables(
     alloc: Global,
-    cursor: &mut Cursor<'_, 'a>,
+    tokens: &Tokens<'_>,
+    cursor: &mut Cursor,
     at: u32,
     net: NetKind,
-) -> Result<ModuleItem<'a>, OrMemory<Stop>>
-    ensures { Gives item_tree (variables_at net cursor.old) cursor.new result }
+) -> Result<ModuleItem, OrMemory<Stop>>
+    ensures { Gives item_tree (variables_at net) tokens.now cursor.old cursor.new result }
 {
-    let kind = sign_and_range(alloc, cursor)?;
-    let declared = all_declared(alloc, cursor)?;
+    let kind = sign_and_range(alloc, tokens, cursor)?;
+    let declared = all_declared(alloc, tokens, cursor)?;
     Ok(ModuleItem::Declaration {
         at,
         kind: DeclarationKind::Variables { net, kind },
@@ -58,14 +60,15 @@ fn variables<'a>(
 }
 
 // Behind `integer`.
-fn integers<'a>(
+fn integers(
     alloc: Global,
-    cursor: &mut Cursor<'_, 'a>,
+    tokens: &Tokens<'_>,
+    cursor: &mut Cursor,
     at: u32,
-) -> Result<ModuleItem<'a>, OrMemory<Stop>>
-    ensures { Gives item_tree (integers_at cursor.old) cursor.new result }
+) -> Result<ModuleItem, OrMemory<Stop>>
+    ensures { Gives item_tree integers_at tokens.now cursor.old cursor.new result }
 {
-    let declared = all_declared(alloc, cursor)?;
+    let declared = all_declared(alloc, tokens, cursor)?;
     Ok(ModuleItem::Declaration {
         at,
         kind: DeclarationKind::Integers,
@@ -74,39 +77,43 @@ fn integers<'a>(
 }
 
 // Behind `event`.
-fn events<'a>(
+fn events(
     alloc: Global,
-    cursor: &mut Cursor<'_, 'a>,
+    tokens: &Tokens<'_>,
+    cursor: &mut Cursor,
     at: u32,
-) -> Result<ModuleItem<'a>, OrMemory<Stop>>
-    ensures { Gives item_tree (events_at cursor.old) cursor.new result }
+) -> Result<ModuleItem, OrMemory<Stop>>
+    ensures { Gives item_tree events_at tokens.now cursor.old cursor.new result }
 {
-    let names = names(alloc, cursor)?;
+    let names = names(alloc, tokens, cursor)?;
     Ok(ModuleItem::Events { at, names })
 }
 
 // Behind `assign`.
-fn assignments<'a>(
+fn assignments(
     alloc: Global,
-    cursor: &mut Cursor<'_, 'a>,
+    tokens: &Tokens<'_>,
+    cursor: &mut Cursor,
     at: u32,
-) -> Result<ModuleItem<'a>, OrMemory<Stop>>
-    ensures { Gives item_tree (assignments_at cursor.old) cursor.new result }
+) -> Result<ModuleItem, OrMemory<Stop>>
+    ensures { Gives item_tree assignments_at tokens.now cursor.old cursor.new result }
 {
-    let settings = settings(alloc, cursor)?;
+    let settings = settings(alloc, tokens, cursor)?;
     Ok(ModuleItem::Assignments { at, settings })
 }
 
 // Behind the name of the module that is taken.
-fn instances_of<'a>(
+fn instances_of(
     alloc: Global,
-    cursor: &mut Cursor<'_, 'a>,
-    taken: Word<'a>,
-) -> Result<ModuleItem<'a>, OrMemory<Stop>>
-    ensures { Gives item_tree (instances_at (word_text taken.entry) cursor.old) cursor.new result }
+    tokens: &Tokens<'_>,
+    cursor: &mut Cursor,
+    taken: Token,
+) -> Result<ModuleItem, OrMemory<Stop>>
+    ensures { Gives item_tree (instances_at (word_text taken.entry))
+        tokens.now cursor.old cursor.new result }
 {
-    let overrides = overrides(alloc, cursor)?;
-    let instances = instances(alloc, cursor)?;
+    let overrides = overrides(alloc, tokens, cursor)?;
+    let instances = instances(alloc, tokens, cursor)?;
     Ok(ModuleItem::Instances {
         module: taken,
         overrides,
@@ -114,91 +121,96 @@ fn instances_of<'a>(
     })
 }
 
-fn instances_item<'a>(
+fn instances_item(
     alloc: Global,
-    cursor: &mut Cursor<'_, 'a>,
-) -> Result<ModuleItem<'a>, OrMemory<Stop>>
-    ensures { Gives item_tree (instances_item cursor.old) cursor.new result }
+    tokens: &Tokens<'_>,
+    cursor: &mut Cursor,
+) -> Result<ModuleItem, OrMemory<Stop>>
+    ensures { Gives item_tree instances_item tokens.now cursor.old cursor.new result }
 {
-    let taken = named(cursor)?;
-    instances_of(alloc, cursor, taken)
+    let taken = named(tokens, cursor)?;
+    instances_of(alloc, tokens, cursor, taken)
 }
 
 // A process, or instances.
-fn process_item<'a, F: Fn(&mut Cursor<'_, 'a>) -> Result<Statement<'a>, OrMemory<Stop>>>(
+fn process_item<F: Fn(&mut Cursor) -> Result<Statement, OrMemory<Stop>>>(
     alloc: Global,
     read: &F,
-    cursor: &mut Cursor<'_, 'a>,
+    tokens: &Tokens<'_>,
+    cursor: &mut Cursor,
     at: u32,
-) -> Result<ModuleItem<'a>, OrMemory<Stop>>
+) -> Result<ModuleItem, OrMemory<Stop>>
     requires callable { F.IsAlwaysCallable read.now }
-    requires reads { ReadsStatements 64 (F.post read.now) }
-    ensures { Gives item_tree (process_item cursor.old) cursor.new result }
+    requires reads { ReadsStatements tokens.now 64 (F.post read.now) }
+    ensures { Gives item_tree process_item tokens.now cursor.old cursor.new result }
 {
-    if cursor.begins(b"initial") {
-        cursor.pass();
+    if cursor.begins(tokens, b"initial") {
+        cursor.pass(tokens);
         let statement = read(cursor)?;
         Ok(ModuleItem::Initial { at, statement })
-    } else if cursor.begins(b"always") {
-        cursor.pass();
+    } else if cursor.begins(tokens, b"always") {
+        cursor.pass(tokens);
         let statement = read(cursor)?;
         Ok(ModuleItem::Always { at, statement })
     } else {
-        instances_item(alloc, cursor)
+        instances_item(alloc, tokens, cursor)
     }
 }
 
 // A list behind one word, or what `process_item` reads.
-fn listed_item<'a, F: Fn(&mut Cursor<'_, 'a>) -> Result<Statement<'a>, OrMemory<Stop>>>(
+fn listed_item<F: Fn(&mut Cursor) -> Result<Statement, OrMemory<Stop>>>(
     alloc: Global,
     read: &F,
-    cursor: &mut Cursor<'_, 'a>,
+    tokens: &Tokens<'_>,
+    cursor: &mut Cursor,
     at: u32,
-) -> Result<ModuleItem<'a>, OrMemory<Stop>>
+) -> Result<ModuleItem, OrMemory<Stop>>
     requires callable { F.IsAlwaysCallable read.now }
-    requires reads { ReadsStatements 64 (F.post read.now) }
-    ensures { Gives item_tree (listed_item cursor.old) cursor.new result }
+    requires reads { ReadsStatements tokens.now 64 (F.post read.now) }
+    ensures { Gives item_tree listed_item tokens.now cursor.old cursor.new result }
 {
-    if cursor.begins(b"integer") {
-        cursor.pass();
-        integers(alloc, cursor, at)
-    } else if cursor.begins(b"event") {
-        cursor.pass();
-        events(alloc, cursor, at)
-    } else if cursor.begins(b"assign") {
-        cursor.pass();
-        assignments(alloc, cursor, at)
+    if cursor.begins(tokens, b"integer") {
+        cursor.pass(tokens);
+        integers(alloc, tokens, cursor, at)
+    } else if cursor.begins(tokens, b"event") {
+        cursor.pass(tokens);
+        events(alloc, tokens, cursor, at)
+    } else if cursor.begins(tokens, b"assign") {
+        cursor.pass(tokens);
+        assignments(alloc, tokens, cursor, at)
     } else {
-        process_item(alloc, read, cursor, at)
+        process_item(alloc, read, tokens, cursor, at)
     }
 }
 
 // Nets or variables, or what `listed_item` reads.
-fn variables_item<'a, F: Fn(&mut Cursor<'_, 'a>) -> Result<Statement<'a>, OrMemory<Stop>>>(
+fn variables_item<F: Fn(&mut Cursor) -> Result<Statement, OrMemory<Stop>>>(
     alloc: Global,
     read: &F,
-    cursor: &mut Cursor<'_, 'a>,
+    tokens: &Tokens<'_>,
+    cursor: &mut Cursor,
     at: u32,
-) -> Result<ModuleItem<'a>, OrMemory<Stop>>
+) -> Result<ModuleItem, OrMemory<Stop>>
     requires callable { F.IsAlwaysCallable read.now }
-    requires reads { ReadsStatements 64 (F.post read.now) }
-    ensures { Gives item_tree (variables_item cursor.old) cursor.new result }
+    requires reads { ReadsStatements tokens.now 64 (F.post read.now) }
+    ensures { Gives item_tree variables_item tokens.now cursor.old cursor.new result }
 {
-    match optional_net(cursor) {
-        Some(net) => variables(alloc, cursor, at, net),
-        None => listed_item(alloc, read, cursor, at),
+    match optional_net(tokens, cursor) {
+        Some(net) => variables(alloc, tokens, cursor, at, net),
+        None => listed_item(alloc, read, tokens, cursor, at),
     }
 }
 
 // `parameter` or `localparam`, if one stands there: whether it is the latter.
-fn optional_local(cursor: &mut Cursor<'_, '_>) -> Option<bool>
+fn optional_local(tokens: &Tokens<'_>,
+    cursor: &mut Cursor) -> Option<bool>
     ensures { local_reader cursor.old ≡ got result cursor.new }
 {
-    if cursor.begins(b"parameter") {
-        cursor.pass();
+    if cursor.begins(tokens, b"parameter") {
+        cursor.pass(tokens);
         Some(false)
-    } else if cursor.begins(b"localparam") {
-        cursor.pass();
+    } else if cursor.begins(tokens, b"localparam") {
+        cursor.pass(tokens);
         Some(true)
     } else {
         None
@@ -206,25 +218,27 @@ fn optional_local(cursor: &mut Cursor<'_, '_>) -> Option<bool>
 }
 
 // Parameters, or what `variables_item` reads.
-fn any_item<'a, F: Fn(&mut Cursor<'_, 'a>) -> Result<Statement<'a>, OrMemory<Stop>>>(
+fn any_item<F: Fn(&mut Cursor) -> Result<Statement, OrMemory<Stop>>>(
     alloc: Global,
     read: &F,
-    cursor: &mut Cursor<'_, 'a>,
+    tokens: &Tokens<'_>,
+    cursor: &mut Cursor,
     at: u32,
-) -> Result<ModuleItem<'a>, OrMemory<Stop>>
+) -> Result<ModuleItem, OrMemory<Stop>>
     requires callable { F.IsAlwaysCallable read.now }
-    requires reads { ReadsStatements 64 (F.post read.now) }
-    ensures { Gives item_tree (any_item cursor.old) cursor.new result }
+    requires reads { ReadsStatements tokens.now 64 (F.post read.now) }
+    ensures { Gives item_tree any_item tokens.now cursor.old cursor.new result }
 {
-    match optional_local(cursor) {
-        Some(local) => parameters(alloc, cursor, at, local),
-        None => variables_item(alloc, read, cursor, at),
+    match optional_local(tokens, cursor) {
+        Some(local) => parameters(alloc, tokens, cursor, at, local),
+        None => variables_item(alloc, read, tokens, cursor, at),
     }
 }
 
 // The number of the token here; 0 where none is.
-fn number_here(cursor: &Cursor<'_, '_>) -> u32 {
-    match cursor.word() {
+fn number_here(tokens: &Tokens<'_>,
+    cursor: &Cursor) -> u32 {
+    match cursor.word(tokens) {
         Some(word) => word.at,
         None => 0,
     }
@@ -232,15 +246,16 @@ fn number_here(cursor: &Cursor<'_, '_>) -> u32 {
 
 /// An item of a module, where this reads statements.
 #[tactic(auto, using(crate::proofs::ModuleForms::gives_item))]
-pub fn item<'a, F: Fn(&mut Cursor<'_, 'a>) -> Result<Statement<'a>, OrMemory<Stop>>>(
+pub fn item<F: Fn(&mut Cursor) -> Result<Statement, OrMemory<Stop>>>(
     alloc: Global,
     read: &F,
-    cursor: &mut Cursor<'_, 'a>,
-) -> Result<ModuleItem<'a>, OrMemory<Stop>>
+    tokens: &Tokens<'_>,
+    cursor: &mut Cursor,
+) -> Result<ModuleItem, OrMemory<Stop>>
     requires callable { F.IsAlwaysCallable read.now }
-    requires reads { ReadsStatements 64 (F.post read.now) }
-    ensures { Gives item_tree (reading.item cursor.old) cursor.new result }
+    requires reads { ReadsStatements tokens.now 64 (F.post read.now) }
+    ensures { Gives item_tree reading.item tokens.now cursor.old cursor.new result }
 {
-    let at = number_here(cursor);
-    any_item(alloc, read, cursor, at)
+    let at = number_here(tokens, cursor);
+    any_item(alloc, read, tokens, cursor, at)
 }

@@ -17,31 +17,34 @@ use basis::OrMemory;
 use std::alloc::Global;
 use vast::expression::Expression;
 use vast::module::{Declared, Setting};
-use vast::syntax::Word;
+use vast::token::Token;
 use vexpr_parse::{Cursor, Stop, expression};
 use vstatement_parse::words::named;
 
 // An expression that stands in no statement.
-fn value<'a>(alloc: Global, cursor: &mut Cursor<'_, 'a>) -> Result<Expression<'a>, OrMemory<Stop>>
-    ensures { Gives tree_of (reading.free_value cursor.old) cursor.new result }
+fn value(alloc: Global, tokens: &Tokens<'_>,
+    cursor: &mut Cursor) -> Result<Expression, OrMemory<Stop>>
+    ensures { Gives tree_of reading.free_value tokens.now cursor.old cursor.new result }
 {
-    Ok(expression(alloc, cursor, LEVELS)?.tree)
+    Ok(expression(alloc, tokens, cursor, LEVELS)?.tree)
 }
 
 /// Names with values, up to `;`.
 #[tactic(auto, using(crate::proofs::ListKinds::setting_fewer))]
-pub fn settings<'a>(
+pub fn settings(
     alloc: Global,
-    cursor: &mut Cursor<'_, 'a>,
-) -> Result<Vec<Setting<'a>>, OrMemory<Stop>>
-    ensures { Gives (all_of setting_tree) (all_until (codes ";") reading.setting cursor.old) cursor.new result }
+    tokens: &Tokens<'_>,
+    cursor: &mut Cursor,
+) -> Result<Vec<Setting>, OrMemory<Stop>>
+    ensures { Gives (all_of setting_tree) (all_until (codes ";") reading.setting)
+        tokens.now cursor.old cursor.new result }
 {
-    let first = setting(alloc, cursor)?;
+    let first = setting(alloc, tokens, cursor)?;
     list_until(
         alloc,
         &|cursor|
-            ensures { Gives setting_tree (reading.setting cursor.entry.now) cursor.exit.now result }
-        { setting(alloc, cursor) },
+            ensures { Gives setting_tree reading.setting tokens.now cursor.entry.now cursor.exit.now result }
+        { setting(alloc, tokens, cursor) },
         cursor,
         first,
         b";",
@@ -50,18 +53,20 @@ pub fn settings<'a>(
 
 /// Names, with values or without, up to `;`.
 #[tactic(auto, using(crate::proofs::ListKinds::declared_fewer))]
-pub fn all_declared<'a>(
+pub fn all_declared(
     alloc: Global,
-    cursor: &mut Cursor<'_, 'a>,
-) -> Result<Vec<Declared<'a>>, OrMemory<Stop>>
-    ensures { Gives (all_of declared_tree) (all_until (codes ";") reading.declared cursor.old) cursor.new result }
+    tokens: &Tokens<'_>,
+    cursor: &mut Cursor,
+) -> Result<Vec<Declared>, OrMemory<Stop>>
+    ensures { Gives (all_of declared_tree) (all_until (codes ";") reading.declared)
+        tokens.now cursor.old cursor.new result }
 {
-    let first = declared(alloc, cursor)?;
+    let first = declared(alloc, tokens, cursor)?;
     list_until(
         alloc,
         &|cursor|
-            ensures { Gives declared_tree (reading.declared cursor.entry.now) cursor.exit.now result }
-        { declared(alloc, cursor) },
+            ensures { Gives declared_tree reading.declared tokens.now cursor.entry.now cursor.exit.now result }
+        { declared(alloc, tokens, cursor) },
         cursor,
         first,
         b";",
@@ -70,18 +75,20 @@ pub fn all_declared<'a>(
 
 /// Names, up to `;`.
 #[tactic(auto, using(crate::proofs::ListKinds::named_fewer))]
-pub fn names<'a>(
+pub fn names(
     alloc: Global,
-    cursor: &mut Cursor<'_, 'a>,
-) -> Result<Vec<Word<'a>>, OrMemory<Stop>>
-    ensures { Gives (all_of word_text) (all_until (codes ";") reading_words.named cursor.old) cursor.new result }
+    tokens: &Tokens<'_>,
+    cursor: &mut Cursor,
+) -> Result<Vec<Token>, OrMemory<Stop>>
+    ensures { Gives (all_of word_text) (all_until (codes ";") reading_words.named)
+        tokens.now cursor.old cursor.new result }
 {
-    let first = named(cursor)?;
+    let first = named(tokens, cursor)?;
     list_until(
         alloc,
         &|cursor|
-            ensures { Gives word_text (reading_words.named cursor.entry.now) cursor.exit.now result }
-        { named(cursor) },
+            ensures { Gives word_text reading_words.named tokens.now cursor.entry.now cursor.exit.now result }
+        { named(tokens, cursor) },
         cursor,
         first,
         b";",
@@ -90,18 +97,19 @@ pub fn names<'a>(
 
 /// Expressions, up to `)`.
 #[tactic(auto, using(crate::proofs::ListKinds::value_fewer))]
-pub fn values<'a>(
+pub fn values(
     alloc: Global,
-    cursor: &mut Cursor<'_, 'a>,
-) -> Result<Vec<Expression<'a>>, OrMemory<Stop>>
+    tokens: &Tokens<'_>,
+    cursor: &mut Cursor,
+) -> Result<Vec<Expression>, OrMemory<Stop>>
     ensures { Gives (all_of tree_of) (all_until (codes ")") reading.free_value cursor.old) cursor.new result }
 {
-    let first = value(alloc, cursor)?;
+    let first = value(alloc, tokens, cursor)?;
     list_until(
         alloc,
         &|cursor|
-            ensures { Gives tree_of (reading.free_value cursor.entry.now) cursor.exit.now result }
-        { value(alloc, cursor) },
+            ensures { Gives tree_of reading.free_value tokens.now cursor.entry.now cursor.exit.now result }
+        { value(alloc, tokens, cursor) },
         cursor,
         first,
         b")",

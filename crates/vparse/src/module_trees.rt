@@ -14,66 +14,70 @@ use basis::OrMemory;
 use std::alloc::Global;
 use vast::module::{HeadParameter, ModuleItem, ModuleTree, Port};
 use vast::statement::Statement;
-use vast::syntax::Word;
+use vast::token::Token;
 use vexpr_parse::{Cursor, Stop};
 use vstatement_parse::words::named;
 
 // Whether the module goes on here.
-fn goes_on(cursor: &Cursor<'_, '_>) -> bool
+fn goes_on(tokens: &Tokens<'_>,
+    cursor: &Cursor) -> bool
     ensures { result ≡ not (is_front (codes "endmodule") (front cursor.now)) }
 {
-    !cursor.begins(b"endmodule")
+    !cursor.begins(tokens, b"endmodule")
 }
 
 // Items, up to `endmodule`.
 #[tactic(auto, using(crate::proofs::ItemTurns::items_stopped, crate::proofs::ItemTurns::items_ended))]
-fn all_items<'a, F: Fn(&mut Cursor<'_, 'a>) -> Result<Statement<'a>, OrMemory<Stop>>>(
+fn all_items<F: Fn(&mut Cursor) -> Result<Statement, OrMemory<Stop>>>(
     alloc: Global,
     read: &F,
-    cursor: &mut Cursor<'_, 'a>,
-) -> Result<Vec<ModuleItem<'a>>, OrMemory<Stop>>
+    tokens: &Tokens<'_>,
+    cursor: &mut Cursor,
+) -> Result<Vec<ModuleItem>, OrMemory<Stop>>
     requires callable { F.IsAlwaysCallable read.now }
-    requires reads { ReadsStatements 64 (F.post read.now) }
-    ensures { Gives (all_of item_tree) (all_items cursor.old) cursor.new result }
+    requires reads { ReadsStatements tokens.now 64 (F.post read.now) }
+    ensures { Gives (all_of item_tree) all_items tokens.now cursor.old cursor.new result }
 {
-    let mut items: Vec<ModuleItem<'a>> = Vec::new(alloc);
-    'items: while goes_on(cursor) {
-        let one = item(alloc, read, cursor)?;
+    let mut items: Vec<ModuleItem> = Vec::new(alloc);
+    'items: while goes_on(tokens, cursor) {
+        let one = item(alloc, read, tokens, cursor)?;
         items.push(one)?;
     }
     Ok(items)
 }
 
 // Items and `endmodule`, behind a semicolon.
-fn module_body<'a, F: Fn(&mut Cursor<'_, 'a>) -> Result<Statement<'a>, OrMemory<Stop>>>(
+fn module_body<F: Fn(&mut Cursor) -> Result<Statement, OrMemory<Stop>>>(
     alloc: Global,
     read: &F,
-    cursor: &mut Cursor<'_, 'a>,
-) -> Result<Vec<ModuleItem<'a>>, OrMemory<Stop>>
+    tokens: &Tokens<'_>,
+    cursor: &mut Cursor,
+) -> Result<Vec<ModuleItem>, OrMemory<Stop>>
     requires callable { F.IsAlwaysCallable read.now }
-    requires reads { ReadsStatements 64 (F.post read.now) }
-    ensures { Gives (all_of item_tree) (module_body cursor.old) cursor.new result }
+    requires reads { ReadsStatements tokens.now 64 (F.post read.now) }
+    ensures { Gives (all_of item_tree) module_body tokens.now cursor.old cursor.new result }
 {
-    cursor.symbol(b";")?;
-    let items = all_items(alloc, read, cursor)?;
-    cursor.symbol(b"endmodule")?;
+    cursor.symbol(tokens, b";")?;
+    let items = all_items(alloc, read, tokens, cursor)?;
+    cursor.symbol(tokens, b"endmodule")?;
     Ok(items)
 }
 
 // Behind the ports.
-fn module_with<'a, F: Fn(&mut Cursor<'_, 'a>) -> Result<Statement<'a>, OrMemory<Stop>>>(
+fn module_with<F: Fn(&mut Cursor) -> Result<Statement, OrMemory<Stop>>>(
     alloc: Global,
     read: &F,
-    cursor: &mut Cursor<'_, 'a>,
-    name: Word<'a>,
-    parameters: Option<Vec<HeadParameter<'a>>>,
-    ports: Option<Vec<Port<'a>>>,
-) -> Result<ModuleTree<'a>, OrMemory<Stop>>
+    tokens: &Tokens<'_>,
+    cursor: &mut Cursor,
+    name: Token,
+    parameters: Option<Vec<HeadParameter>>,
+    ports: Option<Vec<Port>>,
+) -> Result<ModuleTree, OrMemory<Stop>>
     requires callable { F.IsAlwaysCallable read.now }
-    requires reads { ReadsStatements 64 (F.post read.now) }
+    requires reads { ReadsStatements tokens.now 64 (F.post read.now) }
     ensures { GivesWith name.entry parameters.entry ports.entry cursor.old cursor.new result }
 {
-    let items = module_body(alloc, read, cursor)?;
+    let items = module_body(alloc, read, tokens, cursor)?;
     Ok(ModuleTree {
         name,
         parameters,
@@ -83,34 +87,36 @@ fn module_with<'a, F: Fn(&mut Cursor<'_, 'a>) -> Result<Statement<'a>, OrMemory<
 }
 
 // Behind the parameters.
-fn module_headed<'a, F: Fn(&mut Cursor<'_, 'a>) -> Result<Statement<'a>, OrMemory<Stop>>>(
+fn module_headed<F: Fn(&mut Cursor) -> Result<Statement, OrMemory<Stop>>>(
     alloc: Global,
     read: &F,
-    cursor: &mut Cursor<'_, 'a>,
-    name: Word<'a>,
-    parameters: Option<Vec<HeadParameter<'a>>>,
-) -> Result<ModuleTree<'a>, OrMemory<Stop>>
+    tokens: &Tokens<'_>,
+    cursor: &mut Cursor,
+    name: Token,
+    parameters: Option<Vec<HeadParameter>>,
+) -> Result<ModuleTree, OrMemory<Stop>>
     requires callable { F.IsAlwaysCallable read.now }
-    requires reads { ReadsStatements 64 (F.post read.now) }
+    requires reads { ReadsStatements tokens.now 64 (F.post read.now) }
     ensures { GivesHeaded name.entry parameters.entry cursor.old cursor.new result }
 {
-    let ports = optional_ports(alloc, cursor)?;
-    module_with(alloc, read, cursor, name, parameters, ports)
+    let ports = optional_ports(alloc, tokens, cursor)?;
+    module_with(alloc, read, tokens, cursor, name, parameters, ports)
 }
 
 /// A module, where this reads statements.
 #[tactic(auto, using(crate::proofs::ModuleForms::gives_module))]
-pub fn module_tree<'a, F: Fn(&mut Cursor<'_, 'a>) -> Result<Statement<'a>, OrMemory<Stop>>>(
+pub fn module_tree<F: Fn(&mut Cursor) -> Result<Statement, OrMemory<Stop>>>(
     alloc: Global,
     read: &F,
-    cursor: &mut Cursor<'_, 'a>,
-) -> Result<ModuleTree<'a>, OrMemory<Stop>>
+    tokens: &Tokens<'_>,
+    cursor: &mut Cursor,
+) -> Result<ModuleTree, OrMemory<Stop>>
     requires callable { F.IsAlwaysCallable read.now }
-    requires reads { ReadsStatements 64 (F.post read.now) }
-    ensures { Gives module_tree (reading.module_tree cursor.old) cursor.new result }
+    requires reads { ReadsStatements tokens.now 64 (F.post read.now) }
+    ensures { Gives module_tree reading.module_tree tokens.now cursor.old cursor.new result }
 {
-    cursor.symbol(b"module")?;
-    let name = named(cursor)?;
-    let parameters = optional_heads(alloc, cursor)?;
-    module_headed(alloc, read, cursor, name, parameters)
+    cursor.symbol(tokens, b"module")?;
+    let name = named(tokens, cursor)?;
+    let parameters = optional_heads(alloc, tokens, cursor)?;
+    module_headed(alloc, read, tokens, cursor, name, parameters)
 }

@@ -18,14 +18,15 @@ use vexpr_parse::{Cursor, Stop};
 use vstatement_parse::words::named;
 
 /// `wire` or `reg`, if one stands there.
-pub fn optional_net(cursor: &mut Cursor<'_, '_>) -> Option<NetKind>
+pub fn optional_net(tokens: &Tokens<'_>,
+    cursor: &mut Cursor) -> Option<NetKind>
     ensures { net_reader cursor.old ≡ got result cursor.new }
 {
-    if cursor.begins(b"wire") {
-        cursor.pass();
+    if cursor.begins(tokens, b"wire") {
+        cursor.pass(tokens);
         Some(NetKind::Wire)
-    } else if cursor.begins(b"reg") {
-        cursor.pass();
+    } else if cursor.begins(tokens, b"reg") {
+        cursor.pass(tokens);
         Some(NetKind::Reg)
     } else {
         None
@@ -33,65 +34,74 @@ pub fn optional_net(cursor: &mut Cursor<'_, '_>) -> Option<NetKind>
 }
 
 // What stands behind `input`.
-fn input<'a>(alloc: Global, cursor: &mut Cursor<'_, 'a>) -> Result<Direction<'a>, OrMemory<Stop>>
-    ensures { Gives direction_tree (made parts.direction_of input_parts cursor.old) cursor.new result }
+fn input(alloc: Global, tokens: &Tokens<'_>,
+    cursor: &mut Cursor) -> Result<Direction, OrMemory<Stop>>
+    ensures { Gives direction_tree (made parts.direction_of input_parts)
+        tokens.now cursor.old cursor.new result }
 {
-    let wire = optional(cursor, b"wire");
-    let kind = sign_and_range(alloc, cursor)?;
+    let wire = optional(tokens, cursor, b"wire");
+    let kind = sign_and_range(alloc, tokens, cursor)?;
     Ok(Direction::Input { wire, kind })
 }
 
 // What stands behind `output`.
-fn output<'a>(alloc: Global, cursor: &mut Cursor<'_, 'a>) -> Result<Direction<'a>, OrMemory<Stop>>
-    ensures { Gives direction_tree (made parts.direction_of output_parts cursor.old) cursor.new result }
+fn output(alloc: Global, tokens: &Tokens<'_>,
+    cursor: &mut Cursor) -> Result<Direction, OrMemory<Stop>>
+    ensures { Gives direction_tree (made parts.direction_of output_parts)
+        tokens.now cursor.old cursor.new result }
 {
-    let net = optional_net(cursor);
-    let kind = sign_and_range(alloc, cursor)?;
+    let net = optional_net(tokens, cursor);
+    let kind = sign_and_range(alloc, tokens, cursor)?;
     Ok(Direction::Output { net, kind })
 }
 
-fn direction<'a>(
+fn direction(
     alloc: Global,
-    cursor: &mut Cursor<'_, 'a>,
-) -> Result<Direction<'a>, OrMemory<Stop>>
-    ensures { Gives direction_tree (reading.direction cursor.old) cursor.new result }
+    tokens: &Tokens<'_>,
+    cursor: &mut Cursor,
+) -> Result<Direction, OrMemory<Stop>>
+    ensures { Gives direction_tree reading.direction tokens.now cursor.old cursor.new result }
 {
-    if cursor.begins(b"input") {
-        cursor.pass();
-        input(alloc, cursor)
+    if cursor.begins(tokens, b"input") {
+        cursor.pass(tokens);
+        input(alloc, tokens, cursor)
     } else {
-        cursor.symbol(b"output")?;
-        output(alloc, cursor)
+        cursor.symbol(tokens, b"output")?;
+        output(alloc, tokens, cursor)
     }
 }
 
 // Whether a direction begins here.
-fn is_direction(cursor: &Cursor<'_, '_>) -> bool
+fn is_direction(tokens: &Tokens<'_>,
+    cursor: &Cursor) -> bool
     ensures { result ≡ parts.is_direction (front cursor.now) }
 {
-    cursor.begins(b"input") || cursor.begins(b"output")
+    cursor.begins(tokens, b"input") || cursor.begins(tokens, b"output")
 }
 
 // A direction, if one stands there.
-fn optional_direction<'a>(
+fn optional_direction(
     alloc: Global,
-    cursor: &mut Cursor<'_, 'a>,
-) -> Result<Option<Direction<'a>>, OrMemory<Stop>>
-    ensures { Gives (option_map direction_tree) (optional_direction cursor.old) cursor.new result }
+    tokens: &Tokens<'_>,
+    cursor: &mut Cursor,
+) -> Result<Option<Direction>, OrMemory<Stop>>
+    ensures { Gives (option_map direction_tree) optional_direction
+        tokens.now cursor.old cursor.new result }
 {
-    if is_direction(cursor) {
-        Ok(Some(direction(alloc, cursor)?))
+    if is_direction(tokens, cursor) {
+        Ok(Some(direction(alloc, tokens, cursor)?))
     } else {
         Ok(None)
     }
 }
 
 // A port with its direction.
-fn first_port<'a>(alloc: Global, cursor: &mut Cursor<'_, 'a>) -> Result<Port<'a>, OrMemory<Stop>>
-    ensures { Gives port_tree (reading.first_port cursor.old) cursor.new result }
+fn first_port(alloc: Global, tokens: &Tokens<'_>,
+    cursor: &mut Cursor) -> Result<Port, OrMemory<Stop>>
+    ensures { Gives port_tree reading.first_port tokens.now cursor.old cursor.new result }
 {
-    let direction = direction(alloc, cursor)?;
-    let name = named(cursor)?;
+    let direction = direction(alloc, tokens, cursor)?;
+    let name = named(tokens, cursor)?;
     Ok(Port {
         direction: Some(direction),
         name,
@@ -99,27 +109,29 @@ fn first_port<'a>(alloc: Global, cursor: &mut Cursor<'_, 'a>) -> Result<Port<'a>
 }
 
 // A port behind a comma.
-fn port<'a>(alloc: Global, cursor: &mut Cursor<'_, 'a>) -> Result<Port<'a>, OrMemory<Stop>>
-    ensures { Gives port_tree (reading.port cursor.old) cursor.new result }
+fn port(alloc: Global, tokens: &Tokens<'_>,
+    cursor: &mut Cursor) -> Result<Port, OrMemory<Stop>>
+    ensures { Gives port_tree reading.port tokens.now cursor.old cursor.new result }
 {
-    let direction = optional_direction(alloc, cursor)?;
-    let name = named(cursor)?;
+    let direction = optional_direction(alloc, tokens, cursor)?;
+    let name = named(tokens, cursor)?;
     Ok(Port { direction, name })
 }
 
 // One port or more, up to `)`.
-fn some_ports<'a>(
+fn some_ports(
     alloc: Global,
-    cursor: &mut Cursor<'_, 'a>,
-) -> Result<Vec<Port<'a>>, OrMemory<Stop>>
-    ensures { Gives (all_of port_tree) (some_ports cursor.old) cursor.new result }
+    tokens: &Tokens<'_>,
+    cursor: &mut Cursor,
+) -> Result<Vec<Port>, OrMemory<Stop>>
+    ensures { Gives (all_of port_tree) some_ports tokens.now cursor.old cursor.new result }
 {
-    let first = first_port(alloc, cursor)?;
+    let first = first_port(alloc, tokens, cursor)?;
     list_until(
         alloc,
         &|cursor|
-            ensures { Gives port_tree (reading.port cursor.entry.now) cursor.exit.now result }
-        { port(alloc, cursor) },
+            ensures { Gives port_tree reading.port tokens.now cursor.entry.now cursor.exit.now result }
+        { port(alloc, tokens, cursor) },
         cursor,
         first,
         b")",
@@ -127,35 +139,39 @@ fn some_ports<'a>(
 }
 
 // What stands behind the first parenthesis.
-fn ports_in<'a>(alloc: Global, cursor: &mut Cursor<'_, 'a>) -> Result<Vec<Port<'a>>, OrMemory<Stop>>
-    ensures { Gives (all_of port_tree) (ports_in cursor.old) cursor.new result }
+fn ports_in(alloc: Global, tokens: &Tokens<'_>,
+    cursor: &mut Cursor) -> Result<Vec<Port>, OrMemory<Stop>>
+    ensures { Gives (all_of port_tree) ports_in tokens.now cursor.old cursor.new result }
 {
-    if cursor.begins(b")") {
-        cursor.pass();
+    if cursor.begins(tokens, b")") {
+        cursor.pass(tokens);
         Ok(Vec::new(alloc))
     } else {
-        some_ports(alloc, cursor)
+        some_ports(alloc, tokens, cursor)
     }
 }
 
 // Ports in parentheses.
 #[tactic(auto, using(crate::proofs::ModuleForms::gives_ports))]
-fn ports<'a>(alloc: Global, cursor: &mut Cursor<'_, 'a>) -> Result<Vec<Port<'a>>, OrMemory<Stop>>
-    ensures { Gives (all_of port_tree) (reading.ports cursor.old) cursor.new result }
+fn ports(alloc: Global, tokens: &Tokens<'_>,
+    cursor: &mut Cursor) -> Result<Vec<Port>, OrMemory<Stop>>
+    ensures { Gives (all_of port_tree) reading.ports tokens.now cursor.old cursor.new result }
 {
-    cursor.symbol(b"(")?;
-    ports_in(alloc, cursor)
+    cursor.symbol(tokens, b"(")?;
+    ports_in(alloc, tokens, cursor)
 }
 
 /// Ports in parentheses, if they stand there.
-pub fn optional_ports<'a>(
+pub fn optional_ports(
     alloc: Global,
-    cursor: &mut Cursor<'_, 'a>,
-) -> Result<Option<Vec<Port<'a>>>, OrMemory<Stop>>
-    ensures { Gives (option_map (all_of port_tree)) (optional_ports cursor.old) cursor.new result }
+    tokens: &Tokens<'_>,
+    cursor: &mut Cursor,
+) -> Result<Option<Vec<Port>>, OrMemory<Stop>>
+    ensures { Gives (option_map (all_of port_tree)) optional_ports
+        tokens.now cursor.old cursor.new result }
 {
-    if cursor.begins(b"(") {
-        Ok(Some(ports(alloc, cursor)?))
+    if cursor.begins(tokens, b"(") {
+        Ok(Some(ports(alloc, tokens, cursor)?))
     } else {
         Ok(None)
     }

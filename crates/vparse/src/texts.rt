@@ -24,10 +24,11 @@ use vexpr_parse::{Cursor, Stop};
 use vlex::Tokens;
 
 // Whether a word is left.
-fn is_left(cursor: &Cursor<'_, '_>) -> bool
+fn is_left(tokens: &Tokens<'_>,
+    cursor: &Cursor) -> bool
     ensures { result ≡ is_some_word (front cursor.now) }
 {
-    match cursor.word() {
+    match cursor.word(tokens) {
         None => false,
         Some(_word) => true,
     }
@@ -35,18 +36,19 @@ fn is_left(cursor: &Cursor<'_, '_>) -> bool
 
 /// The modules of a text, to its end, where this reads statements.
 #[tactic(auto, using(crate::proofs::ItemTurns::source_is, crate::proofs::ItemTurns::modules_stopped, crate::proofs::ItemTurns::modules_ended))]
-pub fn source<'a, F: Fn(&mut Cursor<'_, 'a>) -> Result<Statement<'a>, OrMemory<Stop>>>(
+pub fn source<F: Fn(&mut Cursor) -> Result<Statement, OrMemory<Stop>>>(
     alloc: Global,
     read: &F,
-    cursor: &mut Cursor<'_, 'a>,
-) -> Result<Vec<ModuleTree<'a>>, OrMemory<Stop>>
+    tokens: &Tokens<'_>,
+    cursor: &mut Cursor,
+) -> Result<Vec<ModuleTree>, OrMemory<Stop>>
     requires callable { F.IsAlwaysCallable read.now }
-    requires reads { ReadsStatements 64 (F.post read.now) }
-    ensures { Gives (all_of module_tree) (source cursor.old) cursor.new result }
+    requires reads { ReadsStatements tokens.now 64 (F.post read.now) }
+    ensures { Gives (all_of module_tree) source tokens.now cursor.old cursor.new result }
 {
-    let mut modules: Vec<ModuleTree<'a>> = Vec::new(alloc);
-    'modules: while is_left(cursor) {
-        let one = module_tree(alloc, read, cursor)?;
+    let mut modules: Vec<ModuleTree> = Vec::new(alloc);
+    'modules: while is_left(tokens, cursor) {
+        let one = module_tree(alloc, read, tokens, cursor)?;
         modules.push(one)?;
     }
     Ok(modules)
@@ -64,7 +66,8 @@ fn stands_outside(tokens: &Tokens<'_>, at: usize) -> bool
 }
 
 // What is wrong at the word where reading stopped.
-fn fault(tokens: &Tokens<'_>, cursor: &Cursor<'_, '_>, why: Stop) -> SyntaxFault
+fn fault(tokens: &Tokens<'_>, tokens: &Tokens<'_>,
+    cursor: &Cursor, why: Stop) -> SyntaxFault
     requires { source (words_of tokens.now) ≡ stop why cursor.now }
     ensures { IsRefusal tokens.now result }
 {
@@ -87,13 +90,13 @@ fn fault(tokens: &Tokens<'_>, cursor: &Cursor<'_, '_>, why: Stop) -> SyntaxFault
 /// where the word stands outside the profile, else E203 where it would stand inside more than 64 levels, else E201.
 /// E901 where a growth was refused.
 #[tactic(auto, using(crate::proofs::RefusalLaws::text_none, crate::proofs::RefusalLaws::text_stopped))]
-pub fn text<'a, F: Fn(&mut Cursor<'_, 'a>) -> Result<Statement<'a>, OrMemory<Stop>>>(
+pub fn text<F: Fn(&mut Cursor) -> Result<Statement, OrMemory<Stop>>>(
     alloc: Global,
     read: &F,
     tokens: &Tokens<'a>,
-) -> Result<TextTree<'a>, OrMemory<SyntaxFault>>
+) -> Result<TextTree, OrMemory<SyntaxFault>>
     requires callable { F.IsAlwaysCallable read.now }
-    requires reads { ReadsStatements 64 (F.post read.now) }
+    requires reads { ReadsStatements tokens.now 64 (F.post read.now) }
     ensures derives { IfOk result (λ text. DerivesText (words_of tokens.now) (source_tree text)) }
     ensures only { IfOk result (λ text. IsOnlyText (words_of tokens.now) (source_tree text)) }
     ensures none { IfFault result (λ fault. HasNoText (words_of tokens.now)) }

@@ -15,35 +15,38 @@ use vstatement_parse::values::{ended, value};
 /// How deep expressions and statements nest in a module (docs/LANGUAGE.md, "Depth").
 pub const LEVELS: u32 = 64;
 
-fn range<'a>(alloc: Global, cursor: &mut Cursor<'_, 'a>) -> Result<Bounds<'a>, OrMemory<Stop>>
-    ensures { Gives range_tree (reading.range cursor.old) cursor.new result }
+fn range(alloc: Global, tokens: &Tokens<'_>,
+    cursor: &mut Cursor) -> Result<Bounds, OrMemory<Stop>>
+    ensures { Gives range_tree reading.range tokens.now cursor.old cursor.new result }
 {
-    cursor.symbol(b"[")?;
-    let left = value(alloc, cursor, LEVELS)?;
-    cursor.symbol(b":")?;
-    let right = ended(alloc, cursor, LEVELS, b"]")?;
+    cursor.symbol(tokens, b"[")?;
+    let left = value(alloc, tokens, cursor, LEVELS)?;
+    cursor.symbol(tokens, b":")?;
+    let right = ended(alloc, tokens, cursor, LEVELS, b"]")?;
     Ok(Bounds { left, right })
 }
 
-fn optional_range<'a>(
+fn optional_range(
     alloc: Global,
-    cursor: &mut Cursor<'_, 'a>,
-) -> Result<Option<Bounds<'a>>, OrMemory<Stop>>
-    ensures { Gives (option_map range_tree) (optional_range cursor.old) cursor.new result }
+    tokens: &Tokens<'_>,
+    cursor: &mut Cursor,
+) -> Result<Option<Bounds>, OrMemory<Stop>>
+    ensures { Gives (option_map range_tree) optional_range tokens.now cursor.old cursor.new result }
 {
-    if cursor.begins(b"[") {
-        Ok(Some(range(alloc, cursor)?))
+    if cursor.begins(tokens, b"[") {
+        Ok(Some(range(alloc, tokens, cursor)?))
     } else {
         Ok(None)
     }
 }
 
 /// Whether this very word stands here, which is passed then.
-pub fn optional(cursor: &mut Cursor<'_, '_>, text: &[u8]) -> bool
+pub fn optional(tokens: &Tokens<'_>,
+    cursor: &mut Cursor, text: &[u8]) -> bool
     ensures { Tells text.now cursor.old cursor.new result }
 {
-    if cursor.begins(text) {
-        cursor.pass();
+    if cursor.begins(tokens, text) {
+        cursor.pass(tokens);
         true
     } else {
         false
@@ -51,28 +54,30 @@ pub fn optional(cursor: &mut Cursor<'_, '_>, text: &[u8]) -> bool
 }
 
 /// A sign and a range, each if it stands there.
-pub fn sign_and_range<'a>(
+pub fn sign_and_range(
     alloc: Global,
-    cursor: &mut Cursor<'_, 'a>,
-) -> Result<SignAndRange<'a>, OrMemory<Stop>>
-    ensures { Gives type_tree (reading.type cursor.old) cursor.new result }
+    tokens: &Tokens<'_>,
+    cursor: &mut Cursor,
+) -> Result<SignAndRange, OrMemory<Stop>>
+    ensures { Gives type_tree reading.type tokens.now cursor.old cursor.new result }
 {
-    let signed = optional(cursor, b"signed");
-    let range = optional_range(alloc, cursor)?;
+    let signed = optional(tokens, cursor, b"signed");
+    let range = optional_range(alloc, tokens, cursor)?;
     Ok(SignAndRange { signed, range })
 }
 
 /// The type of a parameter.
-pub fn parameter_type<'a>(
+pub fn parameter_type(
     alloc: Global,
-    cursor: &mut Cursor<'_, 'a>,
-) -> Result<ParameterType<'a>, OrMemory<Stop>>
-    ensures { Gives parameter_type (reading.parameter_type cursor.old) cursor.new result }
+    tokens: &Tokens<'_>,
+    cursor: &mut Cursor,
+) -> Result<ParameterType, OrMemory<Stop>>
+    ensures { Gives parameter_type reading.parameter_type tokens.now cursor.old cursor.new result }
 {
-    if cursor.begins(b"integer") {
-        cursor.pass();
+    if cursor.begins(tokens, b"integer") {
+        cursor.pass(tokens);
         Ok(ParameterType::Integer)
     } else {
-        Ok(ParameterType::Typed(sign_and_range(alloc, cursor)?))
+        Ok(ParameterType::Typed(sign_and_range(alloc, tokens, cursor)?))
     }
 }

@@ -175,9 +175,20 @@ const EXPLANATIONS: [Explanation; 27] = [
     },
 ];
 
-/// The explanation of a number as it is shown, `E` and three digits, if there is one.
+// The digits of a number: behind `E` or `e`, or alone.
+fn digits_of(shown: &str) -> &str {
+    if let Some(digits) = shown.strip_prefix("E") {
+        return digits;
+    }
+    match shown.strip_prefix("e") {
+        Some(digits) => digits,
+        None => shown,
+    }
+}
+
+/// The explanation of a number as it is shown, `E` and three digits, if there is one; a small `e` or none will do.
 pub fn explanation_of(shown: &str) -> Option<&'static Explanation> {
-    let digits = shown.strip_prefix("E")?;
+    let digits = digits_of(shown);
     if digits.len() != 3 {
         return None;
     }

@@ -6,7 +6,9 @@ use std::alloc::Global;
 use vmodel::history::Grain;
 
 const PAGES: &str =
-    "Pages, in the folder docs: LANGUAGE.md (what is read, commands, limits), SCHEDULING.md (steps, choices, logs), RACES.md (reports), FORMATS.md (dumps, logs, reports), FAULTS.md (numbers)";
+    "Pages, in the folder docs: LANGUAGE.md (what is read, commands, limits), SCHEDULING.md (steps, choices, logs), RACES.md (reports), FORMATS.md (dumps, logs, reports), FAULTS.md (numbers)
+
+Exit status: 0 where all was done; 1 where something in a report isn't true; 2 where the call was refused, with one line on standard error (vrace explain NUMBER says what it means)";
 
 /// What is to be run, and how.
 #[derive(Drop)]

@@ -15,8 +15,8 @@ use Rattle.vgrammar.specs.Parts.{one_way, made, paired, maybe, either, one_behin
 use Rattle.vgrammar.specs.Statements.{statement, value, word_only, comma_list, default_branch, branch, branch_of, branches_in, case_parts, case_parts_of}
 
 -- the labels of a branch
-abbrev pub all_labels : {T : Type 0} → Vec Expression T → List ExpressionTree
-all_labels labels = map tree_of labels.items
+abbrev pub all_labels : {T : Type 0} → List Text → Vec Expression T → List ExpressionTree
+all_labels words labels = map (tree_of words) labels.items
 
 -- the labels with the first one
 abbrev pub labels_behind : ℕ → ExpressionTree → Reader (List ExpressionTree)
@@ -47,8 +47,8 @@ branch_behind below seen =
 abbrev pub branch_at : ℕ → List BranchTree → Reader BranchTree
 branch_at below list = branch below (statement below) list
 
-abbrev pub all_branches : {T : Type 0} → Vec BranchWords T → List BranchTree
-all_branches branches = map branch_tree branches.items
+abbrev pub all_branches : {T : Type 0} → List Text → Vec BranchWords T → List BranchTree
+all_branches words branches = map (branch_tree words) branches.items
 
 abbrev pub not_endcase : Option Text → Bool
 not_endcase next = not (is_front (codes "endcase") next)

@@ -11,7 +11,10 @@ use Rattle.vast.specs.declared.expression.Expression.{Expression}
 use Rattle.basis.specs.declared.memory.OrMemory.{OrMemory}
 use Rattle.vexpr_parse.specs.declared.stop.Stop.{Stop}
 use Rattle.vexpr_parse.specs.Readers.{Answer, Reader, got, and_then, led, past, is_front, turns}
-use Rattle.vexpr_parse.specs.Answers.{Stops}
+use Rattle.vexpr_parse.specs.Answers.{Stops, ahead}
+use Rattle.vexpr_parse.specs.Texts.{words_of}
+use Rattle.vexpr_parse.specs.declared.cursor.Cursor.{Cursor}
+use Rattle.vlex.specs.Tokenized.{Tokenized}
 use Rattle.vast.specs.Statements.{TargetTree, joined, StatementTree, task, dump, forever, FurtherTerm, EventTree, SelectionTree, ArgumentTree}
 use Rattle.vgrammar.specs.Parts.{Both, both, other_way, made, maybe, paired, worded, one_behind, many}
 use Rattle.vgrammar.specs.Starts.{is_meant, edge_of, comma_of}
@@ -20,35 +23,39 @@ use Rattle.vast.specs.declared.statement.Path.{Path}
 use Rattle.vast.specs.declared.statement.FurtherTerm.{FurtherTerm as FurtherWords}
 use Rattle.vgrammar.specs.Statements.{select, target_of, target, targets_in, target_lead, named, word_only, trigger_of, numbered, end_of, end_parts, dump_file_of, dump_file_parts, statement, guarded_of, guarded, delayed_of, amount, term, further_term, event_of, enclosed_event, event_body_of, control, block_of, block_parts, path, selection, dump_vars_of, argument}
 use Rattle.vgrammar.specs.declared.start.Guard.{Guard}
-use Rattle.vast.specs.declared.syntax.Word.{Word}
-use Rattle.vast.specs.Trees.{word_text}
+use Rattle.vast.specs.declared.token.Token.{Token}
+use Rattle.vast.specs.TokenTexts.{token_text}
 use Rattle.vast.specs.declared.statement.Dumping.{Dumping}
 use Rattle.vstatement_parse.specs.declared.settings.Setting.{Setting}
 use Rattle.vast.specs.declared.statement.Argument.{Argument}
 use Rattle.vgrammar.specs.Lists.{all_until}
 
 -- what the definition reads is given, and what is behind it is left; or it stops there
-abbrev pub Gives : {A T : Type 0} → (T → A) → Answer A → List Text → Result T (OrMemory Stop) → Type 0
-Gives view answer left (Ok value) = answer ≡ got (view value) left
-Gives view answer left (Err e) = Stops answer left e
+abbrev pub Answered : {A T : Type 0} → (T → A) → Answer A → List Text → Result T (OrMemory Stop) → Type 0
+Answered view answer left (Ok value) = answer ≡ got (view value) left
+Answered view answer left (Err e) = Stops answer left e
+
+-- so of the words that are left of a text's tokens, and of trees that keep tokens by number
+abbrev pub Gives : {A T : Type 0} → (List Text → T → A) → Reader A → Tokenized → Cursor → Cursor → Result T (OrMemory Stop) → Type 0
+Gives view read tokens old new result = Answered (view (words_of tokens)) (read (ahead tokens old)) (ahead tokens new) result
 
 -- the tree of an expression, and that a word ended it
-abbrev pub ended_tree : {T : Type 0} → Box Expression T → Both ExpressionTree (Unit {0})
-ended_tree value = both (boxed_tree value) tt
+abbrev pub ended_tree : {T : Type 0} → List Text → Box Expression T → Both ExpressionTree (Unit {0})
+ended_tree words value = both (boxed_tree words value) tt
 
 -- a target with a select, behind its bracket
 abbrev pub selected_tree : Text → ℕ → Reader TargetTree
 selected_tree letters below = made (λ selected. target_of letters (Some selected)) (select below)
 
 -- each call reads as the definition does with so many levels
-abbrev pub ReadsTargets : ℕ → (MutBor (List Text) → Result Target (OrMemory Stop) → MutBor (List Text) → Type 0) → Type 0
-ReadsTargets below call =
-    (old new : MutBor (List Text)) (result : Result Target (OrMemory Stop)) → call old result new →
-    Gives target_tree (target below old.now) new.now result
+abbrev pub ReadsTargets : Tokenized → ℕ → (MutBor Cursor → Result Target (OrMemory Stop) → MutBor Cursor → Type 0) → Type 0
+ReadsTargets tokens below call =
+    (old new : MutBor Cursor) (result : Result Target (OrMemory Stop)) → call old result new →
+    Gives target_tree (target below) tokens old.now new.now result
 
 -- the trees of targets
-abbrev pub all_targets : {T : Type 0} → Vec Target T → List TargetTree
-all_targets targets = map target_tree targets.items
+abbrev pub all_targets : {T : Type 0} → List Text → Vec Target T → List TargetTree
+all_targets words targets = map (target_tree words) targets.items
 
 -- the targets behind those that were read
 abbrev pub targets_from : ℕ → List TargetTree → Reader (List TargetTree)
@@ -69,22 +76,22 @@ abbrev pub target_at : ℕ → Reader TargetTree
 target_at below = led (target_lead below (target below))
 
 -- what is read is what is given
-abbrev pub itself : {A : Type 0} → A → A
-itself tree = tree
+abbrev pub itself : {A : Type 0} → List Text → A → A
+itself words tree = tree
 
 -- behind ->
 abbrev pub trigger_at : Reader StatementTree
 trigger_at = made trigger_of (paired named (word_only (codes ";")))
 
 -- each call reads as the definition does with so many levels
-abbrev pub ReadsStatements : ℕ → (MutBor (List Text) → Result Statement (OrMemory Stop) → MutBor (List Text) → Type 0) → Type 0
-ReadsStatements below call =
-    (old new : MutBor (List Text)) (result : Result Statement (OrMemory Stop)) → call old result new →
-    Gives statement_tree (statement below old.now) new.now result
+abbrev pub ReadsStatements : Tokenized → ℕ → (MutBor Cursor → Result Statement (OrMemory Stop) → MutBor Cursor → Type 0) → Type 0
+ReadsStatements tokens below call =
+    (old new : MutBor Cursor) (result : Result Statement (OrMemory Stop)) → call old result new →
+    Gives statement_tree (statement below) tokens old.now new.now result
 
 -- what a for writes
-abbrev pub setting_tree : Setting → Both TargetTree ExpressionTree
-setting_tree setting = both (target_tree setting.target) (boxed_tree setting.value)
+abbrev pub setting_tree : List Text → Setting → Both TargetTree ExpressionTree
+setting_tree words setting = both (target_tree words setting.target) (boxed_tree words setting.value)
 
 -- behind $dumpon, and the like
 abbrev pub dump_at : Dumping → Reader StatementTree
@@ -95,11 +102,11 @@ abbrev pub dump_file_at : Reader StatementTree
 dump_file_at = made dump_file_of dump_file_parts
 
 -- a number between parentheses, or none
-abbrev pub ended_number : Word → Both Text (Unit {0})
-ended_number word = both (word_text word) tt
+abbrev pub ended_number : List Text → Token → Both Text (Unit {0})
+ended_number words word = both (token_text words word) tt
 
-abbrev pub numbers_tree : Option Word → Option (Both Text (Unit {0}))
-numbers_tree number = option_map ended_number number
+abbrev pub numbers_tree : List Text → Option Token → Option (Both Text (Unit {0}))
+numbers_tree words number = option_map (ended_number words) number
 
 abbrev pub optional_number_at : Reader (Option (Both Text (Unit {0})))
 optional_number_at = maybe (is_front (codes "(")) (past (codes "(") (paired numbered (word_only (codes ")"))))
@@ -125,8 +132,8 @@ abbrev pub delayed_at : ℕ → Reader StatementTree
 delayed_at below = made delayed_of (paired (amount below) (statement below))
 
 -- the further names whose changes are waited for
-abbrev pub all_further : {T : Type 0} → Vec FurtherWords T → List FurtherTerm
-all_further further = map further_tree further.items
+abbrev pub all_further : {T : Type 0} → List Text → Vec FurtherWords T → List FurtherTerm
+all_further words further = map (further_tree words) further.items
 
 abbrev pub further_terms : Reader (List FurtherTerm)
 further_terms = many (is_meant comma_of) (λ list. further_term)
@@ -143,22 +150,22 @@ abbrev pub event_at : ℕ → Reader StatementTree
 event_at below = made event_body_of (paired control (statement below))
 
 -- the statements of a block
-abbrev pub all_statements : {T : Type 0} → Vec Statement T → List StatementTree
-all_statements statements = map statement_tree statements.items
+abbrev pub all_statements : {T : Type 0} → List Text → Vec Statement T → List StatementTree
+all_statements words statements = map (statement_tree words) statements.items
 
 abbrev pub block_list : ℕ → Reader (List StatementTree)
 block_list below = many (λ next. not (is_front (codes "end") next)) (λ list. statement below)
 
-abbrev pub ended_list : {T : Type 0} → Vec Statement T → Both (List StatementTree) (Unit {0})
-ended_list statements = both (all_statements statements) tt
+abbrev pub ended_list : {T : Type 0} → List Text → Vec Statement T → Both (List StatementTree) (Unit {0})
+ended_list words statements = both (all_statements words statements) tt
 
 -- behind begin
 abbrev pub block_at : ℕ → Reader StatementTree
 block_at below = made block_of (block_parts (statement below))
 
 -- the names of a path
-abbrev pub all_names : {T : Type 0} → Vec Word T → List Text
-all_names names = map word_text names.items
+abbrev pub all_names : {T : Type 0} → List Text → Vec Token T → List Text
+all_names words names = map (token_text words) names.items
 
 -- the names with the first one
 abbrev pub names_behind : Text → Reader (List Text)
@@ -167,8 +174,8 @@ names_behind one = turns (one_behind (λ list. past (codes ".") named)) (is_fron
 abbrev pub path_at : Reader (List Text)
 path_at words = and_then (named words) names_behind
 
-abbrev pub all_paths : {T : Type 0} → Vec Path T → List (List Text)
-all_paths paths = map path_tree paths.items
+abbrev pub all_paths : {T : Type 0} → List Text → Vec Path T → List (List Text)
+all_paths words paths = map (path_tree words) paths.items
 
 abbrev pub paths_at : Reader (List (List Text))
 paths_at = many (is_front (codes ",")) (λ list. past (codes ",") path)
@@ -181,8 +188,8 @@ abbrev pub dump_vars_at : Reader StatementTree
 dump_vars_at = made dump_vars_of (paired optional_selection (word_only (codes ";")))
 
 -- what is printed
-abbrev pub all_arguments : {T : Type 0} → Vec Argument T → List ArgumentTree
-all_arguments arguments = map argument_tree arguments.items
+abbrev pub all_arguments : {T : Type 0} → List Text → Vec Argument T → List ArgumentTree
+all_arguments words arguments = map (argument_tree words) arguments.items
 
 -- the arguments with the first one
 abbrev pub arguments_behind : ℕ → ArgumentTree → Reader (List ArgumentTree)
@@ -191,3 +198,10 @@ arguments_behind below one = turns (one_behind (λ list. past (codes ",") (argum
 -- behind the parenthesis
 abbrev pub arguments_within : ℕ → Reader (List ArgumentTree)
 arguments_within below = all_until (codes ")") (argument below)
+
+-- what may be left out
+abbrev pub optional_delay_tree : List Text → Option Delay → Option DelayTree
+optional_delay_tree words amount = option_map (delay_tree words) amount
+
+abbrev pub optional_selection_tree : List Text → Option Selection → Option SelectionTree
+optional_selection_tree words selected = option_map (selection_tree words) selected

@@ -14,18 +14,18 @@ use Rattle.vstatement_parse.specs.declared.loops.Going.{Going}
 use Rattle.vstatement_parse.specs.Gives.{setting_tree}
 
 -- the tree of a statement behind a pointer
-abbrev pub body_tree : {A : Type 0} → Box Statement A → StatementTree
-body_tree body = statement_tree body.value
+abbrev pub body_tree : {A : Type 0} → List Text → Box Statement A → StatementTree
+body_tree words body = statement_tree words body.value
 
 -- what stands behind else, if it is there
 abbrev pub otherwise_at : ℕ → Reader (Option StatementTree)
 otherwise_at below = maybe (is_front (codes "else")) (past (codes "else") (statement below))
 
-abbrev pub optional_tree : {A : Type 0} → Option (Box Statement A) → Option StatementTree
-optional_tree body = option_map body_tree body
+abbrev pub optional_tree : {A : Type 0} → List Text → Option (Box Statement A) → Option StatementTree
+optional_tree words body = option_map (body_tree words) body
 
-abbrev pub choice_tree : Choice → Both StatementTree (Option StatementTree)
-choice_tree choice = both (body_tree choice.body) (optional_tree choice.other)
+abbrev pub choice_tree : List Text → Choice → Both StatementTree (Option StatementTree)
+choice_tree words choice = both (body_tree words choice.body) (optional_tree words choice.other)
 
 -- behind if
 abbrev pub if_at : ℕ → Reader StatementTree
@@ -35,15 +35,15 @@ if_at below = made if_of (guarded below (branches_of_if (statement below)))
 abbrev pub step_at : ℕ → Reader (Both (Both TargetTree ExpressionTree) StatementTree)
 step_at below = paired (setting below) (past (codes ")") (statement below))
 
-abbrev pub step_tree : Step → Both (Both TargetTree ExpressionTree) StatementTree
-step_tree step = both (setting_tree step.next) (body_tree step.body)
+abbrev pub step_tree : List Text → Step → Both (Both TargetTree ExpressionTree) StatementTree
+step_tree words step = both (setting_tree words step.next) (body_tree words step.body)
 
 -- behind the first semicolon of a for
 abbrev pub going_at : ℕ → Reader (Both ExpressionTree (Both (Both TargetTree ExpressionTree) StatementTree))
 going_at below = paired (value below) (past (codes ";") (step_at below))
 
-abbrev pub going_tree : Going → Both ExpressionTree (Both (Both TargetTree ExpressionTree) StatementTree)
-going_tree going = both (boxed_tree going.condition) (step_tree going.step)
+abbrev pub going_tree : List Text → Going → Both ExpressionTree (Both (Both TargetTree ExpressionTree) StatementTree)
+going_tree words going = both (boxed_tree words going.condition) (step_tree words going.step)
 
 -- behind for
 abbrev pub for_at : ℕ → Reader StatementTree

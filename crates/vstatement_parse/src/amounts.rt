@@ -11,25 +11,27 @@ use std::alloc::Global;
 use vast::statement::Delay;
 use vast::words::{is_name, is_number};
 use vexpr_parse::{Cursor, Stop};
+use vlex::Tokens;
 
 /// What stands behind `#`.
-pub fn amount<'a>(
+pub fn amount(
     alloc: Global,
-    cursor: &mut Cursor<'_, 'a>,
+    tokens: &Tokens<'_>,
+    cursor: &mut Cursor,
     below: u32,
-) -> Result<Delay<'a>, OrMemory<Stop>>
+) -> Result<Delay, OrMemory<Stop>>
     requires { 0 < below }
-    ensures { Gives delay_tree (reading.amount below cursor.old) cursor.new result }
+    ensures { Gives delay_tree (reading.amount below) tokens.now cursor.old cursor.new result }
 {
-    if let Some(word) = cursor.word() {
+    if let Some(word) = cursor.word(tokens) {
         if is_number(word.text) {
-            cursor.pass();
-            return Ok(Delay::Number(word));
+            cursor.pass(tokens);
+            return Ok(Delay::Number(word.token));
         }
         if is_name(word.text) {
-            cursor.pass();
-            return Ok(Delay::Name(word));
+            cursor.pass(tokens);
+            return Ok(Delay::Name(word.token));
         }
     }
-    Ok(Delay::Value(enclosed(alloc, cursor, below)?))
+    Ok(Delay::Value(enclosed(alloc, tokens, cursor, below)?))
 }

@@ -5,6 +5,7 @@ ghost use Rattle.vast.specs.StatementTrees.{argument_tree};
 ghost use Rattle.vexpr_parse.specs.Readers.{past};
 ghost use Rattle.vstatement_parse.specs.Gives.{Gives, all_arguments, arguments_behind, arguments_within};
 ghost use Rattle.vgrammar.specs.Statements as reading;
+ghost use Rattle.vexpr_parse.specs.Texts.{words_of};
 
 use crate::values::value;
 use crate::words::is_string;
@@ -12,70 +13,75 @@ use basis::OrMemory;
 use std::alloc::Global;
 use vast::statement::Argument;
 use vexpr_parse::{Cursor, Stop};
+use vlex::Tokens;
 
 // A string, or an expression.
-fn argument<'a>(
+fn argument(
     alloc: Global,
-    cursor: &mut Cursor<'_, 'a>,
+    tokens: &Tokens<'_>,
+    cursor: &mut Cursor,
     below: u32,
-) -> Result<Argument<'a>, OrMemory<Stop>>
+) -> Result<Argument, OrMemory<Stop>>
     requires { 0 < below }
-    ensures { Gives argument_tree (reading.argument below cursor.old) cursor.new result }
+    ensures { Gives argument_tree (reading.argument below) tokens.now cursor.old cursor.new result }
 {
-    if let Some(word) = cursor.word() {
+    if let Some(word) = cursor.word(tokens) {
         if is_string(word.text) {
-            cursor.pass();
-            return Ok(Argument::Text(word));
+            cursor.pass(tokens);
+            return Ok(Argument::Text(word.token));
         }
     }
-    Ok(Argument::Value(value(alloc, cursor, below)?))
+    Ok(Argument::Value(value(alloc, tokens, cursor, below)?))
 }
 
 // An argument, with the comma before it.
-fn further_argument<'a>(
+fn further_argument(
     alloc: Global,
-    cursor: &mut Cursor<'_, 'a>,
+    tokens: &Tokens<'_>,
+    cursor: &mut Cursor,
     below: u32,
-) -> Result<Argument<'a>, OrMemory<Stop>>
+) -> Result<Argument, OrMemory<Stop>>
     requires { 0 < below }
-    ensures { Gives argument_tree (past (codes ",") (reading.argument below)
-        cursor.old) cursor.new result }
+    ensures { Gives argument_tree (past (codes ",") (reading.argument below))
+        tokens.now cursor.old cursor.new result }
 {
-    cursor.symbol(b",")?;
-    argument(alloc, cursor, below)
+    cursor.symbol(tokens, b",")?;
+    argument(alloc, tokens, cursor, below)
 }
 
 // The arguments with the first one.
-fn more_arguments<'a>(
+fn more_arguments(
     alloc: Global,
-    cursor: &mut Cursor<'_, 'a>,
+    tokens: &Tokens<'_>,
+    cursor: &mut Cursor,
     below: u32,
-    first: Argument<'a>,
-) -> Result<Vec<Argument<'a>>, OrMemory<Stop>>
+    first: Argument,
+) -> Result<Vec<Argument>, OrMemory<Stop>>
     requires some { 0 < below }
-    ensures { Gives all_arguments (arguments_behind below (argument_tree first.entry)
-        cursor.old) cursor.new result }
+    ensures { Gives all_arguments (arguments_behind below (argument_tree (words_of tokens.now) first.entry))
+        tokens.now cursor.old cursor.new result }
 {
-    let mut list: Vec<Argument<'a>> = Vec::new(alloc);
+    let mut list: Vec<Argument> = Vec::new(alloc);
     list.push(first)?;
-    'list: while cursor.begins(b",") {
-        let argument = further_argument(alloc, cursor, below)?;
+    'list: while cursor.begins(tokens, b",") {
+        let argument = further_argument(alloc, tokens, cursor, below)?;
         list.push(argument)?;
     }
     Ok(list)
 }
 
 /// The arguments behind the parenthesis, up to the next one.
-pub fn arguments<'a>(
+pub fn arguments(
     alloc: Global,
-    cursor: &mut Cursor<'_, 'a>,
+    tokens: &Tokens<'_>,
+    cursor: &mut Cursor,
     below: u32,
-) -> Result<Vec<Argument<'a>>, OrMemory<Stop>>
+) -> Result<Vec<Argument>, OrMemory<Stop>>
     requires { 0 < below }
-    ensures { Gives all_arguments (arguments_within below cursor.old) cursor.new result }
+    ensures { Gives all_arguments (arguments_within below) tokens.now cursor.old cursor.new result }
 {
-    let first = argument(alloc, cursor, below)?;
-    let list = more_arguments(alloc, cursor, below, first)?;
-    cursor.symbol(b")")?;
+    let first = argument(alloc, tokens, cursor, below)?;
+    let list = more_arguments(alloc, tokens, cursor, below, first)?;
+    cursor.symbol(tokens, b")")?;
     Ok(list)
 }

@@ -15,16 +15,17 @@ use basis::OrMemory;
 use std::alloc::Global;
 use vast::statement::{Delay, Statement};
 use vexpr_parse::{Cursor, Stop};
+use vlex::Tokens;
 
 // `=`, or `<=`: whether it is the later one.
-fn sign(cursor: &mut Cursor<'_, '_>) -> Result<bool, OrMemory<Stop>>
-    ensures { Gives itself (worded sign_of cursor.old) cursor.new result }
+fn sign(tokens: &Tokens<'_>, cursor: &mut Cursor) -> Result<bool, OrMemory<Stop>>
+    ensures { Gives itself (worded sign_of) tokens.now cursor.old cursor.new result }
 {
-    if cursor.begins(b"=") {
-        cursor.pass();
+    if cursor.begins(tokens, b"=") {
+        cursor.pass(tokens);
         Ok(false)
-    } else if cursor.begins(b"<=") {
-        cursor.pass();
+    } else if cursor.begins(tokens, b"<=") {
+        cursor.pass(tokens);
         Ok(true)
     } else {
         Err(OrMemory::Fault(Stop::NoTree))
@@ -32,36 +33,40 @@ fn sign(cursor: &mut Cursor<'_, '_>) -> Result<bool, OrMemory<Stop>>
 }
 
 // `#` and how long is waited, where one stands.
-fn optional_delay<'a>(
+fn optional_delay(
     alloc: Global,
-    cursor: &mut Cursor<'_, 'a>,
+    tokens: &Tokens<'_>,
+    cursor: &mut Cursor,
     below: u32,
-) -> Result<Option<Delay<'a>>, OrMemory<Stop>>
+) -> Result<Option<Delay>, OrMemory<Stop>>
     requires { 0 < below }
-    ensures { Gives (option_map delay_tree) (reading.optional_delay below cursor.old) cursor.new result }
+    ensures { Gives optional_delay_tree (reading.optional_delay below)
+        tokens.now cursor.old cursor.new result }
 {
-    if cursor.begins(b"#") {
-        cursor.pass();
-        Ok(Some(amount(alloc, cursor, below)?))
+    if cursor.begins(tokens, b"#") {
+        cursor.pass(tokens);
+        Ok(Some(amount(alloc, tokens, cursor, below)?))
     } else {
         Ok(None)
     }
 }
 
 /// An assignment; its first token has this number.
-pub fn assignment<'a>(
+pub fn assignment(
     alloc: Global,
-    cursor: &mut Cursor<'_, 'a>,
+    tokens: &Tokens<'_>,
+    cursor: &mut Cursor,
     below: u32,
     at: u32,
-) -> Result<Statement<'a>, OrMemory<Stop>>
+) -> Result<Statement, OrMemory<Stop>>
     requires { 0 < below }
-    ensures { Gives statement_tree (reading.assignment below cursor.old) cursor.new result }
+    ensures { Gives statement_tree (reading.assignment below)
+        tokens.now cursor.old cursor.new result }
 {
-    let target = target(alloc, cursor, below)?;
-    let later = sign(cursor)?;
-    let delay = optional_delay(alloc, cursor, below)?;
-    let value = ended(alloc, cursor, below, b";")?;
+    let target = target(alloc, tokens, cursor, below)?;
+    let later = sign(tokens, cursor)?;
+    let delay = optional_delay(alloc, tokens, cursor, below)?;
+    let value = ended(alloc, tokens, cursor, below, b";")?;
     if later {
         Ok(Statement::Nonblocking {
             at,
@@ -80,10 +85,14 @@ pub fn assignment<'a>(
 }
 
 /// What stands behind `->`, the token of this number (9.7.3).
-pub fn trigger<'a>(cursor: &mut Cursor<'_, 'a>, at: u32) -> Result<Statement<'a>, OrMemory<Stop>>
-    ensures { Gives statement_tree (trigger_at cursor.old) cursor.new result }
+pub fn trigger(
+    tokens: &Tokens<'_>,
+    cursor: &mut Cursor,
+    at: u32,
+) -> Result<Statement, OrMemory<Stop>>
+    ensures { Gives statement_tree trigger_at tokens.now cursor.old cursor.new result }
 {
-    let name = named(cursor)?;
-    cursor.symbol(b";")?;
+    let name = named(tokens, cursor)?;
+    cursor.symbol(tokens, b";")?;
     Ok(Statement::Trigger { at, name })
 }

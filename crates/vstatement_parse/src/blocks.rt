@@ -9,20 +9,22 @@ use basis::OrMemory;
 use std::alloc::Global;
 use vast::statement::Statement;
 use vexpr_parse::{Cursor, Stop};
+use vlex::Tokens;
 
 // The statements before `end`.
-fn list<'a, F: Fn(&mut Cursor<'_, 'a>) -> Result<Statement<'a>, OrMemory<Stop>>>(
+fn list<F: Fn(&mut Cursor) -> Result<Statement, OrMemory<Stop>>>(
     alloc: Global,
     read: &F,
     below: u32,
-    cursor: &mut Cursor<'_, 'a>,
-) -> Result<Vec<Statement<'a>>, OrMemory<Stop>>
+    tokens: &Tokens<'_>,
+    cursor: &mut Cursor,
+) -> Result<Vec<Statement>, OrMemory<Stop>>
     requires callable { F.IsAlwaysCallable read.now }
-    requires reads { ReadsStatements below (F.post read.now) }
-    ensures { Gives all_statements (block_list below cursor.old) cursor.new result }
+    requires reads { ReadsStatements tokens.now below (F.post read.now) }
+    ensures { Gives all_statements (block_list below) tokens.now cursor.old cursor.new result }
 {
-    let mut list: Vec<Statement<'a>> = Vec::new(alloc);
-    'list: while !cursor.begins(b"end") {
+    let mut list: Vec<Statement> = Vec::new(alloc);
+    'list: while !cursor.begins(tokens, b"end") {
         let statement = read(cursor)?;
         list.push(statement)?;
     }
@@ -30,33 +32,35 @@ fn list<'a, F: Fn(&mut Cursor<'_, 'a>) -> Result<Statement<'a>, OrMemory<Stop>>>
 }
 
 // The statements, and `end` behind them.
-fn within<'a, F: Fn(&mut Cursor<'_, 'a>) -> Result<Statement<'a>, OrMemory<Stop>>>(
+fn within<F: Fn(&mut Cursor) -> Result<Statement, OrMemory<Stop>>>(
     alloc: Global,
     read: &F,
     below: u32,
-    cursor: &mut Cursor<'_, 'a>,
-) -> Result<Vec<Statement<'a>>, OrMemory<Stop>>
+    tokens: &Tokens<'_>,
+    cursor: &mut Cursor,
+) -> Result<Vec<Statement>, OrMemory<Stop>>
     requires callable { F.IsAlwaysCallable read.now }
-    requires reads { ReadsStatements below (F.post read.now) }
-    ensures { Gives ended_list (reading.block_parts (reading.statement below)
-        cursor.old) cursor.new result }
+    requires reads { ReadsStatements tokens.now below (F.post read.now) }
+    ensures { Gives ended_list (reading.block_parts (reading.statement below))
+        tokens.now cursor.old cursor.new result }
 {
-    let list = list(alloc, read, below, cursor)?;
-    cursor.symbol(b"end")?;
+    let list = list(alloc, read, below, tokens, cursor)?;
+    cursor.symbol(tokens, b"end")?;
     Ok(list)
 }
 
 /// What stands behind `begin`.
-pub fn block<'a, F: Fn(&mut Cursor<'_, 'a>) -> Result<Statement<'a>, OrMemory<Stop>>>(
+pub fn block<F: Fn(&mut Cursor) -> Result<Statement, OrMemory<Stop>>>(
     alloc: Global,
     read: &F,
     below: u32,
-    cursor: &mut Cursor<'_, 'a>,
-) -> Result<Statement<'a>, OrMemory<Stop>>
+    tokens: &Tokens<'_>,
+    cursor: &mut Cursor,
+) -> Result<Statement, OrMemory<Stop>>
     requires callable { F.IsAlwaysCallable read.now }
-    requires reads { ReadsStatements below (F.post read.now) }
-    ensures { Gives statement_tree (block_at below cursor.old) cursor.new result }
+    requires reads { ReadsStatements tokens.now below (F.post read.now) }
+    ensures { Gives statement_tree (block_at below) tokens.now cursor.old cursor.new result }
 {
-    let statements = within(alloc, read, below, cursor)?;
+    let statements = within(alloc, read, below, tokens, cursor)?;
     Ok(Statement::Block(statements))
 }

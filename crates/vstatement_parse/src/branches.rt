@@ -6,43 +6,48 @@ ghost use Rattle.vast.specs.StatementTrees.{branch_tree};
 ghost use Rattle.vstatement_parse.specs.Gives.{Gives, ReadsStatements};
 ghost use Rattle.vstatement_parse.specs.Cases.{all_branches, branch_behind, branches_behind, branches_within as branches_within_at, default_at, labelled_at};
 ghost use Rattle.vgrammar.specs.Statements.{has_default};
+ghost use Rattle.vexpr_parse.specs.Answers.{ahead};
+ghost use Rattle.vexpr_parse.specs.Texts.{words_of};
 
 use crate::labels::labels;
 use basis::OrMemory;
 use std::alloc::Global;
 use vast::statement::{Branch, Statement};
 use vexpr_parse::{Cursor, Stop};
+use vlex::Tokens;
 
 // A branch with labels.
-fn labelled<'a, F: Fn(&mut Cursor<'_, 'a>) -> Result<Statement<'a>, OrMemory<Stop>>>(
+fn labelled<F: Fn(&mut Cursor) -> Result<Statement, OrMemory<Stop>>>(
     alloc: Global,
     read: &F,
     below: u32,
-    cursor: &mut Cursor<'_, 'a>,
-) -> Result<Branch<'a>, OrMemory<Stop>>
+    tokens: &Tokens<'_>,
+    cursor: &mut Cursor,
+) -> Result<Branch, OrMemory<Stop>>
     requires some { 0 < below }
     requires callable { F.IsAlwaysCallable read.now }
-    requires reads { ReadsStatements below (F.post read.now) }
-    ensures { Gives branch_tree (labelled_at below cursor.old) cursor.new result }
+    requires reads { ReadsStatements tokens.now below (F.post read.now) }
+    ensures { Gives branch_tree (labelled_at below) tokens.now cursor.old cursor.new result }
 {
-    let labels = labels(alloc, cursor, below)?;
+    let labels = labels(alloc, tokens, cursor, below)?;
     let body = read(cursor)?;
     Ok(Branch::Labelled { labels, body })
 }
 
 // `default`, and its statement.
-fn default_branch<'a, F: Fn(&mut Cursor<'_, 'a>) -> Result<Statement<'a>, OrMemory<Stop>>>(
+fn default_branch<F: Fn(&mut Cursor) -> Result<Statement, OrMemory<Stop>>>(
     read: &F,
     below: u32,
-    cursor: &mut Cursor<'_, 'a>,
-) -> Result<Branch<'a>, OrMemory<Stop>>
+    tokens: &Tokens<'_>,
+    cursor: &mut Cursor,
+) -> Result<Branch, OrMemory<Stop>>
     requires callable { F.IsAlwaysCallable read.now }
-    requires reads { ReadsStatements below (F.post read.now) }
-    ensures { Gives branch_tree (default_at below cursor.old) cursor.new result }
+    requires reads { ReadsStatements tokens.now below (F.post read.now) }
+    ensures { Gives branch_tree (default_at below) tokens.now cursor.old cursor.new result }
 {
-    cursor.symbol(b"default")?;
-    if cursor.begins(b":") {
-        cursor.pass();
+    cursor.symbol(tokens, b"default")?;
+    if cursor.begins(tokens, b":") {
+        cursor.pass(tokens);
         let body = read(cursor)?;
         Ok(Branch::Default { colon: true, body })
     } else {
@@ -53,33 +58,34 @@ fn default_branch<'a, F: Fn(&mut Cursor<'_, 'a>) -> Result<Statement<'a>, OrMemo
 
 // A branch behind others: a default only where none was seen yet.
 #[tactic(auto, using(crate::proofs::CaseTurns::gives_default, crate::proofs::CaseTurns::second_default))]
-fn read_branch<'a, F: Fn(&mut Cursor<'_, 'a>) -> Result<Statement<'a>, OrMemory<Stop>>>(
+fn read_branch<F: Fn(&mut Cursor) -> Result<Statement, OrMemory<Stop>>>(
     alloc: Global,
     read: &F,
     below: u32,
-    cursor: &mut Cursor<'_, 'a>,
+    tokens: &Tokens<'_>,
+    cursor: &mut Cursor,
     seen: bool,
-) -> Result<Branch<'a>, OrMemory<Stop>>
+) -> Result<Branch, OrMemory<Stop>>
     requires some { 0 < below }
     requires callable { F.IsAlwaysCallable read.now }
-    requires reads { ReadsStatements below (F.post read.now) }
-    ensures { Gives branch_tree (branch_behind below seen cursor.old) cursor.new result }
+    requires reads { ReadsStatements tokens.now below (F.post read.now) }
+    ensures { Gives branch_tree (branch_behind below seen) tokens.now cursor.old cursor.new result }
 {
-    if cursor.begins(b"default") {
+    if cursor.begins(tokens, b"default") {
         if seen {
             return Err(OrMemory::Fault(Stop::NoTree));
         }
-        default_branch(read, below, cursor)
+        default_branch(read, below, tokens, cursor)
     } else {
-        labelled(alloc, read, below, cursor)
+        labelled(alloc, read, below, tokens, cursor)
     }
 }
 
 // Whether a default stands here.
-fn begins_default(cursor: &Cursor<'_, '_>) -> bool
-    ensures { result ≡ is_front (codes "default") (front cursor.now) }
+fn begins_default(tokens: &Tokens<'_>, cursor: &Cursor) -> bool
+    ensures { result ≡ is_front (codes "default") (front (ahead tokens.now cursor.now)) }
 {
-    cursor.begins(b"default")
+    cursor.begins(tokens, b"default")
 }
 
 fn or(one: bool, other: bool) -> bool
@@ -90,27 +96,28 @@ fn or(one: bool, other: bool) -> bool
 
 // The branches with the first one.
 #[tactic(auto, using(crate::proofs::CaseTurns::so_far_first, crate::proofs::CaseTurns::so_far_stopped, crate::proofs::CaseTurns::so_far_ended))]
-fn more_branches<'a, F: Fn(&mut Cursor<'_, 'a>) -> Result<Statement<'a>, OrMemory<Stop>>>(
+fn more_branches<F: Fn(&mut Cursor) -> Result<Statement, OrMemory<Stop>>>(
     alloc: Global,
     read: &F,
     below: u32,
-    cursor: &mut Cursor<'_, 'a>,
-    first: Branch<'a>,
+    tokens: &Tokens<'_>,
+    cursor: &mut Cursor,
+    first: Branch,
     seen: bool,
-) -> Result<Vec<Branch<'a>>, OrMemory<Stop>>
+) -> Result<Vec<Branch>, OrMemory<Stop>>
     requires some { 0 < below }
-    requires first { seen ≡ has_default (branch_tree first ∷ []) }
+    requires first { seen ≡ has_default (branch_tree (words_of tokens.now) first ∷ []) }
     requires callable { F.IsAlwaysCallable read.now }
-    requires reads { ReadsStatements below (F.post read.now) }
-    ensures { Gives all_branches (branches_behind below (branch_tree first.entry)
-        cursor.old) cursor.new result }
+    requires reads { ReadsStatements tokens.now below (F.post read.now) }
+    ensures { Gives all_branches (branches_behind below (branch_tree (words_of tokens.now) first.entry))
+        tokens.now cursor.old cursor.new result }
 {
-    let mut branches: Vec<Branch<'a>> = Vec::new(alloc);
+    let mut branches: Vec<Branch> = Vec::new(alloc);
     branches.push(first)?;
     let mut seen = seen;
-    'branches: while !cursor.begins(b"endcase") {
-        let default = begins_default(cursor);
-        let next = read_branch(alloc, read, below, cursor, seen)?;
+    'branches: while !cursor.begins(tokens, b"endcase") {
+        let default = begins_default(tokens, cursor);
+        let next = read_branch(alloc, read, below, tokens, cursor, seen)?;
         branches.push(next)?;
         seen = or(seen, default);
     }
@@ -119,20 +126,22 @@ fn more_branches<'a, F: Fn(&mut Cursor<'_, 'a>) -> Result<Statement<'a>, OrMemor
 
 /// The branches, and `endcase` behind them.
 #[tactic(auto, using(crate::proofs::CaseTurns::first_seen))]
-pub fn branches_within<'a, F: Fn(&mut Cursor<'_, 'a>) -> Result<Statement<'a>, OrMemory<Stop>>>(
+pub fn branches_within<F: Fn(&mut Cursor) -> Result<Statement, OrMemory<Stop>>>(
     alloc: Global,
     read: &F,
     below: u32,
-    cursor: &mut Cursor<'_, 'a>,
-) -> Result<Vec<Branch<'a>>, OrMemory<Stop>>
+    tokens: &Tokens<'_>,
+    cursor: &mut Cursor,
+) -> Result<Vec<Branch>, OrMemory<Stop>>
     requires some { 0 < below }
     requires callable { F.IsAlwaysCallable read.now }
-    requires reads { ReadsStatements below (F.post read.now) }
-    ensures { Gives all_branches (branches_within_at below cursor.old) cursor.new result }
+    requires reads { ReadsStatements tokens.now below (F.post read.now) }
+    ensures { Gives all_branches (branches_within_at below)
+        tokens.now cursor.old cursor.new result }
 {
-    let default = begins_default(cursor);
-    let first = read_branch(alloc, read, below, cursor, false)?;
-    let branches = more_branches(alloc, read, below, cursor, first, default)?;
-    cursor.symbol(b"endcase")?;
+    let default = begins_default(tokens, cursor);
+    let first = read_branch(alloc, read, below, tokens, cursor, false)?;
+    let branches = more_branches(alloc, read, below, tokens, cursor, first, default)?;
+    cursor.symbol(tokens, b"endcase")?;
     Ok(branches)
 }

@@ -7,6 +7,7 @@ ghost use Rattle.vstatement_parse.specs.Gives.{Gives, ReadsStatements, all_furth
 ghost use Rattle.vgrammar.specs.Starts.{comma_of, is_meant, is_word};
 ghost use Rattle.vast.specs.Words.{is_name as is_name_text};
 ghost use Rattle.vgrammar.specs.Statements as reading;
+ghost use Rattle.vexpr_parse.specs.Answers.{ahead};
 
 use crate::guarded::boxed;
 use crate::terms::{further_term, read_term};
@@ -16,58 +17,64 @@ use std::alloc::Global;
 use vast::statement::{Event, FurtherTerm, Statement};
 use vast::words::is_name;
 use vexpr_parse::{Cursor, Stop};
+use vlex::Tokens;
 
 // Whether a further name follows.
-fn goes_on(cursor: &Cursor<'_, '_>) -> bool
-    ensures { result ≡ is_meant comma_of (front cursor.now) }
+fn goes_on(tokens: &Tokens<'_>, cursor: &Cursor) -> bool
+    ensures { result ≡ is_meant comma_of (front (ahead tokens.now cursor.now)) }
 {
-    cursor.begins(b",") || cursor.begins(b"or")
+    cursor.begins(tokens, b",") || cursor.begins(tokens, b"or")
 }
 
 // The names behind the first one.
-fn further_terms<'a>(
+fn further_terms(
     alloc: Global,
-    cursor: &mut Cursor<'_, 'a>,
-) -> Result<Vec<FurtherTerm<'a>>, OrMemory<Stop>>
-    ensures { Gives all_further (further_terms_at cursor.old) cursor.new result }
+    tokens: &Tokens<'_>,
+    cursor: &mut Cursor,
+) -> Result<Vec<FurtherTerm>, OrMemory<Stop>>
+    ensures { Gives all_further further_terms_at tokens.now cursor.old cursor.new result }
 {
-    let mut terms: Vec<FurtherTerm<'a>> = Vec::new(alloc);
-    'terms: while goes_on(cursor) {
-        let term = further_term(cursor)?;
+    let mut terms: Vec<FurtherTerm> = Vec::new(alloc);
+    'terms: while goes_on(tokens, cursor) {
+        let term = further_term(tokens, cursor)?;
         terms.push(term)?;
     }
     Ok(terms)
 }
 
 // What stands behind `@(`, where names do.
-fn terms<'a>(alloc: Global, cursor: &mut Cursor<'_, 'a>) -> Result<Event<'a>, OrMemory<Stop>>
-    ensures { Gives event_tree (terms_at cursor.old) cursor.new result }
+fn terms(alloc: Global, tokens: &Tokens<'_>, cursor: &mut Cursor) -> Result<Event, OrMemory<Stop>>
+    ensures { Gives event_tree terms_at tokens.now cursor.old cursor.new result }
 {
-    let term = read_term(cursor)?;
-    let further = further_terms(alloc, cursor)?;
-    cursor.symbol(b")")?;
+    let term = read_term(tokens, cursor)?;
+    let further = further_terms(alloc, tokens, cursor)?;
+    cursor.symbol(tokens, b")")?;
     Ok(Event::Terms { term, further })
 }
 
 // What stands behind `@(`.
 #[tactic(auto, using(crate::proofs::StatementTurns::gives_terms))]
-fn enclosed<'a>(alloc: Global, cursor: &mut Cursor<'_, 'a>) -> Result<Event<'a>, OrMemory<Stop>>
-    ensures { Gives event_tree (enclosed_at cursor.old) cursor.new result }
+fn enclosed(
+    alloc: Global,
+    tokens: &Tokens<'_>,
+    cursor: &mut Cursor,
+) -> Result<Event, OrMemory<Stop>>
+    ensures { Gives event_tree enclosed_at tokens.now cursor.old cursor.new result }
 {
-    if cursor.begins(b"*") {
-        cursor.pass();
-        cursor.symbol(b")")?;
+    if cursor.begins(tokens, b"*") {
+        cursor.pass(tokens);
+        cursor.symbol(tokens, b")")?;
         Ok(Event::AnyEnclosed)
     } else {
-        terms(alloc, cursor)
+        terms(alloc, tokens, cursor)
     }
 }
 
 // Whether a name stands here.
-fn begins_name(cursor: &Cursor<'_, '_>) -> bool
-    ensures { result ≡ is_word is_name_text (front cursor.now) }
+fn begins_name(tokens: &Tokens<'_>, cursor: &Cursor) -> bool
+    ensures { result ≡ is_word is_name_text (front (ahead tokens.now cursor.now)) }
 {
-    match cursor.word() {
+    match cursor.word(tokens) {
         None => false,
         Some(word) => is_name(word.text),
     }
@@ -75,33 +82,38 @@ fn begins_name(cursor: &Cursor<'_, '_>) -> bool
 
 /// What is waited for, behind `@`.
 #[tactic(auto, using(crate::proofs::StatementTurns::gives_enclosed))]
-pub fn control<'a>(alloc: Global, cursor: &mut Cursor<'_, 'a>) -> Result<Event<'a>, OrMemory<Stop>>
-    ensures { Gives event_tree (reading.control cursor.old) cursor.new result }
+pub fn control(
+    alloc: Global,
+    tokens: &Tokens<'_>,
+    cursor: &mut Cursor,
+) -> Result<Event, OrMemory<Stop>>
+    ensures { Gives event_tree reading.control tokens.now cursor.old cursor.new result }
 {
-    if begins_name(cursor) {
-        Ok(Event::Named(named(cursor)?))
-    } else if cursor.begins(b"*") {
-        cursor.pass();
+    if begins_name(tokens, cursor) {
+        Ok(Event::Named(named(tokens, cursor)?))
+    } else if cursor.begins(tokens, b"*") {
+        cursor.pass(tokens);
         Ok(Event::Any)
     } else {
-        cursor.symbol(b"(")?;
-        enclosed(alloc, cursor)
+        cursor.symbol(tokens, b"(")?;
+        enclosed(alloc, tokens, cursor)
     }
 }
 
 /// What stands behind `@`, the token of this number.
-pub fn waiting<'a, F: Fn(&mut Cursor<'_, 'a>) -> Result<Statement<'a>, OrMemory<Stop>>>(
+pub fn waiting<F: Fn(&mut Cursor) -> Result<Statement, OrMemory<Stop>>>(
     alloc: Global,
     read: &F,
     below: u32,
-    cursor: &mut Cursor<'_, 'a>,
+    tokens: &Tokens<'_>,
+    cursor: &mut Cursor,
     at: u32,
-) -> Result<Statement<'a>, OrMemory<Stop>>
+) -> Result<Statement, OrMemory<Stop>>
     requires callable { F.IsAlwaysCallable read.now }
-    requires reads { ReadsStatements below (F.post read.now) }
-    ensures { Gives statement_tree (event_at below cursor.old) cursor.new result }
+    requires reads { ReadsStatements tokens.now below (F.post read.now) }
+    ensures { Gives statement_tree (event_at below) tokens.now cursor.old cursor.new result }
 {
-    let event = control(alloc, cursor)?;
+    let event = control(alloc, tokens, cursor)?;
     let body = read(cursor)?;
     Ok(Statement::OnEvent {
         at,

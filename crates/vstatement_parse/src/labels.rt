@@ -6,56 +6,62 @@ ghost use Rattle.vexpr_parse.specs.Readers.{past};
 ghost use Rattle.vstatement_parse.specs.Gives.{Gives};
 ghost use Rattle.vstatement_parse.specs.Cases.{all_labels, labels_behind, labels_within};
 ghost use Rattle.vgrammar.specs.Statements as reading;
+ghost use Rattle.vexpr_parse.specs.Texts.{words_of};
 
 use basis::OrMemory;
 use std::alloc::Global;
 use vast::expression::Expression;
 use vexpr_parse::{Cursor, Stop, expression};
+use vlex::Tokens;
 
 // A label, with the comma before it.
-fn further_label<'a>(
+fn further_label(
     alloc: Global,
-    cursor: &mut Cursor<'_, 'a>,
+    tokens: &Tokens<'_>,
+    cursor: &mut Cursor,
     below: u32,
-) -> Result<Expression<'a>, OrMemory<Stop>>
+) -> Result<Expression, OrMemory<Stop>>
     requires { 0 < below }
-    ensures { Gives tree_of (past (codes ",") (reading.value below) cursor.old) cursor.new result }
+    ensures { Gives tree_of (past (codes ",") (reading.value below))
+        tokens.now cursor.old cursor.new result }
 {
-    cursor.symbol(b",")?;
-    Ok(expression(alloc, cursor, below)?.tree)
+    cursor.symbol(tokens, b",")?;
+    Ok(expression(alloc, tokens, cursor, below)?.tree)
 }
 
 // The labels with the first one.
-fn more_labels<'a>(
+fn more_labels(
     alloc: Global,
-    cursor: &mut Cursor<'_, 'a>,
+    tokens: &Tokens<'_>,
+    cursor: &mut Cursor,
     below: u32,
-    first: Expression<'a>,
-) -> Result<Vec<Expression<'a>>, OrMemory<Stop>>
+    first: Expression,
+) -> Result<Vec<Expression>, OrMemory<Stop>>
     requires some { 0 < below }
-    ensures { Gives all_labels (labels_behind below (tree_of first.entry)
-        cursor.old) cursor.new result }
+    ensures { Gives all_labels (labels_behind below (tree_of (words_of tokens.now) first.entry))
+        tokens.now cursor.old cursor.new result }
 {
-    let mut labels: Vec<Expression<'a>> = Vec::new(alloc);
+    let mut labels: Vec<Expression> = Vec::new(alloc);
     labels.push(first)?;
-    'labels: while cursor.begins(b",") {
-        let label = further_label(alloc, cursor, below)?;
+    'labels: while cursor.begins(tokens, b",") {
+        let label = further_label(alloc, tokens, cursor, below)?;
         labels.push(label)?;
     }
     Ok(labels)
 }
 
 /// The labels, and the colon behind them.
-pub fn labels<'a>(
+pub fn labels(
     alloc: Global,
-    cursor: &mut Cursor<'_, 'a>,
+    tokens: &Tokens<'_>,
+    cursor: &mut Cursor,
     below: u32,
-) -> Result<Vec<Expression<'a>>, OrMemory<Stop>>
+) -> Result<Vec<Expression>, OrMemory<Stop>>
     requires { 0 < below }
-    ensures { Gives all_labels (labels_within below cursor.old) cursor.new result }
+    ensures { Gives all_labels (labels_within below) tokens.now cursor.old cursor.new result }
 {
-    let first = expression(alloc, cursor, below)?.tree;
-    let labels = more_labels(alloc, cursor, below, first)?;
-    cursor.symbol(b":")?;
+    let first = expression(alloc, tokens, cursor, below)?.tree;
+    let labels = more_labels(alloc, tokens, cursor, below, first)?;
+    cursor.symbol(tokens, b":")?;
     Ok(labels)
 }

@@ -1,11 +1,12 @@
 // Statements behind `for` (IEEE 1364-2005, 9.6).
 
-ghost use Rattle.std.specs.Prelude.{◌≡◌, ◌<◌};
+ghost use Rattle.std.specs.Prelude.{List, ◌≡◌, ◌<◌};
 ghost use Rattle.vast.specs.StatementTrees.{statement_tree};
 ghost use Rattle.vstatement_parse.specs.Gives.{Gives, ReadsStatements, setting_tree};
 ghost use Rattle.vstatement_parse.specs.Rounds.{for_at, going_at, going_tree, step_at, step_tree};
 ghost use Rattle.vgrammar.specs.Parts.{both};
 ghost use Rattle.vgrammar.specs.Statements as reading;
+ghost use Rattle.vast.specs.Syntax.{Text};
 
 use crate::conditions::boxed;
 use crate::settings::{Setting, read_setting};
@@ -15,61 +16,64 @@ use std::alloc::Global;
 use vast::expression::Expression;
 use vast::statement::Statement;
 use vexpr_parse::{Cursor, Stop};
+use vlex::Tokens;
 
 /// What is written behind each turn, and the statement of the turns.
 #[derive(Drop)]
-pub struct Step<'t> {
-    pub next: Setting<'t>,
-    pub body: Box<Statement<'t>>,
+pub struct Step {
+    pub next: Setting,
+    pub body: Box<Statement>,
 }
 
 /// How long it goes on, and the step.
 #[derive(Drop)]
-pub struct Going<'t> {
-    pub condition: Box<Expression<'t>>,
-    pub step: Step<'t>,
+pub struct Going {
+    pub condition: Box<Expression>,
+    pub step: Step,
 }
 
 // `target = value) statement`
-fn read_step<'a, F: Fn(&mut Cursor<'_, 'a>) -> Result<Statement<'a>, OrMemory<Stop>>>(
+fn read_step<F: Fn(&mut Cursor) -> Result<Statement, OrMemory<Stop>>>(
     alloc: Global,
     read: &F,
     below: u32,
-    cursor: &mut Cursor<'_, 'a>,
-) -> Result<Step<'a>, OrMemory<Stop>>
+    tokens: &Tokens<'_>,
+    cursor: &mut Cursor,
+) -> Result<Step, OrMemory<Stop>>
     requires some { 0 < below }
     requires callable { F.IsAlwaysCallable read.now }
-    requires reads { ReadsStatements below (F.post read.now) }
-    ensures { Gives step_tree (step_at below cursor.old) cursor.new result }
+    requires reads { ReadsStatements tokens.now below (F.post read.now) }
+    ensures { Gives step_tree (step_at below) tokens.now cursor.old cursor.new result }
 {
-    let next = read_setting(alloc, cursor, below)?;
-    cursor.symbol(b")")?;
-    let body = boxed(alloc, read, below, cursor)?;
+    let next = read_setting(alloc, tokens, cursor, below)?;
+    cursor.symbol(tokens, b")")?;
+    let body = boxed(alloc, read, below, tokens, cursor)?;
     Ok(Step { next, body })
 }
 
 // `condition; target = value) statement`
-fn read_going<'a, F: Fn(&mut Cursor<'_, 'a>) -> Result<Statement<'a>, OrMemory<Stop>>>(
+fn read_going<F: Fn(&mut Cursor) -> Result<Statement, OrMemory<Stop>>>(
     alloc: Global,
     read: &F,
     below: u32,
-    cursor: &mut Cursor<'_, 'a>,
-) -> Result<Going<'a>, OrMemory<Stop>>
+    tokens: &Tokens<'_>,
+    cursor: &mut Cursor,
+) -> Result<Going, OrMemory<Stop>>
     requires some { 0 < below }
     requires callable { F.IsAlwaysCallable read.now }
-    requires reads { ReadsStatements below (F.post read.now) }
-    ensures { Gives going_tree (going_at below cursor.old) cursor.new result }
+    requires reads { ReadsStatements tokens.now below (F.post read.now) }
+    ensures { Gives going_tree (going_at below) tokens.now cursor.old cursor.new result }
 {
-    let condition = value(alloc, cursor, below)?;
-    cursor.symbol(b";")?;
-    let step = read_step(alloc, read, below, cursor)?;
+    let condition = value(alloc, tokens, cursor, below)?;
+    cursor.symbol(tokens, b";")?;
+    let step = read_step(alloc, read, below, tokens, cursor)?;
     Ok(Going { condition, step })
 }
 
 // The statement of all that was read.
-fn looped<'a>(at: u32, first: Setting<'a>, going: Going<'a>) -> Statement<'a>
-    ensures { statement_tree result
-        ≡ reading.for_of (both (setting_tree first.entry) (going_tree going.entry)) }
+fn looped(at: u32, first: Setting, going: Going) -> Statement
+    ensures { (words : List Text) → statement_tree words result
+        ≡ reading.for_of (both (setting_tree words first.entry) (going_tree words going.entry)) }
 {
     Statement::For {
         at,
@@ -83,21 +87,22 @@ fn looped<'a>(at: u32, first: Setting<'a>, going: Going<'a>) -> Statement<'a>
 }
 
 /// What stands behind `for`, the token of this number.
-pub fn counted<'a, F: Fn(&mut Cursor<'_, 'a>) -> Result<Statement<'a>, OrMemory<Stop>>>(
+pub fn counted<F: Fn(&mut Cursor) -> Result<Statement, OrMemory<Stop>>>(
     alloc: Global,
     read: &F,
     below: u32,
-    cursor: &mut Cursor<'_, 'a>,
+    tokens: &Tokens<'_>,
+    cursor: &mut Cursor,
     at: u32,
-) -> Result<Statement<'a>, OrMemory<Stop>>
+) -> Result<Statement, OrMemory<Stop>>
     requires some { 0 < below }
     requires callable { F.IsAlwaysCallable read.now }
-    requires reads { ReadsStatements below (F.post read.now) }
-    ensures { Gives statement_tree (for_at below cursor.old) cursor.new result }
+    requires reads { ReadsStatements tokens.now below (F.post read.now) }
+    ensures { Gives statement_tree (for_at below) tokens.now cursor.old cursor.new result }
 {
-    cursor.symbol(b"(")?;
-    let first = read_setting(alloc, cursor, below)?;
-    cursor.symbol(b";")?;
-    let going = read_going(alloc, read, below, cursor)?;
+    cursor.symbol(tokens, b"(")?;
+    let first = read_setting(alloc, tokens, cursor, below)?;
+    cursor.symbol(tokens, b";")?;
+    let going = read_going(alloc, read, below, tokens, cursor)?;
     Ok(looped(at, first, going))
 }

@@ -1,121 +1,142 @@
 // What is dumped, behind `$dumpvars` (IEEE 1364-2005, 18.1.2).
 
 ghost use Rattle.std.specs.Prelude.{◌≡◌, codes, option_map};
-ghost use Rattle.vast.specs.Trees.{word_text};
+ghost use Rattle.vast.specs.TokenTexts.{token_text};
 ghost use Rattle.vast.specs.StatementTrees.{path_tree, selection_tree, statement_tree};
 ghost use Rattle.vexpr_parse.specs.Readers.{past};
 ghost use Rattle.vstatement_parse.specs.Gives.{Gives, all_names, all_paths, dump_vars_at, names_behind, optional_selection as optional_selection_at, path_at, paths_at};
 ghost use Rattle.vgrammar.specs.Statements as reading;
+ghost use Rattle.vexpr_parse.specs.Texts.{words_of};
 
 use crate::words::{named, numbered};
 use basis::OrMemory;
 use std::alloc::Global;
 use vast::statement::{Path, Selection, Statement, Task};
-use vast::syntax::Word;
+use vast::token::Token;
 use vexpr_parse::{Cursor, Stop};
+use vlex::Tokens;
 
 // A further name, with the dot before it.
-fn further_name<'a>(cursor: &mut Cursor<'_, 'a>) -> Result<Word<'a>, OrMemory<Stop>>
-    ensures { Gives word_text (past (codes ".") reading.named cursor.old) cursor.new result }
+fn further_name(tokens: &Tokens<'_>, cursor: &mut Cursor) -> Result<Token, OrMemory<Stop>>
+    ensures { Gives token_text (past (codes ".") reading.named)
+        tokens.now cursor.old cursor.new result }
 {
-    cursor.symbol(b".")?;
-    named(cursor)
+    cursor.symbol(tokens, b".")?;
+    named(tokens, cursor)
 }
 
 // The names with the first one.
-fn more_names<'a>(
+fn more_names(
     alloc: Global,
-    cursor: &mut Cursor<'_, 'a>,
-    first: Word<'a>,
-) -> Result<Vec<Word<'a>>, OrMemory<Stop>>
-    ensures { Gives all_names (names_behind (word_text first.entry) cursor.old) cursor.new result }
+    tokens: &Tokens<'_>,
+    cursor: &mut Cursor,
+    first: Token,
+) -> Result<Vec<Token>, OrMemory<Stop>>
+    ensures { Gives all_names (names_behind (token_text (words_of tokens.now) first.entry))
+        tokens.now cursor.old cursor.new result }
 {
-    let mut names: Vec<Word<'a>> = Vec::new(alloc);
+    let mut names: Vec<Token> = Vec::new(alloc);
     names.push(first)?;
-    'names: while cursor.begins(b".") {
-        let name = further_name(cursor)?;
+    'names: while cursor.begins(tokens, b".") {
+        let name = further_name(tokens, cursor)?;
         names.push(name)?;
     }
     Ok(names)
 }
 
 // Names with dots between them.
-fn names<'a>(alloc: Global, cursor: &mut Cursor<'_, 'a>) -> Result<Vec<Word<'a>>, OrMemory<Stop>>
-    ensures { Gives all_names (path_at cursor.old) cursor.new result }
+fn names(
+    alloc: Global,
+    tokens: &Tokens<'_>,
+    cursor: &mut Cursor,
+) -> Result<Vec<Token>, OrMemory<Stop>>
+    ensures { Gives all_names path_at tokens.now cursor.old cursor.new result }
 {
-    let first = named(cursor)?;
-    let names = more_names(alloc, cursor, first)?;
+    let first = named(tokens, cursor)?;
+    let names = more_names(alloc, tokens, cursor, first)?;
     Ok(names)
 }
 
 // A path (12.4).
 #[tactic(auto, using(crate::proofs::StatementTurns::path_answers))]
-fn path<'a>(alloc: Global, cursor: &mut Cursor<'_, 'a>) -> Result<Path<'a>, OrMemory<Stop>>
-    ensures { Gives path_tree (reading.path cursor.old) cursor.new result }
+fn path(alloc: Global, tokens: &Tokens<'_>, cursor: &mut Cursor) -> Result<Path, OrMemory<Stop>>
+    ensures { Gives path_tree reading.path tokens.now cursor.old cursor.new result }
 {
-    let names = names(alloc, cursor)?;
+    let names = names(alloc, tokens, cursor)?;
     Ok(Path { names })
 }
 
 // A path, with the comma before it.
-fn further_path<'a>(alloc: Global, cursor: &mut Cursor<'_, 'a>) -> Result<Path<'a>, OrMemory<Stop>>
-    ensures { Gives path_tree (past (codes ",") reading.path cursor.old) cursor.new result }
+fn further_path(
+    alloc: Global,
+    tokens: &Tokens<'_>,
+    cursor: &mut Cursor,
+) -> Result<Path, OrMemory<Stop>>
+    ensures { Gives path_tree (past (codes ",") reading.path)
+        tokens.now cursor.old cursor.new result }
 {
-    cursor.symbol(b",")?;
-    path(alloc, cursor)
+    cursor.symbol(tokens, b",")?;
+    path(alloc, tokens, cursor)
 }
 
 // The paths, with a comma before each.
-fn paths<'a>(alloc: Global, cursor: &mut Cursor<'_, 'a>) -> Result<Vec<Path<'a>>, OrMemory<Stop>>
-    ensures { Gives all_paths (paths_at cursor.old) cursor.new result }
+fn paths(
+    alloc: Global,
+    tokens: &Tokens<'_>,
+    cursor: &mut Cursor,
+) -> Result<Vec<Path>, OrMemory<Stop>>
+    ensures { Gives all_paths paths_at tokens.now cursor.old cursor.new result }
 {
-    let mut paths: Vec<Path<'a>> = Vec::new(alloc);
-    'paths: while cursor.begins(b",") {
-        let path = further_path(alloc, cursor)?;
+    let mut paths: Vec<Path> = Vec::new(alloc);
+    'paths: while cursor.begins(tokens, b",") {
+        let path = further_path(alloc, tokens, cursor)?;
         paths.push(path)?;
     }
     Ok(paths)
 }
 
 // How many levels, and the paths, between parentheses.
-fn selection<'a>(
+fn selection(
     alloc: Global,
-    cursor: &mut Cursor<'_, 'a>,
-) -> Result<Selection<'a>, OrMemory<Stop>>
-    ensures { Gives selection_tree (reading.selection cursor.old) cursor.new result }
+    tokens: &Tokens<'_>,
+    cursor: &mut Cursor,
+) -> Result<Selection, OrMemory<Stop>>
+    ensures { Gives selection_tree reading.selection tokens.now cursor.old cursor.new result }
 {
-    cursor.symbol(b"(")?;
-    let levels = numbered(cursor)?;
-    let paths = paths(alloc, cursor)?;
-    cursor.symbol(b")")?;
+    cursor.symbol(tokens, b"(")?;
+    let levels = numbered(tokens, cursor)?;
+    let paths = paths(alloc, tokens, cursor)?;
+    cursor.symbol(tokens, b")")?;
     Ok(Selection { levels, paths })
 }
 
 // The same, where a parenthesis stands.
-fn optional_selection<'a>(
+fn optional_selection(
     alloc: Global,
-    cursor: &mut Cursor<'_, 'a>,
-) -> Result<Option<Selection<'a>>, OrMemory<Stop>>
-    ensures { Gives (option_map selection_tree) (optional_selection_at
-        cursor.old) cursor.new result }
+    tokens: &Tokens<'_>,
+    cursor: &mut Cursor,
+) -> Result<Option<Selection>, OrMemory<Stop>>
+    ensures { Gives optional_selection_tree optional_selection_at
+        tokens.now cursor.old cursor.new result }
 {
-    if cursor.begins(b"(") {
-        Ok(Some(selection(alloc, cursor)?))
+    if cursor.begins(tokens, b"(") {
+        Ok(Some(selection(alloc, tokens, cursor)?))
     } else {
         Ok(None)
     }
 }
 
 /// What stands behind `$dumpvars`, the token of this number.
-pub fn dump_vars<'a>(
+pub fn dump_vars(
     alloc: Global,
-    cursor: &mut Cursor<'_, 'a>,
+    tokens: &Tokens<'_>,
+    cursor: &mut Cursor,
     at: u32,
-) -> Result<Statement<'a>, OrMemory<Stop>>
-    ensures { Gives statement_tree (dump_vars_at cursor.old) cursor.new result }
+) -> Result<Statement, OrMemory<Stop>>
+    ensures { Gives statement_tree dump_vars_at tokens.now cursor.old cursor.new result }
 {
-    let selected = optional_selection(alloc, cursor)?;
-    cursor.symbol(b";")?;
+    let selected = optional_selection(alloc, tokens, cursor)?;
+    cursor.symbol(tokens, b";")?;
     Ok(Statement::Task {
         at,
         task: Task::DumpVars(selected),

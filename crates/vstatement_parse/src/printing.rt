@@ -10,49 +10,55 @@ use basis::OrMemory;
 use std::alloc::Global;
 use vast::statement::{Argument, Printing, Statement, Task};
 use vexpr_parse::{Cursor, Stop};
+use vlex::Tokens;
 
 // The arguments between parentheses, where one stands.
-fn optional_arguments<'a>(
+fn optional_arguments(
     alloc: Global,
-    cursor: &mut Cursor<'_, 'a>,
+    tokens: &Tokens<'_>,
+    cursor: &mut Cursor,
     below: u32,
-) -> Result<Vec<Argument<'a>>, OrMemory<Stop>>
-    ensures { Gives all_arguments (optional_arguments_at below cursor.old) cursor.new result }
+) -> Result<Vec<Argument>, OrMemory<Stop>>
+    ensures { Gives all_arguments (optional_arguments_at below)
+        tokens.now cursor.old cursor.new result }
 {
-    if cursor.begins(b"(") {
-        cursor.enter(below, 1)?;
-        arguments(alloc, cursor, below)
+    if cursor.begins(tokens, b"(") {
+        cursor.enter(tokens, below, 1)?;
+        arguments(alloc, tokens, cursor, below)
     } else {
         Ok(Vec::new(alloc))
     }
 }
 
 // The arguments between parentheses.
-fn required_arguments<'a>(
+fn required_arguments(
     alloc: Global,
-    cursor: &mut Cursor<'_, 'a>,
+    tokens: &Tokens<'_>,
+    cursor: &mut Cursor,
     below: u32,
-) -> Result<Vec<Argument<'a>>, OrMemory<Stop>>
+) -> Result<Vec<Argument>, OrMemory<Stop>>
     requires { 0 < below }
-    ensures { Gives all_arguments (required_arguments_at below cursor.old) cursor.new result }
+    ensures { Gives all_arguments (required_arguments_at below)
+        tokens.now cursor.old cursor.new result }
 {
-    cursor.symbol(b"(")?;
-    arguments(alloc, cursor, below)
+    cursor.symbol(tokens, b"(")?;
+    arguments(alloc, tokens, cursor, below)
 }
 
 // What a printing task prints, if anything, and its end.
-fn printed<'a>(
+fn printed(
     alloc: Global,
-    cursor: &mut Cursor<'_, 'a>,
+    tokens: &Tokens<'_>,
+    cursor: &mut Cursor,
     below: u32,
     at: u32,
     kind: Printing,
-) -> Result<Statement<'a>, OrMemory<Stop>>
-    ensures { Gives statement_tree (printed_with kind (optional_arguments_at below)
-        cursor.old) cursor.new result }
+) -> Result<Statement, OrMemory<Stop>>
+    ensures { Gives statement_tree (printed_with kind (optional_arguments_at below))
+        tokens.now cursor.old cursor.new result }
 {
-    let arguments = optional_arguments(alloc, cursor, below)?;
-    cursor.symbol(b";")?;
+    let arguments = optional_arguments(alloc, tokens, cursor, below)?;
+    cursor.symbol(tokens, b";")?;
     Ok(Statement::Task {
         at,
         task: Task::Print { kind, arguments },
@@ -60,19 +66,20 @@ fn printed<'a>(
 }
 
 // What a printing task prints, and its end.
-fn monitored<'a>(
+fn monitored(
     alloc: Global,
-    cursor: &mut Cursor<'_, 'a>,
+    tokens: &Tokens<'_>,
+    cursor: &mut Cursor,
     below: u32,
     at: u32,
     kind: Printing,
-) -> Result<Statement<'a>, OrMemory<Stop>>
+) -> Result<Statement, OrMemory<Stop>>
     requires { 0 < below }
-    ensures { Gives statement_tree (printed_with kind (required_arguments_at below)
-        cursor.old) cursor.new result }
+    ensures { Gives statement_tree (printed_with kind (required_arguments_at below))
+        tokens.now cursor.old cursor.new result }
 {
-    let arguments = required_arguments(alloc, cursor, below)?;
-    cursor.symbol(b";")?;
+    let arguments = required_arguments(alloc, tokens, cursor, below)?;
+    cursor.symbol(tokens, b";")?;
     Ok(Statement::Task {
         at,
         task: Task::Print { kind, arguments },
@@ -80,27 +87,29 @@ fn monitored<'a>(
 }
 
 /// What stands behind `$display` or `$strobe`, the token of this number (17.1.1 and 17.1.2).
-pub fn print<'a>(
+pub fn print(
     alloc: Global,
-    cursor: &mut Cursor<'_, 'a>,
+    tokens: &Tokens<'_>,
+    cursor: &mut Cursor,
     below: u32,
     at: u32,
     kind: Printing,
-) -> Result<Statement<'a>, OrMemory<Stop>>
-    ensures { Gives statement_tree (print_at kind below cursor.old) cursor.new result }
+) -> Result<Statement, OrMemory<Stop>>
+    ensures { Gives statement_tree (print_at kind below) tokens.now cursor.old cursor.new result }
 {
-    printed(alloc, cursor, below, at, kind)
+    printed(alloc, tokens, cursor, below, at, kind)
 }
 
 /// What stands behind `$monitor`, the token of this number (17.1.3).
-pub fn monitor<'a>(
+pub fn monitor(
     alloc: Global,
-    cursor: &mut Cursor<'_, 'a>,
+    tokens: &Tokens<'_>,
+    cursor: &mut Cursor,
     below: u32,
     at: u32,
-) -> Result<Statement<'a>, OrMemory<Stop>>
+) -> Result<Statement, OrMemory<Stop>>
     requires { 0 < below }
-    ensures { Gives statement_tree (monitor_at below cursor.old) cursor.new result }
+    ensures { Gives statement_tree (monitor_at below) tokens.now cursor.old cursor.new result }
 {
-    monitored(alloc, cursor, below, at, Printing::Monitor)
+    monitored(alloc, tokens, cursor, below, at, Printing::Monitor)
 }

@@ -11,25 +11,27 @@ use std::alloc::Global;
 use vast::expression::Expression;
 use vast::statement::Target;
 use vexpr_parse::{Cursor, Stop};
+use vlex::Tokens;
 
 /// `target = value`
 #[derive(Drop)]
-pub struct Setting<'t> {
-    pub target: Target<'t>,
-    pub value: Box<Expression<'t>>,
+pub struct Setting {
+    pub target: Target,
+    pub value: Box<Expression>,
 }
 
 /// `target = value`
-pub fn read_setting<'a>(
+pub fn read_setting(
     alloc: Global,
-    cursor: &mut Cursor<'_, 'a>,
+    tokens: &Tokens<'_>,
+    cursor: &mut Cursor,
     below: u32,
-) -> Result<Setting<'a>, OrMemory<Stop>>
+) -> Result<Setting, OrMemory<Stop>>
     requires { 0 < below }
-    ensures { Gives setting_tree (reading.setting below cursor.old) cursor.new result }
+    ensures { Gives setting_tree (reading.setting below) tokens.now cursor.old cursor.new result }
 {
-    let target = target(alloc, cursor, below)?;
-    cursor.symbol(b"=")?;
-    let value = value(alloc, cursor, below)?;
+    let target = target(alloc, tokens, cursor, below)?;
+    cursor.symbol(tokens, b"=")?;
+    let value = value(alloc, tokens, cursor, below)?;
     Ok(Setting { target, value })
 }

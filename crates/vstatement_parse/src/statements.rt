@@ -6,6 +6,7 @@ ghost use Rattle.vexpr_parse.specs.Readers.{stop};
 ghost use Rattle.vstatement_parse.specs.Gives.{Gives, ReadsStatements};
 ghost use Rattle.vstatement_parse.specs.Begun.{begun_at, behind_word as behind_word_at, levels_of as levels_of_start, statement_at};
 ghost use Rattle.vgrammar.specs.Statements as reading;
+ghost use Rattle.vexpr_parse.specs.Answers.{ahead};
 
 use crate::assignments::{assignment, trigger};
 use crate::blocks::block;
@@ -22,6 +23,7 @@ use std::alloc::Global;
 use vast::statement::{Printing, Statement};
 use vexpr_parse::{Cursor, Stop};
 use vgrammar::start::{StatementStart, begins_target, start_of};
+use vlex::Tokens;
 
 // How many levels must be left below the first word.
 fn levels_of(start: StatementStart) -> u64
@@ -49,32 +51,35 @@ fn levels_of(start: StatementStart) -> u64
 }
 
 // What stands behind the first word, the token of this number.
-fn behind_word<'a, F: Fn(&mut Cursor<'_, 'a>) -> Result<Statement<'a>, OrMemory<Stop>>>(
+fn behind_word<F: Fn(&mut Cursor) -> Result<Statement, OrMemory<Stop>>>(
     alloc: Global,
     read: &F,
     below: u32,
-    cursor: &mut Cursor<'_, 'a>,
+    tokens: &Tokens<'_>,
+    cursor: &mut Cursor,
     at: u32,
     start: StatementStart,
-) -> Result<Statement<'a>, OrMemory<Stop>>
+) -> Result<Statement, OrMemory<Stop>>
     requires room { nat_le (levels_of_start start) below ≡ true }
     requires callable { F.IsAlwaysCallable read.now }
-    requires reads { ReadsStatements below (F.post read.now) }
-    ensures { Gives statement_tree (behind_word_at below start cursor.old) cursor.new result }
+    requires reads { ReadsStatements tokens.now below (F.post read.now) }
+    ensures { Gives statement_tree (behind_word_at below start)
+        tokens.now cursor.old cursor.new result }
 {
     match start {
         StatementStart::Empty => Ok(Statement::Empty),
-        StatementStart::Begin => block(alloc, read, below, cursor),
-        StatementStart::Trigger => trigger(cursor, at),
-        StatementStart::If => conditional(alloc, read, below, cursor, at),
-        StatementStart::Case(kind) => selected(alloc, read, below, cursor, at, kind),
-        StatementStart::Guarded(guard) => guarded(alloc, read, below, cursor, at, guard),
-        StatementStart::Forever => forever(alloc, read, below, cursor, at),
-        StatementStart::For => counted(alloc, read, below, cursor, at),
-        StatementStart::Delay => delayed(alloc, read, below, cursor, at),
-        StatementStart::Event => waiting(alloc, read, below, cursor, at),
+        StatementStart::Begin => block(alloc, read, below, tokens, cursor),
+        StatementStart::Trigger => trigger(tokens, cursor, at),
+        StatementStart::If => conditional(alloc, read, below, tokens, cursor, at),
+        StatementStart::Case(kind) => selected(alloc, read, below, tokens, cursor, at, kind),
+        StatementStart::Guarded(guard) => guarded(alloc, read, below, tokens, cursor, at, guard),
+        StatementStart::Forever => forever(alloc, read, below, tokens, cursor, at),
+        StatementStart::For => counted(alloc, read, below, tokens, cursor, at),
+        StatementStart::Delay => delayed(alloc, read, below, tokens, cursor, at),
+        StatementStart::Event => waiting(alloc, read, below, tokens, cursor, at),
         StatementStart::Print(Printing::Display) => print(
             alloc,
+            tokens,
             cursor,
             below,
             at,
@@ -82,62 +87,65 @@ fn behind_word<'a, F: Fn(&mut Cursor<'_, 'a>) -> Result<Statement<'a>, OrMemory<
         ),
         StatementStart::Print(Printing::Strobe) => print(
             alloc,
+            tokens,
             cursor,
             below,
             at,
             Printing::Strobe,
         ),
-        StatementStart::Print(Printing::Monitor) => monitor(alloc, cursor, below, at),
-        StatementStart::DumpFile => dump_file(cursor, at),
-        StatementStart::DumpVars => dump_vars(alloc, cursor, at),
-        StatementStart::Dump(kind) => dump(cursor, at, kind),
-        StatementStart::End(stops) => end_run(cursor, at, stops),
+        StatementStart::Print(Printing::Monitor) => monitor(alloc, tokens, cursor, below, at),
+        StatementStart::DumpFile => dump_file(tokens, cursor, at),
+        StatementStart::DumpVars => dump_vars(alloc, tokens, cursor, at),
+        StatementStart::Dump(kind) => dump(tokens, cursor, at, kind),
+        StatementStart::End(stops) => end_run(tokens, cursor, at, stops),
     }
 }
 
 // A statement that begins so.
 #[tactic(auto, using(crate::proofs::LevelTurns::too_low))]
-fn begun<'a, F: Fn(&mut Cursor<'_, 'a>) -> Result<Statement<'a>, OrMemory<Stop>>>(
+fn begun<F: Fn(&mut Cursor) -> Result<Statement, OrMemory<Stop>>>(
     alloc: Global,
     read: &F,
     below: u32,
-    cursor: &mut Cursor<'_, 'a>,
+    tokens: &Tokens<'_>,
+    cursor: &mut Cursor,
     at: u32,
     start: StatementStart,
-) -> Result<Statement<'a>, OrMemory<Stop>>
-    requires word { 0 < length cursor.old }
+) -> Result<Statement, OrMemory<Stop>>
+    requires word { 0 < length (ahead tokens.now cursor.old) }
     requires callable { F.IsAlwaysCallable read.now }
-    requires reads { ReadsStatements below (F.post read.now) }
-    ensures { Gives statement_tree (begun_at below start cursor.old) cursor.new result }
+    requires reads { ReadsStatements tokens.now below (F.post read.now) }
+    ensures { Gives statement_tree (begun_at below start) tokens.now cursor.old cursor.new result }
 {
-    cursor.enter(below, levels_of(start))?;
-    behind_word(alloc, read, below, cursor, at, start)
+    cursor.enter(tokens, below, levels_of(start))?;
+    behind_word(alloc, read, below, tokens, cursor, at, start)
 }
 
 /// A statement with so many levels below it, each of which is read by `read` (clause 9 and A.6.4).
 #[tactic(auto, using(crate::proofs::LevelTurns::nothing_at, crate::proofs::LevelTurns::low_target, crate::proofs::LevelTurns::no_start))]
-pub fn at_level<'a, F: Fn(&mut Cursor<'_, 'a>) -> Result<Statement<'a>, OrMemory<Stop>>>(
+pub fn at_level<F: Fn(&mut Cursor) -> Result<Statement, OrMemory<Stop>>>(
     alloc: Global,
     read: &F,
     below: u32,
-    cursor: &mut Cursor<'_, 'a>,
-) -> Result<Statement<'a>, OrMemory<Stop>>
+    tokens: &Tokens<'_>,
+    cursor: &mut Cursor,
+) -> Result<Statement, OrMemory<Stop>>
     requires callable { F.IsAlwaysCallable read.now }
-    requires reads { ReadsStatements below (F.post read.now) }
-    ensures { Gives statement_tree (statement_at below cursor.old) cursor.new result }
+    requires reads { ReadsStatements tokens.now below (F.post read.now) }
+    ensures { Gives statement_tree (statement_at below) tokens.now cursor.old cursor.new result }
 {
-    let Some(word) = cursor.word() else {
+    let Some(word) = cursor.word(tokens) else {
         return Err(OrMemory::Fault(Stop::NoTree));
     };
     if begins_target(word.text) {
         if below == 0 {
             return Err(OrMemory::Fault(Stop::TooDeep));
         }
-        return assignment(alloc, cursor, below, word.at);
+        return assignment(alloc, tokens, cursor, below, word.token.number);
     }
     match start_of(word.text) {
         None => Err(OrMemory::Fault(Stop::NoTree)),
-        Some(start) => begun(alloc, read, below, cursor, word.at, start),
+        Some(start) => begun(alloc, read, below, tokens, cursor, word.token.number, start),
     }
 }
 
@@ -156,10 +164,11 @@ fn begins_statement(word: &[u8]) -> bool
 
 /// Why nothing is read where no level is left.
 #[tactic(auto, using(crate::proofs::LevelTurns::nothing_there, crate::proofs::LevelTurns::too_deep_there, crate::proofs::LevelTurns::no_tree_there))]
-pub fn no_level(cursor: &Cursor<'_, '_>) -> Stop
-    ensures { reading.statement 0 cursor.now ≡ stop result cursor.now }
+pub fn no_level(tokens: &Tokens<'_>, cursor: &Cursor) -> Stop
+    ensures { reading.statement 0 (ahead tokens.now cursor.now)
+        ≡ stop result (ahead tokens.now cursor.now) }
 {
-    match cursor.word() {
+    match cursor.word(tokens) {
         Some(word) => {
             if begins_statement(word.text) {
                 Stop::TooDeep

@@ -7,18 +7,20 @@ ghost use Rattle.vstatement_parse.specs.Gives.{Gives, dump_at, dump_file_at, end
 use crate::words::{numbered, quoted};
 use basis::OrMemory;
 use vast::statement::{Dumping, Statement, Task};
-use vast::syntax::Word;
+use vast::token::Token;
 use vexpr_parse::{Cursor, Stop};
+use vlex::Tokens;
 
 /// What stands behind `$dumpon` and the like, the token of this number (18.1.3).
-pub fn dump<'a>(
-    cursor: &mut Cursor<'_, 'a>,
+pub fn dump(
+    tokens: &Tokens<'_>,
+    cursor: &mut Cursor,
     at: u32,
     kind: Dumping,
-) -> Result<Statement<'a>, OrMemory<Stop>>
-    ensures { Gives statement_tree (dump_at kind cursor.old) cursor.new result }
+) -> Result<Statement, OrMemory<Stop>>
+    ensures { Gives statement_tree (dump_at kind) tokens.now cursor.old cursor.new result }
 {
-    cursor.symbol(b";")?;
+    cursor.symbol(tokens, b";")?;
     Ok(Statement::Task {
         at,
         task: Task::Dump(kind),
@@ -26,13 +28,17 @@ pub fn dump<'a>(
 }
 
 /// What stands behind `$dumpfile`, the token of this number (18.1.1).
-pub fn dump_file<'a>(cursor: &mut Cursor<'_, 'a>, at: u32) -> Result<Statement<'a>, OrMemory<Stop>>
-    ensures { Gives statement_tree (dump_file_at cursor.old) cursor.new result }
+pub fn dump_file(
+    tokens: &Tokens<'_>,
+    cursor: &mut Cursor,
+    at: u32,
+) -> Result<Statement, OrMemory<Stop>>
+    ensures { Gives statement_tree dump_file_at tokens.now cursor.old cursor.new result }
 {
-    cursor.symbol(b"(")?;
-    let word = quoted(cursor)?;
-    cursor.symbol(b")")?;
-    cursor.symbol(b";")?;
+    cursor.symbol(tokens, b"(")?;
+    let word = quoted(tokens, cursor)?;
+    cursor.symbol(tokens, b")")?;
+    cursor.symbol(tokens, b";")?;
     Ok(Statement::Task {
         at,
         task: Task::DumpFile(word),
@@ -40,13 +46,16 @@ pub fn dump_file<'a>(cursor: &mut Cursor<'_, 'a>, at: u32) -> Result<Statement<'
 }
 
 // A number between parentheses, where one stands.
-fn optional_number<'a>(cursor: &mut Cursor<'_, 'a>) -> Result<Option<Word<'a>>, OrMemory<Stop>>
-    ensures { Gives numbers_tree (optional_number_at cursor.old) cursor.new result }
+fn optional_number(
+    tokens: &Tokens<'_>,
+    cursor: &mut Cursor,
+) -> Result<Option<Token>, OrMemory<Stop>>
+    ensures { Gives numbers_tree optional_number_at tokens.now cursor.old cursor.new result }
 {
-    if cursor.begins(b"(") {
-        cursor.pass();
-        let number = numbered(cursor)?;
-        cursor.symbol(b")")?;
+    if cursor.begins(tokens, b"(") {
+        cursor.pass(tokens);
+        let number = numbered(tokens, cursor)?;
+        cursor.symbol(tokens, b")")?;
         Ok(Some(number))
     } else {
         Ok(None)
@@ -54,15 +63,16 @@ fn optional_number<'a>(cursor: &mut Cursor<'_, 'a>) -> Result<Option<Word<'a>>, 
 }
 
 /// What stands behind `$stop` or `$finish`, the token of this number (17.4).
-pub fn end_run<'a>(
-    cursor: &mut Cursor<'_, 'a>,
+pub fn end_run(
+    tokens: &Tokens<'_>,
+    cursor: &mut Cursor,
     at: u32,
     stops: bool,
-) -> Result<Statement<'a>, OrMemory<Stop>>
-    ensures { Gives statement_tree (end_at stops cursor.old) cursor.new result }
+) -> Result<Statement, OrMemory<Stop>>
+    ensures { Gives statement_tree (end_at stops) tokens.now cursor.old cursor.new result }
 {
-    let number = optional_number(cursor)?;
-    cursor.symbol(b";")?;
+    let number = optional_number(tokens, cursor)?;
+    cursor.symbol(tokens, b";")?;
     Ok(Statement::Task {
         at,
         task: Task::End { stops, number },

@@ -11,16 +11,17 @@ use crate::words::named;
 use basis::OrMemory;
 use vast::statement::{Edge, FurtherTerm, Term};
 use vexpr_parse::{Cursor, Stop};
+use vlex::Tokens;
 
 // `posedge` or `negedge`, where one stands.
-fn edge(cursor: &mut Cursor<'_, '_>) -> Result<Option<Edge>, OrMemory<Stop>>
-    ensures { Gives itself (optional_edge cursor.old) cursor.new result }
+fn edge(tokens: &Tokens<'_>, cursor: &mut Cursor) -> Result<Option<Edge>, OrMemory<Stop>>
+    ensures { Gives itself optional_edge tokens.now cursor.old cursor.new result }
 {
-    if cursor.begins(b"posedge") {
-        cursor.pass();
+    if cursor.begins(tokens, b"posedge") {
+        cursor.pass(tokens);
         Ok(Some(Edge::Rising))
-    } else if cursor.begins(b"negedge") {
-        cursor.pass();
+    } else if cursor.begins(tokens, b"negedge") {
+        cursor.pass(tokens);
         Ok(Some(Edge::Falling))
     } else {
         Ok(None)
@@ -28,23 +29,23 @@ fn edge(cursor: &mut Cursor<'_, '_>) -> Result<Option<Edge>, OrMemory<Stop>>
 }
 
 /// A name, with the edge before it.
-pub fn read_term<'a>(cursor: &mut Cursor<'_, 'a>) -> Result<Term<'a>, OrMemory<Stop>>
-    ensures { Gives term_tree (reading.term cursor.old) cursor.new result }
+pub fn read_term(tokens: &Tokens<'_>, cursor: &mut Cursor) -> Result<Term, OrMemory<Stop>>
+    ensures { Gives term_tree reading.term tokens.now cursor.old cursor.new result }
 {
-    let edge = edge(cursor)?;
-    let name = named(cursor)?;
+    let edge = edge(tokens, cursor)?;
+    let name = named(tokens, cursor)?;
     Ok(Term { edge, name })
 }
 
 // `,` or `or`: whether it is the comma.
-fn comma(cursor: &mut Cursor<'_, '_>) -> Result<bool, OrMemory<Stop>>
-    ensures { Gives itself (worded comma_of cursor.old) cursor.new result }
+fn comma(tokens: &Tokens<'_>, cursor: &mut Cursor) -> Result<bool, OrMemory<Stop>>
+    ensures { Gives itself (worded comma_of) tokens.now cursor.old cursor.new result }
 {
-    if cursor.begins(b",") {
-        cursor.pass();
+    if cursor.begins(tokens, b",") {
+        cursor.pass(tokens);
         Ok(true)
-    } else if cursor.begins(b"or") {
-        cursor.pass();
+    } else if cursor.begins(tokens, b"or") {
+        cursor.pass(tokens);
         Ok(false)
     } else {
         Err(OrMemory::Fault(Stop::NoTree))
@@ -52,10 +53,10 @@ fn comma(cursor: &mut Cursor<'_, '_>) -> Result<bool, OrMemory<Stop>>
 }
 
 /// A further name, behind a comma or `or`.
-pub fn further_term<'a>(cursor: &mut Cursor<'_, 'a>) -> Result<FurtherTerm<'a>, OrMemory<Stop>>
-    ensures { Gives further_tree (reading.further_term cursor.old) cursor.new result }
+pub fn further_term(tokens: &Tokens<'_>, cursor: &mut Cursor) -> Result<FurtherTerm, OrMemory<Stop>>
+    ensures { Gives further_tree reading.further_term tokens.now cursor.old cursor.new result }
 {
-    let by_comma = comma(cursor)?;
-    let term = read_term(cursor)?;
+    let by_comma = comma(tokens, cursor)?;
+    let term = read_term(tokens, cursor)?;
     Ok(FurtherTerm { by_comma, term })
 }

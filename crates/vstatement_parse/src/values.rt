@@ -11,45 +11,50 @@ use basis::OrMemory;
 use std::alloc::Global;
 use vast::expression::Expression;
 use vexpr_parse::{Cursor, Stop, expression};
+use vlex::Tokens;
 
 /// An expression.
-pub fn value<'a>(
+pub fn value(
     alloc: Global,
-    cursor: &mut Cursor<'_, 'a>,
+    tokens: &Tokens<'_>,
+    cursor: &mut Cursor,
     below: u32,
-) -> Result<Box<Expression<'a>>, OrMemory<Stop>>
+) -> Result<Box<Expression>, OrMemory<Stop>>
     requires { 0 < below }
-    ensures { Gives boxed_tree (reading.value below cursor.old) cursor.new result }
+    ensures { Gives boxed_tree (reading.value below) tokens.now cursor.old cursor.new result }
 {
-    let found = expression(alloc, cursor, below)?;
+    let found = expression(alloc, tokens, cursor, below)?;
     Ok(Box::new(alloc, found.tree)?)
 }
 
 /// An expression, and this very word behind it.
-pub fn ended<'a>(
+pub fn ended(
     alloc: Global,
-    cursor: &mut Cursor<'_, 'a>,
+    tokens: &Tokens<'_>,
+    cursor: &mut Cursor,
     below: u32,
     text: &[u8],
-) -> Result<Box<Expression<'a>>, OrMemory<Stop>>
+) -> Result<Box<Expression>, OrMemory<Stop>>
     requires { 0 < below }
-    ensures { Gives ended_tree (paired (reading.value below) (reading.word_only text.now) cursor.old) cursor.new result }
+    ensures { Gives ended_tree (paired (reading.value below) (reading.word_only text.now))
+        tokens.now cursor.old cursor.new result }
 {
-    let found = value(alloc, cursor, below)?;
-    cursor.symbol(text)?;
+    let found = value(alloc, tokens, cursor, below)?;
+    cursor.symbol(tokens, text)?;
     Ok(found)
 }
 
 /// An expression between parentheses.
-pub fn enclosed<'a>(
+pub fn enclosed(
     alloc: Global,
-    cursor: &mut Cursor<'_, 'a>,
+    tokens: &Tokens<'_>,
+    cursor: &mut Cursor,
     below: u32,
-) -> Result<Box<Expression<'a>>, OrMemory<Stop>>
+) -> Result<Box<Expression>, OrMemory<Stop>>
     requires { 0 < below }
     ensures { Gives ended_tree (past (codes "(") (paired (reading.value below)
-        (reading.word_only (codes ")"))) cursor.old) cursor.new result }
+        (reading.word_only (codes ")")))) tokens.now cursor.old cursor.new result }
 {
-    cursor.symbol(b"(")?;
-    ended(alloc, cursor, below, b")")
+    cursor.symbol(tokens, b"(")?;
+    ended(alloc, tokens, cursor, below, b")")
 }

@@ -1,7 +1,7 @@
 // Words that are passed: a name, a number, a string.
 
 ghost use Rattle.std.specs.Prelude.{◌≡◌};
-ghost use Rattle.vast.specs.Trees.{word_text};
+ghost use Rattle.vast.specs.TokenTexts.{token_text};
 ghost use Rattle.vast.specs.Words.{is_string as is_string_text};
 ghost use Rattle.vstatement_parse.specs.Gives.{Gives};
 ghost use Rattle.vgrammar.specs.Parts.{worded};
@@ -9,19 +9,20 @@ ghost use Rattle.vgrammar.specs.Starts.{meant_if};
 ghost use Rattle.vgrammar.specs.Statements as reading;
 
 use basis::OrMemory;
-use vast::syntax::Word;
+use vast::token::Token;
 use vast::words::{is_name, is_number};
 use vexpr_parse::{Cursor, Stop};
+use vlex::Tokens;
 
 /// Passes a name (IEEE 1364-2005, 3.7).
-pub fn named<'a>(cursor: &mut Cursor<'_, 'a>) -> Result<Word<'a>, OrMemory<Stop>>
-    ensures { Gives word_text (reading.named cursor.old) cursor.new result }
+pub fn named(tokens: &Tokens<'_>, cursor: &mut Cursor) -> Result<Token, OrMemory<Stop>>
+    ensures { Gives token_text reading.named tokens.now cursor.old cursor.new result }
 {
-    match cursor.word() {
+    match cursor.word(tokens) {
         Some(word) => {
             if is_name(word.text) {
-                cursor.pass();
-                Ok(word)
+                cursor.pass(tokens);
+                Ok(word.token)
             } else {
                 Err(OrMemory::Fault(Stop::NoTree))
             }
@@ -31,14 +32,14 @@ pub fn named<'a>(cursor: &mut Cursor<'_, 'a>) -> Result<Word<'a>, OrMemory<Stop>
 }
 
 /// Passes a number (3.5.1).
-pub fn numbered<'a>(cursor: &mut Cursor<'_, 'a>) -> Result<Word<'a>, OrMemory<Stop>>
-    ensures { Gives word_text (reading.numbered cursor.old) cursor.new result }
+pub fn numbered(tokens: &Tokens<'_>, cursor: &mut Cursor) -> Result<Token, OrMemory<Stop>>
+    ensures { Gives token_text reading.numbered tokens.now cursor.old cursor.new result }
 {
-    match cursor.word() {
+    match cursor.word(tokens) {
         Some(word) => {
             if is_number(word.text) {
-                cursor.pass();
-                Ok(word)
+                cursor.pass(tokens);
+                Ok(word.token)
             } else {
                 Err(OrMemory::Fault(Stop::NoTree))
             }
@@ -58,14 +59,15 @@ pub fn is_string(text: &[u8]) -> bool
 }
 
 /// Passes a string.
-pub fn quoted<'a>(cursor: &mut Cursor<'_, 'a>) -> Result<Word<'a>, OrMemory<Stop>>
-    ensures { Gives word_text (worded (meant_if is_string_text) cursor.old) cursor.new result }
+pub fn quoted(tokens: &Tokens<'_>, cursor: &mut Cursor) -> Result<Token, OrMemory<Stop>>
+    ensures { Gives token_text (worded (meant_if is_string_text))
+        tokens.now cursor.old cursor.new result }
 {
-    match cursor.word() {
+    match cursor.word(tokens) {
         Some(word) => {
             if is_string(word.text) {
-                cursor.pass();
-                Ok(word)
+                cursor.pass(tokens);
+                Ok(word.token)
             } else {
                 Err(OrMemory::Fault(Stop::NoTree))
             }

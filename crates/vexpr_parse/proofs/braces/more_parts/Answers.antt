@@ -1,23 +1,28 @@
-use Rattle.vexpr_parse.specs.Answers.{tree_in}
+use Rattle.vexpr_parse.specs.Texts.{words_of}
+use Rattle.vexpr_parse.specs.Answers.{ahead, tree_in}
 use Rattle.vexpr_parse.proofs.Turning.{part_fewer, parts_pushed, deepest_so, both_within}
 use Rattle.vexpr_parse.proofs.braces.more_parts.Goals as goal
 
 pub parts-smaller : goal.parts-smaller
 parts-smaller g c =
+    let words = words_of c.args.tokens.now in
+    let left = ahead c.args.tokens.now in
     let found = c.requires.reads _ _ 0 _ c.in_ok-part.ensures in
-    part_fewer c.args.below c.parts.cursor c.pass.new.self c.read.new.arg2 (tree_in c.in_ok-part.part)
+    part_fewer c.args.below (left c.parts.cursor) (left c.pass.new.self) (left c.read.new.arg2) (tree_in words c.in_ok-part.part)
     c.begins.result c.begins.ensures c.parts-test.true c.pass.ensures found.0
 
 pub parts-preserved : goal.parts-preserved
 parts-preserved g c =
+    let words = words_of c.args.tokens.now in
+    let left = ahead c.args.tokens.now in
     let found = c.requires.reads _ _ 0 _ c.in_ok-part.ensures in
     record {
       read =
-          parts_pushed c.args.below c.parts.trees.items c.push-in-parts.new.self.items c.in_ok-part.part.tree c.parts.cursor
-          c.pass.new.self c.read.new.arg2 c.begins.result _ c.in_ok-push-2.ensures.items c.begins.ensures c.parts-test.true
+          parts_pushed words c.args.below c.parts.trees.items c.push-in-parts.new.self.items c.in_ok-part.part.tree (left c.parts.cursor)
+          (left c.pass.new.self) (left c.read.new.arg2) c.begins.result _ c.in_ok-push-2.ensures.items c.begins.ensures c.parts-test.true
           c.pass.ensures found.0 c.parts.invariant.read;
       deep =
-          deepest_so c.parts.trees.items c.push-in-parts.new.self.items c.in_ok-part.part.tree c.parts.depth c.larger-depth.result
+          deepest_so words c.parts.trees.items c.push-in-parts.new.self.items c.in_ok-part.part.tree c.parts.depth c.larger-depth.result
           c.in_ok-part.part.depth c.in_ok-push-2.ensures.items c.parts.invariant.deep found.1.0 c.larger-depth.ensures;
       within =
           both_within c.parts.depth c.in_ok-part.part.depth c.larger-depth.result c.args.below c.larger-depth.ensures

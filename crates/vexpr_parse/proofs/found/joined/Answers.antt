@@ -3,4 +3,4 @@ use Rattle.vast.proofs.ExpressionLemmas.{tree_of_concatenation}
 use Rattle.vexpr_parse.proofs.found.joined.Goals as goal
 
 pub returns : goal.returns
-returns c = (tree_of_concatenation c.args.at c.args.parts.trees, refl)
+returns c = λ words. (tree_of_concatenation words c.args.at c.args.parts.trees, refl)

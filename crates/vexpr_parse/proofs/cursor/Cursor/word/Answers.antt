@@ -1,10 +1,14 @@
-use Rattle.std.proofs.Common.{◌≡◌, ◌∷◌, List, drop, subst}
-use Rattle.vlex.specs.Tokenized.{pieces_of}
-use Rattle.vast.specs.Syntax.{Text}
-use Rattle.vexpr_parse.proofs.Cursors.{text_here}
+use Rattle.std.proofs.Common.{◌≤◌, subst}
+use Rattle.vexpr_parse.proofs.Cursors.{ahead_text, token_letters, ahead_none}
 use Rattle.vexpr_parse.proofs.cursor.Cursor.word.Goals as goal
 
-pub returns-then-self : goal.returns-then-self
-returns-then-self c =
-    let P : List Text → Type 0 = λ words. words ≡ c.text.result.now ∷ drop 1 words in
-    subst P c.self.view_is (text_here (pieces_of c.self.inside.tokens.now) c.self.inside.at c.text.result.now c.text.ensures)
+pub returns-then-self-len : goal.returns-then-self-len
+returns-then-self-len c = (
+  ahead_text c.args.tokens.now c.args.self.now c.text.result.now c.text.ensures,
+  token_letters c.args.tokens.now c.args.self.now.at c.text.result.now c.text.ensures,
+)
+
+pub returns-else-self-len : goal.returns-else-self-len
+returns-else-self-len c =
+    ahead_none c.args.tokens.now c.args.self.now
+    (subst (λ n. n ≤ c.args.self.now.at) c.len.ensures.value c.if-self-len.false)

@@ -1,0 +1,11 @@
+-- The letters of a token that a tree keeps by its number, among the words of the text.
+use Rattle.std.specs.Prelude.{List, [], Option, Some, None, slice_get}
+use Rattle.vast.specs.Syntax.{Text}
+use Rattle.vast.specs.declared.token.Token.{Token}
+
+abbrev pub letters : Option Text → Text
+letters None = []
+letters (Some text) = text
+
+abbrev pub token_text : List Text → Token → Text
+token_text words token = letters (slice_get words token.number)
