@@ -6,7 +6,7 @@ use vrace::{At, Fault};
 use vsrc::Place;
 
 // Each refusal but want of memory, which nobody here can make, with the number that docs/FAULTS.md gives it.
-const NUMBERS: [(Fault, &str); 22] = [
+const NUMBERS: [(Fault, &str); 23] = [
     (Fault::NotEnded(At(None)), "E101"),
     (Fault::BadToken(At(None)), "E102"),
     (Fault::Directive(At(None)), "E110"),
@@ -17,6 +17,7 @@ const NUMBERS: [(Fault, &str); 22] = [
     (Fault::NoTree(At(None)), "E201"),
     (Fault::Outside(At(None)), "E202"),
     (Fault::TooDeep(At(None)), "E203"),
+    (Fault::NotYet(At(None)), "E299"),
     (Fault::NoTop(At(None)), "E301"),
     (Fault::Doubled(At(None)), "E302"),
     (Fault::Unknown(At(None)), "E303"),

@@ -1,24 +1,65 @@
--- A rule that the only tree of a text breaks leaves the text without a design.
-use Rattle.std.proofs.Common.{◌≡◌, inr, ℕ, List, Option, Result, Ok, Err, IfErr, subst}
-use Rattle.vsrc.specs.Expansion.{expanded_text}
-use Rattle.vast.specs.Syntax.{SourceTree}
+-- A rule that what runs of the only tree of a text breaks leaves the text without a design.
+use Rattle.std.proofs.Common.{◌≡◌, inr, ℕ, List, Option, Some, None, Result, Ok, Err, IfErr, refl, sym, ap, subst, ◌∙◌}
+use Rattle.vsrc.specs.Source.{Source}
+use Rattle.vsrc.specs.Expansion.{expansion}
+use Rattle.vlex.specs.Tokenized.{Tokenized, pieces_of}
+use Rattle.vlex.specs.Lexed.{Piece}
+use Rattle.vast.specs.Syntax as small
+use Rattle.vast.specs.Modules.{SourceTree, DerivesText}
+use Rattle.vexpr_parse.specs.Texts.{words_of}
+use Rattle.vparse.specs.Refusals.{HasNoText, IsOnlyText}
 use Rattle.velab.specs.Elaborate.{Elaborates}
+use Rattle.velab.specs.Runnable.{runnable}
 use Rattle.velab.specs.Reasons.{IsDesignReason, HasNoDesign}
 use Rattle.velab.specs.declared.fault.ElabFault.{ElabFault}
-use Rattle.vrace.specs.Replays.{AreRead}
-use Rattle.vrace.specs.Unique.{IsReadAs}
-use Rattle.vrace.specs.Refusals.{Breaks, IsTextReason, IsDesignFault}
+use Rattle.vrace.specs.Replays.{AreRead, IsTreeOf, texts_of}
+use Rattle.vrace.specs.Unique.{IsCut, IsReadAs, IsRunAs}
+use Rattle.vrace.specs.Refusals.{Breaks, IsTextReason, IsDesignFault, IsDesignless, IsNotRun, IsTreeless}
 use Rattle.vrace.specs.declared.fault.Fault.{Fault}
 
-pub breaks : (text : List ℕ) (tree : SourceTree) (top : Option (List ℕ)) (fault : ElabFault) → IsReadAs text tree →
-    IsDesignReason tree top fault → HasNoDesign tree top → Breaks text top fault
-breaks text tree top fault read reason none = (
-  (λ scale design is. none scale design (subst (λ t. Elaborates t top scale design) (read.only is.tree is.is_tree) is.elaborated)),
-  (tree, read.is_tree, reason),
+some_is : {A : Type 0} (x y : A) → Some x ≡ Some y → x ≡ y
+some_is x y e = cc
+
+module _ (source : Source) (tokens : Tokenized) (cut : IsCut source tokens) where
+  -- the words of any tree of the text are those of its tokens
+  at_words : (tree : SourceTree) → IsTreeOf source.text tree → DerivesText (words_of tokens) tree
+  at_words tree is =
+      subst (λ pieces. DerivesText (texts_of pieces) tree) (cut.only is.pieces is.lexed) is.derived
+
+  pub treeless : HasNoText (words_of tokens) → IsTreeless source.text
+  treeless none tree is = none tree (at_words tree is)
+
+  pub read_as : (tree : SourceTree) → DerivesText (words_of tokens) tree → IsOnlyText (words_of tokens) tree → IsReadAs source.text tree
+  read_as tree derived only = record {
+    is_tree = record { pieces = pieces_of tokens; lexed = cut.are_tokens.lexed; derived = derived };
+    only = λ other is. only other (at_words other is);
+  }
+
+pub not_run : (text : List ℕ) (tree : SourceTree) (top : Option (List ℕ)) → IsReadAs text tree → runnable tree ≡ None →
+    IsDesignless text top × IsNotRun text
+not_run text tree top read none = (
+  (λ scale design is.
+    let clash : Some is.running ≡ None = sym is.runs ∙ ap runnable (read.only is.tree is.is_tree) ∙ none in cc),
+  (tree, read.is_tree, none),
 )
 
+pub breaks : (text : List ℕ) (running : small.SourceTree) (top : Option (List ℕ)) (fault : ElabFault) → IsRunAs text running →
+    IsDesignReason running top fault → HasNoDesign running top → Breaks text top fault
+breaks text running top fault run reason none = (
+  (λ scale design is.
+    let same : is.running ≡ running =
+        some_is is.running running (sym is.runs ∙ ap runnable (run.is_read.only is.tree is.is_tree) ∙ run.runs) in
+    none scale design (subst (λ t. Elaborates t top scale design) same is.elaborated)),
+  record { tree = run.tree; is_tree = run.is_read.is_tree; running = running; runs = run.runs; broken = reason },
+)
+
+same_source : (one other : Source) → Ok one ≡ Ok other → one ≡ other
+same_source one other e = cc
+
 -- a fault of the text that the files make is one of the design
-pub err_of_text : {T : Type 0} (r : Result T Fault) (files : List (List ℕ)) (text : List ℕ) (top : Option (List ℕ)) → AreRead files → text ≡ expanded_text files →
-    IfErr r (λ fault. IsTextReason text top fault) → IfErr r (λ fault. IsDesignFault files top fault)
-err_of_text (Ok x) files text top read same reason = tt
-err_of_text (Err fault) files text top read same reason = inr (read, subst (λ t. IsTextReason t top fault) same reason)
+pub err_of_text : {T : Type 0} (r : Result T Fault) (files : List (List ℕ)) (source : Source) (top : Option (List ℕ)) → AreRead files →
+    expansion files ≡ Ok source →
+    IfErr r (IsTextReason source top) → IfErr r (IsDesignFault files top)
+err_of_text (Ok x) files source top read is reason = tt
+err_of_text (Err fault) files source top read is reason =
+    inr (read, subst (λ t. IsTextReason t top fault) (same_source source read.source (sym is ∙ read.expanded)) reason)

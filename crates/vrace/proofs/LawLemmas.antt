@@ -2,14 +2,16 @@
 use Rattle.std.proofs.Common.{◌≡◌, ℕ, List, [], Option, None, Some, Result, Ok, Err, true, false, inl, inr, sym, ap, subst, ◌∙◌, arith, true≢false}
 use Rattle.vsrc.specs.Source.{Source}
 use Rattle.basis.specs.declared.timescale.Timescale.{Timescale}
-use Rattle.vsrc.specs.Expansion.{expansion, expanded_text, expanded_timescale}
+use Rattle.vsrc.specs.Expansion.{expansion, text_of, expanded_text, expanded_timescale}
 use Rattle.vsrc.specs.declared.fault.SrcFault.{SrcFault}
 use Rattle.vlex.specs.Laws.{CutsOneWay}
-use Rattle.vast.specs.Syntax.{Text, SourceTree}
-use Rattle.vast.specs.Derives.{Derives}
+use Rattle.vast.specs.Syntax.{Text}
+use Rattle.vast.specs.Syntax as small
+use Rattle.vast.specs.Modules.{SourceTree, DerivesText}
 use Rattle.vast.specs.Design.{Design}
-use Rattle.vparse.specs.Laws.{ReadsCompletely}
+use Rattle.vgrammar.specs.SourcePlaces.{IsOnly}
 use Rattle.velab.specs.Elaborate.{Elaborates}
+use Rattle.velab.specs.Runnable.{runnable}
 use Rattle.velab.specs.Laws.{ElaboratesOneWay}
 use Rattle.sched_core.specs.LogText.{OneLogForText}
 use Rattle.sched_core.specs.Replay.{EndsAfter}
@@ -19,12 +21,12 @@ use Rattle.vrace.specs.Asked.{Asked}
 use Rattle.vrace.specs.Replays.{AreRead, texts_of, IsTreeOf, IsDesignOf, IsDesignOfFiles, grain_under, Played, setting_of, IsDump}
 use Rattle.vrace.specs.Refusals.{IsDesignFault, IsFileReason, IsTextReason, IsRunReason, IsReason, IsOfMemory, IsOfWriting}
 use Rattle.vrace.specs.declared.fault.Fault.{Fault}
-use Rattle.vrace.specs.declared.fault.Fault.TheVariants.{NotEnded, BadToken, Directive, NoMacro, Growth, LeftOpen, Timescales, NoTree, Outside, TooDeep, NoTop, Doubled, Unknown, Width, TooMany, BadLog, NoSuchChoice, TooManySteps, OutOfLimit, BadReport, FalseEnd, FalseRace, FalseHead, Memory, Write, Read, TooLong}
+use Rattle.vrace.specs.declared.fault.Fault.TheVariants.{NotEnded, BadToken, Directive, NoMacro, Growth, LeftOpen, Timescales, NoTree, Outside, TooDeep, NotYet, NoTop, Doubled, Unknown, Width, TooMany, BadLog, NoSuchChoice, TooManySteps, OutOfLimit, BadReport, FalseEnd, FalseRace, FalseHead, Memory, Write, Read, TooLong}
 use Rattle.vreport.specs.RunLaws.{same_end, never_missing, never_more}
 
 pub record Laws : Type 0 where
   pub one_list : CutsOneWay
-  pub reads : ReadsCompletely
+  pub one_tree : IsOnly
   pub one_design : ElaboratesOneWay
   pub one_log : OneLogForText
 
@@ -35,14 +37,8 @@ read_of (Err fault) other = other
 same_ok : (s t : Source) (r : Result Source SrcFault) → r ≡ Ok s → r ≡ Ok t → s ≡ t
 same_ok s t r e f = ap (λ (q : Result Source SrcFault). read_of q s) (sym e ∙ f)
 
-abbrev whole : SourceTree → Option (SourceTree × List Text)
-whole tree = Some (tree, [])
-
-same_tree : (t u : SourceTree) → whole t ≡ whole u → t ≡ u
-same_tree t u = ap tree_of where
-  tree_of : Option (SourceTree × List Text) → SourceTree
-  tree_of None = []
-  tree_of (Some read) = read.0
+some_is : {A : Type 0} (x y : A) → Some x ≡ Some y → x ≡ y
+some_is x y e = cc
 
 -- where files are read and have a design, only want of memory is told of them
 module _ (laws : Laws) (files : List (List ℕ)) (read : AreRead files) where
@@ -62,6 +58,7 @@ module _ (laws : Laws) (files : List (List ℕ)) (read : AreRead files) where
   not_for_files (NoTree at) r = absurd r
   not_for_files (Outside at) r = absurd r
   not_for_files (TooDeep at) r = absurd r
+  not_for_files (NotYet at) r = absurd r
   not_for_files (NoTop at) r = absurd r
   not_for_files (Doubled at) r = absurd r
   not_for_files (Unknown at) r = absurd r
@@ -79,38 +76,44 @@ module _ (laws : Laws) (files : List (List ℕ)) (read : AreRead files) where
   not_for_files Read r = absurd r
 
   module _ (top : Option Text) (design : Design) (is_design : IsDesignOfFiles files top design) where
-    not_for_text : (fault : Fault) → IsTextReason (expanded_text files) top fault → IsOfMemory fault
-    not_for_text (NotEnded at) r = absurd (r.0 is_design.is_tree.pieces is_design.is_tree.lexed)
-    not_for_text (BadToken at) r = absurd (r.0 is_design.is_tree.pieces is_design.is_tree.lexed)
-    not_for_text (NoTree at) r = absurd (r.1 is_design.tree is_design.is_tree)
-    not_for_text (Outside at) r = absurd (r.1 is_design.tree is_design.is_tree)
-    not_for_text (TooDeep at) r = absurd (r.1 is_design.tree is_design.is_tree)
-    not_for_text (NoTop at) (token, (none, broken)) = absurd (none (expanded_timescale files) design is_design)
-    not_for_text (Doubled at) (token, (none, broken)) = absurd (none (expanded_timescale files) design is_design)
-    not_for_text (Unknown at) (token, (none, broken)) = absurd (none (expanded_timescale files) design is_design)
-    not_for_text (Width at) (token, (none, broken)) = absurd (none (expanded_timescale files) design is_design)
-    not_for_text (TooMany at) (token, (none, broken)) = absurd (none (expanded_timescale files) design is_design)
-    not_for_text (Memory m) r = tt
-    not_for_text (Directive at) r = absurd r
-    not_for_text (NoMacro at) r = absurd r
-    not_for_text (Growth at) r = absurd r
-    not_for_text (LeftOpen at) r = absurd r
-    not_for_text (Timescales at) r = absurd r
-    not_for_text BadLog r = absurd r
-    not_for_text NoSuchChoice r = absurd r
-    not_for_text TooManySteps r = absurd r
-    not_for_text OutOfLimit r = absurd r
-    not_for_text BadReport r = absurd r
-    not_for_text (FalseEnd i) r = absurd r
-    not_for_text (FalseRace i) r = absurd r
-    not_for_text FalseHead r = absurd r
-    not_for_text Write r = absurd r
-    not_for_text Read r = absurd r
-    not_for_text TooLong r = absurd r
+    -- so it is of the text that the files make
+    module _ (source : Source) (same : expanded_text files ≡ source.text) where
+      here : IsDesignOf source.text (expanded_timescale files) top design
+      here = subst (λ text. IsDesignOf text (expanded_timescale files) top design) same is_design
+
+      not_for_text : (fault : Fault) → IsTextReason source top fault → IsOfMemory fault
+      not_for_text (NotEnded at) r = absurd (r.0 here.is_tree.pieces here.is_tree.lexed)
+      not_for_text (BadToken at) r = absurd (r.0 here.is_tree.pieces here.is_tree.lexed)
+      not_for_text (NoTree at) r = absurd (r.0 here.tree here.is_tree)
+      not_for_text (Outside at) r = absurd (r.0 here.tree here.is_tree)
+      not_for_text (TooDeep at) r = absurd (r.0 here.tree here.is_tree)
+      not_for_text (NotYet at) (none, more) = absurd (none (expanded_timescale files) design here)
+      not_for_text (NoTop at) (token, (none, broken)) = absurd (none (expanded_timescale files) design here)
+      not_for_text (Doubled at) (token, (none, broken)) = absurd (none (expanded_timescale files) design here)
+      not_for_text (Unknown at) (token, (none, broken)) = absurd (none (expanded_timescale files) design here)
+      not_for_text (Width at) (token, (none, broken)) = absurd (none (expanded_timescale files) design here)
+      not_for_text (TooMany at) (token, (none, broken)) = absurd (none (expanded_timescale files) design here)
+      not_for_text (Memory m) r = tt
+      not_for_text (Directive at) r = absurd r
+      not_for_text (NoMacro at) r = absurd r
+      not_for_text (Growth at) r = absurd r
+      not_for_text (LeftOpen at) r = absurd r
+      not_for_text (Timescales at) r = absurd r
+      not_for_text BadLog r = absurd r
+      not_for_text NoSuchChoice r = absurd r
+      not_for_text TooManySteps r = absurd r
+      not_for_text OutOfLimit r = absurd r
+      not_for_text BadReport r = absurd r
+      not_for_text (FalseEnd i) r = absurd r
+      not_for_text (FalseRace i) r = absurd r
+      not_for_text FalseHead r = absurd r
+      not_for_text Write r = absurd r
+      not_for_text Read r = absurd r
+      not_for_text TooLong r = absurd r
 
     pub not_for_design : (fault : Fault) → IsDesignFault files top fault → IsOfMemory fault
     not_for_design fault (inl r) = not_for_files fault r
-    not_for_design fault (inr (there, r)) = not_for_text fault r
+    not_for_design fault (inr (there, r)) = not_for_text there.source (ap text_of there.expanded) fault r
 
 of_writing : (fault : Fault) → IsOfMemory fault → IsOfWriting fault
 of_writing (Memory m) r = tt
@@ -124,6 +127,7 @@ of_writing (Timescales at) r = absurd r
 of_writing (NoTree at) r = absurd r
 of_writing (Outside at) r = absurd r
 of_writing (TooDeep at) r = absurd r
+of_writing (NotYet at) r = absurd r
 of_writing (NoTop at) r = absurd r
 of_writing (Doubled at) r = absurd r
 of_writing (Unknown at) r = absurd r
@@ -142,17 +146,18 @@ of_writing Read r = absurd r
 of_writing TooLong r = absurd r
 
 module _ (laws : Laws) where
-  one_tree : (text : List ℕ) (t u : SourceTree) → IsTreeOf text t → IsTreeOf text u → t ≡ u
-  one_tree text t u a b =
+  same_tree : (text : List ℕ) (t u : SourceTree) → IsTreeOf text t → IsTreeOf text u → t ≡ u
+  same_tree text t u a b =
       let pieces = laws.one_list text a.pieces b.pieces a.lexed b.lexed in
-      let here = subst (λ ps. Derives (texts_of ps) t) pieces a.derived in
-      same_tree t u (sym (laws.reads (texts_of b.pieces) t here) ∙ laws.reads (texts_of b.pieces) u b.derived)
+      let here = subst (λ ps. DerivesText (texts_of ps) t) pieces a.derived in
+      laws.one_tree 64 64 (texts_of b.pieces) t u here b.derived
 
   pub one_design_of : (text : List ℕ) (scale : Timescale) (top : Option Text) (d e : Design) →
       IsDesignOf text scale top d → IsDesignOf text scale top e → d ≡ e
   one_design_of text scale top d e a b =
-      let tree = one_tree text a.tree b.tree a.is_tree b.is_tree in
-      laws.one_design b.tree top scale d e (subst (λ t. Elaborates t top scale d) tree a.elaborated) b.elaborated
+      let tree = same_tree text a.tree b.tree a.is_tree b.is_tree in
+      let run : a.running ≡ b.running = some_is a.running b.running (sym a.runs ∙ ap runnable tree ∙ b.runs) in
+      laws.one_design b.running top scale d e (subst (λ t. Elaborates t top scale d) run a.elaborated) b.elaborated
 
   module _ (files : List (List ℕ)) (asked : Asked) (log : List ℕ) where
     module _ (p q : Played files asked log) where
@@ -196,6 +201,7 @@ module _ (laws : Laws) where
       not_for_run (NoTree at) r = absurd r
       not_for_run (Outside at) r = absurd r
       not_for_run (TooDeep at) r = absurd r
+      not_for_run (NotYet at) r = absurd r
       not_for_run (NoTop at) r = absurd r
       not_for_run (Doubled at) r = absurd r
       not_for_run (Unknown at) r = absurd r

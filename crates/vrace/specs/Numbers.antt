@@ -4,7 +4,7 @@ use Rattle.vrace.specs.Places.{place_text}
 use Rattle.vrace.specs.declared.fault.Detail.{Detail}
 use Rattle.vrace.specs.declared.fault.Detail.TheVariants.{Nothing, Place, Item}
 use Rattle.vrace.specs.declared.fault.Fault.{Fault}
-use Rattle.vrace.specs.declared.fault.Fault.TheVariants.{NotEnded, BadToken, Directive, NoMacro, Growth, LeftOpen, Timescales, NoTree, Outside, TooDeep, NoTop, Doubled, Unknown, Width, TooMany, BadLog, NoSuchChoice, TooManySteps, OutOfLimit, BadReport, FalseEnd, FalseRace, FalseHead, Memory, Write, Read, TooLong}
+use Rattle.vrace.specs.declared.fault.Fault.TheVariants.{NotEnded, BadToken, Directive, NoMacro, Growth, LeftOpen, Timescales, NoTree, Outside, TooDeep, NotYet, NoTop, Doubled, Unknown, Width, TooMany, BadLog, NoSuchChoice, TooManySteps, OutOfLimit, BadReport, FalseEnd, FalseRace, FalseHead, Memory, Write, Read, TooLong}
 
 abbrev pub number_of : Fault → ℕ
 number_of (NotEnded at) = 101
@@ -17,6 +17,7 @@ number_of (Timescales at) = 114
 number_of (NoTree at) = 201
 number_of (Outside at) = 202
 number_of (TooDeep at) = 203
+number_of (NotYet at) = 299
 number_of (NoTop at) = 301
 number_of (Doubled at) = 302
 number_of (Unknown at) = 303
@@ -47,6 +48,7 @@ detail_of (Timescales at) = Place at
 detail_of (NoTree at) = Place at
 detail_of (Outside at) = Place at
 detail_of (TooDeep at) = Place at
+detail_of (NotYet at) = Place at
 detail_of (NoTop at) = Place at
 detail_of (Doubled at) = Place at
 detail_of (Unknown at) = Place at

@@ -1,38 +1,38 @@
 -- When a replay is refused, and what then stands written.
-use Rattle.std.specs.Prelude.{◌≡◌, ℕ, ◌<◌, ◌≤◌, ◌⊎◌, List, Option, Some, Ok, Err, true, false, length, take, drop, slice_get}
+use Rattle.std.specs.Prelude.{◌≡◌, ℕ, ◌<◌, ◌≤◌, ◌⊎◌, List, Option, Some, None, Err, take}
 use Rattle.std.specs.Io.KnownBytes.{Appends}
 use Rattle.basis.specs.declared.timescale.Timescale.{Timescale}
-use Rattle.vsrc.specs.Expansion.{expansion, expanded_text, expanded_timescale}
+use Rattle.vsrc.specs.Source.{Source}
+use Rattle.vsrc.specs.Expansion.{expansion}
 use Rattle.vsrc.specs.declared.fault.SrcFault.{SrcFault}
 use Rattle.vsrc.specs.declared.fault.SrcFault.TheVariants as source
 use Rattle.vsrc.specs.declared.expanded.Place.{Place}
-use Rattle.vlex.specs.Lexed.{Lexed, Piece, HasNoTokens, StopsAt, IsOpen}
-use Rattle.vast.specs.Syntax.{SourceTree}
+use Rattle.vlex.specs.Lexed.{HasNoTokens, IsTokenReason}
+use Rattle.vlex.specs.Tokenized.{Tokenized}
+use Rattle.vlex.specs.declared.fault.LexFault.TheVariants as pieces
+use Rattle.vast.specs.Syntax as small
+use Rattle.vast.specs.Modules.{SourceTree}
 use Rattle.vast.specs.Design.{Design}
+use Rattle.vparse.specs.Refusals.{IsRefusal}
+use Rattle.vparse.specs.declared.fault.SyntaxFault.{SyntaxFault}
+use Rattle.vparse.specs.declared.fault.SyntaxFault.TheVariants as words
+use Rattle.velab.specs.Runnable.{runnable}
 use Rattle.velab.specs.Reasons.{IsDesignReason}
 use Rattle.velab.specs.declared.fault.ElabFault.{ElabFault}
 use Rattle.velab.specs.declared.fault.ElabFault.TheVariants as elab
 use Rattle.sched_core.specs.LogText.{IsNoNamedLogText}
 use Rattle.sched_core.specs.Replay.{IsMissing, TakesMore}
 use Rattle.vmodel.specs.Run.{rules_of}
-use Rattle.vparse.specs.Levels.{openings}
-use Rattle.vparse.specs.Profile.{is_outside}
 use Rattle.vcd_text.specs.declared.metered.Metered.{Metered}
 use Rattle.vrace.specs.Asked.{Asked}
-use Rattle.vrace.specs.Replays.{limit, total, AreRead, texts_of, IsTreeOf, IsDesignOf, IsDesignOfFiles, Played, setting_of, IsDump}
+use Rattle.vrace.specs.Replays.{limit, total, AreRead, AreTokens, IsTreeOf, IsDesignOf, IsDesignOfFiles, Played, setting_of, IsDump}
 use Rattle.vrace.specs.declared.fault.At.{At}
 use Rattle.vrace.specs.declared.fault.Fault.{Fault}
-use Rattle.vrace.specs.declared.fault.Fault.TheVariants.{NotEnded, BadToken, Directive, NoMacro, Growth, LeftOpen, Timescales, NoTree, Outside, TooDeep, NoTop, Doubled, Unknown, Width, TooMany, BadLog, NoSuchChoice, TooManySteps, Memory, Write, TooLong}
+use Rattle.vrace.specs.declared.fault.Fault.TheVariants.{NotEnded, BadToken, Directive, NoMacro, Growth, LeftOpen, Timescales, NoTree, Outside, TooDeep, NotYet, NoTop, Doubled, Unknown, Width, TooMany, BadLog, NoSuchChoice, TooManySteps, Memory, Write, TooLong}
 
-abbrev pub HasTokens : List ℕ → Type 0
-HasTokens text = (pieces : List Piece) × Lexed text pieces
-
--- where the text's pieces stop, a comment or a string is open, or none is
-abbrev pub StopsOpen : List ℕ → Type 0
-StopsOpen text = (at : ℕ) × StopsAt text at × IsOpen (drop at text)
-
-abbrev pub StopsBad : List ℕ → Type 0
-StopsBad text = (at : ℕ) × StopsAt text at × ¬ IsOpen (drop at text)
+-- where a fault was found is told: this holds of its place
+abbrev pub IsAt : At → (Place → Type 0) → Type 0
+IsAt at P = (place : Place) × (at ≡ record { 0 = Some place }) × P place
 
 abbrev pub IsTreeless : List ℕ → Type 0
 IsTreeless text = (tree : SourceTree) → IsTreeOf text tree → ⊥
@@ -40,33 +40,30 @@ IsTreeless text = (tree : SourceTree) → IsTreeOf text tree → ⊥
 abbrev pub IsDesignless : List ℕ → Option (List ℕ) → Type 0
 IsDesignless text top = (scale : Timescale) (design : Design) → IsDesignOf text scale top design → ⊥
 
--- the text has a tree, and a rule of its design is broken there
+-- the first word of the text that can't follow those before it is refused so
+abbrev pub HasRefusal : Source → SyntaxFault → Type 0
+HasRefusal source fault = (tokens : Tokenized) × AreTokens source tokens × IsRefusal tokens fault
+
+-- the text has a tree, and there is more in it than runs
+abbrev pub IsNotRun : List ℕ → Type 0
+IsNotRun text = (tree : SourceTree) × IsTreeOf text tree × (runnable tree ≡ None)
+
+-- the text has a tree that runs, and a rule of its design is broken there
+pub record IsBroken (text : List ℕ) (top : Option (List ℕ)) (fault : ElabFault) : Type 0 where
+  pub tree : SourceTree
+  pub is_tree : IsTreeOf text tree
+  pub running : small.SourceTree
+  pub runs : runnable tree ≡ Some running
+  pub broken : IsDesignReason running top fault
+
 abbrev pub Breaks : List ℕ → Option (List ℕ) → ElabFault → Type 0
-Breaks text top fault = IsDesignless text top × ((tree : SourceTree) × IsTreeOf text tree × IsDesignReason tree top fault)
-
--- a word of the text stands outside the profile
-pub record HasWordOutside (text : List ℕ) : Type 0 where
-  pub pieces : List Piece
-  pub lexed : Lexed text pieces
-  pub index : ℕ
-  pub word : List ℕ
-  pub stands : slice_get (texts_of pieces) index ≡ Some word
-  pub outside : is_outside word ≡ true
-
--- a word of the text, or its end, stands behind 63 words `begin` or `#` at least (docs/LANGUAGE.md, "Depth")
-pub record HasDepth (text : List ℕ) : Type 0 where
-  pub pieces : List Piece
-  pub lexed : Lexed text pieces
-  pub index : ℕ
-  pub within : index ≤ length pieces
-  pub deep : 63 ≤ openings (take index (texts_of pieces))
+Breaks text top fault = IsDesignless text top × IsBroken text top fault
 
 -- the directives and macros of the files have this fault, at this place
 abbrev pub IsRefusedBy : (Place → SrcFault) → List (List ℕ) → At → Type 0
-IsRefusedBy fault files at =
-    (total files ≤ limit) × ((place : Place) × (expansion files ≡ Err (fault place)) × (at ≡ record { 0 = Some place }))
+IsRefusedBy fault files at = (total files ≤ limit) × IsAt at (λ place. expansion files ≡ Err (fault place))
 
--- what a fault of the files says of them; below the place of a fault is shown, and not told
+-- what a fault of the files says of them
 abbrev pub IsFileReason : List (List ℕ) → Fault → Type 0
 IsFileReason files (Directive at) = IsRefusedBy source.Directive files at
 IsFileReason files (NoMacro at) = IsRefusedBy source.NoMacro files at
@@ -77,20 +74,22 @@ IsFileReason files (Memory m) = Unit {0}
 IsFileReason files TooLong = limit < total files
 IsFileReason files other = ⊥
 
--- what a fault of the text says of it
-abbrev pub IsTextReason : List ℕ → Option (List ℕ) → Fault → Type 0
-IsTextReason text top (NotEnded at) = HasNoTokens text × StopsOpen text
-IsTextReason text top (BadToken at) = HasNoTokens text × StopsBad text
-IsTextReason text top (NoTree at) = HasTokens text × IsTreeless text
-IsTextReason text top (Outside at) = HasWordOutside text × IsTreeless text
-IsTextReason text top (TooDeep at) = HasDepth text × IsTreeless text
-IsTextReason text top (NoTop at) = (token : Option ℕ) × Breaks text top (elab.Module token)
-IsTextReason text top (Doubled at) = (token : Option ℕ) × Breaks text top (elab.Doubled token)
-IsTextReason text top (Unknown at) = (token : Option ℕ) × Breaks text top (elab.Unknown token)
-IsTextReason text top (Width at) = (token : Option ℕ) × Breaks text top (elab.Width token)
-IsTextReason text top (TooMany at) = (token : Option ℕ) × Breaks text top (elab.TooMany token)
-IsTextReason text top (Memory m) = Unit {0}
-IsTextReason text top other = ⊥
+-- What a fault of the text says of it. The place of E101, E102 and E2xx is that of what can't be read; those of E299 and E3xx
+-- are shown, and not told.
+abbrev pub IsTextReason : Source → Option (List ℕ) → Fault → Type 0
+IsTextReason source top (NotEnded at) = HasNoTokens source.text × IsAt at (λ place. IsTokenReason source (pieces.NotEnded place))
+IsTextReason source top (BadToken at) = HasNoTokens source.text × IsAt at (λ place. IsTokenReason source (pieces.BadToken place))
+IsTextReason source top (NoTree at) = IsTreeless source.text × IsAt at (λ place. HasRefusal source (words.NoTree place))
+IsTextReason source top (Outside at) = IsTreeless source.text × IsAt at (λ place. HasRefusal source (words.Outside place))
+IsTextReason source top (TooDeep at) = IsTreeless source.text × IsAt at (λ place. HasRefusal source (words.TooDeep place))
+IsTextReason source top (NotYet at) = IsDesignless source.text top × IsNotRun source.text
+IsTextReason source top (NoTop at) = (token : Option ℕ) × Breaks source.text top (elab.Module token)
+IsTextReason source top (Doubled at) = (token : Option ℕ) × Breaks source.text top (elab.Doubled token)
+IsTextReason source top (Unknown at) = (token : Option ℕ) × Breaks source.text top (elab.Unknown token)
+IsTextReason source top (Width at) = (token : Option ℕ) × Breaks source.text top (elab.Width token)
+IsTextReason source top (TooMany at) = (token : Option ℕ) × Breaks source.text top (elab.TooMany token)
+IsTextReason source top (Memory m) = Unit {0}
+IsTextReason source top other = ⊥
 
 -- what a fault of the log's text says
 abbrev pub IsLogFault : List ℕ → Fault → Type 0
@@ -110,7 +109,7 @@ IsRunReason files asked log other = ⊥
 
 -- a fault of the files, or of the text that they make
 abbrev pub IsDesignFault : List (List ℕ) → Option (List ℕ) → Fault → Type 0
-IsDesignFault files top fault = IsFileReason files fault ⊎ (AreRead files × IsTextReason (expanded_text files) top fault)
+IsDesignFault files top fault = IsFileReason files fault ⊎ ((read : AreRead files) × IsTextReason read.source top fault)
 
 -- why a replay is refused: for its files or their text, or for the log and its run
 abbrev pub IsReason : List (List ℕ) → Asked → List ℕ → Fault → Type 0

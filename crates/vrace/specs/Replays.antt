@@ -1,13 +1,16 @@
 -- What a replay writes, from the bytes of the files to the dump of the run.
-use Rattle.std.specs.Prelude.{◌≡◌, ℕ, ◌≤◌, List, Option, Ok, length, map, sum_by}
+use Rattle.std.specs.Prelude.{◌≡◌, ℕ, ◌≤◌, List, All, Option, Some, Ok, length, map, sum_by}
 use Rattle.basis.specs.declared.timescale.Timescale.{Timescale}
 use Rattle.vsrc.specs.Source.{Source}
 use Rattle.vsrc.specs.Expansion.{expansion, expanded_text, expanded_timescale}
 use Rattle.vlex.specs.Lexed.{Lexed, Piece}
-use Rattle.vast.specs.Syntax.{Text, SourceTree}
-use Rattle.vast.specs.Derives.{Derives}
+use Rattle.vlex.specs.Tokenized.{Tokenized, pieces_of, IsTokenAt, AreInOrder}
+use Rattle.vast.specs.Syntax.{Text}
+use Rattle.vast.specs.Syntax as small
+use Rattle.vast.specs.Modules.{SourceTree, DerivesText}
 use Rattle.vast.specs.Design.{Design}
 use Rattle.velab.specs.Elaborate.{Elaborates}
+use Rattle.velab.specs.Runnable.{runnable}
 use Rattle.sched_core.specs.Logs.{IsLog}
 use Rattle.sched_core.specs.LogText.{named_log_text}
 use Rattle.sched_core.specs.declared.log.LogHead.{LogHead}
@@ -40,13 +43,22 @@ texts_of = map (λ piece. piece.text)
 pub record IsTreeOf (text : List ℕ) (tree : SourceTree) : Type 0 where
   pub pieces : List Piece
   pub lexed : Lexed text pieces
-  pub derived : Derives (texts_of pieces) tree
+  pub derived : DerivesText (texts_of pieces) tree
 
--- A text stands for a design: that of the top module in its tree, under its timescale.
+-- these are the tokens of a text, each told where it stands
+pub record AreTokens (source : Source) (tokens : Tokenized) : Type 0 where
+  pub source_is : tokens.source ≡ source
+  pub lexed : Lexed source.text (pieces_of tokens)
+  pub stand : All (IsTokenAt source.text) tokens.spans
+  pub in_order : AreInOrder 0 tokens.spans (length source.text)
+
+-- A text stands for a design: that of the top module in its tree, under its timescale. All of the tree has to be of what runs.
 pub record IsDesignOf (text : List ℕ) (scale : Timescale) (top : Option Text) (design : Design) : Type 0 where
   pub tree : SourceTree
   pub is_tree : IsTreeOf text tree
-  pub elaborated : Elaborates tree top scale design
+  pub running : small.SourceTree
+  pub runs : runnable tree ≡ Some running
+  pub elaborated : Elaborates running top scale design
 
 -- and so do files, by the text and the timescale that they are expanded to
 abbrev pub IsDesignOfFiles : List (List ℕ) → Option Text → Design → Type 0

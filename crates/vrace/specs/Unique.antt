@@ -1,13 +1,23 @@
 -- The only tokens of a text, and its only tree.
-use Rattle.std.specs.Prelude.{◌≡◌, ℕ, List}
-use Rattle.vlex.specs.Lexed.{Lexed, Piece, IsOnlyLexed}
-use Rattle.vast.specs.Syntax.{SourceTree}
-use Rattle.vrace.specs.Replays.{IsTreeOf}
+use Rattle.std.specs.Prelude.{◌≡◌, ℕ, List, Some}
+use Rattle.vsrc.specs.Source.{Source}
+use Rattle.vlex.specs.Lexed.{IsOnlyLexed}
+use Rattle.vlex.specs.Tokenized.{Tokenized, pieces_of}
+use Rattle.vast.specs.Syntax as small
+use Rattle.vast.specs.Modules.{SourceTree}
+use Rattle.velab.specs.Runnable.{runnable}
+use Rattle.vrace.specs.Replays.{AreTokens, IsTreeOf}
 
-pub record IsCut (text : List ℕ) (pieces : List Piece) : Type 0 where
-  pub lexed : Lexed text pieces
-  pub only : IsOnlyLexed text pieces
+pub record IsCut (source : Source) (tokens : Tokenized) : Type 0 where
+  pub are_tokens : AreTokens source tokens
+  pub only : IsOnlyLexed source.text (pieces_of tokens)
 
 pub record IsReadAs (text : List ℕ) (tree : SourceTree) : Type 0 where
   pub is_tree : IsTreeOf text tree
   pub only : (other : SourceTree) → IsTreeOf text other → other ≡ tree
+
+-- what runs of its only tree
+pub record IsRunAs (text : List ℕ) (running : small.SourceTree) : Type 0 where
+  pub tree : SourceTree
+  pub is_read : IsReadAs text tree
+  pub runs : runnable tree ≡ Some running

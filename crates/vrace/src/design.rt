@@ -4,16 +4,18 @@ ghost use Rattle.std.specs.Prelude.{◌≡◌, ◌≤◌, ℕ, nat_lt, List, Opt
 ghost use Rattle.vsrc.specs.Source.{Source, file_bytes};
 ghost use Rattle.vsrc.specs.Expansion.{expansion, expanded_text, expanded_timescale};
 ghost use Rattle.vlex.specs.Lexed.{HasNoTokens, IsTokenReason};
-ghost use Rattle.vlex.specs.Tokenized.{Tokenized, pieces_of};
-ghost use Rattle.vast.specs.Syntax.{SourceTree};
-ghost use Rattle.vast.specs.Trees.{source_tree};
-ghost use Rattle.vast.specs.Derives.{HasNoTree};
-ghost use Rattle.vparse.specs.Words.{words_of};
-ghost use Rattle.vparse.specs.Faults.{IsSyntaxReason};
+ghost use Rattle.vlex.specs.Tokenized.{Tokenized};
+ghost use Rattle.vast.specs.Syntax as small;
+ghost use Rattle.vast.specs.Trees as trees;
+ghost use Rattle.vast.specs.Modules.{SourceTree};
+ghost use Rattle.vast.specs.ModuleTrees.{source_tree};
+ghost use Rattle.vexpr_parse.specs.Texts.{words_of};
+ghost use Rattle.vparse.specs.Refusals.{HasNoText, IsRefusal};
 ghost use Rattle.velab.specs.Elaborate.{Elaborates, named_text};
 ghost use Rattle.velab.specs.Reasons.{IsDesignReason, HasNoDesign};
+ghost use Rattle.velab.specs.Runnable.{runnable};
 ghost use Rattle.vrace.specs.Replays.{limit, total, AreRead, IsDesignOf, IsDesignOfFiles};
-ghost use Rattle.vrace.specs.Unique.{IsCut, IsReadAs};
+ghost use Rattle.vrace.specs.Unique.{IsCut, IsReadAs, IsRunAs};
 ghost use Rattle.vrace.specs.Refusals.{IsFileReason, IsTextReason, IsDesignFault};
 
 use crate::fault::{At, Fault};
@@ -22,8 +24,9 @@ use basis::{NoMemory, OrMemory, Timescale};
 use std::alloc::Global;
 use trace_text::Origins;
 use vast::design::Design;
+use vast::module::TextTree;
 use vast::syntax::Ast;
-use velab::{ElabFault, elaborate};
+use velab::{ElabFault, NotYet, elaborate, runnable as running};
 use vlex::{LexFault, Tokens, tokens};
 use vparse::{SyntaxFault, parse};
 use vsrc::{Expanded, Place, SrcFault, expand};
@@ -62,7 +65,8 @@ pub struct Placed {
 // The design with the places of the tokens at which its statements begin.
 fn with_places(alloc: Global, tokens: &Tokens<'_>, design: Design) -> Result<Placed, Fault>
     ensures same { IfOk result (λ placed. placed.design ≡ design) }
-    ensures err { (text : List ℕ) (top : Option (List ℕ)) → IfErr result (IsTextReason text top) }
+    ensures err { (source : Source) (top : Option (List ℕ)) →
+        IfErr result (IsTextReason source top) }
 {
     let mut places = Vec::new(alloc);
     for number in &design.origins {
@@ -94,7 +98,7 @@ fn of_source(fault: SrcFault) -> Fault
 // What stops the cut into tokens.
 fn of_tokens(fault: LexFault) -> Fault
     ensures { (source : Source) (top : Option (List ℕ)) → HasNoTokens source.text →
-        IsTokenReason source fault → IsTextReason source.text top result }
+        IsTokenReason source fault → IsTextReason source top result }
 {
     match fault {
         LexFault::NotEnded { place } => Fault::NotEnded(at(place)),
@@ -104,9 +108,9 @@ fn of_tokens(fault: LexFault) -> Fault
 
 // What stops the reading of the tokens.
 fn of_tree(fault: SyntaxFault) -> Fault
-    ensures { (text : List ℕ) (tokens : Tokenized) (top : Option (List ℕ)) →
-        IsCut text (pieces_of tokens) → HasNoTree (words_of tokens) → IsSyntaxReason tokens fault →
-        IsTextReason text top result }
+    ensures { (source : Source) (tokens : Tokenized) (top : Option (List ℕ)) →
+        IsCut source tokens → HasNoText (words_of tokens) → IsRefusal tokens fault →
+        IsTextReason source top result }
 {
     match fault {
         SyntaxFault::NoTree { place } => Fault::NoTree(at(place)),
@@ -115,10 +119,19 @@ fn of_tree(fault: SyntaxFault) -> Fault
     }
 }
 
+// That there is more in the tree than runs.
+fn of_running(tokens: &Tokens<'_>, fault: NotYet) -> Fault
+    ensures { (source : Source) (tree : SourceTree) (top : Option (List ℕ)) →
+        IsReadAs source.text tree → runnable tree ≡ None → IsTextReason source top result }
+{
+    Fault::NotYet(At(place_of(tokens, fault.at)))
+}
+
 // What stops the elaboration of the tree.
 fn of_design(tokens: &Tokens<'_>, fault: ElabFault) -> Fault
-    ensures { (text : List ℕ) (tree : SourceTree) (top : Option (List ℕ)) → IsReadAs text tree →
-        IsDesignReason tree top fault → HasNoDesign tree top → IsTextReason text top result }
+    ensures { (source : Source) (run : small.SourceTree) (top : Option (List ℕ)) →
+        IsRunAs source.text run → IsDesignReason run top fault → HasNoDesign run top →
+        IsTextReason source top result }
 {
     match fault {
         ElabFault::Module { at } => Fault::NoTop(at_token(tokens, at)),
@@ -145,9 +158,8 @@ fn text_of(alloc: Global, files: &[Vec<u8>]) -> Result<Expanded, Fault>
 
 // The tokens of the text.
 fn tokens_of<'a>(alloc: Global, text: &'a Expanded) -> Result<Tokens<'a>, Fault>
-    ensures ok { IfOk result (λ tokens. IsCut text.now.text (pieces_of tokens)) }
-    ensures err { (top : Option (List ℕ)) →
-        IfErr result (λ fault. IsTextReason text.now.text top fault) }
+    ensures ok { IfOk result (IsCut text.now) }
+    ensures err { (top : Option (List ℕ)) → IfErr result (IsTextReason text.now top) }
 {
     match tokens(alloc, text) {
         Ok(tokens) => Ok(tokens),
@@ -157,20 +169,35 @@ fn tokens_of<'a>(alloc: Global, text: &'a Expanded) -> Result<Tokens<'a>, Fault>
 }
 
 // The tree of the tokens.
-fn tree_of<'a>(alloc: Global, tokens: &Tokens<'a>) -> Result<Ast<'a>, Fault>
-    ensures ok { (text : List ℕ) → IsCut text (pieces_of tokens.now) →
-        IfOk result (λ ast. IsReadAs text (source_tree ast)) }
-    ensures err { (text : List ℕ) (top : Option (List ℕ)) → IsCut text (pieces_of tokens.now) →
-        IfErr result (λ fault. IsTextReason text top fault) }
+fn tree_of(alloc: Global, tokens: &Tokens<'_>) -> Result<TextTree, Fault>
+    ensures ok { (source : Source) → IsCut source tokens.now →
+        IfOk result (λ tree. IsReadAs source.text (source_tree (words_of tokens.now) tree)) }
+    ensures err { (source : Source) (top : Option (List ℕ)) → IsCut source tokens.now →
+        IfErr result (IsTextReason source top) }
 {
     match parse(alloc, tokens) {
-        Ok(ast) => Ok(ast),
+        Ok(tree) => Ok(tree),
         Err(OrMemory::Fault(fault)) => Err(of_tree(fault)),
         Err(OrMemory::Memory(refused)) => Err(Fault::Memory(refused)),
     }
 }
 
-// The design of the tree.
+// What runs of the tree: all of it, or none.
+fn running_of<'a>(alloc: Global, tokens: &Tokens<'a>, tree: &TextTree) -> Result<Ast<'a>, Fault>
+    ensures ok { IfOk result (λ ast.
+        runnable (source_tree (words_of tokens.now) tree.now) ≡ Some (trees.source_tree ast)) }
+    ensures err { (source : Source) (top : Option (List ℕ)) →
+        IsReadAs source.text (source_tree (words_of tokens.now) tree.now) →
+        IfErr result (IsTextReason source top) }
+{
+    match running(alloc, tokens, tree) {
+        Ok(ast) => Ok(ast),
+        Err(OrMemory::Fault(fault)) => Err(of_running(tokens, fault)),
+        Err(OrMemory::Memory(refused)) => Err(Fault::Memory(refused)),
+    }
+}
+
+// The design of what runs.
 fn design_of_tree(
     alloc: Global,
     tokens: &Tokens<'_>,
@@ -178,9 +205,9 @@ fn design_of_tree(
     top: Option<&[u8]>,
     scale: Timescale,
 ) -> Result<Design, Fault>
-    ensures ok { IfOk result (Elaborates (source_tree ast.now) (named_text top.entry) scale) }
-    ensures err { (text : List ℕ) → IsReadAs text (source_tree ast.now) →
-        IfErr result (IsTextReason text (named_text top.entry)) }
+    ensures ok { IfOk result (Elaborates (trees.source_tree ast.now) (named_text top.entry) scale) }
+    ensures err { (source : Source) → IsRunAs source.text (trees.source_tree ast.now) →
+        IfErr result (IsTextReason source (named_text top.entry)) }
 {
     match elaborate(alloc, ast, top, scale) {
         Ok(design) => Ok(design),
@@ -189,17 +216,31 @@ fn design_of_tree(
     }
 }
 
+// The tokens of the text, with what runs of its tree.
+fn read_of<'a>(alloc: Global, tokens: &Tokens<'a>) -> Result<Ast<'a>, Fault>
+    ensures ok { (source : Source) → IsCut source tokens.now →
+        IfOk result (λ ast. IsRunAs source.text (trees.source_tree ast)) }
+    ensures err { (source : Source) (top : Option (List ℕ)) → IsCut source tokens.now →
+        IfErr result (IsTextReason source top) }
+{
+    let tree = match tree_of(alloc, tokens) {
+        Ok(tree) => tree,
+        Err(fault) => return Err(fault),
+    };
+    running_of(alloc, tokens, &tree)
+}
+
 // The design of the text.
 fn design_of_text(alloc: Global, text: &Expanded, top: Option<&[u8]>) -> Result<Placed, Fault>
     ensures ok { IfOk result (λ placed.
         IsDesignOf text.now.text text.now.timescale (named_text top.entry) placed.design) }
-    ensures err { IfErr result (IsTextReason text.now.text (named_text top.entry)) }
+    ensures err { IfErr result (IsTextReason text.now (named_text top.entry)) }
 {
     let tokens = match tokens_of(alloc, text) {
         Ok(tokens) => tokens,
         Err(fault) => return Err(fault),
     };
-    let ast = match tree_of(alloc, &tokens) {
+    let ast = match read_of(alloc, &tokens) {
         Ok(ast) => ast,
         Err(fault) => return Err(fault),
     };

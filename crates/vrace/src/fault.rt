@@ -51,6 +51,8 @@ pub enum Fault {
     Outside(At),
     /// Statements and expressions nest deeper than 64.
     TooDeep(At),
+    /// What begins here isn't run yet.
+    NotYet(At),
     /// No module is the top.
     NoTop(At),
     /// A name is declared twice.
@@ -114,6 +116,7 @@ impl Fault {
             Fault::NoTree(_) => 201,
             Fault::Outside(_) => 202,
             Fault::TooDeep(_) => 203,
+            Fault::NotYet(_) => 299,
             Fault::NoTop(_) => 301,
             Fault::Doubled(_) => 302,
             Fault::Unknown(_) => 303,
@@ -149,6 +152,7 @@ impl Fault {
             Fault::NoTree(at) => Detail::Place(*at),
             Fault::Outside(at) => Detail::Place(*at),
             Fault::TooDeep(at) => Detail::Place(*at),
+            Fault::NotYet(at) => Detail::Place(*at),
             Fault::NoTop(at) => Detail::Place(*at),
             Fault::Doubled(at) => Detail::Place(*at),
             Fault::Unknown(at) => Detail::Place(*at),

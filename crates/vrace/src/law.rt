@@ -12,8 +12,8 @@ ghost use Rattle.vrace.specs.declared.fault.Fault.{Fault};
 use report_text::report_text_law;
 use sched_core::law::log_text_law;
 use velab::law::elaboration_law;
+use vgrammar::source_law::source_law;
 use vlex::law::lexing_law;
-use vparse::law::reading_law;
 use vreport::agreement_law;
 
 /// Files have at most one dump under a log, whatever is asked for, and where they have one no fault has its reason
@@ -25,7 +25,7 @@ pub fn replay_law()
         IsDump files asked log dump → IsReason files asked log fault → IsOfWriting fault }
 {
     lexing_law();
-    reading_law();
+    source_law();
     elaboration_law();
     log_text_law();
 }
@@ -38,7 +38,7 @@ pub fn check_law()
         IsOfMemory fault }
 {
     lexing_law();
-    reading_law();
+    source_law();
     elaboration_law();
     log_text_law();
     report_text_law();
@@ -51,7 +51,7 @@ pub fn explore_law()
     ensures agree { ExploredFilesAgree }
 {
     lexing_law();
-    reading_law();
+    source_law();
     elaboration_law();
     log_text_law();
     agreement_law();

@@ -10,7 +10,7 @@ pub struct Explanation {
     advice: &'static str,
 }
 
-const EXPLANATIONS: [Explanation; 27] = [
+const EXPLANATIONS: [Explanation; 28] = [
     Explanation {
         number: 101,
         meaning: "a comment or a string that begins here isn't ended",
@@ -55,21 +55,27 @@ const EXPLANATIONS: [Explanation; 27] = [
     },
     Explanation {
         number: 201,
-        meaning: "the grammar takes no such text: this is the first word, or the end of the text, that no rule takes",
-        example: "a = 1 and no semicolon; wire w;",
-        advice: "look at the words of that line, and at the end of the line before it: a semicolon may be missing there; docs/LANGUAGE.md has the grammar of today",
+        meaning: "the grammar takes no such text: the words before this one begin a text, and with it, or with the end of the text, they begin none",
+        example: "a = 1 and no semicolon; else without an if",
+        advice: "look at the words of that line, and at the end of the line before it: a semicolon may be missing there; docs/LANGUAGE.md has the grammar",
     },
     Explanation {
         number: 202,
-        meaning: "a word, operator or system name outside the profile, where no rule takes it",
+        meaning: "the same, of a word, operator or system name outside the profile",
         example: "fork, 1 ** 2, $random",
         advice: "write it with what docs/LANGUAGE.md lists",
     },
     Explanation {
         number: 203,
-        meaning: "statements and expressions nest deeper than 64",
-        example: "begin 64 times round a statement",
-        advice: "take begin and end away where one statement stands between them, or split the process",
+        meaning: "statements and expressions nest deeper than 64: with more levels this word could follow",
+        example: "begin 64 times round a statement; a sum of 64 operands in an assignment",
+        advice: "take begin and end away where one statement stands between them, split the process, or group a long sum by parentheses",
+    },
+    Explanation {
+        number: 299,
+        meaning: "the text is read, and what begins here isn't run yet",
+        example: "always, if, a + b, wire w;",
+        advice: "write it with what docs/LANGUAGE.md lists under What runs",
     },
     Explanation {
         number: 301,

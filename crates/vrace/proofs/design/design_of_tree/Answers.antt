@@ -5,9 +5,9 @@ use Rattle.velab.specs.Reasons.{HasNoDesign, IsDesignReason}
 use Rattle.vrace.proofs.design.design_of_tree.Goals as goal
 
 pub returns-in-Err-Fault-clause-err : goal.returns-in-Err-Fault-clause-err
-returns-in-Err-Fault-clause-err c = λ text read.
+returns-in-Err-Fault-clause-err c = λ source is.
     let tree = source_tree c.args.ast.now in
     let top = option_map (λ name. name.now) c.args.top in
-    c.of_design.ensures text tree top read
+    c.of_design.ensures source tree top is
     (subst (Because (IsDesignReason tree top)) c.in-Err-Fault.field-0-is c.in-Err-Fault.ensures.reason)
     (subst (Because (λ _. HasNoDesign tree top)) c.in-Err-Fault.field-0-is c.in-Err-Fault.ensures.none)

@@ -1,12 +1,17 @@
 use Rattle.std.proofs.Common.{subst}
 use Rattle.basis.specs.Reasons.{Because}
-use Rattle.vast.specs.Derives.{HasNoTree}
-use Rattle.vparse.specs.Words.{words_of}
-use Rattle.vparse.specs.Faults.{IsSyntaxReason}
+use Rattle.vast.specs.ModuleTrees.{source_tree}
+use Rattle.vexpr_parse.specs.Texts.{words_of}
+use Rattle.vparse.specs.Refusals.{HasNoText, IsRefusal}
+use Rattle.vrace.proofs.DesignLemmas.{read_as}
 use Rattle.vrace.proofs.design.tree_of.Goals as goal
 
+pub returns-in-Ok-clause-ok : goal.returns-in-Ok-clause-ok
+returns-in-Ok-clause-ok c = λ source cut.
+    read_as source c.args.tokens.now cut (source_tree (words_of c.args.tokens.now) c.in-Ok.tree) c.in-Ok.ensures.derives c.in-Ok.ensures.only
+
 pub returns-in-Err-Fault-clause-err : goal.returns-in-Err-Fault-clause-err
-returns-in-Err-Fault-clause-err c = λ text top cut.
-    c.of_tree.ensures text c.args.tokens.now top cut
-    (subst (Because (λ _. HasNoTree (words_of c.args.tokens.now))) c.in-Err-Fault.field-0-is c.in-Err-Fault.ensures.none)
-    (subst (Because (IsSyntaxReason c.args.tokens.now)) c.in-Err-Fault.field-0-is c.in-Err-Fault.ensures.reason)
+returns-in-Err-Fault-clause-err c = λ source top cut.
+    c.of_tree.ensures source c.args.tokens.now top cut
+    (subst (Because (λ _. HasNoText (words_of c.args.tokens.now))) c.in-Err-Fault.field-0-is c.in-Err-Fault.ensures.none)
+    (subst (Because (IsRefusal c.args.tokens.now)) c.in-Err-Fault.field-0-is c.in-Err-Fault.ensures.reason)

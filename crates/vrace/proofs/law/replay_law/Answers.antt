@@ -5,7 +5,7 @@ pub returns : goal.returns
 returns c =
     let laws : Laws = record {
       one_list = c.lexing_law.ensures.one;
-      reads = c.reading_law.ensures.complete;
+      one_tree = c.source_law.ensures.only;
       one_design = c.elaboration_law.ensures.one;
       one_log = c.log_text_law.ensures.one;
     } in
