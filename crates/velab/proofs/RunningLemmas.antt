@@ -1,7 +1,7 @@
 -- What runs of a list, one after another: what is done, and behind it what runs of the rest, is all.
-use Rattle.std.proofs.Common.{◌≡◌, ◌<◌, ◌≤◌, ℕ, ◌+◌, List, [], ◌∷◌, ◌++◌, Option, Some, None, option_map, drop, length, get_or, map, Vec, Global, Result, Ok, Err, IsErrAnd, refl, sym, ap, subst, ◌∙◌, append_assoc, append-nil}
-use Rattle.std.proofs.Math.ListN.{drop_of_length-le}
+use Rattle.std.proofs.Common.{◌≡◌, ◌<◌, ℕ, ◌+◌, List, [], ◌∷◌, ◌++◌, Option, Some, None, option_map, drop, length, get_or, map, Vec, Global, Result, Ok, Err, IsErrAnd, refl, sym, ap, subst, ◌∙◌, append_assoc, append-nil}
 use Rattle.vast.specs.Syntax as small
+use Rattle.vast.specs.Syntax.{Text}
 use Rattle.vast.specs.Trees as trees
 use Rattle.vast.specs.declared.syntax.Stmt.{Stmt, Block}
 use Rattle.vast.proofs.TreeLemmas.{tree_of_block}
@@ -100,15 +100,16 @@ module _ (all : Option small.StatementTrees) where
   statements_to_the_end done goes = goes ∙ ap Some (whole_list done)
 
 -- a block runs as its statements do
-pub block_runs : (statements : Vec Statement Global) (list : Vec Stmt Global) →
-    runnable_statements (statement_trees statements.items) ≡ Some (trees.statement_trees list.items) →
-    runnable_statement (statement_tree (WholeBlock statements)) ≡ Some (trees.statement_tree (Block list))
-block_runs statements list is =
-    ap runnable_statement (tree_of_whole_block statements) ∙ ap (option_map small.block) is ∙ ap Some (sym (tree_of_block list))
+pub block_runs : (words : List Text) (statements : Vec Statement Global) (list : Vec Stmt Global) →
+    runnable_statements (statement_trees words statements.items) ≡ Some (trees.statement_trees list.items) →
+    runnable_statement (statement_tree words (WholeBlock statements)) ≡ Some (trees.statement_tree (Block list))
+block_runs words statements list is =
+    ap runnable_statement (tree_of_whole_block words statements) ∙ ap (option_map small.block) is ∙ ap Some (sym (tree_of_block list))
 
-pub block_stops : (statements : Vec Statement Global) → runnable_statements (statement_trees statements.items) ≡ None →
-    runnable_statement (statement_tree (WholeBlock statements)) ≡ None
-block_stops statements is = ap runnable_statement (tree_of_whole_block statements) ∙ ap (option_map small.block) is
+pub block_stops : (words : List Text) (statements : Vec Statement Global) →
+    runnable_statements (statement_trees words statements.items) ≡ None →
+    runnable_statement (statement_tree words (WholeBlock statements)) ≡ None
+block_stops words statements is = ap runnable_statement (tree_of_whole_block words statements) ∙ ap (option_map small.block) is
 
 -- a fault that is handed on, where it says that nothing runs of a part
 pub stops : {A T : Type 0} (view : T → A) (tree : Option A) (part : Type 0) (result : Result T (OrMemory NotYet)) (e : OrMemory NotYet) →
@@ -121,9 +122,9 @@ stops view tree part (Err y) e is none same = subst (Because (λ fault. tree ≡
     so (Memory refused) none = tt
 
 -- what is left of a list, from its place on
-pub statements_open : (xs : List Statement) (i : ℕ) (x : Statement) → i < length xs → x ≡ get_or xs i x →
-    statement_trees (drop i xs) ≡ first_statement (statement_tree x) (statement_trees (drop (i + 1) xs))
-statements_open xs i x within is = ap statement_trees (drop_at xs i x within is)
+pub statements_open : (words : List Text) (xs : List Statement) (i : ℕ) (x : Statement) → i < length xs → x ≡ get_or xs i x →
+    statement_trees words (drop i xs) ≡ first_statement (statement_tree words x) (statement_trees words (drop (i + 1) xs))
+statements_open words xs i x within is = ap (statement_trees words) (drop_at xs i x within is)
 
 pub mapped_open : {A B : Type 0} (view : A → B) (xs : List A) (i : ℕ) (x : A) → i < length xs → x ≡ get_or xs i x →
     map view (drop i xs) ≡ view x ∷ map view (drop (i + 1) xs)

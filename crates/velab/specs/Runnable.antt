@@ -8,7 +8,6 @@ use Rattle.vast.specs.Statements.{TargetTree, DelayTree, TaskTree, SelectionTree
 use Rattle.vast.specs.Statements as whole
 use Rattle.vast.specs.Modules.{RangeTree, TypeTree, DeclaredTree, DeclarationKind, ItemTree, ModuleTree, SourceTree, HeadParameter, PortTree}
 use Rattle.vast.specs.Modules as parts
-use Rattle.vast.specs.declared.module.NetKind.{NetKind}
 use Rattle.vast.specs.declared.module.NetKind.TheVariants as net
 
 -- the one, and then another of it, where there are both

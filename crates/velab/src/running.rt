@@ -1,11 +1,14 @@
 // What runs today of a text of the whole profile: its tree as the small grammar has it, or the first construct that isn't run yet.
 
-ghost use Rattle.std.specs.Prelude.{◌≡◌, [], map, option_map};
+ghost use Rattle.std.specs.Prelude.{◌≡◌, List, [], map, option_map};
+ghost use Rattle.vast.specs.Syntax.{Text};
+ghost use Rattle.vast.specs.TokenTexts.{token_text};
 ghost use Rattle.vast.specs.Trees as small;
 ghost use Rattle.vast.specs.Trees.{word_text};
 ghost use Rattle.vast.specs.ExpressionTrees.{tree_of};
 ghost use Rattle.vast.specs.StatementTrees.{target_tree, delay_tree, task_tree, statement_tree, statement_trees};
 ghost use Rattle.vast.specs.ModuleTrees.{range_tree, type_tree, declaration_kind, declared_tree, item_tree, module_tree, source_tree};
+ghost use Rattle.vexpr_parse.specs.Texts.{words_of};
 ghost use Rattle.velab.specs.Runnable as runs;
 ghost use Rattle.velab.specs.Running.{Runs, RunsAssigned, listed, range_of};
 
@@ -17,6 +20,8 @@ use vast::module::{
 };
 use vast::statement::{Delay, Statement, Target, Task};
 use vast::syntax::{Ast, Expr, Item, Module, Range, Stmt, Word};
+use vast::token::Token;
+use vlex::Tokens;
 
 /// A text that is read and not run yet; `at` is the number of the token at which what isn't run begins.
 #[derive(Clone, Copy, Debug, PartialEq, Eq)]
@@ -24,14 +29,30 @@ pub struct NotYet {
     pub at: u32,
 }
 
+// The word that a token of this number is: without letters, where there are fewer tokens.
+fn letters<'t>(tokens: &Tokens<'t>, token: Token) -> Word<'t>
+    ensures text { word_text result ≡ token_text (words_of tokens.now) token }
+    ensures place { result.at ≡ token.number }
+{
+    let text = if (token.number as usize) < tokens.len() {
+        tokens.text(token.number as usize)
+    } else {
+        b""
+    };
+    Word {
+        text,
+        at: token.number,
+    }
+}
+
 // The number of an expression's first token.
-fn first_token(expression: &Expression<'_>) -> u32 {
+fn first_token(expression: &Expression) -> u32 {
     match expression {
-        Expression::Number(word) => word.at,
-        Expression::Name(word) => word.at,
+        Expression::Number(word) => word.number,
+        Expression::Name(word) => word.number,
         Expression::Time { at } => *at,
-        Expression::Bit { name, .. } => name.at,
-        Expression::Part { name, .. } => name.at,
+        Expression::Bit { name, .. } => name.number,
+        Expression::Part { name, .. } => name.number,
         Expression::Parentheses(inner) => first_token(inner),
         Expression::Concatenation { at, .. } => *at,
         Expression::Replication { at, .. } => *at,
@@ -42,54 +63,59 @@ fn first_token(expression: &Expression<'_>) -> u32 {
     }
 }
 
-fn expression<'t>(value: &Expression<'t>) -> Result<Expr<'t>, OrMemory<NotYet>>
-    ensures { Runs small.expression_tree (runs.runnable_expression (tree_of value.now)) result }
+fn expression<'t>(tokens: &Tokens<'t>, value: &Expression) -> Result<Expr<'t>, OrMemory<NotYet>>
+    ensures { Runs small.expression_tree
+        (runs.runnable_expression (tree_of (words_of tokens.now) value.now)) result }
 {
     match value {
-        Expression::Number(word) => Ok(Expr::Number(*word)),
-        Expression::Name(word) => Ok(Expr::Name(*word)),
+        Expression::Number(word) => Ok(Expr::Number(letters(tokens, *word))),
+        Expression::Name(word) => Ok(Expr::Name(letters(tokens, *word))),
         _ => Err(OrMemory::Fault(NotYet {
             at: first_token(value),
         })),
     }
 }
 
-fn number<'t>(value: &Expression<'t>) -> Result<Word<'t>, OrMemory<NotYet>>
-    ensures { Runs word_text (runs.runnable_number (tree_of value.now)) result }
+fn number<'t>(tokens: &Tokens<'t>, value: &Expression) -> Result<Word<'t>, OrMemory<NotYet>>
+    ensures { Runs word_text
+        (runs.runnable_number (tree_of (words_of tokens.now) value.now)) result }
 {
     match value {
-        Expression::Number(word) => Ok(*word),
+        Expression::Number(word) => Ok(letters(tokens, *word)),
         _ => Err(OrMemory::Fault(NotYet {
             at: first_token(value),
         })),
     }
 }
 
-fn target<'t>(target: &Target<'t>) -> Result<Word<'t>, OrMemory<NotYet>>
-    ensures { Runs word_text (runs.runnable_target (target_tree target.now)) result }
+fn target<'t>(tokens: &Tokens<'t>, target: &Target) -> Result<Word<'t>, OrMemory<NotYet>>
+    ensures { Runs word_text
+        (runs.runnable_target (target_tree (words_of tokens.now) target.now)) result }
 {
     match target {
-        Target::Whole(word) => Ok(*word),
-        Target::Bit { name, .. } => Err(OrMemory::Fault(NotYet { at: name.at })),
-        Target::Part { name, .. } => Err(OrMemory::Fault(NotYet { at: name.at })),
+        Target::Whole(word) => Ok(letters(tokens, *word)),
+        Target::Bit { name, .. } => Err(OrMemory::Fault(NotYet { at: name.number })),
+        Target::Part { name, .. } => Err(OrMemory::Fault(NotYet { at: name.number })),
         Target::Joined { at, .. } => Err(OrMemory::Fault(NotYet { at: *at })),
     }
 }
 
-fn delay<'t>(delay: &Delay<'t>) -> Result<Word<'t>, OrMemory<NotYet>>
-    ensures { Runs word_text (runs.runnable_delay (delay_tree delay.now)) result }
+fn delay<'t>(tokens: &Tokens<'t>, delay: &Delay) -> Result<Word<'t>, OrMemory<NotYet>>
+    ensures { Runs word_text
+        (runs.runnable_delay (delay_tree (words_of tokens.now) delay.now)) result }
 {
     match delay {
-        Delay::Number(word) => Ok(*word),
-        Delay::Name(word) => Err(OrMemory::Fault(NotYet { at: word.at })),
+        Delay::Number(word) => Ok(letters(tokens, *word)),
+        Delay::Name(word) => Err(OrMemory::Fault(NotYet { at: word.number })),
         Delay::Value(value) => Err(OrMemory::Fault(NotYet {
             at: first_token(value),
         })),
     }
 }
 
-fn task<'t>(at: u32, task: &Task<'t>) -> Result<Stmt<'t>, OrMemory<NotYet>>
-    ensures { Runs small.statement_tree (runs.runnable_task (task_tree task.now)) result }
+fn task<'t>(at: u32, task: &Task) -> Result<Stmt<'t>, OrMemory<NotYet>>
+    ensures { (words : List Text) →
+        Runs small.statement_tree (runs.runnable_task (task_tree words task.now)) result }
 {
     match task {
         Task::DumpVars(None) => Ok(Stmt::DumpVars { at }),
@@ -103,39 +129,44 @@ fn task<'t>(at: u32, task: &Task<'t>) -> Result<Stmt<'t>, OrMemory<NotYet>>
 
 // What an assignment of either kind gives what: it has no delay of its own.
 fn assigned<'t>(
-    to: &Target<'t>,
-    amount: &Option<Delay<'t>>,
-    value: &Expression<'t>,
+    tokens: &Tokens<'t>,
+    to: &Target,
+    amount: &Option<Delay>,
+    value: &Expression,
 ) -> Result<(Word<'t>, Expr<'t>), OrMemory<NotYet>>
-    ensures { RunsAssigned to.now amount.now value.now result }
+    ensures { RunsAssigned (words_of tokens.now) to.now amount.now value.now result }
 {
-    let name = target(to)?;
+    let name = target(tokens, to)?;
     if let Some(amount) = amount {
         let at = match amount {
-            Delay::Number(word) => word.at,
-            Delay::Name(word) => word.at,
+            Delay::Number(word) => word.number,
+            Delay::Name(word) => word.number,
             Delay::Value(value) => first_token(value),
         };
         return Err(OrMemory::Fault(NotYet { at }));
     }
-    Ok((name, expression(value)?))
+    Ok((name, expression(tokens, value)?))
 }
 
 #[cycle(running)]
-fn statement<'t>(alloc: Global, whole: &Statement<'t>) -> Result<Stmt<'t>, OrMemory<NotYet>>
-    ensures { Runs small.statement_tree (runs.runnable_statement (statement_tree whole.now))
-        result }
+fn statement<'t>(
+    alloc: Global,
+    tokens: &Tokens<'t>,
+    whole: &Statement,
+) -> Result<Stmt<'t>, OrMemory<NotYet>>
+    ensures { Runs small.statement_tree
+        (runs.runnable_statement (statement_tree (words_of tokens.now) whole.now)) result }
 {
     let at = match whole {
         Statement::Empty => return Ok(Stmt::Empty),
-        Statement::Block(list) => return Ok(Stmt::Block(statements(alloc, list)?)),
+        Statement::Block(list) => return Ok(Stmt::Block(statements(alloc, tokens, list)?)),
         Statement::Assign {
             target,
             delay,
             value,
             ..
         } => {
-            let (target, value) = assigned(target, delay, value)?;
+            let (target, value) = assigned(tokens, target, delay, value)?;
             return Ok(Stmt::Assign { target, value });
         }
         Statement::Nonblocking {
@@ -144,7 +175,7 @@ fn statement<'t>(alloc: Global, whole: &Statement<'t>) -> Result<Stmt<'t>, OrMem
             value,
             ..
         } => {
-            let (target, value) = assigned(target, delay, value)?;
+            let (target, value) = assigned(tokens, target, delay, value)?;
             return Ok(Stmt::Nonblocking { target, value });
         }
         Statement::Delayed {
@@ -152,8 +183,8 @@ fn statement<'t>(alloc: Global, whole: &Statement<'t>) -> Result<Stmt<'t>, OrMem
             delay: amount,
             body,
         } => {
-            let amount = delay(amount)?;
-            let body = Box::new(alloc, statement(alloc, body)?)?;
+            let amount = delay(tokens, amount)?;
+            let body = Box::new(alloc, statement(alloc, tokens, body)?)?;
             return Ok(Stmt::Delay {
                 at: *at,
                 amount,
@@ -176,34 +207,46 @@ fn statement<'t>(alloc: Global, whole: &Statement<'t>) -> Result<Stmt<'t>, OrMem
 }
 
 #[cycle(running)]
-fn statements<'t>(alloc: Global, whole: &[Statement<'t>]) -> Result<Vec<Stmt<'t>>, OrMemory<NotYet>>
+fn statements<'t>(
+    alloc: Global,
+    tokens: &Tokens<'t>,
+    whole: &[Statement],
+) -> Result<Vec<Stmt<'t>>, OrMemory<NotYet>>
     ensures { Runs (λ list. small.statement_trees list.items)
-        (runs.runnable_statements (statement_trees whole.now)) result }
+        (runs.runnable_statements (statement_trees (words_of tokens.now) whole.now)) result }
 {
     let mut list = Vec::new(alloc);
     for one in whole {
-        list.push(statement(alloc, one)?)?;
+        list.push(statement(alloc, tokens, one)?)?;
     }
     Ok(list)
 }
 
-fn range<'t>(bounds: &Option<Bounds<'t>>) -> Result<Option<Range<'t>>, OrMemory<NotYet>>
-    ensures { Runs range_of
-        (runs.runnable_optional_range (option_map range_tree bounds.now)) result }
+fn range<'t>(
+    tokens: &Tokens<'t>,
+    bounds: &Option<Bounds>,
+) -> Result<Option<Range<'t>>, OrMemory<NotYet>>
+    ensures { Runs range_of (runs.runnable_optional_range
+        (option_map (range_tree (words_of tokens.now)) bounds.now)) result }
 {
     match bounds {
         None => Ok(None),
         Some(bounds) => {
-            let left = number(&bounds.left)?;
-            let right = number(&bounds.right)?;
+            let left = number(tokens, &bounds.left)?;
+            let right = number(tokens, &bounds.right)?;
             Ok(Some(Range { left, right }))
         }
     }
 }
 
 // The range of registers that are declared so, at the token of this number.
-fn kind<'t>(at: u32, kind: &DeclarationKind<'t>) -> Result<Option<Range<'t>>, OrMemory<NotYet>>
-    ensures { Runs range_of (runs.runnable_kind (declaration_kind kind.now)) result }
+fn kind<'t>(
+    tokens: &Tokens<'t>,
+    at: u32,
+    kind: &DeclarationKind,
+) -> Result<Option<Range<'t>>, OrMemory<NotYet>>
+    ensures { Runs range_of
+        (runs.runnable_kind (declaration_kind (words_of tokens.now) kind.now)) result }
 {
     match kind {
         DeclarationKind::Variables {
@@ -212,35 +255,45 @@ fn kind<'t>(at: u32, kind: &DeclarationKind<'t>) -> Result<Option<Range<'t>>, Or
                 signed: false,
                 range: bounds,
             },
-        } => range(bounds),
+        } => range(tokens, bounds),
         _ => Err(OrMemory::Fault(NotYet { at })),
     }
 }
 
-fn name<'t>(declared: &Declared<'t>) -> Result<Word<'t>, OrMemory<NotYet>>
-    ensures { Runs word_text (runs.runnable_name (declared_tree declared.now)) result }
+fn name<'t>(tokens: &Tokens<'t>, declared: &Declared) -> Result<Word<'t>, OrMemory<NotYet>>
+    ensures { Runs word_text
+        (runs.runnable_name (declared_tree (words_of tokens.now) declared.now)) result }
 {
     match &declared.value {
-        None => Ok(declared.name),
+        None => Ok(letters(tokens, declared.name)),
         Some(value) => Err(OrMemory::Fault(NotYet {
             at: first_token(value),
         })),
     }
 }
 
-fn names<'t>(alloc: Global, declared: &[Declared<'t>]) -> Result<Vec<Word<'t>>, OrMemory<NotYet>>
-    ensures { Runs (listed word_text)
-        (runs.each runs.runnable_name (map declared_tree declared.now)) result }
+fn names<'t>(
+    alloc: Global,
+    tokens: &Tokens<'t>,
+    declared: &[Declared],
+) -> Result<Vec<Word<'t>>, OrMemory<NotYet>>
+    ensures { Runs (listed word_text) (runs.each runs.runnable_name
+        (map (declared_tree (words_of tokens.now)) declared.now)) result }
 {
     let mut list = Vec::new(alloc);
     for one in declared {
-        list.push(name(one)?)?;
+        list.push(name(tokens, one)?)?;
     }
     Ok(list)
 }
 
-fn item<'t>(alloc: Global, whole: &ModuleItem<'t>) -> Result<Item<'t>, OrMemory<NotYet>>
-    ensures { Runs small.item_tree (runs.runnable_item (item_tree whole.now)) result }
+fn item<'t>(
+    alloc: Global,
+    tokens: &Tokens<'t>,
+    whole: &ModuleItem,
+) -> Result<Item<'t>, OrMemory<NotYet>>
+    ensures { Runs small.item_tree
+        (runs.runnable_item (item_tree (words_of tokens.now) whole.now)) result }
 {
     let at = match whole {
         ModuleItem::Declaration {
@@ -248,53 +301,69 @@ fn item<'t>(alloc: Global, whole: &ModuleItem<'t>) -> Result<Item<'t>, OrMemory<
             kind: declared_as,
             declared,
         } => {
-            let range = kind(*at, declared_as)?;
-            let names = names(alloc, declared)?;
+            let range = kind(tokens, *at, declared_as)?;
+            let names = names(alloc, tokens, declared)?;
             return Ok(Item::Registers { range, names });
         }
         ModuleItem::Initial {
             statement: body,
             ..
-        } => return Ok(Item::Initial(statement(alloc, body)?)),
+        } => return Ok(Item::Initial(statement(alloc, tokens, body)?)),
         ModuleItem::Parameters { at, .. } => *at,
         ModuleItem::Events { at, .. } => *at,
         ModuleItem::Assignments { at, .. } => *at,
         ModuleItem::Always { at, .. } => *at,
-        ModuleItem::Instances { module, .. } => module.at,
+        ModuleItem::Instances { module, .. } => module.number,
     };
     Err(OrMemory::Fault(NotYet { at }))
 }
 
-fn items<'t>(alloc: Global, whole: &[ModuleItem<'t>]) -> Result<Vec<Item<'t>>, OrMemory<NotYet>>
+fn items<'t>(
+    alloc: Global,
+    tokens: &Tokens<'t>,
+    whole: &[ModuleItem],
+) -> Result<Vec<Item<'t>>, OrMemory<NotYet>>
     ensures { Runs (listed small.item_tree)
-        (runs.each runs.runnable_item (map item_tree whole.now)) result }
+        (runs.each runs.runnable_item (map (item_tree (words_of tokens.now)) whole.now)) result }
 {
     let mut list = Vec::new(alloc);
     for one in whole {
-        list.push(item(alloc, one)?)?;
+        list.push(item(alloc, tokens, one)?)?;
     }
     Ok(list)
 }
 
-fn module<'t>(alloc: Global, whole: &ModuleTree<'t>) -> Result<Module<'t>, OrMemory<NotYet>>
-    ensures { Runs small.module_tree (runs.runnable_module (module_tree whole.now)) result }
+fn module<'t>(
+    alloc: Global,
+    tokens: &Tokens<'t>,
+    whole: &ModuleTree,
+) -> Result<Module<'t>, OrMemory<NotYet>>
+    ensures { Runs small.module_tree
+        (runs.runnable_module (module_tree (words_of tokens.now) whole.now)) result }
 {
     if whole.parameters.is_some() || whole.ports.is_some() {
-        return Err(OrMemory::Fault(NotYet { at: whole.name.at }));
+        return Err(OrMemory::Fault(NotYet {
+            at: whole.name.number,
+        }));
     }
     Ok(Module {
-        name: whole.name,
-        items: items(alloc, &whole.items)?,
+        name: letters(tokens, whole.name),
+        items: items(alloc, tokens, &whole.items)?,
     })
 }
 
 /// The tree of a text as the small grammar has it, or the token at which what isn't run yet begins (E299).
-pub fn runnable<'t>(alloc: Global, whole: &TextTree<'t>) -> Result<Ast<'t>, OrMemory<NotYet>>
-    ensures { Runs small.source_tree (runs.runnable (source_tree whole.now)) result }
+pub fn runnable<'t>(
+    alloc: Global,
+    tokens: &Tokens<'t>,
+    whole: &TextTree,
+) -> Result<Ast<'t>, OrMemory<NotYet>>
+    ensures { Runs small.source_tree
+        (runs.runnable (source_tree (words_of tokens.now) whole.now)) result }
 {
     let mut modules = Vec::new(alloc);
     for one in &whole.modules {
-        modules.push(module(alloc, one)?)?;
+        modules.push(module(alloc, tokens, one)?)?;
     }
     Ok(Ast { modules })
 }
