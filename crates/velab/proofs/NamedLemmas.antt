@@ -61,11 +61,11 @@ names_declared range [] = refl
 names_declared range (t ∷ ts) = ap (λ l. t ∷ l) (names_declared range ts)
 
 -- what is a name in what runs of a text
-item_is_named : ItemTree → Bool
+abbrev item_is_named : ItemTree → Bool
 item_is_named (registers range texts) = list_all is_name texts
 item_is_named (initial statement) = true
 
-is_named : ModuleTree → Bool
+abbrev is_named : ModuleTree → Bool
 is_named m = is_name m.name && list_all item_is_named m.items
 
 item_names : (item : ItemTree) → item_is_named item ≡ true → list_all is_name (names (declarations_of item)) ≡ true
@@ -90,16 +90,17 @@ each_passes : {A B : Type 0} (convert : A → Option B) (p : A → Bool) (q : B 
     ((one : A) (other : B) → p one ≡ true → convert one ≡ Some other → q other ≡ true) →
     (list : List A) (out : List B) → list_all p list ≡ true → each convert list ≡ Some out → list_all q out ≡ true
 each_passes convert p q step [] out all is = subst (λ l. list_all q l ≡ true) (some_is [] out is) refl
-each_passes {A = A} {B = B} convert p q step (one ∷ more) out all is = by (convert one) refl (each convert more) refl is
+each_passes {A = A} {B = B} convert p q step (one ∷ more) out all is =
+    by (convert one) refl (each convert more) (λ r. each_passes convert p q step more r (and_right (p one) (list_all p more) all)) refl is
   where
-    by : (first : Option B) → convert one ≡ first → (rest : Option (List B)) → each convert more ≡ rest →
+    by : (first : Option B) → convert one ≡ first → (rest : Option (List B)) →
+        ((r : List B) → each convert more ≡ Some r → list_all q r ≡ true) → each convert more ≡ rest →
         both first (λ f. option_map (λ r. f ∷ r) rest) ≡ Some out → list_all q out ≡ true
-    by None e rest h is = cc
-    by (Some f) e None h is = cc
-    by (Some f) e (Some r) h is =
+    by None e rest others h is = cc
+    by (Some f) e None others h is = cc
+    by (Some f) e (Some r) others h is =
         subst (λ l. list_all q l ≡ true) (some_is (f ∷ r) out is)
-        (and_both (q f) (list_all q r) (step one f (and_left (p one) (list_all p more) all) e)
-        (each_passes convert p q step more r (and_right (p one) (list_all p more) all) h))
+        (and_both (q f) (list_all q r) (step one f (and_left (p one) (list_all p more) all) e) (others r h))
 
 name_runs : (one : DeclaredTree) (letters : Text) → fits_declared 64 one ≡ true → runnable_name one ≡ Some letters → is_name letters ≡ true
 name_runs one letters fit runs = by one.value runs
