@@ -4,7 +4,7 @@ use Rattle.vast.specs.Syntax.{Text}
 use Rattle.vast.specs.Expressions.{ExpressionTree}
 use Rattle.std.specs.Borrow.{MutBor}
 use Rattle.vast.specs.ExpressionTrees.{boxed_tree}
-use Rattle.vast.specs.StatementTrees.{target_tree, statement_tree, path_tree, argument_tree, further_term as further_tree}
+use Rattle.vast.specs.StatementTrees.{target_tree, statement_tree, path_tree, argument_tree, delay_tree, selection_tree, further_term as further_tree}
 use Rattle.vast.specs.declared.statement.Statement.{Statement}
 use Rattle.vast.specs.declared.statement.Target.{Target}
 use Rattle.vast.specs.declared.expression.Expression.{Expression}
@@ -15,7 +15,7 @@ use Rattle.vexpr_parse.specs.Answers.{Stops, ahead}
 use Rattle.vexpr_parse.specs.Texts.{words_of}
 use Rattle.vexpr_parse.specs.declared.cursor.Cursor.{Cursor}
 use Rattle.vlex.specs.Tokenized.{Tokenized}
-use Rattle.vast.specs.Statements.{TargetTree, joined, StatementTree, task, dump, forever, FurtherTerm, EventTree, SelectionTree, ArgumentTree}
+use Rattle.vast.specs.Statements.{TargetTree, joined, StatementTree, task, dump, forever, FurtherTerm, DelayTree, EventTree, SelectionTree, ArgumentTree}
 use Rattle.vgrammar.specs.Parts.{Both, both, other_way, made, maybe, paired, worded, one_behind, many}
 use Rattle.vgrammar.specs.Starts.{is_meant, edge_of, comma_of}
 use Rattle.vast.specs.declared.statement.Edge.{Edge}
@@ -28,6 +28,8 @@ use Rattle.vast.specs.TokenTexts.{token_text}
 use Rattle.vast.specs.declared.statement.Dumping.{Dumping}
 use Rattle.vstatement_parse.specs.declared.settings.Setting.{Setting}
 use Rattle.vast.specs.declared.statement.Argument.{Argument}
+use Rattle.vast.specs.declared.statement.Delay.{Delay}
+use Rattle.vast.specs.declared.statement.Selection.{Selection}
 use Rattle.vgrammar.specs.Lists.{all_until}
 
 -- what the definition reads is given, and what is behind it is left; or it stops there
@@ -39,7 +41,11 @@ Answered view answer left (Err e) = Stops answer left e
 abbrev pub Gives : {A T : Type 0} → (List Text → T → A) → Reader A → Tokenized → Cursor → Cursor → Result T (OrMemory Stop) → Type 0
 Gives view read tokens old new result = Answered (view (words_of tokens)) (read (ahead tokens old)) (ahead tokens new) result
 
--- the tree of an expression, and that a word ended it
+-- the tree of an expression behind a pointer
+abbrev pub value_tree : {T : Type 0} → List Text → Box Expression T → ExpressionTree
+value_tree words value = boxed_tree words value
+
+-- the same, and that a word ended it
 abbrev pub ended_tree : {T : Type 0} → List Text → Box Expression T → Both ExpressionTree (Unit {0})
 ended_tree words value = both (boxed_tree words value) tt
 

@@ -21,7 +21,7 @@ use vlex::Tokens;
 /// A statement behind a box.
 pub fn boxed(alloc: Global, statement: Statement) -> Result<Box<Statement>, NoMemory>
     ensures { (words : List Text) → IfOk result (λ made.
-        statement_tree words made.value ≡ statement_tree words statement.entry) }
+        statement_tree words made.value ≡ statement_tree words statement) }
 {
     Ok(Box::new(alloc, statement)?)
 }
@@ -35,7 +35,7 @@ fn around(
     inner: Statement,
 ) -> Result<Statement, NoMemory>
     ensures { (words : List Text) → IfOk result (λ made. statement_tree words made
-        ≡ reading.guarded_of guard (both (boxed_tree words value.entry) (statement_tree words inner.entry))) }
+        ≡ reading.guarded_of guard (both (boxed_tree words value) (statement_tree words inner))) }
 {
     let body = boxed(alloc, inner)?;
     match guard {
