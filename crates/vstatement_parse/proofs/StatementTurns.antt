@@ -1,4 +1,5 @@
 -- What the code that reads lists in statements goes on from.
+use Rattle.std.specs.Str.{bytes_eq}
 use Rattle.std.proofs.Common.{◌≡◌, ℕ, zero, suc, nat_le, ◌<◌, arith, length, Bool, true, false, if◌then◌else◌, codes, Result, subst, List, [], ◌∷◌, map, Vec, Global, refl, sym, ap, ◌∙◌}
 use Rattle.vast.specs.Syntax.{Text}
 use Rattle.vast.specs.Statements.{block, first_statement, ArgumentTree, quoted, printed, spell_argument}
@@ -6,11 +7,15 @@ use Rattle.vast.specs.StatementTrees.{statement_tree, statement_trees, event_tre
 use Rattle.vast.specs.Words.{is_name}
 use Rattle.vast.specs.declared.statement.Event.{Event}
 use Rattle.basis.specs.declared.memory.OrMemory.{OrMemory}
+use Rattle.basis.specs.declared.memory.OrMemory.TheVariants.{Fault, Memory}
+use Rattle.basis.specs.Reasons.{Because}
 use Rattle.vexpr_parse.specs.declared.stop.Stop.{Stop}
+use Rattle.vexpr_parse.specs.declared.stop.Stop.TheVariants.{NoTree}
+use Rattle.vexpr_parse.specs.Answers.{Stops}
 use Rattle.vast.specs.declared.statement.Statement.{Statement, Block}
 use Rattle.vast.proofs.WholeTreeLemmas.{tree_of_whole_block}
-use Rattle.vexpr_parse.specs.Readers.{Answer, Reader, got, stop, and_then, past, front, is_front}
-use Rattle.vexpr_parse.proofs.ReaderRules.{Eats}
+use Rattle.vexpr_parse.specs.Readers.{Answer, Reader, got, stop, and_then, past, follow, goes, refused, front, is_front}
+use Rattle.vexpr_parse.proofs.ReaderRules.{Eats, passed_over}
 use Rattle.vgrammar.specs.Parts.{both, other_way, one_way, made, paired, many, either}
 use Rattle.vgrammar.specs.Starts.{comma_word, is_word}
 use Rattle.vgrammar.specs.Statements.{further_term, statement, statements_in, block_of, block_parts, named, term, word_only, event_of, enclosed_event, control, path, path_of, argument}
@@ -51,6 +56,26 @@ twice : {A B C : Type 0} (make : A → B) (again : B → C) (a : Answer A) →
     and_then (and_then a (λ tree. got (make tree))) (λ tree. got (again tree)) ≡ and_then a (λ tree. got (again (make tree)))
 twice make again (got tree left) = refl
 twice make again (stop why left) = refl
+
+-- a word that isn't there, behind what was read
+
+absent : (text : Text) (words : List Text) → is_front text (front words) ≡ false → word_only text words ≡ stop NoTree words
+absent text [] e = refl
+absent text (word ∷ words) e = ap (λ l. follow l word words) (passed_over (bytes_eq text word) (goes (got tt)) refused e)
+
+pub unclosed : {A : Type 0} (read : Reader A) (text : Text) (words between left : List Text) (tree : A) (e : OrMemory Stop) →
+    read words ≡ got tree between →
+    Because (λ why. (why ≡ NoTree) × (left ≡ between) × (is_front text (front between) ≡ false)) e → Stops (paired read (word_only text) words) left e
+unclosed read text words between left tree (Memory m) is given = tt
+unclosed read text words between left tree (Fault why) is given =
+    ap (λ a. and_then a (λ tree. made (both tree) (word_only text))) is
+    ∙ ap (λ a. and_then a (λ end. got (both tree end))) (absent text between given.2)
+    ∙ ap (λ w. stop w between) (sym given.0) ∙ ap (stop why) (sym given.1)
+
+pub unclosed_too : {A B : Type 0} (make : A → B) (read : Reader A) (words left : List Text) (e : OrMemory Stop) →
+    Stops (read words) left e → Stops (made make read words) left e
+unclosed_too make read words left (Memory m) given = tt
+unclosed_too make read words left (Fault why) given = ap (λ a. and_then a (λ tree. got (make tree))) given
 
 -- what is waited for
 

@@ -4,7 +4,7 @@ use Rattle.vast.specs.Syntax.{Text}
 use Rattle.vast.specs.Expressions.{ExpressionTree}
 use Rattle.std.specs.Borrow.{MutBor}
 use Rattle.vast.specs.ExpressionTrees.{boxed_tree}
-use Rattle.vast.specs.StatementTrees.{target_tree, statement_tree, path_tree, argument_tree, delay_tree, selection_tree, further_term as further_tree}
+use Rattle.vast.specs.StatementTrees.{target_tree, statement_tree, path_tree, argument_tree, delay_tree, selection_tree, term_tree, further_term as further_tree}
 use Rattle.vast.specs.declared.statement.Statement.{Statement}
 use Rattle.vast.specs.declared.statement.Target.{Target}
 use Rattle.vast.specs.declared.expression.Expression.{Expression}
@@ -15,7 +15,7 @@ use Rattle.vexpr_parse.specs.Answers.{Stops, ahead}
 use Rattle.vexpr_parse.specs.Texts.{words_of}
 use Rattle.vexpr_parse.specs.declared.cursor.Cursor.{Cursor}
 use Rattle.vlex.specs.Tokenized.{Tokenized}
-use Rattle.vast.specs.Statements.{TargetTree, joined, StatementTree, task, dump, forever, FurtherTerm, DelayTree, EventTree, SelectionTree, ArgumentTree}
+use Rattle.vast.specs.Statements.{TargetTree, joined, StatementTree, task, dump, forever, TermTree, FurtherTerm, DelayTree, EventTree, SelectionTree, ArgumentTree}
 use Rattle.vgrammar.specs.Parts.{Both, both, other_way, made, maybe, paired, worded, one_behind, many}
 use Rattle.vgrammar.specs.Starts.{is_meant, edge_of, comma_of}
 use Rattle.vast.specs.declared.statement.Edge.{Edge}
@@ -27,6 +27,7 @@ use Rattle.vast.specs.declared.token.Token.{Token}
 use Rattle.vast.specs.TokenTexts.{token_text}
 use Rattle.vast.specs.declared.statement.Dumping.{Dumping}
 use Rattle.vstatement_parse.specs.declared.settings.Setting.{Setting}
+use Rattle.vstatement_parse.specs.declared.events.Names.{Names}
 use Rattle.vast.specs.declared.statement.Argument.{Argument}
 use Rattle.vast.specs.declared.statement.Delay.{Delay}
 use Rattle.vast.specs.declared.statement.Selection.{Selection}
@@ -144,6 +145,10 @@ all_further words further = map (further_tree words) further.items
 abbrev pub further_terms : Reader (List FurtherTerm)
 further_terms = many (is_meant comma_of) (λ list. further_term)
 
+-- all of them
+abbrev pub names_tree : List Text → Names → Both TermTree (List FurtherTerm)
+names_tree words names = both (term_tree words names.term) (all_further words names.further)
+
 -- behind @ (
 abbrev pub terms_at : Reader EventTree
 terms_at = made (λ terms. event_of (other_way (other_way (other_way terms)))) (paired (paired term further_terms) (word_only (codes ")")))
@@ -185,6 +190,9 @@ all_paths words paths = map (path_tree words) paths.items
 
 abbrev pub paths_at : Reader (List (List Text))
 paths_at = many (is_front (codes ",")) (λ list. past (codes ",") path)
+
+abbrev pub ended_paths : {T : Type 0} → List Text → Vec Path T → Both (List (List Text)) (Unit {0})
+ended_paths words paths = both (all_paths words paths) tt
 
 abbrev pub optional_selection : Reader (Option SelectionTree)
 optional_selection = maybe (is_front (codes "(")) selection
