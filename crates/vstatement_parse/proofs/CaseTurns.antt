@@ -1,6 +1,6 @@
 -- What the code that reads a case goes on from.
 use Rattle.std.specs.Str.{bytes_eq}
-use Rattle.std.proofs.Common.{◌≡◌, ℕ, zero, suc, ◌<◌, arith, length, nat_le, Bool, true, false, ◌||◌, Option, Some, None, not, if◌then◌else◌, codes, Result, subst, List, [], ◌∷◌, ◌++◌, map, Box, Vec, Global, refl, sym, ap, ◌∙◌}
+use Rattle.std.proofs.Common.{◌≡◌, ℕ, zero, suc, ◌<◌, arith, length, Bool, true, false, ◌||◌, Option, Some, None, not, if◌then◌else◌, codes, Result, subst, List, [], ◌∷◌, ◌++◌, map, Box, Vec, Global, refl, sym, ap, ◌∙◌}
 use Rattle.std.proofs.lemmas.List.{map-append}
 use Rattle.vast.specs.Syntax.{Text}
 use Rattle.vast.specs.Words.{reserved_words}
@@ -26,24 +26,14 @@ use Rattle.vgrammar.specs.Statements.{statement, begins_statement, value, List_o
 use Rattle.vgrammar.proofs.Phrases.{of_these, sound_eats}
 use Rattle.vgrammar.proofs.PhraseChoices.{Tested}
 use Rattle.vgrammar.proofs.ManyTurns.{goes_on_first, one_more, stopped_at, no_more, past_eats_too, goes_on}
-use Rattle.vgrammar.proofs.LevelFacts.{one_within}
 use Rattle.vgrammar.proofs.ValuePhrases.{value_shape, value_phrase, value_worded}
 use Rattle.vgrammar.proofs.WordPhrases.{refused_first}
 use Rattle.vgrammar.proofs.StatementShapes.{statement_shape, statement_worded}
 use Rattle.vgrammar.proofs.StatementLevels.{statement_phrase, statement_refuses}
 use Rattle.vgrammar.proofs.CasePhrases.{branch_shape, allow, branch_phrase}
 use Rattle.vstatement_parse.specs.Gives.{Answered}
+use Rattle.vstatement_parse.proofs.StatementTurns.{twice, level_of}
 use Rattle.vstatement_parse.specs.Cases.{labels_within, labelled_at, default_at, branch_at, branch_behind, not_endcase, branches_from, branches_behind, case_behind, case_inner, case_whole, case_at}
-
--- what is made of what was made
-twice : {A B C : Type 0} (make : A → B) (again : B → C) (a : Answer A) →
-    and_then (and_then a (λ tree. got (make tree))) (λ tree. got (again tree)) ≡ and_then a (λ tree. got (again (make tree)))
-twice make again (got tree left) = refl
-twice make again (stop why left) = refl
-
-level_of : (below : ℕ) → 0 < below → nat_le 1 below ≡ true
-level_of zero e = absurd (omega (arith, e))
-level_of (suc n) e = one_within n
 
 -- labels
 
@@ -208,8 +198,8 @@ pub record IsSoFar (text : List Text) (below : ℕ) (items : List BranchWords) (
   pub branches : branches_from below (map (branch_tree text) items) words ≡ all
   pub seen_is : seen ≡ has_default (map (branch_tree text) items)
 
-pub so_far_first : (text : List Text) (below : ℕ) (one : BranchWords) (items : List BranchWords) (seen : Bool) (words : List Text) → items ≡ one ∷ [] →
-    seen ≡ has_default (branch_tree text one ∷ []) → IsSoFar text below items seen words (branches_behind below (branch_tree text one) words)
+pub so_far_first : (text : List Text) (below : ℕ) (one : BranchWords) (items : List BranchWords) (seen : Bool) (words : List Text) →
+    items ≡ one ∷ [] → seen ≡ has_default (branch_tree text one ∷ []) → IsSoFar text below items seen words (branches_behind below (branch_tree text one) words)
 so_far_first text below one items seen words is e = record {
   branches = ap (λ ts. branches_from below (map (branch_tree text) ts) words) is;
   seen_is = e ∙ ap (λ ts. has_default (map (branch_tree text) ts)) (sym is);

@@ -1,6 +1,6 @@
 -- What the code that reads a statement by its first word goes on from.
 use Rattle.std.specs.Str.{bytes_eq}
-use Rattle.std.proofs.Common.{◌≡◌, ◌≢◌, ℕ, zero, suc, ◌-◌, ◌<◌, arith, nat_le, Bool, true, false, if◌then◌else◌, Some, None, codes, Result, subst, List, [], ◌∷◌, length, drop, refl, sym, ap, ◌∙◌}
+use Rattle.std.proofs.Common.{◌≡◌, ◌≢◌, ℕ, zero, suc, ◌-◌, ◌<◌, arith, nat_le, Bool, true, false, if◌then◌else◌, None, codes, Result, subst, List, [], ◌∷◌, length, drop, refl, sym, ap, ◌∙◌}
 use Rattle.vast.specs.Syntax.{Text}
 use Rattle.vast.specs.Statements.{StatementTree, task, dump}
 use Rattle.vast.specs.StatementTrees.{statement_tree}
@@ -11,7 +11,6 @@ use Rattle.basis.specs.declared.memory.OrMemory.{OrMemory}
 use Rattle.vexpr_parse.specs.declared.stop.Stop.{Stop}
 use Rattle.vexpr_parse.specs.declared.stop.Stop.TheVariants.{NoTree, TooDeep}
 use Rattle.vexpr_parse.specs.Readers.{Reader, got, stop, and_then, follow, goes, refused, lower, room, front}
-use Rattle.vgrammar.proofs.LevelFacts.{one_within}
 use Rattle.std.proofs.lemmas.Bool.Decides.{nat_tests}
 use Rattle.vexpr_parse.proofs.ReaderRules.{chosen, passed_over}
 use Rattle.vgrammar.specs.declared.start.StatementStart.{StatementStart}
@@ -104,26 +103,9 @@ module _ (below : ℕ) (words : List Text) (word : Text) (is : words ≡ word �
   pub low_target : begins_target word ≡ true → below ≡ 0 → statement_at below words ≡ stop TooDeep words
   low_target e low = target_first e ∙ ap (λ n. if nat_le 1 n then assignment below words else stop TooDeep words) low
 
-  pub gives_assignment : (text : List Text) (left : List Text) (result : Result Statement (OrMemory Stop)) → begins_target word ≡ true → below ≢ 0 →
-      Answered (statement_tree text) (assignment below words) left result → Answered (statement_tree text) (statement_at below words) left result
-  gives_assignment text left result e some given =
-      subst (λ a. Answered (statement_tree text) a left result)
-      (sym (target_first e ∙ chosen (nat_le 1 below) (assignment below words) _ (one_up below some))) given
-    where
-      one_up : (n : ℕ) → n ≢ 0 → nat_le 1 n ≡ true
-      one_up zero some = absurd (some refl)
-      one_up (suc n) some = one_within n
-
   pub no_start : begins_target word ≡ false → start_of word ≡ None → statement_at below words ≡ stop NoTree words
   no_start e none =
       other_first e ∙ ap (λ o. follow (lead_by below (statement below) o) word rest) none ∙ ap (stop NoTree) (sym is)
-
-  pub gives_other : (text : List Text) (left : List Text) (result : Result Statement (OrMemory Stop)) (kind : StatementStart) → begins_target word ≡ false →
-      start_of word ≡ Some kind → Answered (statement_tree text) (begun_at below kind words) left result →
-      Answered (statement_tree text) (statement_at below words) left result
-  gives_other text left result kind e some given =
-      subst (λ a. Answered (statement_tree text) a left result)
-      (ap (begun_at below kind) is ∙ sym (other_first e ∙ ap (λ o. follow (lead_by below (statement below) o) word rest) some)) given
 
 -- where no level is left
 

@@ -52,7 +52,7 @@ block_got text below statements words left e =
     ∙ ap (λ t. got t left) (sym (tree_of_whole_block text statements ∙ ap block (trees_in_list text statements.items)))
 
 -- what is made of what was made
-twice : {A B C : Type 0} (make : A → B) (again : B → C) (a : Answer A) →
+pub twice : {A B C : Type 0} (make : A → B) (again : B → C) (a : Answer A) →
     and_then (and_then a (λ tree. got (make tree))) (λ tree. got (again tree)) ≡ and_then a (λ tree. got (again (make tree)))
 twice make again (got tree left) = refl
 twice make again (stop why left) = refl
@@ -140,7 +140,7 @@ path_answers words a e = path_is words ∙ e
 
 -- arguments
 
-level_of : (below : ℕ) → 0 < below → nat_le 1 below ≡ true
+pub level_of : (below : ℕ) → 0 < below → nat_le 1 below ≡ true
 level_of zero e = absurd (omega (arith, e))
 level_of (suc n) e = one_within n
 

@@ -16,7 +16,7 @@ use Rattle.vgrammar.specs.Statements.{target, targets_in, joined_of, joined_targ
 use Rattle.vstatement_parse.specs.Gives.{Answered, target_at, targets_from, targets_within, in_braces}
 use Rattle.vgrammar.proofs.Phrases.{Worded, sound_eats}
 use Rattle.vgrammar.proofs.TargetPhrases.{target_shape, target_phrase}
-use Rattle.vgrammar.proofs.ManyTurns.{one_more, stopped_at, no_more, behind_word, past_eats_too, until_is}
+use Rattle.vgrammar.proofs.ManyTurns.{one_more, behind_word, past_eats_too, until_is}
 use Rattle.vgrammar.specs.Parts.{made}
 
 -- where no level is left
@@ -97,17 +97,6 @@ module _ (below : ℕ) (words between : List Text) (seen : Bool) (is : seen ≡ 
       ∙ sym (one_more (is_front (codes ",")) (behind_comma below) (comma_eats below) (map (target_tree text) targets) words (target_tree text one) left
       (sym is ∙ here) (behind (got (target_tree text one) left) e))
       ∙ before
-
-  pub targets_stopped : (text : List Text) (targets : List Target) (left : List Text) (why : Stop) → target below between ≡ stop why left →
-      targets_from below (map (target_tree text) targets) words ≡ stop why left
-  targets_stopped text targets left why e =
-      stopped_at (is_front (codes ",")) (behind_comma below) (comma_eats below) (map (target_tree text) targets) words left why (sym is ∙ here)
-      (behind (stop why left) e)
-
-pub targets_ended : (text : List Text) (below : ℕ) (targets : List Target) (words : List Text) (seen : Bool) → seen ≡ is_front (codes ",") (front words) →
-    seen ≡ false → targets_from below (map (target_tree text) targets) words ≡ got (map (target_tree text) targets) words
-targets_ended text below targets words seen is e =
-    no_more (is_front (codes ",")) (behind_comma below) (comma_eats below) (map (target_tree text) targets) words (sym is ∙ e)
 
 -- targets between braces
 

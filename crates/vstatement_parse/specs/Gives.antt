@@ -39,8 +39,10 @@ Answered view answer left (Ok value) = answer ≡ got (view value) left
 Answered view answer left (Err e) = Stops answer left e
 
 -- so of the words that are left of a text's tokens, and of trees that keep tokens by number
-abbrev pub Gives : {A T : Type 0} → (List Text → T → A) → Reader A → Tokenized → Cursor → Cursor → Result T (OrMemory Stop) → Type 0
-Gives view read tokens old new result = Answered (view (words_of tokens)) (read (ahead tokens old)) (ahead tokens new) result
+abbrev pub Gives : {A T : Type 0} → (List Text → T → A) → Reader A → Tokenized → Cursor → Cursor →
+    Result T (OrMemory Stop) → Type 0
+Gives view read tokens old new result =
+    Answered (view (words_of tokens)) (read (ahead tokens old)) (ahead tokens new) result
 
 -- the tree of an expression behind a pointer
 abbrev pub value_tree : {T : Type 0} → List Text → Box Expression T → ExpressionTree
@@ -55,7 +57,8 @@ abbrev pub selected_tree : Text → ℕ → Reader TargetTree
 selected_tree letters below = made (λ selected. target_of letters (Some selected)) (select below)
 
 -- each call reads as the definition does with so many levels
-abbrev pub ReadsTargets : Tokenized → ℕ → (MutBor Cursor → Result Target (OrMemory Stop) → MutBor Cursor → Type 0) → Type 0
+abbrev pub ReadsTargets : Tokenized → ℕ → (MutBor Cursor → Result Target (OrMemory Stop) → MutBor Cursor → Type 0) →
+    Type 0
 ReadsTargets tokens below call =
     (old new : MutBor Cursor) (result : Result Target (OrMemory Stop)) → call old result new →
     Gives target_tree (target below) tokens old.now new.now result
@@ -91,7 +94,8 @@ abbrev pub trigger_at : Reader StatementTree
 trigger_at = made trigger_of (paired named (word_only (codes ";")))
 
 -- each call reads as the definition does with so many levels
-abbrev pub ReadsStatements : Tokenized → ℕ → (MutBor Cursor → Result Statement (OrMemory Stop) → MutBor Cursor → Type 0) → Type 0
+abbrev pub ReadsStatements : Tokenized → ℕ →
+    (MutBor Cursor → Result Statement (OrMemory Stop) → MutBor Cursor → Type 0) → Type 0
 ReadsStatements tokens below call =
     (old new : MutBor Cursor) (result : Result Statement (OrMemory Stop)) → call old result new →
     Gives statement_tree (statement below) tokens old.now new.now result
@@ -151,7 +155,9 @@ names_tree words names = both (term_tree words names.term) (all_further words na
 
 -- behind @ (
 abbrev pub terms_at : Reader EventTree
-terms_at = made (λ terms. event_of (other_way (other_way (other_way terms)))) (paired (paired term further_terms) (word_only (codes ")")))
+terms_at =
+    made (λ terms. event_of (other_way (other_way (other_way terms))))
+    (paired (paired term further_terms) (word_only (codes ")")))
 
 abbrev pub enclosed_at : Reader EventTree
 enclosed_at = made (λ inner. event_of (other_way (other_way inner))) enclosed_event
@@ -207,7 +213,8 @@ all_arguments words arguments = map (argument_tree words) arguments.items
 
 -- the arguments with the first one
 abbrev pub arguments_behind : ℕ → ArgumentTree → Reader (List ArgumentTree)
-arguments_behind below one = turns (one_behind (λ list. past (codes ",") (argument below))) (is_front (codes ",")) (one ∷ [])
+arguments_behind below one =
+    turns (one_behind (λ list. past (codes ",") (argument below))) (is_front (codes ",")) (one ∷ [])
 
 -- behind the parenthesis
 abbrev pub arguments_within : ℕ → Reader (List ArgumentTree)

@@ -185,7 +185,8 @@ pub fn target(
     at_level(
         alloc,
         |cursor|
-            ensures { Gives target_tree (reading.target below) tokens.entry.now cursor.entry.now cursor.exit.now result }
+            ensures { Gives target_tree (reading.target below)
+                tokens.entry.now cursor.entry.now cursor.exit.now result }
         { target(alloc, tokens, cursor, below) },
         below,
         tokens,
