@@ -1,6 +1,6 @@
 -- What the code that reads a case goes on from.
 use Rattle.std.specs.Str.{bytes_eq}
-use Rattle.std.proofs.Common.{◌≡◌, ℕ, zero, suc, ◌<◌, arith, length, nat_le, Bool, true, false, ◌||◌, Option, Some, None, not, if◌then◌else◌, codes, Result, subst, List, [], ◌∷◌, ◌++◌, map, Box, Vec, Global, refl, sym, ap, ◌∙◌}
+use Rattle.std.proofs.Common.{◌≡◌, ℕ, zero, suc, ◌<◌, arith, length, Bool, true, false, ◌||◌, Option, Some, None, not, if◌then◌else◌, codes, Result, subst, List, [], ◌∷◌, ◌++◌, map, Box, Vec, Global, refl, sym, ap, ◌∙◌}
 use Rattle.std.proofs.lemmas.List.{map-append}
 use Rattle.vast.specs.Syntax.{Text}
 use Rattle.vast.specs.Words.{reserved_words}
@@ -26,24 +26,14 @@ use Rattle.vgrammar.specs.Statements.{statement, begins_statement, value, List_o
 use Rattle.vgrammar.proofs.Phrases.{of_these, sound_eats}
 use Rattle.vgrammar.proofs.PhraseChoices.{Tested}
 use Rattle.vgrammar.proofs.ManyTurns.{goes_on_first, one_more, stopped_at, no_more, past_eats_too, goes_on}
-use Rattle.vgrammar.proofs.LevelFacts.{one_within}
 use Rattle.vgrammar.proofs.ValuePhrases.{value_shape, value_phrase, value_worded}
 use Rattle.vgrammar.proofs.WordPhrases.{refused_first}
 use Rattle.vgrammar.proofs.StatementShapes.{statement_shape, statement_worded}
 use Rattle.vgrammar.proofs.StatementLevels.{statement_phrase, statement_refuses}
 use Rattle.vgrammar.proofs.CasePhrases.{branch_shape, allow, branch_phrase}
-use Rattle.vstatement_parse.specs.Gives.{Gives}
+use Rattle.vstatement_parse.specs.Gives.{Answered}
+use Rattle.vstatement_parse.proofs.StatementTurns.{twice, level_of}
 use Rattle.vstatement_parse.specs.Cases.{labels_within, labelled_at, default_at, branch_at, branch_behind, not_endcase, branches_from, branches_behind, case_behind, case_inner, case_whole, case_at}
-
--- what is made of what was made
-twice : {A B C : Type 0} (make : A → B) (again : B → C) (a : Answer A) →
-    and_then (and_then a (λ tree. got (make tree))) (λ tree. got (again tree)) ≡ and_then a (λ tree. got (again (make tree)))
-twice make again (got tree left) = refl
-twice make again (stop why left) = refl
-
-level_of : (below : ℕ) → 0 < below → nat_le 1 below ≡ true
-level_of zero e = absurd (omega (arith, e))
-level_of (suc n) e = one_within n
 
 -- labels
 
@@ -51,13 +41,13 @@ pub label_eats : (below : ℕ) → Eats (past (codes ",") (value below))
 label_eats below =
     past_eats_too (codes ",") (value below) (sound_eats (value below) (value_shape below) (value_phrase below).sound (value_worded below))
 
-pub labelled_got : (below : ℕ) (labels : Vec Expression Global) (body : Statement) (words between left : List Text) →
-    labels_within below words ≡ got (map tree_of labels.items) between → statement below between ≡ got (statement_tree body) left →
-    labelled_at below words ≡ got (branch_tree (Labelled labels body)) left
-labelled_got below labels body words between left e f =
+pub labelled_got : (text : List Text) (below : ℕ) (labels : Vec Expression Global) (body : Statement) (words between left : List Text) →
+    labels_within below words ≡ got (map (tree_of text) labels.items) between → statement below between ≡ got (statement_tree text body) left →
+    labelled_at below words ≡ got (branch_tree text (Labelled labels body)) left
+labelled_got text below labels body words between left e f =
     ap (λ a. and_then a (λ all. made (labelled (trees_in all)) (statement below))) e
-    ∙ ap (λ a. and_then a (λ tree. got (labelled (trees_in (map tree_of labels.items)) tree))) f
-    ∙ ap (λ ts. got (labelled ts (statement_tree body)) left) (trees_same labels.items)
+    ∙ ap (λ a. and_then a (λ tree. got (labelled (trees_in (map (tree_of text) labels.items)) tree))) f
+    ∙ ap (λ ts. got (labelled ts (statement_tree text body)) left) (trees_same text labels.items)
 
 -- labels and their colon, and then the statement: the colon with the one, or with the other
 labelled_is : (below : ℕ) (words : List Text) →
@@ -122,17 +112,17 @@ module _ (below : ℕ) (words : List Text) where
       seen ≡ true → branch_behind below seen words ≡ stop NoTree words
   second_default here seen is met old = ap (λ b. by_default b seen) (sym is ∙ met) ∙ ap (λ s. by_default true s) old
 
-  pub gives_default : (left : List Text) (result : Result BranchWords (OrMemory Stop)) (here seen : Bool) →
+  pub gives_default : (text : List Text) (left : List Text) (result : Result BranchWords (OrMemory Stop)) (here seen : Bool) →
       here ≡ is_front (codes "default") (front words) → here ≡ true → seen ≡ false →
-      Gives branch_tree (default_at below words) left result → Gives branch_tree (branch_behind below seen words) left result
-  gives_default left result here seen is met new given =
-      subst (λ a. Gives branch_tree a left result) (sym (default_is seen (sym is ∙ met) new)) given
+      Answered (branch_tree text) (default_at below words) left result → Answered (branch_tree text) (branch_behind below seen words) left result
+  gives_default text left result here seen is met new given =
+      subst (λ a. Answered (branch_tree text) a left result) (sym (default_is seen (sym is ∙ met) new)) given
 
-  pub gives_labelled : (left : List Text) (result : Result BranchWords (OrMemory Stop)) (here seen : Bool) →
+  pub gives_labelled : (text : List Text) (left : List Text) (result : Result BranchWords (OrMemory Stop)) (here seen : Bool) →
       here ≡ is_front (codes "default") (front words) → here ≡ false →
-      Gives branch_tree (labelled_at below words) left result → Gives branch_tree (branch_behind below seen words) left result
-  gives_labelled left result here seen is none given =
-      subst (λ a. Gives branch_tree a left result) (sym (no_default seen (sym is ∙ none))) given
+      Answered (branch_tree text) (labelled_at below words) left result → Answered (branch_tree text) (branch_behind below seen words) left result
+  gives_labelled text left result here seen is none given =
+      subst (λ a. Answered (branch_tree text) a left result) (sym (no_default seen (sym is ∙ none))) given
 
   -- a branch is a default where the word stands first
   by_parts : (here seen : Bool) (tree : BranchTree) (left : List Text) → by_default here seen ≡ got tree left → is_default tree ≡ here
@@ -204,54 +194,54 @@ branch_eats below some list =
     (λ tree v. branch_worded tree)
 
 -- the branches so far, and those that are read of the words that are left, are all; and whether a default is among them
-pub record IsSoFar (below : ℕ) (items : List BranchWords) (seen : Bool) (words : List Text) (all : Answer (List BranchTree)) : Type 0 where
-  pub branches : branches_from below (map branch_tree items) words ≡ all
-  pub seen_is : seen ≡ has_default (map branch_tree items)
+pub record IsSoFar (text : List Text) (below : ℕ) (items : List BranchWords) (seen : Bool) (words : List Text) (all : Answer (List BranchTree)) : Type 0 where
+  pub branches : branches_from below (map (branch_tree text) items) words ≡ all
+  pub seen_is : seen ≡ has_default (map (branch_tree text) items)
 
-pub so_far_first : (below : ℕ) (one : BranchWords) (items : List BranchWords) (seen : Bool) (words : List Text) → items ≡ one ∷ [] →
-    seen ≡ has_default (branch_tree one ∷ []) → IsSoFar below items seen words (branches_behind below (branch_tree one) words)
-so_far_first below one items seen words is e = record {
-  branches = ap (λ ts. branches_from below (map branch_tree ts) words) is;
-  seen_is = e ∙ ap (λ ts. has_default (map branch_tree ts)) (sym is);
+pub so_far_first : (text : List Text) (below : ℕ) (one : BranchWords) (items : List BranchWords) (seen : Bool) (words : List Text) →
+    items ≡ one ∷ [] → seen ≡ has_default (branch_tree text one ∷ []) → IsSoFar text below items seen words (branches_behind below (branch_tree text one) words)
+so_far_first text below one items seen words is e = record {
+  branches = ap (λ ts. branches_from below (map (branch_tree text) ts) words) is;
+  seen_is = e ∙ ap (λ ts. has_default (map (branch_tree text) ts)) (sym is);
 }
 
-pub so_far_more : (below : ℕ) → 0 < below → (words : List Text) → not_endcase (front words) ≡ true →
+pub so_far_more : (text : List Text) (below : ℕ) → 0 < below → (words : List Text) → not_endcase (front words) ≡ true →
     (items after : List BranchWords) (one : BranchWords) (left : List Text) (all : Answer (List BranchTree)) (seen here both_seen : Bool) →
     after ≡ items ++ one ∷ [] → here ≡ is_front (codes "default") (front words) → both_seen ≡ (seen || here) →
-    branch_behind below seen words ≡ got (branch_tree one) left → IsSoFar below items seen words all →
-    IsSoFar below after both_seen left all
-so_far_more below some words here items after one left all seen this both_seen same is or e before = record {
+    branch_behind below seen words ≡ got (branch_tree text one) left → IsSoFar text below items seen words all →
+    IsSoFar text below after both_seen left all
+so_far_more text below some words here items after one left all seen this both_seen same is or e before = record {
   branches = ap (λ ts. branches_from below ts left) trees
-      ∙ sym (one_more not_endcase (branch_at below) (branch_eats below some) (map branch_tree items) words (branch_tree one) left here
+      ∙ sym (one_more not_endcase (branch_at below) (branch_eats below some) (map (branch_tree text) items) words (branch_tree text one) left here
       (ap (λ s. branch_behind below s words) (sym before.seen_is) ∙ e))
       ∙ before.branches;
   seen_is = or ∙ ap (λ s. s || this) before.seen_is
-      ∙ ap (λ b. has_default (map branch_tree items) || b) (default_seen below words seen this (branch_tree one) left is e)
-      ∙ sym (seen_behind (map branch_tree items) (branch_tree one)) ∙ ap has_default (sym trees);
+      ∙ ap (λ b. has_default (map (branch_tree text) items) || b) (default_seen below words seen this (branch_tree text one) left is e)
+      ∙ sym (seen_behind (map (branch_tree text) items) (branch_tree text one)) ∙ ap has_default (sym trees);
 }
   where
-    trees : map branch_tree after ≡ map branch_tree items ++ branch_tree one ∷ []
-    trees = ap (map branch_tree) same ∙ map-append branch_tree items (one ∷ [])
+    trees : map (branch_tree text) after ≡ map (branch_tree text) items ++ branch_tree text one ∷ []
+    trees = ap (map (branch_tree text)) same ∙ map-append (branch_tree text) items (one ∷ [])
 
-pub branch_fewer : (below : ℕ) → 0 < below → (items : List BranchWords) (seen : Bool) (words : List Text) (all : Answer (List BranchTree)) →
-    IsSoFar below items seen words all → (tree : BranchTree) (left : List Text) → branch_behind below seen words ≡ got tree left →
+pub branch_fewer : (text : List Text) (below : ℕ) → 0 < below → (items : List BranchWords) (seen : Bool) (words : List Text) (all : Answer (List BranchTree)) →
+    IsSoFar text below items seen words all → (tree : BranchTree) (left : List Text) → branch_behind below seen words ≡ got tree left →
     length left < length words
-branch_fewer below some items seen words all before tree left e =
-    branch_eats below some (map branch_tree items) words tree left (ap (λ s. branch_behind below s words) (sym before.seen_is) ∙ e)
+branch_fewer text below some items seen words all before tree left e =
+    branch_eats below some (map (branch_tree text) items) words tree left (ap (λ s. branch_behind below s words) (sym before.seen_is) ∙ e)
 
-pub so_far_stopped : (below : ℕ) → 0 < below → (items : List BranchWords) (seen : Bool) (words : List Text) (all : Answer (List BranchTree)) →
-    IsSoFar below items seen words all → (ends : Bool) → ends ≡ is_front (codes "endcase") (front words) → ends ≡ false →
+pub so_far_stopped : (text : List Text) (below : ℕ) → 0 < below → (items : List BranchWords) (seen : Bool) (words : List Text) (all : Answer (List BranchTree)) →
+    IsSoFar text below items seen words all → (ends : Bool) → ends ≡ is_front (codes "endcase") (front words) → ends ≡ false →
     (why : Stop) (left : List Text) → branch_behind below seen words ≡ stop why left → all ≡ stop why left
-so_far_stopped below some items seen words all before ends is none why left e =
+so_far_stopped text below some items seen words all before ends is none why left e =
     sym before.branches
-    ∙ stopped_at not_endcase (branch_at below) (branch_eats below some) (map branch_tree items) words left why (ap not (sym is ∙ none))
+    ∙ stopped_at not_endcase (branch_at below) (branch_eats below some) (map (branch_tree text) items) words left why (ap not (sym is ∙ none))
     (ap (λ s. branch_behind below s words) (sym before.seen_is) ∙ e)
 
-pub so_far_ended : (below : ℕ) → 0 < below → (items : List BranchWords) (seen : Bool) (words : List Text) (all : Answer (List BranchTree)) →
-    IsSoFar below items seen words all → (ends : Bool) → ends ≡ is_front (codes "endcase") (front words) → ends ≡ true →
-    all ≡ got (map branch_tree items) words
-so_far_ended below some items seen words all before ends is met =
-    sym before.branches ∙ no_more not_endcase (branch_at below) (branch_eats below some) (map branch_tree items) words (ap not (sym is ∙ met))
+pub so_far_ended : (text : List Text) (below : ℕ) → 0 < below → (items : List BranchWords) (seen : Bool) (words : List Text) (all : Answer (List BranchTree)) →
+    IsSoFar text below items seen words all → (ends : Bool) → ends ≡ is_front (codes "endcase") (front words) → ends ≡ true →
+    all ≡ got (map (branch_tree text) items) words
+so_far_ended text below some items seen words all before ends is met =
+    sym before.branches ∙ no_more not_endcase (branch_at below) (branch_eats below some) (map (branch_tree text) items) words (ap not (sym is ∙ met))
 
 -- what is read behind the first branch, with it and without it
 
@@ -362,16 +352,16 @@ module _ (below : ℕ) (kind : CaseKind) where
   case_is : (words : List Text) → case_at below kind words ≡ case_whole below kind words
   case_is words = made_past (case_parts_of kind) (codes "(") (paired (value below) (past (codes ")") Rest)) (case_inner below kind) inner_is words
 
-  pub gives_case : (words left : List Text) (result : Result Statement (OrMemory Stop)) →
-      Gives statement_tree (case_whole below kind words) left result → Gives statement_tree (case_at below kind words) left result
-  gives_case words left result given = subst (λ a. Gives statement_tree a left result) (sym (case_is words)) given
+  pub gives_case : (text : List Text) (words left : List Text) (result : Result Statement (OrMemory Stop)) →
+      Answered (statement_tree text) (case_whole below kind words) left result → Answered (statement_tree text) (case_at below kind words) left result
+  gives_case text words left result given = subst (λ a. Answered (statement_tree text) a left result) (sym (case_is words)) given
 
 -- the statement that stands for it
 
-branches_same : (list : List BranchWords) → branches_in (map branch_tree list) ≡ branch_trees list
-branches_same [] = refl
-branches_same (one ∷ more) = ap (first_branch (branch_tree one)) (branches_same more)
+branches_same : (text : List Text) (list : List BranchWords) → branches_in (map (branch_tree text) list) ≡ branch_trees text list
+branches_same text [] = refl
+branches_same text (one ∷ more) = ap (first_branch (branch_tree text one)) (branches_same text more)
 
-pub case_made : (at : ℕ) (kind : CaseKind) (value : Box Expression Global) (list : Vec BranchWords Global) →
-    statement_tree (CaseWords at kind value list) ≡ case_of kind (boxed_tree value) (branches_in (map branch_tree list.items))
-case_made at kind value list = tree_of_case at kind value list ∙ ap (case_of kind (boxed_tree value)) (sym (branches_same list.items))
+pub case_made : (text : List Text) (at : ℕ) (kind : CaseKind) (value : Box Expression Global) (list : Vec BranchWords Global) →
+    statement_tree text (CaseWords at kind value list) ≡ case_of kind (boxed_tree text value) (branches_in (map (branch_tree text) list.items))
+case_made text at kind value list = tree_of_case text at kind value list ∙ ap (case_of kind (boxed_tree text value)) (sym (branches_same text list.items))

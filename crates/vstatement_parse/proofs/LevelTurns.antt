@@ -1,6 +1,6 @@
 -- What the code that reads a statement by its first word goes on from.
 use Rattle.std.specs.Str.{bytes_eq}
-use Rattle.std.proofs.Common.{◌≡◌, ◌≢◌, ℕ, zero, suc, ◌-◌, ◌<◌, arith, nat_le, Bool, true, false, if◌then◌else◌, Some, None, codes, Result, subst, List, [], ◌∷◌, length, drop, refl, sym, ap, ◌∙◌}
+use Rattle.std.proofs.Common.{◌≡◌, ◌≢◌, ℕ, zero, suc, ◌-◌, ◌<◌, arith, nat_le, Bool, true, false, if◌then◌else◌, None, codes, Result, subst, List, [], ◌∷◌, length, drop, refl, sym, ap, ◌∙◌}
 use Rattle.vast.specs.Syntax.{Text}
 use Rattle.vast.specs.Statements.{StatementTree, task, dump}
 use Rattle.vast.specs.StatementTrees.{statement_tree}
@@ -11,7 +11,6 @@ use Rattle.basis.specs.declared.memory.OrMemory.{OrMemory}
 use Rattle.vexpr_parse.specs.declared.stop.Stop.{Stop}
 use Rattle.vexpr_parse.specs.declared.stop.Stop.TheVariants.{NoTree, TooDeep}
 use Rattle.vexpr_parse.specs.Readers.{Reader, got, stop, and_then, follow, goes, refused, lower, room, front}
-use Rattle.vgrammar.proofs.LevelFacts.{one_within}
 use Rattle.std.proofs.lemmas.Bool.Decides.{nat_tests}
 use Rattle.vexpr_parse.proofs.ReaderRules.{chosen, passed_over}
 use Rattle.vgrammar.specs.declared.start.StatementStart.{StatementStart}
@@ -19,7 +18,7 @@ use Rattle.vgrammar.specs.declared.start.StatementStart.TheVariants as start
 use Rattle.vgrammar.specs.Parts.{made, roomy}
 use Rattle.vgrammar.specs.Starts.{begins_target, is_target, start_of}
 use Rattle.vgrammar.specs.Statements.{statement, statement_by, lead_by, begins_statement, assignment, word_only, dump_of}
-use Rattle.vstatement_parse.specs.Gives.{Gives, dump_at}
+use Rattle.vstatement_parse.specs.Gives.{Answered, dump_at}
 use Rattle.vstatement_parse.specs.Begun.{begun_at, behind_word, levels_of, other_at, statement_at}
 
 -- behind the first word
@@ -65,12 +64,12 @@ leads below (start.End stops) word words = at_once below (behind_word below (sta
 no_words : (n : ℕ) → n < 0 → ⊥
 no_words n e = omega (arith, e)
 
-pub gives_begun : (below : ℕ) (kind : StatementStart) (words after left : List Text) (result : Result Statement (OrMemory Stop)) (n : ℕ) →
+pub gives_begun : (text : List Text) (below : ℕ) (kind : StatementStart) (words after left : List Text) (result : Result Statement (OrMemory Stop)) (n : ℕ) →
     0 < length words → n ≡ levels_of kind → after ≡ drop 1 words → nat_le n below ≡ true →
-    Gives statement_tree (behind_word below kind after) left result → Gives statement_tree (begun_at below kind words) left result
-gives_begun below kind [] after left result n some is e f given = absurd (no_words 0 some)
-gives_begun below kind (word ∷ words) after left result n some is e f given =
-    subst (λ a. Gives statement_tree a left result)
+    Answered (statement_tree text) (behind_word below kind after) left result → Answered (statement_tree text) (begun_at below kind words) left result
+gives_begun text below kind [] after left result n some is e f given = absurd (no_words 0 some)
+gives_begun text below kind (word ∷ words) after left result n some is e f given =
+    subst (λ a. Answered (statement_tree text) a left result)
     (ap (behind_word below kind) e
     ∙ sym (leads below kind word words ∙ ap (λ l. follow l word words) (chosen (nat_le (levels_of kind) below) _ lower (ap (λ m. nat_le m below) (sym is) ∙ f))))
     given
@@ -104,26 +103,9 @@ module _ (below : ℕ) (words : List Text) (word : Text) (is : words ≡ word �
   pub low_target : begins_target word ≡ true → below ≡ 0 → statement_at below words ≡ stop TooDeep words
   low_target e low = target_first e ∙ ap (λ n. if nat_le 1 n then assignment below words else stop TooDeep words) low
 
-  pub gives_assignment : (left : List Text) (result : Result Statement (OrMemory Stop)) → begins_target word ≡ true → below ≢ 0 →
-      Gives statement_tree (assignment below words) left result → Gives statement_tree (statement_at below words) left result
-  gives_assignment left result e some given =
-      subst (λ a. Gives statement_tree a left result)
-      (sym (target_first e ∙ chosen (nat_le 1 below) (assignment below words) _ (one_up below some))) given
-    where
-      one_up : (n : ℕ) → n ≢ 0 → nat_le 1 n ≡ true
-      one_up zero some = absurd (some refl)
-      one_up (suc n) some = one_within n
-
   pub no_start : begins_target word ≡ false → start_of word ≡ None → statement_at below words ≡ stop NoTree words
   no_start e none =
       other_first e ∙ ap (λ o. follow (lead_by below (statement below) o) word rest) none ∙ ap (stop NoTree) (sym is)
-
-  pub gives_other : (left : List Text) (result : Result Statement (OrMemory Stop)) (kind : StatementStart) → begins_target word ≡ false →
-      start_of word ≡ Some kind → Gives statement_tree (begun_at below kind words) left result →
-      Gives statement_tree (statement_at below words) left result
-  gives_other left result kind e some given =
-      subst (λ a. Gives statement_tree a left result)
-      (ap (begun_at below kind) is ∙ sym (other_first e ∙ ap (λ o. follow (lead_by below (statement below) o) word rest) some)) given
 
 -- where no level is left
 
@@ -157,10 +139,10 @@ up (suc below) words e = ap (λ n. statement_at n words) (sym (one_less below))
     one_less : (n : ℕ) → suc n - 1 ≡ n
     one_less n = omega arith
 
-pub gives_up : (levels : ℕ) (words left : List Text) (result : Result Statement (OrMemory Stop)) → levels ≢ 0 →
-    Gives statement_tree (statement_at (levels - 1) words) left result → Gives statement_tree (statement levels words) left result
-gives_up levels words left result some given =
-    subst (λ a. Gives statement_tree a left result) (sym (up levels words some)) given
+pub gives_up : (text : List Text) (levels : ℕ) (words left : List Text) (result : Result Statement (OrMemory Stop)) → levels ≢ 0 →
+    Answered (statement_tree text) (statement_at (levels - 1) words) left result → Answered (statement_tree text) (statement levels words) left result
+gives_up text levels words left result some given =
+    subst (λ a. Answered (statement_tree text) a left result) (sym (up levels words some)) given
 
 pub gives_low : (levels : ℕ) (words : List Text) (why : Stop) → levels ≡ 0 → statement 0 words ≡ stop why words →
     statement levels words ≡ stop why words

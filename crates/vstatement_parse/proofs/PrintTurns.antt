@@ -14,7 +14,7 @@ use Rattle.vexpr_parse.specs.Readers.{Answer, Reader, got, stop, and_then, past,
 use Rattle.vgrammar.specs.Parts.{Both, both, made, paired, roomy}
 use Rattle.vgrammar.specs.Statements.{comma_list, word_only, argument, Arguments, arguments, print_of, optional_print_of}
 use Rattle.vgrammar.proofs.ManyTurns.{until_is}
-use Rattle.vstatement_parse.specs.Gives.{Gives, arguments_within}
+use Rattle.vstatement_parse.specs.Gives.{Answered, arguments_within}
 use Rattle.vstatement_parse.specs.Begun.{print_at, monitor_at, required_arguments, optional_arguments, printed_with}
 
 abbrev list_of : Arguments → List ArgumentTree
@@ -91,14 +91,14 @@ module _ (kind : Printing) where
     print_is : print_at kind below words ≡ printed_with kind (optional_arguments below) words
     print_is = by_bracket (is_front (codes "(") (front words))
 
-    pub gives_print : (left : List Text) (result : Result Statement (OrMemory Stop)) →
-        Gives statement_tree (printed_with kind (optional_arguments below) words) left result →
-        Gives statement_tree (print_at kind below words) left result
-    gives_print left result given = subst (λ a. Gives statement_tree a left result) (sym print_is) given
+    pub gives_print : (text : List Text) (left : List Text) (result : Result Statement (OrMemory Stop)) →
+        Answered (statement_tree text) (printed_with kind (optional_arguments below) words) left result →
+        Answered (statement_tree text) (print_at kind below words) left result
+    gives_print text left result given = subst (λ a. Answered (statement_tree text) a left result) (sym print_is) given
 
-pub gives_monitor : (below : ℕ) (words left : List Text) (result : Result Statement (OrMemory Stop)) →
-    Gives statement_tree (printed_with printing.Monitor (required_arguments below) words) left result →
-    Gives statement_tree (monitor_at below words) left result
-gives_monitor below words left result given =
-    subst (λ a. Gives statement_tree a left result)
+pub gives_monitor : (text : List Text) (below : ℕ) (words left : List Text) (result : Result Statement (OrMemory Stop)) →
+    Answered (statement_tree text) (printed_with printing.Monitor (required_arguments below) words) left result →
+    Answered (statement_tree text) (monitor_at below words) left result
+gives_monitor text below words left result given =
+    subst (λ a. Answered (statement_tree text) a left result)
     (sym (by_some printing.Monitor (arguments below words) ∙ ap (λ a. and_then a (printed printing.Monitor)) (required_is below words))) given

@@ -1,4 +1,5 @@
 -- What the code that reads lists in statements goes on from.
+use Rattle.std.specs.Str.{bytes_eq}
 use Rattle.std.proofs.Common.{◌≡◌, ℕ, zero, suc, nat_le, ◌<◌, arith, length, Bool, true, false, if◌then◌else◌, codes, Result, subst, List, [], ◌∷◌, map, Vec, Global, refl, sym, ap, ◌∙◌}
 use Rattle.vast.specs.Syntax.{Text}
 use Rattle.vast.specs.Statements.{block, first_statement, ArgumentTree, quoted, printed, spell_argument}
@@ -6,15 +7,19 @@ use Rattle.vast.specs.StatementTrees.{statement_tree, statement_trees, event_tre
 use Rattle.vast.specs.Words.{is_name}
 use Rattle.vast.specs.declared.statement.Event.{Event}
 use Rattle.basis.specs.declared.memory.OrMemory.{OrMemory}
+use Rattle.basis.specs.declared.memory.OrMemory.TheVariants.{Fault, Memory}
+use Rattle.basis.specs.Reasons.{Because}
 use Rattle.vexpr_parse.specs.declared.stop.Stop.{Stop}
+use Rattle.vexpr_parse.specs.declared.stop.Stop.TheVariants.{NoTree}
+use Rattle.vexpr_parse.specs.Answers.{Stops}
 use Rattle.vast.specs.declared.statement.Statement.{Statement, Block}
 use Rattle.vast.proofs.WholeTreeLemmas.{tree_of_whole_block}
-use Rattle.vexpr_parse.specs.Readers.{Answer, Reader, got, stop, and_then, past, front, is_front}
-use Rattle.vexpr_parse.proofs.ReaderRules.{Eats}
+use Rattle.vexpr_parse.specs.Readers.{Answer, Reader, got, stop, and_then, past, follow, goes, refused, front, is_front}
+use Rattle.vexpr_parse.proofs.ReaderRules.{Eats, passed_over}
 use Rattle.vgrammar.specs.Parts.{both, other_way, one_way, made, paired, many, either}
 use Rattle.vgrammar.specs.Starts.{comma_word, is_word}
 use Rattle.vgrammar.specs.Statements.{further_term, statement, statements_in, block_of, block_parts, named, term, word_only, event_of, enclosed_event, control, path, path_of, argument}
-use Rattle.vstatement_parse.specs.Gives.{Gives, block_at, enclosed_at, terms_at, further_terms, names_behind, path_at}
+use Rattle.vstatement_parse.specs.Gives.{Answered, block_at, enclosed_at, terms_at, further_terms, names_behind, path_at}
 use Rattle.vgrammar.proofs.ManyTurns.{goes_on_first, past_eats_too}
 use Rattle.vgrammar.proofs.Phrases.{sound_eats}
 use Rattle.vgrammar.proofs.PartPhrases.{further_shape, further_phrase, text_shape, named_phrase, path_shape, path_phrase, argument_shape, argument_phrase}
@@ -35,22 +40,42 @@ statement_eats below =
 
 -- blocks
 
-trees_in_list : (list : List Statement) → statement_trees list ≡ statements_in (map statement_tree list)
-trees_in_list [] = refl
-trees_in_list (one ∷ more) = ap (first_statement (statement_tree one)) (trees_in_list more)
+trees_in_list : (text : List Text) (list : List Statement) → statement_trees text list ≡ statements_in (map (statement_tree text) list)
+trees_in_list text [] = refl
+trees_in_list text (one ∷ more) = ap (first_statement (statement_tree text one)) (trees_in_list text more)
 
-pub block_got : (below : ℕ) (statements : Vec Statement Global) (words left : List Text) →
-    block_parts (statement below) words ≡ got (both (map statement_tree statements.items) tt) left →
-    block_at below words ≡ got (statement_tree (Block statements)) left
-block_got below statements words left e =
+pub block_got : (text : List Text) (below : ℕ) (statements : Vec Statement Global) (words left : List Text) →
+    block_parts (statement below) words ≡ got (both (map (statement_tree text) statements.items) tt) left →
+    block_at below words ≡ got (statement_tree text (Block statements)) left
+block_got text below statements words left e =
     ap (λ a. and_then a (λ parts. got (block_of parts))) e
-    ∙ ap (λ t. got t left) (sym (tree_of_whole_block statements ∙ ap block (trees_in_list statements.items)))
+    ∙ ap (λ t. got t left) (sym (tree_of_whole_block text statements ∙ ap block (trees_in_list text statements.items)))
 
 -- what is made of what was made
-twice : {A B C : Type 0} (make : A → B) (again : B → C) (a : Answer A) →
+pub twice : {A B C : Type 0} (make : A → B) (again : B → C) (a : Answer A) →
     and_then (and_then a (λ tree. got (make tree))) (λ tree. got (again tree)) ≡ and_then a (λ tree. got (again (make tree)))
 twice make again (got tree left) = refl
 twice make again (stop why left) = refl
+
+-- a word that isn't there, behind what was read
+
+absent : (text : Text) (words : List Text) → is_front text (front words) ≡ false → word_only text words ≡ stop NoTree words
+absent text [] e = refl
+absent text (word ∷ words) e = ap (λ l. follow l word words) (passed_over (bytes_eq text word) (goes (got tt)) refused e)
+
+pub unclosed : {A : Type 0} (read : Reader A) (text : Text) (words between left : List Text) (tree : A) (e : OrMemory Stop) →
+    read words ≡ got tree between →
+    Because (λ why. (why ≡ NoTree) × (left ≡ between) × (is_front text (front between) ≡ false)) e → Stops (paired read (word_only text) words) left e
+unclosed read text words between left tree (Memory m) is given = tt
+unclosed read text words between left tree (Fault why) is given =
+    ap (λ a. and_then a (λ tree. made (both tree) (word_only text))) is
+    ∙ ap (λ a. and_then a (λ end. got (both tree end))) (absent text between given.2)
+    ∙ ap (λ w. stop w between) (sym given.0) ∙ ap (stop why) (sym given.1)
+
+pub unclosed_too : {A B : Type 0} (make : A → B) (read : Reader A) (words left : List Text) (e : OrMemory Stop) →
+    Stops (read words) left e → Stops (made make read words) left e
+unclosed_too make read words left (Memory m) given = tt
+unclosed_too make read words left (Fault why) given = ap (λ a. and_then a (λ tree. got (make tree))) given
 
 -- what is waited for
 
@@ -61,10 +86,10 @@ terms_there words e =
     (λ inner. got (event_of (other_way (other_way inner))))) e
     ∙ twice other_way (λ inner. event_of (other_way (other_way inner))) (paired (paired term further_terms) (word_only (codes ")")) words)
 
-pub gives_terms : (words left : List Text) (result : Result Event (OrMemory Stop)) (star : Bool) →
-    star ≡ is_front (codes "*") (front words) → star ≡ false → Gives event_tree (terms_at words) left result →
-    Gives event_tree (enclosed_at words) left result
-gives_terms words left result star is e given = subst (λ a. Gives event_tree a left result) (sym (terms_there words (sym is ∙ e))) given
+pub gives_terms : (text : List Text) (words left : List Text) (result : Result Event (OrMemory Stop)) (star : Bool) →
+    star ≡ is_front (codes "*") (front words) → star ≡ false → Answered (event_tree text) (terms_at words) left result →
+    Answered (event_tree text) (enclosed_at words) left result
+gives_terms text words left result star is e given = subst (λ a. Answered (event_tree text) a left result) (sym (terms_there words (sym is ∙ e))) given
 
 enclosed_there : (after : List Text) → is_name (codes "(") ≡ false → control (codes "(" ∷ after) ≡ enclosed_at after
 enclosed_there after e =
@@ -74,12 +99,12 @@ enclosed_there after e =
     ∙ twice other_way event_of (Inner (codes "(" ∷ after))
     ∙ twice other_way (λ inner. event_of (other_way inner)) (enclosed_event after)
 
-pub gives_enclosed : (words after left : List Text) (result : Result Event (OrMemory Stop)) (name : Bool) →
+pub gives_enclosed : (text : List Text) (words after left : List Text) (result : Result Event (OrMemory Stop)) (name : Bool) →
     name ≡ is_word is_name (front words) → name ≡ false → words ≡ codes "(" ∷ after →
-    Gives event_tree (enclosed_at after) left result → Gives event_tree (control words) left result
-gives_enclosed words after left result name is e bracket given =
-    subst (λ ws. Gives event_tree (control ws) left result) (sym bracket)
-    (subst (λ a. Gives event_tree a left result)
+    Answered (event_tree text) (enclosed_at after) left result → Answered (event_tree text) (control words) left result
+gives_enclosed text words after left result name is e bracket given =
+    subst (λ ws. Answered (event_tree text) (control ws) left result) (sym bracket)
+    (subst (λ a. Answered (event_tree text) a left result)
     (sym (enclosed_there after (ap (λ ws. is_word is_name (front ws)) (sym bracket) ∙ sym is ∙ e))) given)
 
 -- paths
@@ -115,7 +140,7 @@ path_answers words a e = path_is words ∙ e
 
 -- arguments
 
-level_of : (below : ℕ) → 0 < below → nat_le 1 below ≡ true
+pub level_of : (below : ℕ) → 0 < below → nat_le 1 below ≡ true
 level_of zero e = absurd (omega (arith, e))
 level_of (suc n) e = one_within n
 

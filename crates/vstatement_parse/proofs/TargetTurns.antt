@@ -13,10 +13,10 @@ use Rattle.vexpr_parse.specs.Readers.{Answer, got, stop, Reader, past, refused, 
 use Rattle.vexpr_parse.proofs.ReaderRules.{Eats, chosen, passed_over}
 use Rattle.vgrammar.specs.Starts.{begins_target}
 use Rattle.vgrammar.specs.Statements.{target, targets_in, joined_of, joined_targets}
-use Rattle.vstatement_parse.specs.Gives.{Gives, target_at, targets_from, targets_within, in_braces}
+use Rattle.vstatement_parse.specs.Gives.{Answered, target_at, targets_from, targets_within, in_braces}
 use Rattle.vgrammar.proofs.Phrases.{Worded, sound_eats}
 use Rattle.vgrammar.proofs.TargetPhrases.{target_shape, target_phrase}
-use Rattle.vgrammar.proofs.ManyTurns.{one_more, stopped_at, no_more, behind_word, past_eats_too, until_is}
+use Rattle.vgrammar.proofs.ManyTurns.{one_more, behind_word, past_eats_too, until_is}
 use Rattle.vgrammar.specs.Parts.{made}
 
 -- where no level is left
@@ -53,10 +53,10 @@ up (suc below) words e = ap (λ n. target_at n words) (sym (one_less below))
     one_less : (n : ℕ) → suc n - 1 ≡ n
     one_less n = omega arith
 
-pub gives_up : (levels : ℕ) (words left : List Text) (result : Result Target (OrMemory Stop)) → levels ≢ 0 →
-    Gives target_tree (target_at (levels - 1) words) left result → Gives target_tree (target levels words) left result
-gives_up levels words left result some given =
-    subst (λ a. Gives target_tree a left result) (sym (up levels words some)) given
+pub gives_up : (text : List Text) (levels : ℕ) (words left : List Text) (result : Result Target (OrMemory Stop)) → levels ≢ 0 →
+    Answered (target_tree text) (target_at (levels - 1) words) left result → Answered (target_tree text) (target levels words) left result
+gives_up text levels words left result some given =
+    subst (λ a. Answered (target_tree text) a left result) (sym (up levels words some)) given
 
 pub gives_low : (levels : ℕ) (words : List Text) (why : Stop) → levels ≡ 0 → target 0 words ≡ stop why words → target levels words ≡ stop why words
 gives_low levels words why e is = subst (λ n. target n words ≡ stop why words) (sym e) is
@@ -89,25 +89,14 @@ module _ (below : ℕ) (words between : List Text) (seen : Bool) (is : seen ≡ 
   pub target_fewer : (left : List Text) (tree : TargetTree) → target below between ≡ got tree left → length left < length words
   target_fewer left tree e = comma_eats below [] words tree left (behind (got tree left) e)
 
-  pub targets_pushed : (targets after : List Target) (one : Target) (left : List Text) (all : Answer (List TargetTree)) →
-      after ≡ targets ++ one ∷ [] → target below between ≡ got (target_tree one) left →
-      targets_from below (map target_tree targets) words ≡ all → targets_from below (map target_tree after) left ≡ all
-  targets_pushed targets after one left all same e before =
-      ap (λ ts. targets_from below ts left) (ap (map target_tree) same ∙ map-append target_tree targets (one ∷ []))
-      ∙ sym (one_more (is_front (codes ",")) (behind_comma below) (comma_eats below) (map target_tree targets) words (target_tree one) left
-      (sym is ∙ here) (behind (got (target_tree one) left) e))
+  pub targets_pushed : (text : List Text) (targets after : List Target) (one : Target) (left : List Text) (all : Answer (List TargetTree)) →
+      after ≡ targets ++ one ∷ [] → target below between ≡ got (target_tree text one) left →
+      targets_from below (map (target_tree text) targets) words ≡ all → targets_from below (map (target_tree text) after) left ≡ all
+  targets_pushed text targets after one left all same e before =
+      ap (λ ts. targets_from below ts left) (ap (map (target_tree text)) same ∙ map-append (target_tree text) targets (one ∷ []))
+      ∙ sym (one_more (is_front (codes ",")) (behind_comma below) (comma_eats below) (map (target_tree text) targets) words (target_tree text one) left
+      (sym is ∙ here) (behind (got (target_tree text one) left) e))
       ∙ before
-
-  pub targets_stopped : (targets : List Target) (left : List Text) (why : Stop) → target below between ≡ stop why left →
-      targets_from below (map target_tree targets) words ≡ stop why left
-  targets_stopped targets left why e =
-      stopped_at (is_front (codes ",")) (behind_comma below) (comma_eats below) (map target_tree targets) words left why (sym is ∙ here)
-      (behind (stop why left) e)
-
-pub targets_ended : (below : ℕ) (targets : List Target) (words : List Text) (seen : Bool) → seen ≡ is_front (codes ",") (front words) →
-    seen ≡ false → targets_from below (map target_tree targets) words ≡ got (map target_tree targets) words
-targets_ended below targets words seen is e =
-    no_more (is_front (codes ",")) (behind_comma below) (comma_eats below) (map target_tree targets) words (sym is ∙ e)
 
 -- targets between braces
 
@@ -115,25 +104,25 @@ abbrev row_of : Target → (n : Count) × Row_of-Target n
 row_of (Joined' at shape row) = (_, row)
 row_of _ = (_, end_of-Target)
 
-trees_of_row : (n : _) (row : Row_of-Target n) → target_row row ≡ targets_in (map target_tree (items-the_row-Target n row))
-trees_of_row n end_of-Target = refl
-trees_of_row n (more_of-Target one more) = ap (first (target_tree one)) (trees_of_row _ more)
+trees_of_row : (text : List Text) (n : _) (row : Row_of-Target n) → target_row text row ≡ targets_in (map (target_tree text) (items-the_row-Target n row))
+trees_of_row text n end_of-Target = refl
+trees_of_row text n (more_of-Target one more) = ap (first (target_tree text one)) (trees_of_row text _ more)
 
-pub tree_of_joined : (at : ℕ) (targets : Vec Target Global) → target_tree (Joined at targets) ≡ joined (targets_in (map target_tree targets.items))
-tree_of_joined at targets =
+pub tree_of_joined : (text : List Text) (at : ℕ) (targets : Vec Target Global) → target_tree text (Joined at targets) ≡ joined (targets_in (map (target_tree text) targets.items))
+tree_of_joined text at targets =
     let row = row_of (Joined at targets) in
     let same = items_hidden-the_row-Target-0 targets in
-    ap joined (trees_of_row row.0 row.1 ∙ ap (λ ts. targets_in (map target_tree ts)) same)
+    ap joined (trees_of_row text row.0 row.1 ∙ ap (λ ts. targets_in (map (target_tree text) ts)) same)
 
 pub joined_is : (below : ℕ) (words : List Text) → joined_targets (target below) words ≡ made in_braces (targets_within below) words
 joined_is below words = until_is (codes "}") (target below) joined_of in_braces (λ one list. refl) words
 
-pub gives_joined : (below : ℕ) (words left : List Text) (result : Result Target (OrMemory Stop)) →
-    Gives target_tree (made in_braces (targets_within below) words) left result → Gives target_tree (joined_targets (target below) words) left result
-gives_joined below words left result given = subst (λ a. Gives target_tree a left result) (sym (joined_is below words)) given
+pub gives_joined : (text : List Text) (below : ℕ) (words left : List Text) (result : Result Target (OrMemory Stop)) →
+    Answered (target_tree text) (made in_braces (targets_within below) words) left result → Answered (target_tree text) (joined_targets (target below) words) left result
+gives_joined text below words left result given = subst (λ a. Answered (target_tree text) a left result) (sym (joined_is below words)) given
 
-pub joined_got : (below at : ℕ) (targets : Vec Target Global) (words left : List Text) →
-    targets_within below words ≡ got (map target_tree targets.items) left →
-    made in_braces (targets_within below) words ≡ got (target_tree (Joined at targets)) left
-joined_got below at targets words left e =
-    ap (λ a. and_then a (λ all. got (in_braces all))) e ∙ ap (λ t. got t left) (sym (tree_of_joined at targets))
+pub joined_got : (text : List Text) (below at : ℕ) (targets : Vec Target Global) (words left : List Text) →
+    targets_within below words ≡ got (map (target_tree text) targets.items) left →
+    made in_braces (targets_within below) words ≡ got (target_tree text (Joined at targets)) left
+joined_got text below at targets words left e =
+    ap (λ a. and_then a (λ all. got (in_braces all))) e ∙ ap (λ t. got t left) (sym (tree_of_joined text at targets))

@@ -16,7 +16,8 @@ use Rattle.vstatement_parse.specs.Cases.{case_at}
 -- behind $display, or $strobe
 abbrev pub print_at : Printing → ℕ → Reader StatementTree
 print_at kind below =
-    made (optional_print_of kind) (paired (maybe (is_front (codes "(")) (roomy below 1 (arguments below))) (word_only (codes ";")))
+    made (optional_print_of kind)
+    (paired (maybe (is_front (codes "(")) (roomy below 1 (arguments below))) (word_only (codes ";")))
 
 -- behind $monitor
 abbrev pub monitor_at : ℕ → Reader StatementTree

@@ -20,7 +20,8 @@ all_labels words labels = map (tree_of words) labels.items
 
 -- the labels with the first one
 abbrev pub labels_behind : ℕ → ExpressionTree → Reader (List ExpressionTree)
-labels_behind below one = turns (one_behind (λ list. past (codes ",") (value below))) (is_front (codes ",")) (one ∷ [])
+labels_behind below one =
+    turns (one_behind (λ list. past (codes ",") (value below))) (is_front (codes ",")) (one ∷ [])
 
 -- with the colon
 abbrev pub labels_within : ℕ → Reader (List ExpressionTree)

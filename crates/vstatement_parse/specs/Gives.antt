@@ -4,7 +4,7 @@ use Rattle.vast.specs.Syntax.{Text}
 use Rattle.vast.specs.Expressions.{ExpressionTree}
 use Rattle.std.specs.Borrow.{MutBor}
 use Rattle.vast.specs.ExpressionTrees.{boxed_tree}
-use Rattle.vast.specs.StatementTrees.{target_tree, statement_tree, path_tree, argument_tree, further_term as further_tree}
+use Rattle.vast.specs.StatementTrees.{target_tree, statement_tree, path_tree, argument_tree, delay_tree, selection_tree, term_tree, further_term as further_tree}
 use Rattle.vast.specs.declared.statement.Statement.{Statement}
 use Rattle.vast.specs.declared.statement.Target.{Target}
 use Rattle.vast.specs.declared.expression.Expression.{Expression}
@@ -15,7 +15,7 @@ use Rattle.vexpr_parse.specs.Answers.{Stops, ahead}
 use Rattle.vexpr_parse.specs.Texts.{words_of}
 use Rattle.vexpr_parse.specs.declared.cursor.Cursor.{Cursor}
 use Rattle.vlex.specs.Tokenized.{Tokenized}
-use Rattle.vast.specs.Statements.{TargetTree, joined, StatementTree, task, dump, forever, FurtherTerm, EventTree, SelectionTree, ArgumentTree}
+use Rattle.vast.specs.Statements.{TargetTree, joined, StatementTree, task, dump, forever, TermTree, FurtherTerm, DelayTree, EventTree, SelectionTree, ArgumentTree}
 use Rattle.vgrammar.specs.Parts.{Both, both, other_way, made, maybe, paired, worded, one_behind, many}
 use Rattle.vgrammar.specs.Starts.{is_meant, edge_of, comma_of}
 use Rattle.vast.specs.declared.statement.Edge.{Edge}
@@ -27,7 +27,10 @@ use Rattle.vast.specs.declared.token.Token.{Token}
 use Rattle.vast.specs.TokenTexts.{token_text}
 use Rattle.vast.specs.declared.statement.Dumping.{Dumping}
 use Rattle.vstatement_parse.specs.declared.settings.Setting.{Setting}
+use Rattle.vstatement_parse.specs.declared.events.Names.{Names}
 use Rattle.vast.specs.declared.statement.Argument.{Argument}
+use Rattle.vast.specs.declared.statement.Delay.{Delay}
+use Rattle.vast.specs.declared.statement.Selection.{Selection}
 use Rattle.vgrammar.specs.Lists.{all_until}
 
 -- what the definition reads is given, and what is behind it is left; or it stops there
@@ -36,10 +39,16 @@ Answered view answer left (Ok value) = answer ≡ got (view value) left
 Answered view answer left (Err e) = Stops answer left e
 
 -- so of the words that are left of a text's tokens, and of trees that keep tokens by number
-abbrev pub Gives : {A T : Type 0} → (List Text → T → A) → Reader A → Tokenized → Cursor → Cursor → Result T (OrMemory Stop) → Type 0
-Gives view read tokens old new result = Answered (view (words_of tokens)) (read (ahead tokens old)) (ahead tokens new) result
+abbrev pub Gives : {A T : Type 0} → (List Text → T → A) → Reader A → Tokenized → Cursor → Cursor →
+    Result T (OrMemory Stop) → Type 0
+Gives view read tokens old new result =
+    Answered (view (words_of tokens)) (read (ahead tokens old)) (ahead tokens new) result
 
--- the tree of an expression, and that a word ended it
+-- the tree of an expression behind a pointer
+abbrev pub value_tree : {T : Type 0} → List Text → Box Expression T → ExpressionTree
+value_tree words value = boxed_tree words value
+
+-- the same, and that a word ended it
 abbrev pub ended_tree : {T : Type 0} → List Text → Box Expression T → Both ExpressionTree (Unit {0})
 ended_tree words value = both (boxed_tree words value) tt
 
@@ -48,7 +57,8 @@ abbrev pub selected_tree : Text → ℕ → Reader TargetTree
 selected_tree letters below = made (λ selected. target_of letters (Some selected)) (select below)
 
 -- each call reads as the definition does with so many levels
-abbrev pub ReadsTargets : Tokenized → ℕ → (MutBor Cursor → Result Target (OrMemory Stop) → MutBor Cursor → Type 0) → Type 0
+abbrev pub ReadsTargets : Tokenized → ℕ → (MutBor Cursor → Result Target (OrMemory Stop) → MutBor Cursor → Type 0) →
+    Type 0
 ReadsTargets tokens below call =
     (old new : MutBor Cursor) (result : Result Target (OrMemory Stop)) → call old result new →
     Gives target_tree (target below) tokens old.now new.now result
@@ -84,7 +94,8 @@ abbrev pub trigger_at : Reader StatementTree
 trigger_at = made trigger_of (paired named (word_only (codes ";")))
 
 -- each call reads as the definition does with so many levels
-abbrev pub ReadsStatements : Tokenized → ℕ → (MutBor Cursor → Result Statement (OrMemory Stop) → MutBor Cursor → Type 0) → Type 0
+abbrev pub ReadsStatements : Tokenized → ℕ →
+    (MutBor Cursor → Result Statement (OrMemory Stop) → MutBor Cursor → Type 0) → Type 0
 ReadsStatements tokens below call =
     (old new : MutBor Cursor) (result : Result Statement (OrMemory Stop)) → call old result new →
     Gives statement_tree (statement below) tokens old.now new.now result
@@ -138,9 +149,15 @@ all_further words further = map (further_tree words) further.items
 abbrev pub further_terms : Reader (List FurtherTerm)
 further_terms = many (is_meant comma_of) (λ list. further_term)
 
+-- all of them
+abbrev pub names_tree : List Text → Names → Both TermTree (List FurtherTerm)
+names_tree words names = both (term_tree words names.term) (all_further words names.further)
+
 -- behind @ (
 abbrev pub terms_at : Reader EventTree
-terms_at = made (λ terms. event_of (other_way (other_way (other_way terms)))) (paired (paired term further_terms) (word_only (codes ")")))
+terms_at =
+    made (λ terms. event_of (other_way (other_way (other_way terms))))
+    (paired (paired term further_terms) (word_only (codes ")")))
 
 abbrev pub enclosed_at : Reader EventTree
 enclosed_at = made (λ inner. event_of (other_way (other_way inner))) enclosed_event
@@ -180,6 +197,9 @@ all_paths words paths = map (path_tree words) paths.items
 abbrev pub paths_at : Reader (List (List Text))
 paths_at = many (is_front (codes ",")) (λ list. past (codes ",") path)
 
+abbrev pub ended_paths : {T : Type 0} → List Text → Vec Path T → Both (List (List Text)) (Unit {0})
+ended_paths words paths = both (all_paths words paths) tt
+
 abbrev pub optional_selection : Reader (Option SelectionTree)
 optional_selection = maybe (is_front (codes "(")) selection
 
@@ -193,7 +213,8 @@ all_arguments words arguments = map (argument_tree words) arguments.items
 
 -- the arguments with the first one
 abbrev pub arguments_behind : ℕ → ArgumentTree → Reader (List ArgumentTree)
-arguments_behind below one = turns (one_behind (λ list. past (codes ",") (argument below))) (is_front (codes ",")) (one ∷ [])
+arguments_behind below one =
+    turns (one_behind (λ list. past (codes ",") (argument below))) (is_front (codes ",")) (one ∷ [])
 
 -- behind the parenthesis
 abbrev pub arguments_within : ℕ → Reader (List ArgumentTree)

@@ -58,7 +58,8 @@ fn more_arguments(
     first: Argument,
 ) -> Result<Vec<Argument>, OrMemory<Stop>>
     requires some { 0 < below }
-    ensures { Gives all_arguments (arguments_behind below (argument_tree (words_of tokens.now) first.entry))
+    ensures { Gives all_arguments
+        (arguments_behind below (argument_tree (words_of tokens.now) first))
         tokens.now cursor.old cursor.new result }
 {
     let mut list: Vec<Argument> = Vec::new(alloc);

@@ -1,8 +1,8 @@
 // Assignments (IEEE 1364-2005, 9.2).
 
-ghost use Rattle.std.specs.Prelude.{◌≡◌, ◌<◌, option_map};
-ghost use Rattle.vast.specs.StatementTrees.{delay_tree, statement_tree};
-ghost use Rattle.vstatement_parse.specs.Gives.{Gives, itself, trigger_at};
+ghost use Rattle.std.specs.Prelude.{◌≡◌, ◌<◌};
+ghost use Rattle.vast.specs.StatementTrees.{statement_tree};
+ghost use Rattle.vstatement_parse.specs.Gives.{Gives, itself, optional_delay_tree, trigger_at};
 ghost use Rattle.vgrammar.specs.Parts.{worded};
 ghost use Rattle.vgrammar.specs.Starts.{sign_of};
 ghost use Rattle.vgrammar.specs.Statements as reading;

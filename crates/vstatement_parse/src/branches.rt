@@ -109,7 +109,7 @@ fn more_branches<F: Fn(&mut Cursor) -> Result<Statement, OrMemory<Stop>>>(
     requires first { seen ≡ has_default (branch_tree (words_of tokens.now) first ∷ []) }
     requires callable { F.IsAlwaysCallable read.now }
     requires reads { ReadsStatements tokens.now below (F.post read.now) }
-    ensures { Gives all_branches (branches_behind below (branch_tree (words_of tokens.now) first.entry))
+    ensures { Gives all_branches (branches_behind below (branch_tree (words_of tokens.now) first))
         tokens.now cursor.old cursor.new result }
 {
     let mut branches: Vec<Branch> = Vec::new(alloc);

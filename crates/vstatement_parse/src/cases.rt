@@ -20,8 +20,9 @@ use vlex::Tokens;
 
 // The statement of all that was read.
 fn of_branches(at: u32, kind: CaseKind, value: Box<Expression>, branches: Vec<Branch>) -> Statement
-    ensures { (words : List Text) → statement_tree words result ≡ case_of kind (boxed_tree words value.entry)
-        (reading.branches_in (all_branches words branches.entry)) }
+    ensures { (words : List Text) → statement_tree words result
+        ≡ case_of kind (boxed_tree words value)
+        (reading.branches_in (all_branches words branches)) }
 {
     Statement::Case {
         at,

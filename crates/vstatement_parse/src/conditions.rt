@@ -81,7 +81,7 @@ fn read_choice<F: Fn(&mut Cursor) -> Result<Statement, OrMemory<Stop>>>(
 // The statement of one branch, or of two.
 fn chosen(at: u32, condition: Box<Expression>, choice: Choice) -> Statement
     ensures { (words : List Text) → statement_tree words result
-        ≡ reading.if_of (both (boxed_tree words condition.entry) (choice_tree words choice.entry)) }
+        ≡ reading.if_of (both (boxed_tree words condition) (choice_tree words choice)) }
 {
     let body = choice.body;
     match choice.other {

@@ -3,21 +3,29 @@
 ghost use Rattle.std.specs.Prelude.{◌≡◌};
 ghost use Rattle.vast.specs.StatementTrees.{event_tree, statement_tree};
 ghost use Rattle.vexpr_parse.specs.Readers.{front};
-ghost use Rattle.vstatement_parse.specs.Gives.{Gives, ReadsStatements, all_further, enclosed_at, event_at, further_terms as further_terms_at, terms_at};
+ghost use Rattle.vstatement_parse.specs.Gives.{Gives, ReadsStatements, all_further, enclosed_at, event_at, further_terms as further_terms_at, names_tree, terms_at};
+ghost use Rattle.vgrammar.specs.Parts.{paired};
 ghost use Rattle.vgrammar.specs.Starts.{comma_of, is_meant, is_word};
 ghost use Rattle.vast.specs.Words.{is_name as is_name_text};
 ghost use Rattle.vgrammar.specs.Statements as reading;
 ghost use Rattle.vexpr_parse.specs.Answers.{ahead};
 
-use crate::guarded::boxed;
+use crate::conditions::boxed;
 use crate::terms::{further_term, read_term};
 use crate::words::named;
 use basis::OrMemory;
 use std::alloc::Global;
-use vast::statement::{Event, FurtherTerm, Statement};
+use vast::statement::{Event, FurtherTerm, Statement, Term};
 use vast::words::is_name;
 use vexpr_parse::{Cursor, Stop};
 use vlex::Tokens;
+
+/// Names, any of whose changes is waited for.
+#[derive(Drop)]
+pub struct Names {
+    pub term: Term,
+    pub further: Vec<FurtherTerm>,
+}
 
 // Whether a further name follows.
 fn goes_on(tokens: &Tokens<'_>, cursor: &Cursor) -> bool
@@ -42,18 +50,33 @@ fn further_terms(
     Ok(terms)
 }
 
+// The names.
+fn read_names(
+    alloc: Global,
+    tokens: &Tokens<'_>,
+    cursor: &mut Cursor,
+) -> Result<Names, OrMemory<Stop>>
+    ensures { Gives names_tree (paired reading.term further_terms_at)
+        tokens.now cursor.old cursor.new result }
+{
+    let term = read_term(tokens, cursor)?;
+    let further = further_terms(alloc, tokens, cursor)?;
+    Ok(Names { term, further })
+}
+
 // What stands behind `@(`, where names do.
 fn terms(alloc: Global, tokens: &Tokens<'_>, cursor: &mut Cursor) -> Result<Event, OrMemory<Stop>>
     ensures { Gives event_tree terms_at tokens.now cursor.old cursor.new result }
 {
-    let term = read_term(tokens, cursor)?;
-    let further = further_terms(alloc, tokens, cursor)?;
+    let names = read_names(alloc, tokens, cursor)?;
     cursor.symbol(tokens, b")")?;
-    Ok(Event::Terms { term, further })
+    Ok(Event::Terms {
+        term: names.term,
+        further: names.further,
+    })
 }
 
 // What stands behind `@(`.
-#[tactic(auto, using(crate::proofs::StatementTurns::gives_terms))]
 fn enclosed(
     alloc: Global,
     tokens: &Tokens<'_>,
@@ -81,7 +104,6 @@ fn begins_name(tokens: &Tokens<'_>, cursor: &Cursor) -> bool
 }
 
 /// What is waited for, behind `@`.
-#[tactic(auto, using(crate::proofs::StatementTurns::gives_enclosed))]
 pub fn control(
     alloc: Global,
     tokens: &Tokens<'_>,
@@ -114,10 +136,6 @@ pub fn waiting<F: Fn(&mut Cursor) -> Result<Statement, OrMemory<Stop>>>(
     ensures { Gives statement_tree (event_at below) tokens.now cursor.old cursor.new result }
 {
     let event = control(alloc, tokens, cursor)?;
-    let body = read(cursor)?;
-    Ok(Statement::OnEvent {
-        at,
-        event,
-        body: boxed(alloc, body)?,
-    })
+    let body = boxed(alloc, read, below, tokens, cursor)?;
+    Ok(Statement::OnEvent { at, event, body })
 }

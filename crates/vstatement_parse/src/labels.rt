@@ -38,7 +38,7 @@ fn more_labels(
     first: Expression,
 ) -> Result<Vec<Expression>, OrMemory<Stop>>
     requires some { 0 < below }
-    ensures { Gives all_labels (labels_behind below (tree_of (words_of tokens.now) first.entry))
+    ensures { Gives all_labels (labels_behind below (tree_of (words_of tokens.now) first))
         tokens.now cursor.old cursor.new result }
 {
     let mut labels: Vec<Expression> = Vec::new(alloc);

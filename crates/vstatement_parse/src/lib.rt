@@ -22,3 +22,5 @@ pub mod tasks;
 pub mod terms;
 pub mod values;
 pub mod words;
+
+pub use statements::statement;

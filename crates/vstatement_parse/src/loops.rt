@@ -73,7 +73,7 @@ fn read_going<F: Fn(&mut Cursor) -> Result<Statement, OrMemory<Stop>>>(
 // The statement of all that was read.
 fn looped(at: u32, first: Setting, going: Going) -> Statement
     ensures { (words : List Text) → statement_tree words result
-        ≡ reading.for_of (both (setting_tree words first.entry) (going_tree words going.entry)) }
+        ≡ reading.for_of (both (setting_tree words first) (going_tree words going)) }
 {
     Statement::For {
         at,

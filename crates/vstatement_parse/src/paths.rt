@@ -1,10 +1,11 @@
 // What is dumped, behind `$dumpvars` (IEEE 1364-2005, 18.1.2).
 
-ghost use Rattle.std.specs.Prelude.{◌≡◌, codes, option_map};
+ghost use Rattle.std.specs.Prelude.{◌≡◌, codes};
 ghost use Rattle.vast.specs.TokenTexts.{token_text};
 ghost use Rattle.vast.specs.StatementTrees.{path_tree, selection_tree, statement_tree};
 ghost use Rattle.vexpr_parse.specs.Readers.{past};
-ghost use Rattle.vstatement_parse.specs.Gives.{Gives, all_names, all_paths, dump_vars_at, names_behind, optional_selection as optional_selection_at, path_at, paths_at};
+ghost use Rattle.vstatement_parse.specs.Gives.{Gives, all_names, all_paths, dump_vars_at, ended_paths, names_behind, optional_selection as optional_selection_at, optional_selection_tree, path_at, paths_at};
+ghost use Rattle.vgrammar.specs.Parts.{paired};
 ghost use Rattle.vgrammar.specs.Statements as reading;
 ghost use Rattle.vexpr_parse.specs.Texts.{words_of};
 
@@ -32,7 +33,7 @@ fn more_names(
     cursor: &mut Cursor,
     first: Token,
 ) -> Result<Vec<Token>, OrMemory<Stop>>
-    ensures { Gives all_names (names_behind (token_text (words_of tokens.now) first.entry))
+    ensures { Gives all_names (names_behind (token_text (words_of tokens.now) first))
         tokens.now cursor.old cursor.new result }
 {
     let mut names: Vec<Token> = Vec::new(alloc);
@@ -95,6 +96,20 @@ fn paths(
     Ok(paths)
 }
 
+// The paths, and the parenthesis behind them.
+fn closed_paths(
+    alloc: Global,
+    tokens: &Tokens<'_>,
+    cursor: &mut Cursor,
+) -> Result<Vec<Path>, OrMemory<Stop>>
+    ensures { Gives ended_paths (paired paths_at (reading.word_only (codes ")")))
+        tokens.now cursor.old cursor.new result }
+{
+    let paths = paths(alloc, tokens, cursor)?;
+    cursor.symbol(tokens, b")")?;
+    Ok(paths)
+}
+
 // How many levels, and the paths, between parentheses.
 fn selection(
     alloc: Global,
@@ -105,8 +120,7 @@ fn selection(
 {
     cursor.symbol(tokens, b"(")?;
     let levels = numbered(tokens, cursor)?;
-    let paths = paths(alloc, tokens, cursor)?;
-    cursor.symbol(tokens, b")")?;
+    let paths = closed_paths(alloc, tokens, cursor)?;
     Ok(Selection { levels, paths })
 }
 

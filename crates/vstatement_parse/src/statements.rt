@@ -1,6 +1,6 @@
 // Statements, each by its first word (IEEE 1364-2005, A.6.4).
 
-ghost use Rattle.std.specs.Prelude.{◌≡◌, ◌<◌, true, length, nat_le};
+ghost use Rattle.std.specs.Prelude.{◌≡◌, ◌-◌, ◌<◌, true, length, nat_le};
 ghost use Rattle.vast.specs.StatementTrees.{statement_tree};
 ghost use Rattle.vexpr_parse.specs.Readers.{stop};
 ghost use Rattle.vstatement_parse.specs.Gives.{Gives, ReadsStatements};
@@ -121,9 +121,9 @@ fn begun<F: Fn(&mut Cursor) -> Result<Statement, OrMemory<Stop>>>(
     behind_word(alloc, read, below, tokens, cursor, at, start)
 }
 
-/// A statement with so many levels below it, each of which is read by `read` (clause 9 and A.6.4).
+// A statement with so many levels below it, each of which is read by `read`.
 #[tactic(auto, using(crate::proofs::LevelTurns::nothing_at, crate::proofs::LevelTurns::low_target, crate::proofs::LevelTurns::no_start))]
-pub fn at_level<F: Fn(&mut Cursor) -> Result<Statement, OrMemory<Stop>>>(
+fn at_level<F: Fn(&mut Cursor) -> Result<Statement, OrMemory<Stop>>>(
     alloc: Global,
     read: &F,
     below: u32,
@@ -162,9 +162,9 @@ fn begins_statement(word: &[u8]) -> bool
     }
 }
 
-/// Why nothing is read where no level is left.
+// Why nothing is read where no level is left.
 #[tactic(auto, using(crate::proofs::LevelTurns::nothing_there, crate::proofs::LevelTurns::too_deep_there, crate::proofs::LevelTurns::no_tree_there))]
-pub fn no_level(tokens: &Tokens<'_>, cursor: &Cursor) -> Stop
+fn no_level(tokens: &Tokens<'_>, cursor: &Cursor) -> Stop
     ensures { reading.statement 0 (ahead tokens.now cursor.now)
         ≡ stop result (ahead tokens.now cursor.now) }
 {
@@ -178,4 +178,33 @@ pub fn no_level(tokens: &Tokens<'_>, cursor: &Cursor) -> Stop
         }
         None => Stop::NoTree,
     }
+}
+
+/// A statement of so many levels at most (clause 9 and A.6.4). The cursor is left behind it, or at the first word with
+/// which the words before it begin none: of any depth (`NoTree`), or only for want of a level (`TooDeep`). Want of memory
+/// leaves it anywhere.
+#[cycle(statements)]
+pub fn statement(
+    alloc: Global,
+    tokens: &Tokens<'_>,
+    cursor: &mut Cursor,
+    levels: u32,
+) -> Result<Statement, OrMemory<Stop>>
+    ensures { Gives statement_tree (reading.statement levels)
+        tokens.now cursor.old cursor.new result }
+{
+    if levels == 0 {
+        return Err(OrMemory::Fault(no_level(tokens, cursor)));
+    }
+    let below = levels - 1;
+    at_level(
+        alloc,
+        &|cursor|
+            ensures { Gives statement_tree (reading.statement below)
+                tokens.entry.now cursor.entry.now cursor.exit.now result }
+        { statement(alloc, tokens, cursor, below) },
+        below,
+        tokens,
+        cursor,
+    )
 }

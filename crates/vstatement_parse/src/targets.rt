@@ -29,7 +29,7 @@ fn select(
     name: Token,
 ) -> Result<Target, OrMemory<Stop>>
     requires { 0 < below }
-    ensures { Gives target_tree (selected_tree (token_text (words_of tokens.now) name.entry) below)
+    ensures { Gives target_tree (selected_tree (token_text (words_of tokens.now) name) below)
         tokens.now cursor.old cursor.new result }
 {
     let index = value(alloc, tokens, cursor, below)?;
@@ -52,7 +52,7 @@ fn named_target(
     below: u32,
     name: Token,
 ) -> Result<Target, OrMemory<Stop>>
-    ensures { Gives target_tree (reading.named_target below (token_text (words_of tokens.now) name.entry))
+    ensures { Gives target_tree (reading.named_target below (token_text (words_of tokens.now) name))
         tokens.now cursor.old cursor.new result }
 {
     if cursor.begins(tokens, b"[") {
@@ -74,7 +74,7 @@ fn more_targets<F: Fn(&mut Cursor) -> Result<Target, OrMemory<Stop>>>(
 ) -> Result<Vec<Target>, OrMemory<Stop>>
     requires callable { F.IsAlwaysCallable read.now }
     requires reads { ReadsTargets tokens.now below (F.post read.now) }
-    ensures { Gives all_targets (targets_behind below (target_tree (words_of tokens.now) first.entry))
+    ensures { Gives all_targets (targets_behind below (target_tree (words_of tokens.now) first))
         tokens.now cursor.old cursor.new result }
 {
     let mut targets: Vec<Target> = Vec::new(alloc);
@@ -185,7 +185,8 @@ pub fn target(
     at_level(
         alloc,
         |cursor|
-            ensures { Gives target_tree (reading.target below) tokens.entry.now cursor.entry.now cursor.exit.now result }
+            ensures { Gives target_tree (reading.target below)
+                tokens.entry.now cursor.entry.now cursor.exit.now result }
         { target(alloc, tokens, cursor, below) },
         below,
         tokens,

@@ -1,9 +1,8 @@
 // Expressions, with the word behind them.
 
 ghost use Rattle.std.specs.Prelude.{◌≡◌, ◌<◌, codes};
-ghost use Rattle.vast.specs.ExpressionTrees.{boxed_tree};
 ghost use Rattle.vexpr_parse.specs.Readers.{past};
-ghost use Rattle.vstatement_parse.specs.Gives.{Gives, ended_tree};
+ghost use Rattle.vstatement_parse.specs.Gives.{Gives, ended_tree, value_tree};
 ghost use Rattle.vgrammar.specs.Parts.{paired};
 ghost use Rattle.vgrammar.specs.Statements as reading;
 
@@ -21,7 +20,7 @@ pub fn value(
     below: u32,
 ) -> Result<Box<Expression>, OrMemory<Stop>>
     requires { 0 < below }
-    ensures { Gives boxed_tree (reading.value below) tokens.now cursor.old cursor.new result }
+    ensures { Gives value_tree (reading.value below) tokens.now cursor.old cursor.new result }
 {
     let found = expression(alloc, tokens, cursor, below)?;
     Ok(Box::new(alloc, found.tree)?)

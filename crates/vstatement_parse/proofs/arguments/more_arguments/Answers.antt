@@ -1,3 +1,5 @@
+use Rattle.vexpr_parse.specs.Texts.{words_of}
+use Rattle.vexpr_parse.specs.Answers.{ahead}
 use Rattle.std.proofs.Common.{codes, sym, ◌∙◌}
 use Rattle.vast.specs.StatementTrees.{argument_tree}
 use Rattle.vexpr_parse.specs.Readers.{past, is_front}
@@ -8,11 +10,15 @@ use Rattle.vstatement_parse.proofs.arguments.more_arguments.Goals as goal
 
 pub list-smaller : goal.list-smaller
 list-smaller c =
-    argument_eats c.args.below c.requires.some c.list.cursor (argument_tree c.in_ok-argument.argument) c.further_argument.new.cursor
+    let words = words_of c.args.tokens.now in
+    let left = ahead c.args.tokens.now in
+    argument_eats c.args.below c.requires.some (left c.list.cursor) (argument_tree words c.in_ok-argument.argument) (left c.further_argument.new.cursor)
     c.in_ok-argument.ensures
 
 pub list-preserved : goal.list-preserved
 list-preserved c =
-    pushed argument_tree (is_front (codes ",")) (past (codes ",") (argument c.args.below)) (argument_eats c.args.below c.requires.some)
-    c.list.cursor (sym c.begins.ensures ∙ c.list-test.true) c.list.list.items c.push-in-list.new.self.items c.in_ok-argument.argument
-    c.further_argument.new.cursor _ c.in_ok-push-2.ensures.items c.in_ok-argument.ensures c.list.invariant
+    let words = words_of c.args.tokens.now in
+    let left = ahead c.args.tokens.now in
+    pushed (argument_tree words) (is_front (codes ",")) (past (codes ",") (argument c.args.below)) (argument_eats c.args.below c.requires.some)
+    (left c.list.cursor) (sym c.begins.ensures ∙ c.list-test.true) c.list.list.items c.push-in-list.new.self.items c.in_ok-argument.argument
+    (left c.further_argument.new.cursor) _ c.in_ok-push-2.ensures.items c.in_ok-argument.ensures c.list.invariant

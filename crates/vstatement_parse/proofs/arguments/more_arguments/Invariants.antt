@@ -1,4 +1,6 @@
 use Rattle.std.proofs.Common.{◌≡◌, codes, length, map}
+use Rattle.vexpr_parse.specs.Texts.{words_of}
+use Rattle.vexpr_parse.specs.Answers.{ahead}
 use Rattle.vast.specs.StatementTrees.{argument_tree}
 use Rattle.vexpr_parse.specs.Readers.{past, is_front}
 use Rattle.vstatement_parse.specs.Gives.{arguments_behind}
@@ -9,8 +11,8 @@ use Rattle.vstatement_parse.proofs.arguments.more_arguments.Given as goal
 -- the arguments so far, and those that are read of the words that are left, are all that is read
 abbrev pub invariant-list : goal.invariant-list
 invariant-list l =
-    goes_on (is_front (codes ",")) (λ list. past (codes ",") (argument l.below)) (map argument_tree l.list.items) l.cursor
-    ≡ arguments_behind l.below (argument_tree l.fn.first) l.fn.cursor
+    goes_on (is_front (codes ",")) (λ list. past (codes ",") (argument l.below)) (map (argument_tree (words_of l.tokens)) l.list.items) (ahead l.tokens l.cursor)
+    ≡ arguments_behind l.below (argument_tree (words_of l.tokens) l.fn.first) (ahead l.tokens l.fn.cursor)
 
 abbrev pub decreases-list : goal.decreases-list
-decreases-list l = length l.cursor
+decreases-list l = length (ahead l.tokens l.cursor)

@@ -1,3 +1,5 @@
+use Rattle.vexpr_parse.specs.Texts.{words_of}
+use Rattle.vexpr_parse.specs.Answers.{ahead}
 use Rattle.std.proofs.Common.{not, codes, sym, ap, ◌∙◌}
 use Rattle.vast.specs.StatementTrees.{statement_tree}
 use Rattle.vexpr_parse.specs.Readers.{is_front}
@@ -8,12 +10,16 @@ use Rattle.vstatement_parse.proofs.blocks.list.Goals as goal
 
 pub list-smaller : goal.list-smaller
 list-smaller g c =
-    statement_eats c.args.below c.list.cursor (statement_tree c.in_ok-statement.statement) c.read.new.arg2
+    let words = words_of c.args.tokens.now in
+    let left = ahead c.args.tokens.now in
+    statement_eats c.args.below (left c.list.cursor) (statement_tree words c.in_ok-statement.statement) (left c.read.new.arg2)
     (c.requires.reads _ _ _ c.in_ok-statement.ensures)
 
 pub list-preserved : goal.list-preserved
 list-preserved g c =
-    pushed statement_tree (λ next. not (is_front (codes "end") next)) (statement c.args.below) (statement_eats c.args.below)
-    c.list.cursor (ap not (sym c.begins.ensures ∙ c.list-test.true))
-    c.list.list.items c.push.new.self.items c.in_ok-statement.statement c.read.new.arg2 _ c.in_ok-push.ensures.items
+    let words = words_of c.args.tokens.now in
+    let left = ahead c.args.tokens.now in
+    pushed (statement_tree words) (λ next. not (is_front (codes "end") next)) (statement c.args.below) (statement_eats c.args.below)
+    (left c.list.cursor) (ap not (sym c.begins.ensures ∙ c.list-test.true))
+    c.list.list.items c.push.new.self.items c.in_ok-statement.statement (left c.read.new.arg2) _ c.in_ok-push.ensures.items
     (c.requires.reads _ _ _ c.in_ok-statement.ensures) c.list.invariant

@@ -1,11 +1,13 @@
 use Rattle.std.proofs.Common.{length}
+use Rattle.vexpr_parse.specs.Texts.{words_of}
+use Rattle.vexpr_parse.specs.Answers.{ahead}
 use Rattle.vast.specs.StatementTrees.{branch_tree}
 use Rattle.vstatement_parse.specs.Cases.{branches_behind}
 use Rattle.vstatement_parse.proofs.CaseTurns.{IsSoFar}
 use Rattle.vstatement_parse.proofs.branches.more_branches.Given as goal
 
 abbrev pub invariant-branches : goal.invariant-branches
-invariant-branches g l = IsSoFar l.below l.branches.items l.seen l.cursor (branches_behind l.below (branch_tree l.fn.first) l.fn.cursor)
+invariant-branches g l = IsSoFar (words_of l.tokens) l.below l.branches.items l.seen (ahead l.tokens l.cursor) (branches_behind l.below (branch_tree (words_of l.tokens) l.fn.first) (ahead l.tokens l.fn.cursor))
 
 abbrev pub decreases-branches : goal.decreases-branches
-decreases-branches g l = length l.cursor
+decreases-branches g l = length (ahead l.tokens l.cursor)

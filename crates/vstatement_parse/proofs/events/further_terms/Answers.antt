@@ -1,3 +1,5 @@
+use Rattle.vexpr_parse.specs.Texts.{words_of}
+use Rattle.vexpr_parse.specs.Answers.{ahead}
 use Rattle.std.proofs.Common.{sym, ◌∙◌}
 use Rattle.vast.specs.StatementTrees.{further_term as further_tree}
 use Rattle.vgrammar.specs.Statements.{further_term}
@@ -8,10 +10,14 @@ use Rattle.vstatement_parse.proofs.events.further_terms.Goals as goal
 
 pub terms-smaller : goal.terms-smaller
 terms-smaller c =
-    further_eats c.terms.cursor (further_tree c.in_ok-term.term) c.further_term.new.cursor c.in_ok-term.ensures
+    let words = words_of c.args.tokens.now in
+    let left = ahead c.args.tokens.now in
+    further_eats (left c.terms.cursor) (further_tree words c.in_ok-term.term) (left c.further_term.new.cursor) c.in_ok-term.ensures
 
 pub terms-preserved : goal.terms-preserved
 terms-preserved c =
-    pushed further_tree (is_meant comma_of) further_term further_eats c.terms.cursor (sym c.goes_on.ensures ∙ c.terms-test.true)
-    c.terms.terms.items c.push.new.self.items c.in_ok-term.term c.further_term.new.cursor _ c.in_ok-push.ensures.items
+    let words = words_of c.args.tokens.now in
+    let left = ahead c.args.tokens.now in
+    pushed (further_tree words) (is_meant comma_of) further_term further_eats (left c.terms.cursor) (sym c.goes_on.ensures ∙ c.terms-test.true)
+    c.terms.terms.items c.push.new.self.items c.in_ok-term.term (left c.further_term.new.cursor) _ c.in_ok-push.ensures.items
     c.in_ok-term.ensures c.terms.invariant

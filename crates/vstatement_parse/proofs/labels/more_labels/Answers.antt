@@ -1,3 +1,5 @@
+use Rattle.vexpr_parse.specs.Texts.{words_of}
+use Rattle.vexpr_parse.specs.Answers.{ahead}
 use Rattle.std.proofs.Common.{codes, sym, ◌∙◌}
 use Rattle.vast.specs.ExpressionTrees.{tree_of}
 use Rattle.vexpr_parse.specs.Readers.{past, is_front}
@@ -8,10 +10,14 @@ use Rattle.vstatement_parse.proofs.labels.more_labels.Goals as goal
 
 pub labels-smaller : goal.labels-smaller
 labels-smaller c =
-    label_eats c.args.below c.labels.cursor (tree_of c.in_ok-label.label) c.further_label.new.cursor c.in_ok-label.ensures
+    let words = words_of c.args.tokens.now in
+    let left = ahead c.args.tokens.now in
+    label_eats c.args.below (left c.labels.cursor) (tree_of words c.in_ok-label.label) (left c.further_label.new.cursor) c.in_ok-label.ensures
 
 pub labels-preserved : goal.labels-preserved
 labels-preserved c =
-    pushed tree_of (is_front (codes ",")) (past (codes ",") (value c.args.below)) (label_eats c.args.below)
-    c.labels.cursor (sym c.begins.ensures ∙ c.labels-test.true) c.labels.labels.items c.push-in-labels.new.self.items c.in_ok-label.label
-    c.further_label.new.cursor _ c.in_ok-push-2.ensures.items c.in_ok-label.ensures c.labels.invariant
+    let words = words_of c.args.tokens.now in
+    let left = ahead c.args.tokens.now in
+    pushed (tree_of words) (is_front (codes ",")) (past (codes ",") (value c.args.below)) (label_eats c.args.below)
+    (left c.labels.cursor) (sym c.begins.ensures ∙ c.labels-test.true) c.labels.labels.items c.push-in-labels.new.self.items c.in_ok-label.label
+    (left c.further_label.new.cursor) _ c.in_ok-push-2.ensures.items c.in_ok-label.ensures c.labels.invariant

@@ -1,3 +1,5 @@
+use Rattle.vexpr_parse.specs.Texts.{words_of}
+use Rattle.vexpr_parse.specs.Answers.{ahead}
 use Rattle.std.proofs.Common.{codes, sym, ◌∙◌}
 use Rattle.vast.specs.StatementTrees.{path_tree}
 use Rattle.vexpr_parse.specs.Readers.{past, is_front}
@@ -7,10 +9,15 @@ use Rattle.vstatement_parse.proofs.StatementTurns.{path_eats}
 use Rattle.vstatement_parse.proofs.paths.paths.Goals as goal
 
 pub paths-smaller : goal.paths-smaller
-paths-smaller c = path_eats c.paths.cursor (path_tree c.in_ok-path.path) c.further_path.new.cursor c.in_ok-path.ensures
+paths-smaller c =
+    let words = words_of c.args.tokens.now in
+    let left = ahead c.args.tokens.now in
+    path_eats (left c.paths.cursor) (path_tree words c.in_ok-path.path) (left c.further_path.new.cursor) c.in_ok-path.ensures
 
 pub paths-preserved : goal.paths-preserved
 paths-preserved c =
-    pushed path_tree (is_front (codes ",")) (past (codes ",") path) path_eats c.paths.cursor
+    let words = words_of c.args.tokens.now in
+    let left = ahead c.args.tokens.now in
+    pushed (path_tree words) (is_front (codes ",")) (past (codes ",") path) path_eats (left c.paths.cursor)
     (sym c.begins.ensures ∙ c.paths-test.true) c.paths.paths.items c.push.new.self.items c.in_ok-path.path
-    c.further_path.new.cursor _ c.in_ok-push.ensures.items c.in_ok-path.ensures c.paths.invariant
+    (left c.further_path.new.cursor) _ c.in_ok-push.ensures.items c.in_ok-path.ensures c.paths.invariant

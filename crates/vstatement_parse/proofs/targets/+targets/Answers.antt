@@ -1,9 +1,15 @@
+use Rattle.vexpr_parse.specs.Texts.{words_of}
+use Rattle.vexpr_parse.specs.Answers.{ahead}
 use Rattle.vstatement_parse.proofs.TargetTurns.{gives_low, gives_up}
 use Rattle.vstatement_parse.proofs.targets.+targets.Goals as goal
 
 pub returns-then-levels-eq0 : goal.returns-then-levels-eq0
-returns-then-levels-eq0 t c = gives_low c.args.levels c.args.cursor.now c.no_level.result c.if-levels-eq0.true c.no_level.ensures
+returns-then-levels-eq0 t c =
+    let left = ahead c.args.tokens.now in
+    gives_low c.args.levels (left c.args.cursor.now) c.no_level.result c.if-levels-eq0.true c.no_level.ensures
 
 pub returns : goal.returns
 returns t c =
-    gives_up c.args.levels c.args.cursor.now c.at_level.new.cursor c.at_level.result c.if-levels-eq0.false c.at_level.ensures
+    let words = words_of c.args.tokens.now in
+    let left = ahead c.args.tokens.now in
+    gives_up words c.args.levels (left c.args.cursor.now) (left c.at_level.new.cursor) c.at_level.result c.if-levels-eq0.false c.at_level.ensures

@@ -1,0 +1,15 @@
+use Rattle.vexpr_parse.specs.Texts.{words_of}
+use Rattle.vexpr_parse.specs.Answers.{ahead}
+use Rattle.vstatement_parse.proofs.LevelTurns.{gives_low, gives_up}
+use Rattle.vstatement_parse.proofs.statements.+statements.Goals as goal
+
+pub returns-then-levels-eq0 : goal.returns-then-levels-eq0
+returns-then-levels-eq0 t c =
+    let left = ahead c.args.tokens.now in
+    gives_low c.args.levels (left c.args.cursor.now) c.no_level.result c.if-levels-eq0.true c.no_level.ensures
+
+pub returns : goal.returns
+returns t c =
+    let words = words_of c.args.tokens.now in
+    let left = ahead c.args.tokens.now in
+    gives_up words c.args.levels (left c.args.cursor.now) (left c.at_level.new.cursor) c.at_level.result c.if-levels-eq0.false c.at_level.ensures
