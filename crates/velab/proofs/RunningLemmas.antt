@@ -1,4 +1,6 @@
 -- What runs of a list, one after another: what is done, and behind it what runs of the rest, is all.
+use Rattle.std.specs.Option.{option_or}
+use mathlib.Core.Former.{Count}
 use Rattle.std.proofs.Common.{◌≡◌, ◌<◌, ℕ, ◌+◌, List, [], ◌∷◌, ◌++◌, Option, Some, None, option_map, drop, length, get_or, map, Vec, Global, Result, Ok, Err, IsErrAnd, refl, sym, ap, subst, ◌∙◌, append_assoc, append-nil}
 use Rattle.vast.specs.Syntax as small
 use Rattle.vast.specs.Syntax.{Text}
@@ -7,10 +9,11 @@ use Rattle.vast.specs.declared.syntax.Stmt.{Stmt, Block}
 use Rattle.vast.proofs.TreeLemmas.{tree_of_block}
 use Rattle.vast.specs.Statements.{StatementTree, StatementTrees, no_statement, first_statement}
 use Rattle.vast.specs.StatementTrees.{statement_tree, statement_trees}
-use Rattle.vast.specs.declared.statement.Statement.{Statement, Block as WholeBlock}
+use Rattle.vast.specs.declared.statement.Statement.{Statement, Block as WholeBlock, Block' as WholeBlock', Row_of-Statement, end_of-Statement, more_of-Statement, items-the_row-Statement, items_hidden-the_row-Statement-0}
 use Rattle.vast.proofs.WholeTreeLemmas.{tree_of_whole_block}
 use Rattle.velab.specs.Runnable.{both, each, runnable_statement, runnable_statements}
-use Rattle.velab.specs.Running.{Runs}
+use Rattle.velab.specs.FirstNotRun.{first_among, in_statement, in_row, in_statements}
+use Rattle.velab.specs.Running.{Runs, StopsAt}
 use Rattle.velab.specs.declared.running.NotYet.{NotYet}
 use Rattle.basis.specs.declared.memory.OrMemory.{OrMemory}
 use Rattle.basis.specs.declared.memory.OrMemory.TheVariants.{Fault, Memory}
@@ -121,6 +124,16 @@ stops view tree part (Err y) e is none same = subst (Because (λ fault. tree ≡
     so (Fault fault) none = same none
     so (Memory refused) none = tt
 
+-- its place, where that is the place of a part
+pub stops_at : {T : Type 0} (place part : Option ℕ) (result : Result T (OrMemory NotYet)) (e : OrMemory NotYet) →
+    IsErrAnd result (λ y. y ≡ e) → Because (λ fault. part ≡ Some fault.at) e → place ≡ part → StopsAt place result
+stops_at place part (Ok value) e is at same = absurd is
+stops_at place part (Err y) e is at same = subst (Because (λ fault. place ≡ Some fault.at)) (sym is) (so e at)
+  where
+    so : (e : OrMemory NotYet) → Because (λ fault. part ≡ Some fault.at) e → Because (λ fault. place ≡ Some fault.at) e
+    so (Fault fault) at = same ∙ at
+    so (Memory refused) at = tt
+
 -- what is left of a list, from its place on
 pub statements_open : (words : List Text) (xs : List Statement) (i : ℕ) (x : Statement) → i < length xs → x ≡ get_or xs i x →
     statement_trees words (drop i xs) ≡ first_statement (statement_tree words x) (statement_trees words (drop (i + 1) xs))
@@ -129,3 +142,31 @@ statements_open words xs i x within is = ap (statement_trees words) (drop_at xs 
 pub mapped_open : {A B : Type 0} (view : A → B) (xs : List A) (i : ℕ) (x : A) → i < length xs → x ≡ get_or xs i x →
     map view (drop i xs) ≡ view x ∷ map view (drop (i + 1) xs)
 mapped_open view xs i x within is = ap (map view) (drop_at xs i x within is)
+
+-- Where what isn't run begins
+
+-- a block is looked at as its statements are
+abbrev row_of : Statement → (n : Count) × Row_of-Statement n
+row_of (WholeBlock' shape row) = (_, row)
+row_of _ = (_, end_of-Statement)
+
+module _ (words : List Text) where
+  in_whole_row : (n : _) (row : Row_of-Statement n) → in_row words row ≡ in_statements words (items-the_row-Statement n row)
+  in_whole_row n end_of-Statement = refl
+  in_whole_row n (more_of-Statement one more) = ap (option_or (in_statement words one)) (in_whole_row _ more)
+
+  pub in_block : (statements : Vec Statement Global) → in_statement words (WholeBlock statements) ≡ in_statements words statements.items
+  in_block statements =
+      let row = row_of (WholeBlock statements) in
+      in_whole_row row.0 row.1 ∙ ap (in_statements words) (items_hidden-the_row-Statement-0 statements)
+
+-- nothing of a list is refused so far: what is, is what is left
+abbrev pub Looks : {A : Type 0} → (A → Option ℕ) → List A → ℕ → Type 0
+Looks place xs i = first_among place xs ≡ first_among place (drop i xs)
+
+module _ {A : Type 0} (place : A → Option ℕ) (xs : List A) (i : ℕ) (x : A) (within : i < length xs) (is : x ≡ get_or xs i x) (looks : Looks place xs i) where
+  opened : first_among place xs ≡ option_or (place x) (first_among place (drop (i + 1) xs))
+  opened = looks ∙ ap (first_among place) (drop_at xs i x within is)
+
+  pub looks_on : place x ≡ None → Looks place xs (i + 1)
+  looks_on none = opened ∙ ap (λ (one : Option ℕ). option_or one (first_among place (drop (i + 1) xs))) none
