@@ -1,7 +1,7 @@
 -- What runs of a list, one after another: what is done, and behind it what runs of the rest, is all.
 use Rattle.std.specs.Option.{option_or}
 use mathlib.Core.Former.{Count}
-use Rattle.std.proofs.Common.{◌≡◌, ◌<◌, ℕ, ◌+◌, List, [], ◌∷◌, ◌++◌, Option, Some, None, option_map, drop, length, get_or, map, Vec, Global, Result, Ok, Err, IsErrAnd, refl, sym, ap, subst, ◌∙◌, append_assoc, append-nil}
+use Rattle.std.proofs.Common.{◌≡◌, ◌<◌, ℕ, ◌+◌, List, [], ◌∷◌, ◌++◌, Option, Some, None, option_map, drop, length, get_or, map, Vec, Global, Result, Ok, Err, IsErrAnd, refl, sym, ap, subst, ◌∙◌, append_assoc}
 use Rattle.vast.specs.Syntax as small
 use Rattle.vast.specs.Syntax.{Text}
 use Rattle.vast.specs.Trees as trees
@@ -25,13 +25,6 @@ abbrev pub Goes : {A B T : Type 0} → (A → Option B) → (T → B) → List T
 Goes convert view done rest all = all ≡ option_map (λ more. map view done ++ more) (each convert rest)
 
 module _ {A B T : Type 0} (convert : A → Option B) (view : T → B) (all : Option (List B)) where
-  same_option : (rest : Option (List B)) → rest ≡ option_map (λ more. [] ++ more) rest
-  same_option None = refl
-  same_option (Some more) = refl
-
-  pub goes_first : (rest : List A) → all ≡ each convert rest → Goes convert view [] rest all
-  goes_first rest is = is ∙ same_option (each convert rest)
-
   map_append : (done : List T) (value : T) → map view (done ++ value ∷ []) ≡ map view done ++ view value ∷ []
   map_append [] value = refl
   map_append (one ∷ more) value = ap (λ l. view one ∷ l) (map_append more value)
@@ -50,12 +43,6 @@ module _ {A B T : Type 0} (convert : A → Option B) (view : T → B) (all : Opt
       goes ∙ ap (behind (map view done) more) is ∙ shifted (map view done) (view value) (each convert more)
       ∙ sym (ap (λ l. option_map (λ list. l ++ list) (each convert more)) (map_append done value))
 
-  pub goes_no_further : (done : List T) (one : A) (more : List A) → convert one ≡ None → Goes convert view done (one ∷ more) all → all ≡ None
-  goes_no_further done one more is goes = goes ∙ ap (behind (map view done) more) is
-
-  pub goes_to_the_end : (done : List T) → Goes convert view done [] all → all ≡ Some (map view done)
-  goes_to_the_end done goes = goes ∙ ap Some (append-nil (map view done))
-
 -- the statements that are done, and behind them others
 abbrev pub behind_those : List Stmt → small.StatementTrees → small.StatementTrees
 behind_those [] more = more
@@ -65,13 +52,6 @@ abbrev pub GoesOn : List Stmt → StatementTrees → Option small.StatementTrees
 GoesOn done rest all = all ≡ option_map (behind_those done) (runnable_statements rest)
 
 module _ (all : Option small.StatementTrees) where
-  same_statements : (rest : Option small.StatementTrees) → rest ≡ option_map (behind_those []) rest
-  same_statements None = refl
-  same_statements (Some more) = refl
-
-  pub statements_first : (rest : StatementTrees) → all ≡ runnable_statements rest → GoesOn [] rest all
-  statements_first rest is = is ∙ same_statements (runnable_statements rest)
-
   one_more : (done : List Stmt) (value : Stmt) (more : small.StatementTrees) →
       behind_those done (small.first (trees.statement_tree value) more) ≡ behind_those (done ++ value ∷ []) more
   one_more [] value more = refl
@@ -90,10 +70,6 @@ module _ (all : Option small.StatementTrees) where
       GoesOn (done ++ value ∷ []) more all
   statements_on done one more value is goes =
       goes ∙ ap (behind_statements done more) is ∙ shifted_statements done value (runnable_statements more)
-
-  pub statements_no_further : (done : List Stmt) (one : StatementTree) (more : StatementTrees) → runnable_statement one ≡ None →
-      GoesOn done (first_statement one more) all → all ≡ None
-  statements_no_further done one more is goes = goes ∙ ap (behind_statements done more) is
 
   whole_list : (done : List Stmt) → behind_those done small.none ≡ trees.statement_trees done
   whole_list [] = refl
