@@ -5,4 +5,5 @@ pub mod Laws
 pub mod Inner
 pub mod InnerVariables
 pub mod Runnable
+pub mod FirstNotRun
 pub mod Running

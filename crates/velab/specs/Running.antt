@@ -1,5 +1,5 @@
 -- What inner functions of `runnable` answer; nothing here has to be believed.
-use Rattle.std.specs.Prelude.{◌≡◌, List, Vec, Option, Some, None, Result, Ok, Err, map, option_map}
+use Rattle.std.specs.Prelude.{◌≡◌, ℕ, List, Vec, Option, Some, None, Result, Ok, Err, map, option_map}
 use Rattle.basis.specs.declared.memory.OrMemory.{OrMemory}
 use Rattle.basis.specs.Reasons.{Because}
 use Rattle.vast.specs.Syntax.{Text}
@@ -21,6 +21,11 @@ use Rattle.velab.specs.declared.running.NotYet.{NotYet}
 abbrev pub Runs : {A T : Type 0} → (T → A) → Option A → Result T (OrMemory NotYet) → Type 0
 Runs view tree (Ok value) = tree ≡ Some (view value)
 Runs view tree (Err e) = Because (λ fault. tree ≡ None) e
+
+-- A fault is at this place; where there is none, nothing is refused.
+abbrev pub StopsAt : {T : Type 0} → Option ℕ → Result T (OrMemory NotYet) → Type 0
+StopsAt place (Ok value) = place ≡ None
+StopsAt place (Err e) = Because (λ fault. place ≡ Some fault.at) e
 
 -- the views of what a list holds
 abbrev pub listed : {A X T : Type 0} → (X → A) → Vec X T → List A

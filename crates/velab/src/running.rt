@@ -10,7 +10,8 @@ ghost use Rattle.vast.specs.StatementTrees.{target_tree, delay_tree, task_tree, 
 ghost use Rattle.vast.specs.ModuleTrees.{range_tree, type_tree, declaration_kind, declared_tree, item_tree, module_tree, source_tree};
 ghost use Rattle.vexpr_parse.specs.Texts.{words_of};
 ghost use Rattle.velab.specs.Runnable as runs;
-ghost use Rattle.velab.specs.Running.{Runs, RunsAssigned, listed, range_of};
+ghost use Rattle.velab.specs.FirstNotRun as place;
+ghost use Rattle.velab.specs.Running.{Runs, StopsAt, RunsAssigned, listed, range_of};
 
 use basis::OrMemory;
 use std::alloc::Global;
@@ -45,8 +46,10 @@ fn letters<'t>(tokens: &Tokens<'t>, token: Token) -> Word<'t>
     }
 }
 
-// The number of an expression's first token.
-fn first_token(expression: &Expression) -> u32 {
+// The number of the first token that an expression keeps.
+fn first_token(expression: &Expression) -> u32
+    ensures { result ≡ place.first_token expression.now }
+{
     match expression {
         Expression::Number(word) => word.number,
         Expression::Name(word) => word.number,
@@ -63,9 +66,21 @@ fn first_token(expression: &Expression) -> u32 {
     }
 }
 
+// The number of the first token of a delay's amount.
+fn delay_token(delay: &Delay) -> u32
+    ensures { result ≡ place.delay_token delay.now }
+{
+    match delay {
+        Delay::Number(word) => word.number,
+        Delay::Name(word) => word.number,
+        Delay::Value(value) => first_token(value),
+    }
+}
+
 fn expression<'t>(tokens: &Tokens<'t>, value: &Expression) -> Result<Expr<'t>, OrMemory<NotYet>>
-    ensures { Runs small.expression_tree
+    ensures tree { Runs small.expression_tree
         (runs.runnable_expression (tree_of (words_of tokens.now) value.now)) result }
+    ensures place { StopsAt (place.in_expression (words_of tokens.now) value.now) result }
 {
     match value {
         Expression::Number(word) => Ok(Expr::Number(letters(tokens, *word))),
@@ -77,8 +92,9 @@ fn expression<'t>(tokens: &Tokens<'t>, value: &Expression) -> Result<Expr<'t>, O
 }
 
 fn number<'t>(tokens: &Tokens<'t>, value: &Expression) -> Result<Word<'t>, OrMemory<NotYet>>
-    ensures { Runs word_text
+    ensures tree { Runs word_text
         (runs.runnable_number (tree_of (words_of tokens.now) value.now)) result }
+    ensures place { StopsAt (place.in_number (words_of tokens.now) value.now) result }
 {
     match value {
         Expression::Number(word) => Ok(letters(tokens, *word)),
@@ -89,8 +105,9 @@ fn number<'t>(tokens: &Tokens<'t>, value: &Expression) -> Result<Word<'t>, OrMem
 }
 
 fn target<'t>(tokens: &Tokens<'t>, target: &Target) -> Result<Word<'t>, OrMemory<NotYet>>
-    ensures { Runs word_text
+    ensures tree { Runs word_text
         (runs.runnable_target (target_tree (words_of tokens.now) target.now)) result }
+    ensures place { StopsAt (place.in_target (words_of tokens.now) target.now) result }
 {
     match target {
         Target::Whole(word) => Ok(letters(tokens, *word)),
@@ -101,21 +118,22 @@ fn target<'t>(tokens: &Tokens<'t>, target: &Target) -> Result<Word<'t>, OrMemory
 }
 
 fn delay<'t>(tokens: &Tokens<'t>, delay: &Delay) -> Result<Word<'t>, OrMemory<NotYet>>
-    ensures { Runs word_text
+    ensures tree { Runs word_text
         (runs.runnable_delay (delay_tree (words_of tokens.now) delay.now)) result }
+    ensures place { StopsAt (place.in_delay (words_of tokens.now) delay.now) result }
 {
     match delay {
         Delay::Number(word) => Ok(letters(tokens, *word)),
-        Delay::Name(word) => Err(OrMemory::Fault(NotYet { at: word.number })),
-        Delay::Value(value) => Err(OrMemory::Fault(NotYet {
-            at: first_token(value),
+        _ => Err(OrMemory::Fault(NotYet {
+            at: delay_token(delay),
         })),
     }
 }
 
 fn task<'t>(at: u32, task: &Task) -> Result<Stmt<'t>, OrMemory<NotYet>>
-    ensures { (words : List Text) →
+    ensures tree { (words : List Text) →
         Runs small.statement_tree (runs.runnable_task (task_tree words task.now)) result }
+    ensures place { (words : List Text) → StopsAt (place.in_task words at task.now) result }
 {
     match task {
         Task::DumpVars(None) => Ok(Stmt::DumpVars { at }),
@@ -134,16 +152,15 @@ fn assigned<'t>(
     amount: &Option<Delay>,
     value: &Expression,
 ) -> Result<(Word<'t>, Expr<'t>), OrMemory<NotYet>>
-    ensures { RunsAssigned (words_of tokens.now) to.now amount.now value.now result }
+    ensures tree { RunsAssigned (words_of tokens.now) to.now amount.now value.now result }
+    ensures place { StopsAt
+        (place.in_assignment (words_of tokens.now) to.now amount.now value.now) result }
 {
     let name = target(tokens, to)?;
     if let Some(amount) = amount {
-        let at = match amount {
-            Delay::Number(word) => word.number,
-            Delay::Name(word) => word.number,
-            Delay::Value(value) => first_token(value),
-        };
-        return Err(OrMemory::Fault(NotYet { at }));
+        return Err(OrMemory::Fault(NotYet {
+            at: delay_token(amount),
+        }));
     }
     Ok((name, expression(tokens, value)?))
 }
@@ -154,8 +171,9 @@ fn statement<'t>(
     tokens: &Tokens<'t>,
     whole: &Statement,
 ) -> Result<Stmt<'t>, OrMemory<NotYet>>
-    ensures { Runs small.statement_tree
+    ensures tree { Runs small.statement_tree
         (runs.runnable_statement (statement_tree (words_of tokens.now) whole.now)) result }
+    ensures place { StopsAt (place.in_statement (words_of tokens.now) whole.now) result }
 {
     let at = match whole {
         Statement::Empty => return Ok(Stmt::Empty),
@@ -212,8 +230,9 @@ fn statements<'t>(
     tokens: &Tokens<'t>,
     whole: &[Statement],
 ) -> Result<Vec<Stmt<'t>>, OrMemory<NotYet>>
-    ensures { Runs (λ list. small.statement_trees list.items)
+    ensures tree { Runs (λ list. small.statement_trees list.items)
         (runs.runnable_statements (statement_trees (words_of tokens.now) whole.now)) result }
+    ensures place { StopsAt (place.in_statements (words_of tokens.now) whole.now) result }
 {
     let mut list = Vec::new(alloc);
     for one in whole {
@@ -226,8 +245,9 @@ fn range<'t>(
     tokens: &Tokens<'t>,
     bounds: &Option<Bounds>,
 ) -> Result<Option<Range<'t>>, OrMemory<NotYet>>
-    ensures { Runs range_of (runs.runnable_optional_range
+    ensures tree { Runs range_of (runs.runnable_optional_range
         (option_map (range_tree (words_of tokens.now)) bounds.now)) result }
+    ensures place { StopsAt (place.in_range (words_of tokens.now) bounds.now) result }
 {
     match bounds {
         None => Ok(None),
@@ -245,8 +265,9 @@ fn kind<'t>(
     at: u32,
     kind: &DeclarationKind,
 ) -> Result<Option<Range<'t>>, OrMemory<NotYet>>
-    ensures { Runs range_of
+    ensures tree { Runs range_of
         (runs.runnable_kind (declaration_kind (words_of tokens.now) kind.now)) result }
+    ensures place { StopsAt (place.in_kind (words_of tokens.now) at kind.now) result }
 {
     match kind {
         DeclarationKind::Variables {
@@ -261,8 +282,9 @@ fn kind<'t>(
 }
 
 fn name<'t>(tokens: &Tokens<'t>, declared: &Declared) -> Result<Word<'t>, OrMemory<NotYet>>
-    ensures { Runs word_text
+    ensures tree { Runs word_text
         (runs.runnable_name (declared_tree (words_of tokens.now) declared.now)) result }
+    ensures place { StopsAt (place.in_declared (words_of tokens.now) declared.now) result }
 {
     match &declared.value {
         None => Ok(letters(tokens, declared.name)),
@@ -277,8 +299,9 @@ fn names<'t>(
     tokens: &Tokens<'t>,
     declared: &[Declared],
 ) -> Result<Vec<Word<'t>>, OrMemory<NotYet>>
-    ensures { Runs (listed word_text) (runs.each runs.runnable_name
+    ensures tree { Runs (listed word_text) (runs.each runs.runnable_name
         (map (declared_tree (words_of tokens.now)) declared.now)) result }
+    ensures place { StopsAt (place.in_names (words_of tokens.now) declared.now) result }
 {
     let mut list = Vec::new(alloc);
     for one in declared {
@@ -292,8 +315,9 @@ fn item<'t>(
     tokens: &Tokens<'t>,
     whole: &ModuleItem,
 ) -> Result<Item<'t>, OrMemory<NotYet>>
-    ensures { Runs small.item_tree
+    ensures tree { Runs small.item_tree
         (runs.runnable_item (item_tree (words_of tokens.now) whole.now)) result }
+    ensures place { StopsAt (place.in_item (words_of tokens.now) whole.now) result }
 {
     let at = match whole {
         ModuleItem::Declaration {
@@ -323,8 +347,9 @@ fn items<'t>(
     tokens: &Tokens<'t>,
     whole: &[ModuleItem],
 ) -> Result<Vec<Item<'t>>, OrMemory<NotYet>>
-    ensures { Runs (listed small.item_tree)
+    ensures tree { Runs (listed small.item_tree)
         (runs.each runs.runnable_item (map (item_tree (words_of tokens.now)) whole.now)) result }
+    ensures place { StopsAt (place.in_items (words_of tokens.now) whole.now) result }
 {
     let mut list = Vec::new(alloc);
     for one in whole {
@@ -338,8 +363,9 @@ fn module<'t>(
     tokens: &Tokens<'t>,
     whole: &ModuleTree,
 ) -> Result<Module<'t>, OrMemory<NotYet>>
-    ensures { Runs small.module_tree
+    ensures tree { Runs small.module_tree
         (runs.runnable_module (module_tree (words_of tokens.now) whole.now)) result }
+    ensures place { StopsAt (place.in_module (words_of tokens.now) whole.now) result }
 {
     if whole.parameters.is_some() || whole.ports.is_some() {
         return Err(OrMemory::Fault(NotYet {
@@ -358,8 +384,9 @@ pub fn runnable<'t>(
     tokens: &Tokens<'t>,
     whole: &TextTree,
 ) -> Result<Ast<'t>, OrMemory<NotYet>>
-    ensures { Runs small.source_tree
+    ensures tree { Runs small.source_tree
         (runs.runnable (source_tree (words_of tokens.now) whole.now)) result }
+    ensures place { StopsAt (place.first_not_run (words_of tokens.now) whole.now) result }
 {
     let mut modules = Vec::new(alloc);
     for one in &whole.modules {

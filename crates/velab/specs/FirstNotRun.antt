@@ -1,0 +1,157 @@
+-- Where what isn't run yet begins (E299): the token at which the first construct of a text begins that `Runnable` has no tree for.
+-- A construct begins with the first token that its tree keeps: a parenthesis, an operator or `$signed` in front of an operand isn't kept.
+use Rattle.std.specs.Prelude.{ℕ, if◌then◌else◌, List, [], ◌∷◌, Option, Some, None, option_map}
+use Rattle.std.specs.Option.{option_or}
+use Rattle.vast.specs.Syntax.{Text}
+use Rattle.vast.specs.ExpressionTrees.{tree_of}
+use Rattle.vast.specs.StatementTrees.{target_tree, delay_tree, task_tree}
+use Rattle.vast.specs.declared.expression.Expression.{Expression, Number, Name, Time, Bit', Part', Parentheses', Concatenation', Replication', Conversion', Unary', Binary', Conditional'}
+use Rattle.vast.specs.declared.statement.Target.{Target, Whole, Bit, Part, Joined'}
+use Rattle.vast.specs.declared.statement.Delay.{Delay}
+use Rattle.vast.specs.declared.statement.Delay.TheVariants as delays
+use Rattle.vast.specs.declared.statement.Task.{Task}
+use Rattle.vast.specs.declared.statement.Statement.{Statement, Empty, Block', Assign, Nonblocking, Trigger, If', IfElse', Case', While', Repeat', Forever', For', Wait', Delayed', OnEvent', Task as Call, Row_of-Statement, end_of-Statement, more_of-Statement}
+use Rattle.vast.specs.declared.module.NetKind.TheVariants as net
+use Rattle.vast.specs.declared.module.Bounds.{Bounds}
+use Rattle.vast.specs.declared.module.SignAndRange.{SignAndRange}
+use Rattle.vast.specs.declared.module.DeclarationKind.{DeclarationKind}
+use Rattle.vast.specs.declared.module.DeclarationKind.TheVariants as declaring
+use Rattle.vast.specs.declared.module.Declared.{Declared}
+use Rattle.vast.specs.declared.module.ModuleItem.{ModuleItem}
+use Rattle.vast.specs.declared.module.ModuleItem.TheVariants as items
+use Rattle.vast.specs.declared.module.ModuleTree.{ModuleTree}
+use Rattle.vast.specs.declared.module.TextTree.{TextTree}
+use Rattle.velab.specs.Runnable.{runnable_expression, runnable_number, runnable_target, runnable_delay, runnable_task}
+
+-- The tokens that constructs begin with
+
+abbrev pub first_token : Expression → ℕ
+first_token (Number word) = word.number
+first_token (Name word) = word.number
+first_token (Time at) = at
+first_token (Bit' name place index) = name.number
+first_token (Part' name place left place_too right) = name.number
+first_token (Parentheses' place inner) = first_token inner
+first_token (Concatenation' at shape row) = at
+first_token (Replication' at place count shape row) = at
+first_token (Conversion' signed place operand) = first_token operand
+first_token (Unary' operator place operand) = first_token operand
+first_token (Binary' operator place left place_too right) = first_token left
+first_token (Conditional' place condition place_too when_true place_last when_false) = first_token condition
+
+abbrev pub target_token : Target → ℕ
+target_token (Whole name) = name.number
+target_token (Bit name index) = name.number
+target_token (Part name left right) = name.number
+target_token (Joined' at shape row) = at
+
+abbrev pub delay_token : Delay → ℕ
+delay_token (delays.Number word) = word.number
+delay_token (delays.Name word) = word.number
+delay_token (delays.Value value) = first_token value.value
+
+-- Where the first of several constructs begins that isn't run: each is looked at in turn
+
+-- a construct that begins here isn't run where it has no tree
+abbrev pub unless_run : {A : Type 0} → Option A → ℕ → Option ℕ
+unless_run None at = Some at
+unless_run (Some tree) at = None
+
+abbrev pub first_among : {A : Type 0} → (A → Option ℕ) → List A → Option ℕ
+first_among place [] = None
+first_among place (one ∷ more) = option_or (place one) (first_among place more)
+
+module _ (words : List Text) where
+  abbrev pub in_expression : Expression → Option ℕ
+  in_expression value = unless_run (runnable_expression (tree_of words value)) (first_token value)
+
+  abbrev pub in_number : Expression → Option ℕ
+  in_number value = unless_run (runnable_number (tree_of words value)) (first_token value)
+
+  abbrev pub in_target : Target → Option ℕ
+  in_target target = unless_run (runnable_target (target_tree words target)) (target_token target)
+
+  abbrev pub in_delay : Delay → Option ℕ
+  in_delay amount = unless_run (runnable_delay (delay_tree words amount)) (delay_token amount)
+
+  abbrev pub in_task : ℕ → Task → Option ℕ
+  in_task at call = unless_run (runnable_task (task_tree words call)) at
+
+  -- no delay of an assignment's own is run
+  abbrev pub in_assignment : Target → Option Delay → Expression → Option ℕ
+  in_assignment target amount value = option_or (in_target target) (option_or (option_map delay_token amount) (in_expression value))
+
+  abbrev mutual
+    pub in_statement : Statement → Option ℕ
+    in_statement Empty = None
+    in_statement (Block' shape row) = in_row row
+    in_statement (Assign at target amount value) = in_assignment target amount value.value
+    in_statement (Nonblocking at target amount value) = in_assignment target amount value.value
+    in_statement (Trigger at name) = Some at
+    in_statement (If' at condition place body) = Some at
+    in_statement (IfElse' at condition place body place_too other) = Some at
+    in_statement (Case' at kind value shape row) = Some at
+    in_statement (While' at condition place body) = Some at
+    in_statement (Repeat' at count place body) = Some at
+    in_statement (Forever' at place body) = Some at
+    in_statement (For' at target value condition next_target next_value place body) = Some at
+    in_statement (Wait' at condition place body) = Some at
+    in_statement (Delayed' at amount place body) = option_or (in_delay amount) (in_statement body)
+    in_statement (OnEvent' at control place body) = Some at
+    in_statement (Call at call) = in_task at call
+
+    pub in_row : {m : _} → Row_of-Statement m → Option ℕ
+    in_row end_of-Statement = None
+    in_row (more_of-Statement one more) = option_or (in_statement one) (in_row more)
+
+  abbrev pub in_statements : List Statement → Option ℕ
+  in_statements list = first_among in_statement list
+
+  abbrev pub in_bounds : Bounds → Option ℕ
+  in_bounds bounds = option_or (in_number bounds.left.value) (in_number bounds.right.value)
+
+  abbrev pub in_range : Option Bounds → Option ℕ
+  in_range None = None
+  in_range (Some bounds) = in_bounds bounds
+
+  -- a sign isn't run
+  abbrev pub in_type : ℕ → SignAndRange → Option ℕ
+  in_type at type = if type.signed then Some at else in_range type.range
+
+  -- of a declaration that begins here: only registers are run
+  abbrev pub in_kind : ℕ → DeclarationKind → Option ℕ
+  in_kind at (declaring.Variables net.Wire type) = Some at
+  in_kind at (declaring.Variables net.Reg type) = in_type at type
+  in_kind at declaring.Integers = Some at
+
+  -- no value of a declared name is run
+  abbrev pub in_declared : Declared → Option ℕ
+  in_declared declared = option_map (λ value. first_token value.value) declared.value
+
+  abbrev pub in_names : List Declared → Option ℕ
+  in_names list = first_among in_declared list
+
+  abbrev pub in_item : ModuleItem → Option ℕ
+  in_item (items.Parameters at local type settings) = Some at
+  in_item (items.Declaration at kind declared) = option_or (in_kind at kind) (in_names declared.items)
+  in_item (items.Events at names) = Some at
+  in_item (items.Assignments at settings) = Some at
+  in_item (items.Initial at statement) = in_statement statement
+  in_item (items.Always at statement) = Some at
+  in_item (items.Instances name overrides list) = Some name.number
+
+  abbrev pub in_items : List ModuleItem → Option ℕ
+  in_items list = first_among in_item list
+
+  -- parameters and ports of a module's head aren't run: they are told of at the module's name
+  abbrev pub in_head : {P Q : Type 0} → ℕ → Option P → Option Q → Option ℕ
+  in_head at None None = None
+  in_head at None (Some ports) = Some at
+  in_head at (Some parameters) ports = Some at
+
+  abbrev pub in_module : ModuleTree → Option ℕ
+  in_module m = option_or (in_head m.name.number m.parameters m.ports) (in_items m.items.items)
+
+  -- the whole text
+  abbrev pub first_not_run : TextTree → Option ℕ
+  first_not_run text = first_among in_module text.modules.items
