@@ -1,5 +1,5 @@
--- Where what isn't run yet begins (E299): the token at which the first construct of a text begins that `Runnable` has no tree for.
--- A construct begins with the first token that its tree keeps: a parenthesis, an operator or `$signed` in front of an operand isn't kept.
+-- Where what isn't run yet begins (E299): the token at which the first construct of a text begins that `Runnable` has no
+-- tree for. A construct begins with the first token that its tree keeps: of `-a`, `(a)` and `$signed(a)` that is `a`.
 use Rattle.std.specs.Prelude.{ℕ, if◌then◌else◌, List, [], ◌∷◌, Option, Some, None, option_map}
 use Rattle.std.specs.Option.{option_or}
 use Rattle.vast.specs.Syntax.{Text}
@@ -79,7 +79,8 @@ module _ (words : List Text) where
 
   -- no delay of an assignment's own is run
   abbrev pub in_assignment : Target → Option Delay → Expression → Option ℕ
-  in_assignment target amount value = option_or (in_target target) (option_or (option_map delay_token amount) (in_expression value))
+  in_assignment target amount value =
+      option_or (in_target target) (option_or (option_map delay_token amount) (in_expression value))
 
   abbrev mutual
     pub in_statement : Statement → Option ℕ

@@ -36,8 +36,10 @@ abbrev pub range_of : Option Range → Option small.RangeTree
 range_of range = option_map trees.range_tree range
 
 -- what an assignment of either kind gives what stands for what runs of it
-abbrev pub RunsAssigned : List Text → Target → Option Delay → Expression → Result (Word × Expr) (OrMemory NotYet) → Type 0
+abbrev pub RunsAssigned :
+    List Text → Target → Option Delay → Expression → Result (Word × Expr) (OrMemory NotYet) → Type 0
 RunsAssigned words target amount value result =
     (make : Text → small.ExpressionTree → small.StatementTree) →
     Runs (λ p. make (word_text p.0) (trees.expression_tree p.1))
-    (runnable_assignment make (target_tree words target) (option_map (delay_tree words) amount) (tree_of words value)) result
+    (runnable_assignment make (target_tree words target) (option_map (delay_tree words) amount) (tree_of words value))
+    result

@@ -24,7 +24,7 @@ use vast::syntax::{Ast, Expr, Item, Module, Range, Stmt, Word};
 use vast::token::Token;
 use vlex::Tokens;
 
-/// A text that is read and not run yet; `at` is the number of the token at which what isn't run begins.
+/// A text that is read and not run yet; `at` is the number of the first token that is kept of what isn't run.
 #[derive(Clone, Copy, Debug, PartialEq, Eq)]
 pub struct NotYet {
     pub at: u32,
@@ -378,7 +378,7 @@ fn module<'t>(
     })
 }
 
-/// The tree of a text as the small grammar has it, or the token at which what isn't run yet begins (E299).
+/// The tree of a text as the small grammar has it, or the first token that is kept of what isn't run yet (E299).
 pub fn runnable<'t>(
     alloc: Global,
     tokens: &Tokens<'t>,

@@ -9,6 +9,7 @@ use Rattle.velab.proofs.running.+running.Given as goal
 abbrev pub invariant-statements-loop-one : goal.invariant-statements-loop-one
 invariant-statements-loop-one l = record {
   tree :
-      GoesOn l.list.items (statement_trees (words_of l.tokens) (drop l.one-index l.whole)) (runnable_statements (statement_trees (words_of l.tokens) l.whole));
+      GoesOn l.list.items (statement_trees (words_of l.tokens) (drop l.one-index l.whole))
+      (runnable_statements (statement_trees (words_of l.tokens) l.whole));
   place : Looks (in_statement (words_of l.tokens)) l.whole l.one-index;
 }

@@ -10,6 +10,7 @@ use Rattle.velab.proofs.running.items.Given as goal
 abbrev pub invariant-loop-one : goal.invariant-loop-one
 invariant-loop-one l = record {
   tree :
-      Goes runnable_item small_item l.list.items (map (item_tree (words_of l.tokens)) (drop l.one-index l.whole)) (each runnable_item (map (item_tree (words_of l.tokens)) l.whole));
+      Goes runnable_item small_item l.list.items (map (item_tree (words_of l.tokens)) (drop l.one-index l.whole))
+      (each runnable_item (map (item_tree (words_of l.tokens)) l.whole));
   place : Looks (in_item (words_of l.tokens)) l.whole l.one-index;
 }

@@ -10,6 +10,7 @@ use Rattle.velab.proofs.running.names.Given as goal
 abbrev pub invariant-loop-one : goal.invariant-loop-one
 invariant-loop-one l = record {
   tree :
-      Goes runnable_name word_text l.list.items (map (declared_tree (words_of l.tokens)) (drop l.one-index l.declared)) (each runnable_name (map (declared_tree (words_of l.tokens)) l.declared));
+      Goes runnable_name word_text l.list.items (map (declared_tree (words_of l.tokens)) (drop l.one-index l.declared))
+      (each runnable_name (map (declared_tree (words_of l.tokens)) l.declared));
   place : Looks (in_declared (words_of l.tokens)) l.declared l.one-index;
 }
