@@ -5,6 +5,7 @@ ghost use Rattle.basis.specs.Reasons.{IfFault};
 ghost use Rattle.vast.specs.ModuleTrees.{module_tree, source_tree};
 ghost use Rattle.vast.specs.Modules.{DerivesText};
 ghost use Rattle.vexpr_parse.specs.Readers.{front, stop};
+ghost use Rattle.vexpr_parse.specs.Answers.{ahead};
 ghost use Rattle.vexpr_parse.specs.Texts.{words_of};
 ghost use Rattle.vstatement_parse.specs.Gives.{Gives, ReadsStatements};
 ghost use Rattle.vparse.specs.ModuleGives.{all_of};
@@ -24,9 +25,8 @@ use vexpr_parse::{Cursor, Stop};
 use vlex::Tokens;
 
 // Whether a word is left.
-fn is_left(tokens: &Tokens<'_>,
-    cursor: &Cursor) -> bool
-    ensures { result ≡ is_some_word (front cursor.now) }
+fn is_left(tokens: &Tokens<'_>, cursor: &Cursor) -> bool
+    ensures { result ≡ is_some_word (front (ahead tokens.now cursor.now)) }
 {
     match cursor.word(tokens) {
         None => false,
@@ -66,12 +66,11 @@ fn stands_outside(tokens: &Tokens<'_>, at: usize) -> bool
 }
 
 // What is wrong at the word where reading stopped.
-fn fault(tokens: &Tokens<'_>, tokens: &Tokens<'_>,
-    cursor: &Cursor, why: Stop) -> SyntaxFault
-    requires { source (words_of tokens.now) ≡ stop why cursor.now }
+fn fault(tokens: &Tokens<'_>, cursor: &Cursor, why: Stop) -> SyntaxFault
+    requires { source (words_of tokens.now) ≡ stop why (ahead tokens.now cursor.now) }
     ensures { IsRefusal tokens.now result }
 {
-    let at = tokens.len().saturating_sub(cursor.left());
+    let at = tokens.len().saturating_sub(cursor.left(tokens));
     let place = tokens.place(at);
     match why {
         Stop::TooDeep => SyntaxFault::TooDeep { place },
@@ -93,17 +92,17 @@ fn fault(tokens: &Tokens<'_>, tokens: &Tokens<'_>,
 pub fn text<F: Fn(&mut Cursor) -> Result<Statement, OrMemory<Stop>>>(
     alloc: Global,
     read: &F,
-    tokens: &Tokens<'a>,
+    tokens: &Tokens<'_>,
 ) -> Result<TextTree, OrMemory<SyntaxFault>>
     requires callable { F.IsAlwaysCallable read.now }
     requires reads { ReadsStatements tokens.now 64 (F.post read.now) }
-    ensures derives { IfOk result (λ text. DerivesText (words_of tokens.now) (source_tree text)) }
-    ensures only { IfOk result (λ text. IsOnlyText (words_of tokens.now) (source_tree text)) }
+    ensures derives { IfOk result (λ text. DerivesText (words_of tokens.now) (source_tree (words_of tokens.now) text)) }
+    ensures only { IfOk result (λ text. IsOnlyText (words_of tokens.now) (source_tree (words_of tokens.now) text)) }
     ensures none { IfFault result (λ fault. HasNoText (words_of tokens.now)) }
     ensures reason { IfFault result (λ fault. IsRefusal tokens.now fault) }
 {
-    let mut cursor = Cursor::new(tokens);
-    match source(alloc, read, &mut cursor) {
+    let mut cursor = Cursor::start();
+    match source(alloc, read, tokens, &mut cursor) {
         Ok(modules) => Ok(TextTree { modules }),
         Err(OrMemory::Fault(why)) => Err(OrMemory::Fault(fault(tokens, &cursor, why))),
         Err(OrMemory::Memory(refused)) => Err(OrMemory::Memory(refused)),
