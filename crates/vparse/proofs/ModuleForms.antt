@@ -14,7 +14,7 @@ use Rattle.vast.specs.declared.module.ModuleItem.{ModuleItem}
 use Rattle.vast.specs.declared.module.ModuleTree.{ModuleTree as ModuleWords}
 use Rattle.vexpr_parse.specs.declared.stop.Stop.{Stop}
 use Rattle.vexpr_parse.specs.Readers.{Answer, got, stop, Reader, front, is_front, and_then, past, follow, goes, refused, choose}
-use Rattle.vstatement_parse.specs.Gives.{Gives}
+use Rattle.vstatement_parse.specs.Gives.{Answered}
 use Rattle.vgrammar.specs.Parts.{Both, both, Either, one_way, other_way, made, paired, worded, many, maybe, either}
 use Rattle.vgrammar.specs.Starts.{is_meant}
 use Rattle.vgrammar.specs.Statements.{named, word_only, List_of, comma_list, statement}
@@ -358,26 +358,30 @@ module_is = past_rule module_of (codes "module") (paired named head_and_body) (�
 
 -- so what the program gives
 
-same_gives : {A T : Type 0} (view : T → A) (one other : Answer A) → one ≡ other → (left : List Text) (result : Result T (OrMemory Stop)) →
-    Gives view other left result → Gives view one left result
-same_gives view one other e left result given = subst (λ a. Gives view a left result) (sym e) given
+same_answered : {A T : Type 0} (view : T → A) (one other : Answer A) → one ≡ other → (left : List Text) (result : Result T (OrMemory Stop)) →
+    Answered view other left result → Answered view one left result
+same_answered view one other e left result given = subst (λ a. Answered view a left result) (sym e) given
 
-pub gives_connections : (words left : List Text) (result : Result Connections (OrMemory Stop)) →
-    Gives connections_tree (past (codes "(") connections_in words) left result → Gives connections_tree (connections words) left result
-gives_connections words left result given = same_gives connections_tree (connections words) _ (connections_is words) left result given
+module _ (text words left : List Text) where
+  pub gives_connections : (result : Result Connections (OrMemory Stop)) →
+      Answered (connections_tree text) (past (codes "(") connections_in words) left result →
+      Answered (connections_tree text) (connections words) left result
+  gives_connections result given = same_answered (connections_tree text) (connections words) _ (connections_is words) left result given
 
-pub gives_heads : {R : Type 0} (words left : List Text) (result : Result (Vec HeadWords R) (OrMemory Stop)) →
-    Gives (all_of head_tree) (past (codes "(") heads_in words) left result → Gives (all_of head_tree) (made head_list_of head_parameters words) left result
-gives_heads words left result given = same_gives (all_of head_tree) (made head_list_of head_parameters words) _ (heads_is words) left result given
+  pub gives_heads : {R : Type 0} (result : Result (Vec HeadWords R) (OrMemory Stop)) →
+      Answered (all_of head_tree text) (past (codes "(") heads_in words) left result →
+      Answered (all_of head_tree text) (made head_list_of head_parameters words) left result
+  gives_heads result given = same_answered (all_of head_tree text) (made head_list_of head_parameters words) _ (heads_is words) left result given
 
-pub gives_ports : {R : Type 0} (words left : List Text) (result : Result (Vec Port R) (OrMemory Stop)) →
-    Gives (all_of port_tree) (past (codes "(") ports_in words) left result → Gives (all_of port_tree) (ports words) left result
-gives_ports words left result given = same_gives (all_of port_tree) (ports words) _ (ports_is words) left result given
+  pub gives_ports : {R : Type 0} (result : Result (Vec Port R) (OrMemory Stop)) →
+      Answered (all_of port_tree text) (past (codes "(") ports_in words) left result →
+      Answered (all_of port_tree text) (ports words) left result
+  gives_ports result given = same_answered (all_of port_tree text) (ports words) _ (ports_is words) left result given
 
-pub gives_item : (words left : List Text) (result : Result ModuleItem (OrMemory Stop)) →
-    Gives item_tree (any_item words) left result → Gives item_tree (item words) left result
-gives_item words left result given = same_gives item_tree (item words) _ (item_is words) left result given
+  pub gives_item : (result : Result ModuleItem (OrMemory Stop)) →
+      Answered (item_tree text) (any_item words) left result → Answered (item_tree text) (item words) left result
+  gives_item result given = same_answered (item_tree text) (item words) _ (item_is words) left result given
 
-pub gives_module : (words left : List Text) (result : Result ModuleWords (OrMemory Stop)) →
-    Gives module_tree (module_at words) left result → Gives module_tree (module_reader words) left result
-gives_module words left result given = same_gives module_tree (module_reader words) _ (module_is words) left result given
+  pub gives_module : (result : Result ModuleWords (OrMemory Stop)) →
+      Answered (module_tree text) (module_at words) left result → Answered (module_tree text) (module_reader words) left result
+  gives_module result given = same_answered (module_tree text) (module_reader words) _ (module_is words) left result given

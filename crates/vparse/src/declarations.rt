@@ -2,8 +2,7 @@
 
 ghost use Rattle.std.specs.Prelude.{◌≡◌, ◌<◌};
 ghost use Rattle.vast.specs.ModuleTrees.{setting_tree, declared_tree};
-ghost use Rattle.vast.specs.ExpressionTrees.{boxed_tree};
-ghost use Rattle.vstatement_parse.specs.Gives.{Gives};
+ghost use Rattle.vstatement_parse.specs.Gives.{Gives, value_tree};
 ghost use Rattle.vparse.specs.ModuleGives.{optional_of, optional_value};
 ghost use Rattle.vparse.specs.TextReaders as reading;
 
@@ -37,7 +36,7 @@ fn optional_value(
     tokens: &Tokens<'_>,
     cursor: &mut Cursor,
 ) -> Result<Option<Box<Expression>>, OrMemory<Stop>>
-    ensures { Gives (optional_of boxed_tree) optional_value
+    ensures { Gives (optional_of value_tree) optional_value
         tokens.now cursor.old cursor.new result }
 {
     if cursor.begins(tokens, b"=") {

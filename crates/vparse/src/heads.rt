@@ -64,6 +64,7 @@ fn head_parameter(
 }
 
 // What stands behind the first parenthesis.
+#[tactic(auto, using(crate::proofs::ListKinds::head_fewer))]
 fn heads_in(
     alloc: Global,
     tokens: &Tokens<'_>,

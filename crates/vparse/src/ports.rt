@@ -127,6 +127,7 @@ fn port(alloc: Global, tokens: &Tokens<'_>, cursor: &mut Cursor) -> Result<Port,
 }
 
 // One port or more, up to `)`.
+#[tactic(auto, using(crate::proofs::ListKinds::port_fewer))]
 fn some_ports(
     alloc: Global,
     tokens: &Tokens<'_>,

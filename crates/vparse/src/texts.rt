@@ -96,8 +96,10 @@ pub fn text<F: Fn(&mut Cursor) -> Result<Statement, OrMemory<Stop>>>(
 ) -> Result<TextTree, OrMemory<SyntaxFault>>
     requires callable { F.IsAlwaysCallable read.now }
     requires reads { ReadsStatements tokens.now 64 (F.post read.now) }
-    ensures derives { IfOk result (λ text. DerivesText (words_of tokens.now) (source_tree (words_of tokens.now) text)) }
-    ensures only { IfOk result (λ text. IsOnlyText (words_of tokens.now) (source_tree (words_of tokens.now) text)) }
+    ensures derives { IfOk result (λ text. DerivesText (words_of tokens.now)
+        (source_tree (words_of tokens.now) text)) }
+    ensures only { IfOk result (λ text. IsOnlyText (words_of tokens.now)
+        (source_tree (words_of tokens.now) text)) }
     ensures none { IfFault result (λ fault. HasNoText (words_of tokens.now)) }
     ensures reason { IfFault result (λ fault. IsRefusal tokens.now fault) }
 {
