@@ -94,7 +94,7 @@ fn connected(
 }
 
 /// Connections in parentheses.
-#[tactic(auto, using(crate::proofs::ModuleForms::gives_connections))]
+#[tactic(auto, using(crate::proofs::ModuleForms::connections_is))]
 pub fn connections(
     alloc: Global,
     tokens: &Tokens<'_>,

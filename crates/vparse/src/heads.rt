@@ -87,7 +87,7 @@ fn heads_in(
 }
 
 // What stands behind `#`.
-#[tactic(auto, using(crate::proofs::ModuleForms::gives_heads))]
+#[tactic(auto, using(crate::proofs::ModuleForms::heads_is))]
 fn head_parameters(
     alloc: Global,
     tokens: &Tokens<'_>,

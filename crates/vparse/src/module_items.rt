@@ -110,7 +110,7 @@ fn instances_of(
     cursor: &mut Cursor,
     taken: Token,
 ) -> Result<ModuleItem, OrMemory<Stop>>
-    ensures { Gives item_tree (instances_at (token_text (words_of tokens.now) taken.entry))
+    ensures { Gives item_tree (instances_at (token_text (words_of tokens.now) taken))
         tokens.now cursor.old cursor.new result }
 {
     let overrides = overrides(alloc, tokens, cursor)?;
@@ -244,7 +244,7 @@ fn number_here(tokens: &Tokens<'_>, cursor: &Cursor) -> u32 {
 }
 
 /// An item of a module, where this reads statements.
-#[tactic(auto, using(crate::proofs::ModuleForms::gives_item))]
+#[tactic(auto, using(crate::proofs::ModuleForms::item_is))]
 pub fn item<F: Fn(&mut Cursor) -> Result<Statement, OrMemory<Stop>>>(
     alloc: Global,
     read: &F,

@@ -76,7 +76,7 @@ fn module_with<F: Fn(&mut Cursor) -> Result<Statement, OrMemory<Stop>>>(
 ) -> Result<ModuleTree, OrMemory<Stop>>
     requires callable { F.IsAlwaysCallable read.now }
     requires reads { ReadsStatements tokens.now 64 (F.post read.now) }
-    ensures { GivesWith name.entry parameters.entry ports.entry
+    ensures { GivesWith name parameters ports
         tokens.now cursor.old cursor.new result }
 {
     let items = module_body(alloc, read, tokens, cursor)?;
@@ -99,7 +99,7 @@ fn module_headed<F: Fn(&mut Cursor) -> Result<Statement, OrMemory<Stop>>>(
 ) -> Result<ModuleTree, OrMemory<Stop>>
     requires callable { F.IsAlwaysCallable read.now }
     requires reads { ReadsStatements tokens.now 64 (F.post read.now) }
-    ensures { GivesHeaded name.entry parameters.entry
+    ensures { GivesHeaded name parameters
         tokens.now cursor.old cursor.new result }
 {
     let ports = optional_ports(alloc, tokens, cursor)?;
@@ -107,7 +107,7 @@ fn module_headed<F: Fn(&mut Cursor) -> Result<Statement, OrMemory<Stop>>>(
 }
 
 /// A module, where this reads statements.
-#[tactic(auto, using(crate::proofs::ModuleForms::gives_module))]
+#[tactic(auto, using(crate::proofs::ModuleForms::module_is))]
 pub fn module_tree<F: Fn(&mut Cursor) -> Result<Statement, OrMemory<Stop>>>(
     alloc: Global,
     read: &F,

@@ -166,7 +166,7 @@ fn ports_in(
 }
 
 // Ports in parentheses.
-#[tactic(auto, using(crate::proofs::ModuleForms::gives_ports))]
+#[tactic(auto, using(crate::proofs::ModuleForms::ports_is))]
 fn ports(
     alloc: Global,
     tokens: &Tokens<'_>,
