@@ -56,6 +56,15 @@ never_more view one eats tokens call reads old new tree told =
     weaker : (a b : ℕ) → a < b → a ≤ b
     weaker a b e = omega arith
 
+-- behind this very word, where it stands first, and where it doesn't
+past_it : {A : Type 0} (text : Text) (read : Reader A) (left : List Text) → past text read (text ∷ left) ≡ read left
+past_it text read left = ap (λ l. follow l text left) (chosen (bytes_eq text text) (goes read) refused (text_same text))
+
+pub past_not : {A : Type 0} (text : Text) (read : Reader A) (left : List Text) → is_front text (front left) ≡ false →
+    past text read left ≡ stop NoTree left
+past_not text read [] e = refl
+past_not text read (word ∷ left) e = ap (λ l. follow l word left) (passed_over (bytes_eq text word) (goes read) refused e)
+
 module _ {T A : Type 0} (view : List Text → T → A) (one : Reader A) (eats : Eats one) (tokens : Tokenized) (call : Calls T)
     (reads : ReadsAs view one tokens call) where
   abbrev behind_comma : List A → Reader A
@@ -100,24 +109,17 @@ module _ {T A : Type 0} (view : List Text → T → A) (one : Reader A) (eats : 
       (behind_word (codes ",") one b.between (stop why left) b.comma
       (call_gives view one tokens call reads (drop 1 b.between) left (Err (Fault why)) b.stopped))
 
-  past_it : (text : Text) (all : List A) (left : List Text) → past text (got all) (text ∷ left) ≡ got all left
-  past_it text all left = ap (λ l. follow l text left) (chosen (bytes_eq text text) (goes (got all)) refused (text_same text))
-
-  past_not : (text : Text) (all : List A) (left : List Text) → is_front text (front left) ≡ false → past text (got all) left ≡ stop NoTree left
-  past_not text all [] e = refl
-  past_not text all (word ∷ left) e = ap (λ l. follow l word left) (passed_over (bytes_eq text word) (goes (got all)) refused e)
-
   pub until_given : {R : Type 0} (text : Text) (first : T) (words left : List Text) (result : Result (Vec T R) (OrMemory Stop)) →
       ListedUntil tokens call first text words left result →
       Answered (all_of view (words_of tokens)) (rest_until text one (tree first) words) left result
   until_given text first words left (Ok all) l =
-      ap (λ a. and_then a (λ all. past text (got all))) (listed first words (text ∷ left) all.items l) ∙ past_it text (map tree all.items) left
+      ap (λ a. and_then a (λ all. past text (got all))) (listed first words (text ∷ left) all.items l) ∙ past_it text (got (map tree all.items)) left
   until_given text first words left (Err (Memory m)) l = tt
   until_given text first words left (Err (Fault why)) (inl b) =
       ap (λ a. and_then a (λ all. past text (got all))) (broken first words left why b)
   until_given text first words left (Err (Fault why)) (inr u) =
       ap (λ a. and_then a (λ all. past text (got all))) (listed first words left u.list u.listed)
-      ∙ past_not text (map tree u.list) left u.other
+      ∙ past_not text (got (map tree u.list)) left u.other
       ∙ ap (λ w. stop w left) (sym u.none)
 
   -- with the first one, which another reader read before them

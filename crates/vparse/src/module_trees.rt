@@ -48,6 +48,7 @@ fn all_items<F: Fn(&mut Cursor) -> Result<Statement, OrMemory<Stop>>>(
 }
 
 // Items and `endmodule`, behind a semicolon.
+#[tactic(auto, using(crate::proofs::ListTurns::past_not))]
 fn module_body<F: Fn(&mut Cursor) -> Result<Statement, OrMemory<Stop>>>(
     alloc: Global,
     read: &F,
