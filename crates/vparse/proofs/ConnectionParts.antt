@@ -11,12 +11,13 @@ use Rattle.vgrammar.specs.Modules.{connection_of}
 use Rattle.vparse.specs.ModuleGives.{value_part}
 use Rattle.vgrammar.proofs.ManyTurns.{behind_word}
 
-abbrev connected : {T : Type 0} → Text → Option (Box Expression T) → ConnectionTree
-connected letters value = record { name = letters; value = option_map boxed_tree value }
+abbrev connected : {T : Type 0} → List Text → Text → Option (Box Expression T) → ConnectionTree
+connected text letters value = record { name = letters; value = option_map (boxed_tree text) value }
 
-pub connection_made : {T : Type 0} (letters : Text) (value : Option (Box Expression T)) → connection_of (both letters (value_part value)) ≡ connected letters value
-connection_made letters None = refl
-connection_made letters (Some tree) = refl
+pub connection_made : {T : Type 0} (text : List Text) (letters : Text) (value : Option (Box Expression T)) →
+    connection_of (both letters (value_part text value)) ≡ connected text letters value
+connection_made text letters None = refl
+connection_made text letters (Some tree) = refl
 
 -- what may be left out, where it stands behind this very word
 pub maybe_past : {A : Type 0} (text : Text) (read : Reader A) (words between left : List Text) (tree : A) (seen : Bool) →

@@ -2,12 +2,12 @@
 use Rattle.std.proofs.Common.{◌≡◌, ℕ, suc, ◌<◌, ◌≤◌, Option, None, Some, List, [], ◌∷◌, ◌++◌, length, arith}
 use Rattle.vast.specs.Syntax.{Text}
 use Rattle.vast.specs.Words.{is_name}
-use Rattle.vast.specs.Trees.{word_text}
+use Rattle.vast.specs.TokenTexts.{token_text}
 use Rattle.vast.specs.Expressions.{ExpressionTree}
 use Rattle.vast.specs.ExpressionTrees.{tree_of}
 use Rattle.vast.specs.Modules as trees
 use Rattle.vast.specs.ModuleTrees.{setting_tree, declared_tree, connection_tree, instance_tree, head_parameter as head_tree, port_tree}
-use Rattle.vast.specs.declared.syntax.Word.{Word}
+use Rattle.vast.specs.declared.token.Token.{Token}
 use Rattle.vast.specs.declared.expression.Expression.{Expression}
 use Rattle.vast.specs.declared.module.Setting.{Setting}
 use Rattle.vast.specs.declared.module.Declared.{Declared}
@@ -67,26 +67,26 @@ port_eats = sound_eats port (port_shape 63) (port_phrase 63).sound (λ tree v. l
 pub value_eats : Eats free_value
 value_eats = sound_eats free_value (Free 63) (free_phrase_value 63).sound (λ tree v. value_worded 64 tree v)
 
-pub setting_fewer : (words left : List Text) (one : Setting) → setting words ≡ got (setting_tree one) left → length left ≤ length words
-setting_fewer words left one e = no_more_words setting setting_eats words left (setting_tree one) e
+pub setting_fewer : (text words left : List Text) (one : Setting) → setting words ≡ got (setting_tree text one) left → length left ≤ length words
+setting_fewer text words left one e = no_more_words setting setting_eats words left (setting_tree text one) e
 
-pub declared_fewer : (words left : List Text) (one : Declared) → declared words ≡ got (declared_tree one) left → length left ≤ length words
-declared_fewer words left one e = no_more_words declared declared_eats words left (declared_tree one) e
+pub declared_fewer : (text words left : List Text) (one : Declared) → declared words ≡ got (declared_tree text one) left → length left ≤ length words
+declared_fewer text words left one e = no_more_words declared declared_eats words left (declared_tree text one) e
 
-pub named_fewer : (words left : List Text) (one : Word) → named words ≡ got (word_text one) left → length left ≤ length words
-named_fewer words left one e = no_more_words named named_eats words left (word_text one) e
+pub named_fewer : (text words left : List Text) (one : Token) → named words ≡ got (token_text text one) left → length left ≤ length words
+named_fewer text words left one e = no_more_words named named_eats words left (token_text text one) e
 
-pub value_fewer : (words left : List Text) (one : Expression) → free_value words ≡ got (tree_of one) left → length left ≤ length words
-value_fewer words left one e = no_more_words free_value value_eats words left (tree_of one) e
+pub value_fewer : (text words left : List Text) (one : Expression) → free_value words ≡ got (tree_of text one) left → length left ≤ length words
+value_fewer text words left one e = no_more_words free_value value_eats words left (tree_of text one) e
 
-pub connection_fewer : (words left : List Text) (one : Connection) → connection words ≡ got (connection_tree one) left → length left ≤ length words
-connection_fewer words left one e = no_more_words connection connection_eats words left (connection_tree one) e
+pub connection_fewer : (text words left : List Text) (one : Connection) → connection words ≡ got (connection_tree text one) left → length left ≤ length words
+connection_fewer text words left one e = no_more_words connection connection_eats words left (connection_tree text one) e
 
-pub instance_fewer : (words left : List Text) (one : Instance) → instance_behind words ≡ got (instance_tree one) left → length left ≤ length words
-instance_fewer words left one e = no_more_words instance_behind instance_eats words left (instance_tree one) e
+pub instance_fewer : (text words left : List Text) (one : Instance) → instance_behind words ≡ got (instance_tree text one) left → length left ≤ length words
+instance_fewer text words left one e = no_more_words instance_behind instance_eats words left (instance_tree text one) e
 
-pub head_fewer : (words left : List Text) (one : HeadParameter) → head_parameter words ≡ got (head_tree one) left → length left ≤ length words
-head_fewer words left one e = no_more_words head_parameter head_eats words left (head_tree one) e
+pub head_fewer : (text words left : List Text) (one : HeadParameter) → head_parameter words ≡ got (head_tree text one) left → length left ≤ length words
+head_fewer text words left one e = no_more_words head_parameter head_eats words left (head_tree text one) e
 
-pub port_fewer : (words left : List Text) (one : Port) → port words ≡ got (port_tree one) left → length left ≤ length words
-port_fewer words left one e = no_more_words port port_eats words left (port_tree one) e
+pub port_fewer : (text words left : List Text) (one : Port) → port words ≡ got (port_tree text one) left → length left ≤ length words
+port_fewer text words left one e = no_more_words port port_eats words left (port_tree text one) e

@@ -1,26 +1,18 @@
 -- Each definition of a part of modules, in the order in which its parts are read.
-use Rattle.std.proofs.Common.{◌≡◌, Bool, true, false, if◌then◌else◌, List, [], ◌∷◌, Result, Vec, Option, None, Some, codes, refl, sym, ap, ◌∙◌, subst}
+use Rattle.std.proofs.Common.{◌≡◌, Bool, true, false, if◌then◌else◌, List, [], ◌∷◌, Option, None, Some, codes, refl, sym, ap, ◌∙◌}
 use Rattle.std.specs.Str.{bytes_eq}
-use Rattle.basis.specs.declared.memory.OrMemory.{OrMemory}
 use Rattle.vast.specs.Syntax.{Text}
 use Rattle.vast.specs.Statements.{StatementTree}
 use Rattle.vast.specs.Expressions.{ExpressionTree}
 use Rattle.vast.specs.Modules.{HeadParameter, SettingTree, DeclaredTree, ConnectionTree, ConnectionsTree, initial, always, PortTree, by_order, by_name, ItemTree, parameters, declaration, variables, integers, events, assignments, instances, ModuleTree}
-use Rattle.vast.specs.ModuleTrees.{connections_tree, head_parameter as head_tree, port_tree, item_tree, module_tree}
-use Rattle.vast.specs.declared.module.Connections.{Connections}
-use Rattle.vast.specs.declared.module.HeadParameter.{HeadParameter as HeadWords}
-use Rattle.vast.specs.declared.module.Port.{Port}
-use Rattle.vast.specs.declared.module.ModuleItem.{ModuleItem}
-use Rattle.vast.specs.declared.module.ModuleTree.{ModuleTree as ModuleWords}
 use Rattle.vexpr_parse.specs.declared.stop.Stop.{Stop}
 use Rattle.vexpr_parse.specs.Readers.{Answer, got, stop, Reader, front, is_front, and_then, past, follow, goes, refused, choose}
-use Rattle.vstatement_parse.specs.Gives.{Gives}
 use Rattle.vgrammar.specs.Parts.{Both, both, Either, one_way, other_way, made, paired, worded, many, maybe, either}
 use Rattle.vgrammar.specs.Starts.{is_meant}
 use Rattle.vgrammar.specs.Statements.{named, word_only, List_of, comma_list, statement}
 use Rattle.vgrammar.specs.Modules.{Parameters, Variables, Instances, connections_of, ended, net_of, local_of, parameters_of, variables_of, integers_of, events_of, assignments_of, instances_of, item_of, head_list_of, ports_of, module_of}
 use Rattle.vparse.specs.TextReaders.{free_value, type, parameter_type, setting, declared, connection, connections, instance_behind, overrides, item, first_parameter, head_parameter, head_parameters, first_port, port, ports, module_tree as module_reader}
-use Rattle.vparse.specs.ModuleGives.{all_of, connections_in, heads_in, some_ports, ports_in, found_or, parameters_at, variables_at, integers_at, events_at, assignments_at, instances_at, instances_item, process_item, listed_item, variables_item, any_item, optional_heads, optional_ports, all_items, items_in, module_with, module_headed, module_named, module_at}
+use Rattle.vparse.specs.ModuleGives.{connections_in, heads_in, some_ports, ports_in, found_or, parameters_at, variables_at, integers_at, events_at, assignments_at, instances_at, instances_item, process_item, listed_item, variables_item, any_item, optional_heads, optional_ports, all_items, items_in, module_with, module_headed, module_named, module_at}
 use Rattle.vgrammar.proofs.ManyTurns.{until_is, first_until_is}
 use Rattle.vgrammar.specs.Lists.{all_until}
 
@@ -355,29 +347,3 @@ module_is = past_rule module_of (codes "module") (paired named head_and_body) (�
     inside words =
         made_paired module_of named head_and_body words
         ∙ then_same (named words) (λ letters. made (λ parts. module_of (both letters parts)) head_and_body) module_named named_is
-
--- so what the program gives
-
-same_gives : {A T : Type 0} (view : T → A) (one other : Answer A) → one ≡ other → (left : List Text) (result : Result T (OrMemory Stop)) →
-    Gives view other left result → Gives view one left result
-same_gives view one other e left result given = subst (λ a. Gives view a left result) (sym e) given
-
-pub gives_connections : (words left : List Text) (result : Result Connections (OrMemory Stop)) →
-    Gives connections_tree (past (codes "(") connections_in words) left result → Gives connections_tree (connections words) left result
-gives_connections words left result given = same_gives connections_tree (connections words) _ (connections_is words) left result given
-
-pub gives_heads : {R : Type 0} (words left : List Text) (result : Result (Vec HeadWords R) (OrMemory Stop)) →
-    Gives (all_of head_tree) (past (codes "(") heads_in words) left result → Gives (all_of head_tree) (made head_list_of head_parameters words) left result
-gives_heads words left result given = same_gives (all_of head_tree) (made head_list_of head_parameters words) _ (heads_is words) left result given
-
-pub gives_ports : {R : Type 0} (words left : List Text) (result : Result (Vec Port R) (OrMemory Stop)) →
-    Gives (all_of port_tree) (past (codes "(") ports_in words) left result → Gives (all_of port_tree) (ports words) left result
-gives_ports words left result given = same_gives (all_of port_tree) (ports words) _ (ports_is words) left result given
-
-pub gives_item : (words left : List Text) (result : Result ModuleItem (OrMemory Stop)) →
-    Gives item_tree (any_item words) left result → Gives item_tree (item words) left result
-gives_item words left result given = same_gives item_tree (item words) _ (item_is words) left result given
-
-pub gives_module : (words left : List Text) (result : Result ModuleWords (OrMemory Stop)) →
-    Gives module_tree (module_at words) left result → Gives module_tree (module_reader words) left result
-gives_module words left result given = same_gives module_tree (module_reader words) _ (module_is words) left result given

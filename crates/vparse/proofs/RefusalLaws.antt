@@ -81,15 +81,16 @@ stopped_at tokens left why index place outside e is placed judged helps more =
 
 -- so in the terms of the program
 
-module _ {R : Type 0} (words start left : List Text) (same : start ≡ words) (modules : Vec ModuleWords R) (read : source start ≡ got (all_of module_tree modules) left) where
-  read_here : source words ≡ got (map module_tree modules.items) left
+module _ {R : Type 0} (words start left : List Text) (same : start ≡ words) (modules : Vec ModuleWords R)
+    (read : source start ≡ got (all_of module_tree words modules) left) where
+  read_here : source words ≡ got (map (module_tree words) modules.items) left
   read_here = ap source (sym same) ∙ read
 
-  pub text_derives : DerivesText words (map module_tree modules.items)
-  text_derives = read_derives words left (map module_tree modules.items) read_here
+  pub text_derives : DerivesText words (map (module_tree words) modules.items)
+  text_derives = read_derives words left (map (module_tree words) modules.items) read_here
 
-  pub text_only : IsOnlyText words (map module_tree modules.items)
-  text_only = read_only words left (map module_tree modules.items) read_here
+  pub text_only : IsOnlyText words (map (module_tree words) modules.items)
+  text_only = read_only words left (map (module_tree words) modules.items) read_here
 
 pub text_none : (words start left : List Text) (why : Stop) → start ≡ words → source start ≡ stop why left → HasNoText words
 text_none words start left why same e = stopped_none words left why (ap source (sym same) ∙ e)

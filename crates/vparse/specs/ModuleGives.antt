@@ -9,16 +9,20 @@ use Rattle.vast.specs.Expressions.{ExpressionTree}
 use Rattle.vast.specs.ExpressionTrees.{boxed_tree}
 use Rattle.vast.specs.Modules.{RangeTree, ParameterType, DirectionTree, PortTree, HeadParameter, ConnectionsTree, by_order, by_name, variables, integers, ItemTree, parameters, declaration, events, assignments, initial, always, instances, ModuleTree}
 use Rattle.vast.specs.ModuleTrees.{head_parameter as head_tree, port_tree, module_tree as tree_of_module}
-use Rattle.vast.specs.Trees.{word_text}
+use Rattle.vast.specs.TokenTexts.{token_text}
 use Rattle.vast.specs.declared.expression.Expression.{Expression}
 use Rattle.vast.specs.declared.module.HeadParameter.{HeadParameter as HeadWords}
 use Rattle.vast.specs.declared.module.ModuleTree.{ModuleTree as ModuleWords}
 use Rattle.vast.specs.declared.module.NetKind.{NetKind}
 use Rattle.vast.specs.declared.module.Port.{Port}
-use Rattle.vast.specs.declared.syntax.Word.{Word}
+use Rattle.vast.specs.declared.token.Token.{Token}
+use Rattle.vlex.specs.Tokenized.{Tokenized}
+use Rattle.vexpr_parse.specs.declared.cursor.Cursor.{Cursor}
 use Rattle.vexpr_parse.specs.declared.stop.Stop.{Stop}
 use Rattle.vexpr_parse.specs.declared.stop.Stop.TheVariants.{NoTree}
 use Rattle.vexpr_parse.specs.Readers.{Reader, got, and_then, front, is_front, past, choose, turns}
+use Rattle.vexpr_parse.specs.Answers.{ahead}
+use Rattle.vexpr_parse.specs.Texts.{words_of}
 use Rattle.vstatement_parse.specs.Gives.{Gives}
 use Rattle.vgrammar.specs.Parts.{both, one_way, other_way, made, paired, maybe, many, worded, one_behind}
 use Rattle.vgrammar.specs.Starts.{is_meant}
@@ -32,6 +36,14 @@ abbrev pub Tells : Text → List Text → List Text → Bool → Type 0
 Tells text words left true = words ≡ text ∷ left
 Tells text words left false = (left ≡ words) × (is_front text (front words) ≡ false)
 
+-- the same, from one place of the tokens to another
+abbrev pub TellsAt : Tokenized → Text → Cursor → Cursor → Bool → Type 0
+TellsAt tokens text old new = Tells text (ahead tokens old) (ahead tokens new)
+
+-- what is read needs no memory
+abbrev pub ReadsAt : {A : Type 0} → Reader A → Tokenized → Cursor → Cursor → A → Type 0
+ReadsAt read tokens old new result = read (ahead tokens old) ≡ got result (ahead tokens new)
+
 -- a range, if one stands there
 abbrev pub optional_range : Reader (Option RangeTree)
 optional_range = maybe (is_front (codes "[")) range
@@ -42,78 +54,89 @@ optional_value = maybe (is_front (codes "=")) (past (codes "=") free_value)
 
 -- Lists with commas, by the calls that read their members
 
--- what is said of each call: what it answered, with the words before it and behind it
+-- what is said of each call: what it answered, with the place before it and behind it
 abbrev pub Calls : Type 0 → Type 1
-Calls T = MutBor (List Text) → Result T (OrMemory Stop) → MutBor (List Text) → Type 0
+Calls T = MutBor Cursor → Result T (OrMemory Stop) → MutBor Cursor → Type 0
 
--- one of these calls
-pub record IsCall {T : Type 0} (call : Calls T) (words : List Text) (result : Result T (OrMemory Stop)) (left : List Text) : Type 0 where
-  pub old : MutBor (List Text)
-  pub new : MutBor (List Text)
-  pub before : old.now ≡ words
-  pub behind : new.now ≡ left
+-- one of these calls, by the words that are left of these tokens before it and behind it
+pub record IsCall {T : Type 0} (tokens : Tokenized) (call : Calls T) (words : List Text) (result : Result T (OrMemory Stop)) (left : List Text) : Type 0 where
+  pub old : MutBor Cursor
+  pub new : MutBor Cursor
+  pub before : ahead tokens old.now ≡ words
+  pub behind : ahead tokens new.now ≡ left
   pub is : call old result new
 
 -- no call that gives something leaves more words than it found
-abbrev pub NeverMore : {T : Type 0} → Calls T → Type 0
-NeverMore {T = T} call = (old new : MutBor (List Text)) (one : T) → call old (Ok one) new → length new.now ≤ length old.now
+abbrev pub NeverMore : {T : Type 0} → Tokenized → Calls T → Type 0
+NeverMore {T = T} tokens call =
+    (old new : MutBor Cursor) (one : T) → call old (Ok one) new → length (ahead tokens new.now) ≤ length (ahead tokens old.now)
 
 -- these were read behind a comma each
-abbrev pub ReadBehind : {T : Type 0} → Calls T → List T → List Text → List Text → Type 0
-ReadBehind call [] words left = left ≡ words
-ReadBehind call (one ∷ more) words left =
-    (between : List Text) × (is_front (codes ",") (front words) ≡ true) × IsCall call (drop 1 words) (Ok one) between × ReadBehind call more between left
+abbrev pub ReadBehind : {T : Type 0} → Tokenized → Calls T → List T → List Text → List Text → Type 0
+ReadBehind tokens call [] words left = left ≡ words
+ReadBehind tokens call (one ∷ more) words left =
+    (between : List Text) × (is_front (codes ",") (front words) ≡ true) × IsCall tokens call (drop 1 words) (Ok one) between
+    × ReadBehind tokens call more between left
 
 -- the first one, and those that were read behind it
-pub record IsReached {T : Type 0} (call : Calls T) (first : T) (words left : List Text) (list : List T) : Type 0 where
+pub record IsReached {T : Type 0} (tokens : Tokenized) (call : Calls T) (first : T) (words left : List Text) (list : List T) : Type 0 where
   pub more : List T
   pub whole : list ≡ first ∷ more
-  pub read : ReadBehind call more words left
+  pub read : ReadBehind tokens call more words left
 
-pub record IsListed {T : Type 0} (call : Calls T) (first : T) (words left : List Text) (list : List T) : Type 0 where
-  pub reached : IsReached call first words left list
+pub record IsListed {T : Type 0} (tokens : Tokenized) (call : Calls T) (first : T) (words left : List Text) (list : List T) : Type 0 where
+  pub reached : IsReached tokens call first words left list
   pub ended : is_front (codes ",") (front left) ≡ false
 
 -- behind some of them a call stopped
-pub record IsBroken {T : Type 0} (call : Calls T) (first : T) (words left : List Text) (why : Stop) : Type 0 where
+pub record IsBroken {T : Type 0} (tokens : Tokenized) (call : Calls T) (first : T) (words left : List Text) (why : Stop) : Type 0 where
   pub list : List T
   pub between : List Text
-  pub reached : IsReached call first words between list
+  pub reached : IsReached tokens call first words between list
   pub comma : is_front (codes ",") (front between) ≡ true
-  pub stopped : IsCall call (drop 1 between) (Err (Fault why)) left
+  pub stopped : IsCall tokens call (drop 1 between) (Err (Fault why)) left
 
-abbrev pub Lists : {T R : Type 0} → Calls T → T → List Text → List Text → Result (Vec T R) (OrMemory Stop) → Type 0
-Lists call first words left (Ok all) = IsListed call first words left all.items
-Lists call first words left (Err e) = Because (IsBroken call first words left) e
+abbrev pub Listed : {T R : Type 0} → Tokenized → Calls T → T → List Text → List Text → Result (Vec T R) (OrMemory Stop) → Type 0
+Listed tokens call first words left (Ok all) = IsListed tokens call first words left all.items
+Listed tokens call first words left (Err e) = Because (IsBroken tokens call first words left) e
+
+abbrev pub Lists : {T R : Type 0} → Tokenized → Calls T → T → Cursor → Cursor → Result (Vec T R) (OrMemory Stop) → Type 0
+Lists tokens call first old new = Listed tokens call first (ahead tokens old) (ahead tokens new)
 
 -- behind all of them another word stands than the one that ends them
-pub record IsUnended {T : Type 0} (call : Calls T) (first : T) (text : Text) (words left : List Text) (why : Stop) : Type 0 where
+pub record IsUnended {T : Type 0} (tokens : Tokenized) (call : Calls T) (first : T) (text : Text) (words left : List Text) (why : Stop) : Type 0 where
   pub list : List T
-  pub listed : IsListed call first words left list
+  pub listed : IsListed tokens call first words left list
   pub other : is_front text (front left) ≡ false
   pub none : why ≡ NoTree
 
 -- so up to this very word, which is passed
-abbrev pub ListsUntil : {T R : Type 0} → Calls T → T → Text → List Text → List Text → Result (Vec T R) (OrMemory Stop) → Type 0
-ListsUntil call first text words left (Ok all) = IsListed call first words (text ∷ left) all.items
-ListsUntil call first text words left (Err e) =
-    Because (λ why. IsBroken call first words left why ⊎ IsUnended call first text words left why) e
+abbrev pub ListedUntil : {T R : Type 0} → Tokenized → Calls T → T → Text → List Text → List Text → Result (Vec T R) (OrMemory Stop) → Type 0
+ListedUntil tokens call first text words left (Ok all) = IsListed tokens call first words (text ∷ left) all.items
+ListedUntil tokens call first text words left (Err e) =
+    Because (λ why. IsBroken tokens call first words left why ⊎ IsUnended tokens call first text words left why) e
+
+abbrev pub ListsUntil : {T R : Type 0} → Tokenized → Calls T → T → Text → Cursor → Cursor → Result (Vec T R) (OrMemory Stop) → Type 0
+ListsUntil tokens call first text old new = ListedUntil tokens call first text (ahead tokens old) (ahead tokens new)
 
 -- each call reads as this definition does
-abbrev pub ReadsAs : {A T : Type 0} → (T → A) → Reader A → Calls T → Type 0
-ReadsAs {T = T} view one call = (old new : MutBor (List Text)) (result : Result T (OrMemory Stop)) → call old result new →
-    Gives view (one old.now) new.now result
+abbrev pub ReadsAs : {A T : Type 0} → (List Text → T → A) → Reader A → Tokenized → Calls T → Type 0
+ReadsAs {T = T} view one tokens call = (old new : MutBor Cursor) (result : Result T (OrMemory Stop)) → call old result new →
+    Gives view one tokens old.now new.now result
 
--- the trees of what stands in a list
-abbrev pub all_of : {A T R : Type 0} → (T → A) → Vec T R → List A
-all_of view list = map view list.items
+-- the trees of what stands in a list, and of what may be left out
+abbrev pub all_of : {A T R : Type 0} → (List Text → T → A) → List Text → Vec T R → List A
+all_of view words list = map (view words) list.items
+
+abbrev pub optional_of : {A T : Type 0} → (List Text → T → A) → List Text → Option T → Option A
+optional_of view words = option_map (view words)
 
 -- What is read, in the order in which it is read
 
 -- a value behind (, up to ), or none
-abbrev pub value_part : {T : Type 0} → Option (Box Expression T) → Value
-value_part None = one_way tt
-value_part (Some tree) = other_way (both (boxed_tree tree) tt)
+abbrev pub value_part : {T : Type 0} → List Text → Option (Box Expression T) → Value
+value_part words None = one_way tt
+value_part words (Some tree) = other_way (both (boxed_tree words tree) tt)
 
 -- connections behind (
 abbrev pub connections_in : Reader ConnectionsTree
@@ -233,14 +256,17 @@ abbrev pub module_at : Reader ModuleTree
 module_at = past (codes "module") (λ words. and_then (named words) module_named)
 
 -- a module is given, where the program has these parts of it in hand
-abbrev pub GivesHeaded : {R : Type 0} → Word → Option (Vec HeadWords R) → List Text → List Text → Result ModuleWords (OrMemory Stop) → Type 0
-GivesHeaded name heads words left result =
-    Gives tree_of_module (module_headed (word_text name) (option_map (all_of head_tree) heads) words) left result
+abbrev pub GivesHeaded : {R : Type 0} → Token → Option (Vec HeadWords R) → Tokenized → Cursor → Cursor → Result ModuleWords (OrMemory Stop) → Type 0
+GivesHeaded name heads tokens =
+    Gives tree_of_module (module_headed (token_text (words_of tokens) name) (optional_of (all_of head_tree) (words_of tokens) heads)) tokens
 
-abbrev pub GivesWith : {R S : Type 0} → Word → Option (Vec HeadWords R) → Option (Vec Port S) → List Text → List Text →
+abbrev pub GivesWith : {R S : Type 0} → Token → Option (Vec HeadWords R) → Option (Vec Port S) → Tokenized → Cursor → Cursor →
     Result ModuleWords (OrMemory Stop) → Type 0
-GivesWith name heads list words left result =
-    Gives tree_of_module (module_with (word_text name) (option_map (all_of head_tree) heads) (option_map (all_of port_tree) list) words) left result
+GivesWith name heads list tokens =
+    Gives tree_of_module
+    (module_with (token_text (words_of tokens) name) (optional_of (all_of head_tree) (words_of tokens) heads)
+    (optional_of (all_of port_tree) (words_of tokens) list))
+    tokens
 
 -- the modules behind those that were read
 abbrev pub modules_from : List ModuleTree → Reader (List ModuleTree)

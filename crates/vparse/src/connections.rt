@@ -1,9 +1,9 @@
 // What instances are connected to (IEEE 1364-2005, 12.1.2, 12.3.5 and 12.3.6).
 
-ghost use Rattle.std.specs.Prelude.{◌≡◌, ◌<◌, codes, option_map};
+ghost use Rattle.std.specs.Prelude.{◌≡◌, ◌<◌, codes};
 ghost use Rattle.vast.specs.ModuleTrees.{connection_tree, connections_tree, instance_tree};
 ghost use Rattle.vstatement_parse.specs.Gives.{Gives};
-ghost use Rattle.vparse.specs.ModuleGives.{all_of, connections_in, value_part};
+ghost use Rattle.vparse.specs.ModuleGives.{all_of, connections_in, optional_of, value_part};
 ghost use Rattle.vparse.specs.TextReaders as reading;
 ghost use Rattle.vgrammar.specs.Lists.{all_until};
 
@@ -15,6 +15,7 @@ use std::alloc::Global;
 use vast::expression::Expression;
 use vast::module::{Connection, Connections, Instance};
 use vexpr_parse::{Cursor, Stop};
+use vlex::Tokens;
 use vstatement_parse::values::ended;
 use vstatement_parse::words::named;
 
@@ -57,14 +58,17 @@ fn all_connections(
     tokens: &Tokens<'_>,
     cursor: &mut Cursor,
 ) -> Result<Vec<Connection>, OrMemory<Stop>>
-    ensures { Gives (all_of connection_tree) (all_until (codes ")") reading.connection cursor.old) cursor.new result }
+    ensures { Gives (all_of connection_tree) (all_until (codes ")") reading.connection)
+        tokens.now cursor.old cursor.new result }
 {
     let first = connection(alloc, tokens, cursor)?;
     list_until(
         alloc,
         &|cursor|
-            ensures { Gives connection_tree reading.connection tokens.now cursor.entry.now cursor.exit.now result }
+            ensures { Gives connection_tree reading.connection
+                tokens.entry.now cursor.entry.now cursor.exit.now result }
         { connection(alloc, tokens, cursor) },
+        tokens,
         cursor,
         first,
         b")",
@@ -90,7 +94,7 @@ fn connected(
 }
 
 /// Connections in parentheses.
-#[tactic(auto, using(crate::proofs::ModuleForms::gives_connections))]
+#[tactic(auto, using(crate::proofs::ModuleForms::connections_is))]
 pub fn connections(
     alloc: Global,
     tokens: &Tokens<'_>,
@@ -108,7 +112,7 @@ pub fn overrides(
     tokens: &Tokens<'_>,
     cursor: &mut Cursor,
 ) -> Result<Option<Connections>, OrMemory<Stop>>
-    ensures { Gives (option_map connections_tree) reading.overrides
+    ensures { Gives (optional_of connections_tree) reading.overrides
         tokens.now cursor.old cursor.new result }
 {
     if cursor.begins(tokens, b"#") {
@@ -120,8 +124,11 @@ pub fn overrides(
 }
 
 // `name(connections)`
-fn instance(alloc: Global, tokens: &Tokens<'_>,
-    cursor: &mut Cursor) -> Result<Instance, OrMemory<Stop>>
+fn instance(
+    alloc: Global,
+    tokens: &Tokens<'_>,
+    cursor: &mut Cursor,
+) -> Result<Instance, OrMemory<Stop>>
     ensures { Gives instance_tree reading.instance_behind tokens.now cursor.old cursor.new result }
 {
     let name = named(tokens, cursor)?;
@@ -143,8 +150,10 @@ pub fn instances(
     list_until(
         alloc,
         &|cursor|
-            ensures { Gives instance_tree reading.instance_behind tokens.now cursor.entry.now cursor.exit.now result }
+            ensures { Gives instance_tree reading.instance_behind
+                tokens.entry.now cursor.entry.now cursor.exit.now result }
         { instance(alloc, tokens, cursor) },
+        tokens,
         cursor,
         first,
         b";",

@@ -1,10 +1,9 @@
 // Names with their values (IEEE 1364-2005, 4.2 and 4.10).
 
-ghost use Rattle.std.specs.Prelude.{◌≡◌, ◌<◌, option_map};
+ghost use Rattle.std.specs.Prelude.{◌≡◌, ◌<◌};
 ghost use Rattle.vast.specs.ModuleTrees.{setting_tree, declared_tree};
-ghost use Rattle.vast.specs.ExpressionTrees.{boxed_tree};
-ghost use Rattle.vstatement_parse.specs.Gives.{Gives};
-ghost use Rattle.vparse.specs.ModuleGives.{optional_value};
+ghost use Rattle.vstatement_parse.specs.Gives.{Gives, value_tree};
+ghost use Rattle.vparse.specs.ModuleGives.{optional_of, optional_value};
 ghost use Rattle.vparse.specs.TextReaders as reading;
 
 use crate::types::LEVELS;
@@ -13,6 +12,7 @@ use std::alloc::Global;
 use vast::expression::Expression;
 use vast::module::{Declared, Setting};
 use vexpr_parse::{Cursor, Stop};
+use vlex::Tokens;
 use vstatement_parse::values::value as read_value;
 use vstatement_parse::words::named;
 
@@ -36,7 +36,8 @@ fn optional_value(
     tokens: &Tokens<'_>,
     cursor: &mut Cursor,
 ) -> Result<Option<Box<Expression>>, OrMemory<Stop>>
-    ensures { Gives (option_map boxed_tree) optional_value tokens.now cursor.old cursor.new result }
+    ensures { Gives (optional_of value_tree) optional_value
+        tokens.now cursor.old cursor.new result }
 {
     if cursor.begins(tokens, b"=") {
         cursor.pass(tokens);

@@ -1,9 +1,9 @@
 // Parameters in the heads of modules (IEEE 1364-2005, 12.2).
 
-ghost use Rattle.std.specs.Prelude.{◌≡◌, codes, option_map};
+ghost use Rattle.std.specs.Prelude.{◌≡◌, codes};
 ghost use Rattle.vast.specs.ModuleTrees.{head_parameter as head_tree, parameter_type as type_tree};
 ghost use Rattle.vstatement_parse.specs.Gives.{Gives};
-ghost use Rattle.vparse.specs.ModuleGives.{all_of, heads_in, optional_heads, optional_type};
+ghost use Rattle.vparse.specs.ModuleGives.{all_of, heads_in, optional_heads, optional_of, optional_type};
 ghost use Rattle.vgrammar.specs.Modules as parts;
 ghost use Rattle.vparse.specs.TextReaders as reading;
 ghost use Rattle.vgrammar.specs.Parts.{made};
@@ -15,6 +15,7 @@ use basis::OrMemory;
 use std::alloc::Global;
 use vast::module::{HeadParameter, ParameterType};
 use vexpr_parse::{Cursor, Stop};
+use vlex::Tokens;
 
 // `parameter type name = value`
 fn first_parameter(
@@ -39,7 +40,7 @@ fn optional_type(
     tokens: &Tokens<'_>,
     cursor: &mut Cursor,
 ) -> Result<Option<ParameterType>, OrMemory<Stop>>
-    ensures { Gives (option_map type_tree) optional_type tokens.now cursor.old cursor.new result }
+    ensures { Gives (optional_of type_tree) optional_type tokens.now cursor.old cursor.new result }
 {
     if cursor.begins(tokens, b"parameter") {
         cursor.pass(tokens);
@@ -63,6 +64,7 @@ fn head_parameter(
 }
 
 // What stands behind the first parenthesis.
+#[tactic(auto, using(crate::proofs::ListKinds::head_fewer))]
 fn heads_in(
     alloc: Global,
     tokens: &Tokens<'_>,
@@ -74,8 +76,10 @@ fn heads_in(
     list_until(
         alloc,
         &|cursor|
-            ensures { Gives head_tree reading.head_parameter tokens.now cursor.entry.now cursor.exit.now result }
+            ensures { Gives head_tree reading.head_parameter
+                tokens.entry.now cursor.entry.now cursor.exit.now result }
         { head_parameter(alloc, tokens, cursor) },
+        tokens,
         cursor,
         first,
         b")",
@@ -83,7 +87,7 @@ fn heads_in(
 }
 
 // What stands behind `#`.
-#[tactic(auto, using(crate::proofs::ModuleForms::gives_heads))]
+#[tactic(auto, using(crate::proofs::ModuleForms::heads_is))]
 fn head_parameters(
     alloc: Global,
     tokens: &Tokens<'_>,
@@ -102,7 +106,7 @@ pub fn optional_heads(
     tokens: &Tokens<'_>,
     cursor: &mut Cursor,
 ) -> Result<Option<Vec<HeadParameter>>, OrMemory<Stop>>
-    ensures { Gives (option_map (all_of head_tree)) optional_heads
+    ensures { Gives (optional_of (all_of head_tree)) optional_heads
         tokens.now cursor.old cursor.new result }
 {
     if cursor.begins(tokens, b"#") {

@@ -6,6 +6,7 @@ ghost use Rattle.vparse.specs.ModuleGives.{Lists, ListsUntil, NeverMore};
 use basis::OrMemory;
 use std::alloc::Global;
 use vexpr_parse::{Cursor, Stop};
+use vlex::Tokens;
 
 /// What stands behind the first one, a comma before each, with the first one.
 pub fn list_behind<T: Drop, F: Fn(&mut Cursor) -> Result<T, OrMemory<Stop>>>(
@@ -16,8 +17,8 @@ pub fn list_behind<T: Drop, F: Fn(&mut Cursor) -> Result<T, OrMemory<Stop>>>(
     first: T,
 ) -> Result<Vec<T>, OrMemory<Stop>>
     requires callable { F.IsAlwaysCallable read.now }
-    requires fewer { NeverMore (F.post read.now) }
-    ensures { Lists (F.post read.now) first cursor.old cursor.new result }
+    requires fewer { NeverMore tokens.now (F.post read.now) }
+    ensures { Lists tokens.now (F.post read.now) first cursor.old cursor.new result }
 {
     let mut list: Vec<T> = Vec::new(alloc);
     list.push(first)?;
@@ -39,8 +40,8 @@ pub fn list_until<T: Drop, F: Fn(&mut Cursor) -> Result<T, OrMemory<Stop>>>(
     text: &[u8],
 ) -> Result<Vec<T>, OrMemory<Stop>>
     requires callable { F.IsAlwaysCallable read.now }
-    requires fewer { NeverMore (F.post read.now) }
-    ensures { ListsUntil (F.post read.now) first text.now cursor.old cursor.new result }
+    requires fewer { NeverMore tokens.now (F.post read.now) }
+    ensures { ListsUntil tokens.now (F.post read.now) first text.now cursor.old cursor.new result }
 {
     let list = list_behind(alloc, read, tokens, cursor, first)?;
     cursor.symbol(tokens, text)?;

@@ -2,10 +2,10 @@
 
 ghost use Rattle.std.specs.Prelude.{◌≡◌, codes};
 ghost use Rattle.vast.specs.ModuleTrees.{item_tree};
-ghost use Rattle.vast.specs.Trees.{word_text};
-ghost use Rattle.vexpr_parse.specs.Readers.{got};
+ghost use Rattle.vast.specs.TokenTexts.{token_text};
+ghost use Rattle.vexpr_parse.specs.Texts.{words_of};
 ghost use Rattle.vstatement_parse.specs.Gives.{Gives, ReadsStatements};
-ghost use Rattle.vparse.specs.ModuleGives.{any_item, assignments_at, events_at, instances_at, instances_item, integers_at, listed_item, optional_local as local_reader, parameters_at, process_item, variables_at, variables_item};
+ghost use Rattle.vparse.specs.ModuleGives.{ReadsAt, any_item, assignments_at, events_at, instances_at, instances_item, integers_at, listed_item, optional_local as local_reader, parameters_at, process_item, variables_at, variables_item};
 ghost use Rattle.vparse.specs.TextReaders as reading;
 
 use crate::connections::{instances, overrides};
@@ -18,6 +18,7 @@ use vast::module::{DeclarationKind, ModuleItem, NetKind};
 use vast::statement::Statement;
 use vast::token::Token;
 use vexpr_parse::{Cursor, Stop};
+use vlex::Tokens;
 use vstatement_parse::words::named;
 
 // Behind `parameter` or `localparam`.
@@ -109,7 +110,7 @@ fn instances_of(
     cursor: &mut Cursor,
     taken: Token,
 ) -> Result<ModuleItem, OrMemory<Stop>>
-    ensures { Gives item_tree (instances_at (word_text taken.entry))
+    ensures { Gives item_tree (instances_at (token_text (words_of tokens.now) taken))
         tokens.now cursor.old cursor.new result }
 {
     let overrides = overrides(alloc, tokens, cursor)?;
@@ -202,9 +203,8 @@ fn variables_item<F: Fn(&mut Cursor) -> Result<Statement, OrMemory<Stop>>>(
 }
 
 // `parameter` or `localparam`, if one stands there: whether it is the latter.
-fn optional_local(tokens: &Tokens<'_>,
-    cursor: &mut Cursor) -> Option<bool>
-    ensures { local_reader cursor.old ≡ got result cursor.new }
+fn optional_local(tokens: &Tokens<'_>, cursor: &mut Cursor) -> Option<bool>
+    ensures { ReadsAt local_reader tokens.now cursor.old cursor.new result }
 {
     if cursor.begins(tokens, b"parameter") {
         cursor.pass(tokens);
@@ -236,16 +236,15 @@ fn any_item<F: Fn(&mut Cursor) -> Result<Statement, OrMemory<Stop>>>(
 }
 
 // The number of the token here; 0 where none is.
-fn number_here(tokens: &Tokens<'_>,
-    cursor: &Cursor) -> u32 {
+fn number_here(tokens: &Tokens<'_>, cursor: &Cursor) -> u32 {
     match cursor.word(tokens) {
-        Some(word) => word.at,
+        Some(word) => word.token.number,
         None => 0,
     }
 }
 
 /// An item of a module, where this reads statements.
-#[tactic(auto, using(crate::proofs::ModuleForms::gives_item))]
+#[tactic(auto, using(crate::proofs::ModuleForms::item_is))]
 pub fn item<F: Fn(&mut Cursor) -> Result<Statement, OrMemory<Stop>>>(
     alloc: Global,
     read: &F,

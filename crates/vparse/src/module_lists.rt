@@ -3,7 +3,7 @@
 ghost use Rattle.std.specs.Prelude.{◌≡◌, codes};
 ghost use Rattle.vast.specs.ExpressionTrees.{tree_of};
 ghost use Rattle.vast.specs.ModuleTrees.{declared_tree, setting_tree};
-ghost use Rattle.vast.specs.Trees.{word_text};
+ghost use Rattle.vast.specs.TokenTexts.{token_text};
 ghost use Rattle.vstatement_parse.specs.Gives.{Gives};
 ghost use Rattle.vparse.specs.ModuleGives.{all_of};
 ghost use Rattle.vparse.specs.TextReaders as reading;
@@ -19,11 +19,15 @@ use vast::expression::Expression;
 use vast::module::{Declared, Setting};
 use vast::token::Token;
 use vexpr_parse::{Cursor, Stop, expression};
+use vlex::Tokens;
 use vstatement_parse::words::named;
 
 // An expression that stands in no statement.
-fn value(alloc: Global, tokens: &Tokens<'_>,
-    cursor: &mut Cursor) -> Result<Expression, OrMemory<Stop>>
+fn value(
+    alloc: Global,
+    tokens: &Tokens<'_>,
+    cursor: &mut Cursor,
+) -> Result<Expression, OrMemory<Stop>>
     ensures { Gives tree_of reading.free_value tokens.now cursor.old cursor.new result }
 {
     Ok(expression(alloc, tokens, cursor, LEVELS)?.tree)
@@ -43,8 +47,10 @@ pub fn settings(
     list_until(
         alloc,
         &|cursor|
-            ensures { Gives setting_tree reading.setting tokens.now cursor.entry.now cursor.exit.now result }
+            ensures { Gives setting_tree reading.setting
+                tokens.entry.now cursor.entry.now cursor.exit.now result }
         { setting(alloc, tokens, cursor) },
+        tokens,
         cursor,
         first,
         b";",
@@ -65,8 +71,10 @@ pub fn all_declared(
     list_until(
         alloc,
         &|cursor|
-            ensures { Gives declared_tree reading.declared tokens.now cursor.entry.now cursor.exit.now result }
+            ensures { Gives declared_tree reading.declared
+                tokens.entry.now cursor.entry.now cursor.exit.now result }
         { declared(alloc, tokens, cursor) },
+        tokens,
         cursor,
         first,
         b";",
@@ -80,15 +88,17 @@ pub fn names(
     tokens: &Tokens<'_>,
     cursor: &mut Cursor,
 ) -> Result<Vec<Token>, OrMemory<Stop>>
-    ensures { Gives (all_of word_text) (all_until (codes ";") reading_words.named)
+    ensures { Gives (all_of token_text) (all_until (codes ";") reading_words.named)
         tokens.now cursor.old cursor.new result }
 {
     let first = named(tokens, cursor)?;
     list_until(
         alloc,
         &|cursor|
-            ensures { Gives word_text reading_words.named tokens.now cursor.entry.now cursor.exit.now result }
+            ensures { Gives token_text reading_words.named
+                tokens.entry.now cursor.entry.now cursor.exit.now result }
         { named(tokens, cursor) },
+        tokens,
         cursor,
         first,
         b";",
@@ -102,14 +112,17 @@ pub fn values(
     tokens: &Tokens<'_>,
     cursor: &mut Cursor,
 ) -> Result<Vec<Expression>, OrMemory<Stop>>
-    ensures { Gives (all_of tree_of) (all_until (codes ")") reading.free_value cursor.old) cursor.new result }
+    ensures { Gives (all_of tree_of) (all_until (codes ")") reading.free_value)
+        tokens.now cursor.old cursor.new result }
 {
     let first = value(alloc, tokens, cursor)?;
     list_until(
         alloc,
         &|cursor|
-            ensures { Gives tree_of reading.free_value tokens.now cursor.entry.now cursor.exit.now result }
+            ensures { Gives tree_of reading.free_value
+                tokens.entry.now cursor.entry.now cursor.exit.now result }
         { value(alloc, tokens, cursor) },
+        tokens,
         cursor,
         first,
         b")",

@@ -3,6 +3,7 @@
 ghost use Rattle.std.specs.Prelude.{◌≡◌, codes, not};
 ghost use Rattle.vast.specs.ModuleTrees.{item_tree, module_tree};
 ghost use Rattle.vexpr_parse.specs.Readers.{front, is_front};
+ghost use Rattle.vexpr_parse.specs.Answers.{ahead};
 ghost use Rattle.vstatement_parse.specs.Gives.{Gives, ReadsStatements};
 ghost use Rattle.vparse.specs.ModuleGives.{all_items, all_of, module_body, GivesHeaded, GivesWith};
 ghost use Rattle.vparse.specs.TextReaders as reading;
@@ -16,12 +17,12 @@ use vast::module::{HeadParameter, ModuleItem, ModuleTree, Port};
 use vast::statement::Statement;
 use vast::token::Token;
 use vexpr_parse::{Cursor, Stop};
+use vlex::Tokens;
 use vstatement_parse::words::named;
 
 // Whether the module goes on here.
-fn goes_on(tokens: &Tokens<'_>,
-    cursor: &Cursor) -> bool
-    ensures { result ≡ not (is_front (codes "endmodule") (front cursor.now)) }
+fn goes_on(tokens: &Tokens<'_>, cursor: &Cursor) -> bool
+    ensures { result ≡ not (is_front (codes "endmodule") (front (ahead tokens.now cursor.now))) }
 {
     !cursor.begins(tokens, b"endmodule")
 }
@@ -47,6 +48,7 @@ fn all_items<F: Fn(&mut Cursor) -> Result<Statement, OrMemory<Stop>>>(
 }
 
 // Items and `endmodule`, behind a semicolon.
+#[tactic(auto, using(crate::proofs::ListTurns::past_not))]
 fn module_body<F: Fn(&mut Cursor) -> Result<Statement, OrMemory<Stop>>>(
     alloc: Global,
     read: &F,
@@ -75,7 +77,8 @@ fn module_with<F: Fn(&mut Cursor) -> Result<Statement, OrMemory<Stop>>>(
 ) -> Result<ModuleTree, OrMemory<Stop>>
     requires callable { F.IsAlwaysCallable read.now }
     requires reads { ReadsStatements tokens.now 64 (F.post read.now) }
-    ensures { GivesWith name.entry parameters.entry ports.entry cursor.old cursor.new result }
+    ensures { GivesWith name parameters ports
+        tokens.now cursor.old cursor.new result }
 {
     let items = module_body(alloc, read, tokens, cursor)?;
     Ok(ModuleTree {
@@ -97,14 +100,15 @@ fn module_headed<F: Fn(&mut Cursor) -> Result<Statement, OrMemory<Stop>>>(
 ) -> Result<ModuleTree, OrMemory<Stop>>
     requires callable { F.IsAlwaysCallable read.now }
     requires reads { ReadsStatements tokens.now 64 (F.post read.now) }
-    ensures { GivesHeaded name.entry parameters.entry cursor.old cursor.new result }
+    ensures { GivesHeaded name parameters
+        tokens.now cursor.old cursor.new result }
 {
     let ports = optional_ports(alloc, tokens, cursor)?;
     module_with(alloc, read, tokens, cursor, name, parameters, ports)
 }
 
 /// A module, where this reads statements.
-#[tactic(auto, using(crate::proofs::ModuleForms::gives_module))]
+#[tactic(auto, using(crate::proofs::ModuleForms::module_is))]
 pub fn module_tree<F: Fn(&mut Cursor) -> Result<Statement, OrMemory<Stop>>>(
     alloc: Global,
     read: &F,

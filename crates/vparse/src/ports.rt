@@ -1,10 +1,11 @@
 // Ports of modules (IEEE 1364-2005, 12.3.3 and 12.3.4).
 
-ghost use Rattle.std.specs.Prelude.{◌≡◌, codes, option_map};
+ghost use Rattle.std.specs.Prelude.{◌≡◌, codes};
 ghost use Rattle.vast.specs.ModuleTrees.{direction_tree, port_tree};
-ghost use Rattle.vexpr_parse.specs.Readers.{front, got};
+ghost use Rattle.vexpr_parse.specs.Readers.{front};
+ghost use Rattle.vexpr_parse.specs.Answers.{ahead};
 ghost use Rattle.vstatement_parse.specs.Gives.{Gives};
-ghost use Rattle.vparse.specs.ModuleGives.{all_of, input_parts, optional_direction, optional_net as net_reader, optional_ports, output_parts, ports_in, some_ports};
+ghost use Rattle.vparse.specs.ModuleGives.{ReadsAt, all_of, input_parts, optional_direction, optional_net as net_reader, optional_of, optional_ports, output_parts, ports_in, some_ports};
 ghost use Rattle.vgrammar.specs.Modules as parts;
 ghost use Rattle.vparse.specs.TextReaders as reading;
 ghost use Rattle.vgrammar.specs.Parts.{made};
@@ -15,12 +16,12 @@ use basis::OrMemory;
 use std::alloc::Global;
 use vast::module::{Direction, NetKind, Port};
 use vexpr_parse::{Cursor, Stop};
+use vlex::Tokens;
 use vstatement_parse::words::named;
 
 /// `wire` or `reg`, if one stands there.
-pub fn optional_net(tokens: &Tokens<'_>,
-    cursor: &mut Cursor) -> Option<NetKind>
-    ensures { net_reader cursor.old ≡ got result cursor.new }
+pub fn optional_net(tokens: &Tokens<'_>, cursor: &mut Cursor) -> Option<NetKind>
+    ensures { ReadsAt net_reader tokens.now cursor.old cursor.new result }
 {
     if cursor.begins(tokens, b"wire") {
         cursor.pass(tokens);
@@ -34,8 +35,11 @@ pub fn optional_net(tokens: &Tokens<'_>,
 }
 
 // What stands behind `input`.
-fn input(alloc: Global, tokens: &Tokens<'_>,
-    cursor: &mut Cursor) -> Result<Direction, OrMemory<Stop>>
+fn input(
+    alloc: Global,
+    tokens: &Tokens<'_>,
+    cursor: &mut Cursor,
+) -> Result<Direction, OrMemory<Stop>>
     ensures { Gives direction_tree (made parts.direction_of input_parts)
         tokens.now cursor.old cursor.new result }
 {
@@ -45,8 +49,11 @@ fn input(alloc: Global, tokens: &Tokens<'_>,
 }
 
 // What stands behind `output`.
-fn output(alloc: Global, tokens: &Tokens<'_>,
-    cursor: &mut Cursor) -> Result<Direction, OrMemory<Stop>>
+fn output(
+    alloc: Global,
+    tokens: &Tokens<'_>,
+    cursor: &mut Cursor,
+) -> Result<Direction, OrMemory<Stop>>
     ensures { Gives direction_tree (made parts.direction_of output_parts)
         tokens.now cursor.old cursor.new result }
 {
@@ -72,9 +79,8 @@ fn direction(
 }
 
 // Whether a direction begins here.
-fn is_direction(tokens: &Tokens<'_>,
-    cursor: &Cursor) -> bool
-    ensures { result ≡ parts.is_direction (front cursor.now) }
+fn is_direction(tokens: &Tokens<'_>, cursor: &Cursor) -> bool
+    ensures { result ≡ parts.is_direction (front (ahead tokens.now cursor.now)) }
 {
     cursor.begins(tokens, b"input") || cursor.begins(tokens, b"output")
 }
@@ -85,7 +91,7 @@ fn optional_direction(
     tokens: &Tokens<'_>,
     cursor: &mut Cursor,
 ) -> Result<Option<Direction>, OrMemory<Stop>>
-    ensures { Gives (option_map direction_tree) optional_direction
+    ensures { Gives (optional_of direction_tree) optional_direction
         tokens.now cursor.old cursor.new result }
 {
     if is_direction(tokens, cursor) {
@@ -96,8 +102,11 @@ fn optional_direction(
 }
 
 // A port with its direction.
-fn first_port(alloc: Global, tokens: &Tokens<'_>,
-    cursor: &mut Cursor) -> Result<Port, OrMemory<Stop>>
+fn first_port(
+    alloc: Global,
+    tokens: &Tokens<'_>,
+    cursor: &mut Cursor,
+) -> Result<Port, OrMemory<Stop>>
     ensures { Gives port_tree reading.first_port tokens.now cursor.old cursor.new result }
 {
     let direction = direction(alloc, tokens, cursor)?;
@@ -109,8 +118,7 @@ fn first_port(alloc: Global, tokens: &Tokens<'_>,
 }
 
 // A port behind a comma.
-fn port(alloc: Global, tokens: &Tokens<'_>,
-    cursor: &mut Cursor) -> Result<Port, OrMemory<Stop>>
+fn port(alloc: Global, tokens: &Tokens<'_>, cursor: &mut Cursor) -> Result<Port, OrMemory<Stop>>
     ensures { Gives port_tree reading.port tokens.now cursor.old cursor.new result }
 {
     let direction = optional_direction(alloc, tokens, cursor)?;
@@ -119,6 +127,7 @@ fn port(alloc: Global, tokens: &Tokens<'_>,
 }
 
 // One port or more, up to `)`.
+#[tactic(auto, using(crate::proofs::ListKinds::port_fewer))]
 fn some_ports(
     alloc: Global,
     tokens: &Tokens<'_>,
@@ -130,8 +139,10 @@ fn some_ports(
     list_until(
         alloc,
         &|cursor|
-            ensures { Gives port_tree reading.port tokens.now cursor.entry.now cursor.exit.now result }
+            ensures { Gives port_tree reading.port
+                tokens.entry.now cursor.entry.now cursor.exit.now result }
         { port(alloc, tokens, cursor) },
+        tokens,
         cursor,
         first,
         b")",
@@ -139,8 +150,11 @@ fn some_ports(
 }
 
 // What stands behind the first parenthesis.
-fn ports_in(alloc: Global, tokens: &Tokens<'_>,
-    cursor: &mut Cursor) -> Result<Vec<Port>, OrMemory<Stop>>
+fn ports_in(
+    alloc: Global,
+    tokens: &Tokens<'_>,
+    cursor: &mut Cursor,
+) -> Result<Vec<Port>, OrMemory<Stop>>
     ensures { Gives (all_of port_tree) ports_in tokens.now cursor.old cursor.new result }
 {
     if cursor.begins(tokens, b")") {
@@ -152,9 +166,12 @@ fn ports_in(alloc: Global, tokens: &Tokens<'_>,
 }
 
 // Ports in parentheses.
-#[tactic(auto, using(crate::proofs::ModuleForms::gives_ports))]
-fn ports(alloc: Global, tokens: &Tokens<'_>,
-    cursor: &mut Cursor) -> Result<Vec<Port>, OrMemory<Stop>>
+#[tactic(auto, using(crate::proofs::ModuleForms::ports_is))]
+fn ports(
+    alloc: Global,
+    tokens: &Tokens<'_>,
+    cursor: &mut Cursor,
+) -> Result<Vec<Port>, OrMemory<Stop>>
     ensures { Gives (all_of port_tree) reading.ports tokens.now cursor.old cursor.new result }
 {
     cursor.symbol(tokens, b"(")?;
@@ -167,7 +184,7 @@ pub fn optional_ports(
     tokens: &Tokens<'_>,
     cursor: &mut Cursor,
 ) -> Result<Option<Vec<Port>>, OrMemory<Stop>>
-    ensures { Gives (option_map (all_of port_tree)) optional_ports
+    ensures { Gives (optional_of (all_of port_tree)) optional_ports
         tokens.now cursor.old cursor.new result }
 {
     if cursor.begins(tokens, b"(") {

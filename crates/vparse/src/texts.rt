@@ -2,31 +2,35 @@
 
 ghost use Rattle.std.specs.Prelude.{◌≡◌, slice_get, IfOk};
 ghost use Rattle.basis.specs.Reasons.{IfFault};
+ghost use Rattle.vast.specs.StatementTrees.{statement_tree};
 ghost use Rattle.vast.specs.ModuleTrees.{module_tree, source_tree};
 ghost use Rattle.vast.specs.Modules.{DerivesText};
 ghost use Rattle.vexpr_parse.specs.Readers.{front, stop};
+ghost use Rattle.vexpr_parse.specs.Answers.{ahead};
 ghost use Rattle.vexpr_parse.specs.Texts.{words_of};
 ghost use Rattle.vstatement_parse.specs.Gives.{Gives, ReadsStatements};
 ghost use Rattle.vparse.specs.ModuleGives.{all_of};
 ghost use Rattle.vparse.specs.Profile.{is_any_outside};
 ghost use Rattle.vparse.specs.Refusals.{HasNoText, IsOnlyText, IsRefusal};
 ghost use Rattle.vgrammar.specs.Modules.{is_some_word};
+ghost use Rattle.vgrammar.specs.Statements as statements;
 ghost use Rattle.vparse.specs.TextReaders.{source};
 
 use crate::fault::SyntaxFault;
 use crate::module_trees::module_tree;
 use crate::profile::is_outside;
+use crate::types::LEVELS;
 use basis::OrMemory;
 use std::alloc::Global;
 use vast::module::{ModuleTree, TextTree};
 use vast::statement::Statement;
 use vexpr_parse::{Cursor, Stop};
 use vlex::Tokens;
+use vstatement_parse::statement;
 
 // Whether a word is left.
-fn is_left(tokens: &Tokens<'_>,
-    cursor: &Cursor) -> bool
-    ensures { result ≡ is_some_word (front cursor.now) }
+fn is_left(tokens: &Tokens<'_>, cursor: &Cursor) -> bool
+    ensures { result ≡ is_some_word (front (ahead tokens.now cursor.now)) }
 {
     match cursor.word(tokens) {
         None => false,
@@ -34,9 +38,9 @@ fn is_left(tokens: &Tokens<'_>,
     }
 }
 
-/// The modules of a text, to its end, where this reads statements.
+// The modules of a text, to its end, where this reads statements.
 #[tactic(auto, using(crate::proofs::ItemTurns::source_is, crate::proofs::ItemTurns::modules_stopped, crate::proofs::ItemTurns::modules_ended))]
-pub fn source<F: Fn(&mut Cursor) -> Result<Statement, OrMemory<Stop>>>(
+fn source<F: Fn(&mut Cursor) -> Result<Statement, OrMemory<Stop>>>(
     alloc: Global,
     read: &F,
     tokens: &Tokens<'_>,
@@ -66,12 +70,11 @@ fn stands_outside(tokens: &Tokens<'_>, at: usize) -> bool
 }
 
 // What is wrong at the word where reading stopped.
-fn fault(tokens: &Tokens<'_>, tokens: &Tokens<'_>,
-    cursor: &Cursor, why: Stop) -> SyntaxFault
-    requires { source (words_of tokens.now) ≡ stop why cursor.now }
+fn fault(tokens: &Tokens<'_>, cursor: &Cursor, why: Stop) -> SyntaxFault
+    requires { source (words_of tokens.now) ≡ stop why (ahead tokens.now cursor.now) }
     ensures { IsRefusal tokens.now result }
 {
-    let at = tokens.len().saturating_sub(cursor.left());
+    let at = tokens.len().saturating_sub(cursor.left(tokens));
     let place = tokens.place(at);
     match why {
         Stop::TooDeep => SyntaxFault::TooDeep { place },
@@ -85,27 +88,47 @@ fn fault(tokens: &Tokens<'_>, tokens: &Tokens<'_>,
     }
 }
 
-/// The tree of the tokens, where this reads statements: the one that derives their words (IEEE 1364-2005, annex A;
-/// docs/LANGUAGE.md, "Grammar"). The first token whose word can't follow those before it decides of the fault: E202
-/// where the word stands outside the profile, else E203 where it would stand inside more than 64 levels, else E201.
-/// E901 where a growth was refused.
+// The tree of the tokens, where this reads statements.
 #[tactic(auto, using(crate::proofs::RefusalLaws::text_none, crate::proofs::RefusalLaws::text_stopped))]
-pub fn text<F: Fn(&mut Cursor) -> Result<Statement, OrMemory<Stop>>>(
+fn text<F: Fn(&mut Cursor) -> Result<Statement, OrMemory<Stop>>>(
     alloc: Global,
     read: &F,
-    tokens: &Tokens<'a>,
+    tokens: &Tokens<'_>,
 ) -> Result<TextTree, OrMemory<SyntaxFault>>
     requires callable { F.IsAlwaysCallable read.now }
     requires reads { ReadsStatements tokens.now 64 (F.post read.now) }
-    ensures derives { IfOk result (λ text. DerivesText (words_of tokens.now) (source_tree text)) }
-    ensures only { IfOk result (λ text. IsOnlyText (words_of tokens.now) (source_tree text)) }
+    ensures derives { IfOk result (λ text. DerivesText (words_of tokens.now)
+        (source_tree (words_of tokens.now) text)) }
+    ensures only { IfOk result (λ text. IsOnlyText (words_of tokens.now)
+        (source_tree (words_of tokens.now) text)) }
     ensures none { IfFault result (λ fault. HasNoText (words_of tokens.now)) }
     ensures reason { IfFault result (λ fault. IsRefusal tokens.now fault) }
 {
-    let mut cursor = Cursor::new(tokens);
-    match source(alloc, read, &mut cursor) {
+    let mut cursor = Cursor::start();
+    match source(alloc, read, tokens, &mut cursor) {
         Ok(modules) => Ok(TextTree { modules }),
         Err(OrMemory::Fault(why)) => Err(OrMemory::Fault(fault(tokens, &cursor, why))),
         Err(OrMemory::Memory(refused)) => Err(OrMemory::Memory(refused)),
     }
+}
+
+/// The tree of the tokens: the one that derives their words (IEEE 1364-2005, annex A; docs/LANGUAGE.md, "Grammar"). The
+/// first token whose word can't follow those before it decides of the fault: E202 where the word stands outside the
+/// profile, else E203 where it would stand inside more than 64 levels, else E201. E901 where a growth was refused.
+pub fn parse_whole(alloc: Global, tokens: &Tokens<'_>) -> Result<TextTree, OrMemory<SyntaxFault>>
+    ensures derives { IfOk result (λ text. DerivesText (words_of tokens.now)
+        (source_tree (words_of tokens.now) text)) }
+    ensures only { IfOk result (λ text. IsOnlyText (words_of tokens.now)
+        (source_tree (words_of tokens.now) text)) }
+    ensures none { IfFault result (λ fault. HasNoText (words_of tokens.now)) }
+    ensures reason { IfFault result (λ fault. IsRefusal tokens.now fault) }
+{
+    text(
+        alloc,
+        &|cursor|
+            ensures { Gives statement_tree (statements.statement 64)
+                tokens.entry.now cursor.entry.now cursor.exit.now result }
+        { statement(alloc, tokens, cursor, LEVELS) },
+        tokens,
+    )
 }

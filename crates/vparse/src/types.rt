@@ -1,22 +1,22 @@
 // Types of parameters, ports, nets and variables (IEEE 1364-2005, 4.2, 4.3 and 4.10).
 
-ghost use Rattle.std.specs.Prelude.{◌≡◌, ◌<◌, codes, option_map};
+ghost use Rattle.std.specs.Prelude.{◌≡◌, ◌<◌, codes};
 ghost use Rattle.vast.specs.ModuleTrees.{range_tree, type_tree, parameter_type};
 ghost use Rattle.vstatement_parse.specs.Gives.{Gives};
-ghost use Rattle.vparse.specs.ModuleGives.{Tells, optional_range};
+ghost use Rattle.vparse.specs.ModuleGives.{TellsAt, optional_of, optional_range};
 ghost use Rattle.vparse.specs.TextReaders as reading;
 
 use basis::OrMemory;
 use std::alloc::Global;
 use vast::module::{Bounds, ParameterType, SignAndRange};
 use vexpr_parse::{Cursor, Stop};
+use vlex::Tokens;
 use vstatement_parse::values::{ended, value};
 
 /// How deep expressions and statements nest in a module (docs/LANGUAGE.md, "Depth").
 pub const LEVELS: u32 = 64;
 
-fn range(alloc: Global, tokens: &Tokens<'_>,
-    cursor: &mut Cursor) -> Result<Bounds, OrMemory<Stop>>
+fn range(alloc: Global, tokens: &Tokens<'_>, cursor: &mut Cursor) -> Result<Bounds, OrMemory<Stop>>
     ensures { Gives range_tree reading.range tokens.now cursor.old cursor.new result }
 {
     cursor.symbol(tokens, b"[")?;
@@ -31,7 +31,8 @@ fn optional_range(
     tokens: &Tokens<'_>,
     cursor: &mut Cursor,
 ) -> Result<Option<Bounds>, OrMemory<Stop>>
-    ensures { Gives (option_map range_tree) optional_range tokens.now cursor.old cursor.new result }
+    ensures { Gives (optional_of range_tree) optional_range
+        tokens.now cursor.old cursor.new result }
 {
     if cursor.begins(tokens, b"[") {
         Ok(Some(range(alloc, tokens, cursor)?))
@@ -41,9 +42,8 @@ fn optional_range(
 }
 
 /// Whether this very word stands here, which is passed then.
-pub fn optional(tokens: &Tokens<'_>,
-    cursor: &mut Cursor, text: &[u8]) -> bool
-    ensures { Tells text.now cursor.old cursor.new result }
+pub fn optional(tokens: &Tokens<'_>, cursor: &mut Cursor, text: &[u8]) -> bool
+    ensures { TellsAt tokens.now text.now cursor.old cursor.new result }
 {
     if cursor.begins(tokens, text) {
         cursor.pass(tokens);

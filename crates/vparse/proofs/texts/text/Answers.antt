@@ -1,11 +1,14 @@
+use Rattle.vexpr_parse.specs.Answers.{ahead}
 use Rattle.vexpr_parse.specs.Texts.{words_of}
 use Rattle.vparse.proofs.RefusalLaws.{text_derives, text_only}
 use Rattle.vparse.proofs.texts.text.Goals as goal
 
 pub returns-in-Ok-clause-derives : goal.returns-in-Ok-clause-derives
 returns-in-Ok-clause-derives g c =
-    text_derives (words_of c.args.tokens.now) _ c.source.new.cursor c.new-cursor.ensures c.in-Ok.modules c.in-Ok.ensures
+    text_derives (words_of c.args.tokens.now) _ (ahead c.args.tokens.now c.source.new.cursor) (c.start-cursor.ensures c.args.tokens.now)
+    c.in-Ok.modules c.in-Ok.ensures
 
 pub returns-in-Ok-clause-only : goal.returns-in-Ok-clause-only
 returns-in-Ok-clause-only g c =
-    text_only (words_of c.args.tokens.now) _ c.source.new.cursor c.new-cursor.ensures c.in-Ok.modules c.in-Ok.ensures
+    text_only (words_of c.args.tokens.now) _ (ahead c.args.tokens.now c.source.new.cursor) (c.start-cursor.ensures c.args.tokens.now)
+    c.in-Ok.modules c.in-Ok.ensures
