@@ -1,13 +1,4 @@
-pub mod Cursors
-pub mod ReaderLaws
-pub mod ReadingLaws
-pub mod SourceLaws
-pub mod Turns
-pub mod Fewer
-pub mod StatementLaws
-pub mod ParseLaws
-pub mod LevelLaws
-pub mod WordLaws
+mod WordLaws
 mod ListTurns
 mod ListKinds
 mod ModuleForms

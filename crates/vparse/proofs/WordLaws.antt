@@ -19,7 +19,6 @@ use Rattle.vast.specs.Syntax.{Text}
 use Rattle.std.specs.Char.{is_ascii_digit}
 use Rattle.vast.specs.Words.{is_name, is_number, begins_name, is_in_name, is_reserved}
 use Rattle.vparse.specs.Words.{TellsNumber, TellsName}
-use Rattle.vparse.proofs.ReadingLaws.{no_digit}
 
 abbrev is_numeric : TokenKind → Bool
 is_numeric Plain = true
@@ -48,6 +47,9 @@ word_in_name c = grind (arith, nat_tests)
 words_in_name : (cs : List ℕ) → list_all (is_in Words) cs ≡ list_all is_in_name cs
 words_in_name [] = refl
 words_in_name (c ∷ cs) = ap (λ b. b && list_all (is_in Words) cs) (word_in_name c) ∙ ap (λ b. is_in_name c && b) (words_in_name cs)
+
+no_digit : (c : ℕ) → begins_name c ≡ true → (is_ascii_digit c || (c == 39)) ≡ false
+no_digit c e = grind (arith, nat_tests)
 
 digit_no_letter : (c : ℕ) → is_ascii_digit c ≡ true → begins_name c ≡ false
 digit_no_letter c e = grind (arith, nat_tests)

@@ -1,13 +1,8 @@
--- The words of a text, as its tokens stand, and what they tell.
-use Rattle.std.specs.Prelude.{◌≡◌, ◌⊎◌, ◌↔◌, IsTrue, false, List, map}
+-- What the words of a text's tokens tell.
+use Rattle.std.specs.Prelude.{◌≡◌, ◌⊎◌, ◌↔◌, IsTrue, false}
 use Rattle.vlex.specs.declared.kind.TokenKind.TheVariants.{Name, Plain, Based}
 use Rattle.vlex.specs.Lexed.{Piece}
-use Rattle.vlex.specs.Tokenized.{Tokenized, pieces_of}
-use Rattle.vast.specs.Syntax.{Text}
 use Rattle.vast.specs.Words.{is_number, is_name, is_reserved}
-
-abbrev pub words_of : Tokenized → List Text
-words_of tokens = map (λ piece. piece.text) (pieces_of tokens)
 
 -- a token's word is a number exactly where its kind is one of numbers (3.5.1)
 abbrev pub TellsNumber : Piece → Type 0

@@ -1,28 +1,20 @@
-// Tokens to trees. In: the words of a text, as its tokens stand. Out: the tree that derives them, or why
-// there is none. The law: reading by descent gives a tree exactly where one derives the words, and there
-// is no other.
+// Tokens to trees. In: the tokens of a text. Out: the tree that derives their words (IEEE 1364-2005, annex A), or where it is
+// refused. The law: the tree is the only one, and a refusal stands at the first word that can't follow those before it.
 #![tactic(auto)]
 
-pub mod beginning;
-pub mod connections;
-mod cursor;
-pub mod declarations;
+mod connections;
+mod declarations;
 mod fault;
-pub mod heads;
-mod items;
+mod heads;
 pub mod law;
-pub mod lists;
-pub mod module_items;
-pub mod module_lists;
-pub mod module_trees;
-mod modules;
-mod parser;
-pub mod ports;
+mod lists;
+mod module_items;
+mod module_lists;
+mod module_trees;
+mod ports;
 pub mod profile;
-mod statements;
-mod stop;
-pub mod texts;
-pub mod types;
+mod texts;
+mod types;
 
 pub use fault::SyntaxFault;
-pub use parser::parse;
+pub use texts::parse;

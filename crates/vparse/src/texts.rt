@@ -113,9 +113,10 @@ fn text<F: Fn(&mut Cursor) -> Result<Statement, OrMemory<Stop>>>(
 }
 
 /// The tree of the tokens: the one that derives their words (IEEE 1364-2005, annex A; docs/LANGUAGE.md, "Grammar"). The
-/// first token whose word can't follow those before it decides of the fault: E202 where the word stands outside the
-/// profile, else E203 where it would stand inside more than 64 levels, else E201. E901 where a growth was refused.
-pub fn parse_whole(alloc: Global, tokens: &Tokens<'_>) -> Result<TextTree, OrMemory<SyntaxFault>>
+/// first token whose word can't follow those before it, or the text's end, decides of the fault: E203 where it could with
+/// more than 64 levels, else E202 where the word stands outside the profile, and E201 where it doesn't. E901 where a
+/// growth was refused.
+pub fn parse(alloc: Global, tokens: &Tokens<'_>) -> Result<TextTree, OrMemory<SyntaxFault>>
     ensures derives { IfOk result (λ text. DerivesText (words_of tokens.now)
         (source_tree (words_of tokens.now) text)) }
     ensures only { IfOk result (λ text. IsOnlyText (words_of tokens.now)

@@ -1,7 +1,0 @@
-use Rattle.std.proofs.Common.{drop, ap, ◌∙◌}
-use Rattle.vparse.specs.Words.{words_of}
-use Rattle.basis.proofs.Lists.{passed}
-use Rattle.vparse.proofs.cursor.Cursor.pass.Goals as goal
-
-pub returns : goal.returns
-returns c = passed c.self.inside.at (words_of c.self.inside.tokens.now) ∙ ap (drop 1) c.self.view_is
