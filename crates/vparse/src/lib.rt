@@ -4,25 +4,26 @@
 #![tactic(auto)]
 
 pub mod beginning;
-pub mod connections;
+mod connections;
 mod cursor;
-pub mod declarations;
+mod declarations;
 mod fault;
-pub mod heads;
+mod heads;
 mod items;
 pub mod law;
-pub mod lists;
-pub mod module_items;
-pub mod module_lists;
-pub mod module_trees;
+mod lists;
+mod module_items;
+mod module_lists;
+mod module_trees;
 mod modules;
 mod parser;
-pub mod ports;
+mod ports;
 pub mod profile;
 mod statements;
 mod stop;
-pub mod texts;
-pub mod types;
+mod texts;
+mod types;
 
 pub use fault::SyntaxFault;
 pub use parser::parse;
+pub use texts::parse_whole;
