@@ -1,9 +1,7 @@
 -- Two explorations of the same files are of one setting.
 use Rattle.std.proofs.Common.{◌≡◌, ℕ, List, Option, sym, subst, ◌∙◌}
-use Rattle.statebook.specs.declared.limits.Limits.{Limits}
 use Rattle.vsrc.specs.Expansion.{expanded_text, expanded_timescale}
 use Rattle.vmodel.specs.Run.{Setting}
-use Rattle.report_text.specs.Report.{Report}
 use Rattle.vreport.specs.Agreement.{ExhaustedAgree}
 use Rattle.vreport.specs.Reports.{IsExploration}
 use Rattle.vrace.specs.Asked.{Asked}

@@ -11,7 +11,7 @@ use Rattle.report_check.specs.declared.check.FirstBad.{FirstBad}
 use Rattle.report_check.specs.declared.check.FirstBad.TheVariants as bad
 use Rattle.vrace.specs.Checks.{Checked, HasNoSetting, IsCheckReason, IsFalseAt, IsReportReason, IsTrueText, setting_by}
 use Rattle.vrace.specs.Refusals.{IsOfMemory}
-use Rattle.vrace.specs.Replays.{IsDesignOf, IsDesignOfFiles}
+use Rattle.vrace.specs.Replays.{IsDesignOfFiles}
 use Rattle.vrace.specs.declared.fault.Fault.{Fault}
 use Rattle.vrace.specs.declared.fault.Fault.TheVariants.{NotEnded, BadToken, Directive, NoMacro, Growth, LeftOpen, Timescales, NoTree, Outside, TooDeep, NotYet, NoTop, Doubled, Unknown, Width, TooMany, BadLog, NoSuchChoice, TooManySteps, OutOfLimit, BadReport, FalseEnd, FalseRace, FalseHead, Memory, Write, Read, TooLong}
 use Rattle.vrace.proofs.LawLemmas.{Laws, not_for_design, one_design_of}

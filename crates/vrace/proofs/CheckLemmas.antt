@@ -6,10 +6,9 @@ use Rattle.vreport.specs.Truth.{IsTrueReport}
 use Rattle.report_check.specs.FirstBad.{IsFirstBad}
 use Rattle.report_check.specs.declared.check.FirstBad.{FirstBad}
 use Rattle.report_check.specs.declared.check.FirstBad.TheVariants.{Head, End as BadEnd, Race as BadRace}
-use Rattle.vsrc.specs.Expansion.{expanded_text, expanded_timescale}
 use Rattle.vast.specs.Design.{Design}
 use Rattle.vmodel.specs.declared.history.Grain.{Grain}
-use Rattle.vrace.specs.Replays.{AreRead, IsDesignOf, IsDesignOfFiles}
+use Rattle.vrace.specs.Replays.{AreRead, IsDesignOfFiles}
 use Rattle.vmodel.specs.Run.{Setting}
 use Rattle.vrace.specs.Checks.{IsCheckReason, IsMachineOf, IsReportReason, IsTrueText, fault_by}
 use Rattle.vrace.specs.declared.fault.Fault.{Fault}

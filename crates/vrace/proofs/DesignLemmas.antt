@@ -1,10 +1,9 @@
 -- A rule that what runs of the only tree of a text breaks leaves the text without a design.
-use Rattle.std.proofs.Common.{◌≡◌, inr, ℕ, List, Option, Some, None, Result, Ok, Err, IfErr, refl, sym, ap, subst, ◌∙◌}
+use Rattle.std.proofs.Common.{◌≡◌, inr, ℕ, List, Option, Some, None, Result, Ok, Err, IfErr, sym, ap, subst, ◌∙◌}
 use Rattle.vsrc.specs.Source.{Source}
 use Rattle.vsrc.specs.Expansion.{expansion}
 use Rattle.vsrc.specs.declared.fault.SrcFault.{SrcFault}
 use Rattle.vlex.specs.Tokenized.{Tokenized, pieces_of}
-use Rattle.vlex.specs.Lexed.{Piece}
 use Rattle.vast.specs.Syntax as small
 use Rattle.vast.specs.Modules.{SourceTree, DerivesText}
 use Rattle.vexpr_parse.specs.Texts.{words_of}
@@ -40,7 +39,7 @@ pub not_run : (text : List ℕ) (tree : SourceTree) (top : Option (List ℕ)) �
     IsDesignless text top × IsNotRun text
 not_run text tree top read none = (
   (λ scale design is.
-    let clash : Some is.running ≡ None = sym is.runs ∙ ap runnable (read.only is.tree is.is_tree) ∙ none in cc),
+      let clash : Some is.running ≡ None = sym is.runs ∙ ap runnable (read.only is.tree is.is_tree) ∙ none in cc),
   (tree, read.is_tree, none),
 )
 
@@ -48,9 +47,9 @@ pub breaks : (text : List ℕ) (running : small.SourceTree) (top : Option (List 
     IsDesignReason running top fault → HasNoDesign running top → Breaks text top fault
 breaks text running top fault run reason none = (
   (λ scale design is.
-    let same : is.running ≡ running =
-        some_is is.running running (sym is.runs ∙ ap runnable (run.is_read.only is.tree is.is_tree) ∙ run.runs) in
-    none scale design (subst (λ t. Elaborates t top scale design) same is.elaborated)),
+      let same : is.running ≡ running =
+      some_is is.running running (sym is.runs ∙ ap runnable (run.is_read.only is.tree is.is_tree) ∙ run.runs) in
+      none scale design (subst (λ t. Elaborates t top scale design) same is.elaborated)),
   record { tree = run.tree; is_tree = run.is_read.is_tree; running = running; runs = run.runs; broken = reason },
 )
 

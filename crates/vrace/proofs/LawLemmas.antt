@@ -1,12 +1,11 @@
 -- One text, one replay: from the laws of each layer.
-use Rattle.std.proofs.Common.{◌≡◌, ℕ, List, [], Option, None, Some, Result, Ok, Err, true, false, inl, inr, sym, ap, subst, ◌∙◌, arith, true≢false}
+use Rattle.std.proofs.Common.{◌≡◌, ℕ, List, Option, Some, Ok, Err, inl, inr, sym, ap, subst, ◌∙◌, arith}
 use Rattle.vsrc.specs.Source.{Source}
 use Rattle.basis.specs.declared.timescale.Timescale.{Timescale}
 use Rattle.vsrc.specs.Expansion.{expansion, text_of, expanded_text, expanded_timescale}
 use Rattle.vsrc.specs.declared.fault.SrcFault.{SrcFault}
 use Rattle.vlex.specs.Laws.{CutsOneWay}
 use Rattle.vast.specs.Syntax.{Text}
-use Rattle.vast.specs.Syntax as small
 use Rattle.vast.specs.Modules.{SourceTree, DerivesText}
 use Rattle.vast.specs.Design.{Design}
 use Rattle.vgrammar.specs.SourcePlaces.{IsOnly}
@@ -29,13 +28,6 @@ pub record Laws : Type 0 where
   pub one_tree : IsOnly
   pub one_design : ElaboratesOneWay
   pub one_log : OneLogForText
-
-abbrev read_of : Result Source SrcFault → Source → Source
-read_of (Ok source) other = source
-read_of (Err fault) other = other
-
-same_ok : (s t : Source) (r : Result Source SrcFault) → r ≡ Ok s → r ≡ Ok t → s ≡ t
-same_ok s t r e f = ap (λ (q : Result Source SrcFault). read_of q s) (sym e ∙ f)
 
 some_is : {A : Type 0} (x y : A) → Some x ≡ Some y → x ≡ y
 some_is x y e = cc

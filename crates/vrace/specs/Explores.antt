@@ -23,7 +23,7 @@ use Rattle.vreport.specs.Reports.{HasOutcome, IsExploration}
 use Rattle.vreport.specs.Written.{AreDumps}
 use Rattle.vrace.specs.Asked.{Asked}
 use Rattle.vrace.specs.Refusals.{IsDesignFault, IsOfWriting}
-use Rattle.vrace.specs.Replays.{AreRead, IsDesignOf, IsDesignOfFiles}
+use Rattle.vrace.specs.Replays.{AreRead, IsDesignOfFiles}
 use Rattle.vrace.specs.RunDumps.{fault_of}
 use Rattle.vrace.specs.declared.exploring.Status.{Status}
 use Rattle.vrace.specs.declared.exploring.Status.TheVariants.{NoRace, Raced, Cut}

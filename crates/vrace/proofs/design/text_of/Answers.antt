@@ -1,1 +1,0 @@
-use Rattle.vrace.proofs.design.text_of.Goals as goal
