@@ -4,11 +4,12 @@
 Usage: benches/replay/measure.py [PATH_OF_vrace_program]
 
 Reading: ordinary text of many modules, of which the top does nothing, so that text, tokens and tree are all that costs; the
-difference between a long text and a short one. Refusals: texts of one piece repeated, which is as bad as a text can be. Steps: one
-process of many assignments, blocking or all posted at one time, and no dump. Dumps: one process that waits 1 and changes a bit, and the
-same without `$dumpvars`; the difference is the dump. Status 1 where a byte read costs more than 400 instructions, a byte of
-blanks more than 100, twice the steps more than 2.2 times, a byte written more than 150, or a byte of text more than 60 bytes
-of memory at the peak.
+difference between a long text and a short one. The same of modules with constructs of the whole grammar, which are read and then
+refused as not run yet (E299), and with a string left open at their end, so that they are cut into tokens alone (E101). Refusals: texts
+of one piece repeated, which is as bad as a text can be. Steps: one process of many assignments, blocking or all posted at one time, and
+no dump. Dumps: one process that waits 1 and changes a bit, and the same without `$dumpvars`; the difference is the dump. Status 1 where a
+byte read costs more than 400 instructions, a byte cut into tokens more than 150, twice the steps more than 2.2 times, a byte written
+more than 150, or a byte of text more than 60 bytes of memory at the peak.
 """
 import sys
 from pathlib import Path
@@ -24,8 +25,34 @@ endmodule
 """
 
 
+# A unit with constructs of the whole grammar: read to the end, and then E299 for the first of them.
+WHOLE = """module counter_%d #(parameter WIDTH = 8) (input wire clock, input wire reset, output reg [WIDTH - 1:0] count);
+  reg [7:0] shadow; // a copy that is one step behind
+  wire wraps = count == {WIDTH{1'b1}} && !reset;
+  always @(posedge clock or posedge reset)
+    if (reset) count <= 0;
+    else begin
+      shadow <= count;
+      case (count[1:0])
+        2'b00, 2'b01: count <= count + 1;
+        default: count <= (count << 1) ^ (wraps ? 8'h1D : 8'h00);
+      endcase
+    end
+  initial begin
+    $dumpvars;
+    repeat (10) @(negedge clock) if (shadow > count) $display("at %%d: %%h", $time, count);
+    #100 $finish;
+  end
+endmodule
+"""
+
+
+def of_units(unit, count):
+    return ("module tb; endmodule\n" + "".join(unit % i for i in range(count))).encode()
+
+
 def ordinary(count):
-    return ("module tb; endmodule\n" + "".join(UNIT % i for i in range(count))).encode()
+    return of_units(UNIT, count)
 
 
 def assignments(count, statement):
@@ -51,7 +78,12 @@ def main():
 
     tb = ["replay", "--top", "tb"]
     say("instructions a byte of ordinary text", per_byte(ordinary(500), ordinary(5500), tb), 400)
-    say("instructions a byte of blanks", per_byte(b" " * 100_000, b" " * 2_100_000, tb), 100)
+    say("instructions a byte of text of the whole grammar", per_byte(of_units(WHOLE, 200), of_units(WHOLE, 2200), tb), 400)
+    text = of_units(WHOLE, 2200)
+    say("bytes of memory a byte of it", peak_bytes(program, tb, text) / len(text), 60)
+    cut = [of_units(WHOLE, count) + b'"' for count in (200, 2200)]
+    say("instructions a byte of it, up to its tokens", per_byte(*cut, tb), 150)
+    say("instructions a byte of blanks", per_byte(b" " * 100_000, b" " * 2_100_000, tb), 150)
     for name, piece in (("quotes", b'""'), ("line feeds", b"\n"), ("slashes with blanks", b"/ "), ("parentheses", b"(")):
         short, long = (piece * (count // len(piece)) for count in (100_000, 2_100_000))
         print(f"instructions a byte of {name}, refused: {per_byte(short, long, tb):.1f}")
