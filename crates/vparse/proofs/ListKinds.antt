@@ -67,26 +67,34 @@ port_eats = sound_eats port (port_shape 63) (port_phrase 63).sound (λ tree v. l
 pub value_eats : Eats free_value
 value_eats = sound_eats free_value (Free 63) (free_phrase_value 63).sound (λ tree v. value_worded 64 tree v)
 
-pub setting_fewer : (text words left : List Text) (one : Setting) → setting words ≡ got (setting_tree text one) left → length left ≤ length words
+pub setting_fewer : (text words left : List Text) (one : Setting) → setting words ≡ got (setting_tree text one) left →
+    length left ≤ length words
 setting_fewer text words left one e = no_more_words setting setting_eats words left (setting_tree text one) e
 
-pub declared_fewer : (text words left : List Text) (one : Declared) → declared words ≡ got (declared_tree text one) left → length left ≤ length words
+pub declared_fewer : (text words left : List Text) (one : Declared) → declared words ≡ got (declared_tree text one) left →
+    length left ≤ length words
 declared_fewer text words left one e = no_more_words declared declared_eats words left (declared_tree text one) e
 
-pub named_fewer : (text words left : List Text) (one : Token) → named words ≡ got (token_text text one) left → length left ≤ length words
+pub named_fewer : (text words left : List Text) (one : Token) → named words ≡ got (token_text text one) left →
+    length left ≤ length words
 named_fewer text words left one e = no_more_words named named_eats words left (token_text text one) e
 
-pub value_fewer : (text words left : List Text) (one : Expression) → free_value words ≡ got (tree_of text one) left → length left ≤ length words
+pub value_fewer : (text words left : List Text) (one : Expression) → free_value words ≡ got (tree_of text one) left →
+    length left ≤ length words
 value_fewer text words left one e = no_more_words free_value value_eats words left (tree_of text one) e
 
-pub connection_fewer : (text words left : List Text) (one : Connection) → connection words ≡ got (connection_tree text one) left → length left ≤ length words
+pub connection_fewer : (text words left : List Text) (one : Connection) → connection words ≡ got (connection_tree text one) left →
+    length left ≤ length words
 connection_fewer text words left one e = no_more_words connection connection_eats words left (connection_tree text one) e
 
-pub instance_fewer : (text words left : List Text) (one : Instance) → instance_behind words ≡ got (instance_tree text one) left → length left ≤ length words
+pub instance_fewer : (text words left : List Text) (one : Instance) → instance_behind words ≡ got (instance_tree text one) left →
+    length left ≤ length words
 instance_fewer text words left one e = no_more_words instance_behind instance_eats words left (instance_tree text one) e
 
-pub head_fewer : (text words left : List Text) (one : HeadParameter) → head_parameter words ≡ got (head_tree text one) left → length left ≤ length words
+pub head_fewer : (text words left : List Text) (one : HeadParameter) → head_parameter words ≡ got (head_tree text one) left →
+    length left ≤ length words
 head_fewer text words left one e = no_more_words head_parameter head_eats words left (head_tree text one) e
 
-pub port_fewer : (text words left : List Text) (one : Port) → port words ≡ got (port_tree text one) left → length left ≤ length words
+pub port_fewer : (text words left : List Text) (one : Port) → port words ≡ got (port_tree text one) left →
+    length left ≤ length words
 port_fewer text words left one e = no_more_words port port_eats words left (port_tree text one) e

@@ -1,5 +1,5 @@
 -- Lists with commas: from the calls that read their members to what the definitions read.
-use Rattle.std.proofs.Common.{◌≡◌, ℕ, ◌<◌, ◌≤◌, inl, inr, Bool, true, false, List, [], ◌∷◌, ◌++◌, codes, length, drop, map, Vec, Result, Ok, Err, refl, sym, ap, ◌∙◌, arith, subst, append_assoc}
+use Rattle.std.proofs.Common.{◌≡◌, inl, inr, Bool, true, false, List, [], ◌∷◌, ◌++◌, codes, drop, map, Vec, Result, Ok, Err, refl, sym, ap, ◌∙◌, subst, append_assoc}
 use Rattle.std.proofs.lemmas.List.{map-append, append-nil}
 use Rattle.std.specs.Str.{bytes_eq}
 use Rattle.std.specs.Borrow.{MutBor}
@@ -15,12 +15,13 @@ use Rattle.vexpr_parse.proofs.ReaderRules.{Eats, chosen, passed_over, text_same}
 use Rattle.vexpr_parse.specs.Answers.{ahead}
 use Rattle.vexpr_parse.specs.Texts.{words_of}
 use Rattle.vstatement_parse.specs.Gives.{Answered, Gives}
-use Rattle.vparse.specs.ModuleGives.{Calls, IsCall, NeverMore, ReadBehind, IsReached, IsListed, IsBroken, ListedUntil, ListsUntil, ReadsAs, all_of}
+use Rattle.vparse.specs.ModuleGives.{Calls, IsCall, ReadBehind, IsReached, IsListed, IsBroken, ListedUntil, ListsUntil, ReadsAs, all_of}
 use Rattle.vgrammar.proofs.ManyTurns.{goes_on, one_more, stopped_at, no_more, behind_word, past_eats_too}
 use Rattle.vgrammar.specs.Lists.{all_until, rest_until}
 
 module _ {T : Type 0} (tokens : Tokenized) (call : Calls T) where
-  behind_all : (more : List T) (words between : List Text) (one : T) (left : List Text) → ReadBehind tokens call more words between →
+  behind_all : (more : List T) (words between : List Text) (one : T) (left : List Text) →
+      ReadBehind tokens call more words between →
       is_front (codes ",") (front between) ≡ true → IsCall tokens call (drop 1 between) (Ok one) left →
       ReadBehind tokens call (more ++ one ∷ []) words left
   behind_all [] words between one left e comma is =
@@ -28,8 +29,9 @@ module _ {T : Type 0} (tokens : Tokenized) (call : Calls T) where
   behind_all (first ∷ more) words between one left read comma is =
       (read.0, read.1, read.2, behind_all more read.0 between one left read.3 comma is)
 
-  pub one_listed : (first : T) (words here between left : List Text) (list after : List T) (one : T) (old new : MutBor Cursor) (seen : Bool) →
-      IsReached tokens call first words here list → seen ≡ is_front (codes ",") (front here) → seen ≡ true → between ≡ drop 1 here →
+  pub one_listed : (first : T) (words here between left : List Text) (list after : List T) (one : T) (old new : MutBor Cursor)
+      (seen : Bool) → IsReached tokens call first words here list → seen ≡ is_front (codes ",") (front here) → seen ≡ true →
+      between ≡ drop 1 here →
       after ≡ list ++ one ∷ [] → ahead tokens old.now ≡ between → ahead tokens new.now ≡ left → call old (Ok one) new →
       IsReached tokens call first words left after
   one_listed first words here between left list after one old new seen r is here_is passed whole before behind told = record {
@@ -40,21 +42,12 @@ module _ {T : Type 0} (tokens : Tokenized) (call : Calls T) where
   }
 
 -- so of a call whatever its words are called
-call_gives : {T A : Type 0} (view : List Text → T → A) (one : Reader A) (tokens : Tokenized) (call : Calls T) → ReadsAs view one tokens call →
-    (words left : List Text) (result : Result T (OrMemory Stop)) → IsCall tokens call words result left →
+call_gives : {T A : Type 0} (view : List Text → T → A) (one : Reader A) (tokens : Tokenized) (call : Calls T) →
+    ReadsAs view one tokens call → (words left : List Text) (result : Result T (OrMemory Stop)) → IsCall tokens call words result left →
     Answered (view (words_of tokens)) (one words) left result
 call_gives view one tokens call reads words left result c =
     subst (λ ws. Answered (view (words_of tokens)) (one ws) left result) c.before
     (subst (λ ws. Answered (view (words_of tokens)) (one (ahead tokens c.old.now)) ws result) c.behind (reads c.old c.new result c.is))
-
-pub never_more : {T A : Type 0} (view : List Text → T → A) (one : Reader A) → Eats one → (tokens : Tokenized) (call : Calls T) →
-    ReadsAs view one tokens call → NeverMore tokens call
-never_more view one eats tokens call reads old new tree told =
-    weaker (length (ahead tokens new.now)) (length (ahead tokens old.now))
-    (eats (ahead tokens old.now) (view (words_of tokens) tree) (ahead tokens new.now) (reads old new (Ok tree) told))
-  where
-    weaker : (a b : ℕ) → a < b → a ≤ b
-    weaker a b e = omega arith
 
 -- behind this very word, where it stands first, and where it doesn't
 past_it : {A : Type 0} (text : Text) (read : Reader A) (left : List Text) → past text read (text ∷ left) ≡ read left

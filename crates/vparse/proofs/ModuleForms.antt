@@ -5,7 +5,6 @@ use Rattle.vast.specs.Syntax.{Text}
 use Rattle.vast.specs.Statements.{StatementTree}
 use Rattle.vast.specs.Expressions.{ExpressionTree}
 use Rattle.vast.specs.Modules.{HeadParameter, SettingTree, DeclaredTree, ConnectionTree, ConnectionsTree, initial, always, PortTree, by_order, by_name, ItemTree, parameters, declaration, variables, integers, events, assignments, instances, ModuleTree}
-use Rattle.vexpr_parse.specs.declared.stop.Stop.{Stop}
 use Rattle.vexpr_parse.specs.Readers.{Answer, got, stop, Reader, front, is_front, and_then, past, follow, goes, refused, choose}
 use Rattle.vgrammar.specs.Parts.{Both, both, Either, one_way, other_way, made, paired, worded, many, maybe, either}
 use Rattle.vgrammar.specs.Starts.{is_meant}

@@ -59,7 +59,8 @@ abbrev pub Calls : Type 0 → Type 1
 Calls T = MutBor Cursor → Result T (OrMemory Stop) → MutBor Cursor → Type 0
 
 -- one of these calls, by the words that are left of these tokens before it and behind it
-pub record IsCall {T : Type 0} (tokens : Tokenized) (call : Calls T) (words : List Text) (result : Result T (OrMemory Stop)) (left : List Text) : Type 0 where
+pub record IsCall {T : Type 0} (tokens : Tokenized) (call : Calls T) (words : List Text)
+    (result : Result T (OrMemory Stop)) (left : List Text) : Type 0 where
   pub old : MutBor Cursor
   pub new : MutBor Cursor
   pub before : ahead tokens old.now ≡ words
@@ -69,59 +70,69 @@ pub record IsCall {T : Type 0} (tokens : Tokenized) (call : Calls T) (words : Li
 -- no call that gives something leaves more words than it found
 abbrev pub NeverMore : {T : Type 0} → Tokenized → Calls T → Type 0
 NeverMore {T = T} tokens call =
-    (old new : MutBor Cursor) (one : T) → call old (Ok one) new → length (ahead tokens new.now) ≤ length (ahead tokens old.now)
+    (old new : MutBor Cursor) (one : T) → call old (Ok one) new →
+    length (ahead tokens new.now) ≤ length (ahead tokens old.now)
 
 -- these were read behind a comma each
 abbrev pub ReadBehind : {T : Type 0} → Tokenized → Calls T → List T → List Text → List Text → Type 0
 ReadBehind tokens call [] words left = left ≡ words
 ReadBehind tokens call (one ∷ more) words left =
-    (between : List Text) × (is_front (codes ",") (front words) ≡ true) × IsCall tokens call (drop 1 words) (Ok one) between
-    × ReadBehind tokens call more between left
+    (between : List Text) × (is_front (codes ",") (front words) ≡ true)
+    × IsCall tokens call (drop 1 words) (Ok one) between × ReadBehind tokens call more between left
 
 -- the first one, and those that were read behind it
-pub record IsReached {T : Type 0} (tokens : Tokenized) (call : Calls T) (first : T) (words left : List Text) (list : List T) : Type 0 where
+pub record IsReached {T : Type 0} (tokens : Tokenized) (call : Calls T) (first : T) (words left : List Text)
+    (list : List T) : Type 0 where
   pub more : List T
   pub whole : list ≡ first ∷ more
   pub read : ReadBehind tokens call more words left
 
-pub record IsListed {T : Type 0} (tokens : Tokenized) (call : Calls T) (first : T) (words left : List Text) (list : List T) : Type 0 where
+pub record IsListed {T : Type 0} (tokens : Tokenized) (call : Calls T) (first : T) (words left : List Text)
+    (list : List T) : Type 0 where
   pub reached : IsReached tokens call first words left list
   pub ended : is_front (codes ",") (front left) ≡ false
 
 -- behind some of them a call stopped
-pub record IsBroken {T : Type 0} (tokens : Tokenized) (call : Calls T) (first : T) (words left : List Text) (why : Stop) : Type 0 where
+pub record IsBroken {T : Type 0} (tokens : Tokenized) (call : Calls T) (first : T) (words left : List Text)
+    (why : Stop) : Type 0 where
   pub list : List T
   pub between : List Text
   pub reached : IsReached tokens call first words between list
   pub comma : is_front (codes ",") (front between) ≡ true
   pub stopped : IsCall tokens call (drop 1 between) (Err (Fault why)) left
 
-abbrev pub Listed : {T R : Type 0} → Tokenized → Calls T → T → List Text → List Text → Result (Vec T R) (OrMemory Stop) → Type 0
+abbrev pub Listed : {T R : Type 0} → Tokenized → Calls T → T → List Text → List Text →
+    Result (Vec T R) (OrMemory Stop) → Type 0
 Listed tokens call first words left (Ok all) = IsListed tokens call first words left all.items
 Listed tokens call first words left (Err e) = Because (IsBroken tokens call first words left) e
 
-abbrev pub Lists : {T R : Type 0} → Tokenized → Calls T → T → Cursor → Cursor → Result (Vec T R) (OrMemory Stop) → Type 0
+abbrev pub Lists : {T R : Type 0} → Tokenized → Calls T → T → Cursor → Cursor →
+    Result (Vec T R) (OrMemory Stop) → Type 0
 Lists tokens call first old new = Listed tokens call first (ahead tokens old) (ahead tokens new)
 
 -- behind all of them another word stands than the one that ends them
-pub record IsUnended {T : Type 0} (tokens : Tokenized) (call : Calls T) (first : T) (text : Text) (words left : List Text) (why : Stop) : Type 0 where
+pub record IsUnended {T : Type 0} (tokens : Tokenized) (call : Calls T) (first : T) (text : Text)
+    (words left : List Text) (why : Stop) : Type 0 where
   pub list : List T
   pub listed : IsListed tokens call first words left list
   pub other : is_front text (front left) ≡ false
   pub none : why ≡ NoTree
 
 -- so up to this very word, which is passed
-abbrev pub ListedUntil : {T R : Type 0} → Tokenized → Calls T → T → Text → List Text → List Text → Result (Vec T R) (OrMemory Stop) → Type 0
+abbrev pub ListedUntil : {T R : Type 0} → Tokenized → Calls T → T → Text → List Text → List Text →
+    Result (Vec T R) (OrMemory Stop) → Type 0
 ListedUntil tokens call first text words left (Ok all) = IsListed tokens call first words (text ∷ left) all.items
 ListedUntil tokens call first text words left (Err e) =
     Because (λ why. IsBroken tokens call first words left why ⊎ IsUnended tokens call first text words left why) e
 
-abbrev pub ListsUntil : {T R : Type 0} → Tokenized → Calls T → T → Text → Cursor → Cursor → Result (Vec T R) (OrMemory Stop) → Type 0
+abbrev pub ListsUntil : {T R : Type 0} → Tokenized → Calls T → T → Text → Cursor → Cursor →
+    Result (Vec T R) (OrMemory Stop) → Type 0
 ListsUntil tokens call first text old new = ListedUntil tokens call first text (ahead tokens old) (ahead tokens new)
 
 -- each call reads as this definition does
 abbrev pub ReadsAs : {A T : Type 0} → (List Text → T → A) → Reader A → Tokenized → Calls T → Type 0
-ReadsAs {T = T} view one tokens call = (old new : MutBor Cursor) (result : Result T (OrMemory Stop)) → call old result new →
+ReadsAs {T = T} view one tokens call =
+    (old new : MutBor Cursor) (result : Result T (OrMemory Stop)) → call old result new →
     Gives view one tokens old.now new.now result
 
 -- the trees of what stands in a list, and of what may be left out
@@ -256,12 +267,15 @@ abbrev pub module_at : Reader ModuleTree
 module_at = past (codes "module") (λ words. and_then (named words) module_named)
 
 -- a module is given, where the program has these parts of it in hand
-abbrev pub GivesHeaded : {R : Type 0} → Token → Option (Vec HeadWords R) → Tokenized → Cursor → Cursor → Result ModuleWords (OrMemory Stop) → Type 0
-GivesHeaded name heads tokens =
-    Gives tree_of_module (module_headed (token_text (words_of tokens) name) (optional_of (all_of head_tree) (words_of tokens) heads)) tokens
-
-abbrev pub GivesWith : {R S : Type 0} → Token → Option (Vec HeadWords R) → Option (Vec Port S) → Tokenized → Cursor → Cursor →
+abbrev pub GivesHeaded : {R : Type 0} → Token → Option (Vec HeadWords R) → Tokenized → Cursor → Cursor →
     Result ModuleWords (OrMemory Stop) → Type 0
+GivesHeaded name heads tokens =
+    Gives tree_of_module
+    (module_headed (token_text (words_of tokens) name) (optional_of (all_of head_tree) (words_of tokens) heads))
+    tokens
+
+abbrev pub GivesWith : {R S : Type 0} → Token → Option (Vec HeadWords R) → Option (Vec Port S) → Tokenized → Cursor →
+    Cursor → Result ModuleWords (OrMemory Stop) → Type 0
 GivesWith name heads list tokens =
     Gives tree_of_module
     (module_with (token_text (words_of tokens) name) (optional_of (all_of head_tree) (words_of tokens) heads)

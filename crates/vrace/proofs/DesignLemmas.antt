@@ -2,6 +2,7 @@
 use Rattle.std.proofs.Common.{◌≡◌, inr, ℕ, List, Option, Some, None, Result, Ok, Err, IfErr, refl, sym, ap, subst, ◌∙◌}
 use Rattle.vsrc.specs.Source.{Source}
 use Rattle.vsrc.specs.Expansion.{expansion}
+use Rattle.vsrc.specs.declared.fault.SrcFault.{SrcFault}
 use Rattle.vlex.specs.Tokenized.{Tokenized, pieces_of}
 use Rattle.vlex.specs.Lexed.{Piece}
 use Rattle.vast.specs.Syntax as small
@@ -53,8 +54,12 @@ breaks text running top fault run reason none = (
   record { tree = run.tree; is_tree = run.is_read.is_tree; running = running; runs = run.runs; broken = reason },
 )
 
-same_source : (one other : Source) → Ok one ≡ Ok other → one ≡ other
-same_source one other e = cc
+abbrev source_in : Source → Result Source SrcFault → Source
+source_in other (Ok source) = source
+source_in other (Err fault) = other
+
+same_source : (one other : Source) (r : Result Source SrcFault) → r ≡ Ok one → r ≡ Ok other → one ≡ other
+same_source one other r e f = ap (source_in one) (sym e ∙ f)
 
 -- a fault of the text that the files make is one of the design
 pub err_of_text : {T : Type 0} (r : Result T Fault) (files : List (List ℕ)) (source : Source) (top : Option (List ℕ)) → AreRead files →
@@ -62,4 +67,4 @@ pub err_of_text : {T : Type 0} (r : Result T Fault) (files : List (List ℕ)) (s
     IfErr r (IsTextReason source top) → IfErr r (IsDesignFault files top)
 err_of_text (Ok x) files source top read is reason = tt
 err_of_text (Err fault) files source top read is reason =
-    inr (read, subst (λ t. IsTextReason t top fault) (same_source source read.source (sym is ∙ read.expanded)) reason)
+    inr (read, subst (λ t. IsTextReason t top fault) (same_source source read.source (expansion files) is read.expanded) reason)

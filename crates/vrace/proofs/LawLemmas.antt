@@ -46,11 +46,11 @@ module _ (laws : Laws) (files : List (List ℕ)) (read : AreRead files) where
   expands fault refused = let clash : Ok read.source ≡ Err fault = sym read.expanded ∙ refused in cc
 
   not_for_files : (fault : Fault) → IsFileReason files fault → IsOfMemory fault
-  not_for_files (Directive at) (within, (place, refused, told)) = absurd (expands _ refused)
-  not_for_files (NoMacro at) (within, (place, refused, told)) = absurd (expands _ refused)
-  not_for_files (Growth at) (within, (place, refused, told)) = absurd (expands _ refused)
-  not_for_files (LeftOpen at) (within, (place, refused, told)) = absurd (expands _ refused)
-  not_for_files (Timescales at) (within, (place, refused, told)) = absurd (expands _ refused)
+  not_for_files (Directive at) (within, (place, told, refused)) = absurd (expands _ refused)
+  not_for_files (NoMacro at) (within, (place, told, refused)) = absurd (expands _ refused)
+  not_for_files (Growth at) (within, (place, told, refused)) = absurd (expands _ refused)
+  not_for_files (LeftOpen at) (within, (place, told, refused)) = absurd (expands _ refused)
+  not_for_files (Timescales at) (within, (place, told, refused)) = absurd (expands _ refused)
   not_for_files (Memory m) r = tt
   not_for_files TooLong r = absurd (omega (arith, r, read.within))
   not_for_files (NotEnded at) r = absurd r

@@ -143,7 +143,3 @@ pub gives_up : (text : List Text) (levels : ℕ) (words left : List Text) (resul
     Answered (statement_tree text) (statement_at (levels - 1) words) left result → Answered (statement_tree text) (statement levels words) left result
 gives_up text levels words left result some given =
     subst (λ a. Answered (statement_tree text) a left result) (sym (up levels words some)) given
-
-pub gives_low : (levels : ℕ) (words : List Text) (why : Stop) → levels ≡ 0 → statement 0 words ≡ stop why words →
-    statement levels words ≡ stop why words
-gives_low levels words why e is = subst (λ n. statement n words ≡ stop why words) (sym e) is

@@ -1,6 +1,7 @@
 -- What the code that reads targets goes on from.
 use Rattle.std.proofs.Common.{◌≡◌, ◌≢◌, ℕ, zero, suc, ◌-◌, ◌<◌, arith, length, map, Bool, true, false, List, [], ◌∷◌, ◌++◌, drop, codes, Vec, Global, Result, refl, sym, ap, subst, ◌∙◌}
 use Rattle.vast.specs.Syntax.{Text}
+use Rattle.vast.specs.Words.{is_name}
 use Rattle.std.proofs.lemmas.List.{map-append}
 use Rattle.vast.specs.Statements.{TargetTree, whole, bit, part, joined, first, spell_target}
 use Rattle.vast.specs.StatementTrees.{target_tree, target_row}
@@ -9,10 +10,10 @@ use mathlib.Core.Former.{Count}
 use Rattle.basis.specs.declared.memory.OrMemory.{OrMemory}
 use Rattle.vexpr_parse.specs.declared.stop.Stop.{Stop}
 use Rattle.vexpr_parse.specs.declared.stop.Stop.TheVariants.{NoTree, TooDeep}
-use Rattle.vexpr_parse.specs.Readers.{Answer, got, stop, Reader, past, refused, lower, and_then, follow, front, is_front}
+use Rattle.vexpr_parse.specs.Readers.{Answer, got, stop, Reader, past, goes, refused, lower, and_then, follow, front, is_front}
 use Rattle.vexpr_parse.proofs.ReaderRules.{Eats, chosen, passed_over}
 use Rattle.vgrammar.specs.Starts.{begins_target}
-use Rattle.vgrammar.specs.Statements.{target, targets_in, joined_of, joined_targets}
+use Rattle.vgrammar.specs.Statements.{target, named_target, targets_in, joined_of, joined_targets}
 use Rattle.vstatement_parse.specs.Gives.{Answered, target_at, targets_from, targets_within, in_braces}
 use Rattle.vgrammar.proofs.Phrases.{Worded, sound_eats}
 use Rattle.vgrammar.proofs.TargetPhrases.{target_shape, target_phrase}
@@ -58,8 +59,18 @@ pub gives_up : (text : List Text) (levels : ℕ) (words left : List Text) (resul
 gives_up text levels words left result some given =
     subst (λ a. Answered (target_tree text) a left result) (sym (up levels words some)) given
 
-pub gives_low : (levels : ℕ) (words : List Text) (why : Stop) → levels ≡ 0 → target 0 words ≡ stop why words → target levels words ≡ stop why words
-gives_low levels words why e is = subst (λ n. target n words ≡ stop why words) (sym e) is
+-- what a name begins
+
+pub gives_named : (text : List Text) (below : ℕ) (words after left : List Text) (word letters : Text) (seen : Bool)
+    (result : Result Target (OrMemory Stop)) →
+    words ≡ word ∷ drop 1 words → letters ≡ word → seen ≡ is_name word → seen ≡ true → after ≡ drop 1 words →
+    Answered (target_tree text) (named_target below letters after) left result → Answered (target_tree text) (target_at below words) left result
+gives_named text below words after left word letters seen result here same is met passed given =
+    subst (λ a. Answered (target_tree text) a left result)
+    (ap (λ l. named_target below l after) same ∙ ap (named_target below word) passed
+    ∙ sym (ap (target_at below) here
+    ∙ ap (λ l. follow l word (drop 1 words)) (chosen (is_name word) (goes (named_target below word)) _ (sym is ∙ met))))
+    given
 
 -- the loop over targets behind commas
 

@@ -6,5 +6,6 @@ use Rattle.vparse.proofs.heads.heads_in.Goals as goal
 
 pub returns : goal.returns
 returns c =
-    behind_given head_tree head_parameter head_eats c.args.tokens.now _ (λ old new result e. e) first_parameter _ c.in_ok-first.first c.args.cursor.now c.first_parameter.new.cursor
+    behind_given head_tree head_parameter head_eats c.args.tokens.now _ (λ old new result e. e)
+    first_parameter _ c.in_ok-first.first c.args.cursor.now c.first_parameter.new.cursor
     c.list_until.new.cursor c.list_until.result c.in_ok-first.ensures c.list_until.ensures

@@ -1,12 +1,7 @@
 use Rattle.vexpr_parse.specs.Texts.{words_of}
 use Rattle.vexpr_parse.specs.Answers.{ahead}
-use Rattle.vstatement_parse.proofs.TargetTurns.{gives_low, gives_up}
+use Rattle.vstatement_parse.proofs.TargetTurns.{gives_up}
 use Rattle.vstatement_parse.proofs.targets.+targets.Goals as goal
-
-pub returns-then-levels-eq0 : goal.returns-then-levels-eq0
-returns-then-levels-eq0 t c =
-    let left = ahead c.args.tokens.now in
-    gives_low c.args.levels (left c.args.cursor.now) c.no_level.result c.if-levels-eq0.true c.no_level.ensures
 
 pub returns : goal.returns
 returns t c =

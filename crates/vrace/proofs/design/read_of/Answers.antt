@@ -1,0 +1,4 @@
+use Rattle.vrace.proofs.design.read_of.Goals as goal
+
+pub returns-clause-err : goal.returns-clause-err
+returns-clause-err c = λ source top cut. c.running_of.ensures.err source top (c.in-Ok.ensures.ok source cut)
