@@ -152,7 +152,7 @@ class Expander:
         raw = self.pass_by(r"(?:[^\n]*\\(?:\n|\Z))*[^\n]*")[0]
         line = self.line
         joined = re.sub(r"\\(\n|\Z)", r"\1", raw)
-        self.macros[name] = self.without_comments(joined.lstrip(" \t\r\f\n"))
+        self.macros[name] = self.without_comments(joined.lstrip(" \t\r\f"))
         self.line = line + raw.count("\n")
 
     def without_comments(self, text):
@@ -674,20 +674,44 @@ def spelled_assignment(sign, target, delay, value):
     return [*spelled(target), sign, *([] if delay == "-" else ["#", *spelled(delay)]), *spelled(value), ";"]
 
 
-def select(name, *bounds):
+def joined(trees):
+    return [word for tree in trees for word in spelled(tree)]
+
+
+def selected(name, *bounds):
     return [name, "[", *between(":", map(spelled, bounds)), "]"]
 
 
-def named(name, *rest):
-    return [name, *(word for part in rest for word in spelled(part))]
+def guarded(word):
+    return lambda value, *rest: [word, *enclosed(spelled(value)), *joined(rest)]
+
+
+def cased(word):
+    return lambda *parts: [*guarded(word)(*parts), "endcase"]
+
+
+def printing(word):
+    return lambda *arguments: [word, *(enclosed(commas(arguments)) if arguments else [])]
+
+
+def ending(word):
+    return lambda number: [word, *([] if number == "-" else ["(", number, ")"])]
+
+
+def setting_list(word):
+    return lambda kind, *settings: [word, *spelled(kind), *commas(settings), ";"]
+
+
+def alone(word):
+    return [word]
 
 
 SPELLINGS = {
-    "number": lambda digits: [digits],
-    "name": lambda name: [name],
+    "number": alone,
+    "name": alone,
     "time": lambda: ["$time"],
-    "bit": select,
-    "part": select,
+    "bit": selected,
+    "part": selected,
     "parentheses": lambda inner: enclosed(spelled(inner)),
     "concatenation": lambda *parts: ["{", *commas(parts), "}"],
     "replication": lambda count, *parts: ["{", *spelled(count), "{", *commas(parts), "}", "}"],
@@ -697,49 +721,49 @@ SPELLINGS = {
     "binary": lambda operator, left, right: [*spelled(left), operator, *spelled(right)],
     "conditional": lambda condition, one, other: [*spelled(condition), "?", *spelled(one), ":", *spelled(other)],
     # what statements hold
-    "whole": lambda name: [name],
+    "whole": alone,
     "joined": lambda *targets: ["{", *commas(targets), "}"],
-    "delay-number": lambda digits: [digits],
-    "delay-name": lambda name: [name],
+    "delay-number": alone,
+    "delay-name": alone,
     "delay-value": lambda amount: enclosed(spelled(amount)),
-    "named": lambda name: [name],
+    "named": alone,
     "any": lambda: ["*"],
     "any-enclosed": lambda: ["(", "*", ")"],
-    "terms": lambda *terms: enclosed(word for term in terms for word in spelled(term)),
-    "change": lambda name: [name],
+    "terms": lambda *terms: enclosed(joined(terms)),
+    "change": alone,
     "posedge": lambda name: ["posedge", name],
     "negedge": lambda name: ["negedge", name],
     "comma": lambda term: [",", *spelled(term)],
     "or": lambda term: ["or", *spelled(term)],
-    "string": lambda letters: [letters],
+    "string": alone,
     "path": lambda *names: between(".", [[name] for name in names]),
-    "display": lambda *arguments: ["$display", *(enclosed(commas(arguments)) if arguments else [])],
-    "strobe": lambda *arguments: ["$strobe", *(enclosed(commas(arguments)) if arguments else [])],
-    "monitor": lambda *arguments: ["$monitor", *enclosed(commas(arguments))],
+    "display": printing("$display"),
+    "strobe": printing("$strobe"),
+    "monitor": printing("$monitor"),
     "dumpfile": lambda letters: ["$dumpfile", "(", letters, ")"],
     "dumpvars": lambda *parts: ["$dumpvars", *(enclosed(between(",", [[parts[0]], *map(spelled, parts[1:])])) if parts else [])],
     "dumpon": lambda: ["$dumpon"],
     "dumpoff": lambda: ["$dumpoff"],
     "dumpall": lambda: ["$dumpall"],
     "dumpflush": lambda: ["$dumpflush"],
-    "finish": lambda number: ["$finish", *([] if number == "-" else ["(", number, ")"])],
-    "stop": lambda number: ["$stop", *([] if number == "-" else ["(", number, ")"])],
+    "finish": ending("$finish"),
+    "stop": ending("$stop"),
     # statements
     "empty": lambda: [";"],
-    "block": lambda *statements: named("begin", *statements) + ["end"],
+    "block": lambda *statements: ["begin", *joined(statements), "end"],
     "assign": lambda *parts: spelled_assignment("=", *parts),
     "nonblocking": lambda *parts: spelled_assignment("<=", *parts),
     "trigger": lambda name: ["->", name, ";"],
-    "if": lambda condition, body: ["if", *enclosed(spelled(condition)), *spelled(body)],
-    "if-else": lambda condition, body, other: ["if", *enclosed(spelled(condition)), *spelled(body), "else", *spelled(other)],
-    "case": lambda value, *branches: ["case", *enclosed(spelled(value)), *named("", *branches)[1:], "endcase"],
-    "casez": lambda value, *branches: ["casez", *enclosed(spelled(value)), *named("", *branches)[1:], "endcase"],
-    "casex": lambda value, *branches: ["casex", *enclosed(spelled(value)), *named("", *branches)[1:], "endcase"],
+    "if": guarded("if"),
+    "if-else": lambda condition, body, other: [*guarded("if")(condition, body), "else", *spelled(other)],
+    "case": cased("case"),
+    "casez": cased("casez"),
+    "casex": cased("casex"),
     "labelled": lambda labels, body: [*commas(labels[1:]), ":", *spelled(body)],
     "default": lambda colon, body: ["default", *([":"] if colon == "colon" else []), *spelled(body)],
-    "while": lambda condition, body: ["while", *enclosed(spelled(condition)), *spelled(body)],
-    "repeat": lambda count, body: ["repeat", *enclosed(spelled(count)), *spelled(body)],
-    "wait": lambda condition, body: ["wait", *enclosed(spelled(condition)), *spelled(body)],
+    "while": guarded("while"),
+    "repeat": guarded("repeat"),
+    "wait": guarded("wait"),
     "forever": lambda body: ["forever", *spelled(body)],
     "for": lambda target, value, condition, next_target, next_value, body: [
         "for", *enclosed([*setting(target, value), ";", *spelled(condition), ";", *setting(next_target, next_value)]), *spelled(body)],
@@ -763,9 +787,9 @@ SPELLINGS = {
     "connection": lambda name, value: [".", name, *enclosed(unless_absent(value))],
     "by-order": lambda *values: enclosed(commas(values)),
     "by-name": lambda *connections: enclosed(commas(connections)),
-    "instance": named,
-    "parameter": lambda kind, *settings: ["parameter", *spelled(kind), *commas(settings), ";"],
-    "localparam": lambda kind, *settings: ["localparam", *spelled(kind), *commas(settings), ";"],
+    "instance": lambda name, connections: [name, *spelled(connections)],
+    "parameter": setting_list("parameter"),
+    "localparam": setting_list("localparam"),
     "declare": lambda kind, *declared: [*spelled(kind), *commas(declared), ";"],
     "events": lambda *names: ["event", *between(",", [[name] for name in names]), ";"],
     "assigns": lambda *settings: ["assign", *commas(settings), ";"],
@@ -774,8 +798,8 @@ SPELLINGS = {
     "instances": lambda name, overrides, *instances: [
         name, *([] if overrides == "-" else ["#", *spelled(overrides)]), *commas(instances), ";"],
     "module": lambda name, heads, ports, *items: [
-        "module", name, *unless_absent(heads), *unless_absent(ports), ";", *named("", *items)[1:], "endmodule"],
-    "text": lambda *modules: named("", *modules)[1:],
+        "module", name, *unless_absent(heads), *unless_absent(ports), ";", *joined(items), "endmodule"],
+    "text": lambda *modules: joined(modules),
 }
 
 
@@ -961,14 +985,13 @@ class Maker:
         return ("if-else", parts[0], ("empty",), self.statement(*other)) if other[1] or not body[1] else ("if", *parts)
 
     def statement(self, depth, deep=False):
-        kinds = ["empty", "block", "task"] if depth == 1 else (
-            ["empty", "trigger"] * (not deep or depth == 2) + ["block"] * 2 + ["assign"] * 4 + ["if", "if-else"] * 2 + ["case", "while", "repeat", "wait"]
-            + ["forever", "for", "delayed", "on-event", "task", "task"])
+        kinds = ["empty", "block", "task"]
+        if depth > 1:
+            kinds = "block block assign assign assign assign if if if-else if-else case while repeat wait forever for delayed on-event task task".split()
+            kinds += ["empty"] * (not deep) + ["trigger"] * (not deep or depth == 2)
         kind = self.rng.choice(kinds)
-        if deep and depth > 1 and kind in ("empty", "block") and self.chance(0.5):
-            kind = "block"
         if kind in ("empty", "trigger"):
-            return ("trigger", self.name()) if kind == "trigger" else self.empty(depth, deep)
+            return ("trigger", self.name()) if kind == "trigger" else ("empty",)
         if kind == "block":
             rooms = self.within(depth, self.rng.randint(1, 3) if deep else self.rng.randint(0, 3), deep) if depth > 1 else []
             return (kind, *(self.statement(*room) for room in rooms))
@@ -986,9 +1009,6 @@ class Maker:
             wait, body = self.within(depth, 2, deep)
             return kind, self.delay(*wait), self.statement(*body)
         return (kind, *([self.event()] if kind == "on-event" else []), self.statement(depth - 1, deep))
-
-    def empty(self, depth, deep):
-        return ("block", self.statement(depth - 1, deep)) if deep and depth > 1 else ("empty",)
 
     # modules
 

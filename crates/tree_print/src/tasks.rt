@@ -45,10 +45,10 @@ fn targets(page: &mut Page<'_>, list: &[Target]) -> Result<(), NoMemory> {
 /// How long is waited.
 pub fn delay(page: &mut Page<'_>, value: &Delay) -> Result<(), NoMemory> {
     match value {
-        Delay::Number(digits) => page.leaf(b"by-number", *digits),
-        Delay::Name(name) => page.leaf(b"by-name", *name),
+        Delay::Number(digits) => page.leaf(b"delay-number", *digits),
+        Delay::Name(name) => page.leaf(b"delay-name", *name),
         Delay::Value(amount) => {
-            page.open(b"by-value")?;
+            page.open(b"delay-value")?;
             expression(page, amount)?;
             page.close()
         }
