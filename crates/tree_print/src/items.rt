@@ -1,0 +1,179 @@
+// What modules hold.
+
+use crate::expressions::{expression, expressions, optional};
+use crate::page::Page;
+use crate::statements::statement;
+use basis::NoMemory;
+use vast::module::{
+    Bounds, Connection, Connections, DeclarationKind, Declared, Instance, ModuleItem, NetKind,
+    ParameterType, Setting, SignAndRange,
+};
+
+/// The word of a net's kind.
+pub fn net_word(net: NetKind) -> &'static [u8] {
+    match net {
+        NetKind::Wire => b"wire",
+        NetKind::Reg => b"reg",
+    }
+}
+
+fn range(page: &mut Page<'_>, value: &Option<Bounds>) -> Result<(), NoMemory> {
+    match value {
+        None => page.word(b"-"),
+        Some(bounds) => {
+            page.open(b"range")?;
+            expression(page, &bounds.left)?;
+            expression(page, &bounds.right)?;
+            page.close()
+        }
+    }
+}
+
+/// A sign and a range.
+pub fn sign_and_range(page: &mut Page<'_>, value: &SignAndRange) -> Result<(), NoMemory> {
+    page.open(b"type")?;
+    page.mark(value.signed, b"signed")?;
+    range(page, &value.range)?;
+    page.close()
+}
+
+/// The type of a parameter.
+pub fn parameter_type(page: &mut Page<'_>, value: &ParameterType) -> Result<(), NoMemory> {
+    match value {
+        ParameterType::Integer => page.empty(b"integer"),
+        ParameterType::Typed(kind) => sign_and_range(page, kind),
+    }
+}
+
+/// A name and its value.
+pub fn setting(page: &mut Page<'_>, value: &Setting) -> Result<(), NoMemory> {
+    page.open(b"set")?;
+    page.token(value.name)?;
+    expression(page, &value.value)?;
+    page.close()
+}
+
+fn settings(page: &mut Page<'_>, list: &[Setting]) -> Result<(), NoMemory> {
+    for value in list {
+        setting(page, value)?;
+    }
+    Ok(())
+}
+
+fn declaration_kind(page: &mut Page<'_>, value: &DeclarationKind) -> Result<(), NoMemory> {
+    match value {
+        DeclarationKind::Integers => page.empty(b"integer"),
+        DeclarationKind::Variables { net, kind } => {
+            page.open(net_word(*net))?;
+            sign_and_range(page, kind)?;
+            page.close()
+        }
+    }
+}
+
+fn declared(page: &mut Page<'_>, list: &[Declared]) -> Result<(), NoMemory> {
+    for value in list {
+        page.open(b"declared")?;
+        page.token(value.name)?;
+        optional(page, &value.value)?;
+        page.close()?;
+    }
+    Ok(())
+}
+
+fn named_connections(page: &mut Page<'_>, list: &[Connection]) -> Result<(), NoMemory> {
+    for value in list {
+        page.open(b"connection")?;
+        page.token(value.name)?;
+        optional(page, &value.value)?;
+        page.close()?;
+    }
+    Ok(())
+}
+
+fn connections(page: &mut Page<'_>, value: &Connections) -> Result<(), NoMemory> {
+    match value {
+        Connections::ByOrder(list) => {
+            page.open(b"by-order")?;
+            expressions(page, list)?;
+        }
+        Connections::ByName(list) => {
+            page.open(b"by-name")?;
+            named_connections(page, list)?;
+        }
+    }
+    page.close()
+}
+
+fn overrides(page: &mut Page<'_>, value: &Option<Connections>) -> Result<(), NoMemory> {
+    match value {
+        None => page.word(b"-"),
+        Some(value) => connections(page, value),
+    }
+}
+
+fn instances(page: &mut Page<'_>, list: &[Instance]) -> Result<(), NoMemory> {
+    for value in list {
+        page.open(b"instance")?;
+        page.token(value.name)?;
+        connections(page, &value.connections)?;
+        page.close()?;
+    }
+    Ok(())
+}
+
+fn kind(value: &ModuleItem) -> &'static [u8] {
+    match value {
+        ModuleItem::Parameters { local: true, .. } => b"localparam",
+        ModuleItem::Parameters { local: false, .. } => b"parameter",
+        ModuleItem::Declaration { .. } => b"declare",
+        ModuleItem::Events { .. } => b"events",
+        ModuleItem::Assignments { .. } => b"assigns",
+        ModuleItem::Initial { .. } => b"initial",
+        ModuleItem::Always { .. } => b"always",
+        ModuleItem::Instances { .. } => b"instances",
+    }
+}
+
+/// What a module holds.
+pub fn item(page: &mut Page<'_>, value: &ModuleItem) -> Result<(), NoMemory> {
+    page.open(kind(value))?;
+    match value {
+        ModuleItem::Parameters {
+            kind,
+            settings: list,
+            ..
+        } => {
+            parameter_type(page, kind)?;
+            settings(page, list)?;
+        }
+        ModuleItem::Declaration {
+            kind,
+            declared: list,
+            ..
+        } => {
+            declaration_kind(page, kind)?;
+            declared(page, list)?;
+        }
+        ModuleItem::Events { names, .. } => page.tokens(names)?,
+        ModuleItem::Assignments { settings: list, .. } => settings(page, list)?,
+        ModuleItem::Initial {
+            statement: body,
+            ..
+        } => statement(page, body)?,
+        ModuleItem::Always {
+            statement: body,
+            ..
+        } => statement(page, body)?,
+        ModuleItem::Instances {
+            module,
+            overrides: given,
+            instances: list,
+        } => {
+            page.token(*module)?;
+            overrides(page, given)?;
+            instances(page, list)?;
+        }
+    }
+    page.close()
+}
