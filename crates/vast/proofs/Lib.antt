@@ -1,3 +1,4 @@
 pub mod TreeLemmas
 pub mod ExpressionLemmas
 pub mod WholeTreeLemmas
+pub mod FitLemmas

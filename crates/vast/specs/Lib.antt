@@ -13,3 +13,4 @@ pub mod Modules
 pub mod TokenTexts
 pub mod StatementTrees
 pub mod ModuleTrees
+pub mod Within

@@ -5,6 +5,7 @@
 
 pub mod design;
 pub mod expression;
+pub mod expression_fits;
 pub mod fitting;
 pub mod module;
 pub mod operators;
