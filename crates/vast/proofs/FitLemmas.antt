@@ -17,10 +17,10 @@ lower n d = grind (arith, nat_tests)
 largest : (a b n : ℕ) → (nat_le a n && nat_le b n) ≡ nat_le (max a b) n
 largest a b n = grind (arith, nat_tests)
 
-one_deeper : (n d : ℕ) (a f : Bool) → (nat_le 1 n && (a && (f && nat_le d (n - 1)))) ≡ ((a && f) && nat_le (1 + d) n)
+pub one_deeper : (n d : ℕ) (a f : Bool) → (nat_le 1 n && (a && (f && nat_le d (n - 1)))) ≡ ((a && f) && nat_le (1 + d) n)
 one_deeper n d a f = grind (arith, nat_tests)
 
-two_deeper : (n a b : ℕ) (f g h : Bool) → (nat_le 1 n && (h && ((f && nat_le a (n - 1)) && (g && nat_le b (n - 1))))) ≡ (((h && f) && g) && nat_le (1 + max a b) n)
+pub two_deeper : (n a b : ℕ) (f g h : Bool) → (nat_le 1 n && (h && ((f && nat_le a (n - 1)) && (g && nat_le b (n - 1))))) ≡ (((h && f) && g) && nat_le (1 + max a b) n)
 two_deeper n a b f g h = grind (arith, nat_tests)
 
 three_deeper : (n a b c : ℕ) (f g h k : Bool) →
@@ -49,13 +49,13 @@ stands_nowhere (apply operator operand) = refl
 stands_nowhere (combine operator left right) = refl
 stands_nowhere (conditional condition when_true when_false) = refl
 
-leaf : (n : ℕ) (a : Bool) → (nat_le 1 n && a) ≡ (a && nat_le 1 n)
+pub leaf : (n : ℕ) (a : Bool) → (nat_le 1 n && a) ≡ (a && nat_le 1 n)
 leaf n a = grind (arith, nat_tests)
 
-bare : (n d : ℕ) (f : Bool) → (nat_le 1 n && (f && nat_le d (n - 1))) ≡ (f && nat_le (1 + d) n)
+pub bare : (n d : ℕ) (f : Bool) → (nat_le 1 n && (f && nat_le d (n - 1))) ≡ (f && nat_le (1 + d) n)
 bare n d f = grind (arith, nat_tests)
 
-first_deeper : (n a b : ℕ) (f g : Bool) → ((f && nat_le a n) && (g && nat_le b n)) ≡ ((f && g) && nat_le (max a b) n)
+pub first_deeper : (n a b : ℕ) (f g : Bool) → ((f && nat_le a n) && (g && nat_le b n)) ≡ ((f && g) && nat_le (max a b) n)
 first_deeper n a b f g = grind (arith, nat_tests)
 
 two_ranked : (n a b : ℕ) (f g h k : Bool) →

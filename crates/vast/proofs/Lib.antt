@@ -2,3 +2,4 @@ pub mod TreeLemmas
 pub mod ExpressionLemmas
 pub mod WholeTreeLemmas
 pub mod FitLemmas
+pub mod StatementFitLemmas

@@ -2,7 +2,7 @@
 use Rattle.std.specs.Prelude.{ℕ, ◌-◌, nat_le, nat_lt, Bool, true, ◌&&◌, not, List, Option}
 use Rattle.vast.specs.Words.{is_name, is_number}
 use Rattle.vast.specs.Expressions.{ExpressionTree, number, name, time, bit, part, parentheses, concatenation, replication, conversion, apply, combine, conditional, ExpressionTrees, none, first, rank, rank_of, unary_rank, is_some_part, fits_parts, greatest_depth}
-use Rattle.vast.specs.Statements.{TargetTree, whole, joined, TargetTrees, target_depth, greatest_target_depth, fits_target, fits_targets, is_some_target, DelayTree, delay_depth, fits_delay, optional_delay_depth, fits_optional_delay, EventTree, event_depth, fits_event, ArgumentTree, arguments_depth, fits_argument, TaskTree, task_depth, fits_task, StatementTree, empty, block, assign, nonblocking, trigger, if_true, if_else, case_of, while_true, repeat_times, forever, for_loop, wait_for, delay, event, task, StatementTrees, no_statement, first_statement, BranchTree, labelled, default, BranchTrees, no_branch, first_branch, ends_in_if, is_some_branch, defaults}
+use Rattle.vast.specs.Statements.{TargetTree, whole, joined, TargetTrees, target_depth, greatest_target_depth, fits_target, fits_targets, is_some_target, DelayTree, delay_depth, fits_delay, optional_delay_depth, fits_optional_delay, EventTree, event_depth, fits_event, ArgumentTree, argument_depth, arguments_depth, fits_argument, TaskTree, task_depth, fits_task, StatementTree, empty, block, assign, nonblocking, trigger, if_true, if_else, case_of, while_true, repeat_times, forever, for_loop, wait_for, delay, event, task, StatementTrees, no_statement, first_statement, BranchTree, labelled, default, BranchTrees, no_branch, first_branch, ends_in_if, is_some_branch, defaults}
 use Rattle.vast.specs.Statements as statements
 use Rattle.std.specs.List.{list_all}
 use Rattle.vast.specs.Modules.{fits_value}
@@ -44,7 +44,7 @@ abbrev mutual
   target_stands levels (whole letters) = nat_le 1 levels && is_name letters
   target_stands levels (statements.bit letters index) = nat_le 1 levels && (is_name letters && fits_value (levels - 1) index)
   target_stands levels (statements.part letters left right) =
-      nat_le 1 levels && (is_name letters && fits_value (levels - 1) left && fits_value (levels - 1) right)
+      nat_le 1 levels && (is_name letters && (fits_value (levels - 1) left && fits_value (levels - 1) right))
   target_stands levels (joined targets) = nat_le 1 levels && (is_some_target targets && targets_stand (levels - 1) targets)
 
   pub targets_stand : ℕ → TargetTrees → Bool
@@ -65,6 +65,9 @@ optional_delay_within levels amount = fits_optional_delay amount && nat_le (opti
 abbrev pub event_within : ℕ → EventTree → Bool
 event_within levels control = fits_event control && nat_le (event_depth control) levels
 
+abbrev pub argument_within : ℕ → ArgumentTree → Bool
+argument_within levels argument = fits_argument argument && nat_le (argument_depth argument) levels
+
 abbrev pub arguments_within : ℕ → List ArgumentTree → Bool
 arguments_within levels arguments = list_all fits_argument arguments && nat_le (arguments_depth arguments) levels
 
@@ -78,6 +81,10 @@ abbrev pub assignment_within : ℕ → TargetTree → Option DelayTree → Expre
 assignment_within levels target amount value =
     target_within levels target && optional_delay_within levels amount && fits_value levels value
 
+-- a case, but for its branches
+abbrev pub case_within : ℕ → ExpressionTree → BranchTrees → Bool
+case_within levels value branches = fits_value levels value && (is_some_branch branches && nat_le (defaults branches) 1)
+
 -- statements
 
 abbrev mutual
@@ -90,19 +97,18 @@ abbrev mutual
   statement_stands levels (if_true condition body) =
       nat_le 1 levels && (fits_value (levels - 1) condition && statement_stands (levels - 1) body)
   statement_stands levels (if_else condition body other) =
-      nat_le 1 levels && (fits_value (levels - 1) condition && statement_stands (levels - 1) body && not (ends_in_if body)
-      && statement_stands (levels - 1) other)
+      nat_le 1 levels && (fits_value (levels - 1) condition && (statement_stands (levels - 1) body
+      && (not (ends_in_if body) && statement_stands (levels - 1) other)))
   statement_stands levels (case_of kind value branches) =
-      nat_le 1 levels && (fits_value (levels - 1) value && (is_some_branch branches && nat_le (defaults branches) 1
-      && branches_stand (levels - 1) branches))
+      nat_le 1 levels && (case_within (levels - 1) value branches && branches_stand (levels - 1) branches)
   statement_stands levels (while_true condition body) =
       nat_le 1 levels && (fits_value (levels - 1) condition && statement_stands (levels - 1) body)
   statement_stands levels (repeat_times count body) =
       nat_le 1 levels && (fits_value (levels - 1) count && statement_stands (levels - 1) body)
   statement_stands levels (forever body) = nat_le 1 levels && statement_stands (levels - 1) body
   statement_stands levels (for_loop target value condition next_target next_value body) =
-      nat_le 1 levels && (setting_within (levels - 1) target value && fits_value (levels - 1) condition
-      && setting_within (levels - 1) next_target next_value && statement_stands (levels - 1) body)
+      nat_le 1 levels && (setting_within (levels - 1) target value && (fits_value (levels - 1) condition
+      && (setting_within (levels - 1) next_target next_value && statement_stands (levels - 1) body)))
   statement_stands levels (wait_for condition body) =
       nat_le 1 levels && (fits_value (levels - 1) condition && statement_stands (levels - 1) body)
   statement_stands levels (delay amount body) =
@@ -117,7 +123,7 @@ abbrev mutual
 
   pub branch_stands : ℕ → BranchTree → Bool
   branch_stands levels (labelled labels body) =
-      is_some_part labels && parts_within levels labels && statement_stands levels body
+      is_some_part labels && (parts_within levels labels && statement_stands levels body)
   branch_stands levels (default colon body) = statement_stands levels body
 
   pub branches_stand : ℕ → BranchTrees → Bool

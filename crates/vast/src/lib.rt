@@ -11,6 +11,8 @@ pub mod module;
 pub mod operators;
 pub mod spelling;
 pub mod statement;
+pub mod statement_fits;
+pub mod statement_parts_fit;
 pub mod syntax;
 pub mod token;
 pub mod words;
