@@ -240,6 +240,6 @@ module _ (words : List Text) where
     case_stands e at kind value branches amount one two is valued same same_too =
         (λ i. case_within (n - 1) (tree_of words (valued i)) (branch_trees words (same i)) && branches_stand (n - 1) (branch_trees words (same_too i)))
         ∙ some_level n
-            (case_within (n - 1) (boxed_tree words value) (branch_trees words branches.items) && branches_stand (n - 1) (branch_trees words branches.items))
-            positive
+        (case_within (n - 1) (boxed_tree words value) (branch_trees words branches.items) && branches_stand (n - 1) (branch_trees words branches.items))
+        positive
         ∙ sym (ap (statement_stands n) (ap (statement_tree words) is ∙ tree_of_case words at kind value branches))

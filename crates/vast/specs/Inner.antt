@@ -9,13 +9,6 @@ use Rattle.vast.specs.Trees.{word_text, expression_tree, statement_trees}
 use Rattle.vast.specs.Derives.{fits_statement, fits_statements, depth, greatest_depth, spell_expression}
 use Rattle.vast.specs.Spellings.{texts}
 
--- a statement that fits and is no deeper than so many levels, and statements that do
-abbrev pub fits_within : ℕ → StatementTree → Bool
-fits_within levels statement = fits_statement statement && nat_le (depth statement) levels
-
-abbrev pub all_fit_within : ℕ → StatementTrees → Bool
-all_fit_within levels statements = fits_statements statements && nat_le (greatest_depth statements) levels
-
 -- the tree of an assignment, and of a block, from its parts
 abbrev pub assignment_tree : Word → Expr → StatementTree
 assignment_tree target value = assign (word_text target) (expression_tree value)

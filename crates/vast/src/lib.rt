@@ -8,6 +8,7 @@ pub mod expression;
 pub mod expression_fits;
 pub mod fitting;
 pub mod module;
+pub mod module_parts_fit;
 pub mod operators;
 pub mod spelling;
 pub mod statement;

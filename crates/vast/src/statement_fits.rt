@@ -73,8 +73,7 @@ fn case_fits(words: &[&[u8]], value: &Expression, branches: &[Branch], levels: u
     ensures { result ≡ case_within levels
         (tree_of (texts words.now) value.now) (branch_trees (texts words.now) branches.now) }
 {
-    expression_fits(words, value, levels)
-        && (is_some_branch(branches) && has_one_default(branches))
+    expression_fits(words, value, levels) && (is_some_branch(branches) && has_one_default(branches))
 }
 
 // Whether the statement fits, and has so many levels at most.
@@ -90,27 +89,70 @@ fn statement_stands(words: &[&[u8]], statement: &Statement, levels: u32) -> bool
     match statement {
         Statement::Empty => true,
         Statement::Block(list) => statements_stand(words, list, below),
-        Statement::Assign { target, delay, value, .. } => assignment_fits(words, target, delay, value, below),
-        Statement::Nonblocking { target, delay, value, .. } => assignment_fits(words, target, delay, value, below),
+        Statement::Assign {
+            target,
+            delay,
+            value,
+            ..
+        } => assignment_fits(words, target, delay, value, below),
+        Statement::Nonblocking {
+            target,
+            delay,
+            value,
+            ..
+        } => assignment_fits(words, target, delay, value, below),
         Statement::Trigger { name, .. } => below > 0 && is_name(letters(words, *name)),
-        Statement::If { condition, body, .. } => expression_fits(words, condition, below) && statement_stands(words, body, below),
-        Statement::IfElse { condition, body, other, .. } => {
+        Statement::If {
+            condition,
+            body,
+            ..
+        } => expression_fits(words, condition, below) && statement_stands(words, body, below),
+        Statement::IfElse {
+            condition,
+            body,
+            other,
+            ..
+        } => {
             expression_fits(words, condition, below)
-                && (statement_stands(words, body, below) && (!ends_in_if(body) && statement_stands(words, other, below)))
+                && (statement_stands(words, body, below)
+                    && (!ends_in_if(body) && statement_stands(words, other, below)))
         }
-        Statement::Case { value, branches, .. } => case_fits(words, value, branches, below) && branches_stand(words, branches, below),
-        Statement::While { condition, body, .. } => expression_fits(words, condition, below) && statement_stands(words, body, below),
-        Statement::Repeat { count, body, .. } => expression_fits(words, count, below) && statement_stands(words, body, below),
+        Statement::Case {
+            value,
+            branches,
+            ..
+        } => case_fits(words, value, branches, below) && branches_stand(words, branches, below),
+        Statement::While {
+            condition,
+            body,
+            ..
+        } => expression_fits(words, condition, below) && statement_stands(words, body, below),
+        Statement::Repeat { count, body, .. } => expression_fits(words, count, below)
+            && statement_stands(words, body, below),
         Statement::Forever { body, .. } => statement_stands(words, body, below),
-        Statement::For { target, value, condition, next_target, next_value, body, .. } => {
+        Statement::For {
+            target,
+            value,
+            condition,
+            next_target,
+            next_value,
+            body,
+            ..
+        } => {
             setting_fits(words, target, value, below)
                 && (expression_fits(words, condition, below)
-                && (setting_fits(words, next_target, next_value, below)
-                && statement_stands(words, body, below)))
+                    && (setting_fits(words, next_target, next_value, below)
+                        && statement_stands(words, body, below)))
         }
-        Statement::Wait { condition, body, .. } => expression_fits(words, condition, below) && statement_stands(words, body, below),
-        Statement::Delayed { delay, body, .. } => delay_fits(words, delay, below) && statement_stands(words, body, below),
-        Statement::OnEvent { event, body, .. } => event_fits(words, event, below) && statement_stands(words, body, below),
+        Statement::Wait {
+            condition,
+            body,
+            ..
+        } => expression_fits(words, condition, below) && statement_stands(words, body, below),
+        Statement::Delayed { delay, body, .. } => delay_fits(words, delay, below)
+            && statement_stands(words, body, below),
+        Statement::OnEvent { event, body, .. } => event_fits(words, event, below)
+            && statement_stands(words, body, below),
         Statement::Task { task, .. } => task_fits(words, task, below),
     }
 }
@@ -133,7 +175,8 @@ fn branch_stands(words: &[&[u8]], branch: &Branch, levels: u32) -> bool
 {
     match branch {
         Branch::Labelled { labels, body } => {
-            is_some(labels) && (parts_fit(words, labels, levels) && statement_stands(words, body, levels))
+            is_some(labels)
+                && (parts_fit(words, labels, levels) && statement_stands(words, body, levels))
         }
         Branch::Default { body, .. } => statement_stands(words, body, levels),
     }
