@@ -6,6 +6,7 @@
 pub mod design;
 pub mod expression;
 pub mod expression_fits;
+pub mod expression_spelling;
 pub mod fitting;
 pub mod module;
 pub mod module_parts_fit;
@@ -14,9 +15,9 @@ pub mod spelling;
 pub mod statement;
 pub mod statement_fits;
 pub mod statement_parts_fit;
+pub mod statement_parts_spelling;
 pub mod syntax;
 pub mod token;
 pub mod words;
 
 pub use fitting::fits;
-pub use spelling::spell;
