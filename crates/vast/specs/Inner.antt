@@ -73,3 +73,11 @@ dotted_words = flat_map (λ other. codes "." ∷ other ∷ [])
 
 abbrev pub paths_words : List (List Text) → List Text
 paths_words = flat_map (λ path. codes "," ∷ spell_path path)
+
+-- -> name ;
+abbrev pub trigger_words : Text → List Text
+trigger_words letters = codes "->" ∷ letters ∷ codes ";" ∷ []
+
+-- a name by itself
+abbrev pub alone : Text → List Text
+alone letters = letters ∷ []
