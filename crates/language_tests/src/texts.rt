@@ -4,10 +4,12 @@ use basis::Timescale;
 use std::alloc::Global;
 use std::test::Fail;
 use vast::design::Design;
-use vast::syntax::{self, Ast, Module, Stmt, Word};
+use vast::module::{ModuleItem, ModuleTree, TextTree};
+use vast::statement::{Delay, Statement};
+use vast::token::Token;
 use vast::{fits, spell};
 use vbits::Vec4;
-use velab::elaborate;
+use velab::{elaborate, runnable};
 use vlex::{TokenKind, Tokens, tokens};
 use vmodel::history::{Grain, Item};
 use vmodel::{opening, slow_step, slow_width};
@@ -105,35 +107,69 @@ fn names_kinds_and_places(rt: HostRuntime) -> Result<(), Fail> {
     Ok(())
 }
 
-const EACH_STATEMENT: &[u8] = b"module top;
-  reg [7:0] a, b_1;
-  reg c;
+const EACH_STATEMENT: &[u8] = b"module leaf #(parameter [3:0] W = 4, D = 2, parameter integer I = 1)
+    (input wire [W-1:0] a, b, output reg signed [7:0] q, input c, output wire d, output e);
+  parameter P = 1, P_2 = P;
+  localparam signed [1:0] L = 2;
+  localparam integer M = 4;
+  wire [7:0] n = a + 1, m;
+  reg r, s;
+  integer i, j = 2;
+  event go, done;
+  assign d = a[0], e = ~b[3:1] == 0;
   initial begin
-    $dumpvars;
     ;
-    a = 8'hF0;
-    b_1 <= a;
-    #10 c <= 1'bx;
-    begin end
-    # 0 begin c = c; end
-    $finish;
+    q = 8'hF0; q = #1 a; {r, s, q[3:0], {q[7]}} = #(a + b) 0;
+    q <= b; q[0] <= #D a;
+    -> go;
+    if (a) if (b) r = 1; else r = 0;
+    if (c) begin end else ;
+    case (a) 0, 1: r = 0; default: r = 1; endcase
+    casez (a) 2'b1?: ; default ; endcase
+    casex (a) 2'bx1: ; endcase
+    while (r) r = 0;
+    repeat (2) #1 r = 1;
+    for (i = 0; i < 3; i = i + 1) s = i[0];
+    wait (r) ;
+    #W ; #(1 + 2) ;
+    @go ; @* ; @(*) ; @(posedge r or negedge s, c) ;
+    $display; $display(\"x\", a); $strobe(a, b); $monitor(a);
+    $dumpfile(\"x.vcd\"); $dumpvars; $dumpvars(1, top.one, top);
+    $dumpon; $dumpoff; $dumpall; $dumpflush;
+    $stop(1); $finish;
   end
-  initial ;
+  initial forever #5
+    r = $signed(a) * $unsigned(b) + {2{a, b}} - {a, b} % -c ? (a << 1) >>> 2 : !r ~^ (^b) && $time == 0 || a !== b;
+  always @(posedge r) s <= r;
 endmodule
-module second; endmodule
+module top ();
+  leaf #(1, 2) one (x, y), two ();
+  leaf #(.W(3), .D()) three (.a(x), .q());
+endmodule
+module last; endmodule
 ";
 
+fn words<'t>(alloc: Global, tokens: &Tokens<'t>) -> Result<Vec<&'t [u8]>, Fail> {
+    let mut words = Vec::new(alloc);
+    for index in 0..tokens.len() {
+        words.push(tokens.text(index))?;
+    }
+    Ok(words)
+}
+
+// A text with each construct of the grammar spells what was read.
 #[test]
 fn reads_each_statement(rt: HostRuntime) -> Result<(), Fail> {
     let source = source(rt.alloc(), &[EACH_STATEMENT])?;
     let found = tokens(rt.alloc(), &source)?;
-    let ast = parse(rt.alloc(), &found)?;
-    assert_eq!(rt; ast.modules.len(), 2);
-    assert_eq!(rt; ast.modules[0].items.len(), 4);
-    assert!(rt; fits(&ast));
-    let words = spell(rt.alloc(), &ast)?;
-    assert_eq!(rt; words.len(), found.len());
-    for (index, word) in words.iter().enumerate() {
+    let tree = parse(rt.alloc(), &found)?;
+    assert_eq!(rt; tree.modules.len(), 3);
+    assert_eq!(rt; tree.modules[0].items.len(), 13);
+    let words = words(rt.alloc(), &found)?;
+    assert!(rt; fits(&words, &tree));
+    let spelled = spell(rt.alloc(), &words, &tree)?;
+    assert_eq!(rt; spelled.len(), found.len());
+    for (index, word) in spelled.iter().enumerate() {
         assert_eq!(rt; word.text, found.text(index));
     }
     Ok(())
@@ -142,7 +178,8 @@ fn reads_each_statement(rt: HostRuntime) -> Result<(), Fail> {
 fn design(alloc: Global, text: &[u8]) -> Result<Design, Fail> {
     let source = source(alloc, &[text])?;
     let found = tokens(alloc, &source)?;
-    let ast = parse(alloc, &found)?;
+    let tree = parse(alloc, &found)?;
+    let ast = runnable(alloc, &found, &tree)?;
     Ok(elaborate(alloc, &ast, None, source.timescale())?)
 }
 
@@ -174,29 +211,34 @@ fn plain_steps_leave_their_state(rt: HostRuntime) -> Result<(), Fail> {
     Ok(())
 }
 
-fn delayed(alloc: Global, delays: u32) -> Result<Ast<'static>, Fail> {
-    let mut statement = Stmt::Empty;
+fn delayed(alloc: Global, delays: u32) -> Result<TextTree, Fail> {
+    let mut statement = Statement::Empty;
     for _ in 0..delays {
-        statement = Stmt::Delay {
+        statement = Statement::Delayed {
             at: 0,
-            amount: Word { text: b"1", at: 0 },
+            delay: Delay::Number(Token { number: 0 }),
             body: Box::new(alloc, statement)?,
         };
     }
     let mut items = Vec::new(alloc);
-    items.push(syntax::Item::Initial(statement))?;
+    items.push(ModuleItem::Initial { at: 0, statement })?;
     let mut modules = Vec::new(alloc);
-    modules.push(Module {
-        name: Word { text: b"tb", at: 0 },
+    modules.push(ModuleTree {
+        name: Token { number: 1 },
+        parameters: None,
+        ports: None,
         items,
     })?;
-    Ok(Ast { modules })
+    Ok(TextTree { modules })
 }
 
-// An empty statement is one level deep, and each delay round it one more: 64 levels fit, 65 don't.
+// An empty statement is one level deep, and each delay round it one more: 64 levels fit, 65 don't. A name that no word stands
+// for doesn't fit either.
 #[test]
 fn deepest_tree(rt: HostRuntime) -> Result<(), Fail> {
-    assert!(rt; fits(&delayed(rt.alloc(), 63)?));
-    assert!(rt; !fits(&delayed(rt.alloc(), 64)?));
+    let words = [b"1".as_slice(), b"tb".as_slice()];
+    assert!(rt; fits(&words, &delayed(rt.alloc(), 63)?));
+    assert!(rt; !fits(&words, &delayed(rt.alloc(), 64)?));
+    assert!(rt; !fits(&words[..1], &delayed(rt.alloc(), 63)?));
     Ok(())
 }

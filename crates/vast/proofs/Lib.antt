@@ -1,3 +1,6 @@
 pub mod TreeLemmas
 pub mod ExpressionLemmas
 pub mod WholeTreeLemmas
+pub mod FitLemmas
+pub mod StatementFitLemmas
+pub mod SpellLemmas

@@ -1,32 +1,83 @@
 -- What inner functions of the code answer; nothing here has to be believed.
-use Rattle.std.specs.Prelude.{◌≡◌, Bool, ◌&&◌, ℕ, nat_le, List, [], ◌∷◌, ◌++◌, Vec, Result, OnOk, codes}
+use Rattle.std.specs.Prelude.{◌≡◌, Bool, true, false, if◌then◌else◌, List, [], ◌∷◌, Option, ◌++◌, flat_map, Vec, Result, OnOk, codes}
 use Rattle.vast.specs.declared.spelling.Spelling.{Spelling}
-use Rattle.vast.specs.declared.syntax.Word.{Word}
-use Rattle.vast.specs.declared.syntax.Expr.{Expr}
-use Rattle.vast.specs.declared.syntax.Stmt.{Stmt}
-use Rattle.vast.specs.Syntax.{Text, StatementTree, StatementTrees, assign, block}
-use Rattle.vast.specs.Trees.{word_text, expression_tree, statement_trees}
-use Rattle.vast.specs.Derives.{fits_statement, fits_statements, depth, greatest_depth, spell_expression}
-use Rattle.vast.specs.Spellings.{texts}
-
--- a statement that fits and is no deeper than so many levels, and statements that do
-abbrev pub fits_within : ℕ → StatementTree → Bool
-fits_within levels statement = fits_statement statement && nat_le (depth statement) levels
-
-abbrev pub all_fit_within : ℕ → StatementTrees → Bool
-all_fit_within levels statements = fits_statements statements && nat_le (greatest_depth statements) levels
-
--- the tree of an assignment, and of a block, from its parts
-abbrev pub assignment_tree : Word → Expr → StatementTree
-assignment_tree target value = assign (word_text target) (expression_tree value)
-
-abbrev pub block_tree : List Stmt → StatementTree
-block_tree statements = block (statement_trees statements)
-
--- the words of an assignment by this sign
-abbrev pub assignment_words : Word → Text → Expr → List Text
-assignment_words target sign value = word_text target ∷ sign ∷ (spell_expression (expression_tree value) ++ codes ";" ∷ [])
+use Rattle.vast.specs.declared.statement.CaseKind.{CaseKind}
+use Rattle.vast.specs.Syntax.{Text}
+use Rattle.vast.specs.Spellings.{texts_of}
+use Rattle.vast.specs.Expressions.{ExpressionTree, ExpressionTrees, spell_expression, spell_parts, spell_more_parts}
+use Rattle.vast.specs.Statements.{TargetTree, TargetTrees, DelayTree, spell_target, spell_optional_delay, spell_setting, spell_condition, spell_path, case_word, spell_targets, spell_more_targets, listed, BranchTrees, spell_branches, StatementTrees, spell_statements}
 
 -- where nothing was refused, these words were put behind those that there were
 abbrev pub Puts : {A T E : Type 0} → Vec Spelling A → Vec Spelling A → Result T E → List Text → Type 0
-Puts old new result words = OnOk result (texts new.items ≡ texts old.items ++ words)
+Puts old new result words = OnOk result (texts_of new.items ≡ texts_of old.items ++ words)
+
+-- a comma, but before the first
+abbrev pub comma_words : Bool → List Text
+comma_words first = if first then [] else codes "," ∷ []
+
+-- what follows of a list: all of it, or what is behind the first
+abbrev pub parts_from : Bool → ExpressionTrees → List Text
+parts_from true = spell_parts
+parts_from false = spell_more_parts
+
+abbrev pub targets_from : Bool → TargetTrees → List Text
+targets_from true = spell_targets
+targets_from false = spell_more_targets
+
+abbrev pub listed_from : {A : Type 0} → Bool → (A → List Text) → List A → List Text
+listed_from true spell list = listed spell list
+listed_from false spell list = flat_map (λ other. codes "," ∷ spell other) list
+
+-- { part, .. }, and the same with another brace behind it
+abbrev pub braces_words : ExpressionTrees → List Text
+braces_words parts = codes "{" ∷ (spell_parts parts ++ codes "}" ∷ [])
+
+abbrev pub doubled_words : ExpressionTrees → List Text
+doubled_words parts = codes "{" ∷ (spell_parts parts ++ codes "}" ∷ codes "}" ∷ [])
+
+abbrev pub joined_words : TargetTrees → List Text
+joined_words targets = codes "{" ∷ (spell_targets targets ++ codes "}" ∷ [])
+
+abbrev pub range_words : ExpressionTree → ExpressionTree → List Text
+range_words left right = codes "[" ∷ (spell_expression left ++ codes ":" ∷ (spell_expression right ++ codes "]" ∷ []))
+
+-- begin statement .. end, and the branches of a case
+abbrev pub block_words : StatementTrees → List Text
+block_words statements = codes "begin" ∷ (spell_statements statements ++ codes "end" ∷ [])
+
+abbrev pub case_head_words : CaseKind → ExpressionTree → List Text
+case_head_words kind value = case_word kind ∷ spell_condition value
+
+abbrev pub case_words : BranchTrees → List Text
+case_words branches = spell_branches branches ++ codes "endcase" ∷ []
+
+-- what stands behind a target and its sign, and an assignment by this sign
+abbrev pub assigned_words : Option DelayTree → ExpressionTree → List Text
+assigned_words amount value = spell_optional_delay amount ++ (spell_expression value ++ codes ";" ∷ [])
+
+abbrev pub assignment_words : Text → TargetTree → Option DelayTree → ExpressionTree → List Text
+assignment_words sign target amount value = spell_target target ++ sign ∷ assigned_words amount value
+
+-- a keyword and a condition
+abbrev pub head_words : Text → ExpressionTree → List Text
+head_words keyword condition = keyword ∷ spell_condition condition
+
+abbrev pub for_words : TargetTree → ExpressionTree → ExpressionTree → TargetTree → ExpressionTree → List Text
+for_words target value condition next_target next_value =
+    codes "for" ∷ codes "(" ∷ (spell_setting target value ++ codes ";" ∷ (spell_expression condition ++ codes ";" ∷
+    (spell_setting next_target next_value ++ codes ")" ∷ [])))
+
+-- . name .., and , path ..
+abbrev pub dotted_words : List Text → List Text
+dotted_words = flat_map (λ other. codes "." ∷ other ∷ [])
+
+abbrev pub paths_words : List (List Text) → List Text
+paths_words = flat_map (λ path. codes "," ∷ spell_path path)
+
+-- -> name ;
+abbrev pub trigger_words : Text → List Text
+trigger_words letters = codes "->" ∷ letters ∷ codes ";" ∷ []
+
+-- a name by itself
+abbrev pub alone : Text → List Text
+alone letters = letters ∷ []

@@ -1,9 +1,7 @@
 pub mod Words
 pub mod Syntax
 pub mod Trees
-pub mod Derives
 pub mod Spellings
-pub mod Inner
 pub mod Design
 pub mod Names
 pub mod Expressions
@@ -13,3 +11,5 @@ pub mod Modules
 pub mod TokenTexts
 pub mod StatementTrees
 pub mod ModuleTrees
+pub mod Within
+pub mod Inner

@@ -3,5 +3,5 @@ use Rattle.std.specs.Prelude.{List, map}
 use Rattle.vast.specs.Syntax.{Text}
 use Rattle.vast.specs.declared.spelling.Spelling.{Spelling}
 
-abbrev pub texts : List Spelling → List Text
-texts = map (λ spelling. spelling.text.now)
+abbrev pub texts_of : List Spelling → List Text
+texts_of = map (λ spelling. spelling.text.now)

@@ -1,128 +1,134 @@
-// Whether a tree stands as the grammar lets it: names and numbers in their places, nothing too deep.
+// Whether a tree stands as the grammar lets it: names and numbers in their places, lists that aren't empty, nothing too deep.
 
 ghost use Rattle.std.specs.Prelude.{◌≡◌, map, option_map};
 ghost use Rattle.std.specs.List.{list_all};
-ghost use Rattle.vast.specs.Words.{is_name as is_name_text};
-ghost use Rattle.vast.specs.Derives.{fits as fits_tree, fits_module, fits_item, fits_range, fits_expression};
-ghost use Rattle.vast.specs.Trees.{source_tree, module_tree, item_tree, range_tree, word_text, expression_tree, statement_tree, statement_trees};
-ghost use Rattle.vast.specs.Inner.{fits_within, all_fit_within, assignment_tree};
+ghost use Rattle.vast.specs.TokenTexts.{texts};
+ghost use Rattle.vast.specs.Modules.{fits_overrides, fits_declaration_kind, fits_item, fits_optional_parameters, fits_optional_ports, fits_module, fits as fits_tree};
+ghost use Rattle.vast.specs.ModuleTrees.{port_tree, head_parameter, connections_tree, declaration_kind, item_tree, module_tree, source_tree};
 
-use crate::syntax::{Ast, Expr, Item, Module, Range, Stmt, Word};
-use crate::words::{is_name, is_number};
+use crate::module::{
+    Connections, DeclarationKind, HeadParameter, ModuleItem, ModuleTree, Port, TextTree,
+};
+use crate::module_parts_fit::{
+    connections_fit, declared_fit, head_parameters_fit, instances_fit, parameter_type_fits,
+    ports_fit, settings_fit, type_fits,
+};
+use crate::statement_fits::statement_fits;
+use crate::statement_parts_fit::are_names;
+use crate::token::letters;
+use crate::words::is_name;
 
 /// The deepest that statements and expressions nest (docs/LANGUAGE.md, "Depth").
 pub const DEPTH: u32 = 64;
 
-fn expression_fits(expression: &Expr<'_>) -> bool
-    ensures { result ≡ fits_expression (expression_tree expression.now) }
+fn declaration_kind_fits(words: &[&[u8]], kind: &DeclarationKind) -> bool
+    ensures { result ≡ fits_declaration_kind 64 (declaration_kind (texts words.now) kind.now) }
 {
-    match expression {
-        Expr::Number(word) => is_number(word.text),
-        Expr::Name(word) => is_name(word.text),
+    match kind {
+        DeclarationKind::Variables { kind, .. } => type_fits(words, kind, DEPTH),
+        DeclarationKind::Integers => true,
     }
 }
 
-// Whether an assignment of either kind fits, and is no deeper than so many levels.
-fn assignment_fits(target: &Word<'_>, value: &Expr<'_>, levels: u32) -> bool
-    ensures { result ≡ fits_within levels (assignment_tree target.now value.now) }
+fn overrides_fit(words: &[&[u8]], overrides: &Option<Connections>) -> bool
+    ensures { result ≡ fits_overrides 64
+        (option_map (connections_tree (texts words.now)) overrides.now) }
 {
-    levels > 1 && is_name(target.text) && expression_fits(value)
-}
-
-// Whether a statement fits, and is no deeper than so many levels.
-#[cycle(statements)]
-fn statement_fits(statement: &Stmt<'_>, levels: u32) -> bool
-    ensures { result ≡ fits_within levels (statement_tree statement.now) }
-{
-    if levels == 0 {
-        return false;
-    }
-    match statement {
-        Stmt::Empty => true,
-        Stmt::Block(statements) => statements_fit(statements, levels - 1),
-        Stmt::Assign { target, value } => assignment_fits(target, value, levels),
-        Stmt::Nonblocking { target, value } => assignment_fits(target, value, levels),
-        Stmt::Delay { amount, body, .. } => is_number(amount.text)
-            && statement_fits(body, levels - 1),
-        Stmt::DumpVars { .. } => true,
-        Stmt::Finish { .. } => true,
-    }
-}
-
-#[cycle(statements)]
-fn statements_fit(statements: &[Stmt<'_>], levels: u32) -> bool
-    ensures { result ≡ all_fit_within levels (statement_trees statements.now) }
-{
-    for statement in statements {
-        if !statement_fits(statement, levels) {
-            return false;
-        }
-    }
-    true
-}
-
-fn range_fits(range: &Option<Range<'_>>) -> bool
-    ensures { result ≡ fits_range (option_map range_tree range.now) }
-{
-    match range {
+    match overrides {
         None => true,
-        Some(range) => is_number(range.left.text) && is_number(range.right.text),
+        Some(overrides) => connections_fit(words, overrides, DEPTH),
     }
 }
 
-fn are_names(words: &[Word<'_>]) -> bool
-    ensures { result ≡ list_all is_name_text (map word_text words.now) }
-{
-    for word in words {
-        if !is_name(word.text) {
-            return false;
-        }
-    }
-    true
-}
-
-fn item_fits(item: &Item<'_>) -> bool
-    ensures { result ≡ fits_item (item_tree item.now) }
+fn item_fits(words: &[&[u8]], item: &ModuleItem) -> bool
+    ensures { result ≡ fits_item 64 (item_tree (texts words.now) item.now) }
 {
     match item {
-        Item::Registers { range, names } => range_fits(range)
-            && !names.is_empty()
-            && are_names(names),
-        Item::Initial(statement) => statement_fits(statement, DEPTH),
+        ModuleItem::Parameters { kind, settings, .. } => {
+            parameter_type_fits(words, kind, DEPTH)
+                && !settings.is_empty()
+                && settings_fit(words, settings, DEPTH)
+        }
+        ModuleItem::Declaration { kind, declared, .. } => {
+            declaration_kind_fits(words, kind)
+                && !declared.is_empty()
+                && declared_fit(words, declared, DEPTH)
+        }
+        ModuleItem::Events { names, .. } => !names.is_empty() && are_names(words, names),
+        ModuleItem::Assignments { settings, .. } => {
+            !settings.is_empty() && settings_fit(words, settings, DEPTH)
+        }
+        ModuleItem::Initial { statement, .. } => statement_fits(words, statement, DEPTH),
+        ModuleItem::Always { statement, .. } => statement_fits(words, statement, DEPTH),
+        ModuleItem::Instances {
+            module,
+            overrides,
+            instances,
+        } => {
+            is_name(letters(words, *module))
+                && overrides_fit(words, overrides)
+                && !instances.is_empty()
+                && instances_fit(words, instances, DEPTH)
+        }
     }
 }
 
-fn items_fit(items: &[Item<'_>]) -> bool
-    ensures { result ≡ list_all fits_item (map item_tree items.now) }
+fn items_fit(words: &[&[u8]], items: &[ModuleItem]) -> bool
+    ensures { result ≡ list_all (fits_item 64) (map (item_tree (texts words.now)) items.now) }
 {
     for item in items {
-        if !item_fits(item) {
+        if !item_fits(words, item) {
             return false;
         }
     }
     true
 }
 
-fn module_fits(unit: &Module<'_>) -> bool
-    ensures { result ≡ fits_module (module_tree unit.now) }
+fn optional_parameters_fit(words: &[&[u8]], parameters: &Option<Vec<HeadParameter>>) -> bool
+    ensures { result ≡ fits_optional_parameters 64
+        (option_map (λ list. map (head_parameter (texts words.now)) list.items) parameters.now) }
 {
-    is_name(unit.name.text) && items_fit(&unit.items)
+    match parameters {
+        None => true,
+        Some(list) => head_parameters_fit(words, list, DEPTH),
+    }
 }
 
-fn modules_fit(modules: &[Module<'_>]) -> bool
-    ensures { result ≡ list_all fits_module (map module_tree modules.now) }
+fn optional_ports_fit(words: &[&[u8]], ports: &Option<Vec<Port>>) -> bool
+    ensures { result ≡ fits_optional_ports 64
+        (option_map (λ list. map (port_tree (texts words.now)) list.items) ports.now) }
+{
+    match ports {
+        None => true,
+        Some(list) => ports_fit(words, list, DEPTH),
+    }
+}
+
+fn module_fits(words: &[&[u8]], unit: &ModuleTree) -> bool
+    ensures { result ≡ fits_module 64 (module_tree (texts words.now) unit.now) }
+{
+    is_name(letters(words, unit.name))
+        && optional_parameters_fit(words, &unit.parameters)
+        && optional_ports_fit(words, &unit.ports)
+        && items_fit(words, &unit.items)
+}
+
+fn modules_fit(words: &[&[u8]], modules: &[ModuleTree]) -> bool
+    ensures { result ≡ list_all (fits_module 64)
+        (map (module_tree (texts words.now)) modules.now) }
 {
     for unit in modules {
-        if !module_fits(unit) {
+        if !module_fits(words, unit) {
             return false;
         }
     }
     true
 }
 
-/// Whether the tree stands as the grammar lets it, so that it derives the words that it spells.
-pub fn fits(ast: &Ast<'_>) -> bool
-    ensures { result ≡ fits_tree (source_tree ast.now) }
+/// Whether the tree stands as the grammar lets it, so that it derives the words that it spells: names in their places, operands
+/// that hold tightly enough, each `else` behind the nearest `if`, one default at most, 64 levels at most. It takes no memory.
+pub fn fits(words: &[&[u8]], text: &TextTree) -> bool
+    ensures { result ≡ fits_tree 64 (source_tree (texts words.now) text.now) }
 {
-    modules_fit(&ast.modules)
+    modules_fit(words, &text.modules)
 }

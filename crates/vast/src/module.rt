@@ -106,10 +106,7 @@ pub struct Instance {
 #[derive(Drop)]
 pub enum DeclarationKind {
     /// `wire` or `reg`, and a type
-    Variables {
-        net: NetKind,
-        kind: SignAndRange,
-    },
+    Variables { net: NetKind, kind: SignAndRange },
     /// `integer`
     Integers,
 }

@@ -3,7 +3,7 @@
 ghost use Rattle.std.specs.Prelude.{◌≡◌};
 ghost use Rattle.std.specs.List.{list_any, list_all};
 ghost use Rattle.std.specs.Str.{bytes_eq};
-ghost use Rattle.vast.specs.Words.{is_reserved as is_reserved_word, is_name as is_name_text, is_number as is_number_text, begins_name as begins_name_code, is_in_name as is_in_name_code};
+ghost use Rattle.vast.specs.Words.{is_reserved as is_reserved_word, is_name as is_name_text, is_number as is_number_text, is_string as is_string_text, begins_name as begins_name_code, is_in_name as is_in_name_code};
 
 static RESERVED: [&[u8]; 96] = [
     b"always",
@@ -141,6 +141,16 @@ pub fn is_number(text: &[u8]) -> bool
     match text.first() {
         None => false,
         Some(first) => first.is_ascii_digit() || *first == b'\'',
+    }
+}
+
+/// Whether a token is a string: it begins with a quote (3.6).
+pub fn is_string(text: &[u8]) -> bool
+    ensures { result ≡ is_string_text text.now }
+{
+    match text.first() {
+        None => false,
+        Some(first) => *first == b'"',
     }
 }
 

@@ -1,0 +1,105 @@
+// Whether an expression stands as the grammar lets it: names and numbers in their places, operands that hold tightly enough,
+// nothing too deep.
+
+ghost use Rattle.std.specs.Prelude.{◌≡◌, List};
+ghost use Rattle.vast.specs.Syntax.{Text};
+ghost use Rattle.vast.specs.Expressions.{is_some_part};
+ghost use Rattle.vast.specs.TokenTexts.{texts};
+ghost use Rattle.vast.specs.ExpressionTrees.{tree_of, trees_of};
+ghost use Rattle.vast.specs.Modules.{fits_value};
+ghost use Rattle.vast.specs.Within.{stands, all_stand, parts_within};
+
+use crate::expression::Expression;
+use crate::operators::{UNARY_RANK, rank, rank_of};
+use crate::token::letters;
+use crate::words::{is_name, is_number};
+
+/// Whether there is an expression.
+pub fn is_some(parts: &[Expression]) -> bool
+    ensures { (words : List Text) → result ≡ is_some_part (trees_of words parts.now) }
+{
+    !parts.is_empty()
+}
+
+// Whether the expression fits, and has so many levels at most.
+#[cycle(expressions)]
+#[tactic(auto, using(crate::proofs::FitLemmas::stands_nowhere))]
+fn expression_stands(words: &[&[u8]], expression: &Expression, levels: u32) -> bool
+    ensures { result ≡ stands levels (tree_of (texts words.now) expression.now) }
+{
+    if levels == 0 {
+        return false;
+    }
+    let below = levels - 1;
+    match expression {
+        Expression::Number(word) => is_number(letters(words, *word)),
+        Expression::Name(word) => is_name(letters(words, *word)),
+        Expression::Time { .. } => true,
+        Expression::Bit { name, index } => {
+            is_name(letters(words, *name)) && expression_stands(words, index, below)
+        }
+        Expression::Part { name, left, right } => {
+            is_name(letters(words, *name))
+                && (expression_stands(words, left, below) && expression_stands(words, right, below))
+        }
+        Expression::Parentheses(inner) => expression_stands(words, inner, below),
+        Expression::Concatenation { parts, .. } => {
+            is_some(parts) && parts_stand(words, parts, below)
+        }
+        Expression::Replication { count, parts, .. } => {
+            expression_stands(words, count, below)
+                && (is_some(parts) && parts_stand(words, parts, below))
+        }
+        Expression::Conversion { operand, .. } => expression_stands(words, operand, below),
+        Expression::Unary { operand, .. } => {
+            rank_of(operand) >= UNARY_RANK && expression_stands(words, operand, below)
+        }
+        Expression::Binary {
+            operator,
+            left,
+            right,
+        } => {
+            rank(*operator) <= rank_of(left)
+                && rank(*operator) < rank_of(right)
+                && (expression_stands(words, left, below) && expression_stands(words, right, below))
+        }
+        Expression::Conditional {
+            condition,
+            when_true,
+            when_false,
+        } => {
+            rank_of(condition) > 0
+                && expression_stands(words, condition, below)
+                && (expression_stands(words, when_true, below)
+                    && expression_stands(words, when_false, below))
+        }
+    }
+}
+
+#[cycle(expressions)]
+fn parts_stand(words: &[&[u8]], parts: &[Expression], levels: u32) -> bool
+    ensures { result ≡ all_stand levels (trees_of (texts words.now) parts.now) }
+{
+    for part in parts {
+        if !expression_stands(words, part, levels) {
+            return false;
+        }
+    }
+    true
+}
+
+/// Whether the expression stands as the grammar lets it, and has so many levels at most.
+#[tactic(auto, using(crate::proofs::FitLemmas::stands_is))]
+pub fn expression_fits(words: &[&[u8]], expression: &Expression, levels: u32) -> bool
+    ensures { result ≡ fits_value levels (tree_of (texts words.now) expression.now) }
+{
+    expression_stands(words, expression, levels)
+}
+
+/// Whether these expressions do.
+#[tactic(auto, using(crate::proofs::FitLemmas::all_stand_is))]
+pub fn parts_fit(words: &[&[u8]], parts: &[Expression], levels: u32) -> bool
+    ensures { result ≡ parts_within levels (trees_of (texts words.now) parts.now) }
+{
+    parts_stand(words, parts, levels)
+}

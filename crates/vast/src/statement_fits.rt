@@ -1,0 +1,203 @@
+// Whether a statement stands as the grammar lets it: names in their places, each `else` behind the nearest `if`, one default at
+// most in a case, nothing too deep.
+
+ghost use Rattle.std.specs.Prelude.{◌≡◌, List, nat_le};
+ghost use Rattle.vast.specs.Syntax.{Text};
+ghost use Rattle.vast.specs.TokenTexts.{texts};
+ghost use Rattle.vast.specs.ExpressionTrees.{tree_of};
+ghost use Rattle.vast.specs.Statements.{ends_in_if as tree_ends_in_if, is_some_branch as is_some_tree, defaults, is_default as is_default_tree};
+ghost use Rattle.vast.specs.StatementTrees.{statement_tree, statement_trees, branch_tree, branch_trees};
+ghost use Rattle.vast.specs.Within.{statement_stands as tree_stands, statements_stand as trees_stand, branch_stands as branch_tree_stands, branches_stand as branch_trees_stand, case_within};
+ghost use Rattle.vast.specs.Modules.{fits_body};
+
+use crate::expression::Expression;
+use crate::expression_fits::{expression_fits, is_some, parts_fit};
+use crate::statement::{Branch, Statement};
+use crate::statement_parts_fit::{
+    assignment_fits, delay_fits, event_fits, setting_fits, task_fits,
+};
+use crate::token::letters;
+use crate::words::is_name;
+
+// Whether an `if` without `else` stands at the statement's end.
+#[cycle(ends)]
+fn ends_in_if(statement: &Statement) -> bool
+    ensures { (words : List Text) → result ≡ tree_ends_in_if (statement_tree words statement.now) }
+{
+    match statement {
+        Statement::If { .. } => true,
+        Statement::IfElse { other, .. } => ends_in_if(other),
+        Statement::While { body, .. } => ends_in_if(body),
+        Statement::Repeat { body, .. } => ends_in_if(body),
+        Statement::Forever { body, .. } => ends_in_if(body),
+        Statement::For { body, .. } => ends_in_if(body),
+        Statement::Wait { body, .. } => ends_in_if(body),
+        Statement::Delayed { body, .. } => ends_in_if(body),
+        Statement::OnEvent { body, .. } => ends_in_if(body),
+        _ => false,
+    }
+}
+
+// Whether there is a branch.
+fn is_some_branch(branches: &[Branch]) -> bool
+    ensures { (words : List Text) → result ≡ is_some_tree (branch_trees words branches.now) }
+{
+    !branches.is_empty()
+}
+
+fn is_default(branch: &Branch) -> bool
+    ensures { (words : List Text) → result ≡ is_default_tree (branch_tree words branch.now) }
+{
+    matches!(branch, Branch::Default { .. })
+}
+
+// Whether one branch at most is a default (9.5).
+fn has_one_default(branches: &[Branch]) -> bool
+    ensures { (words : List Text) →
+        result ≡ nat_le (defaults (branch_trees words branches.now)) 1 }
+{
+    let mut seen = false;
+    for branch in branches {
+        if is_default(branch) {
+            if seen {
+                return false;
+            }
+            seen = true;
+        }
+    }
+    true
+}
+
+// Whether a case fits, but for its branches.
+fn case_fits(words: &[&[u8]], value: &Expression, branches: &[Branch], levels: u32) -> bool
+    ensures { result ≡ case_within levels
+        (tree_of (texts words.now) value.now) (branch_trees (texts words.now) branches.now) }
+{
+    expression_fits(words, value, levels) && (is_some_branch(branches) && has_one_default(branches))
+}
+
+// Whether the statement fits, and has so many levels at most.
+#[cycle(statements)]
+#[tactic(auto, using(crate::proofs::StatementFitLemmas::stands_nowhere))]
+fn statement_stands(words: &[&[u8]], statement: &Statement, levels: u32) -> bool
+    ensures { result ≡ tree_stands levels (statement_tree (texts words.now) statement.now) }
+{
+    if levels == 0 {
+        return false;
+    }
+    let below = levels - 1;
+    match statement {
+        Statement::Empty => true,
+        Statement::Block(list) => statements_stand(words, list, below),
+        Statement::Assign {
+            target,
+            delay,
+            value,
+            ..
+        } => assignment_fits(words, target, delay, value, below),
+        Statement::Nonblocking {
+            target,
+            delay,
+            value,
+            ..
+        } => assignment_fits(words, target, delay, value, below),
+        Statement::Trigger { name, .. } => below > 0 && is_name(letters(words, *name)),
+        Statement::If {
+            condition,
+            body,
+            ..
+        } => expression_fits(words, condition, below) && statement_stands(words, body, below),
+        Statement::IfElse {
+            condition,
+            body,
+            other,
+            ..
+        } => {
+            expression_fits(words, condition, below)
+                && (statement_stands(words, body, below)
+                    && (!ends_in_if(body) && statement_stands(words, other, below)))
+        }
+        Statement::Case {
+            value,
+            branches,
+            ..
+        } => case_fits(words, value, branches, below) && branches_stand(words, branches, below),
+        Statement::While {
+            condition,
+            body,
+            ..
+        } => expression_fits(words, condition, below) && statement_stands(words, body, below),
+        Statement::Repeat { count, body, .. } => expression_fits(words, count, below)
+            && statement_stands(words, body, below),
+        Statement::Forever { body, .. } => statement_stands(words, body, below),
+        Statement::For {
+            target,
+            value,
+            condition,
+            next_target,
+            next_value,
+            body,
+            ..
+        } => {
+            setting_fits(words, target, value, below)
+                && (expression_fits(words, condition, below)
+                    && (setting_fits(words, next_target, next_value, below)
+                        && statement_stands(words, body, below)))
+        }
+        Statement::Wait {
+            condition,
+            body,
+            ..
+        } => expression_fits(words, condition, below) && statement_stands(words, body, below),
+        Statement::Delayed { delay, body, .. } => delay_fits(words, delay, below)
+            && statement_stands(words, body, below),
+        Statement::OnEvent { event, body, .. } => event_fits(words, event, below)
+            && statement_stands(words, body, below),
+        Statement::Task { task, .. } => task_fits(words, task, below),
+    }
+}
+
+#[cycle(statements)]
+fn statements_stand(words: &[&[u8]], statements: &[Statement], levels: u32) -> bool
+    ensures { result ≡ trees_stand levels (statement_trees (texts words.now) statements.now) }
+{
+    for statement in statements {
+        if !statement_stands(words, statement, levels) {
+            return false;
+        }
+    }
+    true
+}
+
+#[cycle(statements)]
+fn branch_stands(words: &[&[u8]], branch: &Branch, levels: u32) -> bool
+    ensures { result ≡ branch_tree_stands levels (branch_tree (texts words.now) branch.now) }
+{
+    match branch {
+        Branch::Labelled { labels, body } => {
+            is_some(labels)
+                && (parts_fit(words, labels, levels) && statement_stands(words, body, levels))
+        }
+        Branch::Default { body, .. } => statement_stands(words, body, levels),
+    }
+}
+
+#[cycle(statements)]
+fn branches_stand(words: &[&[u8]], branches: &[Branch], levels: u32) -> bool
+    ensures { result ≡ branch_trees_stand levels (branch_trees (texts words.now) branches.now) }
+{
+    for branch in branches {
+        if !branch_stands(words, branch, levels) {
+            return false;
+        }
+    }
+    true
+}
+
+/// Whether the statement stands as the grammar lets it, and has so many levels at most.
+#[tactic(auto, using(crate::proofs::StatementFitLemmas::statement_stands_is))]
+pub fn statement_fits(words: &[&[u8]], statement: &Statement, levels: u32) -> bool
+    ensures { result ≡ fits_body levels (statement_tree (texts words.now) statement.now) }
+{
+    statement_stands(words, statement, levels)
+}
