@@ -1,5 +1,5 @@
 -- A tree stands, level by level, where it fits and has no more levels.
-use Rattle.std.proofs.Common.{◌≡◌, ◌≢◌, ℕ, suc, ◌+◌, ◌-◌, Bool, true, false, not, List, [], ◌∷◌, Vec, Box, Global, length, nat_eq, ◌&&◌, max, nat_le, nat_lt, true≢false, refl, sym, ap, ap₂, ◌∙◌, arith}
+use Rattle.std.proofs.Common.{◌≡◌, ◌≢◌, ℕ, suc, ◌+◌, ◌-◌, Bool, true, false, not, List, [], ◌∷◌, Vec, Box, Global, length, nat_eq, ◌&&◌, max, nat_le, nat_lt, true≢false, refl, sym, ap, ◌∙◌, arith}
 use Rattle.std.proofs.lemmas.Bool.Decides.{nat_tests}
 use Rattle.vast.specs.Words.{is_name, is_number}
 use Rattle.vast.specs.Expressions.{ExpressionTree, number, name, time, bit, part, parentheses, concatenation, replication, conversion, apply, combine, conditional, ExpressionTrees, none, first, rank, rank_of, unary_rank, is_some_part, fits_expression, fits_parts, depth, greatest_depth}

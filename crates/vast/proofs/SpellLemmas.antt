@@ -1,5 +1,5 @@
 -- The words of lists, of concatenations, of blocks and of cases.
-use Rattle.std.proofs.Common.{◌≡◌, ℕ, Bool, true, false, List, [], ◌∷◌, ◌++◌, flat_map, codes, Result, OnOk, Vec, Box, Global, refl, sym, ap, ◌∙◌}
+use Rattle.std.proofs.Common.{◌≡◌, ℕ, Bool, true, false, List, [], ◌∷◌, ◌++◌, codes, Result, OnOk, Vec, Box, Global, refl, sym, ap, ◌∙◌}
 use Rattle.vast.specs.Syntax.{Text}
 use Rattle.vast.specs.Expressions.{ExpressionTree, ExpressionTrees, first, spell_expression}
 use Rattle.vast.specs.Statements.{TargetTree, TargetTrees, spell_target, spell_statement}

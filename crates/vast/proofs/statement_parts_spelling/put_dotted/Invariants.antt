@@ -1,4 +1,4 @@
-use Rattle.std.proofs.Common.{◌≡◌, ◌∷◌, [], ◌++◌, drop, flat_map, map}
+use Rattle.std.proofs.Common.{◌≡◌, ◌++◌, drop, map}
 use Rattle.vast.specs.TokenTexts.{token_text, texts}
 use Rattle.vast.specs.Spellings.{texts_of}
 use Rattle.vast.specs.Inner.{dotted_words}

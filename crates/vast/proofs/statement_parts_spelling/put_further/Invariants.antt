@@ -1,5 +1,5 @@
-use Rattle.std.proofs.Common.{◌≡◌, ◌∷◌, [], ◌++◌, drop, flat_map, map}
-use Rattle.vast.specs.TokenTexts.{token_text, texts}
+use Rattle.std.proofs.Common.{◌≡◌, ◌++◌, drop, flat_map, map}
+use Rattle.vast.specs.TokenTexts.{texts}
 use Rattle.vast.specs.Spellings.{texts_of}
 use Rattle.vast.specs.Statements.{spell_further_term}
 use Rattle.vast.specs.StatementTrees.{further_term}

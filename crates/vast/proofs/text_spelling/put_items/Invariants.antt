@@ -1,5 +1,5 @@
 use Rattle.std.proofs.Common.{◌≡◌, ◌++◌, drop, flat_map, map}
-use Rattle.vast.specs.TokenTexts.{token_text, texts}
+use Rattle.vast.specs.TokenTexts.{texts}
 use Rattle.vast.specs.Spellings.{texts_of}
 use Rattle.vast.specs.Modules.{spell_item}
 use Rattle.vast.specs.ModuleTrees.{item_tree}
