@@ -164,7 +164,7 @@ fn reads_each_statement(rt: HostRuntime) -> Result<(), Fail> {
     let found = tokens(rt.alloc(), &source)?;
     let tree = parse(rt.alloc(), &found)?;
     assert_eq!(rt; tree.modules.len(), 3);
-    assert_eq!(rt; tree.modules[0].items.len(), 13);
+    assert_eq!(rt; tree.modules[0].items.len(), 11);
     let words = words(rt.alloc(), &found)?;
     assert!(rt; fits(&words, &tree));
     let spelled = spell(rt.alloc(), &words, &tree)?;
