@@ -96,7 +96,7 @@ pub fn expression_fits(words: &[&[u8]], expression: &Expression, levels: u32) ->
     expression_stands(words, expression, levels)
 }
 
-/// Whether these expressions do.
+/// Whether each of these expressions stands so.
 #[tactic(auto, using(crate::proofs::FitLemmas::all_stand_is))]
 pub fn parts_fit(words: &[&[u8]], parts: &[Expression], levels: u32) -> bool
     ensures { result ≡ parts_within levels (trees_of (texts words.now) parts.now) }

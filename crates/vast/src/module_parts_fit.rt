@@ -28,14 +28,14 @@ fn range_fits(words: &[&[u8]], range: &Option<Bounds>, levels: u32) -> bool
     }
 }
 
-/// Whether the sign and range do, with so many levels at most.
+/// Whether a sign and a range stand as the grammar lets them, with so many levels at most.
 pub fn type_fits(words: &[&[u8]], kind: &SignAndRange, levels: u32) -> bool
     ensures { result ≡ fits_type levels (type_tree (texts words.now) kind.now) }
 {
     range_fits(words, &kind.range, levels)
 }
 
-/// Whether the type of a parameter does.
+/// Whether the type of a parameter stands so.
 pub fn parameter_type_fits(words: &[&[u8]], kind: &ParameterType, levels: u32) -> bool
     ensures { result ≡ fits_parameter_type levels (parameter_type (texts words.now) kind.now) }
 {
@@ -51,7 +51,7 @@ fn setting_fits(words: &[&[u8]], setting: &Setting, levels: u32) -> bool
     is_name(letters(words, setting.name)) && expression_fits(words, &setting.value, levels)
 }
 
-/// Whether each setting does.
+/// Whether each setting stands so.
 pub fn settings_fit(words: &[&[u8]], settings: &[Setting], levels: u32) -> bool
     ensures { result ≡ list_all (fits_setting levels)
         (map (setting_tree (texts words.now)) settings.now) }
@@ -80,7 +80,7 @@ fn one_declared_fits(words: &[&[u8]], declared: &Declared, levels: u32) -> bool
     is_name(letters(words, declared.name)) && optional_fits(words, &declared.value, levels)
 }
 
-/// Whether each declared name does.
+/// Whether each declared name stands so.
 pub fn declared_fit(words: &[&[u8]], declared: &[Declared], levels: u32) -> bool
     ensures { result ≡ list_all (fits_declared levels)
         (map (declared_tree (texts words.now)) declared.now) }
@@ -122,7 +122,7 @@ fn each_port_fits(words: &[&[u8]], ports: &[Port], levels: u32) -> bool
     true
 }
 
-/// Whether the ports of a module do: the first says which way it goes.
+/// Whether the ports of a module stand so: the first says which way it goes.
 pub fn ports_fit(words: &[&[u8]], ports: &[Port], levels: u32) -> bool
     ensures { result ≡ fits_ports levels (map (port_tree (texts words.now)) ports.now) }
 {
@@ -160,7 +160,7 @@ fn each_parameter_fits(words: &[&[u8]], parameters: &[HeadParameter], levels: u3
     true
 }
 
-/// Whether the parameters of a module's head do: the first stands behind the word.
+/// Whether the parameters of a module's head stand so: the first stands behind the word.
 pub fn head_parameters_fit(words: &[&[u8]], parameters: &[HeadParameter], levels: u32) -> bool
     ensures { result ≡ fits_head_parameters levels
         (map (head_parameter (texts words.now)) parameters.now) }
@@ -202,7 +202,7 @@ fn each_connection_fits(words: &[&[u8]], connections: &[Connection], levels: u32
     true
 }
 
-/// Whether connections by order or by name do.
+/// Whether connections by order or by name stand so.
 pub fn connections_fit(words: &[&[u8]], connections: &Connections, levels: u32) -> bool
     ensures { result ≡ fits_connections levels
         (connections_tree (texts words.now) connections.now) }
@@ -221,7 +221,7 @@ fn instance_fits(words: &[&[u8]], instance: &Instance, levels: u32) -> bool
     is_name(letters(words, instance.name)) && connections_fit(words, &instance.connections, levels)
 }
 
-/// Whether each instance does.
+/// Whether each instance stands so.
 pub fn instances_fit(words: &[&[u8]], instances: &[Instance], levels: u32) -> bool
     ensures { result ≡ list_all (fits_instance levels)
         (map (instance_tree (texts words.now)) instances.now) }

@@ -71,7 +71,7 @@ pub fn target_fits(words: &[&[u8]], target: &Target, levels: u32) -> bool
     target_stands(words, target, levels)
 }
 
-/// Whether the delay does.
+/// Whether the delay stands so.
 pub fn delay_fits(words: &[&[u8]], delay: &Delay, levels: u32) -> bool
     ensures { result ≡ delay_within levels (delay_tree (texts words.now) delay.now) }
 {
@@ -92,7 +92,7 @@ fn optional_delay_fits(words: &[&[u8]], delay: &Option<Delay>, levels: u32) -> b
     }
 }
 
-/// Whether `target = value` does.
+/// Whether `target = value` stands so.
 pub fn setting_fits(words: &[&[u8]], target: &Target, value: &Expression, levels: u32) -> bool
     ensures { result ≡ setting_within levels
         (target_tree (texts words.now) target.now) (tree_of (texts words.now) value.now) }
@@ -100,7 +100,7 @@ pub fn setting_fits(words: &[&[u8]], target: &Target, value: &Expression, levels
     target_fits(words, target, levels) && expression_fits(words, value, levels)
 }
 
-/// Whether `target = #delay value` does.
+/// Whether `target = #delay value` stands so.
 pub fn assignment_fits(
     words: &[&[u8]],
     target: &Target,
@@ -130,7 +130,7 @@ fn terms_fit(words: &[&[u8]], further: &[FurtherTerm]) -> bool
     true
 }
 
-/// Whether the event control does.
+/// Whether the event control stands so.
 pub fn event_fits(words: &[&[u8]], event: &Event, levels: u32) -> bool
     ensures { result ≡ event_within levels (event_tree (texts words.now) event.now) }
 {
@@ -228,7 +228,7 @@ fn number_fits(words: &[&[u8]], number: &Option<Token>) -> bool
     }
 }
 
-/// Whether the call does.
+/// Whether the call of a system task stands so.
 pub fn task_fits(words: &[&[u8]], task: &Task, levels: u32) -> bool
     ensures { result ≡ task_within levels (task_tree (texts words.now) task.now) }
 {
