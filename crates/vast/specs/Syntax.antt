@@ -1,6 +1,5 @@
--- The trees of the small grammar, which `parse` reads today (IEEE 1364-2005, annex A, narrowed to docs/LANGUAGE.md); those of
--- the whole profile are in Expressions, Statements and Modules. As the definitions see them,
--- names and numbers are words, all else is a shape.
+-- The trees of what runs today (docs/LANGUAGE.md, "What runs"); those of all that is read are in Expressions, Statements and
+-- Modules. As the definitions see them, names and numbers are words, all else is a shape.
 use Rattle.std.specs.Prelude.{ℕ, List, Option}
 
 -- a word of the text, by its bytes

@@ -1,4 +1,4 @@
--- The tree that a value of the program stands for.
+-- The tree that what runs of a text stands for.
 use Rattle.std.specs.Prelude.{List, [], ◌∷◌, map, option_map}
 use Rattle.vast.specs.Syntax.{Text, ExpressionTree, number, name, StatementTree, empty, block, assign, nonblocking, delay, dump_vars, finish, StatementTrees, none, first, RangeTree, ItemTree, registers, initial, ModuleTree, SourceTree}
 use Rattle.vast.specs.declared.syntax.Word.{Word}

@@ -1,4 +1,4 @@
-// The trees that the grammar makes of a text (IEEE 1364-2005, annex A, narrowed to docs/LANGUAGE.md).
+// The trees of what runs of a text today (docs/LANGUAGE.md, "What runs").
 
 /// A word of the text as a tree keeps it: its bytes, and the number of its token, by which a fault finds
 /// its file and line.

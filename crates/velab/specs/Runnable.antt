@@ -149,6 +149,6 @@ runnable_body letters (Some heads) ports items = None
 abbrev pub runnable_module : ModuleTree → Option small.ModuleTree
 runnable_module m = runnable_body m.name m.parameters m.ports m.items
 
--- the tree, as the small grammar has it
+-- the tree, as elaboration takes it
 abbrev pub runnable : SourceTree → Option small.SourceTree
 runnable modules = each runnable_module modules

@@ -1,4 +1,4 @@
-// What runs today of a text of the whole profile: its tree as the small grammar has it, or the first construct that isn't run yet.
+// What runs today of a text: the tree that elaboration takes, or the first construct that isn't run yet.
 
 ghost use Rattle.std.specs.Prelude.{◌≡◌, List, [], map, option_map};
 ghost use Rattle.vast.specs.Syntax.{Text};
@@ -378,7 +378,7 @@ fn module<'t>(
     })
 }
 
-/// The tree of a text as the small grammar has it, or the first token that is kept of what isn't run yet (E299).
+/// What runs of a tree, as elaboration takes it, or the first token that is kept of what isn't run yet (E299).
 pub fn runnable<'t>(
     alloc: Global,
     tokens: &Tokens<'t>,
