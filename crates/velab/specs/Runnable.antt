@@ -1,5 +1,5 @@
 -- What runs of a text today: the part of its tree that `Elaborates` knows, or none where there is more in it (docs/LANGUAGE.md,
--- "What it runs today").
+-- "What runs").
 use Rattle.std.specs.Prelude.{Bool, if◌then◌else◌, List, [], ◌∷◌, Option, Some, None, option_map}
 use Rattle.vast.specs.Syntax.{Text}
 use Rattle.vast.specs.Syntax as small
