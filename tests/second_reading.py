@@ -5,6 +5,8 @@ import re
 from copy import copy
 from dataclasses import dataclass, field
 
+from second_values import UNARY, Binary, Conditional, Constant, Unary, Variable, World, expression, extended, integer, is_known, truth
+
 UNTIL = 40
 
 
@@ -62,19 +64,16 @@ def based(rng):
     return Number(f"{'' if size is None else size}'{sign}{base}{digits}", letters, bool(sign), spreads)
 
 
-def amount_of(number):
-    """What a delay amounts to: 64 bits, unsigned; 0 where a letter is unknown."""
-    letters = number.at(64)
-    return 0 if set(letters) - set("01") else int(letters[::-1], 2)
-
-
 # ---- modules
 
 @dataclass
 class Module:
     lengths: list
     ranges: list
+    signs: list = field(default_factory=list)
+    kinds: list = field(default_factory=list)
     processes: list = field(default_factory=list)
+    lines: list = field(default_factory=list)
     declared: list = field(default_factory=list)
     factor: int = 1
     precision: str = "1 ns"
@@ -83,22 +82,113 @@ class Module:
         return self.declared or [f"v{i}" for i in range(len(self.lengths))]
 
 
-def statement(rng, count, depth):
-    """The text of a statement and what it has to do."""
-    kind = rng.choices(["assign", "post", "delay", "block", "empty", "dump", "finish"], [6, 5, 4, 4 if depth else 0, 1, 1, 0.3])[0]
-    if kind in ("assign", "post"):
-        target = rng.randrange(count)
-        source = rng.randrange(count) if rng.random() < 0.4 else (based if rng.random() < 0.6 else plain)(rng)
-        right = source.text if isinstance(source, Number) else f"v{source}"
-        return f"v{target} {'=' if kind == 'assign' else '<='} {right};", [(kind, target, source)]
-    if kind == "delay":
-        number = rng.choice([Number(str(d), digits_of(d, 32), True) for d in (0, 1, 2, 5, 30)] + [Number("64'hFFFFFFFFFFFFFFFF", "1" * 64), Number("4'sb1111", "1111", True), Number("1'bx", "x"), Number("'bz", "z" * 32, False, True)])
-        text, body = statement(rng, count, depth - 1 if depth else 0)
-        return f"#{number.text} {text}", [("delay", amount_of(number), body)]
-    if kind == "block":
-        parts = [statement(rng, count, depth - 1) for _ in range(rng.randrange(0, 5))]
+# statements that run today, and how often each is made; those of the second line only where one may stand inside. `repeat`, `until`
+# and `on` wait for their turn, and expressions of more than DEPTH operators
+LEAVES = {"assign": 6, "post": 5, "delay": 4, "empty": 1, "dump": 1, "finish": 0.2, "stop": 0.1}
+NESTED = {"block": 4, "test": 3, "again": 1, "for": 1, "forever": 0.5}
+DEPTH = 1
+
+
+class Texts:
+    """Statements of a module with so many variables, made at random: their texts, and what they have to do."""
+
+    def __init__(self, rng, count):
+        self.rng, self.count = rng, count
+
+    def leaf(self):
+        if self.rng.random() < 0.6:
+            place = self.rng.randrange(self.count)
+            return Variable(f"v{place}", place)
+        return Constant((based if self.rng.random() < 0.6 else plain)(self.rng))
+
+    def expression(self):
+        return expression(self.rng, self.leaf, min(DEPTH, self.rng.choice([0, 0, 1, 2, 3])))
+
+    def statement(self, depth):
+        kinds = LEAVES | NESTED if depth else LEAVES
+        kind = self.rng.choices(list(kinds), list(kinds.values()))[0]
+        return getattr(self, "make_" + kind)(depth - 1 if depth else 0)
+
+    def make_assign(self, depth, sign="="):
+        target, value = self.rng.randrange(self.count), self.expression()
+        return f"v{target} {sign} {value.text()};", [("assign" if sign == "=" else "post", target, value)]
+
+    def make_post(self, depth):
+        return self.make_assign(depth, "<=")
+
+    def make_empty(self, depth):
+        return ";", []
+
+    def make_dump(self, depth):
+        return "$dumpvars;", [("dump",)]
+
+    def make_finish(self, depth):
+        return self.rng.choice(["$finish;", "$finish(1);"]), [("finish",)]
+
+    def make_stop(self, depth):
+        return self.rng.choice(["$stop;", "$stop(0);"]), [("stop",)]
+
+    def amount(self):
+        numbers = [Number(str(d), digits_of(d, 32), True) for d in (0, 1, 2, 5, 30)]
+        odd = [Number("64'hFFFFFFFFFFFFFFFF", "1" * 64), Number("4'sb1111", "1111", True), Number("1'bx", "x"), Number("'bz", "z" * 32, False, True)]
+        number = Constant(self.rng.choice(numbers * 2 + odd))
+        if self.rng.random() < 0.7:
+            return f"#{number.text()}", number
+        value = self.expression()
+        return f"#({value.text()})", value
+
+    def make_delay(self, depth):
+        front, amount = self.amount()
+        text, body = self.statement(depth)
+        return f"{front} {text}", [("delay", amount, body)]
+
+    def make_block(self, depth):
+        parts = [self.statement(depth) for _ in range(self.rng.randrange(0, 5))]
         return "begin " + " ".join(p[0] for p in parts) + " end", [action for p in parts for action in p[1]]
-    return {"empty": (";", []), "dump": ("$dumpvars;", [("dump",)]), "finish": ("$finish;", [("finish",)])}[kind]
+
+    def make_test(self, depth):
+        condition, (text, body) = self.expression(), self.statement(depth)
+        if self.rng.random() < 0.5:
+            return f"if ({condition.text()}) begin {text} end", [("test", condition, body, [])]
+        other, otherwise = self.statement(depth)
+        return f"if ({condition.text()}) begin {text} end else {other}", [("test", condition, body, otherwise)]
+
+    def make_again(self, depth):
+        condition, (text, body) = self.expression(), self.statement(depth)
+        return f"while ({condition.text()}) begin #1; {text} end", [("again", condition, [("delay", one(), [])] + body)]
+
+    def make_repeat(self, depth):
+        count, (text, body) = self.rng.choice([self.expression(), self.amount()[1]]), self.statement(depth)
+        return f"repeat ({count.text()}) {text}", [("repeat", count, body)]
+
+    def make_forever(self, depth):
+        text, body = self.statement(depth)
+        if self.rng.random() < 0.8:
+            text, body = f"begin #1; {text} end", [("delay", one(), [])] + body
+        return f"forever {text}", [("forever", body)]
+
+    def make_until(self, depth):
+        condition, (text, body) = self.expression(), self.statement(depth)
+        return f"wait ({condition.text()}) {text}", [("until", condition, body)]
+
+    def make_on(self, depth):
+        terms = [(self.rng.choice(["", "posedge", "negedge"]), self.rng.randrange(self.count)) for _ in range(self.rng.choice([1, 1, 2, 3]))]
+        text, body = self.statement(depth)
+        if terms[0][0] == "" and len(terms) == 1 and self.rng.random() < 0.5:
+            return f"@v{terms[0][1]} {text}", [("on", terms, body)]
+        front = self.rng.choice([" or ", ", "]).join(f"{edge} v{place}" for edge, place in terms)
+        return f"@({front}) {text}", [("on", terms, body)]
+
+    def make_for(self, depth):
+        (first, begins), (second, turns) = self.make_assign(0), self.make_assign(0)
+        condition, (text, body) = self.expression(), self.statement(depth)
+        if self.rng.random() < 0.7:
+            text, body = f"begin #1; {text} end", [("delay", one(), [])] + body
+        return f"for ({first[:-1]}; {condition.text()}; {second[:-1]}) {text}", begins + [("again", condition, body + turns)]
+
+
+def one():
+    return Constant(Number("1", digits_of(1, 32), True))
 
 
 # timescales, as a text spells them, with the units of the precision in one unit of time, and the precision as a dump spells it
@@ -111,22 +201,44 @@ TIMESCALES = [
 ]
 
 
+def declaration(kind, signed, bounds, name):
+    """Of one variable."""
+    sign = " signed" if signed and kind == "reg" else ""
+    return f"{kind}{sign}{'' if bounds is None else f' [{bounds[0]}:{bounds[1]}]'} {name};"
+
+
 def module(rng):
-    lengths, ranges = [], []
+    lengths, ranges, kinds, signs = [], [], [], []
     for _ in range(rng.choice([1, 2, 2, 3, 3, 100])):
+        if rng.random() < 0.2:
+            lengths.append(32), ranges.append(None), kinds.append("integer"), signs.append(True)
+            continue
+        kinds.append("reg"), signs.append(rng.random() < 0.3)
         length = rng.choice([1, 1, 2, 8, 64])
         low = rng.randrange(0, 9)
         bounds = (low + length - 1, low) if rng.random() < 0.5 else (low, low + length - 1)
         ranges.append(None if length == 1 and rng.random() < 0.7 else bounds)
         lengths.append(length)
-    made = Module(lengths, ranges)
+    made = Module(lengths, ranges, signs, kinds)
     lines = ["module tb;"]
     if rng.random() < 0.3:
         line, made.factor, made.precision = rng.choice(TIMESCALES)
         lines.insert(0, line)
-    lines += [f"  reg {'' if r is None else f'[{r[0]}:{r[1]}] '}{n};" for n, r in zip(made.names(), ranges)]
-    for i in range(rng.randrange(1, 4)):
-        text, actions = statement(rng, len(lengths), 3)
+    texts = Texts(rng, len(lengths))
+    for place, declared in enumerate(zip(kinds, signs, ranges, made.names())):
+        lines.append(f"  {declaration(*declared)}")
+        if rng.random() < 0.1:
+            value = texts.expression()
+            lines[-1] = f"{lines[-1][:-1]} = {value.text()};"
+            made.processes.append([("assign", place, value)])
+            made.lines.append(len(lines))
+    for i in range(rng.randrange(1, 5)):
+        text, actions = texts.statement(3)
+        made.lines.append(len(lines) + 1)
+        if i and rng.random() < 0.3:
+            lines.append(f"  always begin #1; {text} end")
+            made.processes.append([("forever", [("delay", one(), [])] + actions)])
+            continue
         if i == 0 and rng.random() < 0.9:
             text, actions = f"begin $dumpvars; {text} end", [("dump",)] + actions
         lines.append(f"  initial {text}")
@@ -136,20 +248,25 @@ def module(rng):
 
 # ---- texts of one module tb, numbers without x and z
 
-TASKS = {"$dumpvars": "dump", "$finish": "finish"}
+TASKS = {"$dumpvars": "dump", "$finish": "finish", "$stop": "stop"}
 KINDS = {"=": "assign", "<=": "post"}
+RANKS = [["||"], ["&&"], ["|"], ["^", "^~", "~^"], ["&"], ["==", "!=", "===", "!=="], ["<", "<=", ">", ">="], ["<<", ">>", "<<<", ">>>"], ["+", "-"], ["*", "/", "%"]]
+WORDS = r"[0-9]*'[bdh][0-9a-fA-F]+|[0-9]+|\$?[A-Za-z_][A-Za-z0-9_]*|<<<|>>>|===|!==|<<|>>|<=|>=|==|!=|&&|\|\||~&|~\||~\^|\^~|\S"
 
 
 class Words:
-    """The words of a text of the small grammar, numbers without x and z."""
+    """The words of a text, numbers without x and z."""
 
     def __init__(self, text):
-        bare = re.sub("//.*", "", text)
-        self.words = re.findall(r"[0-9]*'[bdh][0-9a-fA-F]+|[0-9]+|\$?[A-Za-z_][A-Za-z0-9_]*|<=|\S", bare)
+        self.words = re.findall(WORDS, re.sub("//.*", "", text))
 
     def take(self, *wanted):
         """The next word, if it is wanted."""
         return self.words.pop(0) if self.words and self.words[0] in wanted else None
+
+    def must(self, wanted):
+        if not self.take(wanted):
+            raise ValueError(f"no {wanted} before {self.words[:1]}")
 
     def next(self):
         return self.words.pop(0)
@@ -163,31 +280,107 @@ def number_of(word):
     return Number(word, digits_of(int(digits[1:], {"b": 2, "d": 10, "h": 16}[digits[0]]), int(size or 32)))
 
 
-def parsed_statement(words, names):
-    """What the next statement has to do."""
-    if words.take("begin"):
-        actions = []
-        while not words.take("end"):
-            actions += parsed_statement(words, names)
-        return actions
-    if words.take("#"):
-        return [("delay", amount_of(number_of(words.next())), parsed_statement(words, names))]
-    if words.take(";"):
-        return []
-    word = words.next()
-    if word in TASKS:
-        action = (TASKS[word],)
-    else:
-        kind, source = KINDS[words.next()], words.next()
-        action = kind, names.index(word), names.index(source) if source in names else number_of(source)
-    if not words.take(";"):
-        raise ValueError(f"no semicolon behind {word}")
-    return [action]
+class Parser:
+    """Statements of a module with these names, and what they have to do."""
+
+    def __init__(self, words, names):
+        self.words, self.names = words, names
+
+    def operand(self):
+        word = self.words.next()
+        if word == "(":
+            inner = self.expression()
+            self.words.must(")")
+            return inner
+        if word in UNARY:
+            return Unary(word, self.operand())
+        return Variable(word, self.names.index(word)) if word in self.names else Constant(number_of(word))
+
+    def ranked(self, rank):
+        if rank == len(RANKS):
+            return self.operand()
+        left = self.ranked(rank + 1)
+        while operator := self.words.take(*RANKS[rank]):
+            left = Binary(operator, left, self.ranked(rank + 1))
+        return left
+
+    def expression(self):
+        condition = self.ranked(0)
+        if not self.words.take("?"):
+            return condition
+        when_true = self.expression()
+        self.words.must(":")
+        return Conditional(condition, when_true, self.expression())
+
+    def within(self):
+        self.words.must("(")
+        inner = self.expression()
+        self.words.must(")")
+        return inner
+
+    def terms(self):
+        """The terms of an event control."""
+        if not self.words.take("("):
+            return [("", self.names.index(self.words.next()))]
+        terms = []
+        while not terms or self.words.take("or", ","):
+            edge = self.words.take("posedge", "negedge") or ""
+            terms.append((edge, self.names.index(self.words.next())))
+        self.words.must(")")
+        return terms
+
+    def assignment(self):
+        target = self.names.index(self.words.next())
+        kind = KINDS[self.words.next()]
+        return kind, target, self.expression()
+
+    def loop(self):
+        """What stands behind `for`."""
+        self.words.must("(")
+        begins = self.assignment()
+        self.words.must(";")
+        condition = self.expression()
+        self.words.must(";")
+        turns = self.assignment()
+        self.words.must(")")
+        return [begins, ("again", condition, self.statement() + [turns])]
+
+    def compound(self, word):
+        """What a statement that begins with this word has to do, where others stand in it."""
+        if word == "begin":
+            actions = []
+            while not self.words.take("end"):
+                actions += self.statement()
+            return actions
+        if word == "#":
+            amount = self.within() if self.words.words[0] == "(" else self.operand()
+            return [("delay", amount, self.statement())]
+        if word == "@":
+            return [("on", self.terms(), self.statement())]
+        if word == "if":
+            condition, body = self.within(), self.statement()
+            return [("test", condition, body, self.statement() if self.words.take("else") else [])]
+        if word == "for":
+            return self.loop()
+        if word == "forever":
+            return [("forever", self.statement())]
+        return [({"while": "again", "repeat": "repeat", "wait": "until"}[word], self.within(), self.statement())]
+
+    def statement(self):
+        """What the next statement has to do."""
+        if word := self.words.take("begin", "#", "@", "if", "for", "forever", "while", "repeat", "wait"):
+            return self.compound(word)
+        if self.words.take(";"):
+            return []
+        task = self.words.take(*TASKS)
+        action = (TASKS[task],) if task else self.assignment()
+        self.words.must(";")
+        return [action]
 
 
-def declare(words, made):
+def declare(kind, words, made):
     """Adds the variables of the next declaration."""
-    bounds = None
+    bounds, signed = None, kind == "integer" or bool(words.take("signed"))
     if words.take("["):
         left, _, right, _ = (words.next() for _ in range(4))
         bounds = int(left), int(right)
@@ -195,8 +388,13 @@ def declare(words, made):
     while separator == ",":
         made.declared.append(words.next())
         made.ranges.append(bounds)
-        made.lengths.append(abs(bounds[0] - bounds[1]) + 1 if bounds else 1)
+        made.lengths.append(abs(bounds[0] - bounds[1]) + 1 if bounds else 32 if kind == "integer" else 1)
+        made.signs.append(signed)
+        made.kinds.append(kind)
         separator = words.next()
+        if separator == "=":
+            made.processes.append([("assign", len(made.declared) - 1, Parser(words, made.declared).expression())])
+            separator = words.next()
 
 
 def parsed(text):
@@ -204,12 +402,14 @@ def parsed(text):
     words, made = Words(text), Module([], [])
     assert [words.next() for _ in range(3)] == ["module", "tb", ";"]
     while not words.take("endmodule"):
-        if words.take("initial"):
-            made.processes.append(parsed_statement(words, made.declared))
-        elif words.take("reg"):
-            declare(words, made)
+        word = words.next()
+        if word in ("initial", "always"):
+            actions = Parser(words, made.declared).statement()
+            made.processes.append(actions if word == "initial" else [("forever", actions)])
+        elif word in ("reg", "integer"):
+            declare(word, words, made)
         else:
-            raise ValueError(f"no item: {words.next()}")
+            raise ValueError(f"no item: {word}")
     return made
 
 
@@ -222,14 +422,15 @@ class Run:
         self.rest = [list(p) for p in made.processes]
         self.active = {p for p, rest in enumerate(self.rest) if rest}
         self.inactive, self.activated, self.posted, self.future = set(), [], [], {}
-        self.time, self.last, self.beyond, self.finished, self.items = 0, None, False, False, []
+        self.waits = {}
+        self.time, self.last, self.beyond, self.finished, self.items = 0, None, False, "", []
         if not self.active:
             self.items.append((0, list(self.values)))
 
     def copied(self):
         other = copy(self)
         other.values, other.items = list(self.values), list(self.items)
-        other.rest = [list(actions) for actions in self.rest]
+        other.rest, other.waits = [list(actions) for actions in self.rest], dict(self.waits)
         other.active, other.inactive = set(self.active), set(self.inactive)
         other.activated, other.posted = list(self.activated), list(self.posted)
         other.future = {time: set(waiting) for time, waiting in self.future.items()}
@@ -237,7 +438,7 @@ class Run:
 
     def cause(self):
         """Why the run ended, where it has."""
-        return "finish" if self.finished else "limit" if self.beyond else "quiet"
+        return self.finished or ("limit" if self.beyond else "quiet")
 
     def choices(self):
         if self.finished:
@@ -248,13 +449,31 @@ class Run:
         found = first + sorted(self.active - set(first)) + ["update"] * bool(self.activated)
         return found or ["advance"] * bool(self.future)
 
+    def world(self):
+        return World(self.values, self.made.signs, self.time // self.made.factor)
+
     def value(self, source, length):
-        if isinstance(source, Number):
-            return source.at(max(length, len(source.letters)))[:length]
-        return (self.values[source] + "0" * length)[:length]
+        """What a variable of this length gets of an expression (5.4.1)."""
+        world = self.world()
+        return source.at(world, max(length, source.size(world)), source.signed(world))[:length]
+
+    def holds(self, condition):
+        return truth(condition.own(self.world())) == "1"
+
+    def amount(self, source):
+        """How long a delay lasts: 64 bits, unsigned; 0 where a letter is unknown."""
+        world = self.world()
+        letters = extended(source.own(world), source.signed(world), 64)
+        return (integer(letters, False) if is_known(letters) else 0) * self.made.factor
+
+    def turns(self, source):
+        world = self.world()
+        letters = source.own(world)
+        return max(0, integer(letters, source.signed(world))) if is_known(letters) else 0
 
     def take(self, choice):
         self.last = None
+        before = list(self.values)
         if choice == "advance":
             self.time = min(self.future)
             self.active = self.future.pop(self.time)
@@ -263,25 +482,72 @@ class Run:
             self.values[target] = value
         else:
             self.act(choice)
+        self.wake(before)
         if not self.finished:
             self.settle()
 
     def act(self, process):
-        kind, *what = self.rest[process].pop(0)
+        rest = self.rest[process]
+        kind, *what = rest.pop(0)
         if kind == "assign":
             self.values[what[0]] = self.value(what[1], self.made.lengths[what[0]])
         elif kind == "post":
             self.posted.append((what[0], self.value(what[1], self.made.lengths[what[0]])))
         elif kind == "delay":
-            return self.suspend(process, what[0] * self.made.factor, what[1])
-        elif kind == "dump":
-            self.items.append("dump")
+            return self.suspend(process, self.amount(what[0]), what[1])
+        elif kind == "on":
+            rest[:0] = what[1]
+            return self.wait(process, what[0])
+        elif kind == "until" and not self.holds(what[0]):
+            rest.insert(0, ("until", *what))
+            return self.wait(process, [("", place) for place in what[0].reads()])
+        elif kind in ("dump", "finish", "stop"):
+            self.tell(kind)
         else:
-            self.finished = True
-        if self.rest[process]:
+            rest[:0] = self.follows(kind, what)
+        if rest:
             self.last = process
         else:
             self.active.discard(process)
+
+    def tell(self, kind):
+        if kind == "dump":
+            self.items.append("dump")
+        else:
+            self.finished = kind
+
+    def follows(self, kind, what):
+        """What comes next of a statement that tests or turns."""
+        if kind == "until":
+            return what[1]
+        if kind == "test":
+            return what[1] if self.holds(what[0]) else what[2]
+        if kind == "again":
+            return what[1] + [(kind, *what)] if self.holds(what[0]) else []
+        if kind == "forever":
+            return what[0] + [(kind, *what)]
+        count = self.turns(what[0]) if kind == "repeat" else what[0] - 1
+        turn = [("turn", count, what[1])] if count else []
+        return turn if kind == "repeat" else what[1] + turn
+
+    def wait(self, process, terms):
+        self.active.discard(process)
+        if self.rest[process]:
+            self.waits[process] = terms
+
+    def wake(self, before):
+        woken = {process for process, terms in self.waits.items() if any(self.heard(edge, before[place], self.values[place]) for edge, place in terms)}
+        for process in woken:
+            del self.waits[process]
+        self.active |= woken
+
+    def heard(self, edge, old, new):
+        """9.7.2, table 9-2: an edge is one of the lowest bit."""
+        rank = {"0": 0, "x": 1, "z": 1, "1": 2}
+        if edge == "":
+            return old != new
+        rise = rank[new[0]] - rank[old[0]]
+        return rise > 0 if edge == "posedge" else rise < 0
 
     def suspend(self, process, amount, body):
         self.rest[process] = body + self.rest[process]
@@ -340,9 +606,9 @@ def change(n, letters):
 
 def header(made):
     yield from ("$version vrace $end", f"$timescale {made.precision} $end", "$scope module tb $end")
-    for n, (name, length, bounds) in enumerate(zip(made.names(), made.lengths, made.ranges)):
+    for n, (kind, name, length, bounds) in enumerate(zip(made.kinds, made.names(), made.lengths, made.ranges)):
         shown = "" if bounds is None else f" [{bounds[0]}:{bounds[1]}]"
-        yield f"$var reg {length} {code(n)} {name}{shown} $end"
+        yield f"$var {kind} {length} {code(n)} {name}{shown} $end"
     yield from ("$upscope $end", "$enddefinitions $end")
 
 
@@ -378,9 +644,13 @@ def deed(run, choice):
         return f" write tb.{run.made.names()[target]} {shown(run.values[target])} {shown(value)}"
     kind, *what = run.rest[choice][0]
     if kind == "delay":
-        return f" delay {what[0] * run.made.factor}"
-    if kind in ("dump", "finish"):
-        return {"dump": " dumpvars", "finish": " finish"}[kind]
+        return f" delay {run.amount(what[0])}"
+    if kind in ("dump", "finish", "stop"):
+        return {"dump": " dumpvars", "finish": " finish", "stop": " stop"}[kind]
+    if kind == "on" or (kind == "until" and not run.holds(what[0])):
+        return " wait"
+    if kind not in ("assign", "post"):
+        return ""
     target, source = what
     value = shown(run.value(source, run.made.lengths[target]))
     old = f" {shown(run.values[target])}" if kind == "assign" else ""

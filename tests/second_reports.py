@@ -8,6 +8,11 @@ from itertools import islice
 from second_reading import UNTIL, Run, dump
 
 MOST_RUNS = 1500
+MOST_STEPS = 300
+
+
+class Endless(Exception):
+    """A run that takes more steps than are looked at."""
 
 
 # ---- what is to be found
@@ -15,6 +20,8 @@ MOST_RUNS = 1500
 def runs(run, departures, log=(), step=0):
     """Each run that goes on from here with so many departures at most: its log, its number of steps, where it ends."""
     while choices := run.choices():
+        if step == MOST_STEPS:
+            raise Endless
         for index in range(1, len(choices) if departures else 1):
             other = run.copied()
             other.take(choices[index])
@@ -42,7 +49,14 @@ class Found:
 
 
 def found_in(made, grain, departures, until=UNTIL):
-    """What the runs of so many departures at most show; None where there are more of them than are looked at."""
+    """What the runs of so many departures at most show; None where there are more of them, or longer ones, than are looked at."""
+    try:
+        return all_found_in(made, grain, departures, until)
+    except Endless:
+        return None
+
+
+def all_found_in(made, grain, departures, until):
     ends, shown, count, longest = {}, {}, 0, 0
     for log, steps, run in islice(runs(Run(made, grain == "process", until), departures), MOST_RUNS + 1):
         end = run.time, run.cause(), line_of(run.values)

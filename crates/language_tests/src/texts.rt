@@ -3,13 +3,13 @@
 use basis::Timescale;
 use std::alloc::Global;
 use std::test::Fail;
-use vast::design::Design;
 use vast::module::{ModuleItem, ModuleTree, TextTree};
 use vast::statement::{Delay, Statement};
 use vast::token::Token;
 use vast::{fits, spell};
 use vbits::Vec4;
-use velab::{elaborate, runnable};
+use vdesign::design::Design;
+use velab::elaborate;
 use vlex::{TokenKind, Tokens, tokens};
 use vmodel::history::{Grain, Item};
 use vmodel::{opening, slow_step, slow_width};
@@ -179,8 +179,13 @@ fn design(alloc: Global, text: &[u8]) -> Result<Design, Fail> {
     let source = source(alloc, &[text])?;
     let found = tokens(alloc, &source)?;
     let tree = parse(alloc, &found)?;
-    let ast = runnable(alloc, &found, &tree)?;
-    Ok(elaborate(alloc, &ast, None, source.timescale())?)
+    Ok(elaborate(
+        alloc,
+        &found,
+        &tree,
+        None,
+        source.timescale(),
+    )?)
 }
 
 // The values of the slot that the last step ended.

@@ -4,7 +4,7 @@ ghost use Rattle.std.specs.Prelude.{◌≡◌, map, Decides};
 ghost use Rattle.vreport.specs.Truth.{IsTrueHead, column_of};
 
 use report_text::{Column, Report};
-use vast::design::Variable;
+use vdesign::design::Variable;
 use vmachine::Machine;
 
 // Whether it is the name and the width of the variable.

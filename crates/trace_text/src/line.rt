@@ -3,9 +3,9 @@
 use basis::NoMemory;
 use itoa::Buffer;
 use std::alloc::Global;
-use vast::design::Design;
 use vbits::Vec4;
 use vcd_text::put_digits;
+use vdesign::design::Design;
 use vmodel::SlowState;
 use vmodel::choice::Choice;
 use vmodel::deed::{Deed, Fate};

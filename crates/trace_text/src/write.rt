@@ -9,8 +9,8 @@ use basis::{NoMemory, OrMemory};
 use sched_core::{Log, next_choice};
 use std::alloc::Global;
 use std::io::Write;
-use vast::design::Design;
 use vcd_text::{Metered, WriteFault, put};
+use vdesign::design::Design;
 use vmachine::Machine;
 use vmodel::{SlowState, opening};
 

@@ -3,7 +3,7 @@ use Rattle.std.proofs.Common.{◌≡◌, ℕ, ◌<◌, List, Vec, Global, Box, r
 use Rattle.vast.specs.Expressions.{ExpressionTree, number, name, time, bit, part, parentheses, concatenation, replication, conversion, apply, combine, conditional, first, depth}
 use Rattle.vast.specs.ExpressionTrees.{tree_of, row_trees, trees_of}
 use Rattle.vast.specs.declared.expression.Expression.{Expression, Concatenation, Concatenation', Replication, Replication', Row_of-Expression, end_of-Expression, more_of-Expression, items-the_row-Expression, items_hidden-the_row-Expression-0}
-use Rattle.vast.specs.Syntax.{Text}
+use Rattle.vast.specs.Words.{Text}
 use mathlib.Core.Former.{Count}
 
 abbrev row_of : Expression → (n : Count) × Row_of-Expression n

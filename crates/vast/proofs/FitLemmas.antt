@@ -1,13 +1,12 @@
 -- A tree stands, level by level, where it fits and has no more levels.
 use Rattle.std.proofs.Common.{◌≡◌, ◌≢◌, ℕ, suc, ◌+◌, ◌-◌, Bool, true, false, not, List, [], ◌∷◌, Vec, Box, Global, length, nat_eq, ◌&&◌, max, nat_le, nat_lt, true≢false, refl, sym, ap, ◌∙◌, arith}
 use Rattle.std.proofs.lemmas.Bool.Decides.{nat_tests}
-use Rattle.vast.specs.Words.{is_name, is_number}
+use Rattle.vast.specs.Words.{Text, is_name, is_number}
 use Rattle.vast.specs.Expressions.{ExpressionTree, number, name, time, bit, part, parentheses, concatenation, replication, conversion, apply, combine, conditional, ExpressionTrees, none, first, rank, rank_of, unary_rank, is_some_part, fits_expression, fits_parts, depth, greatest_depth}
 use Rattle.vast.specs.Modules.{fits_value}
 use Rattle.vast.specs.Within.{stands, all_stand, parts_within}
 use Rattle.vast.specs.ExpressionTrees.{tree_of, trees_of}
 use Rattle.vast.proofs.ExpressionLemmas.{tree_of_concatenation, tree_of_replication}
-use Rattle.vast.specs.Syntax.{Text}
 use Rattle.vast.specs.declared.expression.Expression.{Expression, Concatenation, Replication}
 
 -- one more level

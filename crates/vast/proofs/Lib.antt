@@ -1,4 +1,3 @@
-pub mod TreeLemmas
 pub mod ExpressionLemmas
 pub mod WholeTreeLemmas
 pub mod FitLemmas

@@ -1,6 +1,6 @@
 -- The words of lists, of concatenations, of blocks and of cases.
 use Rattle.std.proofs.Common.{◌≡◌, ℕ, Bool, true, false, List, [], ◌∷◌, ◌++◌, codes, Result, OnOk, Vec, Box, Global, refl, sym, ap, ◌∙◌}
-use Rattle.vast.specs.Syntax.{Text}
+use Rattle.vast.specs.Words.{Text}
 use Rattle.vast.specs.Expressions.{ExpressionTree, ExpressionTrees, first, spell_expression}
 use Rattle.vast.specs.Statements.{TargetTree, TargetTrees, spell_target, spell_statement}
 use Rattle.vast.specs.StatementTrees.{target_tree, target_trees, statement_tree, statement_trees, branch_trees}

@@ -2,8 +2,7 @@
 use Rattle.std.proofs.Common.{◌≡◌, ◌≢◌, ℕ, suc, ◌+◌, ◌-◌, Bool, true, false, not, List, [], ◌∷◌, Vec, Box, Global, length, map, nat_eq, ◌&&◌, max, nat_le, refl, sym, ap, ◌∙◌, arith}
 use Rattle.std.specs.List.{list_all}
 use Rattle.std.proofs.lemmas.Bool.Decides.{nat_tests}
-use Rattle.vast.specs.Syntax.{Text}
-use Rattle.vast.specs.Words.{is_name}
+use Rattle.vast.specs.Words.{Text, is_name}
 use Rattle.vast.specs.Expressions.{fits_expression, depth, fits_parts, greatest_depth, is_some_part}
 use Rattle.vast.specs.Statements.{TargetTree, whole, bit, part, joined, TargetTrees, none, first, target_depth, greatest_target_depth, fits_target, fits_targets, is_some_target, fits_delay, delay_depth, fits_optional_delay, optional_delay_depth, fits_event, event_depth, ArgumentTree, argument_depth, arguments_depth, fits_argument, fits_print, fits_task, task_depth, StatementTree, empty, block, assign, nonblocking, trigger, if_true, if_else, case_of, while_true, repeat_times, forever, for_loop, wait_for, delay, event, task, StatementTrees, no_statement, first_statement, BranchTree, labelled, default, BranchTrees, no_branch, first_branch, ends_in_if, is_some_branch, defaults, fits_statement, fits_statements, statement_depth, statements_depth, fits_branch, branch_depth, fits_branches, branches_depth}
 use Rattle.vast.specs.StatementTrees.{argument_tree, task_tree, target_tree, target_row, target_trees, statement_tree, statement_trees, branch_trees}

@@ -7,7 +7,7 @@ use Rattle.vast.specs.declared.expression.Expression.{Expression}
 use Rattle.vast.specs.declared.statement.CaseKind.{CaseKind}
 use Rattle.vast.specs.declared.statement.Branch.{Branch}
 use Rattle.vast.specs.declared.statement.Statement.{Statement, Block, Block', Case, Case', Row_of-Statement, end_of-Statement, more_of-Statement, Row_of-Branch, end_of-Branch, more_of-Branch, items-the_row-Statement, items_hidden-the_row-Statement-0, items-the_row-Branch, items_hidden-the_row-Branch-1}
-use Rattle.vast.specs.Syntax.{Text}
+use Rattle.vast.specs.Words.{Text}
 use mathlib.Core.Former.{Count}
 
 abbrev row_of : Statement → (n : Count) × Row_of-Statement n

@@ -1,8 +1,7 @@
 -- Expressions of the whole profile (IEEE 1364-2005, clause 5 and A.8, narrowed to this product's profile): their trees, the
 -- words that these spell, how deep they nest, and which stand as the grammar lets them.
 use Rattle.std.specs.Prelude.{◌≡◌, ℕ, ◌+◌, max, nat_le, nat_lt, Bool, true, false, IsTrue, ◌&&◌, if◌then◌else◌, List, [], ◌∷◌, ◌++◌, codes}
-use Rattle.vast.specs.Words.{is_name, is_number}
-use Rattle.vast.specs.Syntax.{Text}
+use Rattle.vast.specs.Words.{Text, is_name, is_number}
 use Rattle.vast.specs.declared.expression.UnaryOperator.{UnaryOperator}
 use Rattle.vast.specs.declared.expression.UnaryOperator.TheVariants as unary
 use Rattle.vast.specs.declared.expression.BinaryOperator.{BinaryOperator}

@@ -2,7 +2,7 @@
 use Rattle.std.specs.Prelude.{◌≡◌, Bool, true, false, if◌then◌else◌, List, [], ◌∷◌, Option, ◌++◌, flat_map, Vec, Result, OnOk, codes}
 use Rattle.vast.specs.declared.spelling.Spelling.{Spelling}
 use Rattle.vast.specs.declared.statement.CaseKind.{CaseKind}
-use Rattle.vast.specs.Syntax.{Text}
+use Rattle.vast.specs.Words.{Text}
 use Rattle.vast.specs.Spellings.{texts_of}
 use Rattle.vast.specs.Expressions.{ExpressionTree, ExpressionTrees, spell_expression, spell_parts, spell_more_parts}
 use Rattle.vast.specs.Statements.{TargetTree, TargetTrees, DelayTree, spell_target, spell_optional_delay, spell_setting, spell_condition, spell_path, case_word, spell_targets, spell_more_targets, listed, BranchTrees, spell_branches, StatementTrees, spell_statements}

@@ -1,8 +1,5 @@
 pub mod Words
-pub mod Syntax
-pub mod Trees
 pub mod Spellings
-pub mod Design
 pub mod Names
 pub mod Expressions
 pub mod ExpressionTrees

@@ -2,8 +2,7 @@
 -- words that these spell, and which stand as the grammar lets them. A source text is its modules.
 use Rattle.std.specs.Prelude.{◌≡◌, IsTrue, ℕ, nat_le, Bool, true, false, ◌&&◌, if◌then◌else◌, List, [], ◌∷◌, ◌++◌, Option, Some, None, length, codes, flat_map}
 use Rattle.std.specs.List.{list_all}
-use Rattle.vast.specs.Words.{is_name}
-use Rattle.vast.specs.Syntax.{Text}
+use Rattle.vast.specs.Words.{Text, is_name}
 use Rattle.vast.specs.Expressions.{ExpressionTree, spell_expression, depth, fits_expression}
 use Rattle.vast.specs.Statements.{StatementTree, listed, in_parentheses, spell_statement, statement_depth, fits_statement}
 use Rattle.vast.specs.declared.module.NetKind.{NetKind}

@@ -1,8 +1,7 @@
 -- Names as a report tells them (IEEE 1364-2005, 3.7, 12.5; docs/FORMATS.md, "Reports").
-use Rattle.std.specs.Prelude.{◌≡◌, ◌≢◌, ℕ, ◌<◌, ◌&&◌, ◌||◌, ◌==◌, Bool, true, false, List, [], ◌∷◌, slice_get, Some}
+use Rattle.std.specs.Prelude.{ℕ, ◌&&◌, ◌||◌, ◌==◌, Bool, true, false, List, [], ◌∷◌}
 use Rattle.std.specs.List.{list_all}
 use Rattle.vast.specs.Words.{begins_name, is_in_name}
-use Rattle.vast.specs.Design.{Variable, Design}
 
 -- 3.7: a letter or `_`, then letters, digits, `_` and `$`; a reserved word counts as well
 abbrev pub has_letters_of_name : List ℕ → Bool
@@ -17,9 +16,3 @@ is_path_from false (c ∷ cs) = begins_name c && is_path_from true cs
 
 abbrev pub is_path : List ℕ → Bool
 is_path = is_path_from false
-
--- what a report says of names: the top's is a name, each variable's is such names joined by dots, and no two are the same
-pub record AreNamed (design : Design) : Type 0 where
-  pub top : has_letters_of_name design.top ≡ true
-  pub paths : (i : ℕ) (v : Variable) → slice_get design.variables i ≡ Some v → is_path v.name ≡ true
-  pub distinct : (i j : ℕ) (v w : Variable) → i < j → slice_get design.variables i ≡ Some v → slice_get design.variables j ≡ Some w → v.name ≢ w.name

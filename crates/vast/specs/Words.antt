@@ -5,6 +5,10 @@ use Rattle.std.specs.List.{list_any, list_all}
 use Rattle.std.specs.Str.{bytes_eq}
 use Rattle.std.specs.Char.{is_ascii_digit, is_ascii_alphabetic}
 
+-- a word of the text, by its bytes
+abbrev pub Text : Type 0
+Text = List ℕ
+
 -- 3.7: a letter or `_`
 abbrev pub begins_name : ℕ → Bool
 begins_name c = is_ascii_alphabetic c || (c == 95)

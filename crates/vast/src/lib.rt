@@ -1,9 +1,8 @@
-// Trees of a Verilog text: `TextTree` is what the grammar makes of the tokens, `Ast` what runs of it, `Design` what elaboration makes
-// of that. In goes nothing: the parser builds a `TextTree`, and `velab` an `Ast` and a `Design`. Out come the words of a `TextTree`,
-// by `spell`, and whether it stands as the grammar lets it, by `fits`. The law: a tree derives the words that it spells, where it fits.
+// Trees of a Verilog text: `TextTree` is what the grammar makes of the tokens. In goes nothing: the parser builds it, and `velab` reads
+// it. Out come its words, by `spell`, and whether it stands as the grammar lets it, by `fits`. The law: a tree derives the words that
+// it spells, where it fits.
 #![tactic(auto)]
 
-pub mod design;
 pub mod expression;
 pub mod expression_fits;
 pub mod expression_spelling;
@@ -18,7 +17,6 @@ pub mod statement_fits;
 pub mod statement_parts_fit;
 pub mod statement_parts_spelling;
 pub mod statement_spelling;
-pub mod syntax;
 pub mod text_spelling;
 pub mod token;
 pub mod words;

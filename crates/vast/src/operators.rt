@@ -2,7 +2,7 @@
 
 ghost use Rattle.std.specs.Prelude.{◌≡◌, ◌<◌};
 ghost use Rattle.std.specs.Prelude.{List};
-ghost use Rattle.vast.specs.Syntax.{Text};
+ghost use Rattle.vast.specs.Words.{Text};
 ghost use Rattle.vast.specs.Expressions.{unary_word as unary_text, binary_word as binary_text, rank as rank_of_operator, rank_of as rank_of_tree};
 ghost use Rattle.vast.specs.ExpressionTrees.{tree_of};
 

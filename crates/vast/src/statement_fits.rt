@@ -2,7 +2,7 @@
 // most in a case, nothing too deep.
 
 ghost use Rattle.std.specs.Prelude.{◌≡◌, List, nat_le};
-ghost use Rattle.vast.specs.Syntax.{Text};
+ghost use Rattle.vast.specs.Words.{Text};
 ghost use Rattle.vast.specs.TokenTexts.{texts};
 ghost use Rattle.vast.specs.ExpressionTrees.{tree_of};
 ghost use Rattle.vast.specs.Statements.{ends_in_if as tree_ends_in_if, is_some_branch as is_some_tree, defaults, is_default as is_default_tree};

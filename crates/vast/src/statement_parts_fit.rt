@@ -3,9 +3,8 @@
 
 ghost use Rattle.std.specs.Prelude.{◌≡◌, List, map, option_map};
 ghost use Rattle.std.specs.List.{list_all};
-ghost use Rattle.vast.specs.Syntax.{Text};
+ghost use Rattle.vast.specs.Words.{Text, is_name as is_name_text};
 ghost use Rattle.vast.specs.TokenTexts.{token_text, texts};
-ghost use Rattle.vast.specs.Words.{is_name as is_name_text};
 ghost use Rattle.vast.specs.ExpressionTrees.{tree_of};
 ghost use Rattle.vast.specs.Statements.{is_some_target as is_some_tree, fits_further_term, fits_print, fits_path, fits_selection, fits_optional_number};
 ghost use Rattle.vast.specs.StatementTrees.{target_tree, target_trees, delay_tree, further_term, event_tree, argument_tree, path_tree, selection_tree, task_tree};

@@ -5,7 +5,7 @@ use Rattle.std.specs.List.{after_last}
 use Rattle.std.proofs.lemmas.List.{take_min, drop_all, append-nil}
 use Rattle.std.proofs.lemmas.Bool.{cases_lt}
 use Rattle.std.proofs.Math.Seq.{take-nil, drop-nil}
-use Rattle.vast.specs.Design.{Variable, Scope}
+use Rattle.vdesign.specs.Design.{Variable, Scope}
 use Rattle.basis.specs.declared.timescale.Span.{Span}
 use Rattle.basis.specs.Timescales.{count_number, unit_word}
 use Rattle.vcd_text.specs.DumpText.{timescale_line, bounds_text, closings, code, kind_word, line, following, named_variable_line, scope_line, scope_lines, variable_lines}

@@ -6,10 +6,10 @@ use Rattle.vbits.specs.declared.bit4.Bit4.TheVariants.{Zero, One, X, Z}
 use Rattle.vbits.specs.Vectors.{Vector, same_letters}
 use Rattle.basis.specs.declared.timescale.Span.{Span}
 use Rattle.basis.specs.Timescales.{count_number, unit_word}
-use Rattle.vast.specs.declared.design.Bounds.{Bounds}
-use Rattle.vast.specs.declared.design.Kind.{Kind}
-use Rattle.vast.specs.declared.design.Kind.TheVariants.{Reg}
-use Rattle.vast.specs.Design.{Variable, Scope, Design}
+use Rattle.vdesign.specs.declared.expression.Bounds.{Bounds}
+use Rattle.vdesign.specs.declared.design.Kind.{Kind}
+use Rattle.vdesign.specs.declared.design.Kind.TheVariants.{Reg, Integer}
+use Rattle.vdesign.specs.Design.{Variable, Scope, Design}
 use Rattle.vmodel.specs.declared.history.DumpCommand.{DumpCommand}
 use Rattle.vmodel.specs.declared.history.DumpCommand.TheVariants.{Vars}
 use Rattle.vmodel.specs.History.{History}
@@ -91,6 +91,7 @@ time_line t = line (35 ∷ decimal t)
 
 abbrev pub kind_word : Kind → List ℕ
 kind_word Reg = codes "reg"
+kind_word Integer = codes "integer"
 
 -- the range of what was declared with one
 abbrev pub bounds_text : Option Bounds → List ℕ

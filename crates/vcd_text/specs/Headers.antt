@@ -1,6 +1,6 @@
 -- The lines of a header as they are written, one list of variables behind another.
 use Rattle.std.specs.Prelude.{◌≡◌, ℕ, ◌+◌, List, ◌++◌}
-use Rattle.vast.specs.Design.{Variable, Scope}
+use Rattle.vdesign.specs.Design.{Variable, Scope}
 use Rattle.vcd_text.specs.DumpText.{code, scope_lines, variable_lines}
 
 -- from the code of a variable to that of the one so many later

@@ -10,7 +10,8 @@ use basis::{NoMemory, Span};
 use itoa::Buffer;
 use std::alloc::Global;
 use std::marker::Model;
-use vast::design::{Bounds, Design, Kind, Scope, Variable};
+use vdesign::design::{Design, Kind, Scope, Variable};
+use vdesign::expression::Bounds;
 
 /// The header of the dumps of one design: version, timescale, scopes and variables with their codes (18.2.3;
 /// docs/FORMATS.md, "Dumps"). Its value is the bytes.
@@ -73,6 +74,7 @@ fn put_kind(text: &mut Vec<u8>, kind: Kind) -> Result<(), NoMemory>
 {
     match kind {
         Kind::Reg => text.extend_from_slice(b"reg")?,
+        Kind::Integer => text.extend_from_slice(b"integer")?,
     }
     Ok(())
 }

@@ -7,4 +7,4 @@ pub mod StatementLemmas
 pub mod TopLemmas
 mod ProcessLemmas
 mod NamedLemmas
-mod RunningLemmas
+mod NotRunLemmas

@@ -6,8 +6,9 @@ use Rattle.std.specs.Cmp.Lexicographic.{nat_list_eq_equiv}
 use Rattle.std.proofs.lemmas.List.{length-map, map-append}
 use Rattle.std.proofs.lemmas.List.Folds.{list_any-append}
 use Rattle.basis.proofs.Bools.{or_second, or_left, or_right}
-use Rattle.vast.specs.Syntax.{Text}
-use Rattle.velab.specs.Elaborate.{has_double, is_declared}
+use Rattle.vast.specs.Words.{Text}
+use Rattle.velab.specs.Elaborate.{has_double}
+use Rattle.velab.specs.Uses.{is_declared}
 
 abbrev pub texts : List (Bor Text) → List Text
 texts = map (λ key. key.now)

@@ -1,6 +1,6 @@
 -- The names of a design are names where those of its text are: the grammar's names, one for each variable.
 use Rattle.std.proofs.Common.{◌≡◌, ◌≢◌, ℕ, zero, suc, ◌<◌, Bool, true, false, ◌&&◌, ◌==◌, not, List, [], ◌∷◌, ◌++◌, map, length, Option, Some, None, refl, sym, ap, subst, ◌∙◌, true≢false, arith}
-use Rattle.std.specs.Prelude.{slice_get, cond, nat_le, option_map}
+use Rattle.std.specs.Prelude.{slice_get, cond, nat_le}
 use Rattle.std.specs.List.{list_all, list_any, flat_map, find}
 use Rattle.std.specs.Str.{bytes_eq}
 use Rattle.std.proofs.lemmas.List.{map-append}
@@ -8,15 +8,14 @@ use Rattle.std.proofs.lemmas.List.Folds.{list_all-append}
 use Rattle.std.proofs.lemmas.Slice.Eq.{bytes_eq-Decides}
 use Rattle.basis.proofs.Bools.{and_left, and_right, and_both, or_left, or_right, or_first, or_second}
 use Rattle.basis.specs.declared.timescale.Timescale.{Timescale}
-use Rattle.vast.specs.Words.{begins_name, is_in_name, is_name, is_reserved}
-use Rattle.vast.specs.Names.{has_letters_of_name, is_path_from, is_path, AreNamed}
-use Rattle.vast.specs.Syntax.{Text, StatementTree, ItemTree, registers, initial, ModuleTree, SourceTree}
-use Rattle.vast.specs.Modules as whole
-use Rattle.vast.specs.Modules.{DerivesText, DeclaredTree, fits, fits_module, fits_item, fits_declared, fits_optional, fits_optional_parameters, fits_optional_ports, fits_declaration_kind, are_some, HeadParameter, PortTree}
-use Rattle.vast.specs.Expressions.{ExpressionTree}
-use Rattle.vast.specs.Design.{Variable, Design}
-use Rattle.velab.specs.Runnable.{both, each, runnable, runnable_module, runnable_body, runnable_item, runnable_statement, runnable_kind, runnable_name, runnable_declared}
-use Rattle.velab.specs.Elaborate.{Declaration, declared, declarations_of, declarations, declared_names, variable_of, has_double, top_of, design_of, Elaborates}
+use Rattle.vast.specs.Words.{Text, begins_name, is_in_name, is_name, is_reserved}
+use Rattle.vast.specs.Names.{has_letters_of_name, is_path_from, is_path}
+use Rattle.vdesign.specs.Named.{AreNamed}
+use Rattle.vast.specs.declared.module.NetKind.TheVariants as net
+use Rattle.vast.specs.Modules.{ItemTree, parameters, declaration, variables, integers, events, assignments, initial, always, instances, DeclarationKind, ModuleTree, SourceTree, DerivesText, DeclaredTree, fits, fits_module, fits_item, fits_declared, fits_optional, fits_optional_parameters, fits_optional_ports, fits_declaration_kind, are_some}
+use Rattle.vdesign.specs.Design.{Variable, Design}
+use Rattle.vdesign.specs.declared.design.Kind.TheVariants.{Reg, Integer}
+use Rattle.velab.specs.Elaborate.{Declaration, all_declared, declared_as, declarations_of, declarations, declared_names, variable_of, has_double, top_of, design_of, Elaborates}
 
 -- ---- letters
 
@@ -56,21 +55,11 @@ dotted_is_path (c ∷ cs) text e h =
 abbrev names : List Declaration → List Text
 names = map (λ d. d.name)
 
-names_declared : (range : _) (texts : List Text) → names (map (declared range) texts) ≡ texts
-names_declared range [] = refl
-names_declared range (t ∷ ts) = ap (λ l. t ∷ l) (names_declared range ts)
-
--- what is a name in what runs of a text
 abbrev item_is_named : ItemTree → Bool
-item_is_named (registers range texts) = list_all is_name texts
-item_is_named (initial statement) = true
+item_is_named item = list_all is_name (names (declarations_of item))
 
 abbrev is_named : ModuleTree → Bool
 is_named m = is_name m.name && list_all item_is_named m.items
-
-item_names : (item : ItemTree) → item_is_named item ≡ true → list_all is_name (names (declarations_of item)) ≡ true
-item_names (registers range texts) e = ap (list_all is_name) (names_declared range texts) ∙ e
-item_names (initial statement) e = refl
 
 all_names : (items : List ItemTree) → list_all item_is_named items ≡ true → list_all is_name (names (flat_map declarations_of items)) ≡ true
 all_names [] e = refl
@@ -78,64 +67,46 @@ all_names (item ∷ items) e =
     ap (list_all is_name) (map-append (λ d. d.name) (declarations_of item) (flat_map declarations_of items))
     ∙ list_all-append is_name (names (declarations_of item)) (names (flat_map declarations_of items))
     ∙ and_both (list_all is_name (names (declarations_of item))) (list_all is_name (names (flat_map declarations_of items)))
-    (item_names item (and_left (item_is_named item) (list_all item_is_named items) e))
+    (and_left (item_is_named item) (list_all item_is_named items) e)
     (all_names items (and_right (item_is_named item) (list_all item_is_named items) e))
 
--- ---- what runs of a text has its names
+-- ---- what the grammar derives has its names
 
-some_is : {A : Type 0} (x y : A) → Some x ≡ Some y → x ≡ y
-some_is x y e = cc
+passes : {A : Type 0} (p q : A → Bool) → ((one : A) → p one ≡ true → q one ≡ true) → (list : List A) → list_all p list ≡ true → list_all q list ≡ true
+passes p q step [] all = refl
+passes p q step (one ∷ more) all =
+    and_both (q one) (list_all q more) (step one (and_left (p one) (list_all p more) all)) (passes p q step more (and_right (p one) (list_all p more) all))
 
-each_passes : {A B : Type 0} (convert : A → Option B) (p : A → Bool) (q : B → Bool) →
-    ((one : A) (other : B) → p one ≡ true → convert one ≡ Some other → q other ≡ true) →
-    (list : List A) (out : List B) → list_all p list ≡ true → each convert list ≡ Some out → list_all q out ≡ true
-each_passes convert p q step [] out all is = subst (λ l. list_all q l ≡ true) (some_is [] out is) refl
-each_passes {A = A} {B = B} convert p q step (one ∷ more) out all is =
-    by (convert one) refl (each convert more) (λ r. each_passes convert p q step more r (and_right (p one) (list_all p more) all)) refl is
-  where
-    by : (first : Option B) → convert one ≡ first → (rest : Option (List B)) →
-        ((r : List B) → each convert more ≡ Some r → list_all q r ≡ true) → each convert more ≡ rest →
-        both first (λ f. option_map (λ r. f ∷ r) rest) ≡ Some out → list_all q out ≡ true
-    by None e rest others h is = cc
-    by (Some f) e None others h is = cc
-    by (Some f) e (Some r) others h is =
-        subst (λ l. list_all q l ≡ true) (some_is (f ∷ r) out is)
-        (and_both (q f) (list_all q r) (step one f (and_left (p one) (list_all p more) all) e) (others r h))
+all_declared_named : (kind : _) (signed : _) (range : _) (list : List DeclaredTree) →
+    list_all (fits_declared 64) list ≡ true → list_all is_name (names (all_declared kind signed range list)) ≡ true
+all_declared_named kind signed range [] fit = refl
+all_declared_named kind signed range (one ∷ more) fit =
+    and_both (is_name one.name) (list_all is_name (names (all_declared kind signed range more)))
+    (and_left (is_name one.name) (fits_optional 64 one.value) (and_left (fits_declared 64 one) (list_all (fits_declared 64) more) fit))
+    (all_declared_named kind signed range more (and_right (fits_declared 64 one) (list_all (fits_declared 64) more) fit))
 
-name_runs : (one : DeclaredTree) (letters : Text) → fits_declared 64 one ≡ true → runnable_name one ≡ Some letters → is_name letters ≡ true
-name_runs one letters fit runs = by one.value runs
-  where
-    by : (value : Option ExpressionTree) → runnable_declared one.name value ≡ Some letters → is_name letters ≡ true
-    by None e =
-        subst (λ l. is_name l ≡ true) (some_is one.name letters e)
-        (and_left (is_name one.name) (fits_optional 64 one.value) fit)
-    by (Some value) e = cc
+kind_named : (kind : DeclarationKind) (list : List DeclaredTree) → list_all (fits_declared 64) list ≡ true → list_all is_name (names (declared_as kind list)) ≡ true
+kind_named (variables net.Wire type) list fit = refl
+kind_named (variables net.Reg type) list fit = all_declared_named Reg type.signed type.range list fit
+kind_named integers list fit = all_declared_named Integer true None list fit
 
-item_runs : (item : whole.ItemTree) (out : ItemTree) → fits_item 64 item ≡ true → runnable_item item ≡ Some out → item_is_named out ≡ true
-item_runs (whole.parameters local type settings) out fit runs = cc
-item_runs (whole.declaration kind declared) out fit runs = by (runnable_kind kind) (each runnable_name declared) refl runs
-  where
-    by : (range : _) (names : Option (List Text)) → each runnable_name declared ≡ names →
-        both range (λ r. option_map (registers r) names) ≡ Some out → item_is_named out ≡ true
-    by None names h is = cc
-    by (Some r) None h is = cc
-    by (Some r) (Some texts) h is =
-        subst (λ o. item_is_named o ≡ true) (some_is (registers r texts) out is)
-        (each_passes runnable_name (fits_declared 64) is_name name_runs declared texts
-        (and_right (nat_le 1 (length declared)) (list_all (fits_declared 64) declared)
-        (and_right (fits_declaration_kind 64 kind) (are_some (fits_declared 64) declared) fit)) h)
-item_runs (whole.events names) out fit runs = cc
-item_runs (whole.assignments list) out fit runs = cc
-item_runs (whole.initial statement) out fit runs = by (runnable_statement statement) runs
-  where
-    by : (body : Option StatementTree) → option_map initial body ≡ Some out → item_is_named out ≡ true
-    by None h = cc
-    by (Some one) h = subst (λ o. item_is_named o ≡ true) (some_is (initial one) out h) refl
-item_runs (whole.always statement) out fit runs = cc
-item_runs (whole.instances letters overrides list) out fit runs = cc
+item_named : (item : ItemTree) → fits_item 64 item ≡ true → item_is_named item ≡ true
+item_named (parameters local type settings) fit = refl
+item_named (declaration kind declared) fit =
+    kind_named kind declared
+    (and_right (nat_le 1 (length declared)) (list_all (fits_declared 64) declared)
+    (and_right (fits_declaration_kind 64 kind) (are_some (fits_declared 64) declared) fit))
+item_named (events names) fit = refl
+item_named (assignments list) fit = refl
+item_named (initial statement) fit = refl
+item_named (always statement) fit = refl
+item_named (instances letters overrides list) fit = refl
 
-module_runs : (m : whole.ModuleTree) (out : ModuleTree) → fits_module 64 m ≡ true → runnable_module m ≡ Some out → is_named out ≡ true
-module_runs m out fit runs = by m.parameters m.ports (each runnable_item m.items) refl runs
+module_fits : (m : ModuleTree) → fits_module 64 m ≡ true → is_named m ≡ true
+module_fits m fit =
+    and_both (is_name m.name) (list_all item_is_named m.items)
+    (and_left (is_name m.name) heads (and_left (is_name m.name && heads) ports_fit front))
+    (passes (fits_item 64) item_is_named item_named m.items (and_right (is_name m.name && heads && ports_fit) (list_all (fits_item 64) m.items) fit))
   where
     heads : Bool
     heads = fits_optional_parameters 64 m.parameters
@@ -146,31 +117,8 @@ module_runs m out fit runs = by m.parameters m.ports (each runnable_item m.items
     front : (is_name m.name && heads && ports_fit) ≡ true
     front = and_left (is_name m.name && heads && ports_fit) (list_all (fits_item 64) m.items) fit
 
-    named : is_name m.name ≡ true
-    named = and_left (is_name m.name) heads (and_left (is_name m.name && heads) ports_fit front)
-
-    items_fit : list_all (fits_item 64) m.items ≡ true
-    items_fit = and_right (is_name m.name && heads && ports_fit) (list_all (fits_item 64) m.items) fit
-
-    made : (list : List ItemTree) → each runnable_item m.items ≡ Some list → is_named (record { name = m.name; items = list }) ≡ true
-    made list is =
-        and_both (is_name m.name) (list_all item_is_named list) named
-        (each_passes runnable_item (fits_item 64) item_is_named item_runs m.items list items_fit is)
-
-    by : (heads : Option (List HeadParameter)) (ports : Option (List PortTree)) (items : Option (List ItemTree)) →
-        each runnable_item m.items ≡ items → runnable_body m.name heads ports m.items ≡ Some out → is_named out ≡ true
-    by (Some heads) ports items is h = cc
-    by None (Some ports) items is h = cc
-    by None None None is h =
-        let clash : None ≡ Some out = sym (ap (option_map (λ list. record { name = m.name; items = list })) is) ∙ h in cc
-    by None None (Some list) is h =
-        subst (λ o. is_named o ≡ true)
-        (some_is (record { name = m.name; items = list }) out
-        (sym (ap (option_map (λ l. record { name = m.name; items = l })) is) ∙ h))
-        (made list is)
-
-all_named : (tree : whole.SourceTree) (running : SourceTree) → fits 64 tree ≡ true → runnable tree ≡ Some running → list_all is_named running ≡ true
-all_named tree running fit runs = each_passes runnable_module (fits_module 64) is_named module_runs tree running fit runs
+all_named : (tree : SourceTree) → fits 64 tree ≡ true → list_all is_named tree ≡ true
+all_named tree fit = passes (fits_module 64) is_named module_fits tree fit
 
 -- ---- the variables
 
@@ -242,8 +190,8 @@ module_named scale m e none = record {
     top : has_letters_of_name m.name ≡ true
     top = letters m.name (and_left (is_name m.name) (list_all item_is_named m.items) e)
 
-pub named_by : (words : List Text) (tree : whole.SourceTree) (running : SourceTree) (top : Option Text) (scale : Timescale) (design : Design) →
-    DerivesText words tree → runnable tree ≡ Some running → Elaborates running top scale design → AreNamed design
-named_by words tree running top scale design derives runs elaborates =
+pub named_by : (words : List Text) (tree : SourceTree) (top : Option Text) (scale : Timescale) (design : Design) →
+    DerivesText words tree → Elaborates tree top scale design → AreNamed design
+named_by words tree top scale design derives elaborates =
     subst AreNamed (sym elaborates.describes)
-    (module_named scale elaborates.unit (top_named running top elaborates.unit (all_named tree running derives.fitting runs) elaborates.is_top) elaborates.right.names_differ)
+    (module_named scale elaborates.unit (top_named tree top elaborates.unit (all_named tree derives.fitting) elaborates.is_top) elaborates.right.names_differ)

@@ -14,11 +14,11 @@ use Rattle.vbits.specs.Numbers.{digits}
 use Rattle.vbits.specs.Planes.{letters_of}
 use Rattle.vbits.specs.Vectors.{Vector, filled, of_number, select, concat, with_sign}
 use Rattle.vbits.proofs.LettersOf.{digits-letters_of, letters_of-low, zero_low}
-use Rattle.vast.specs.Syntax.{Text}
+use Rattle.vast.specs.Words.{Text}
 use Rattle.vlex.specs.Bytes.{is_underscore, is_x_digit, is_z_digit}
 use Rattle.vlex.specs.Forms.{with_digit, spelled_number}
 use Rattle.velab.specs.Literals.{digit_letters, spelled_letters, filling, lettered_value, decimal_value, digit_value, is_marked, unmarked, first_byte, size_of, based_value, spreads_by, based_constant, plain_constant}
-use Rattle.vast.specs.declared.design.Constant.{Constant}
+use Rattle.vdesign.specs.declared.expression.Constant.{Constant}
 
 -- ---- decimal numbers modulo a power of two
 

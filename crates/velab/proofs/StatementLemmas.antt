@@ -1,11 +1,12 @@
 -- What a statement lays on the table, statement by statement of a block.
 use Rattle.std.proofs.Common.{◌≡◌, ◌<◌, ◌≤◌, ℕ, ◌+◌, Bool, true, ◌&&◌, List, [], ◌∷◌, ◌++◌, length, drop, get_or, Vec, Global, Result, Ok, Err, OnOk, sym, ap, subst, ◌∙◌, append_assoc, append-nil}
 use Rattle.std.proofs.Math.ListN.{drop_of_length-le}
-use Rattle.vast.specs.Syntax.{StatementTrees, block, first, none}
-use Rattle.vast.specs.Trees.{statement_tree, statement_trees}
-use Rattle.vast.specs.declared.syntax.Stmt.{Stmt, Block}
-use Rattle.vast.proofs.TreeLemmas.{tree_of_block}
-use Rattle.vast.specs.declared.design.Action.{Action}
+use Rattle.vast.specs.Words.{Text}
+use Rattle.vast.specs.Statements.{StatementTrees, block, first_statement, no_statement}
+use Rattle.vast.specs.StatementTrees.{statement_tree, statement_trees}
+use Rattle.vast.specs.declared.statement.Statement.{Statement, Block}
+use Rattle.vast.proofs.WholeTreeLemmas.{tree_of_whole_block}
+use Rattle.vdesign.specs.declared.action.Action.{Action}
 use Rattle.basis.specs.declared.memory.OrMemory.{OrMemory}
 use Rattle.velab.specs.declared.fault.ElabFault.{ElabFault}
 use Rattle.velab.specs.Elaborate.{Laid, placed, nothing_laid, laid, all_laid, knows, knows_all}
@@ -31,14 +32,14 @@ nothing_gives table places wanted gives = record {
 
 -- ---- the statements of a block
 
-module _ (names : List (List ℕ)) (statement : Stmt) (statements : Vec Stmt Global) (items : List Stmt) (is : statement ≡ Block statements) (same : items ≡ statements.items) where
-  trees : statement_tree statement ≡ block (statement_trees items)
-  trees = ap statement_tree is ∙ tree_of_block statements ∙ ap (λ (xs : List Stmt). block (statement_trees xs)) (sym same)
+module _ (words : List Text) (names : List (List ℕ)) (statement : Statement) (statements : Vec Statement Global) (items : List Statement) (is : statement ≡ Block statements) (same : items ≡ statements.items) where
+  trees : statement_tree words statement ≡ block (statement_trees words items)
+  trees = ap (statement_tree words) is ∙ tree_of_whole_block words statements ∙ ap (λ (xs : List Statement). block (statement_trees words xs)) (sym same)
 
-  pub block_laid : (table : List Action) → all_laid names table (statement_trees items) ≡ laid names table (statement_tree statement)
+  pub block_laid : (table : List Action) → all_laid names table (statement_trees words items) ≡ laid names table (statement_tree words statement)
   block_laid table = sym (ap (laid names table) trees)
 
-  pub block_knows : knows_all names (statement_trees items) ≡ knows names (statement_tree statement)
+  pub block_knows : knows_all names (statement_trees words items) ≡ knows names (statement_tree words statement)
   block_knows = sym (ap (knows names) trees)
 
 -- so much of a block is laid: what is left leads to the same as all of it from the start
@@ -46,19 +47,19 @@ pub record Leads (names : List (List ℕ)) (now : List Action) (before : List �
   pub table : (all_laid names now left).table ≡ all.table
   pub places : before ++ (all_laid names now left).places ≡ begun ++ all.places
 
-module _ (names : List (List ℕ)) (xs : List Stmt) (i : ℕ) where
-  module _ (x : Stmt) (within : i < length xs) (is : x ≡ get_or xs i x) where
-    opened : statement_trees (drop i xs) ≡ first (statement_tree x) (statement_trees (drop (i + 1) xs))
-    opened = ap statement_trees (drop_at xs i x within is)
+module _ (words : List Text) (names : List (List ℕ)) (xs : List Statement) (i : ℕ) where
+  module _ (x : Statement) (within : i < length xs) (is : x ≡ get_or xs i x) where
+    opened : statement_trees words (drop i xs) ≡ first_statement (statement_tree words x) (statement_trees words (drop (i + 1) xs))
+    opened = ap (statement_trees words) (drop_at xs i x within is)
 
     pub laid_step : (table table_after : List Action) (places places_after : List ℕ) (all : Laid) (begun : List ℕ) →
-        IsLaid (laid names table (statement_tree x)) places table_after places_after →
-        Leads names table places (statement_trees (drop i xs)) all begun →
-        Leads names table_after places_after (statement_trees (drop (i + 1) xs)) all begun
+        IsLaid (laid names table (statement_tree words x)) places table_after places_after →
+        Leads names table places (statement_trees words (drop i xs)) all begun →
+        Leads names table_after places_after (statement_trees words (drop (i + 1) xs)) all begun
     laid_step table table_after places places_after all begun put leads =
-        let rest : StatementTrees = statement_trees (drop (i + 1) xs) in
-        let front : Laid = laid names table (statement_tree x) in
-        let here : Leads names table places (first (statement_tree x) rest) all begun = subst (λ (t : StatementTrees). Leads names table places t all begun) opened leads in
+        let rest : StatementTrees = statement_trees words (drop (i + 1) xs) in
+        let front : Laid = laid names table (statement_tree words x) in
+        let here : Leads names table places (first_statement (statement_tree words x) rest) all begun = subst (λ (t : StatementTrees). Leads names table places t all begun) opened leads in
         record {
           table = ap (λ (t : List Action). (all_laid names t rest).table) put.table ∙ here.table;
           places = ap (λ (t : List Action). places_after ++ (all_laid names t rest).places) put.table
@@ -67,13 +68,13 @@ module _ (names : List (List ℕ)) (xs : List Stmt) (i : ℕ) where
               ∙ here.places;
         }
 
-    pub knows_step : (all : Bool) → knows names (statement_tree x) ≡ true → knows_all names (statement_trees (drop i xs)) ≡ all → knows_all names (statement_trees (drop (i + 1) xs)) ≡ all
+    pub knows_step : (all : Bool) → knows names (statement_tree words x) ≡ true → knows_all names (statement_trees words (drop i xs)) ≡ all → knows_all names (statement_trees words (drop (i + 1) xs)) ≡ all
     knows_step all known same =
-        sym (ap (λ b. b && knows_all names (statement_trees (drop (i + 1) xs))) known) ∙ sym (ap (knows_all names) opened) ∙ same
+        sym (ap (λ b. b && knows_all names (statement_trees words (drop (i + 1) xs))) known) ∙ sym (ap (knows_all names) opened) ∙ same
 
   pub laid_end : (table : List Action) (places : List ℕ) (all : Laid) (begun : List ℕ) → length xs ≤ i →
-      Leads names table places (statement_trees (drop i xs)) all begun → IsLaid all begun table places
+      Leads names table places (statement_trees words (drop i xs)) all begun → IsLaid all begun table places
   laid_end table places all begun end leads =
-      let here : Leads names table places none all begun =
-      subst (λ (l : List Stmt). Leads names table places (statement_trees l) all begun) (drop_of_length-le xs end) leads in
+      let here : Leads names table places no_statement all begun =
+      subst (λ (l : List Statement). Leads names table places (statement_trees words l) all begun) (drop_of_length-le xs end) leads in
       record { table = here.table; places = sym (append-nil places) ∙ here.places }

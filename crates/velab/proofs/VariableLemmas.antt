@@ -1,5 +1,5 @@
 -- Bounds and the lists of declared names.
-use Rattle.std.proofs.Common.{◌≡◌, ◌<◌, ◌≤◌, ℕ, suc, ◌+◌, drop, drop-cons, ◌-◌, Bool, true, false, cond, ◌||◌, List, [], ◌∷◌, ◌++◌, length, map, get_or, slice_get, Option, Some, Result, Ok, Err, Vec, Global, refl, sym, ap, subst, ◌∙◌, true≢false, length-append, arith}
+use Rattle.std.proofs.Common.{◌≡◌, ◌<◌, ◌≤◌, ℕ, ◌+◌, drop, ◌-◌, Bool, true, false, cond, ◌||◌, List, [], ◌∷◌, ◌++◌, length, map, get_or, slice_get, Option, Some, Result, Ok, Err, refl, sym, ap, subst, ◌∙◌, true≢false, length-append, arith}
 use Rattle.std.proofs.lemmas.Option.{unwrap_or-slice_get}
 use Rattle.std.proofs.lemmas.List.Folds.{list_any-append}
 use Rattle.std.specs.Prelude.{unwrap_or, option_map}
@@ -10,20 +10,22 @@ use Rattle.vbits.specs.declared.bit4.Bit4.{Bit4}
 use Rattle.vbits.specs.declared.bit4.Bit4.TheVariants.{Zero}
 use Rattle.vbits.specs.Letters.{is_one}
 use Rattle.vbits.specs.Vectors.{Vector, sign_letter}
-use Rattle.vast.specs.Syntax.{Text, RangeTree, registers}
-use Rattle.vast.specs.Trees.{word_text, range_tree, item_tree}
-use Rattle.vast.specs.declared.syntax.Word.{Word}
-use Rattle.vast.specs.declared.syntax.Range.{Range}
-use Rattle.vast.specs.declared.syntax.Item.{Item}
-use Rattle.vast.specs.declared.syntax.Item.TheVariants.{Registers}
-use Rattle.vast.specs.declared.design.Bounds.{Bounds}
+use Rattle.vast.specs.Words.{Text}
+use Rattle.vast.specs.TokenTexts.{token_text}
+use Rattle.vast.specs.Modules.{RangeTree, DeclaredTree, ItemTree}
+use Rattle.vast.specs.ModuleTrees.{declared_tree, item_tree}
+use Rattle.vast.specs.declared.module.Declared.{Declared}
+use Rattle.vast.specs.declared.module.ModuleItem.{ModuleItem}
+use Rattle.vdesign.specs.declared.expression.Bounds.{Bounds}
+use Rattle.vdesign.specs.declared.design.Kind.{Kind}
 use Rattle.basis.specs.declared.memory.OrMemory.{OrMemory}
 use Rattle.basis.specs.Reasons.{Because, IfFault}
 use Rattle.velab.specs.declared.fault.ElabFault.{ElabFault}
-use Rattle.velab.specs.Elaborate.{is_negative, is_declared, has_double, has_range, Declaration, declared, declarations_of, bounds_of, variable_by, variable_of}
-use Rattle.velab.specs.Inner.{names_of, names_in}
+use Rattle.velab.specs.Elaborate.{is_negative, has_double, has_range, Declaration, declared, all_declared, declarations_of, bounds_of, variable_by, variable_of}
+use Rattle.velab.specs.Uses.{is_declared}
+use Rattle.velab.specs.Inner.{names_of, names_in, texts_of}
 use Rattle.velab.specs.Inner.{IsBreach, no_breach}
-use Rattle.velab.proofs.ListLemmas.{stopped, fails_at, longer}
+use Rattle.velab.proofs.ListLemmas.{drop_at, stopped, fails_at, longer}
 use Rattle.velab.proofs.NameLemmas.{double_at}
 use Rattle.velab.proofs.FaultLemmas.{because_of}
 
@@ -71,67 +73,70 @@ part_stops part rest all is double = sym (ap has_double is) ∙ double_prefix pa
 
 -- ---- one item
 
-map_names : (range : Option RangeTree) (ts : List Text) → map (λ (d : Declaration). d.name) (map (declared range) ts) ≡ ts
-map_names range [] = refl
-map_names range (t ∷ ts) = ap (λ l. t ∷ l) (map_names range ts)
+module _ (kind : Kind) (signed : Bool) (range : Option RangeTree) where
+  map_names : (ts : List Text) → map (λ (d : Declaration). d.name) (map (declared kind signed range) ts) ≡ ts
+  map_names [] = refl
+  map_names (t ∷ ts) = ap (λ l. t ∷ l) (map_names ts)
 
-map_variables : (scope : Text) (range : Option RangeTree) (ts : List Text) → map (variable_of scope) (map (declared range) ts) ≡ map (variable_by scope (option_map bounds_of range)) ts
-map_variables scope range [] = refl
-map_variables scope range (t ∷ ts) = ap (λ l. variable_by scope (option_map bounds_of range) t ∷ l) (map_variables scope range ts)
+  map_variables : (scope : Text) (ts : List Text) →
+      map (variable_of scope) (map (declared kind signed range) ts) ≡ map (variable_by scope kind signed (option_map bounds_of range)) ts
+  map_variables scope [] = refl
+  map_variables scope (t ∷ ts) = ap (λ l. variable_by scope kind signed (option_map bounds_of range) t ∷ l) (map_variables scope ts)
 
-module _ (item : Item) (range : Option Range) (words : Vec Word Global) (list : List Word) (is : item ≡ Registers range words) (same : list ≡ words.items) where
-  tree : item_tree item ≡ registers (option_map range_tree range) (map word_text list)
-  tree = ap item_tree is ∙ ap (λ (ws : List Word). registers (option_map range_tree range) (map word_text ws)) (sym same)
+  module _ (words : List Text) (list : List Declared) where
+    names_view : (ds : List Declared) → map (λ (d : DeclaredTree). d.name) (map (declared_tree words) ds) ≡ texts_of words ds
+    names_view [] = refl
+    names_view (d ∷ ds) = ap (λ l. token_text words d.name ∷ l) (names_view ds)
 
-  pub item_names : map word_text list ≡ names_of (item_tree item)
-  item_names = sym (ap names_of tree ∙ map_names (option_map range_tree range) (map word_text list))
+    pub item_names : texts_of words list ≡ map (λ (d : Declaration). d.name) (all_declared kind signed range (map (declared_tree words) list))
+    item_names = sym (map_names _ ∙ names_view list)
 
-  pub item_variables : (scope : Text) (bounds : Option Bounds) → bounds ≡ option_map bounds_of (option_map range_tree range) →
-      map (variable_by scope bounds) (map word_text list) ≡ map (variable_of scope) (declarations_of (item_tree item))
-  item_variables scope bounds bounds_is =
-      ap (λ b. map (variable_by scope b) (map word_text list)) bounds_is
-      ∙ sym (ap (λ t. map (variable_of scope) (declarations_of t)) tree ∙ map_variables scope (option_map range_tree range) (map word_text list))
+    pub item_variables : (scope : Text) (bounds : Option Bounds) → bounds ≡ option_map bounds_of range →
+        map (variable_by scope kind signed bounds) (texts_of words list) ≡ map (variable_of scope) (all_declared kind signed range (map (declared_tree words) list))
+    item_variables scope bounds bounds_is =
+        ap (λ b. map (variable_by scope kind signed b) (texts_of words list)) bounds_is
+        ∙ sym (map_variables scope _ ∙ ap (map (variable_by scope kind signed (option_map bounds_of range))) (names_view list))
 
-  pub item_err : (result : Result (Unit {0}) (OrMemory ElabFault)) (names : List Text) →
-      IfFault result (IsBreach (record no_breach { doubled = has_double (names ++ map word_text list) ≡ true; many = 1024 < length (names ++ map word_text list) })) →
-      IfFault result (IsBreach (record no_breach { doubled = has_double (names ++ names_of (item_tree item)) ≡ true; width = has_range (item_tree item) ≡ false; many = 1024 < length (names ++ names_of (item_tree item)) }))
-  item_err (Ok u) names h = tt
-  item_err (Err e) names h =
-      because_of (λ d. sym (ap (λ l. has_double (names ++ l)) item_names) ∙ d) (λ u. u) (λ w. absurd w) (subst (λ l. 1024 < length (names ++ l)) item_names) e h
+pub item_err : (texts : List Text) (item : ItemTree) → texts ≡ names_of item → (result : Result (Unit {0}) (OrMemory ElabFault)) (names : List Text) →
+    IfFault result (IsBreach (record no_breach { doubled = has_double (names ++ texts) ≡ true; many = 1024 < length (names ++ texts) })) →
+    IfFault result (IsBreach (record no_breach { doubled = has_double (names ++ names_of item) ≡ true; width = has_range item ≡ false; many = 1024 < length (names ++ names_of item) }))
+item_err texts item same (Ok u) names h = tt
+item_err texts item same (Err e) names h =
+    because_of (λ d. sym (ap (λ l. has_double (names ++ l)) same) ∙ d) (λ u. u) (λ w. absurd w) (subst (λ l. 1024 < length (names ++ l)) same) e h
 
 -- ---- why a list of names, or of items, can't be declared
 
-pub words_err : (words : List Word) (i : ℕ) (d : Word) (names all : List Text) (e : OrMemory ElabFault) → i < length words → names ++ map word_text (drop i words) ≡ all →
-    Because (IsBreach (record no_breach { doubled = is_declared names (word_text (get_or words i d)) ≡ true; many = 1024 ≤ length names })) e → Because (IsBreach (record no_breach { doubled = has_double all ≡ true; many = 1024 < length all })) e
-words_err words i d names all e within same h =
+pub words_err : (words : List Text) (list : List Declared) (i : ℕ) (d : Declared) (names all : List Text) (e : OrMemory ElabFault) → i < length list → d ≡ get_or list i d → names ++ texts_of words (drop i list) ≡ all →
+    Because (IsBreach (record no_breach { doubled = is_declared names (token_text words d.name) ≡ true; many = 1024 ≤ length names })) e → Because (IsBreach (record no_breach { doubled = has_double all ≡ true; many = 1024 < length all })) e
+words_err words list i d names all e within at same h =
     because_of (name_stops names rest all text is) (λ u. u) (λ w. w) (names_full names rest all text is) e h
   where
     text : Text
-    text = word_text (get_or words i d)
+    text = token_text words d.name
 
     rest : List Text
-    rest = map word_text (drop (suc i) words)
+    rest = texts_of words (drop (i + 1) list)
 
     is : names ++ text ∷ rest ≡ all
-    is = ap (λ ws. names ++ map word_text ws) (sym (drop-cons words i d within)) ∙ same
+    is = ap (λ (ws : List Declared). names ++ texts_of words ws) (sym (drop_at list i d within at)) ∙ same
 
-in_order : (item : Item) (items : List Item) → names_in (map item_tree (item ∷ items)) ≡ names_of (item_tree item) ++ names_in (map item_tree items)
-in_order item items = map-append (λ (d : Declaration). d.name) (declarations_of (item_tree item)) (flat_map declarations_of (map item_tree items))
+in_order : (words : List Text) (item : ModuleItem) (items : List ModuleItem) → names_in (map (item_tree words) (item ∷ items)) ≡ names_of (item_tree words item) ++ names_in (map (item_tree words) items)
+in_order words item items = map-append (λ (d : Declaration). d.name) (declarations_of (item_tree words item)) (flat_map declarations_of (map (item_tree words) items))
 
-pub items_err : (items : List Item) (i : ℕ) (item : Item) (names all : List Text) (ranges : Bool) (e : OrMemory ElabFault) → i < length items → item ≡ get_or items i item →
-    names ++ names_in (map item_tree (drop i items)) ≡ all → list_all has_range (map item_tree (drop i items)) ≡ ranges →
-    Because (IsBreach (record no_breach { doubled = has_double (names ++ names_of (item_tree item)) ≡ true; width = has_range (item_tree item) ≡ false; many = 1024 < length (names ++ names_of (item_tree item)) })) e →
+pub items_err : (words : List Text) (items : List ModuleItem) (i : ℕ) (item : ModuleItem) (names all : List Text) (ranges : Bool) (e : OrMemory ElabFault) → i < length items → item ≡ get_or items i item →
+    names ++ names_in (map (item_tree words) (drop i items)) ≡ all → list_all has_range (map (item_tree words) (drop i items)) ≡ ranges →
+    Because (IsBreach (record no_breach { doubled = has_double (names ++ names_of (item_tree words item)) ≡ true; width = has_range (item_tree words item) ≡ false; many = 1024 < length (names ++ names_of (item_tree words item)) })) e →
     Because (IsBreach (record no_breach { doubled = has_double all ≡ true; width = ranges ≡ false; many = 1024 < length all })) e
-items_err items i item names all ranges e within is same right h =
+items_err words items i item names all ranges e within is same right h =
     because_of (part_stops part rest all whole_is) (λ u. u)
-    (fails_at items i item within is (λ xs. list_all has_range (map item_tree xs)) (λ x. has_range (item_tree x)) (λ y ys. refl) ranges right)
+    (fails_at items i item within is (λ xs. list_all has_range (map (item_tree words) xs)) (λ x. has_range (item_tree words x)) (λ y ys. refl) ranges right)
     (λ many. longer 1024 part rest all many whole_is) e h
   where
     part : List Text
-    part = names ++ names_of (item_tree item)
+    part = names ++ names_of (item_tree words item)
 
     rest : List Text
-    rest = names_in (map item_tree (drop (i + 1) items))
+    rest = names_in (map (item_tree words) (drop (i + 1) items))
 
     whole_is : part ++ rest ≡ all
-    whole_is = stopped items i item within is (λ xs. names_in (map item_tree xs)) (λ x. names_of (item_tree x)) in_order names all same
+    whole_is = stopped items i item within is (λ xs. names_in (map (item_tree words) xs)) (λ x. names_of (item_tree words x)) (in_order words) names all same

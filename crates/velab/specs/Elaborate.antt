@@ -1,22 +1,30 @@
 -- `Elaborates tree top scale design`: the design that a text stands for (IEEE 1364-2005, clause 12).
 use Rattle.std.specs.Prelude.{◌≡◌, ◌≤◌, ℕ, ◌+◌, ◌-◌, max, min, nat_le, Bool, true, false, ◌&&◌, ◌||◌, cond, List, [], ◌∷◌, ◌++◌, map, length, Option, None, Some, is_some, unwrap_or, option_map, option_and_then}
-use Rattle.std.specs.List.{list_any, list_all, flat_map, filter_map, find, position_or_len}
+use Rattle.std.specs.List.{list_any, list_all, flat_map, filter_map, find}
 use Rattle.std.specs.Borrow.{Bor}
 use Rattle.std.specs.Str.{bytes_eq}
 use Rattle.vbits.specs.Letters.{is_one}
 use Rattle.vbits.specs.Numbers as numbers
 use Rattle.vbits.specs.Vectors.{Vector, sign_letter}
-use Rattle.vast.specs.Syntax.{Text, ExpressionTree, number, name, StatementTree, empty, block, assign, nonblocking, delay, dump_vars, finish, StatementTrees, none, first, RangeTree, ItemTree, registers, initial, ModuleTree, SourceTree}
-use Rattle.vast.specs.Design as design
-use Rattle.vast.specs.declared.design.Action.{Action}
-use Rattle.vast.specs.declared.design.Action.TheVariants.{Assign, Nonblocking, Delay, DumpVars, Finish}
-use Rattle.vast.specs.declared.design.Target.TheVariants.{Whole}
+use Rattle.vast.specs.Words.{Text}
+use Rattle.vast.specs.Expressions as text
+use Rattle.vast.specs.Statements.{TargetTree, DelayTree, by_number, by_name, by_value, TaskTree, print, dump_file, dump_vars, dump, end_run, SelectionTree, StatementTree, StatementTrees, empty, block, assign, nonblocking, trigger, if_true, if_else, case_of, while_true, repeat_times, forever, for_loop, wait_for, delay, event, task, no_statement, first_statement}
+use Rattle.vast.specs.Statements as written
+use Rattle.vast.specs.Modules.{RangeTree, DeclarationKind, variables, integers, DeclaredTree, ItemTree, parameters, declaration, events, assignments, initial, always, instances, ModuleTree, SourceTree}
+use Rattle.vast.specs.declared.module.NetKind.TheVariants as net
+use Rattle.vdesign.specs.Design as design
+use Rattle.vdesign.specs.declared.action.Action.{Action}
+use Rattle.vdesign.specs.declared.action.Action.TheVariants.{Assign, Nonblocking, Test, Again, Forever, Delay, DumpVars, Finish, Stop}
+use Rattle.vdesign.specs.declared.action.Target.{Target}
+use Rattle.vdesign.specs.declared.action.Target.TheVariants.{Whole}
 use Rattle.basis.specs.declared.timescale.Timescale.{Timescale}
-use Rattle.vast.specs.declared.design.Kind.TheVariants.{Reg}
-use Rattle.vast.specs.declared.design.Bounds.{Bounds}
-use Rattle.vast.specs.declared.design.Expression.{Expression}
-use Rattle.vast.specs.declared.design.Expression.TheVariants.{Constant, Variable}
+use Rattle.vdesign.specs.declared.design.Kind.{Kind}
+use Rattle.vdesign.specs.declared.design.Kind.TheVariants.{Reg, Integer}
+use Rattle.vdesign.specs.declared.expression.Bounds.{Bounds}
+use Rattle.vdesign.specs.Expressions.{ExpressionTree}
 use Rattle.velab.specs.Literals.{constant_of}
+use Rattle.velab.specs.Resolved.{resolved, knows_expression}
+use Rattle.velab.specs.Uses.{place_of, is_declared}
 
 -- ---- names (3.7, 12.7)
 
@@ -41,18 +49,35 @@ abbrev pub top_of : SourceTree → Option Text → Option ModuleTree
 top_of modules None = only_of modules
 top_of modules (Some top) = find (λ m. bytes_eq m.name top) modules
 
--- ---- variables (4.2, 4.3.1)
+-- ---- variables (4.2, 4.3.1, 4.8)
 
 pub record Declaration : Type 0 where
   pub name : Text
+  pub kind : Kind
+  pub signed : Bool
   pub range : Option RangeTree
 
-abbrev pub declared : Option RangeTree → Text → Declaration
-declared range text = record { name = text; range = range }
+abbrev pub declared : Kind → Bool → Option RangeTree → Text → Declaration
+declared kind signed range text = record { name = text; kind = kind; signed = signed; range = range }
+
+-- the name of each, declared as of this kind, with this sign and this range
+abbrev pub all_declared : Kind → Bool → Option RangeTree → List DeclaredTree → List Declaration
+all_declared kind signed range list = map (declared kind signed range) (map (λ one. one.name) list)
+
+-- what isn't run yet declares nothing
+abbrev pub declared_as : DeclarationKind → List DeclaredTree → List Declaration
+declared_as (variables net.Wire type) list = []
+declared_as (variables net.Reg type) list = all_declared Reg type.signed type.range list
+declared_as integers list = all_declared Integer true None list
 
 abbrev pub declarations_of : ItemTree → List Declaration
-declarations_of (registers range texts) = map (declared range) texts
+declarations_of (parameters local type settings) = []
+declarations_of (declaration kind list) = declared_as kind list
+declarations_of (events names) = []
+declarations_of (assignments settings) = []
 declarations_of (initial statement) = []
+declarations_of (always statement) = []
+declarations_of (instances letters overrides list) = []
 
 -- in the order of the text
 abbrev pub declarations : ModuleTree → List Declaration
@@ -70,8 +95,20 @@ bound_in value =
     cond (is_negative value) None
     (option_and_then (λ n. cond (nat_le n 65535) (Some n) None) (numbers.number value.letters))
 
-abbrev pub bound_of : Text → Option ℕ
-bound_of digits = bound_in (constant_of digits).value
+-- a bound is a number
+abbrev pub bound_of : text.ExpressionTree → Option ℕ
+bound_of (text.number digits) = bound_in (constant_of digits).value
+bound_of (text.name letters) = None
+bound_of text.time = None
+bound_of (text.bit letters index) = None
+bound_of (text.part letters left right) = None
+bound_of (text.parentheses inner) = None
+bound_of (text.concatenation list) = None
+bound_of (text.replication count list) = None
+bound_of (text.conversion signed operand) = None
+bound_of (text.apply operator operand) = None
+bound_of (text.combine operator left right) = None
+bound_of (text.conditional condition when_true when_false) = None
 
 -- rising or falling
 abbrev pub span : Bounds → ℕ
@@ -85,39 +122,40 @@ abbrev pub is_range : Option RangeTree → Bool
 is_range None = true
 is_range (Some range) = is_some (bound_of range.left) && is_some (bound_of range.right) && nat_le (span (bounds_of range)) 64
 
-abbrev pub has_range : ItemTree → Bool
-has_range (registers range texts) = is_range range
-has_range (initial statement) = true
+abbrev pub has_bounds : DeclarationKind → Bool
+has_bounds (variables net.Wire type) = true
+has_bounds (variables net.Reg type) = is_range type.range
+has_bounds integers = true
 
--- 1 bit without a range
-abbrev pub length_of : Option Bounds → ℕ
-length_of None = 1
-length_of (Some bounds) = span bounds
+abbrev pub has_range : ItemTree → Bool
+has_range (parameters local type settings) = true
+has_range (declaration kind list) = has_bounds kind
+has_range (events names) = true
+has_range (assignments settings) = true
+has_range (initial statement) = true
+has_range (always statement) = true
+has_range (instances letters overrides list) = true
+
+-- without a range a `reg` has 1 bit, an `integer` 32
+abbrev pub length_of : Kind → Option Bounds → ℕ
+length_of kind (Some bounds) = span bounds
+length_of Reg None = 1
+length_of Integer None = 32
 
 -- its name stands behind its module's and a dot
-abbrev pub variable_by : Text → Option Bounds → Text → design.Variable
-variable_by top bounds text = record {
+abbrev pub variable_by : Text → Kind → Bool → Option Bounds → Text → design.Variable
+variable_by top kind signed bounds text = record {
   name = top ++ 46 ∷ text;
-  kind = Reg;
-  length = length_of bounds;
-  signed = false;
+  kind = kind;
+  length = length_of kind bounds;
+  signed = signed;
   bounds = bounds;
 }
 
 abbrev pub variable_of : Text → Declaration → design.Variable
-variable_of top d = variable_by top (option_map bounds_of d.range) d.name
+variable_of top d = variable_by top d.kind d.signed (option_map bounds_of d.range) d.name
 
--- ---- processes (9.9.1): a variable goes by its place among the declared names
-
-abbrev pub place_of : List Text → Text → ℕ
-place_of names text = position_or_len (bytes_eq text) names
-
-abbrev pub is_declared : List Text → Text → Bool
-is_declared names text = list_any (bytes_eq text) names
-
-abbrev pub expression_of : List Text → ExpressionTree → Expression
-expression_of names (number digits) = Constant (constant_of digits)
-expression_of names (name text) = Variable (place_of names text)
+-- ---- processes (9.9.1)
 
 -- the table of actions so far, with what a statement adds to it, and the places at which the statement begins
 pub record Laid : Type 0 where
@@ -131,21 +169,73 @@ placed table action = record { table = table ++ action ∷ []; places = length t
 abbrev pub nothing_laid : List Action → Laid
 nothing_laid table = record { table = table; places = [] }
 
--- a statement behind what the table has: `begin`, `end` and `;` are no action, and what stands inside is laid first
+-- an assignment of either kind (9.2): what isn't run yet lays nothing
+abbrev pub assigning : Bool → Target → ExpressionTree → Action
+assigning blocking target value = cond blocking (Assign target value) (Nonblocking target value)
+
+abbrev pub laid_assignment : Bool → List Text → List Action → TargetTree → Option DelayTree → text.ExpressionTree → Laid
+laid_assignment blocking names table (written.whole letters) None value = placed table (assigning blocking (Whole (place_of names letters)) (resolved names value))
+laid_assignment blocking names table (written.whole letters) (Some amount) value = nothing_laid table
+laid_assignment blocking names table (written.bit letters index) amount value = nothing_laid table
+laid_assignment blocking names table (written.part letters left right) amount value = nothing_laid table
+laid_assignment blocking names table (written.joined targets) amount value = nothing_laid table
+
+abbrev pub amount_of : List Text → DelayTree → ExpressionTree
+amount_of names (by_number digits) = resolved names (text.number digits)
+amount_of names (by_name letters) = resolved names (text.name letters)
+amount_of names (by_value amount) = resolved names amount
+
+abbrev pub laid_dump : List Action → Option SelectionTree → Laid
+laid_dump table None = placed table DumpVars
+laid_dump table (Some selection) = nothing_laid table
+
+-- 17.4
+abbrev pub ending : Bool → Action
+ending stops = cond stops Stop Finish
+
+abbrev pub laid_task : List Action → TaskTree → Laid
+laid_task table (print kind arguments) = nothing_laid table
+laid_task table (dump_file letters) = nothing_laid table
+laid_task table (dump_vars selection) = laid_dump table selection
+laid_task table (dump kind) = nothing_laid table
+laid_task table (end_run stops digits) = placed table (ending stops)
+
+-- a statement behind what the table has: `begin`, `end` and `;` are no action, what stands inside is laid first, and what isn't
+-- run yet lays nothing
 abbrev mutual
   pub laid : List Text → List Action → StatementTree → Laid
   laid names table empty = nothing_laid table
   laid names table (block statements) = all_laid names table statements
-  laid names table (assign target value) = placed table (Assign (Whole (place_of names target)) (expression_of names value))
-  laid names table (nonblocking target value) = placed table (Nonblocking (Whole (place_of names target)) (expression_of names value))
+  laid names table (assign target amount value) = laid_assignment true names table target amount value
+  laid names table (nonblocking target amount value) = laid_assignment false names table target amount value
+  laid names table (trigger letters) = nothing_laid table
+  laid names table (if_true condition body) =
+      let inner = laid names table body in placed inner.table (Test (resolved names condition) inner.places [])
+  laid names table (if_else condition body other) =
+      let one = laid names table body in
+      let two = laid names one.table other in
+      placed two.table (Test (resolved names condition) one.places two.places)
+  laid names table (case_of kind value branches) = nothing_laid table
+  laid names table (while_true condition body) =
+      let inner = laid names table body in placed inner.table (Again (resolved names condition) inner.places)
+  laid names table (repeat_times count body) = nothing_laid table
+  laid names table (forever body) =
+      let inner = laid names table body in placed inner.table (Forever inner.places)
+  laid names table (for_loop target value condition next_target next_value body) =
+      let first = laid_assignment true names table target None value in
+      let inner = laid names first.table body in
+      let next = laid_assignment true names inner.table next_target None next_value in
+      let turn = placed next.table (Again (resolved names condition) (inner.places ++ next.places)) in
+      record { table = turn.table; places = first.places ++ turn.places }
+  laid names table (wait_for condition body) = nothing_laid table
   laid names table (delay amount body) =
-      let inner = laid names table body in placed inner.table (Delay (Constant (constant_of amount)) inner.places)
-  laid names table dump_vars = placed table DumpVars
-  laid names table finish = placed table Finish
+      let inner = laid names table body in placed inner.table (Delay (amount_of names amount) inner.places)
+  laid names table (event control body) = nothing_laid table
+  laid names table (task call) = laid_task table call
 
   pub all_laid : List Text → List Action → StatementTrees → Laid
-  all_laid names table none = nothing_laid table
-  all_laid names table (first statement rest) =
+  all_laid names table no_statement = nothing_laid table
+  all_laid names table (first_statement statement rest) =
       let front = laid names table statement in
       let behind = all_laid names front.table rest in
       record { table = behind.table; places = front.places ++ behind.places }
@@ -162,37 +252,72 @@ laid_processes names table (statement ∷ rest) =
     let behind = laid_processes names front.table rest in
     record { table = behind.table; begins = front.places ∷ behind.begins }
 
-abbrev pub knows_expression : List Text → ExpressionTree → Bool
-knows_expression names (number digits) = true
-knows_expression names (name text) = is_declared names text
+abbrev pub knows_assignment : List Text → TargetTree → Option DelayTree → text.ExpressionTree → Bool
+knows_assignment names (written.whole letters) None value = is_declared names letters && knows_expression names value
+knows_assignment names (written.whole letters) (Some amount) value = true
+knows_assignment names (written.bit letters index) amount value = true
+knows_assignment names (written.part letters left right) amount value = true
+knows_assignment names (written.joined targets) amount value = true
 
--- whether each name in a statement is declared, before it or after it
+abbrev pub knows_amount : List Text → DelayTree → Bool
+knows_amount names (by_number digits) = true
+knows_amount names (by_name letters) = is_declared names letters
+knows_amount names (by_value amount) = knows_expression names amount
+
+-- whether each name in a statement is declared, before it or after it; what isn't run yet uses none
 abbrev mutual
   pub knows : List Text → StatementTree → Bool
   knows names empty = true
   knows names (block statements) = knows_all names statements
-  knows names (assign target value) = is_declared names target && knows_expression names value
-  knows names (nonblocking target value) = is_declared names target && knows_expression names value
-  knows names (delay amount body) = knows names body
-  knows names dump_vars = true
-  knows names finish = true
+  knows names (assign target amount value) = knows_assignment names target amount value
+  knows names (nonblocking target amount value) = knows_assignment names target amount value
+  knows names (trigger letters) = true
+  knows names (if_true condition body) = knows_expression names condition && knows names body
+  knows names (if_else condition body other) = knows_expression names condition && (knows names body && knows names other)
+  knows names (case_of kind value branches) = true
+  knows names (while_true condition body) = knows_expression names condition && knows names body
+  knows names (repeat_times count body) = true
+  knows names (forever body) = knows names body
+  knows names (for_loop target value condition next_target next_value body) =
+      knows_assignment names target None value
+      && (knows_expression names condition && (knows_assignment names next_target None next_value && knows names body))
+  knows names (wait_for condition body) = true
+  knows names (delay amount body) = knows_amount names amount && knows names body
+  knows names (event control body) = true
+  knows names (task call) = true
 
   pub knows_all : List Text → StatementTrees → Bool
-  knows_all names none = true
-  knows_all names (first statement rest) = knows names statement && knows_all names rest
+  knows_all names no_statement = true
+  knows_all names (first_statement statement rest) = knows names statement && knows_all names rest
 
-abbrev pub statement_of : ItemTree → Option StatementTree
-statement_of (registers range texts) = None
-statement_of (initial statement) = Some statement
+-- 6.2.1: `reg a = e` is an `initial a = e` at its place
+abbrev pub start_of : DeclaredTree → Option StatementTree
+start_of declared = option_map (λ value. assign (written.whole declared.name) None value) declared.value
+
+-- what isn't run yet has no process
+abbrev pub starts_of : DeclarationKind → List DeclaredTree → List StatementTree
+starts_of (variables net.Wire type) list = []
+starts_of (variables net.Reg type) list = filter_map start_of list
+starts_of integers list = filter_map start_of list
+
+-- the statements of the processes that an item makes
+abbrev pub statements_of : ItemTree → List StatementTree
+statements_of (parameters local type settings) = []
+statements_of (declaration kind list) = starts_of kind list
+statements_of (events names) = []
+statements_of (assignments settings) = []
+statements_of (initial statement) = statement ∷ []
+statements_of (always statement) = forever statement ∷ []  -- 9.9.2
+statements_of (instances letters overrides list) = []
 
 -- in the order of the text
 abbrev pub initials : ModuleTree → List StatementTree
-initials m = filter_map statement_of m.items
+initials m = flat_map statements_of m.items
 
 -- ---- the design (12.1)
 
 abbrev pub scope_by : Text → ℕ → design.Scope
-scope_by top variables = record { name = top; depth = 0; variables = variables }
+scope_by top count = record { name = top; depth = 0; variables = count }
 
 -- under the timescale of the text (19.8)
 abbrev pub design_of : Timescale → ModuleTree → design.Design

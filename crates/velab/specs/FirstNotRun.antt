@@ -1,8 +1,8 @@
--- Where what isn't run yet begins (E299): the token at which the first construct of a text begins that `Runnable` has no
--- tree for. A construct begins with the first token that its tree keeps: of `-a`, `(a)` and `$signed(a)` that is `a`.
-use Rattle.std.specs.Prelude.{ℕ, if◌then◌else◌, List, [], ◌∷◌, Option, Some, None, option_map}
+-- Where what isn't run yet begins (E299): the token at which the first construct of a text begins that
+-- doesn't run (`Runs`). A construct begins with the first token that its tree keeps: of `-a`, `(a)` and `$signed(a)` that is `a`.
+use Rattle.std.specs.Prelude.{ℕ, Bool, if◌then◌else◌, List, [], ◌∷◌, Option, Some, None, option_map, option_and_then}
 use Rattle.std.specs.Option.{option_or}
-use Rattle.vast.specs.Syntax.{Text}
+use Rattle.vast.specs.Words.{Text}
 use Rattle.vast.specs.ExpressionTrees.{tree_of}
 use Rattle.vast.specs.StatementTrees.{target_tree, delay_tree, task_tree}
 use Rattle.vast.specs.declared.expression.Expression.{Expression, Number, Name, Time, Bit', Part', Parentheses', Concatenation', Replication', Conversion', Unary', Binary', Conditional'}
@@ -13,7 +13,6 @@ use Rattle.vast.specs.declared.statement.Task.{Task}
 use Rattle.vast.specs.declared.statement.Statement.{Statement, Empty, Block', Assign, Nonblocking, Trigger, If', IfElse', Case', While', Repeat', Forever', For', Wait', Delayed', OnEvent', Task as Call, Row_of-Statement, end_of-Statement, more_of-Statement}
 use Rattle.vast.specs.declared.module.NetKind.TheVariants as net
 use Rattle.vast.specs.declared.module.Bounds.{Bounds}
-use Rattle.vast.specs.declared.module.SignAndRange.{SignAndRange}
 use Rattle.vast.specs.declared.module.DeclarationKind.{DeclarationKind}
 use Rattle.vast.specs.declared.module.DeclarationKind.TheVariants as declaring
 use Rattle.vast.specs.declared.module.Declared.{Declared}
@@ -21,7 +20,8 @@ use Rattle.vast.specs.declared.module.ModuleItem.{ModuleItem}
 use Rattle.vast.specs.declared.module.ModuleItem.TheVariants as items
 use Rattle.vast.specs.declared.module.ModuleTree.{ModuleTree}
 use Rattle.vast.specs.declared.module.TextTree.{TextTree}
-use Rattle.velab.specs.Runnable.{runnable_expression, runnable_number, runnable_target, runnable_delay, runnable_task}
+use Rattle.velab.specs.Resolved.{runs_expression}
+use Rattle.velab.specs.Runs.{runs_bound, runs_target, runs_delay, runs_task}
 
 -- The tokens that constructs begin with
 
@@ -52,10 +52,9 @@ delay_token (delays.Value value) = first_token value.value
 
 -- Where the first of several constructs begins that isn't run: each is looked at in turn
 
--- a construct that begins here isn't run where it has no tree
-abbrev pub unless_run : {A : Type 0} → Option A → ℕ → Option ℕ
-unless_run None at = Some at
-unless_run (Some tree) at = None
+-- a construct that begins here, and whether it runs
+abbrev pub unless_run : Bool → ℕ → Option ℕ
+unless_run runs at = if runs then None else Some at
 
 abbrev pub first_among : {A : Type 0} → (A → Option ℕ) → List A → Option ℕ
 first_among place [] = None
@@ -63,19 +62,19 @@ first_among place (one ∷ more) = option_or (place one) (first_among place more
 
 module _ (words : List Text) where
   abbrev pub in_expression : Expression → Option ℕ
-  in_expression value = unless_run (runnable_expression (tree_of words value)) (first_token value)
+  in_expression value = unless_run (runs_expression (tree_of words value)) (first_token value)
 
-  abbrev pub in_number : Expression → Option ℕ
-  in_number value = unless_run (runnable_number (tree_of words value)) (first_token value)
+  abbrev pub in_bound : Expression → Option ℕ
+  in_bound value = unless_run (runs_bound (tree_of words value)) (first_token value)
 
   abbrev pub in_target : Target → Option ℕ
-  in_target target = unless_run (runnable_target (target_tree words target)) (target_token target)
+  in_target target = unless_run (runs_target (target_tree words target)) (target_token target)
 
   abbrev pub in_delay : Delay → Option ℕ
-  in_delay amount = unless_run (runnable_delay (delay_tree words amount)) (delay_token amount)
+  in_delay amount = unless_run (runs_delay (delay_tree words amount)) (delay_token amount)
 
   abbrev pub in_task : ℕ → Task → Option ℕ
-  in_task at call = unless_run (runnable_task (task_tree words call)) at
+  in_task at call = unless_run (runs_task (task_tree words call)) at
 
   -- no delay of an assignment's own is run
   abbrev pub in_assignment : Target → Option Delay → Expression → Option ℕ
@@ -89,13 +88,17 @@ module _ (words : List Text) where
     in_statement (Assign at target amount value) = in_assignment target amount value.value
     in_statement (Nonblocking at target amount value) = in_assignment target amount value.value
     in_statement (Trigger at name) = Some at
-    in_statement (If' at condition place body) = Some at
-    in_statement (IfElse' at condition place body place_too other) = Some at
+    in_statement (If' at condition place body) = option_or (in_expression condition.value) (in_statement body)
+    in_statement (IfElse' at condition place body place_too other) =
+        option_or (in_expression condition.value) (option_or (in_statement body) (in_statement other))
     in_statement (Case' at kind value shape row) = Some at
-    in_statement (While' at condition place body) = Some at
+    in_statement (While' at condition place body) = option_or (in_expression condition.value) (in_statement body)
     in_statement (Repeat' at count place body) = Some at
-    in_statement (Forever' at place body) = Some at
-    in_statement (For' at target value condition next_target next_value place body) = Some at
+    in_statement (Forever' at place body) = in_statement body
+    in_statement (For' at target value condition next_target next_value place body) =
+        option_or (in_assignment target None value.value)
+        (option_or (in_expression condition.value)
+        (option_or (in_assignment next_target None next_value.value) (in_statement body)))
     in_statement (Wait' at condition place body) = Some at
     in_statement (Delayed' at amount place body) = option_or (in_delay amount) (in_statement body)
     in_statement (OnEvent' at control place body) = Some at
@@ -109,25 +112,21 @@ module _ (words : List Text) where
   in_statements list = first_among in_statement list
 
   abbrev pub in_bounds : Bounds → Option ℕ
-  in_bounds bounds = option_or (in_number bounds.left.value) (in_number bounds.right.value)
+  in_bounds bounds = option_or (in_bound bounds.left.value) (in_bound bounds.right.value)
 
   abbrev pub in_range : Option Bounds → Option ℕ
   in_range None = None
   in_range (Some bounds) = in_bounds bounds
 
-  -- a sign isn't run
-  abbrev pub in_type : ℕ → SignAndRange → Option ℕ
-  in_type at type = if type.signed then Some at else in_range type.range
-
-  -- of a declaration that begins here: only registers are run
+  -- of a declaration that begins here: variables are run, nets aren't
   abbrev pub in_kind : ℕ → DeclarationKind → Option ℕ
   in_kind at (declaring.Variables net.Wire type) = Some at
-  in_kind at (declaring.Variables net.Reg type) = in_type at type
-  in_kind at declaring.Integers = Some at
+  in_kind at (declaring.Variables net.Reg type) = in_range type.range
+  in_kind at declaring.Integers = None
 
-  -- no value of a declared name is run
+  -- a declared name: only its value may be what isn't run
   abbrev pub in_declared : Declared → Option ℕ
-  in_declared declared = option_map (λ value. first_token value.value) declared.value
+  in_declared declared = option_and_then (λ value. in_expression value.value) declared.value
 
   abbrev pub in_names : List Declared → Option ℕ
   in_names list = first_among in_declared list
@@ -138,7 +137,7 @@ module _ (words : List Text) where
   in_item (items.Events at names) = Some at
   in_item (items.Assignments at settings) = Some at
   in_item (items.Initial at statement) = in_statement statement
-  in_item (items.Always at statement) = Some at
+  in_item (items.Always at statement) = in_statement statement
   in_item (items.Instances name overrides list) = Some name.number
 
   abbrev pub in_items : List ModuleItem → Option ℕ

@@ -1,25 +1,35 @@
 -- What the steps of elaboration are told by and answer; nothing here has to be believed.
-use Rattle.std.specs.Prelude.{◌≡◌, ◌<◌, ◌≤◌, ◌⊎◌, ℕ, ◌+◌, ◌-◌, true, false, cond, List, [], ◌++◌, Vec, map, length, take, Option, None, option_map, Result, OnOk}
+use Rattle.std.specs.Prelude.{◌≡◌, ◌<◌, ◌≤◌, ◌⊎◌, ℕ, ◌+◌, ◌-◌, Bool, true, false, cond, List, [], ◌++◌, Vec, map, length, take, Option, None, option_map, Result, OnOk}
 use Rattle.std.specs.Borrow.{Bor}
-use Rattle.std.specs.List.{list_all, flat_map, filter_map, cons_option}
+use Rattle.std.specs.List.{list_all, flat_map, filter_map}
 use Rattle.vbits.specs.declared.bit4.Bit4.{Bit4}
-use Rattle.vast.specs.declared.syntax.Module.{Module as Parsed}
-use Rattle.vast.specs.declared.syntax.Expr.{Expr}
-use Rattle.vast.specs.declared.syntax.Stmt.{Stmt}
-use Rattle.vast.specs.declared.syntax.Item.{Item}
-use Rattle.vast.specs.declared.syntax.Range.{Range}
-use Rattle.vast.specs.declared.syntax.Word.{Word}
-use Rattle.vast.specs.declared.design.Bounds.{Bounds}
-use Rattle.vast.specs.declared.design.Expression.{Expression}
-use Rattle.vast.specs.Design as design
+use Rattle.vdesign.specs.declared.expression.Bounds.{Bounds}
+use Rattle.vdesign.specs.Design as design
 use Rattle.vlex.specs.Bytes.{is_underscore}
-use Rattle.vast.specs.Syntax.{Text, ExpressionTree, StatementTree, StatementTrees, RangeTree, ItemTree, ModuleTree, SourceTree}
-use Rattle.vast.specs.Trees.{module_tree, word_text, expression_tree, statement_tree, statement_trees, range_tree, item_tree}
+use Rattle.vast.specs.Words.{Text}
+use Rattle.vast.specs.TokenTexts.{token_text}
+use Rattle.vast.specs.Expressions.{ExpressionTree}
+use Rattle.vast.specs.Statements.{StatementTree, StatementTrees}
+use Rattle.vast.specs.StatementTrees.{statement_tree, statement_trees}
+use Rattle.vast.specs.Modules.{RangeTree, ItemTree, declaration, variables, integers, ModuleTree, SourceTree}
+use Rattle.vast.specs.ModuleTrees.{module_tree, range_tree, type_tree, declaration_kind, declared_tree, item_tree}
+use Rattle.vast.specs.declared.module.DeclarationKind.{DeclarationKind as DeclarationWords}
+use Rattle.vast.specs.declared.module.NetKind.{NetKind}
+use Rattle.vast.specs.declared.module.NetKind.TheVariants.{Reg}
+use Rattle.vast.specs.declared.module.SignAndRange.{SignAndRange}
+use Rattle.vast.specs.declared.statement.Statement.{Statement}
+use Rattle.vast.specs.declared.module.ModuleTree.{ModuleTree as Parsed}
+use Rattle.vast.specs.declared.module.ModuleItem.{ModuleItem}
+use Rattle.vast.specs.declared.module.Declared.{Declared}
+use Rattle.vast.specs.declared.module.Bounds.{Bounds as Written}
 use Rattle.velab.specs.declared.fault.ElabFault.{ElabFault}
 use Rattle.velab.specs.declared.fault.ElabFault.TheVariants.{Module, Doubled, Unknown, Width, TooMany}
 use Rattle.velab.specs.Literals.{digit_letters}
-use Rattle.vast.specs.declared.design.Action.{Action}
-use Rattle.velab.specs.Elaborate.{Laid, Processes, has_double, module_names, declarations_of, declared_names, declarations, statement_of, initials, bound_of, is_range, has_range, is_declared, knows_expression, knows, knows_all, expression_of, laid, all_laid, laid_processes, bounds_of, variable_by, variable_of}
+use Rattle.velab.specs.Resolved.{knows_expression, knows_operand}
+use Rattle.velab.specs.Uses.{is_declared}
+use Rattle.velab.specs.declared.variable.Form.{Form}
+use Rattle.vdesign.specs.declared.action.Action.{Action}
+use Rattle.velab.specs.Elaborate.{Laid, Processes, has_double, module_names, declarations_of, declared_names, declarations, start_of, statements_of, initials, bound_of, is_range, has_range, knows, knows_all, laid, all_laid, laid_processes, bounds_of, variable_by, variable_of}
 
 -- ---- parts of a module
 
@@ -29,10 +39,6 @@ names_of item = map (λ d. d.name) (declarations_of item)
 
 abbrev pub names_in : List ItemTree → List Text
 names_in items = map (λ d. d.name) (flat_map declarations_of items)
-
--- the statement of an `initial`, as a list of at most one
-abbrev pub initials_of : ItemTree → List StatementTree
-initials_of item = cons_option (statement_of item) []
 
 -- the table was laid on, and these places put behind others
 pub record IsLaid (what : Laid) (before : List ℕ) (table_after : List Action) (places_after : List ℕ) : Type 0 where
@@ -45,8 +51,8 @@ pub record AreLaid (what : Processes) (before : List (List ℕ)) (table_after : 
   pub begins : begins_after ≡ before ++ what.begins
 
 -- the tree of a module that was found
-abbrev pub unit_tree : Option (Bor Parsed) → Option ModuleTree
-unit_tree = option_map (λ unit. module_tree unit.now)
+abbrev pub unit_tree : List Text → Option (Bor Parsed) → Option ModuleTree
+unit_tree words = option_map (λ unit. module_tree words unit.now)
 
 -- ---- numbers
 
@@ -105,8 +111,8 @@ abbrev pub BreaksNames : List Text → ElabFault → Type 0
 BreaksNames names = IsBreach (names_breach names)
 
 -- a bound, and a range
-abbrev pub BreaksBound : Text → ElabFault → Type 0
-BreaksBound digits = IsBreach (record no_breach { width = bound_of digits ≡ None })
+abbrev pub BreaksBound : ExpressionTree → ElabFault → Type 0
+BreaksBound bound = IsBreach (record no_breach { width = bound_of bound ≡ None })
 
 abbrev pub BreaksRange : Option RangeTree → ElabFault → Type 0
 BreaksRange range = IsBreach (record no_breach { width = is_range range ≡ false })
@@ -122,6 +128,9 @@ BreaksItems items = IsBreach (record (names_breach (names_in items)) { width = l
 abbrev pub BreaksUse : List Text → Text → ElabFault → Type 0
 BreaksUse names text = IsBreach (record no_breach { unknown = is_declared names text ≡ false })
 
+abbrev pub BreaksOperand : List Text → ExpressionTree → ElabFault → Type 0
+BreaksOperand names expression = IsBreach (record no_breach { unknown = knows_operand names expression ≡ false })
+
 abbrev pub BreaksExpression : List Text → ExpressionTree → ElabFault → Type 0
 BreaksExpression names expression = IsBreach (record no_breach { unknown = knows_expression names expression ≡ false })
 
@@ -131,46 +140,54 @@ BreaksStatement names statement = IsBreach (record no_breach { unknown = knows n
 abbrev pub BreaksStatements : List Text → StatementTrees → ElabFault → Type 0
 BreaksStatements names statements = IsBreach (record no_breach { unknown = knows_all names statements ≡ false })
 
--- the process of an item behind those that there are, and all processes
-abbrev pub BreaksProcess : {X T : Type 0} → List Text → Vec X T → ItemTree → ElabFault → Type 0
-BreaksProcess names processes item = IsBreach (record no_breach {
-  unknown = list_all (knows names) (initials_of item) ≡ false;
-  many = 256 < length processes.items + length (initials_of item);
+abbrev pub BreaksKnown : Bool → ElabFault → Type 0
+BreaksKnown known = IsBreach (record no_breach { unknown = known ≡ false })
+
+-- these processes behind those that there are, those of an item, and all processes
+abbrev pub BreaksAdded : {X T : Type 0} → List Text → Vec X T → List StatementTree → ElabFault → Type 0
+BreaksAdded names processes statements = IsBreach (record no_breach {
+  unknown = list_all (knows names) statements ≡ false;
+  many = 256 < length processes.items + length statements;
 })
+
+abbrev pub BreaksProcess : {X T : Type 0} → List Text → Vec X T → ItemTree → ElabFault → Type 0
+BreaksProcess names processes item = BreaksAdded names processes (statements_of item)
 
 abbrev pub BreaksProcesses : List Text → List ItemTree → ElabFault → Type 0
 BreaksProcesses names items = IsBreach (record no_breach {
-  unknown = list_all (knows names) (filter_map statement_of items) ≡ false;
-  many = 256 < length (filter_map statement_of items);
+  unknown = list_all (knows names) (flat_map statements_of items) ≡ false;
+  many = 256 < length (flat_map statements_of items);
 })
 
 -- ---- what the parts of a text are made to, told of the program's values
 
-abbrev pub expression_for : List Text → Expr → Expression
-expression_for names expression = expression_of names (expression_tree expression)
-
-abbrev pub Knows : List Text → Expr → Type 0
-Knows names expression = knows_expression names (expression_tree expression) ≡ true
-
 abbrev pub KnowsAll : List Text → List StatementTree → Type 0
 KnowsAll names statements = list_all (knows names) statements ≡ true
 
+-- the names that are declared together, in the words of a text
+abbrev pub texts_of : List Text → List Declared → List Text
+texts_of words list = map (λ one. token_text words one.name) list
+
 -- a statement laid on a table, statements, and the statement of an item
-abbrev pub laid_of : List Text → List Action → Stmt → Laid
-laid_of names table statement = laid names table (statement_tree statement)
+abbrev pub laid_of : List Text → List Text → List Action → Statement → Laid
+laid_of words names table statement = laid names table (statement_tree words statement)
 
-abbrev pub all_laid_of : List Text → List Action → List Stmt → Laid
-all_laid_of names table statements = all_laid names table (statement_trees statements)
+abbrev pub all_laid_of : List Text → List Text → List Action → List Statement → Laid
+all_laid_of words names table statements = all_laid names table (statement_trees words statements)
 
-abbrev pub laid_of_item : List Text → List Action → Item → Processes
-laid_of_item names table item = laid_processes names table (initials_of (item_tree item))
+abbrev pub laid_of_item : List Text → List Text → List Action → ModuleItem → Processes
+laid_of_item words names table item = laid_processes names table (statements_of (item_tree words item))
+
+-- the statements by which names are declared with a value
+abbrev pub starts_in : List Text → List Declared → List StatementTree
+starts_in words list = filter_map start_of (map (declared_tree words) list)
 
 -- the statements of items, and the processes that they describe
-abbrev pub initials_in : List Item → List StatementTree
-initials_in items = filter_map statement_of (map item_tree items)
+abbrev pub initials_in : List Text → List ModuleItem → List StatementTree
+initials_in words items = flat_map statements_of (map (item_tree words) items)
 
-abbrev pub processes_of : List Text → List Item → Processes
-processes_of names items = laid_processes names [] (initials_in items)
+abbrev pub processes_of : List Text → List Text → List ModuleItem → Processes
+processes_of words names items = laid_processes names [] (initials_in words items)
 
 -- where there was no fault, these were laid
 abbrev pub HasLaid : {A B T E : Type 0} → Result T E → Laid → Vec ℕ A → List Action → Vec ℕ B → Type 0
@@ -180,15 +197,32 @@ abbrev pub HaveLaid : {A B T E : Type 0} → Result T E → Processes → Vec (L
 HaveLaid result what before table after = OnOk result (AreLaid what before.items table after.items)
 
 -- the bounds of a range, where there is one
-abbrev pub bounds_for : Option Range → Option Bounds
-bounds_for range = option_map bounds_of (option_map range_tree range)
+abbrev pub bounds_for : List Text → Option Written → Option Bounds
+bounds_for words range = option_map bounds_of (option_map (range_tree words) range)
 
--- the variables of words declared with these bounds, of an item, and of items
-abbrev pub variables_by : List ℕ → Option Bounds → List Word → List design.Variable
-variables_by scope bounds words = map (variable_by scope bounds) (map word_text words)
+-- a variable declared in this form
+abbrev pub variable_in : List ℕ → Form → Text → design.Variable
+variable_in scope form = variable_by scope form.kind form.signed form.bounds
 
-abbrev pub variables_for : List ℕ → Item → List design.Variable
-variables_for scope item = map (variable_of scope) (declarations_of (item_tree item))
+-- the variables of names declared in this form, of an item, and of items
+abbrev pub variables_by : List Text → List ℕ → Form → List Declared → List design.Variable
+variables_by words scope form list = map (variable_in scope form) (texts_of words list)
 
-abbrev pub variables_of : List ℕ → List Item → List design.Variable
-variables_of scope items = map (variable_of scope) (flat_map declarations_of (map item_tree items))
+-- a declaration, as an item
+abbrev pub kind_item : List Text → DeclarationWords → List Declared → ItemTree
+kind_item words kind list = declaration (declaration_kind words kind) (map (declared_tree words) list)
+
+abbrev pub net_item : List Text → NetKind → SignAndRange → List Declared → ItemTree
+net_item words net type list = declaration (variables net (type_tree words type)) (map (declared_tree words) list)
+
+abbrev pub registers_item : List Text → SignAndRange → List Declared → ItemTree
+registers_item words = net_item words Reg
+
+abbrev pub integers_item : List Text → List Declared → ItemTree
+integers_item words list = declaration integers (map (declared_tree words) list)
+
+abbrev pub variables_for : List Text → List ℕ → ModuleItem → List design.Variable
+variables_for words scope item = map (variable_of scope) (declarations_of (item_tree words item))
+
+abbrev pub variables_of : List Text → List ℕ → List ModuleItem → List design.Variable
+variables_of words scope items = map (variable_of scope) (flat_map declarations_of (map (item_tree words) items))

@@ -1,6 +1,6 @@
 -- What a step of declaring variables leaves.
 use Rattle.std.specs.Prelude.{◌≡◌, List, ◌++◌, Result, OnOk}
-use Rattle.vast.specs.Design as design
+use Rattle.vdesign.specs.Design as design
 use Rattle.velab.specs.declared.variable.Declarations.{Declarations}
 
 -- where there was no fault, these variables stand behind those that there were

@@ -1,9 +1,10 @@
 pub mod Literals
+pub mod Uses
+pub mod Resolved
 pub mod Elaborate
 pub mod Reasons
 pub mod Laws
 pub mod Inner
 pub mod InnerVariables
-pub mod Runnable
+pub mod Runs
 pub mod FirstNotRun
-pub mod Running

@@ -8,8 +8,8 @@ use Rattle.vbits.specs.Numbers.{digits}
 use Rattle.vbits.specs.Vectors.{Vector, filled, of_number, with_sign}
 use Rattle.vlex.specs.Bytes.{is_apostrophe, is_underscore, is_x_digit, is_z_digit}
 use Rattle.vlex.specs.Forms.{spelled_number}
-use Rattle.vast.specs.Syntax.{Text}
-use Rattle.vast.specs.declared.design.Constant.{Constant}
+use Rattle.vast.specs.Words.{Text}
+use Rattle.vdesign.specs.declared.expression.Constant.{Constant}
 
 -- 0 to 9, and a to f in either case
 abbrev pub digit_value : ℕ → ℕ

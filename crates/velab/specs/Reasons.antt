@@ -1,9 +1,10 @@
 -- Why a text has no design: the rule that a fault says is broken (IEEE 1364-2005, clause 12).
 use Rattle.std.specs.Prelude.{◌≡◌, ◌<◌, ◌⊎◌, true, false, length, Option, None, Some}
 use Rattle.std.specs.List.{list_all}
-use Rattle.vast.specs.Syntax.{Text, ModuleTree, SourceTree}
+use Rattle.vast.specs.Words.{Text}
+use Rattle.vast.specs.Modules.{ModuleTree, SourceTree}
 use Rattle.basis.specs.declared.timescale.Timescale.{Timescale}
-use Rattle.vast.specs.Design.{Design}
+use Rattle.vdesign.specs.Design.{Design}
 use Rattle.velab.specs.declared.fault.ElabFault.{ElabFault}
 use Rattle.velab.specs.declared.fault.ElabFault.TheVariants.{Module, Doubled, Unknown, Width, TooMany}
 use Rattle.velab.specs.Elaborate.{top_of, has_double, module_names, declared_names, declarations, initials, has_range, knows, Elaborates}

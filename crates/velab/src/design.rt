@@ -2,21 +2,24 @@
 
 ghost use Rattle.std.specs.Prelude.{◌≡◌, ◌≤◌, ◌∷◌, [], ℕ, map, IfOk, OnOk};
 ghost use Rattle.basis.specs.Reasons.{IfFault};
-ghost use Rattle.vast.specs.Design.{Design};
-ghost use Rattle.vast.specs.Trees.{source_tree, module_tree};
+ghost use Rattle.vdesign.specs.Design.{Design};
+ghost use Rattle.vast.specs.ModuleTrees.{source_tree, module_tree};
+ghost use Rattle.vexpr_parse.specs.Texts.{words_of};
 ghost use Rattle.velab.specs.Elaborate as spec;
 ghost use Rattle.velab.specs.Elaborate.{Elaborates, IsRight, named_text};
 ghost use Rattle.velab.specs.Reasons.{IsDesignReason, IsOnlyDesign, HasNoDesign};
 ghost use Rattle.velab.specs.Inner.{BreaksModule};
 
 use crate::fault::ElabFault;
+use crate::letters::letters;
 use crate::statement::{ProcessTable, processes};
 use crate::top::{check_names, top_of};
 use crate::variable::{Declarations, declare_items};
 use basis::{NoMemory, OrMemory, Timescale};
 use std::alloc::Global;
-use vast::design::{Design, Scope};
-use vast::syntax::{Ast, Module};
+use vast::module::{ModuleTree, TextTree};
+use vdesign::design::{Design, Scope};
+use vlex::Tokens;
 
 // The only scope: the top's.
 fn scopes(alloc: Global, name: &[u8], variables: u32) -> Result<Vec<Scope>, NoMemory>
@@ -35,20 +38,22 @@ fn scopes(alloc: Global, name: &[u8], variables: u32) -> Result<Vec<Scope>, NoMe
 // The design that a module describes, where it is right.
 fn design_of(
     alloc: Global,
-    unit: &Module<'_>,
+    tokens: &Tokens<'_>,
+    unit: &ModuleTree,
     scale: Timescale,
 ) -> Result<Design, OrMemory<ElabFault>>
-    ensures ok { IfOk result (λ design. design ≡ spec.design_of scale (module_tree unit.now)) }
-    ensures right { OnOk result (IsRight (module_tree unit.now)) }
-    ensures err { IfFault result (BreaksModule (module_tree unit.now)) }
+    ensures ok { IfOk result (λ design. design ≡ spec.design_of scale (module_tree (words_of tokens.now) unit.now)) }
+    ensures right { OnOk result (IsRight (module_tree (words_of tokens.now) unit.now)) }
+    ensures err { IfFault result (BreaksModule (module_tree (words_of tokens.now) unit.now)) }
 {
-    let Declarations { names, variables } = declare_items(alloc, unit.name.text, &unit.items)?;
-    let ProcessTable { table, begins } = processes(alloc, &names, &unit.items)?;
+    let name = letters(tokens, unit.name);
+    let Declarations { names, variables } = declare_items(alloc, tokens, name, &unit.items)?;
+    let ProcessTable { table, begins } = processes(alloc, tokens, &names, &unit.items)?;
     Ok(Design {
-        top: Vec::from_slice(alloc, unit.name.text)?,
+        top: Vec::from_slice(alloc, name)?,
         scale,
         variables,
-        scopes: scopes(alloc, unit.name.text, names.len() as u32)?,
+        scopes: scopes(alloc, name, names.len() as u32)?,
         actions: table.actions,
         origins: table.origins,
         processes: begins,
@@ -61,28 +66,29 @@ fn design_of(
 /// any one may be answered. Modules other than the top are not looked into (12.1).
 pub fn elaborate(
     alloc: Global,
-    ast: &Ast<'_>,
+    tokens: &Tokens<'_>,
+    text: &TextTree,
     top: Option<&[u8]>,
     scale: Timescale,
 ) -> Result<Design, OrMemory<ElabFault>>
-    ensures design { IfOk result (Elaborates (source_tree ast.now) (named_text top.entry) scale) }
-    ensures only { IfOk result (IsOnlyDesign (source_tree ast.now) (named_text top.entry) scale) }
-    ensures reason { IfFault result (IsDesignReason (source_tree ast.now) (named_text top.entry)) }
-    ensures none { IfFault result (λ _. HasNoDesign (source_tree ast.now) (named_text top.entry)) }
+    ensures design { IfOk result (Elaborates (source_tree (words_of tokens.now) text.now) (named_text top.entry) scale) }
+    ensures only { IfOk result (IsOnlyDesign (source_tree (words_of tokens.now) text.now) (named_text top.entry) scale) }
+    ensures reason { IfFault result (IsDesignReason (source_tree (words_of tokens.now) text.now) (named_text top.entry)) }
+    ensures none { IfFault result (λ _. HasNoDesign (source_tree (words_of tokens.now) text.now) (named_text top.entry)) }
 {
-    check_names(alloc, &ast.modules)?;
-    match top_of(&ast.modules, top) {
-        Some(unit) => design_of(alloc, unit, scale),
+    check_names(alloc, tokens, &text.modules)?;
+    match top_of(tokens, &text.modules, top) {
+        Some(unit) => design_of(alloc, tokens, unit, scale),
         None => Err(OrMemory::Fault(ElabFault::Module {
-            at: second(&ast.modules, top),
+            at: second(&text.modules, top),
         })),
     }
 }
 
 // The token of the name that is one too many, where no top was asked for.
-fn second(modules: &[Module<'_>], top: Option<&[u8]>) -> Option<u32> {
+fn second(modules: &[ModuleTree], top: Option<&[u8]>) -> Option<u32> {
     match top {
         Some(_) => None,
-        None => modules.get(1).map(|unit| unit.name.at),
+        None => modules.get(1).map(|unit| unit.name.number),
     }
 }

@@ -3,7 +3,8 @@
 ghost use Rattle.std.specs.Prelude.{◌≡◌, ◌<◌, ◌++◌, ◌∷◌, [], true, false, length, position, IfOk, IfSome, OnOk, is_some};
 ghost use Rattle.std.specs.Str.{bytes_eq};
 ghost use Rattle.basis.specs.Reasons.{IfFault};
-ghost use Rattle.velab.specs.Elaborate.{has_double, is_declared};
+ghost use Rattle.velab.specs.Elaborate.{has_double};
+ghost use Rattle.velab.specs.Uses.{is_declared};
 ghost use Rattle.velab.specs.Inner.{BreaksName};
 
 use crate::fault::ElabFault;
@@ -11,7 +12,6 @@ use basis::OrMemory;
 use indexmap::IndexSet;
 use std::alloc::Global;
 use std::marker::Model;
-use vast::syntax::Word;
 
 /// Names in the order in which they were added, no two alike. A name is found by its bytes, at once.
 #[derive(Drop)]
@@ -48,15 +48,15 @@ impl<'t> Names<'t> {
         self.set.len()
     }
 
-    /// Adds a name behind the others. E302 where it is among them.
-    pub fn add(&mut self, word: &Word<'t>) -> Result<(), OrMemory<ElabFault>>
-        ensures added { OnOk result (self.new ≡ self.old ++ word.now.text.now ∷ []) }
+    /// Adds a name, the token of this number, behind the others. E302 where it is among them.
+    pub fn add(&mut self, text: &'t [u8], at: u32) -> Result<(), OrMemory<ElabFault>>
+        ensures added { OnOk result (self.new ≡ self.old ++ text.now ∷ []) }
         ensures unique { has_double self.new ≡ false }
-        ensures err { IfFault result (BreaksName self.old word.now.text.now) }
+        ensures err { IfFault result (BreaksName self.old text.now) }
     {
-        let added = self.set.insert(word.text)?;
+        let added = self.set.insert(text)?;
         if !added {
-            return Err(OrMemory::Fault(ElabFault::Doubled { at: Some(word.at) }));
+            return Err(OrMemory::Fault(ElabFault::Doubled { at: Some(at) }));
         }
         Ok(())
     }

@@ -7,8 +7,8 @@ ghost use Rattle.vlex.specs.Forms.{with_digit, spelled_number};
 ghost use Rattle.velab.specs.Literals as literals;
 ghost use Rattle.velab.specs.Inner.{shifted_letters};
 
-use vast::design::Constant;
 use vbits::{Bit4, Vec4};
+use vdesign::expression::Constant;
 use vlex::digits::{is_x_digit, is_z_digit};
 
 /// The widest number or variable, in bits.

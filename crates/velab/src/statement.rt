@@ -1,54 +1,41 @@
 // Processes: what statements have to do, their names resolved (clause 9).
-ghost use Rattle.std.specs.Prelude.{◌≡◌, ◌<◌, ◌≤◌, ◌+◌, [], ◌++◌, ◌∷◌, true, false, length, map, IfOk, OnOk};
-ghost use Rattle.std.specs.List.{list_all, filter_map};
+ghost use Rattle.std.specs.Prelude.{◌≡◌, ◌<◌, ◌≤◌, ◌+◌, [], ◌++◌, ◌∷◌, true, false, length, map, option_map, List, IfOk, OnOk};
 ghost use Rattle.basis.specs.Reasons.{IfFault};
-ghost use Rattle.vast.specs.Trees.{word_text, expression_tree, statement_tree, statement_trees, item_tree};
+ghost use Rattle.vast.specs.Words.{Text};
+ghost use Rattle.vast.specs.ExpressionTrees.{tree_of as text_tree};
+ghost use Rattle.vast.specs.StatementTrees.{target_tree, delay_tree, task_tree, statement_tree, statement_trees};
+ghost use Rattle.vast.specs.ModuleTrees.{item_tree};
+ghost use Rattle.vexpr_parse.specs.Texts.{words_of};
+ghost use Rattle.vdesign.specs.Nodes.{tree_of};
 ghost use Rattle.velab.specs.Elaborate as spec;
-ghost use Rattle.velab.specs.Elaborate.{laid, all_laid, laid_processes, is_declared, knows, knows_all, knows_expression, place_of, statement_of};
-ghost use Rattle.velab.specs.Inner.{expression_for, laid_of, all_laid_of, laid_of_item, processes_of, initials_of, initials_in, AreLaid, HasLaid, HaveLaid};
-ghost use Rattle.velab.specs.Inner.{Knows, KnowsAll, IsBreach, no_breach, BreaksUse, BreaksExpression, BreaksStatement, BreaksStatements, BreaksProcess, BreaksProcesses};
+ghost use Rattle.vast.specs.Statements.{forever};
+ghost use Rattle.velab.specs.Elaborate.{laid, laid_processes, knows, knows_all, statements_of};
+ghost use Rattle.velab.specs.Inner.{laid_of, all_laid_of, laid_of_item, processes_of, starts_in, initials_in, AreLaid, HasLaid, HaveLaid};
+ghost use Rattle.velab.specs.Inner.{KnowsAll, IsBreach, no_breach, BreaksKnown, BreaksStatement, BreaksStatements, BreaksAdded, BreaksProcess, BreaksProcesses};
 
+use crate::expression::{expression_of, number_of};
 use crate::fault::ElabFault;
+use crate::letters::letters;
 use crate::names::Names;
 use crate::number::constant_of;
 use basis::OrMemory;
 use std::alloc::Global;
 use std::marker::Model;
-use vast::design::{Action, Expression, Places, Target};
-use vast::syntax::{Expr, Item, Stmt, Word};
+use vast::expression::Expression as Value;
+use vast::module::{DeclarationKind, Declared, ModuleItem, NetKind};
+use vast::statement::{Delay, Statement, Target as Written, Task};
+use vdesign::action::{Action, Places, Target};
+use vdesign::expression::{Expression, Leaf, Node};
+use vlex::Tokens;
 
 /// The most processes of a design.
 const MOST_PROCESSES: usize = 256;
 
-// The number of a variable. E303 where there is none of that name.
-fn number_of(names: &Names<'_>, word: &Word<'_>) -> Result<u32, OrMemory<ElabFault>>
-    requires { length names.now ≤ 1024 }
-    ensures ok { IfOk result (λ n. n ≡ place_of names.now (word_text word.now)) }
-    ensures declared { OnOk result (is_declared names.now (word_text word.now) ≡ true) }
-    ensures err { IfFault result (BreaksUse names.now (word_text word.now)) }
+// The expression whose root this node is.
+fn whole(root: Node) -> Expression
+    ensures { result ≡ tree_of root }
 {
-    match names.place(word.text) {
-        Some(place) => Ok(place as u32),
-        None => Err(OrMemory::Fault(ElabFault::Unknown { at: Some(word.at) })),
-    }
-}
-
-fn expression_of(
-    names: &Names<'_>,
-    expression: &Expr<'_>,
-) -> Result<Expression, OrMemory<ElabFault>>
-    requires { length names.now ≤ 1024 }
-    ensures ok { IfOk result (λ e. e ≡ expression_for names.now expression.now) }
-    ensures known { OnOk result (Knows names.now expression.now) }
-    ensures err { IfFault result (BreaksExpression names.now (expression_tree expression.now)) }
-{
-    match expression {
-        Expr::Number(word) => Ok(Expression::Constant(constant_of(word.text))),
-        Expr::Name(word) => {
-            let number = number_of(names, word)?;
-            Ok(Expression::Variable(number))
-        }
-    }
+    Expression { root }
 }
 
 /// Actions in the order in which they are come to, and for each the number of the token that its statement begins with. A
@@ -61,9 +48,13 @@ pub struct Table {
 
 impl Model for Table {
     ghost use Rattle.std.specs.Prelude.{List};
-    ghost use Rattle.vast.specs.declared.design.Action as declared;
+    ghost use Rattle.std.specs.Coded.{codes};
+    ghost use Rattle.vdesign.specs.contracts.expression.Expression as expression;
+    ghost use Rattle.vdesign.specs.declared.action.Action as declared;
 
     ghost Value = { List declared.Action };
+
+    ghost coded = { Prim.hlevel (codes, expression.the_row.coded) };
 
     ghost view = { λ t. t.actions.items };
 }
@@ -85,45 +76,241 @@ fn put(
     Ok(())
 }
 
+fn assigning(blocking: bool, target: Target, value: Expression) -> Action
+    ensures { result ≡ spec.assigning blocking target value }
+{
+    if blocking {
+        Action::Assign { target, value }
+    } else {
+        Action::Nonblocking { target, value }
+    }
+}
+
+// An assignment of either kind: what isn't run yet lays nothing.
+fn lay_assignment(
+    alloc: Global,
+    names: &Names<'_>,
+    tokens: &Tokens<'_>,
+    blocking: bool,
+    target: &Written,
+    amount: &Option<Delay>,
+    value: &Value,
+    table: &mut Table,
+    into: &mut Vec<usize>,
+) -> Result<(), OrMemory<ElabFault>>
+    requires { length names.now ≤ 1024 }
+    ensures ok { HasLaid result (spec.laid_assignment blocking names.now table.old
+        (target_tree (words_of tokens.now) target.now)
+        (option_map (delay_tree (words_of tokens.now)) amount.now)
+        (text_tree (words_of tokens.now) value.now)) into.old table.new into.new }
+    ensures known { OnOk result (spec.knows_assignment names.now
+        (target_tree (words_of tokens.now) target.now)
+        (option_map (delay_tree (words_of tokens.now)) amount.now)
+        (text_tree (words_of tokens.now) value.now) ≡ true) }
+    ensures err { IfFault result (BreaksKnown (spec.knows_assignment names.now
+        (target_tree (words_of tokens.now) target.now)
+        (option_map (delay_tree (words_of tokens.now)) amount.now)
+        (text_tree (words_of tokens.now) value.now))) }
+{
+    match target {
+        Written::Whole(name) => match amount {
+            None => {
+                let number = number_of(names, tokens, *name)?;
+                let value = whole(expression_of(names, tokens, value)?);
+                let action = assigning(blocking, Target::Whole(number), value);
+                put(table, into, name.number, action)
+            }
+            Some(_) => Ok(()),
+        },
+        Written::Bit { .. } => Ok(()),
+        Written::Part { .. } => Ok(()),
+        Written::Joined { .. } => Ok(()),
+    }
+}
+
+// For how long a delay waits.
+fn amount_of(
+    alloc: Global,
+    names: &Names<'_>,
+    tokens: &Tokens<'_>,
+    amount: &Delay,
+) -> Result<Expression, OrMemory<ElabFault>>
+    requires { length names.now ≤ 1024 }
+    ensures ok { IfOk result (λ e.
+        e ≡ spec.amount_of names.now (delay_tree (words_of tokens.now) amount.now)) }
+    ensures known { OnOk result
+        (spec.knows_amount names.now (delay_tree (words_of tokens.now) amount.now) ≡ true) }
+    ensures err { IfFault result (BreaksKnown
+        (spec.knows_amount names.now (delay_tree (words_of tokens.now) amount.now))) }
+{
+    match amount {
+        Delay::Number(word) => Ok(whole(Node::Leaf(Leaf::Constant(constant_of(letters(
+            tokens, *word,
+        )))))),
+        Delay::Name(word) => Ok(whole(Node::Leaf(Leaf::Variable(number_of(
+            names, tokens, *word,
+        )?)))),
+        Delay::Value(value) => Ok(whole(expression_of(names, tokens, value)?)),
+    }
+}
+
+// What an `if` does.
+fn testing(condition: Expression, when_true: Vec<usize>, otherwise: Vec<usize>) -> Action
+    ensures { result ≡ Action.Test condition when_true.items otherwise.items }
+{
+    Action::Test {
+        condition,
+        when_true: Places::new(when_true),
+        otherwise: Places::new(otherwise),
+    }
+}
+
+fn ending(stops: bool) -> Action
+    ensures { result ≡ spec.ending stops }
+{
+    if stops { Action::Stop } else { Action::Finish }
+}
+
+// A system task: what isn't run yet lays nothing.
+fn lay_task(
+    at: u32,
+    task: &Task,
+    table: &mut Table,
+    into: &mut Vec<usize>,
+) -> Result<(), OrMemory<ElabFault>>
+    ensures ok { (words : List Text) → HasLaid result
+        (spec.laid_task table.old (task_tree words task.now)) into.old table.new into.new }
+    ensures err { IfFault result (IsBreach no_breach) }
+{
+    match task {
+        Task::Print { .. } => Ok(()),
+        Task::DumpFile(_) => Ok(()),
+        Task::DumpVars(None) => put(table, into, at, Action::DumpVars),
+        Task::DumpVars(Some(_)) => Ok(()),
+        Task::Dump(_) => Ok(()),
+        Task::End { stops, .. } => put(table, into, at, ending(*stops)),
+    }
+}
+
 // Lays a statement on the table, and puts the places at which it begins behind others.
 #[cycle(statements)]
 fn lay(
     alloc: Global,
     names: &Names<'_>,
-    statement: &Stmt<'_>,
+    tokens: &Tokens<'_>,
+    statement: &Statement,
     table: &mut Table,
     into: &mut Vec<usize>,
 ) -> Result<(), OrMemory<ElabFault>>
     requires { length names.now ≤ 1024 }
-    ensures ok { HasLaid result (laid_of names.now table.old statement.now) into.old table.new
-        into.new }
-    ensures known { OnOk result (knows names.now (statement_tree statement.now) ≡ true) }
-    ensures err { IfFault result (BreaksStatement names.now (statement_tree statement.now)) }
+    ensures ok { HasLaid result (laid_of (words_of tokens.now) names.now table.old statement.now)
+        into.old table.new into.new }
+    ensures known { OnOk result
+        (knows names.now (statement_tree (words_of tokens.now) statement.now) ≡ true) }
+    ensures err { IfFault result
+        (BreaksStatement names.now (statement_tree (words_of tokens.now) statement.now)) }
 {
     match statement {
-        Stmt::Empty => Ok(()),
-        Stmt::Block(statements) => lay_all(alloc, names, statements, table, into),
-        Stmt::Assign { target, value } => {
-            let at = target.at;
-            let target = Target::Whole(number_of(names, target)?);
-            let value = expression_of(names, value)?;
-            put(table, into, at, Action::Assign { target, value })
-        }
-        Stmt::Nonblocking { target, value } => {
-            let at = target.at;
-            let target = Target::Whole(number_of(names, target)?);
-            let value = expression_of(names, value)?;
-            put(table, into, at, Action::Nonblocking { target, value })
-        }
-        Stmt::Delay { at, amount, body } => {
-            let amount = Expression::Constant(constant_of(amount.text));
+        Statement::Empty => Ok(()),
+        Statement::Block(list) => lay_all(alloc, names, tokens, list, table, into),
+        Statement::Assign {
+            target,
+            delay,
+            value,
+            ..
+        } => lay_assignment(
+            alloc, names, tokens, true, target, delay, value, table, into,
+        ),
+        Statement::Nonblocking {
+            target,
+            delay,
+            value,
+            ..
+        } => lay_assignment(
+            alloc, names, tokens, false, target, delay, value, table, into,
+        ),
+        Statement::Delayed { at, delay, body } => {
+            let amount = amount_of(alloc, names, tokens, delay)?;
             let mut inner = Vec::new(alloc);
-            lay(alloc, names, body, table, &mut inner)?;
+            lay(alloc, names, tokens, body, table, &mut inner)?;
             let body = Places::new(inner);
             put(table, into, *at, Action::Delay { amount, body })
         }
-        Stmt::DumpVars { at } => put(table, into, *at, Action::DumpVars),
-        Stmt::Finish { at } => put(table, into, *at, Action::Finish),
+        Statement::Task { at, task } => lay_task(*at, task, table, into),
+        Statement::Trigger { .. } => Ok(()),
+        Statement::If {
+            at,
+            condition,
+            body,
+        } => {
+            let condition = whole(expression_of(names, tokens, condition)?);
+            let mut inner = Vec::new(alloc);
+            lay(alloc, names, tokens, body, table, &mut inner)?;
+            put(table, into, *at, testing(condition, inner, Vec::new(alloc)))
+        }
+        Statement::IfElse {
+            at,
+            condition,
+            body,
+            other,
+        } => {
+            let condition = whole(expression_of(names, tokens, condition)?);
+            let mut inner = Vec::new(alloc);
+            lay(alloc, names, tokens, body, table, &mut inner)?;
+            let mut outer = Vec::new(alloc);
+            lay(alloc, names, tokens, other, table, &mut outer)?;
+            put(table, into, *at, testing(condition, inner, outer))
+        }
+        Statement::Case { .. } => Ok(()),
+        Statement::While {
+            at,
+            condition,
+            body,
+        } => {
+            let condition = whole(expression_of(names, tokens, condition)?);
+            let mut inner = Vec::new(alloc);
+            lay(alloc, names, tokens, body, table, &mut inner)?;
+            let body = Places::new(inner);
+            put(table, into, *at, Action::Again { condition, body })
+        }
+        Statement::Repeat { .. } => Ok(()),
+        Statement::Forever { at, body } => {
+            let mut inner = Vec::new(alloc);
+            lay(alloc, names, tokens, body, table, &mut inner)?;
+            let body = Places::new(inner);
+            put(table, into, *at, Action::Forever { body })
+        }
+        Statement::For {
+            at,
+            target,
+            value,
+            condition,
+            next_target,
+            next_value,
+            body,
+        } => {
+            lay_assignment(
+                alloc, names, tokens, true, target, &None, value, table, into,
+            )?;
+            let condition = whole(expression_of(names, tokens, condition)?);
+            let mut inner = Vec::new(alloc);
+            lay(alloc, names, tokens, body, table, &mut inner)?;
+            lay_assignment(
+                alloc,
+                names,
+                tokens,
+                true,
+                next_target,
+                &None,
+                next_value,
+                table,
+                &mut inner,
+            )?;
+            let body = Places::new(inner);
+            put(table, into, *at, Action::Again { condition, body })
+        }
+        Statement::Wait { .. } => Ok(()),
+        Statement::OnEvent { .. } => Ok(()),
     }
 }
 
@@ -131,18 +318,116 @@ fn lay(
 fn lay_all(
     alloc: Global,
     names: &Names<'_>,
-    statements: &[Stmt<'_>],
+    tokens: &Tokens<'_>,
+    statements: &[Statement],
     table: &mut Table,
     into: &mut Vec<usize>,
 ) -> Result<(), OrMemory<ElabFault>>
     requires { length names.now ≤ 1024 }
-    ensures ok { HasLaid result (all_laid_of names.now table.old statements.now) into.old table.new
+    ensures ok { HasLaid result
+        (all_laid_of (words_of tokens.now) names.now table.old statements.now) into.old table.new
         into.new }
-    ensures known { OnOk result (knows_all names.now (statement_trees statements.now) ≡ true) }
-    ensures err { IfFault result (BreaksStatements names.now (statement_trees statements.now)) }
+    ensures known { OnOk result
+        (knows_all names.now (statement_trees (words_of tokens.now) statements.now) ≡ true) }
+    ensures err { IfFault result
+        (BreaksStatements names.now (statement_trees (words_of tokens.now) statements.now)) }
 {
     for statement in statements {
-        lay(alloc, names, statement, table, into)?;
+        lay(alloc, names, tokens, statement, table, into)?;
+    }
+    Ok(())
+}
+
+// The same of a statement that comes again and again (9.9.2).
+fn lay_forever(
+    alloc: Global,
+    names: &Names<'_>,
+    tokens: &Tokens<'_>,
+    at: u32,
+    statement: &Statement,
+    table: &mut Table,
+    into: &mut Vec<usize>,
+) -> Result<(), OrMemory<ElabFault>>
+    requires { length names.now ≤ 1024 }
+    ensures ok { HasLaid result (laid names.now table.old
+        (forever (statement_tree (words_of tokens.now) statement.now))) into.old table.new
+        into.new }
+    ensures known { OnOk result (knows names.now
+        (forever (statement_tree (words_of tokens.now) statement.now)) ≡ true) }
+    ensures err { IfFault result (BreaksStatement names.now
+        (forever (statement_tree (words_of tokens.now) statement.now))) }
+{
+    let mut inner = Vec::new(alloc);
+    lay(alloc, names, tokens, statement, table, &mut inner)?;
+    let body = Places::new(inner);
+    put(table, into, at, Action::Forever { body })
+}
+
+// The process of a name that is declared with a value, if it is. E309 where there are enough processes.
+fn lay_start(
+    alloc: Global,
+    names: &Names<'_>,
+    tokens: &Tokens<'_>,
+    one: &Declared,
+    table: &mut Table,
+    into: &mut Vec<Places>,
+) -> Result<(), OrMemory<ElabFault>>
+    requires names { length names.now ≤ 1024 }
+    requires few { length into.old.items ≤ 256 }
+    ensures ok { HaveLaid result (laid_processes names.now table.old
+        (starts_in (words_of tokens.now) (one.now ∷ []))) into.old table.new into.new }
+    ensures few { OnOk result (length into.new.items ≤ 256) }
+    ensures known { OnOk result (KnowsAll names.now (starts_in (words_of tokens.now) (one.now ∷ []))) }
+    ensures err { IfFault result
+        (BreaksAdded names.now into.old (starts_in (words_of tokens.now) (one.now ∷ []))) }
+{
+    match &one.value {
+        None => Ok(()),
+        Some(value) => {
+            if into.len() >= MOST_PROCESSES {
+                return Err(OrMemory::Fault(ElabFault::TooMany {
+                    at: Some(one.name.number),
+                }));
+            }
+            let target = Written::Whole(one.name);
+            let mut begins = Vec::new(alloc);
+            lay_assignment(
+                alloc,
+                names,
+                tokens,
+                true,
+                &target,
+                &None,
+                value,
+                table,
+                &mut begins,
+            )?;
+            into.push(Places::new(begins))?;
+            Ok(())
+        }
+    }
+}
+
+// The processes of names that are declared together.
+fn lay_starts(
+    alloc: Global,
+    names: &Names<'_>,
+    tokens: &Tokens<'_>,
+    list: &[Declared],
+    table: &mut Table,
+    into: &mut Vec<Places>,
+) -> Result<(), OrMemory<ElabFault>>
+    requires names { length names.now ≤ 1024 }
+    requires few { length into.old.items ≤ 256 }
+    ensures ok { HaveLaid result (laid_processes names.now table.old
+        (starts_in (words_of tokens.now) list.now)) into.old table.new into.new }
+    ensures few { OnOk result (length into.new.items ≤ 256) }
+    ensures known { OnOk result (KnowsAll names.now (starts_in (words_of tokens.now) list.now)) }
+    ensures err { IfFault result
+        (BreaksAdded names.now into.old (starts_in (words_of tokens.now) list.now)) }
+{
+    for one in list {
+        lay_start(alloc, names, tokens, one, table, into)?;
     }
     Ok(())
 }
@@ -151,29 +436,56 @@ fn lay_all(
 fn lay_process(
     alloc: Global,
     names: &Names<'_>,
-    item: &Item<'_>,
+    tokens: &Tokens<'_>,
+    item: &ModuleItem,
     table: &mut Table,
     into: &mut Vec<Places>,
 ) -> Result<(), OrMemory<ElabFault>>
     requires names { length names.now ≤ 1024 }
     requires few { length into.old.items ≤ 256 }
-    ensures ok { HaveLaid result (laid_of_item names.now table.old item.now) into.old table.new
+    ensures ok { HaveLaid result
+        (laid_of_item (words_of tokens.now) names.now table.old item.now) into.old table.new
         into.new }
     ensures few { OnOk result (length into.new.items ≤ 256) }
-    ensures known { OnOk result (KnowsAll names.now (initials_of (item_tree item.now))) }
-    ensures err { IfFault result (BreaksProcess names.now into.old (item_tree item.now)) }
+    ensures known { OnOk result
+        (KnowsAll names.now (statements_of (item_tree (words_of tokens.now) item.now))) }
+    ensures err { IfFault result
+        (BreaksProcess names.now into.old (item_tree (words_of tokens.now) item.now)) }
 {
     match item {
-        Item::Registers { .. } => Ok(()),
-        Item::Initial(statement) => {
+        ModuleItem::Initial { statement, .. } => {
             if into.len() >= MOST_PROCESSES {
                 return Err(OrMemory::Fault(ElabFault::TooMany { at: None }));
             }
             let mut begins = Vec::new(alloc);
-            lay(alloc, names, statement, table, &mut begins)?;
+            lay(alloc, names, tokens, statement, table, &mut begins)?;
             into.push(Places::new(begins))?;
             Ok(())
         }
+        ModuleItem::Parameters { .. } => Ok(()),
+        ModuleItem::Declaration { kind, declared, .. } => match kind {
+            DeclarationKind::Variables {
+                net: NetKind::Wire,
+                ..
+            } => Ok(()),
+            DeclarationKind::Variables {
+                net: NetKind::Reg,
+                ..
+            } => lay_starts(alloc, names, tokens, declared, table, into),
+            DeclarationKind::Integers => lay_starts(alloc, names, tokens, declared, table, into),
+        },
+        ModuleItem::Events { .. } => Ok(()),
+        ModuleItem::Assignments { .. } => Ok(()),
+        ModuleItem::Always { at, statement } => {
+            if into.len() >= MOST_PROCESSES {
+                return Err(OrMemory::Fault(ElabFault::TooMany { at: None }));
+            }
+            let mut begins = Vec::new(alloc);
+            lay_forever(alloc, names, tokens, *at, statement, table, &mut begins)?;
+            into.push(Places::new(begins))?;
+            Ok(())
+        }
+        ModuleItem::Instances { .. } => Ok(()),
     }
 }
 
@@ -184,19 +496,22 @@ pub struct ProcessTable {
     pub begins: Vec<Places>,
 }
 
-/// A process for each `initial`, in the order of the text. Errors: E303, E309, E901.
+/// A process for each `initial`, for each `always` and for each name that is declared with a value, in the order of the text. Errors: E303, E309, E901.
 pub fn processes(
     alloc: Global,
+    tokens: &Tokens<'_>,
     names: &Names<'_>,
-    items: &[Item<'_>],
+    items: &[ModuleItem],
 ) -> Result<ProcessTable, OrMemory<ElabFault>>
     requires { length names.now ≤ 1024 }
-    ensures ok { IfOk result (λ ps.
-        AreLaid (processes_of names.now items.now) [] ps.table ps.begins.items) }
+    ensures ok { IfOk result (λ ps. AreLaid
+        (processes_of (words_of tokens.now) names.now items.now) [] ps.table ps.begins.items) }
     ensures few { IfOk result (λ ps. length ps.begins.items ≤ 256) }
-    ensures count { OnOk result (length (initials_in items.now) ≤ 256) }
-    ensures known { OnOk result (KnowsAll names.now (initials_in items.now)) }
-    ensures err { IfFault result (BreaksProcesses names.now (map item_tree items.now)) }
+    ensures count { OnOk result (length (initials_in (words_of tokens.now) items.now) ≤ 256) }
+    ensures known { OnOk result
+        (KnowsAll names.now (initials_in (words_of tokens.now) items.now)) }
+    ensures err { IfFault result
+        (BreaksProcesses names.now (map (item_tree (words_of tokens.now)) items.now)) }
 {
     let mut table = Table {
         actions: Vec::new(alloc),
@@ -204,7 +519,7 @@ pub fn processes(
     };
     let mut begins = Vec::new(alloc);
     for item in items {
-        lay_process(alloc, names, item, &mut table, &mut begins)?;
+        lay_process(alloc, names, tokens, item, &mut table, &mut begins)?;
     }
     Ok(ProcessTable { table, begins })
 }

@@ -1,29 +1,48 @@
-// Variables: what a module declares by `reg` (4.2, 4.3).
+// Variables: what a module declares by `reg` and by `integer` (4.2, 4.3, 4.8).
 ghost use Rattle.std.specs.Prelude.{◌≡◌, ◌<◌, ◌≤◌, [], ◌++◌, ◌∷◌, ℕ, Some, None, true, false, length, map, option_map, IfOk, IfSome, OnOk};
 ghost use Rattle.std.specs.List.{list_all, flat_map};
 ghost use Rattle.basis.specs.Reasons.{IfFault};
 ghost use Rattle.vbits.specs.Letters as letters;
-ghost use Rattle.vast.specs.Trees.{word_text, range_tree, item_tree, module_tree};
+ghost use Rattle.vast.specs.TokenTexts.{token_text};
+ghost use Rattle.vast.specs.ExpressionTrees.{tree_of};
+ghost use Rattle.vast.specs.ModuleTrees.{range_tree, item_tree};
+ghost use Rattle.vexpr_parse.specs.Texts.{words_of};
 ghost use Rattle.velab.specs.Elaborate as spec;
-ghost use Rattle.velab.specs.Elaborate.{has_double, has_range, is_declared, is_range, variable_by, variable_of, declarations_of, declarations, declared_names, length_of};
-ghost use Rattle.velab.specs.Inner.{bounds_for, variables_by, variables_for, variables_of};
+ghost use Rattle.velab.specs.Elaborate.{has_double, has_range, has_bounds, declared_as, is_range, variable_of, declarations_of, declarations, declared_names, length_of};
+ghost use Rattle.vdesign.specs.declared.design.Kind.TheVariants.{Reg};
+ghost use Rattle.velab.specs.Inner.{bounds_for, integers_item, kind_item, net_item, registers_item, texts_of, variable_in, variables_by, variables_for, variables_of};
 ghost use Rattle.velab.specs.InnerVariables.{PutsVariables};
 ghost use Rattle.velab.specs.Inner.{names_in, names_of, BreaksBound, BreaksRange, BreaksDeclaration, BreaksNames, BreaksItem, BreaksItems};
 
 use crate::fault::ElabFault;
+use crate::letters::letters;
 use crate::names::Names;
 use crate::number::{WIDEST, constant_of};
 use basis::{NoMemory, OrMemory};
 use std::alloc::Global;
-use vast::design::{Bounds, Kind, Variable};
-use vast::syntax::{Item, Range, Word};
+use vast::expression::Expression;
+use vast::module::{
+    Bounds as Written, DeclarationKind, Declared, ModuleItem, NetKind, SignAndRange,
+};
+use vast::token::Token;
 use vbits::{Bit4, Vec4};
+use vdesign::design::{Kind, Variable};
+use vdesign::expression::Bounds;
+use vlex::Tokens;
 
 /// What a module declares: its names, and the variable of each.
 #[derive(Drop)]
 pub struct Declarations<'t> {
     pub names: Names<'t>,
     pub variables: Vec<Variable>,
+}
+
+/// How names are declared: what a declaration says of each of them.
+#[derive(Clone, Copy, Debug)]
+pub struct Form {
+    pub kind: Kind,
+    pub signed: bool,
+    pub bounds: Option<Bounds>,
 }
 
 /// The greatest number of a bit.
@@ -67,15 +86,38 @@ fn bound_in(value: Vec4) -> Option<u32>
     }
 }
 
-// E306 where it isn't 0 to 65,535.
-fn bound_of(word: &Word<'_>) -> Result<u32, OrMemory<ElabFault>>
-    ensures ok { IfOk result (λ n. spec.bound_of (word_text word.now) ≡ Some n) }
-    ensures within { IfOk result (λ n. n ≤ 65535) }
-    ensures err { IfFault result (BreaksBound (word_text word.now)) }
+// The number of a bit that is written, where it is a number.
+fn bound_of(tokens: &Tokens<'_>, bound: &Expression) -> Option<u32>
+    ensures value { result ≡ spec.bound_of (tree_of (words_of tokens.now) bound.now) }
+    ensures within { IfSome result (λ n. n ≤ 65535) }
 {
-    match bound_in(constant_of(word.text).value) {
+    match bound {
+        Expression::Number(word) => bound_in(constant_of(letters(tokens, *word)).value),
+        _ => None,
+    }
+}
+
+// The number of the token that a bound is, where it is one.
+fn token_of(bound: &Expression) -> Option<u32> {
+    match bound {
+        Expression::Number(word) => Some(word.number),
+        Expression::Name(word) => Some(word.number),
+        _ => None,
+    }
+}
+
+// E306 where it isn't 0 to 65,535.
+fn right_bound(tokens: &Tokens<'_>, bound: &Expression) -> Result<u32, OrMemory<ElabFault>>
+    ensures ok { IfOk result (λ n.
+        spec.bound_of (tree_of (words_of tokens.now) bound.now) ≡ Some n) }
+    ensures within { IfOk result (λ n. n ≤ 65535) }
+    ensures err { IfFault result (BreaksBound (tree_of (words_of tokens.now) bound.now)) }
+{
+    match bound_of(tokens, bound) {
         Some(bound) => Ok(bound),
-        None => Err(OrMemory::Fault(ElabFault::Width { at: Some(word.at) })),
+        None => Err(OrMemory::Fault(ElabFault::Width {
+            at: token_of(bound),
+        })),
     }
 }
 
@@ -88,46 +130,56 @@ fn span(bounds: Bounds) -> u32
 }
 
 // E306 where a bound is none, or where they are more than 64 bits apart.
-fn bounds_of(range: &Range<'_>) -> Result<Bounds, OrMemory<ElabFault>>
-    ensures ok { IfOk result (λ bounds. bounds ≡ spec.bounds_of (range_tree range.now)) }
-    ensures range { OnOk result (is_range (Some (range_tree range.now)) ≡ true) }
+fn bounds_of(tokens: &Tokens<'_>, range: &Written) -> Result<Bounds, OrMemory<ElabFault>>
+    ensures ok { IfOk result (λ bounds.
+        bounds ≡ spec.bounds_of (range_tree (words_of tokens.now) range.now)) }
+    ensures range { OnOk result
+        (is_range (Some (range_tree (words_of tokens.now) range.now)) ≡ true) }
     ensures few { IfOk result (λ bounds. spec.span bounds ≤ 64) }
-    ensures err { IfFault result (BreaksRange (Some (range_tree range.now))) }
+    ensures err { IfFault result (BreaksRange (Some (range_tree (words_of tokens.now) range.now))) }
 {
-    let left = bound_of(&range.left)?;
-    let right = bound_of(&range.right)?;
+    let left = right_bound(tokens, &range.left)?;
+    let right = right_bound(tokens, &range.right)?;
     let bounds = Bounds { left, right };
     if span(bounds) > WIDEST {
         return Err(OrMemory::Fault(ElabFault::Width {
-            at: Some(range.left.at),
+            at: token_of(&range.left),
         }));
     }
     Ok(bounds)
 }
 
 // The bounds of a declaration's range, where it has one.
-fn range_bounds(range: &Option<Range<'_>>) -> Result<Option<Bounds>, OrMemory<ElabFault>>
-    ensures ok { IfOk result (λ bounds. bounds ≡ bounds_for range.now) }
-    ensures range { OnOk result (is_range (option_map range_tree range.now) ≡ true) }
-    ensures few { IfOk result (λ bounds. length_of bounds ≤ 64) }
-    ensures err { IfFault result (BreaksRange (option_map range_tree range.now)) }
+fn range_bounds(
+    tokens: &Tokens<'_>,
+    range: &Option<Written>,
+) -> Result<Option<Bounds>, OrMemory<ElabFault>>
+    ensures ok { IfOk result (λ bounds. bounds ≡ bounds_for (words_of tokens.now) range.now) }
+    ensures range { OnOk result
+        (is_range (option_map (range_tree (words_of tokens.now)) range.now) ≡ true) }
+    ensures few { IfOk result (λ bounds. length_of Reg bounds ≤ 64) }
+    ensures err { IfFault result
+        (BreaksRange (option_map (range_tree (words_of tokens.now)) range.now)) }
 {
     match range {
         None => Ok(None),
-        Some(range) => match bounds_of(range) {
+        Some(range) => match bounds_of(tokens, range) {
             Ok(bounds) => Ok(Some(bounds)),
             Err(fault) => Err(fault),
         },
     }
 }
 
-fn length_of(bounds: Option<Bounds>) -> u32
-    requires { spec.length_of bounds ≤ 64 }
-    ensures { result ≡ spec.length_of bounds }
+fn length_of(form: Form) -> u32
+    requires { spec.length_of form.kind form.bounds ≤ 64 }
+    ensures { result ≡ spec.length_of form.kind form.bounds }
 {
-    match bounds {
-        None => 1,
+    match form.bounds {
         Some(bounds) => span(bounds),
+        None => match form.kind {
+            Kind::Reg => 1,
+            Kind::Integer => 32,
+        },
     }
 }
 
@@ -141,45 +193,46 @@ fn dotted(alloc: Global, scope: &[u8], name: &[u8]) -> Result<Vec<u8>, NoMemory>
     Ok(text)
 }
 
-fn variable(
-    alloc: Global,
-    scope: &[u8],
-    bounds: Option<Bounds>,
-    name: &[u8],
-) -> Result<Variable, NoMemory>
-    requires { spec.length_of bounds ≤ 64 }
-    ensures { IfOk result (λ v. v ≡ variable_by scope.now bounds name.now) }
+fn variable(alloc: Global, scope: &[u8], form: Form, name: &[u8]) -> Result<Variable, NoMemory>
+    requires { spec.length_of form.kind form.bounds ≤ 64 }
+    ensures { IfOk result (λ v. v ≡ variable_in scope.now form name.now) }
 {
     let name = dotted(alloc, scope, name)?;
     Ok(Variable {
         name,
-        kind: Kind::Reg,
-        length: length_of(bounds),
-        signed: false,
-        bounds,
+        kind: form.kind,
+        length: length_of(form),
+        signed: form.signed,
+        bounds: form.bounds,
     })
 }
 
 // One variable more. E302 where its name is declared, E309 where there are enough.
 fn declare<'t>(
     alloc: Global,
+    tokens: &Tokens<'t>,
     scope: &[u8],
-    bounds: Option<Bounds>,
-    word: &Word<'t>,
+    form: Form,
+    token: Token,
     into: &mut Declarations<'t>,
 ) -> Result<(), OrMemory<ElabFault>>
-    requires { spec.length_of bounds ≤ 64 }
-    ensures names { OnOk result (into.new.names ≡ into.old.names ++ word_text word.now ∷ []) }
+    requires { spec.length_of form.kind form.bounds ≤ 64 }
+    ensures names { OnOk result
+        (into.new.names ≡ into.old.names ++ token_text (words_of tokens.now) token ∷ []) }
     ensures variables { PutsVariables into.old into.new result
-        (variable_by scope.now bounds (word_text word.now) ∷ []) }
+        (variable_in scope.now form (token_text (words_of tokens.now) token) ∷ []) }
     ensures few { OnOk result (length into.new.names ≤ 1024) }
-    ensures err { IfFault result (BreaksDeclaration into.old.names (word_text word.now)) }
+    ensures err { IfFault result
+        (BreaksDeclaration into.old.names (token_text (words_of tokens.now) token)) }
 {
     if into.names.len() >= MOST_VARIABLES {
-        return Err(OrMemory::Fault(ElabFault::TooMany { at: Some(word.at) }));
+        return Err(OrMemory::Fault(ElabFault::TooMany {
+            at: Some(token.number),
+        }));
     }
-    into.names.add(word)?;
-    let variable = variable(alloc, scope, bounds, word.text)?;
+    let name = letters(tokens, token);
+    into.names.add(name, token.number)?;
+    let variable = variable(alloc, scope, form, name)?;
     into.variables.push(variable)?;
     Ok(())
 }
@@ -187,66 +240,178 @@ fn declare<'t>(
 // A variable for each name, in their order.
 fn declare_all<'t>(
     alloc: Global,
+    tokens: &Tokens<'t>,
     scope: &[u8],
-    bounds: Option<Bounds>,
-    words: &[Word<'t>],
+    form: Form,
+    list: &[Declared],
     into: &mut Declarations<'t>,
 ) -> Result<(), OrMemory<ElabFault>>
-    requires bits { spec.length_of bounds ≤ 64 }
+    requires bits { spec.length_of form.kind form.bounds ≤ 64 }
     requires few { length into.old.names ≤ 1024 }
-    ensures names { OnOk result (into.new.names ≡ into.old.names ++ map word_text words.now) }
+    ensures names { OnOk result
+        (into.new.names ≡ into.old.names ++ texts_of (words_of tokens.now) list.now) }
     ensures variables { PutsVariables into.old into.new result
-        (variables_by scope.now bounds words.now) }
+        (variables_by (words_of tokens.now) scope.now form list.now) }
     ensures few { OnOk result (length into.new.names ≤ 1024) }
-    ensures err { IfFault result (BreaksNames (into.old.names ++ map word_text words.now)) }
+    ensures err { IfFault result
+        (BreaksNames (into.old.names ++ texts_of (words_of tokens.now) list.now)) }
 {
-    for word in words {
-        declare(alloc, scope, bounds, word, into)?;
+    for one in list {
+        declare(alloc, tokens, scope, form, one.name, into)?;
     }
     Ok(())
+}
+
+// The variables of a `reg`. E306 where its range is none.
+fn declare_registers<'t>(
+    alloc: Global,
+    tokens: &Tokens<'t>,
+    scope: &[u8],
+    kind: &SignAndRange,
+    list: &[Declared],
+    into: &mut Declarations<'t>,
+) -> Result<(), OrMemory<ElabFault>>
+    requires { length into.old.names ≤ 1024 }
+    ensures names { OnOk result (into.new.names ≡ into.old.names ++ names_of (registers_item (words_of tokens.now) kind.now list.now)) }
+    ensures variables { PutsVariables into.old into.new result
+        (map (variable_of scope.now) (declarations_of (registers_item (words_of tokens.now) kind.now list.now))) }
+    ensures few { OnOk result (length into.new.names ≤ 1024) }
+    ensures range { OnOk result (has_range (registers_item (words_of tokens.now) kind.now list.now) ≡ true) }
+    ensures err { IfFault result (BreaksItem into.old.names (registers_item (words_of tokens.now) kind.now list.now)) }
+{
+    let bounds = range_bounds(tokens, &kind.range)?;
+    let form = Form {
+        kind: Kind::Reg,
+        signed: kind.signed,
+        bounds,
+    };
+    declare_all(alloc, tokens, scope, form, list, into)
+}
+
+// The variables of an `integer`.
+fn declare_integers<'t>(
+    alloc: Global,
+    tokens: &Tokens<'t>,
+    scope: &[u8],
+    list: &[Declared],
+    into: &mut Declarations<'t>,
+) -> Result<(), OrMemory<ElabFault>>
+    requires { length into.old.names ≤ 1024 }
+    ensures names { OnOk result (into.new.names ≡ into.old.names ++ names_of (integers_item (words_of tokens.now) list.now)) }
+    ensures variables { PutsVariables into.old into.new result
+        (map (variable_of scope.now) (declarations_of (integers_item (words_of tokens.now) list.now))) }
+    ensures few { OnOk result (length into.new.names ≤ 1024) }
+    ensures err { IfFault result (BreaksItem into.old.names (integers_item (words_of tokens.now) list.now)) }
+{
+    let form = Form {
+        kind: Kind::Integer,
+        signed: true,
+        bounds: None,
+    };
+    declare_all(alloc, tokens, scope, form, list, into)
+}
+
+// The variables of a net or of a variable: nets aren't run yet.
+fn declare_net<'t>(
+    alloc: Global,
+    tokens: &Tokens<'t>,
+    scope: &[u8],
+    net: NetKind,
+    kind: &SignAndRange,
+    list: &[Declared],
+    into: &mut Declarations<'t>,
+) -> Result<(), OrMemory<ElabFault>>
+    requires { length into.old.names ≤ 1024 }
+    ensures names { OnOk result (into.new.names ≡ into.old.names ++ names_of (net_item (words_of tokens.now) net kind.now list.now)) }
+    ensures variables { PutsVariables into.old into.new result
+        (map (variable_of scope.now) (declarations_of (net_item (words_of tokens.now) net kind.now list.now))) }
+    ensures few { OnOk result (length into.new.names ≤ 1024) }
+    ensures range { OnOk result (has_range (net_item (words_of tokens.now) net kind.now list.now) ≡ true) }
+    ensures err { IfFault result (BreaksItem into.old.names (net_item (words_of tokens.now) net kind.now list.now)) }
+{
+    match net {
+        NetKind::Wire => Ok(()),
+        NetKind::Reg => declare_registers(alloc, tokens, scope, kind, list, into),
+    }
+}
+
+// The variables of a declaration.
+fn declare_kind<'t>(
+    alloc: Global,
+    tokens: &Tokens<'t>,
+    scope: &[u8],
+    kind: &DeclarationKind,
+    list: &[Declared],
+    into: &mut Declarations<'t>,
+) -> Result<(), OrMemory<ElabFault>>
+    requires { length into.old.names ≤ 1024 }
+    ensures names { OnOk result (into.new.names ≡ into.old.names ++ names_of (kind_item (words_of tokens.now) kind.now list.now)) }
+    ensures variables { PutsVariables into.old into.new result
+        (map (variable_of scope.now) (declarations_of (kind_item (words_of tokens.now) kind.now list.now))) }
+    ensures few { OnOk result (length into.new.names ≤ 1024) }
+    ensures range { OnOk result (has_range (kind_item (words_of tokens.now) kind.now list.now) ≡ true) }
+    ensures err { IfFault result (BreaksItem into.old.names (kind_item (words_of tokens.now) kind.now list.now)) }
+{
+    match kind {
+        DeclarationKind::Variables { net, kind } => {
+            declare_net(alloc, tokens, scope, *net, kind, list, into)
+        }
+        DeclarationKind::Integers => declare_integers(alloc, tokens, scope, list, into),
+    }
 }
 
 // The variables of one item. E306 where its range is none.
 fn declare_item<'t>(
     alloc: Global,
+    tokens: &Tokens<'t>,
     scope: &[u8],
-    item: &Item<'t>,
+    item: &ModuleItem,
     into: &mut Declarations<'t>,
 ) -> Result<(), OrMemory<ElabFault>>
     requires { length into.old.names ≤ 1024 }
-    ensures names { OnOk result (into.new.names ≡ into.old.names ++ names_of (item_tree item.now)) }
-    ensures variables { PutsVariables into.old into.new result (variables_for scope.now item.now) }
+    ensures names { OnOk result (into.new.names ≡ into.old.names ++ names_of (item_tree (words_of tokens.now) item.now)) }
+    ensures variables { PutsVariables into.old into.new result
+        (variables_for (words_of tokens.now) scope.now item.now) }
     ensures few { OnOk result (length into.new.names ≤ 1024) }
-    ensures range { OnOk result (has_range (item_tree item.now) ≡ true) }
-    ensures err { IfFault result (BreaksItem into.old.names (item_tree item.now)) }
+    ensures range { OnOk result (has_range (item_tree (words_of tokens.now) item.now) ≡ true) }
+    ensures err { IfFault result (BreaksItem into.old.names (item_tree (words_of tokens.now) item.now)) }
 {
     match item {
-        Item::Registers { range, names } => {
-            let bounds = range_bounds(range)?;
-            declare_all(alloc, scope, bounds, names, into)
+        ModuleItem::Declaration { kind, declared, .. } => {
+            declare_kind(alloc, tokens, scope, kind, declared, into)
         }
-        Item::Initial(_) => Ok(()),
+        ModuleItem::Parameters { .. } => Ok(()),
+        ModuleItem::Events { .. } => Ok(()),
+        ModuleItem::Assignments { .. } => Ok(()),
+        ModuleItem::Initial { .. } => Ok(()),
+        ModuleItem::Always { .. } => Ok(()),
+        ModuleItem::Instances { .. } => Ok(()),
     }
 }
 
 /// The variables that items declare, in the order of the text. Errors: E302, E306, E309, E901.
 pub fn declare_items<'t>(
     alloc: Global,
+    tokens: &Tokens<'t>,
     scope: &[u8],
-    items: &[Item<'t>],
+    items: &[ModuleItem],
 ) -> Result<Declarations<'t>, OrMemory<ElabFault>>
-    ensures names { IfOk result (λ d. d.names ≡ names_in (map item_tree items.now)) }
-    ensures variables { IfOk result (λ d. d.variables.items ≡ variables_of scope.now items.now) }
+    ensures names { IfOk result (λ d.
+        d.names ≡ names_in (map (item_tree (words_of tokens.now)) items.now)) }
+    ensures variables { IfOk result (λ d.
+        d.variables.items ≡ variables_of (words_of tokens.now) scope.now items.now) }
     ensures few { IfOk result (λ d. length d.names ≤ 1024) }
-    ensures ranges { OnOk result (list_all has_range (map item_tree items.now) ≡ true) }
-    ensures err { IfFault result (BreaksItems (map item_tree items.now)) }
+    ensures ranges { OnOk result
+        (list_all has_range (map (item_tree (words_of tokens.now)) items.now) ≡ true) }
+    ensures err { IfFault result
+        (BreaksItems (map (item_tree (words_of tokens.now)) items.now)) }
 {
     let mut declarations = Declarations {
         names: Names::new(alloc),
         variables: Vec::new(alloc),
     };
     for item in items {
-        declare_item(alloc, scope, item, &mut declarations)?;
+        declare_item(alloc, tokens, scope, item, &mut declarations)?;
     }
     Ok(declarations)
 }

@@ -5,7 +5,7 @@ use Rattle.std.proofs.Math.ListN.{drop_of_length-le}
 use Rattle.basis.proofs.Lists.{passed}
 use Rattle.vlex.specs.Lexed.{Piece}
 use Rattle.vlex.specs.Tokenized.{Tokenized, pieces_of, text_at}
-use Rattle.vast.specs.Syntax.{Text}
+use Rattle.vast.specs.Words.{Text}
 use Rattle.vast.specs.TokenTexts.{letters}
 use Rattle.vexpr_parse.specs.Texts.{words_of}
 use Rattle.vexpr_parse.specs.declared.cursor.Cursor.{Cursor}

@@ -4,7 +4,7 @@ use Rattle.std.specs.List.{list_all}
 use Rattle.std.specs.Str.{bytes_eq}
 use Rattle.std.proofs.lemmas.Bool.{cases_Bool}
 use Rattle.basis.proofs.Bools.{and_left, and_right}
-use Rattle.vast.specs.Syntax.{Text}
+use Rattle.vast.specs.Words.{Text}
 use Rattle.vexpr_parse.specs.Words.{written, begins_among}
 use Rattle.vexpr_parse.proofs.ReaderRules.{passed_over, true_or_false, same_text}
 

@@ -3,7 +3,7 @@ use Rattle.std.proofs.Common.{◌≡◌, ℕ, zero, suc, ◌+◌, ◌<◌, ◌�
 use Rattle.std.specs.Str.{bytes_eq}
 use Rattle.std.proofs.lemmas.Bool.{cases_Bool}
 use Rattle.std.proofs.lemmas.Bool.Decides.{nat_tests}
-use Rattle.vast.specs.Syntax.{Text}
+use Rattle.vast.specs.Words.{Text}
 use Rattle.vast.specs.Expressions.{ExpressionTree, name, bit, part, parentheses, concatenation, replication, conversion, apply, combine, conditional, depth, rank, unary_rank}
 use Rattle.vast.specs.declared.expression.BinaryOperator.{BinaryOperator}
 use Rattle.vexpr_parse.specs.declared.beginning.Beginning.{Beginning}

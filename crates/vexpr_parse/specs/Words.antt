@@ -2,8 +2,7 @@
 use Rattle.std.specs.Prelude.{ℕ, nat_le, Bool, true, false, ◌&&◌, ◌==◌, not, if◌then◌else◌, List, [], ◌∷◌, Option, Some, None, codes}
 use Rattle.std.specs.List.{list_any}
 use Rattle.std.specs.Str.{bytes_eq}
-use Rattle.vast.specs.Words.{is_name, is_number}
-use Rattle.vast.specs.Syntax.{Text}
+use Rattle.vast.specs.Words.{Text, is_name, is_number}
 use Rattle.vast.specs.Expressions.{unary_word, binary_word, rank}
 use Rattle.vast.specs.declared.expression.UnaryOperator.{UnaryOperator}
 use Rattle.vast.specs.declared.expression.UnaryOperator.TheVariants as unary

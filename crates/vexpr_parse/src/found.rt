@@ -1,7 +1,7 @@
 // What readers of expressions hand on: a tree, and how deep it nests.
 
 ghost use Rattle.std.specs.Prelude.{◌≡◌, List, max, IfOk};
-ghost use Rattle.vast.specs.Syntax.{Text};
+ghost use Rattle.vast.specs.Words.{Text};
 ghost use Rattle.vast.specs.TokenTexts.{token_text};
 ghost use Rattle.vast.specs.Expressions.{bit, part, parentheses, conversion, apply, combine};
 ghost use Rattle.vast.specs.ExpressionTrees.{tree_of};

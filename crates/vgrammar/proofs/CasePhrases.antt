@@ -3,8 +3,7 @@ use Rattle.std.proofs.Common.{◌≡◌, ℕ, suc, ◌+◌, ◌<◌, Bool, true,
 use Rattle.std.specs.List.{list_all}
 use Rattle.std.proofs.lemmas.Bool.Decides.{nat_tests}
 use Rattle.basis.proofs.Bools.{and_left, and_right, and_both}
-use Rattle.vast.specs.Syntax.{Text}
-use Rattle.vast.specs.Words.{reserved_words}
+use Rattle.vast.specs.Words.{Text, reserved_words}
 use Rattle.vast.specs.Expressions.{ExpressionTree, ExpressionTrees, none, spell_expression, spell_parts, fits_expression, fits_parts, depth, greatest_depth}
 use Rattle.vast.specs.Expressions.{first as first_part}
 use Rattle.vast.specs.Statements.{StatementTree, empty, BranchTree, labelled, default, case_word, spell_statement, spell_branch, spell_branches, statement_depth, branch_depth, branches_depth, fits_statement, fits_branch, fits_branches, is_default, defaults}

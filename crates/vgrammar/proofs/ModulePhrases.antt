@@ -3,8 +3,7 @@ use Rattle.std.proofs.Common.{◌≡◌, ℕ, suc, ◌<◌, Bool, true, false, �
 use Rattle.std.specs.List.{list_all}
 use Rattle.std.specs.Str.{bytes_eq}
 use Rattle.basis.proofs.Bools.{and_left, and_right, and_both}
-use Rattle.vast.specs.Syntax.{Text}
-use Rattle.vast.specs.Words.{is_name, reserved_words}
+use Rattle.vast.specs.Words.{Text, is_name, reserved_words}
 use Rattle.vast.specs.Statements.{listed, in_parentheses}
 use Rattle.vast.specs.Modules.{RangeTree, TypeTree, ParameterType, typed, SettingTree, DirectionTree, input, output, PortTree, HeadParameter, ItemTree, parameters, declaration, variables, integers, events, assignments, initial, always as always_item, instances, ModuleTree, SourceTree, spell_range, spell_signed, spell_type, spell_direction, spell_port, spell_head_parameter, spell_module, fits_type, fits_direction, fits_port, is_directed, fits_ports, fits_head_parameter, is_kind, fits_head_parameters, fits_item, fits_module, net_word}
 use Rattle.vast.specs.declared.module.NetKind.{NetKind}

@@ -1,8 +1,7 @@
 -- With three levels more: what was read as a statement or refused for good stays so, and a word that was refused for
 -- want of levels is passed.
 use Rattle.std.proofs.Common.{◌≡◌, ℕ, zero, suc, ◌<◌, ◌≤◌, Bool, true, false, ◌||◌, not, nat_le, if◌then◌else◌, List, [], ◌∷◌, Option, None, Some, length, refl, arith, codes}
-use Rattle.vast.specs.Syntax.{Text}
-use Rattle.vast.specs.Words.{is_name, is_number, is_string}
+use Rattle.vast.specs.Words.{Text, is_name, is_number, is_string}
 use Rattle.vast.specs.Expressions.{ExpressionTree}
 use Rattle.vast.specs.Statements.{StatementTree, BranchTree, DelayTree, forever}
 use Rattle.vast.specs.declared.statement.Printing.TheVariants as printing

@@ -2,8 +2,7 @@
 use Rattle.std.proofs.Common.{◌≡◌, ℕ, suc, ◌+◌, ◌<◌, Bool, true, ◌&&◌, nat_le, List, [], ◌∷◌, ◌++◌, Option, None, Some, length, refl, sym, ap, ◌∙◌, arith, codes}
 use Rattle.std.specs.List.{list_all}
 use Rattle.basis.proofs.Bools.{and_left, and_right}
-use Rattle.vast.specs.Syntax.{Text}
-use Rattle.vast.specs.Words.{is_number, is_string}
+use Rattle.vast.specs.Words.{Text, is_number, is_string}
 use Rattle.vast.specs.Statements.{ArgumentTree, quoted, printed, SelectionTree, StatementTree, print_word, dump_word, end_word, argument_depth, arguments_depth, fits_argument, fits_print, fits_selection, spell_statement}
 use Rattle.vast.specs.declared.statement.Dumping.{Dumping}
 use Rattle.vast.specs.declared.statement.Printing.{Printing}

@@ -4,8 +4,7 @@ use Rattle.std.specs.Str.{bytes_eq}
 use Rattle.std.specs.Char.{is_ascii_digit}
 use Rattle.std.proofs.lemmas.Bool.Decides.{nat_tests}
 use Rattle.basis.proofs.Bools.{and_left}
-use Rattle.vast.specs.Syntax.{Text}
-use Rattle.vast.specs.Words.{is_name, is_number, is_string, begins_name, is_reserved}
+use Rattle.vast.specs.Words.{Text, is_name, is_number, is_string, begins_name, is_reserved}
 use Rattle.vast.specs.Expressions.{ExpressionTree}
 use Rattle.vexpr_parse.specs.declared.beginning.Beginning.TheVariants as start
 use Rattle.vexpr_parse.specs.Readers.{got, Reader, front, and_then, follow}

@@ -1,6 +1,6 @@
 -- What is read as a text, and where words stop to begin one (docs/LANGUAGE.md, "Grammar" and "Depth").
 use Rattle.std.specs.Prelude.{◌≡◌, ℕ, suc, ◌≤◌, List, [], ◌∷◌, ◌++◌}
-use Rattle.vast.specs.Syntax.{Text}
+use Rattle.vast.specs.Words.{Text}
 use Rattle.vast.specs.Modules.{SourceTree, DerivesWithin}
 use Rattle.vexpr_parse.specs.declared.stop.Stop.{Stop}
 use Rattle.vexpr_parse.specs.declared.stop.Stop.TheVariants.{NoTree, TooDeep}

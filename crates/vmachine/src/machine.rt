@@ -7,7 +7,7 @@ use basis::NoMemory;
 use sched_core::Space;
 use std::alloc::Global;
 use std::marker::Model;
-use vast::design::Design;
+use vdesign::design::Design;
 use vmodel::history::Grain;
 use vmodel::opening;
 
@@ -23,8 +23,12 @@ pub struct Machine {
 
 impl Model for Machine {
     ghost use Rattle.vmodel.specs.Run.{Setting};
+    ghost use Rattle.vdesign.specs.contracts.expression.Expression as expression;
+    ghost use Rattle.std.specs.Coded.{codes};
 
     ghost Value = { Setting };
+
+    ghost coded = { Prim.hlevel (codes, expression.the_row.coded) };
 
     ghost view = { λ m. record { design = m.design; until = m.until; grain = m.grain } };
 }

@@ -2,8 +2,8 @@
 use Rattle.std.proofs.Common.{◌≡◌, ◌≢◌, ℕ, zero, suc, ◌+◌, ◌<◌, ◌≤◌, List, [], ◌∷◌, ◌++◌, map, length, Option, Some, None, cond, is_some, refl, sym, ap, subst, ◌∙◌, arith}
 use Rattle.std.specs.Prelude.{slice_get}
 use Rattle.sched_core.specs.Rules.{choice_at}
-use Rattle.vast.specs.Design.{Design}
-use Rattle.vast.specs.declared.design.Action.{Action}
+use Rattle.vdesign.specs.Design.{Design}
+use Rattle.vdesign.specs.declared.action.Action.{Action}
 use Rattle.vmodel.specs.declared.history.Cause.{Cause}
 use Rattle.vmodel.specs.declared.history.Grain.{Grain}
 use Rattle.vmodel.specs.declared.history.Grain.TheVariants.{Process, Statement}
@@ -145,16 +145,16 @@ turned-kept p did s kept active lt =
     closed-kept (acted p did s) (order-moved p did.deed.fate did.deed.posted (going p did.left) s.queue kept.order)
     (place-moved p did.deed.fate did.deed.posted (process_by did) s.queue s.processes kept.place active lt)
 
-takes-kept : (design : Design) (p : ℕ) (action : Option Action) (after : List Spot) (s : State) → IsKept s → 1 ≤ count_in p s.queue.active →
-    p < length s.processes → IsKept (takes design p action after s).state
-takes-kept design p None after s kept active lt = kept
-takes-kept design p (Some action) after s kept active lt = turned-kept p (does action after (moment_of design s)) s kept active lt
+takes-kept : (design : Design) (p place : ℕ) (action : Option Action) (after : List Spot) (s : State) → IsKept s → 1 ≤ count_in p s.queue.active →
+    p < length s.processes → IsKept (takes design p place action after s).state
+takes-kept design p place None after s kept active lt = kept
+takes-kept design p place (Some action) after s kept active lt = turned-kept p (does place action after (moment_of design s)) s kept active lt
 
 process-kept : (design : Design) (p : ℕ) (left : List Spot) (s : State) → IsKept s → left_at s.processes p ≡ left →
     1 ≤ count_in p s.queue.active → IsKept (goes_from design p left s).state
 process-kept design p [] s kept is active = kept
 process-kept design p (Doing place ∷ after) s kept is active =
-    takes-kept design p (slice_get design.actions place) after s kept active (is_there s.processes p (Doing place) after is)
+    takes-kept design p place (slice_get design.actions place) after s kept active (is_there s.processes p (Doing place) after is)
 
 turn-kept : (design : Design) (c : Choice) (s : State) → IsKept s → IsOpen c s.queue → IsKept (turn_of design c s).state
 turn-kept design (Run p) s kept active = process-kept design p (left_at s.processes p) s kept refl active

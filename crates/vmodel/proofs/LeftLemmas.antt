@@ -1,5 +1,5 @@
 -- What a process has left, as a stack read backwards.
-use Rattle.std.proofs.Common.{◌≡◌, ◌≤◌, ◌<◌, ℕ, zero, suc, ◌+◌, ◌-◌, Bool, true, false, not, ◌&&◌, List, [], ◌∷◌, ◌++◌, length, reverse, take, drop, map, get_or, Option, Some, None, refl, sym, ap, subst, ◌∙◌, arith}
+use Rattle.std.proofs.Common.{◌≡◌, ◌≢◌, ◌≤◌, ◌<◌, ℕ, zero, suc, ◌+◌, ◌-◌, Bool, true, false, not, ◌&&◌, List, [], ◌∷◌, ◌++◌, length, reverse, take, drop, map, get_or, Option, Some, None, refl, sym, ap, subst, ◌∙◌, arith}
 use Rattle.std.specs.Prelude.{slice_get, is_some, MatchOption}
 use Rattle.std.specs.Option.{option_to_list}
 use Rattle.std.specs.Cmp.Lexicographic.{pointwise}
@@ -7,7 +7,7 @@ use Rattle.std.proofs.lemmas.List.{reverse-append, append_assoc, take_more, drop
 use Rattle.vmodel.specs.declared.process.Spot.{Spot}
 use Rattle.vmodel.specs.declared.process.Spot.TheVariants.{Doing}
 use Rattle.vmodel.specs.Same.{spot_same}
-use Rattle.vmodel.specs.Step.{spots}
+use Rattle.vmodel.specs.Step.{spots, going}
 use Rattle.vmodel.proofs.SpotLemmas.{same_backwards}
 
 -- ---- comparing from the bottom up
@@ -116,3 +116,28 @@ placed front rest own places after own_is e =
     ∙ ap (λ zs. zs ++ reverse front) own_is
     ∙ append_assoc (map Doing places) (reverse rest) (reverse front)
     ∙ ap (λ zs. map Doing places ++ zs) (sym (reverse-append front rest) ∙ e)
+
+-- what comes again is left
+pub goes_again : (number : ℕ) (next : List ℕ) (left : List Spot) → 0 < length left → Some number ≡ going number (spots next left)
+goes_again number next [] some = absurd (omega (arith, some))
+goes_again number [] (spot ∷ rest) some = refl
+goes_again number (place ∷ places) (spot ∷ rest) some = refl
+
+-- where more than the first was left, something is left behind it
+pub goes_behind : (number : ℕ) (next : List ℕ) (left : List Spot) → 1 < length left → Some number ≡ going number (spots next (drop 1 left))
+goes_behind number next [] some = absurd (omega (arith, some))
+goes_behind number next (spot ∷ []) some = absurd (omega (arith, some))
+goes_behind number [] (spot ∷ more ∷ rest) some = refl
+goes_behind number (place ∷ places) (spot ∷ more ∷ rest) some = refl
+
+-- where a place comes next, it is left
+pub goes_before : (number : ℕ) (next : List ℕ) (left : List Spot) → length next ≢ 0 → Some number ≡ going number (spots next (drop 1 left))
+goes_before number [] left some = absurd (some refl)
+goes_before number (place ∷ places) left some = refl
+
+-- where no place comes next and no more than the first was left, nothing is left
+pub goes_nowhere : (number : ℕ) (next : List ℕ) (left : List Spot) → length next ≡ 0 → length left ≤ 1 → None ≡ going number (spots next (drop 1 left))
+goes_nowhere number (place ∷ places) left none few = absurd (omega (arith, none))
+goes_nowhere number [] [] none few = refl
+goes_nowhere number [] (spot ∷ []) none few = refl
+goes_nowhere number [] (spot ∷ more ∷ rest) none few = absurd (omega (arith, few))

@@ -1,16 +1,16 @@
 -- Values keep the shape of their variables: what is written or waits to be written has its target's length and sign.
-use Rattle.std.proofs.Common.{◌≡◌, ℕ, zero, suc, ◌==◌, nat_lt, max, cond, Bool, true, false, List, [], ◌∷◌, ◌++◌, length, replicate, map, Option, Some, None, refl, sym, ap, subst, ◌∙◌, length-append, arith}
+use Rattle.std.proofs.Common.{◌≡◌, ℕ, zero, suc, ◌==◌, nat_lt, cond, Bool, true, false, List, [], ◌∷◌, ◌++◌, length, map, Option, Some, None, refl, sym, ap, subst, ◌∙◌}
 use Rattle.std.specs.Prelude.{slice_get, slice_set, unwrap_or}
-use Rattle.std.proofs.lemmas.List.{length-take-le, length-replicate}
+use Rattle.std.proofs.lemmas.List.{length-replicate}
 use Rattle.sched_core.specs.Rules.{choice_at}
 use Rattle.vbits.specs.declared.bit4.Bit4.TheVariants.{X}
-use Rattle.vbits.specs.Vectors.{Vector, filled, resize, with_sign, sign_letter}
-use Rattle.vast.specs.Design.{Variable, Design}
-use Rattle.vast.specs.declared.design.Action.{Action}
-use Rattle.vast.specs.declared.design.Action.TheVariants.{Assign, Nonblocking, Delay, DumpVars, Finish}
-use Rattle.vast.specs.declared.design.Expression.{Expression}
-use Rattle.vast.specs.declared.design.Target.{Target}
-use Rattle.vast.specs.declared.design.Target.TheVariants.{Whole as WholeTarget}
+use Rattle.vbits.specs.Vectors.{Vector, filled, with_sign}
+use Rattle.vdesign.specs.Design.{Variable, Design}
+use Rattle.vdesign.specs.declared.action.Action.{Action}
+use Rattle.vdesign.specs.declared.action.Action.TheVariants.{Assign, Nonblocking, Test, Again, Forever, Delay, DumpVars, Finish, Stop}
+use Rattle.vdesign.specs.Expressions.{ExpressionTree}
+use Rattle.vdesign.specs.declared.action.Target.{Target}
+use Rattle.vdesign.specs.declared.action.Target.TheVariants.{Whole as WholeTarget}
 use Rattle.vmodel.specs.declared.history.Cause.{Cause}
 use Rattle.vmodel.specs.declared.deed.Fate.{Fate}
 use Rattle.vmodel.specs.declared.deed.Fate.TheVariants.{GoesOn, Sleeps}
@@ -20,7 +20,9 @@ use Rattle.vmodel.specs.declared.process.Spot.{Spot}
 use Rattle.vmodel.specs.declared.process.Spot.TheVariants.{Doing}
 use Rattle.vmodel.specs.declared.choice.Choice.{Choice}
 use Rattle.vmodel.specs.declared.choice.Choice.TheVariants.{Run, Update, Advance}
-use Rattle.vmodel.specs.Value.{Moment, value_at, value_of, is_signed, size_of, cut_to, assigned}
+use Rattle.vvalue.specs.Value.{Moment, value_at, right_side}
+use Rattle.vvalue.proofs.Lengths.{right_side_length}
+use Rattle.vmodel.specs.Value.{cut_to, assigned}
 use Rattle.vmodel.specs.Parts.{written}
 use Rattle.vmodel.specs.Queue.{Slot, Queue, waking, empty_slot, wake_at}
 use Rattle.vmodel.specs.State.{State}
@@ -81,36 +83,29 @@ shaped-written variables [] values h suit = h
 shaped-written variables (Whole number value ∷ parts) values h suit =
     shaped-written variables parts (slice_set values number value) (shaped-set variables values number value h suit.0) suit.1
 
--- 5.4.1, 6.2: the right side is cut or extended to the length of the target, and marked with the target's sign
-resized : (v : Vector) (count : ℕ) → length (resize v count).letters ≡ count
-unfolding resize
-resized v count =
-    length-take-le count (v.letters ++ replicate count (sign_letter v))
-    (omega (arith, length-append v.letters (replicate count (sign_letter v)), length-replicate count (sign_letter v)))
-
 marked : (v : Vector) (mark : Bool) → ((with_sign v mark).letters ≡ v.letters) × ((with_sign v mark).signed ≡ mark)
 unfolding with_sign
 marked v mark = (refl, refl)
 
-cut-shape : (old : Vector) (e : Expression) (now : Moment) → (length (cut_to old e now).letters ≡ length old.letters) × ((cut_to old e now).signed ≡ old.signed)
-cut-shape old e now =
-    let size = max (length old.letters) (size_of e now) in
-    let right : Vector = resize (value_of e now size (is_signed e now)) (length old.letters) in (
-      ap length (marked right old.signed).0 ∙ resized (value_of e now size (is_signed e now)) (length old.letters),
+-- 5.4.1, 6.2: the right side is cut or extended to the length of the target, and marked with the target's sign
+cut-shape : (now : Moment) (old : Vector) (e : ExpressionTree) → (length (cut_to now old e).letters ≡ length old.letters) × ((cut_to now old e).signed ≡ old.signed)
+cut-shape now old e =
+    let right : Vector = right_side now (length old.letters) e in (
+      ap length (marked right old.signed).0 ∙ right_side_length now (length old.letters) e,
       (marked right old.signed).1,
     )
 
-assigned-suits : (variables : List Variable) (target : Target) (e : Expression) (now : Moment) → AreShaped variables now.values →
-    AllSuit variables (assigned target e now)
+assigned-suits : (variables : List Variable) (target : Target) (e : ExpressionTree) (now : Moment) → AreShaped variables now.values →
+    AllSuit variables (assigned now target e)
 assigned-suits variables (WholeTarget number) e now h = (suits, tt)
   where
     old : Vector
     old = value_at now number
 
-    suits : (x : Variable) → slice_get variables number ≡ Some x → HasShape x (cut_to old e now)
+    suits : (x : Variable) → slice_get variables number ≡ Some x → HasShape x (cut_to now old e)
     suits x at =
         let shape : HasShape x old = shape_at variables now.values number x (filled 1 X) h at in
-        let cut = cut-shape old e now in
+        let cut = cut-shape now old e in
         (cut.0 ∙ shape.0, cut.1 ∙ shape.1)
 
 -- ---- what waits
@@ -182,18 +177,22 @@ record DeedSuits (variables : List Variable) (did : Did) : Type 0 where
   pub wrote : AllSuit variables did.deed.wrote
   pub posted : (u : List Part) → did.deed.posted ≡ Some u → AllSuit variables u
 
-does-suits : (variables : List Variable) (action : Action) (after : List Spot) (now : Moment) → AreShaped variables now.values →
-    DeedSuits variables (does action after now)
-does-suits variables (Assign target value) after now h = record { wrote = assigned-suits variables target value now h; posted = λ u is. cc }
-does-suits variables (Nonblocking target value) after now h = record {
+does-suits : (variables : List Variable) (place : ℕ) (action : Action) (after : List Spot) (now : Moment) → AreShaped variables now.values →
+    DeedSuits variables (does place action after now)
+does-suits variables place (Assign target value) after now h = record { wrote = assigned-suits variables target value now h; posted = λ u is. cc }
+does-suits variables place (Nonblocking target value) after now h = record {
   wrote = tt;
   posted = λ u is.
-      let same : assigned target value now ≡ u = cc in
+      let same : assigned now target value ≡ u = cc in
       subst (AllSuit variables) same (assigned-suits variables target value now h);
 }
-does-suits variables (Delay amount body) after now h = record { wrote = tt; posted = λ u is. cc }
-does-suits variables DumpVars after now h = record { wrote = tt; posted = λ u is. cc }
-does-suits variables Finish after now h = record { wrote = tt; posted = λ u is. cc }
+does-suits variables place (Delay amount body) after now h = record { wrote = tt; posted = λ u is. cc }
+does-suits variables place DumpVars after now h = record { wrote = tt; posted = λ u is. cc }
+does-suits variables place Finish after now h = record { wrote = tt; posted = λ u is. cc }
+does-suits variables place Stop after now h = record { wrote = tt; posted = λ u is. cc }
+does-suits variables place (Test condition when_true otherwise) after now h = record { wrote = tt; posted = λ u is. cc }
+does-suits variables place (Again condition body) after now h = record { wrote = tt; posted = λ u is. cc }
+does-suits variables place (Forever body) after now h = record { wrote = tt; posted = λ u is. cc }
 
 acted-shaped : (variables : List Variable) (p : ℕ) (did : Did) (s : State) → IsShaped variables s → DeedSuits variables did → IsShaped variables (acted p did s)
 acted-shaped variables p did s h suits = record {
@@ -201,17 +200,17 @@ acted-shaped variables p did s h suits = record {
   queue = fares-suit variables p did.deed.fate (going p did.left) (posts did.deed.posted s.queue) (posts-suit variables did.deed.posted s.queue h.queue suits.posted);
 }
 
-takes-shaped : (variables : List Variable) (design : Design) (p : ℕ) (action : Option Action) (after : List Spot) (s : State) → IsShaped variables s →
-    IsShaped variables (takes design p action after s).state
-takes-shaped variables design p None after s h = h
-takes-shaped variables design p (Some action) after s h =
-    let did = does action after (moment_of design s) in
-    closed-shaped variables (acted p did s) (acted-shaped variables p did s h (does-suits variables action after (moment_of design s) h.values))
+takes-shaped : (variables : List Variable) (design : Design) (p place : ℕ) (action : Option Action) (after : List Spot) (s : State) → IsShaped variables s →
+    IsShaped variables (takes design p place action after s).state
+takes-shaped variables design p place None after s h = h
+takes-shaped variables design p place (Some action) after s h =
+    let did = does place action after (moment_of design s) in
+    closed-shaped variables (acted p did s) (acted-shaped variables p did s h (does-suits variables place action after (moment_of design s) h.values))
 
 process-shaped : (variables : List Variable) (design : Design) (p : ℕ) (left : List Spot) (s : State) → IsShaped variables s →
     IsShaped variables (goes_from design p left s).state
 process-shaped variables design p [] s h = h
-process-shaped variables design p (Doing place ∷ after) s h = takes-shaped variables design p (slice_get design.actions place) after s h
+process-shaped variables design p (Doing place ∷ after) s h = takes-shaped variables design p place (slice_get design.actions place) after s h
 
 updated-shaped : (variables : List Variable) (us : List (List Part)) (s : State) → UpdatesSuit variables us → IsShaped variables s →
     IsShaped variables (record s { values = written (first_of us) s.values; queue = without_update us s.queue })

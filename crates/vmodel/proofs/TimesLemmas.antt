@@ -3,8 +3,8 @@ use Rattle.std.proofs.Common.{◌≡◌, ℕ, zero, suc, ◌<◌, ◌≤◌, Lis
 use Rattle.std.specs.Prelude.{slice_get}
 use Rattle.basis.proofs.Lists.{listed_place}
 use Rattle.sched_core.specs.Rules.{choice_at, IsRun}
-use Rattle.vast.specs.Design.{Design}
-use Rattle.vast.specs.declared.design.Action.{Action}
+use Rattle.vdesign.specs.Design.{Design}
+use Rattle.vdesign.specs.declared.action.Action.{Action}
 use Rattle.vmodel.specs.declared.history.Cause.{Cause}
 use Rattle.vmodel.specs.declared.history.DumpCommand.{DumpCommand}
 use Rattle.vmodel.specs.declared.history.Item.{Item}
@@ -123,13 +123,13 @@ time-turned p did s =
     ∙ time-fares p did.deed.fate (going p did.left) (posts did.deed.posted s.queue)
     ∙ time-posts did.deed.posted s.queue
 
-time-takes : (design : Design) (p : ℕ) (action : Option Action) (after : List Spot) (s : State) → (takes design p action after s).state.queue.time ≡ s.queue.time
-time-takes design p None after s = refl
-time-takes design p (Some action) after s = time-turned p (does action after (moment_of design s)) s
+time-takes : (design : Design) (p place : ℕ) (action : Option Action) (after : List Spot) (s : State) → (takes design p place action after s).state.queue.time ≡ s.queue.time
+time-takes design p place None after s = refl
+time-takes design p place (Some action) after s = time-turned p (does place action after (moment_of design s)) s
 
 time-process : (design : Design) (p : ℕ) (left : List Spot) (s : State) → (goes_from design p left s).state.queue.time ≡ s.queue.time
 time-process design p [] s = refl
-time-process design p (Doing place ∷ after) s = time-takes design p (slice_get design.actions place) after s
+time-process design p (Doing place ∷ after) s = time-takes design p place (slice_get design.actions place) after s
 
 time-updated : (us : List (List Part)) (q : Queue) → (without_update us q).time ≡ q.time
 time-updated [] q = refl

@@ -5,8 +5,8 @@ use Rattle.std.proofs.lemmas.List.{length-map, length-set}
 use Rattle.std.proofs.lemmas.List.Elements.{All-nil, All-cons, All-append}
 use Rattle.sched_core.specs.Rules.{choice_at}
 use Rattle.vbits.specs.Vectors.{Vector}
-use Rattle.vast.specs.Design.{Design}
-use Rattle.vast.specs.declared.design.Action.{Action}
+use Rattle.vdesign.specs.Design.{Design}
+use Rattle.vdesign.specs.declared.action.Action.{Action}
 use Rattle.vmodel.specs.declared.history.Cause.{Cause}
 use Rattle.vmodel.specs.declared.history.DumpCommand.{DumpCommand}
 use Rattle.vmodel.specs.declared.history.Item.TheVariants.{SlotEnd, Dump}
@@ -38,15 +38,15 @@ length-closed s = by_cause s.cause
     by_cause (Some cause) = refl
     by_cause None = refl
 
-takes-full : (design : Design) (p : ℕ) (action : Option Action) (after : List Spot) (s : State) → length (takes design p action after s).state.values ≡ length s.values
-takes-full design p None after s = refl
-takes-full design p (Some action) after s =
-    let did = does action after (moment_of design s) in
+takes-full : (design : Design) (p place : ℕ) (action : Option Action) (after : List Spot) (s : State) → length (takes design p place action after s).state.values ≡ length s.values
+takes-full design p place None after s = refl
+takes-full design p place (Some action) after s =
+    let did = does place action after (moment_of design s) in
     length-closed (acted p did s) ∙ length-written did.deed.wrote s.values
 
 process-full : (design : Design) (p : ℕ) (left : List Spot) (s : State) → length (goes_from design p left s).state.values ≡ length s.values
 process-full design p [] s = refl
-process-full design p (Doing place ∷ after) s = takes-full design p (slice_get design.actions place) after s
+process-full design p (Doing place ∷ after) s = takes-full design p place (slice_get design.actions place) after s
 
 turn-full : (design : Design) (c : Choice) (s : State) → length (turn_of design c s).state.values ≡ length s.values
 turn-full design (Run p) s = process-full design p (left_of (slice_get s.processes p)) s

@@ -38,7 +38,7 @@ offered q Statement last = active_choices q
 abbrev pub queue_choices : Queue → List Choice
 queue_choices q = or_advance (offered q q.grain q.last) q.future
 
--- once `$finish` was taken there is no choice at all
+-- once `$finish` or `$stop` was taken there is no choice at all
 abbrev pub choices : State → List Choice
 choices s = cond (is_some s.cause) [] (queue_choices s.queue)
 

@@ -7,7 +7,7 @@ use Rattle.vmodel.specs.State.{Process, State}
 use Rattle.vmodel.specs.Step.{left_of}
 use Rattle.vmodel.specs.Run.{Setting, state_after}
 use Rattle.vbits.specs.Vectors.{Vector}
-use Rattle.vast.specs.Design.{Variable}
+use Rattle.vdesign.specs.Design.{Variable}
 use Rattle.vmodel.specs.declared.history.Item.{Item}
 use Rattle.vmodel.specs.declared.history.Item.TheVariants.{SlotEnd, Dump}
 

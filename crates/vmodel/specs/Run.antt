@@ -3,7 +3,7 @@ use Rattle.std.specs.Prelude.{ℕ, zero, suc, ◌==◌, ◌&&◌, ◌||◌, is_s
 use Rattle.vbits.specs.declared.bit4.Bit4.TheVariants.{X}
 use Rattle.vbits.specs.Vectors.{Vector, filled, with_sign}
 use Rattle.sched_core.specs.Rules.{Rules, stands, choice_at}
-use Rattle.vast.specs.Design.{Variable, Design}
+use Rattle.vdesign.specs.Design.{Variable, Design}
 use Rattle.vmodel.specs.declared.history.Cause.{Cause}
 use Rattle.vmodel.specs.declared.history.Cause.TheVariants.{Quiet, Limit}
 use Rattle.vmodel.specs.declared.history.End.{End}
@@ -88,7 +88,7 @@ given_by setting log zero = slot_end_of (opening_of setting)
 given_by setting log (suc n) =
     given_by setting log n ++ items_of (next setting.design (state_after setting log n) (choice_at log n))
 
--- why a run ends where it has no choice: `$finish` (17.4.1), else something past the limit, else nothing is left
+-- why a run ends where it has no choice: `$finish` or `$stop` (17.4), else something past the limit, else nothing is left
 -- (docs/SCHEDULING.md)
 abbrev pub cause_of : Option Cause → Bool → Cause
 cause_of (Some cause) beyond = cause

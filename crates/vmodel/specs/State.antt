@@ -1,5 +1,5 @@
 -- A state of a run (IEEE 1364-2005, 11.1, 11.3; docs/SCHEDULING.md): values, what each process has left, the queue, and
--- why the run ended if `$finish` was taken. All of it is numbers, letters and lists of them; statements go by their
+-- why the run ended if `$finish` or `$stop` was taken. All of it is numbers, letters and lists of them; statements go by their
 -- places in the design's table of actions.
 use Rattle.std.specs.Prelude.{ℕ, List, Option}
 use Rattle.vbits.specs.Vectors.{Vector}
@@ -17,4 +17,4 @@ pub record State : Type 0 where
   pub values : List Vector  -- by number of variable
   pub processes : List Process  -- by number
   pub queue : Queue
-  pub cause : Option Cause  -- finish, once `$finish` was taken (17.4.1)
+  pub cause : Option Cause  -- once `$finish` or `$stop` was taken (17.4)

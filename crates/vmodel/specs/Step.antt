@@ -1,12 +1,12 @@
 -- `Step` (IEEE 1364-2005, 11.3, 11.4, 11.6; docs/SCHEDULING.md): the one step of a choice, then the region moves.
-use Rattle.std.specs.Prelude.{ℕ, zero, suc, List, [], ◌∷◌, ◌++◌, Option, Some, None, map, slice_get, slice_set}
+use Rattle.std.specs.Prelude.{ℕ, zero, suc, List, [], ◌∷◌, ◌++◌, Option, Some, None, map, slice_get, slice_set, ◌/◌, cond}
 use Rattle.vbits.specs.Vectors.{Vector}
 use Rattle.basis.specs.Timescales.{factor}
-use Rattle.vast.specs.Design.{Design}
-use Rattle.vast.specs.declared.design.Action.{Action}
-use Rattle.vast.specs.declared.design.Action.TheVariants.{Assign, Nonblocking, Delay, DumpVars, Finish}
+use Rattle.vdesign.specs.Design.{Design}
+use Rattle.vdesign.specs.declared.action.Action.{Action}
+use Rattle.vdesign.specs.declared.action.Action.TheVariants.{Assign, Nonblocking, Test, Again, Forever, Delay, DumpVars, Finish, Stop}
 use Rattle.vmodel.specs.declared.history.Cause.{Cause}
-use Rattle.vmodel.specs.declared.history.Cause.TheVariants.{Finish as Finished}
+use Rattle.vmodel.specs.declared.history.Cause.TheVariants.{Finish as Finished, Stop as Stopped}
 use Rattle.vmodel.specs.declared.history.DumpCommand.{DumpCommand}
 use Rattle.vmodel.specs.declared.history.DumpCommand.TheVariants.{Vars}
 use Rattle.vmodel.specs.declared.history.Item.{Item}
@@ -17,7 +17,8 @@ use Rattle.vmodel.specs.declared.deed.Fate.{Fate}
 use Rattle.vmodel.specs.declared.deed.Fate.TheVariants.{GoesOn, Sleeps}
 use Rattle.vmodel.specs.declared.deed.Deed.{Deed}
 use Rattle.vmodel.specs.declared.part.Part.{Part}
-use Rattle.vmodel.specs.Value.{Moment, assigned, delay_of}
+use Rattle.vvalue.specs.Value.{Moment, holds, delay_of}
+use Rattle.vmodel.specs.Value.{assigned}
 use Rattle.vmodel.specs.Parts.{written}
 use Rattle.vmodel.specs.Queue.{Slot, Queue, with_process, without_process, wake_after}
 use Rattle.vmodel.specs.State.{Process, State}
@@ -41,18 +42,28 @@ quiet = record { held = None; fate = GoesOn; wrote = []; posted = None; command 
 abbrev pub spots : List ℕ → List Spot → List Spot
 spots places after = map Doing places ++ after
 
--- what an action does at a moment, of a process that has `after` left behind it
-abbrev pub does : Action → List Spot → Moment → Did
+-- what an action at a place does at a moment, of a process that has `after` left behind it
+abbrev pub does : ℕ → Action → List Spot → Moment → Did
 -- 9.2.1: `target = value` writes
-does (Assign target value) after now = record { left = after; deed = record quiet { wrote = assigned target value now } }
+does place (Assign target value) after now = record { left = after; deed = record quiet { wrote = assigned now target value } }
 -- 9.2.2, 11.6.4: `target <= value` takes value and target, and posts the update
-does (Nonblocking target value) after now = record { left = after; deed = record quiet { posted = Some (assigned target value now) } }
+does place (Nonblocking target value) after now = record { left = after; deed = record quiet { posted = Some (assigned now target value) } }
+-- 9.4: `if (condition) .. else ..`
+does place (Test condition when_true otherwise) after now =
+    record { left = spots (cond (holds now condition) when_true otherwise) after; deed = quiet }
+-- 9.6: `while (condition) ..` tests once more behind its body
+does place (Again condition body) after now =
+    record { left = cond (holds now condition) (spots body (Doing place ∷ after)) after; deed = quiet }
+-- 9.6: `forever ..` comes again behind its body
+does place (Forever body) after now = record { left = spots body (Doing place ∷ after); deed = quiet }
 -- 9.7.1: `#amount` suspends, and the body comes after it
-does (Delay amount body) after now = record { left = spots body after; deed = record quiet { fate = Sleeps (delay_of amount now) } }
+does place (Delay amount body) after now = record { left = spots body after; deed = record quiet { fate = Sleeps (delay_of now amount) } }
 -- 18.1.2: `$dumpvars`
-does DumpVars after now = record { left = after; deed = record quiet { command = Some Vars } }
+does place DumpVars after now = record { left = after; deed = record quiet { command = Some Vars } }
 -- 17.4.1: `$finish`
-does Finish after now = record { left = after; deed = record quiet { cause = Some Finished } }
+does place Finish after now = record { left = after; deed = record quiet { cause = Some Finished } }
+-- 17.4.2: `$stop`
+does place Stop after now = record { left = after; deed = record quiet { cause = Some Stopped } }
 
 -- ---- what becomes of the process in the queue
 
@@ -102,7 +113,7 @@ regions [] [] [] [] q = q
 abbrev pub settled : Queue → Queue
 settled q = regions q.active q.activated q.inactive q.posted q
 
--- after `$finish` there are none
+-- after `$finish` and `$stop` there are none
 abbrev pub closed_by : Option Cause → State → State
 closed_by (Some cause) s = s
 closed_by None s = record s { queue = settled s.queue }
@@ -137,19 +148,26 @@ turned p did s = record { state = closed (acted p did s); deed = did.deed }
 abbrev pub unmoved : State → Turn
 unmoved s = record { state = s; deed = quiet }
 
+-- 17.7.1: a time in units in which delays are written
+abbrev pub written_time : ℕ → ℕ → ℕ
+written_time time zero = zero
+written_time time (suc n) = time / suc n
+
 -- what is known in a state
 abbrev pub moment_of : Design → State → Moment
-moment_of design s = record { values = s.values; factor = factor design.scale }
+moment_of design s =
+    let units = factor design.scale in
+    record { values = s.values; time = written_time s.queue.time units; factor = units }
 
 -- the process takes the action, if there is one
-abbrev pub takes : Design → ℕ → Option Action → List Spot → State → Turn
-takes design p None after s = unmoved s
-takes design p (Some action) after s = turned p (does action after (moment_of design s)) s
+abbrev pub takes : Design → ℕ → ℕ → Option Action → List Spot → State → Turn
+takes design p place None after s = unmoved s
+takes design p place (Some action) after s = turned p (does place action after (moment_of design s)) s
 
 -- it takes the action at the first of what it has left. One with nothing left is never active (specs/Kept.antt)
 abbrev pub goes_from : Design → ℕ → List Spot → State → Turn
 goes_from design p [] s = unmoved s
-goes_from design p (Doing place ∷ after) s = takes design p (slice_get design.actions place) after s
+goes_from design p (Doing place ∷ after) s = takes design p place (slice_get design.actions place) after s
 
 abbrev pub left_of : Option Process → List Spot
 left_of None = []
@@ -206,7 +224,7 @@ idle_items [] [] time values = SlotEnd time values ∷ []
 idle_items [] (u ∷ us) time values = []
 idle_items (p ∷ ps) us time values = []
 
--- a slot that `$finish` cuts short has no end
+-- a slot that `$finish` or `$stop` cuts short has no end
 abbrev pub slot_end_by : Option Cause → State → List Item
 slot_end_by (Some cause) s = []
 slot_end_by None s = idle_items s.queue.active s.queue.activated s.queue.time s.values

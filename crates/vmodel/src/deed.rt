@@ -1,16 +1,20 @@
 // What a step of a process does (IEEE 1364-2005, clause 9): its fate, what it writes, posts, shows, and whether it ends the run.
 
-ghost use Rattle.std.specs.Prelude.{◌≡◌, List};
+ghost use Rattle.std.specs.Prelude.{◌≡◌, ◌∷◌, ℕ, List, cond, true, false};
+ghost use Rattle.vvalue.specs.Value.{holds as holds_at};
 ghost use Rattle.vmodel.specs.declared.process.Spot.{Spot};
 ghost use Rattle.vmodel.specs.Step as spec;
 ghost use Rattle.vmodel.specs.Step.{does};
-ghost use Rattle.vmodel.specs.InnerStep.{did_so};
+ghost use Rattle.vmodel.specs.InnerStep.{did_so, ending_by, loops};
 
 use crate::history::{Cause, DumpCommand};
 use crate::part::Parts;
-use crate::value::{Moment, assigned, delay_of};
-use vast::design::Action;
+use crate::value::assigned;
 use vbits::Vec4;
+use vdesign::action::{Action, Places};
+use vdesign::expression::Expression;
+use vvalue::asked::{delay_of, holds};
+use vvalue::moment::Moment;
 
 /// What becomes of a process by its step.
 #[derive(Clone, Copy, Debug, PartialEq, Eq)]
@@ -53,36 +57,106 @@ impl Deed {
     }
 }
 
-/// What an action does: the places that come next, and all else.
+/// What an action does: the places that come next, whether it comes again behind them, and all else.
 #[derive(Clone, Copy)]
 pub struct Doing<'d> {
     pub next: &'d [usize],
+    pub again: bool,
     pub deed: Deed,
+}
+
+// What comes next where an action only goes on.
+fn goes_to<'d>(next: &'d [usize]) -> Doing<'d>
+    ensures next { result.next.now ≡ next.now }
+    ensures again { result.again ≡ false }
+    ensures deed { result.deed ≡ spec.quiet }
+{
+    Doing {
+        next,
+        again: false,
+        deed: Deed::quiet(),
+    }
+}
+
+// What comes next where an action comes again behind these places.
+fn comes_again<'d>(next: &'d [usize]) -> Doing<'d>
+    ensures next { result.next.now ≡ next.now }
+    ensures again { result.again ≡ true }
+    ensures deed { result.deed ≡ spec.quiet }
+{
+    Doing {
+        next,
+        again: true,
+        deed: Deed::quiet(),
+    }
+}
+
+// What a `while` does (9.6).
+fn again_of<'d>(condition: &Expression, body: &'d Places, moment: &Moment<'_>) -> Doing<'d>
+    ensures { (place : ℕ) (after : List Spot) →
+        loops place (holds_at moment.now condition.now) body.now after
+        ≡ did_so place result.again result.next.now after result.deed }
+{
+    if holds(condition, moment) {
+        comes_again(body.as_slice())
+    } else {
+        goes_to(&[])
+    }
+}
+
+// The branch of an `if` that comes next (9.4).
+fn branch_of<'d>(
+    condition: &Expression,
+    when_true: &'d Places,
+    otherwise: &'d Places,
+    moment: &Moment<'_>,
+) -> &'d [usize]
+    ensures { result.now ≡ cond (holds_at moment.now condition.now) when_true.now otherwise.now }
+{
+    if holds(condition, moment) {
+        when_true.as_slice()
+    } else {
+        otherwise.as_slice()
+    }
+}
+
+// A step that ends the run (17.4).
+fn ending(cause: Cause) -> Deed
+    ensures { result ≡ ending_by cause }
+{
+    Deed {
+        cause: Some(cause),
+        ..Deed::quiet()
+    }
 }
 
 /// What the action does at this moment.
 pub fn deed_of<'d>(action: &'d Action, moment: &Moment<'_>) -> Doing<'d>
-    ensures { (after : List Spot) →
-        does action.now after moment.now ≡ did_so result.next.now after result.deed }
+    ensures { (place : ℕ) (after : List Spot) →
+        does place action.now after moment.now
+        ≡ did_so place result.again result.next.now after result.deed }
 {
     let quiet = Deed::quiet();
     match action {
         Action::Assign { target, value } => Doing {
             next: &[],
+            again: false,
             deed: Deed {
-                wrote: assigned(*target, value, moment),
+                wrote: assigned(target, value, moment),
                 ..quiet
             },
         },
         Action::Nonblocking { target, value } => Doing {
             next: &[],
+            again: false,
             deed: Deed {
-                posted: Some(assigned(*target, value, moment)),
+                posted: Some(assigned(target, value, moment)),
                 ..quiet
             },
         },
         Action::Delay { amount, body } => Doing {
             next: body.as_slice(),
+            again: false,
             deed: Deed {
                 fate: Fate::Sleeps(delay_of(amount, moment)),
                 ..quiet
@@ -90,17 +164,28 @@ pub fn deed_of<'d>(action: &'d Action, moment: &Moment<'_>) -> Doing<'d>
         },
         Action::DumpVars => Doing {
             next: &[],
+            again: false,
             deed: Deed {
                 command: Some(DumpCommand::Vars),
                 ..quiet
             },
         },
+        Action::Test {
+            condition,
+            when_true,
+            otherwise,
+        } => goes_to(branch_of(condition, when_true, otherwise, moment)),
         Action::Finish => Doing {
             next: &[],
-            deed: Deed {
-                cause: Some(Cause::Finish),
-                ..quiet
-            },
+            again: false,
+            deed: ending(Cause::Finish),
         },
+        Action::Stop => Doing {
+            next: &[],
+            again: false,
+            deed: ending(Cause::Stop),
+        },
+        Action::Again { condition, body } => again_of(condition, body, moment),
+        Action::Forever { body } => comes_again(body.as_slice()),
     }
 }

@@ -5,6 +5,7 @@ ghost use Rattle.std.specs.Cmp.Lexicographic.{pointwise};
 ghost use Rattle.vmodel.specs.Same.{spot_same};
 ghost use Rattle.vmodel.specs.Step.{spots};
 ghost use Rattle.vmodel.specs.InnerLeft.{IsWhole, stack, left_spots};
+ghost use Rattle.vmodel.specs.InnerStep.{behind};
 
 use crate::process::{Spot, put_spots};
 use basis::NoMemory;
@@ -131,7 +132,7 @@ impl Left {
     }
 
     // The first is done, and these places come before the rest. There is room for them.
-    pub(crate) fn go(&mut self, places: &[usize])
+    fn go(&mut self, places: &[usize])
         requires whole { IsWhole self.old }
         requires some { 0 < length (left_spots self.old) }
         requires room { vec_len self.old.own + length places.now ≤ vec_capacity self.old.own }
@@ -142,5 +143,30 @@ impl Left {
             self.kept -= 1;
         }
         put_spots(&mut self.own, places);
+    }
+
+    // The first comes again, and these places come before it. There is room for them.
+    fn stay(&mut self, places: &[usize])
+        requires whole { IsWhole self.old }
+        requires room { vec_len self.old.own + length places.now ≤ vec_capacity self.old.own }
+        ensures whole { IsWhole self.new }
+        ensures value { left_spots self.new ≡ spots places.now (left_spots self.old) }
+    {
+        put_spots(&mut self.own, places);
+    }
+
+    // The first is done, or comes again, and these places come before the rest. There is room for them.
+    pub(crate) fn turn(&mut self, again: bool, places: &[usize])
+        requires whole { IsWhole self.old }
+        requires some { 0 < length (left_spots self.old) }
+        requires room { vec_len self.old.own + length places.now ≤ vec_capacity self.old.own }
+        ensures whole { IsWhole self.new }
+        ensures value { left_spots self.new ≡ spots places.now (behind again (left_spots self.old)) }
+    {
+        if again {
+            self.stay(places);
+        } else {
+            self.go(places);
+        }
     }
 }

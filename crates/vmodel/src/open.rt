@@ -12,7 +12,8 @@ use crate::values::Values;
 use basis::NoMemory;
 use std::alloc::Global;
 use std::collections::VecDeque;
-use vast::design::{Design, Places};
+use vdesign::action::Places;
+use vdesign::design::Design;
 
 fn opening_processes(alloc: Global, begins: &[Places]) -> Result<Vec<Process>, NoMemory>
     ensures { IfOk result (λ processes. processes.items ≡ map opening_process begins.now) }

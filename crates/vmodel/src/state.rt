@@ -16,7 +16,7 @@ use std::alloc::Global;
 use std::marker::Model;
 use vbits::Vec4;
 
-/// A state: the values of the variables, what each process stands at, the queue, and why the run ended if `$finish`
+/// A state: the values of the variables, what each process stands at, the queue, and why the run ended if `$finish` or `$stop`
 /// was taken. Statements go by their places in the design's table. A clause sees it as the record `State` of
 /// specs/State.antt.
 #[derive(Drop)]
@@ -114,7 +114,7 @@ impl SlowState {
         self.values.as_slice()
     }
 
-    /// Why the run ended, where `$finish` was taken (17.4.1).
+    /// Why the run ended, where `$finish` or `$stop` was taken (17.4).
     pub fn cause(&self) -> Option<Cause>
         ensures { result ≡ self.now.cause }
     {

@@ -3,48 +3,74 @@
 ghost use Rattle.std.specs.Prelude.{◌≡◌, ◌<◌, ◌++◌, [], IfOk, OnOk, OnErr, IfSome, IfNone, length, slice_get, slice_set, drop};
 ghost use Rattle.std.specs.Option.{option_to_list};
 ghost use Rattle.vmodel.specs.Step.{spots, going, process_by, fares, posts, closed, left_of, moment_of, process_turn, turn_of, next, slot_end_of, items_of};
-ghost use Rattle.vast.specs.Design.{Design};
+ghost use Rattle.vdesign.specs.Design.{Design};
 ghost use Rattle.vmodel.specs.Step as spec;
 ghost use Rattle.vmodel.specs.Choices.{choices as choices_of};
 ghost use Rattle.vmodel.specs.Inner.{IsFirstAction, first_place};
-ghost use Rattle.vmodel.specs.InnerStep.{left_in, moved, moved_by, turn_to, with_moved};
+ghost use Rattle.vmodel.specs.InnerLeft.{IsWhole, left_spots};
+ghost use Rattle.vmodel.specs.InnerStep.{behind, left_in, moved, moved_by, turn_to, with_moved};
 
 use crate::choice::Choice;
 use crate::deed::{Deed, Doing, deed_of};
 use crate::history::Item;
+use crate::left::Left;
 use crate::process::{Process, Spot};
 use crate::queue::Queue;
 use crate::state::SlowState;
-use crate::value::Moment;
 use basis::NoMemory;
 use std::alloc::Global;
-use vast::design::{Action, Design};
+use vdesign::action::Action;
+use vdesign::design::Design;
+use vvalue::moment::Moment;
+
+// The process, where something comes next or stands behind the first that was left.
+#[tactic(auto, using(crate::proofs::LeftLemmas::goes_behind, crate::proofs::LeftLemmas::goes_before, crate::proofs::LeftLemmas::goes_nowhere))]
+fn goes_on_after(number: u32, left: &Left, next: &[usize]) -> Option<u32>
+    requires whole { IsWhole left.now }
+    requires some { 0 < length (left_spots left.now) }
+    ensures { result ≡ going number (spots next.now (drop 1 (left_spots left.now))) }
+{
+    if left.len() > 1 {
+        return Some(number);
+    }
+    if next.len() == 0 { None } else { Some(number) }
+}
+
+// The process, where it has something left behind a step.
+#[tactic(auto, using(crate::proofs::LeftLemmas::goes_again))]
+fn goes_after(number: u32, left: &Left, again: bool, next: &[usize]) -> Option<u32>
+    requires whole { IsWhole left.now }
+    requires some { 0 < length (left_spots left.now) }
+    ensures { result ≡ going number (spots next.now (behind again (left_spots left.now))) }
+{
+    if again {
+        return Some(number);
+    }
+    goes_on_after(number, left, next)
+}
 
 // The process has done what it did, and the queue has what becomes of it. After want of memory both are as they were.
 fn move_process(
     process: &mut Process,
     queue: &mut Queue,
     number: u32,
+    again: bool,
     next: &[usize],
     deed: &Deed,
 ) -> Result<(), NoMemory>
     requires few { number < 256 }
     requires some { 0 < length process.old.left }
-    ensures ok { OnOk result (process.new ≡ moved process.old.left next.now deed.now) }
+    ensures ok { OnOk result (process.new ≡ moved process.old.left again next.now deed.now) }
     ensures queue { OnOk result
-        (queue.new ≡ moved_by number process.old.left next.now deed.now queue.old) }
+        (queue.new ≡ moved_by number process.old.left again next.now deed.now queue.old) }
     ensures err { OnErr result (process.new ≡ process.old) }
     ensures err_queue { OnErr result (queue.new ≡ queue.old) }
 {
     let left = &mut process.left;
     left.own.reserve(next.len())?;
-    let goes = if left.len() > 1 || !next.is_empty() {
-        Some(number)
-    } else {
-        None
-    };
+    let goes = goes_after(number, left, again, next);
     queue.move_by(number, deed.fate, deed.posted, goes)?;
-    left.go(next);
+    left.turn(again, next);
     process.held = deed.held;
     process.waits = None;
     Ok(())
@@ -55,25 +81,36 @@ fn move_one(
     processes: &mut Vec<Process>,
     queue: &mut Queue,
     number: u32,
+    again: bool,
     next: &[usize],
     deed: &Deed,
 ) -> Result<(), NoMemory>
     requires few { number < 256 }
     requires some { 0 < length (left_in processes.old.items number) }
     ensures ok { OnOk result
-        (processes.new.items ≡ with_moved number processes.old.items next.now deed.now) }
+        (processes.new.items ≡ with_moved number processes.old.items again next.now deed.now) }
     ensures queue { OnOk result
-        (queue.new ≡ moved_by number (left_in processes.old.items number) next.now deed.now
+        (queue.new ≡ moved_by number (left_in processes.old.items number) again next.now deed.now
         queue.old) }
     ensures err { OnErr result (processes.new.items ≡ processes.old.items) }
     ensures err_queue { OnErr result (queue.new ≡ queue.old) }
 {
     let process = &mut processes[number as usize];
-    move_process(process, queue, number, next, deed)
+    move_process(process, queue, number, again, next, deed)
+}
+
+// A time in units in which delays are written (17.7.1).
+fn written_time(time: u64, factor: u64) -> u64
+    ensures { result ≡ spec.written_time time factor }
+{
+    if factor == 0 {
+        return 0;
+    }
+    time / factor
 }
 
 impl SlowState {
-    // The region moves; after `$finish` there are none.
+    // The region moves; after `$finish` and `$stop` there are none.
     fn close(&mut self)
         ensures { self.new ≡ closed self.old }
     {
@@ -105,9 +142,11 @@ impl SlowState {
     fn moment<'m>(&'m self, design: &Design) -> Moment<'m>
         ensures { result ≡ moment_of design.now self.now }
     {
+        let factor = design.scale.factor();
         Moment {
             values: self.values.as_slice(),
-            factor: design.scale.factor(),
+            time: written_time(self.queue.time, factor),
+            factor,
         }
     }
 
@@ -121,8 +160,15 @@ impl SlowState {
         let Some(action) = self.action_of(design, number) else {
             return Ok(Deed::quiet());
         };
-        let Doing { next, deed } = deed_of(action, &self.moment(design));
-        move_one(&mut self.processes, &mut self.queue, number, next, &deed)?;
+        let Doing { next, again, deed } = deed_of(action, &self.moment(design));
+        move_one(
+            &mut self.processes,
+            &mut self.queue,
+            number,
+            again,
+            next,
+            &deed,
+        )?;
         self.values.write_all(deed.wrote);
         self.cause = deed.cause;
         self.close();

@@ -9,8 +9,8 @@ use crate::part::{Part, Parts};
 use basis::NoMemory;
 use std::alloc::Global;
 use std::marker::Model;
-use vast::design::Variable;
 use vbits::Vec4;
+use vdesign::design::Variable;
 
 /// The values of all variables. A clause sees them as their list.
 #[derive(Drop)]

@@ -1,8 +1,7 @@
 -- So of statements, of modules and of a whole text: a word that is refused for want of levels stands inside the profile.
 use Rattle.std.proofs.Common.{◌≡◌, ℕ, zero, suc, Bool, true, false, ◌||◌, not, if◌then◌else◌, List, [], ◌∷◌, Option, None, Some, codes, refl, subst}
 use Rattle.std.specs.Str.{bytes_eq}
-use Rattle.vast.specs.Syntax.{Text}
-use Rattle.vast.specs.Words.{is_name, is_number, is_string, reserved_words}
+use Rattle.vast.specs.Words.{Text, is_name, is_number, is_string, reserved_words}
 use Rattle.vast.specs.Statements.{TargetTree, StatementTree, BranchTree, empty, forever}
 use Rattle.vast.specs.declared.statement.Printing.TheVariants as printing
 use Rattle.vexpr_parse.specs.declared.stop.Stop.TheVariants.{TooDeep}

@@ -1,6 +1,6 @@
 -- What the loops over items and over modules go on from.
 use Rattle.std.proofs.Common.{◌≡◌, ℕ, suc, ◌<◌, Bool, true, false, not, List, [], ◌∷◌, ◌++◌, Option, codes, map, refl, sym, ◌∙◌, arith}
-use Rattle.vast.specs.Syntax.{Text}
+use Rattle.vast.specs.Words.{Text}
 use Rattle.vast.specs.Modules.{ItemTree, ModuleTree}
 use Rattle.vast.specs.ModuleTrees.{item_tree, module_tree}
 use Rattle.vast.specs.declared.module.ModuleItem.{ModuleItem}

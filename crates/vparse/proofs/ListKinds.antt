@@ -1,7 +1,6 @@
 -- What stands in the lists of modules leaves fewer words where it is read.
 use Rattle.std.proofs.Common.{◌≡◌, ℕ, suc, ◌<◌, ◌≤◌, Option, None, Some, List, [], ◌∷◌, ◌++◌, length, arith}
-use Rattle.vast.specs.Syntax.{Text}
-use Rattle.vast.specs.Words.{is_name}
+use Rattle.vast.specs.Words.{Text, is_name}
 use Rattle.vast.specs.TokenTexts.{token_text}
 use Rattle.vast.specs.Expressions.{ExpressionTree}
 use Rattle.vast.specs.ExpressionTrees.{tree_of}

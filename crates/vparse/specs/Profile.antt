@@ -3,8 +3,7 @@
 use Rattle.std.specs.Prelude.{Bool, false, ◌&&◌, ◌||◌, ◌==◌, not, List, [], ◌∷◌, Option, None, Some, codes}
 use Rattle.std.specs.List.{list_any}
 use Rattle.std.specs.Str.{bytes_eq}
-use Rattle.vast.specs.Words.{is_reserved}
-use Rattle.vast.specs.Syntax.{Text}
+use Rattle.vast.specs.Words.{Text, is_reserved}
 
 -- the reserved words that the grammar names
 unfoldable pub keywords : List Text

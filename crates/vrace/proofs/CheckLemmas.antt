@@ -6,7 +6,7 @@ use Rattle.vreport.specs.Truth.{IsTrueReport}
 use Rattle.report_check.specs.FirstBad.{IsFirstBad}
 use Rattle.report_check.specs.declared.check.FirstBad.{FirstBad}
 use Rattle.report_check.specs.declared.check.FirstBad.TheVariants.{Head, End as BadEnd, Race as BadRace}
-use Rattle.vast.specs.Design.{Design}
+use Rattle.vdesign.specs.Design.{Design}
 use Rattle.vmodel.specs.declared.history.Grain.{Grain}
 use Rattle.vrace.specs.Replays.{AreRead, IsDesignOfFiles}
 use Rattle.vmodel.specs.Run.{Setting}

@@ -5,12 +5,11 @@ use Rattle.basis.specs.declared.timescale.Timescale.{Timescale}
 use Rattle.vsrc.specs.Expansion.{expansion, text_of, expanded_text, expanded_timescale}
 use Rattle.vsrc.specs.declared.fault.SrcFault.{SrcFault}
 use Rattle.vlex.specs.Laws.{CutsOneWay}
-use Rattle.vast.specs.Syntax.{Text}
+use Rattle.vast.specs.Words.{Text}
 use Rattle.vast.specs.Modules.{SourceTree, DerivesText}
-use Rattle.vast.specs.Design.{Design}
+use Rattle.vdesign.specs.Design.{Design}
 use Rattle.vgrammar.specs.SourcePlaces.{IsOnly}
 use Rattle.velab.specs.Elaborate.{Elaborates}
-use Rattle.velab.specs.Runnable.{runnable}
 use Rattle.velab.specs.Laws.{ElaboratesOneWay}
 use Rattle.sched_core.specs.LogText.{OneLogForText}
 use Rattle.sched_core.specs.Replay.{EndsAfter}
@@ -28,9 +27,6 @@ pub record Laws : Type 0 where
   pub one_tree : IsOnly
   pub one_design : ElaboratesOneWay
   pub one_log : OneLogForText
-
-some_is : {A : Type 0} (x y : A) → Some x ≡ Some y → x ≡ y
-some_is x y e = cc
 
 -- where files are read and have a design, only want of memory is told of them
 module _ (laws : Laws) (files : List (List ℕ)) (read : AreRead files) where
@@ -148,8 +144,7 @@ module _ (laws : Laws) where
       IsDesignOf text scale top d → IsDesignOf text scale top e → d ≡ e
   one_design_of text scale top d e a b =
       let tree = same_tree text a.tree b.tree a.is_tree b.is_tree in
-      let run : a.running ≡ b.running = some_is a.running b.running (sym a.runs ∙ ap runnable tree ∙ b.runs) in
-      laws.one_design b.running top scale d e (subst (λ t. Elaborates t top scale d) run a.elaborated) b.elaborated
+      laws.one_design b.tree top scale d e (subst (λ t. Elaborates t top scale d) tree a.elaborated) b.elaborated
 
   module _ (files : List (List ℕ)) (asked : Asked) (log : List ℕ) where
     module _ (p q : Played files asked log) where

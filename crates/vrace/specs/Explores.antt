@@ -7,7 +7,7 @@ use Rattle.statebook.specs.declared.limits.Limits.{Limits}
 use Rattle.statebook.specs.declared.reason.Reason.TheVariants.{Entries}
 use Rattle.explore.specs.declared.findings.Status.TheVariants as explored
 use Rattle.explore.specs.Found.{HasEntries}
-use Rattle.vast.specs.Design.{Design}
+use Rattle.vdesign.specs.Design.{Design}
 use Rattle.vmodel.specs.Run.{Setting, rules_of}
 use Rattle.vcd_text.specs.Metered.{Grows, Stops}
 use Rattle.vcd_text.specs.declared.metered.Metered.{Metered}

@@ -1,5 +1,5 @@
 -- When a replay is refused, and what then stands written.
-use Rattle.std.specs.Prelude.{◌≡◌, ℕ, ◌<◌, ◌≤◌, ◌⊎◌, List, Option, Some, None, Err, take}
+use Rattle.std.specs.Prelude.{◌≡◌, ℕ, ◌<◌, ◌≤◌, ◌⊎◌, true, false, List, Option, Some, Err, take}
 use Rattle.std.specs.Io.KnownBytes.{Appends}
 use Rattle.basis.specs.declared.timescale.Timescale.{Timescale}
 use Rattle.vsrc.specs.Source.{Source}
@@ -10,13 +10,12 @@ use Rattle.vsrc.specs.declared.expanded.Place.{Place}
 use Rattle.vlex.specs.Lexed.{HasNoTokens, IsTokenReason}
 use Rattle.vlex.specs.Tokenized.{Tokenized}
 use Rattle.vlex.specs.declared.fault.LexFault.TheVariants as pieces
-use Rattle.vast.specs.Syntax as small
 use Rattle.vast.specs.Modules.{SourceTree}
-use Rattle.vast.specs.Design.{Design}
+use Rattle.vdesign.specs.Design.{Design}
 use Rattle.vparse.specs.Refusals.{IsRefusal}
 use Rattle.vparse.specs.declared.fault.SyntaxFault.{SyntaxFault}
 use Rattle.vparse.specs.declared.fault.SyntaxFault.TheVariants as words
-use Rattle.velab.specs.Runnable.{runnable}
+use Rattle.velab.specs.Runs.{runs}
 use Rattle.velab.specs.Reasons.{IsDesignReason}
 use Rattle.velab.specs.declared.fault.ElabFault.{ElabFault}
 use Rattle.velab.specs.declared.fault.ElabFault.TheVariants as elab
@@ -46,15 +45,14 @@ HasRefusal source fault = (tokens : Tokenized) × AreTokens source tokens × IsR
 
 -- the text has a tree, and there is more in it than runs
 abbrev pub IsNotRun : List ℕ → Type 0
-IsNotRun text = (tree : SourceTree) × IsTreeOf text tree × (runnable tree ≡ None)
+IsNotRun text = (tree : SourceTree) × IsTreeOf text tree × (runs tree ≡ false)
 
 -- the text has a tree that runs, and a rule of its design is broken there
 pub record IsBroken (text : List ℕ) (top : Option (List ℕ)) (fault : ElabFault) : Type 0 where
   pub tree : SourceTree
   pub is_tree : IsTreeOf text tree
-  pub running : small.SourceTree
-  pub runs : runnable tree ≡ Some running
-  pub broken : IsDesignReason running top fault
+  pub all_runs : runs tree ≡ true
+  pub broken : IsDesignReason tree top fault
 
 abbrev pub Breaks : List ℕ → Option (List ℕ) → ElabFault → Type 0
 Breaks text top fault = IsDesignless text top × IsBroken text top fault

@@ -1,16 +1,15 @@
 -- What a replay writes, from the bytes of the files to the dump of the run.
-use Rattle.std.specs.Prelude.{◌≡◌, ℕ, ◌≤◌, List, All, Option, Some, Ok, length, map, sum_by}
+use Rattle.std.specs.Prelude.{◌≡◌, ℕ, ◌≤◌, true, List, All, Option, Ok, length, map, sum_by}
 use Rattle.basis.specs.declared.timescale.Timescale.{Timescale}
 use Rattle.vsrc.specs.Source.{Source}
 use Rattle.vsrc.specs.Expansion.{expansion, expanded_text, expanded_timescale}
 use Rattle.vlex.specs.Lexed.{Lexed, Piece}
 use Rattle.vlex.specs.Tokenized.{Tokenized, pieces_of, IsTokenAt, AreInOrder}
-use Rattle.vast.specs.Syntax.{Text}
-use Rattle.vast.specs.Syntax as small
+use Rattle.vast.specs.Words.{Text}
 use Rattle.vast.specs.Modules.{SourceTree, DerivesText}
-use Rattle.vast.specs.Design.{Design}
+use Rattle.vdesign.specs.Design.{Design}
 use Rattle.velab.specs.Elaborate.{Elaborates}
-use Rattle.velab.specs.Runnable.{runnable}
+use Rattle.velab.specs.Runs.{runs}
 use Rattle.sched_core.specs.Logs.{IsLog}
 use Rattle.sched_core.specs.LogText.{named_log_text}
 use Rattle.sched_core.specs.declared.log.LogHead.{LogHead}
@@ -56,9 +55,8 @@ pub record AreTokens (source : Source) (tokens : Tokenized) : Type 0 where
 pub record IsDesignOf (text : List ℕ) (scale : Timescale) (top : Option Text) (design : Design) : Type 0 where
   pub tree : SourceTree
   pub is_tree : IsTreeOf text tree
-  pub running : small.SourceTree
-  pub runs : runnable tree ≡ Some running
-  pub elaborated : Elaborates running top scale design
+  pub all_runs : runs tree ≡ true
+  pub elaborated : Elaborates tree top scale design
 
 -- and so do files, by the text and the timescale that they are expanded to
 abbrev pub IsDesignOfFiles : List (List ℕ) → Option Text → Design → Type 0

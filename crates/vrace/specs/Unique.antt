@@ -1,11 +1,10 @@
 -- The only tokens of a text, and its only tree.
-use Rattle.std.specs.Prelude.{◌≡◌, ℕ, List, Some}
+use Rattle.std.specs.Prelude.{◌≡◌, ℕ, true, List}
 use Rattle.vsrc.specs.Source.{Source}
 use Rattle.vlex.specs.Lexed.{IsOnlyLexed}
 use Rattle.vlex.specs.Tokenized.{Tokenized, pieces_of}
-use Rattle.vast.specs.Syntax as small
 use Rattle.vast.specs.Modules.{SourceTree}
-use Rattle.velab.specs.Runnable.{runnable}
+use Rattle.velab.specs.Runs.{runs}
 use Rattle.vrace.specs.Replays.{AreTokens, IsTreeOf}
 
 pub record IsCut (source : Source) (tokens : Tokenized) : Type 0 where
@@ -16,8 +15,7 @@ pub record IsReadAs (text : List ℕ) (tree : SourceTree) : Type 0 where
   pub is_tree : IsTreeOf text tree
   pub only : (other : SourceTree) → IsTreeOf text other → other ≡ tree
 
--- what runs of its only tree
-pub record IsRunAs (text : List ℕ) (running : small.SourceTree) : Type 0 where
-  pub tree : SourceTree
+-- its only tree, all of which runs
+pub record IsRunAs (text : List ℕ) (tree : SourceTree) : Type 0 where
   pub is_read : IsReadAs text tree
-  pub runs : runnable tree ≡ Some running
+  pub all_runs : runs tree ≡ true

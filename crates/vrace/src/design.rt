@@ -5,15 +5,13 @@ ghost use Rattle.vsrc.specs.Source.{Source, file_bytes};
 ghost use Rattle.vsrc.specs.Expansion.{expansion, expanded_text, expanded_timescale};
 ghost use Rattle.vlex.specs.Lexed.{HasNoTokens, IsTokenReason};
 ghost use Rattle.vlex.specs.Tokenized.{Tokenized};
-ghost use Rattle.vast.specs.Syntax as small;
-ghost use Rattle.vast.specs.Trees as trees;
 ghost use Rattle.vast.specs.Modules.{SourceTree};
 ghost use Rattle.vast.specs.ModuleTrees.{source_tree};
 ghost use Rattle.vexpr_parse.specs.Texts.{words_of};
 ghost use Rattle.vparse.specs.Refusals.{HasNoText, IsRefusal};
 ghost use Rattle.velab.specs.Elaborate.{Elaborates, named_text};
 ghost use Rattle.velab.specs.Reasons.{IsDesignReason, HasNoDesign};
-ghost use Rattle.velab.specs.Runnable.{runnable};
+ghost use Rattle.velab.specs.Runs.{runs};
 ghost use Rattle.vrace.specs.Replays.{limit, total, AreRead, IsDesignOf, IsDesignOfFiles};
 ghost use Rattle.vrace.specs.Unique.{IsCut, IsReadAs, IsRunAs};
 ghost use Rattle.vrace.specs.Refusals.{IsFileReason, IsTextReason, IsDesignFault};
@@ -23,10 +21,9 @@ use crate::read::LIMIT;
 use basis::{NoMemory, OrMemory, Timescale};
 use std::alloc::Global;
 use trace_text::Origins;
-use vast::design::Design;
 use vast::module::TextTree;
-use vast::syntax::Ast;
-use velab::{ElabFault, NotYet, elaborate, runnable as running};
+use vdesign::design::Design;
+use velab::{ElabFault, elaborate, not_run};
 use vlex::{LexFault, Tokens, tokens};
 use vparse::{SyntaxFault, parse};
 use vsrc::{Expanded, Place, SrcFault, expand};
@@ -120,17 +117,17 @@ fn of_tree(fault: SyntaxFault) -> Fault
 }
 
 // That there is more in the tree than runs.
-fn of_running(tokens: &Tokens<'_>, fault: NotYet) -> Fault
+fn of_running(tokens: &Tokens<'_>, at: u32) -> Fault
     ensures { (source : Source) (tree : SourceTree) (top : Option (List ℕ)) →
-        IsReadAs source.text tree → runnable tree ≡ None → IsTextReason source top result }
+        IsReadAs source.text tree → runs tree ≡ false → IsTextReason source top result }
 {
-    Fault::NotYet(At(place_of(tokens, fault.at)))
+    Fault::NotYet(At(place_of(tokens, at)))
 }
 
 // What stops the elaboration of the tree.
 fn of_design(tokens: &Tokens<'_>, fault: ElabFault) -> Fault
-    ensures { (source : Source) (run : small.SourceTree) (top : Option (List ℕ)) →
-        IsRunAs source.text run → IsDesignReason run top fault → HasNoDesign run top →
+    ensures { (source : Source) (tree : SourceTree) (top : Option (List ℕ)) →
+        IsRunAs source.text tree → IsDesignReason tree top fault → HasNoDesign tree top →
         IsTextReason source top result }
 {
     match fault {
@@ -182,44 +179,44 @@ fn tree_of(alloc: Global, tokens: &Tokens<'_>) -> Result<TextTree, Fault>
     }
 }
 
-// What runs of the tree: all of it, or none.
-fn running_of<'a>(alloc: Global, tokens: &Tokens<'a>, tree: &TextTree) -> Result<Ast<'a>, Fault>
-    ensures ok { IfOk result (λ ast.
-        runnable (source_tree (words_of tokens.now) tree.now) ≡ Some (trees.source_tree ast)) }
+// All of the tree has to be of what runs.
+fn check_running(tokens: &Tokens<'_>, tree: &TextTree) -> Result<(), Fault>
+    ensures ok { OnOk result (runs (source_tree (words_of tokens.now) tree.now) ≡ true) }
     ensures err { (source : Source) (top : Option (List ℕ)) →
         IsReadAs source.text (source_tree (words_of tokens.now) tree.now) →
         IfErr result (IsTextReason source top) }
 {
-    match running(alloc, tokens, tree) {
-        Ok(ast) => Ok(ast),
-        Err(OrMemory::Fault(fault)) => Err(of_running(tokens, fault)),
-        Err(OrMemory::Memory(refused)) => Err(Fault::Memory(refused)),
+    match not_run(tokens, tree) {
+        None => Ok(()),
+        Some(at) => Err(of_running(tokens, at)),
     }
 }
 
-// The design of what runs.
+// The design of a tree that runs.
 fn design_of_tree(
     alloc: Global,
     tokens: &Tokens<'_>,
-    ast: &Ast<'_>,
+    tree: &TextTree,
     top: Option<&[u8]>,
     scale: Timescale,
 ) -> Result<Design, Fault>
-    ensures ok { IfOk result (Elaborates (trees.source_tree ast.now) (named_text top.entry) scale) }
-    ensures err { (source : Source) → IsRunAs source.text (trees.source_tree ast.now) →
+    ensures ok { IfOk result
+        (Elaborates (source_tree (words_of tokens.now) tree.now) (named_text top.entry) scale) }
+    ensures err { (source : Source) →
+        IsRunAs source.text (source_tree (words_of tokens.now) tree.now) →
         IfErr result (IsTextReason source (named_text top.entry)) }
 {
-    match elaborate(alloc, ast, top, scale) {
+    match elaborate(alloc, tokens, tree, top, scale) {
         Ok(design) => Ok(design),
         Err(OrMemory::Fault(fault)) => Err(of_design(tokens, fault)),
         Err(OrMemory::Memory(refused)) => Err(Fault::Memory(refused)),
     }
 }
 
-// The tokens of the text, with what runs of its tree.
-fn read_of<'a>(alloc: Global, tokens: &Tokens<'a>) -> Result<Ast<'a>, Fault>
+// The tree of the tokens, all of which runs.
+fn read_of(alloc: Global, tokens: &Tokens<'_>) -> Result<TextTree, Fault>
     ensures ok { (source : Source) → IsCut source tokens.now →
-        IfOk result (λ ast. IsRunAs source.text (trees.source_tree ast)) }
+        IfOk result (λ tree. IsRunAs source.text (source_tree (words_of tokens.now) tree)) }
     ensures err { (source : Source) (top : Option (List ℕ)) → IsCut source tokens.now →
         IfErr result (IsTextReason source top) }
 {
@@ -227,7 +224,10 @@ fn read_of<'a>(alloc: Global, tokens: &Tokens<'a>) -> Result<Ast<'a>, Fault>
         Ok(tree) => tree,
         Err(fault) => return Err(fault),
     };
-    running_of(alloc, tokens, &tree)
+    match check_running(tokens, &tree) {
+        Ok(()) => Ok(tree),
+        Err(fault) => Err(fault),
+    }
 }
 
 // The design of the text.
@@ -240,11 +240,11 @@ fn design_of_text(alloc: Global, text: &Expanded, top: Option<&[u8]>) -> Result<
         Ok(tokens) => tokens,
         Err(fault) => return Err(fault),
     };
-    let ast = match read_of(alloc, &tokens) {
-        Ok(ast) => ast,
+    let tree = match read_of(alloc, &tokens) {
+        Ok(tree) => tree,
         Err(fault) => return Err(fault),
     };
-    let design = match design_of_tree(alloc, &tokens, &ast, top, text.timescale()) {
+    let design = match design_of_tree(alloc, &tokens, &tree, top, text.timescale()) {
         Ok(design) => design,
         Err(fault) => return Err(fault),
     };

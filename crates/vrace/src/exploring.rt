@@ -4,7 +4,7 @@ ghost use Rattle.std.specs.Prelude.{◌≡◌, ◌≤◌, IfOk, IfErr, Err};
 ghost use Rattle.statebook.specs.declared.reason.Reason.TheVariants.{Entries};
 ghost use Rattle.explore.specs.declared.findings.Status.TheVariants.{Cut};
 ghost use Rattle.vsrc.specs.Source.{file_bytes};
-ghost use Rattle.vast.specs.Names.{AreNamed};
+ghost use Rattle.vdesign.specs.Named.{AreNamed};
 ghost use Rattle.vreport.specs.Reports.{IsReadable, ReportsExploration, TellsBytes, TellsOutcome};
 ghost use Rattle.vrace.specs.Asked.{asked};
 ghost use Rattle.vrace.specs.Explores.{AreWorkers, EndsSearch, Explores, FilesHaveEntriesWhereCut, HasEntriesWhereCut, IsCutForEntries, IsExploreReason, IsSearched, IsSharedReason, IsStatusOf, LeavesReport, Reports, TellsSearchFault};

@@ -6,8 +6,9 @@ use Rattle.basis.proofs.Lists.{listed_place}
 use Rattle.statebook.specs.declared.limits.Limits.{Limits}
 use Rattle.explore.specs.declared.findings.Findings.{Findings}
 use Rattle.vbits.specs.Vectors.{Vector}
-use Rattle.vast.specs.Design.{Variable}
-use Rattle.vast.specs.Names.{AreNamed, has_letters_of_name, is_path}
+use Rattle.vdesign.specs.Design.{Variable}
+use Rattle.vast.specs.Names.{has_letters_of_name, is_path}
+use Rattle.vdesign.specs.Named.{AreNamed}
 use Rattle.vmodel.specs.Kept.{AreShaped, HasShape}
 use Rattle.vmodel.specs.Run.{Setting, state_after}
 use Rattle.vmachine.specs.declared.standing.Standing.{Standing}

@@ -5,7 +5,7 @@ use Rattle.std.proofs.lemmas.Option.{same_Some}
 use Rattle.vbits.specs.declared.bit4.Bit4.{Bit4}
 use Rattle.vbits.specs.declared.bit4.Bit4.TheVariants.{Zero, One, X, Z}
 use Rattle.vbits.specs.Vectors.{Vector}
-use Rattle.vast.specs.Design.{Variable}
+use Rattle.vdesign.specs.Design.{Variable}
 use Rattle.vmodel.specs.Kept.{AreShaped, HasShape}
 use Rattle.vcd_text.specs.DumpText.{digit}
 use Rattle.report_text.specs.WellFormed.{IsLineOf, IsValue, is_digit}

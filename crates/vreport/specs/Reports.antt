@@ -6,7 +6,7 @@ use Rattle.explore.specs.declared.findings.Findings.{Findings}
 use Rattle.explore.specs.declared.findings.Status.{Status}
 use Rattle.explore.specs.declared.findings.Status.TheVariants.{Exhausted, Cut}
 use Rattle.statebook.specs.declared.reason.Reason.TheVariants.{Memory, Entries, Steps}
-use Rattle.vast.specs.Names.{AreNamed}
+use Rattle.vdesign.specs.Named.{AreNamed}
 use Rattle.vbits.specs.Vectors.{Vector}
 use Rattle.vmodel.specs.Run.{Setting, rules_of}
 use Rattle.vmachine.specs.declared.standing.Standing.{Standing}

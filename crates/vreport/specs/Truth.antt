@@ -3,7 +3,7 @@
 use Rattle.std.specs.Prelude.{◌≡◌, ℕ, ◌≤◌, List, [], ◌∷◌, length, map}
 use Rattle.sched_core.specs.Rules.{IsRun, NamesBelow}
 use Rattle.vbits.specs.Vectors.{Vector}
-use Rattle.vast.specs.Design.{Variable}
+use Rattle.vdesign.specs.Design.{Variable}
 use Rattle.vmodel.specs.Run.{Setting, rules_of}
 use Rattle.vcd_text.specs.DumpText.{header}
 use Rattle.racebook.specs.Races.{IsShown}

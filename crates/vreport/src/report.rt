@@ -4,7 +4,7 @@ ghost use Rattle.std.specs.Prelude.{◌≡◌, ◌<◌, ◌≤◌, ◌^◌, map,
 ghost use Rattle.basis.specs.Reasons.{IfFault};
 ghost use Rattle.explore.specs.Found.{ListsFound};
 ghost use Rattle.report_text.specs.WellFormed.{Each, EachTwo, IsEndBefore};
-ghost use Rattle.vast.specs.Names.{AreNamed};
+ghost use Rattle.vdesign.specs.Named.{AreNamed};
 ghost use Rattle.vmachine.specs.Machines.{machine_rules};
 ghost use Rattle.vreport.specs.Ends.{GivesEveryEnd, HasBytes, HasSomeLongDump, IsTrueEnd};
 ghost use Rattle.vreport.specs.Formed.{IsFormed};
@@ -20,8 +20,8 @@ use racebook::{Sighting, races};
 use report_text::{Column, Outcome, Race, Report, Seen, Version};
 use statebook::Limits;
 use std::alloc::Global;
-use vast::design::Variable;
 use vcd_text::TooMany;
+use vdesign::design::Variable;
 use vmachine::{Machine, Standing};
 use vmodel::run_law;
 

@@ -2,8 +2,7 @@
 use Rattle.std.specs.Str.{bytes_eq}
 use Rattle.std.proofs.Common.{◌≡◌, ℕ, zero, suc, ◌<◌, arith, length, Bool, true, false, ◌||◌, Option, Some, None, not, if◌then◌else◌, codes, Result, subst, List, [], ◌∷◌, ◌++◌, map, Box, Vec, Global, refl, sym, ap, ◌∙◌}
 use Rattle.std.proofs.lemmas.List.{map-append}
-use Rattle.vast.specs.Syntax.{Text}
-use Rattle.vast.specs.Words.{reserved_words}
+use Rattle.vast.specs.Words.{Text, reserved_words}
 use Rattle.vast.specs.Expressions.{ExpressionTree, spell_parts}
 use Rattle.vast.specs.ExpressionTrees.{tree_of, boxed_tree}
 use Rattle.vast.specs.Statements.{StatementTree, BranchTree, labelled, default, is_default, first_branch, spell_branch, spell_statement, case_of}

@@ -1,7 +1,7 @@
 -- What the code that reads printing tasks goes on from.
 use Rattle.std.specs.Str.{bytes_eq}
 use Rattle.std.proofs.Common.{◌≡◌, ℕ, nat_le, Bool, true, false, if◌then◌else◌, Some, None, codes, Result, subst, List, [], ◌∷◌, refl, sym, ap, ◌∙◌}
-use Rattle.vast.specs.Syntax.{Text}
+use Rattle.vast.specs.Words.{Text}
 use Rattle.vast.specs.Statements.{StatementTree, ArgumentTree, task, print}
 use Rattle.vast.specs.StatementTrees.{statement_tree}
 use Rattle.vast.specs.declared.statement.Printing.{Printing}

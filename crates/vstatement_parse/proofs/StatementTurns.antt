@@ -1,10 +1,9 @@
 -- What the code that reads lists in statements goes on from.
 use Rattle.std.specs.Str.{bytes_eq}
 use Rattle.std.proofs.Common.{◌≡◌, ℕ, zero, suc, nat_le, ◌<◌, arith, length, Bool, true, false, if◌then◌else◌, codes, Result, subst, List, [], ◌∷◌, map, Vec, Global, refl, sym, ap, ◌∙◌}
-use Rattle.vast.specs.Syntax.{Text}
+use Rattle.vast.specs.Words.{Text, is_name}
 use Rattle.vast.specs.Statements.{block, first_statement, ArgumentTree, quoted, printed, spell_argument}
 use Rattle.vast.specs.StatementTrees.{statement_tree, statement_trees, event_tree}
-use Rattle.vast.specs.Words.{is_name}
 use Rattle.vast.specs.declared.statement.Event.{Event}
 use Rattle.basis.specs.declared.memory.OrMemory.{OrMemory}
 use Rattle.basis.specs.declared.memory.OrMemory.TheVariants.{Fault, Memory}

@@ -1,6 +1,6 @@
 -- What is read of a case: its labels, its branches. Nothing here has to be believed.
 use Rattle.std.specs.Prelude.{ℕ, Bool, not, List, [], ◌∷◌, Option, Vec, map, codes}
-use Rattle.vast.specs.Syntax.{Text}
+use Rattle.vast.specs.Words.{Text}
 use Rattle.vast.specs.Expressions.{ExpressionTree}
 use Rattle.vast.specs.ExpressionTrees.{tree_of}
 use Rattle.vast.specs.Statements.{StatementTree, BranchTree, labelled, case_of}

@@ -1,6 +1,6 @@
 -- What the program's functions answer that read by the definitions. Nothing here has to be believed.
 use Rattle.std.specs.Prelude.{◌≡◌, ℕ, Bool, not, List, [], ◌∷◌, Option, Some, Box, Vec, map, option_map, codes, Result, Ok, Err}
-use Rattle.vast.specs.Syntax.{Text}
+use Rattle.vast.specs.Words.{Text}
 use Rattle.vast.specs.Expressions.{ExpressionTree}
 use Rattle.std.specs.Borrow.{MutBor}
 use Rattle.vast.specs.ExpressionTrees.{boxed_tree}

@@ -1,6 +1,6 @@
 -- What is read of statements round others: of an if, and of a for. Nothing here has to be believed.
 use Rattle.std.specs.Prelude.{ℕ, List, Option, option_map, Box, codes}
-use Rattle.vast.specs.Syntax.{Text}
+use Rattle.vast.specs.Words.{Text}
 use Rattle.vast.specs.Expressions.{ExpressionTree}
 use Rattle.vast.specs.ExpressionTrees.{boxed_tree}
 use Rattle.vast.specs.Statements.{TargetTree, StatementTree}

@@ -7,7 +7,7 @@ ghost use Rattle.vast.specs.StatementTrees.{statement_tree};
 ghost use Rattle.vstatement_parse.specs.Gives.{Gives, ReadsStatements};
 ghost use Rattle.vstatement_parse.specs.Cases.{all_branches, case_at, case_whole};
 ghost use Rattle.vgrammar.specs.Statements as reading;
-ghost use Rattle.vast.specs.Syntax.{Text};
+ghost use Rattle.vast.specs.Words.{Text};
 
 use crate::branches::branches_within;
 use crate::values::value as read_value;

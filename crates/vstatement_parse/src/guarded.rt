@@ -7,7 +7,7 @@ ghost use Rattle.vstatement_parse.specs.Gives.{Gives, ReadsStatements, delayed_a
 ghost use Rattle.vstatement_parse.specs.Rounds.{body_tree};
 ghost use Rattle.vgrammar.specs.Parts.{both};
 ghost use Rattle.vgrammar.specs.Statements as reading;
-ghost use Rattle.vast.specs.Syntax.{Text};
+ghost use Rattle.vast.specs.Words.{Text};
 
 use crate::amounts::amount;
 use crate::conditions::boxed;

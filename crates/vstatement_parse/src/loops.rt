@@ -6,7 +6,7 @@ ghost use Rattle.vstatement_parse.specs.Gives.{Gives, ReadsStatements, setting_t
 ghost use Rattle.vstatement_parse.specs.Rounds.{for_at, going_at, going_tree, step_at, step_tree};
 ghost use Rattle.vgrammar.specs.Parts.{both};
 ghost use Rattle.vgrammar.specs.Statements as reading;
-ghost use Rattle.vast.specs.Syntax.{Text};
+ghost use Rattle.vast.specs.Words.{Text};
 
 use crate::conditions::boxed;
 use crate::settings::{Setting, read_setting};

@@ -1,5 +1,5 @@
 use Rattle.std.proofs.Common.{◌≡◌, ◌+◌, nat_le, if◌then◌else◌, List, drop}
-use Rattle.vast.specs.Syntax.{Text}
+use Rattle.vast.specs.Words.{Text}
 use Rattle.vast.specs.Statements.{defaults}
 use Rattle.vast.specs.StatementTrees.{branch_trees}
 use Rattle.vast.proofs.statement_fits.has_one_default.Given as goal

@@ -1,5 +1,5 @@
 use Rattle.std.proofs.Common.{◌++◌, ◌∷◌, ◌+◌, ◌-◌, length, drop, ap, ◌∙◌, List, ℕ}
-use Rattle.vast.specs.Design.{Scope, Variable}
+use Rattle.vdesign.specs.Design.{Scope, Variable}
 use Rattle.vcd_text.specs.DumpText.{closings, scope_line, scope_lines}
 use Rattle.vcd_text.proofs.HeaderLemmas.{left_from, scope_more}
 use Rattle.vcd_text.proofs.header.put_scopes.Goals as goal

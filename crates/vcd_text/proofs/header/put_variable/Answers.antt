@@ -1,6 +1,6 @@
 use Rattle.std.proofs.Common.{◌++◌, ◌==◌, ap, ◌∙◌, List, ℕ}
 use Rattle.std.specs.List.{after_last}
-use Rattle.vast.specs.Design.{Variable}
+use Rattle.vdesign.specs.Design.{Variable}
 use Rattle.vcd_text.specs.DumpText.{named_variable_line}
 use Rattle.vcd_text.proofs.HeaderLemmas.{variable_put}
 use Rattle.vcd_text.proofs.header.put_variable.Goals as goal

@@ -1,5 +1,5 @@
 use Rattle.std.proofs.Common.{◌++◌, ◌+◌, drop, ap, ◌∙◌, List, ℕ}
-use Rattle.vast.specs.Design.{Variable}
+use Rattle.vdesign.specs.Design.{Variable}
 use Rattle.vcd_text.specs.DumpText.{named_variable_line, variable_lines}
 use Rattle.vcd_text.proofs.HeaderLemmas.{name_more, variable_more, left_from}
 use Rattle.vcd_text.proofs.header.put_variables.Goals as goal

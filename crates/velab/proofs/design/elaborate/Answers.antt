@@ -1,7 +1,8 @@
 use Rattle.std.proofs.Common.{Option, map, List, ℕ, Bor, sym, ap, ◌∙◌}
 use Rattle.std.specs.Prelude.{option_map}
-use Rattle.vast.specs.Trees.{module_tree, source_tree}
-use Rattle.vast.specs.declared.syntax.Module.{Module}
+use Rattle.vast.specs.ModuleTrees.{module_tree, source_tree}
+use Rattle.vast.specs.declared.module.ModuleTree.{ModuleTree as Module}
+use Rattle.vexpr_parse.specs.Texts.{words_of}
 use Rattle.velab.specs.Elaborate.{top_of}
 use Rattle.velab.proofs.TopLemmas.{top_err}
 use Rattle.velab.proofs.design.elaborate.Goals as goal
@@ -9,5 +10,5 @@ use Rattle.velab.proofs.design.elaborate.Goals as goal
 pub returns-in-Some-clause-reason : goal.returns-in-Some-clause-reason
 returns-in-Some-clause-reason c =
     let top : Option (List ℕ) = option_map (λ (t : Bor (List ℕ)). t.now) c.args.top in
-    top_err c.design_of.result (source_tree c.args.ast.now) top (module_tree c.in-Some.unit.now)
-    (sym (c.in-Some.ensures ∙ ap (λ (ms : List Module). top_of (map module_tree ms) top) c.deref-2.ensures.value)) c.design_of.ensures.err
+    top_err c.design_of.result (source_tree (words_of c.args.tokens.now) c.args.text.now) top (module_tree (words_of c.args.tokens.now) c.in-Some.unit.now)
+    (sym (c.in-Some.ensures ∙ ap (λ (ms : List Module). top_of (map (module_tree (words_of c.args.tokens.now)) ms) top) c.deref-2.ensures.value)) c.design_of.ensures.err

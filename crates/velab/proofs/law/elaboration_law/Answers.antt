@@ -1,7 +1,8 @@
 use Rattle.std.proofs.Common.{◌≡◌, Option, Some, sym, ap, ◌∙◌}
 use Rattle.basis.specs.declared.timescale.Timescale.{Timescale}
-use Rattle.vast.specs.Design.{Design}
-use Rattle.vast.specs.Syntax.{SourceTree, Text, ModuleTree}
+use Rattle.vdesign.specs.Design.{Design}
+use Rattle.vast.specs.Words.{Text}
+use Rattle.vast.specs.Modules.{SourceTree, ModuleTree}
 use Rattle.velab.specs.Elaborate.{Elaborates, design_of}
 use Rattle.velab.proofs.NamedLemmas.{named_by}
 use Rattle.velab.proofs.law.elaboration_law.Goals as goal

@@ -1,4 +1,5 @@
 use Rattle.std.proofs.Common.{arith}
+use Rattle.vexpr_parse.specs.Texts.{words_of}
 use Rattle.velab.proofs.FaultLemmas.{handed_on}
 use Rattle.velab.proofs.VariableLemmas.{items_err}
 use Rattle.velab.proofs.variable.declare_items.Goals as goal
@@ -6,5 +7,5 @@ use Rattle.velab.proofs.variable.declare_items.Goals as goal
 pub returns-in_err-declare_item-clause-err : goal.returns-in_err-declare_item-clause-err
 returns-in_err-declare_item-clause-err c =
     handed_on _ c.from_residual.result c.in_err-declare_item.field-0.0 c.from_residual.ensures.1
-    (items_err c.args.items.now c.loop-item.item-index c.item-item.result c.loop-item.declarations.names _ _ c.in_err-declare_item.field-0.0 (omega arith) c.item-item.is
+    (items_err (words_of c.args.tokens.now) c.args.items.now c.loop-item.item-index c.item-item.result c.loop-item.declarations.names _ _ c.in_err-declare_item.field-0.0 (omega arith) c.item-item.is
     c.loop-item.invariant.names c.loop-item.invariant.ranges c.in_err-declare_item.ensures.err)

@@ -1,7 +1,7 @@
 use Rattle.std.proofs.Common.{option_map, subst, sym}
 use Rattle.vsrc.specs.Source.{file_bytes}
 use Rattle.vsrc.specs.Expansion.{expanded_timescale}
-use Rattle.vast.specs.Names.{AreNamed}
+use Rattle.vdesign.specs.Named.{AreNamed}
 use Rattle.vmodel.specs.Run.{Setting}
 use Rattle.vrace.specs.Replays.{texts_of}
 use Rattle.vrace.proofs.exploring.machine_of.Goals as goal

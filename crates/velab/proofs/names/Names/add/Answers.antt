@@ -2,14 +2,14 @@ use Rattle.velab.proofs.NameLemmas.{was_there, was_new, no_double-inserted}
 use Rattle.velab.proofs.names.Names.add.Goals as goal
 
 pub returns-then-not-added-clause-err : goal.returns-then-not-added-clause-err
-returns-then-not-added-clause-err c = was_there c.self.inside.set.keys c.args.self.now c.in_ok-added.added c.args.word.now.text.now c.in_ok-added.ensures.added c.if-not-added.true c.self.view_is
+returns-then-not-added-clause-err c = was_there c.self.inside.set.keys c.args.self.now c.in_ok-added.added c.args.text.now c.in_ok-added.ensures.added c.if-not-added.true c.self.view_is
 
 pub invariant_of-self-2 : goal.invariant_of-self-2
 invariant_of-self-2 c =
-    no_double-inserted c.self.inside.set.keys c.insert.new.self.keys c.args.word.now.text c.self.invariant
-    (was_new c.self.inside.set.keys c.in_ok-added.added c.args.word.now.text.now c.in_ok-added.ensures.added c.if-not-added.false) c.in_ok-added.ensures.keys
+    no_double-inserted c.self.inside.set.keys c.insert.new.self.keys c.args.text c.self.invariant
+    (was_new c.self.inside.set.keys c.in_ok-added.added c.args.text.now c.in_ok-added.ensures.added c.if-not-added.false) c.in_ok-added.ensures.keys
 
 pub returns-clause-unique : goal.returns-clause-unique
 returns-clause-unique c =
-    no_double-inserted c.self.inside.set.keys c.insert.new.self.keys c.args.word.now.text c.self.invariant
-    (was_new c.self.inside.set.keys c.in_ok-added.added c.args.word.now.text.now c.in_ok-added.ensures.added c.if-not-added.false) c.in_ok-added.ensures.keys
+    no_double-inserted c.self.inside.set.keys c.insert.new.self.keys c.args.text c.self.invariant
+    (was_new c.self.inside.set.keys c.in_ok-added.added c.args.text.now c.in_ok-added.ensures.added c.if-not-added.false) c.in_ok-added.ensures.keys

@@ -4,7 +4,7 @@ use Rattle.basis.specs.declared.memory.OrMemory.TheVariants.{Memory}
 use Rattle.sched_core.specs.declared.run.ReplayFault.{ReplayFault}
 use Rattle.vmodel.specs.declared.history.Item.{Item}
 use Rattle.vmodel.specs.Step.{Turn, slot_end_of, next, items_of}
-use Rattle.vast.specs.Design.{Design}
+use Rattle.vdesign.specs.Design.{Design}
 use Rattle.vmodel.specs.Run.{Setting, opening_of, given_by}
 use Rattle.vmodel.specs.Played.{Finishes}
 use Rattle.vmachine.specs.declared.run.Chosen.{Chosen}

@@ -1,0 +1,14 @@
+-- Expressions of a design (IEEE 1364-2005, clause 5): trees whose leaves are constants, variables by number, and `$time`.
+use Rattle.std.specs.Prelude.{ℕ, Bool}
+use Rattle.vast.specs.declared.expression.UnaryOperator.{UnaryOperator}
+use Rattle.vast.specs.declared.expression.BinaryOperator.{BinaryOperator}
+use Rattle.vdesign.specs.declared.expression.Constant.{Constant}
+
+pub data ExpressionTree : Type 0 where
+  constant : Constant → ExpressionTree
+  variable : ℕ → ExpressionTree
+  time : ExpressionTree  -- $time
+  conversion : Bool → ExpressionTree → ExpressionTree  -- $signed ( operand ), or $unsigned ( operand )
+  apply : UnaryOperator → ExpressionTree → ExpressionTree  -- - operand
+  combine : BinaryOperator → ExpressionTree → ExpressionTree → ExpressionTree  -- left + right
+  conditional : ExpressionTree → ExpressionTree → ExpressionTree → ExpressionTree  -- condition ? when_true : when_false

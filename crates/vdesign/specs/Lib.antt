@@ -1,0 +1,5 @@
+pub mod Expressions
+pub mod Nodes
+pub mod Orders
+pub mod Design
+pub mod Named

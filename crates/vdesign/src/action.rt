@@ -1,0 +1,84 @@
+// What processes do (IEEE 1364-2005, clause 9), an action a step; actions go by their places in a design's table.
+
+ghost use Rattle.std.specs.Prelude.{◌≡◌};
+
+use crate::expression::Expression;
+use std::marker::Model;
+
+/// Places of a design's table of actions, in the order in which they are come to.
+#[derive(Drop)]
+pub struct Places {
+    list: Vec<usize>,
+}
+
+impl Model for Places {
+    ghost use Rattle.std.specs.Prelude.{ℕ, List};
+
+    ghost Value = { List ℕ };
+
+    ghost view = { λ places. places.list.items };
+}
+
+impl Places {
+    /// These places.
+    pub fn new(list: Vec<usize>) -> Places
+        ensures { result ≡ list.items }
+    {
+        Places { list }
+    }
+
+    /// The places, as a list.
+    pub fn as_slice(&self) -> &[usize]
+        ensures { result.now ≡ self.now }
+    {
+        &self.list
+    }
+}
+
+/// What an assignment writes (clause 6, table 6-1).
+#[derive(Clone, Copy, Debug, PartialEq, Eq)]
+pub enum Target {
+    /// The whole variable of this number.
+    Whole(u32),
+}
+
+/// What a process does in a step (clause 9). What costs no step, `begin`, `end` and empty statements, is no action.
+#[derive(Drop)]
+pub enum Action {
+    /// `target = value;` (9.2.1)
+    Assign {
+        target: Target,
+        value: Expression,
+    },
+    /// `target <= value;` (9.2.2)
+    Nonblocking {
+        target: Target,
+        value: Expression,
+    },
+    /// `if (condition) .. else ..` (9.4)
+    Test {
+        condition: Expression,
+        when_true: Places,
+        otherwise: Places,
+    },
+    /// `while (condition) ..` (9.6), and what a `for` tests
+    Again {
+        condition: Expression,
+        body: Places,
+    },
+    /// `forever ..` (9.6), and what an `always` does (9.9.2)
+    Forever {
+        body: Places,
+    },
+    /// `#amount` and then the body (9.7.1)
+    Delay {
+        amount: Expression,
+        body: Places,
+    },
+    /// `$dumpvars;` (18.1.2)
+    DumpVars,
+    /// `$finish;` (17.4.1)
+    Finish,
+    /// `$stop;` (17.4.2)
+    Stop,
+}

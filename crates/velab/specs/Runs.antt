@@ -1,0 +1,106 @@
+-- What runs of a text today: all else is refused (E299; docs/LANGUAGE.md, "What runs").
+use Rattle.std.specs.Prelude.{Bool, true, false, ◌&&◌, not, is_some, Option, Some, None}
+use Rattle.std.specs.List.{list_all}
+use Rattle.vast.specs.Expressions.{ExpressionTree, number, name, time, bit, part, parentheses, concatenation, replication, conversion, apply, combine, conditional}
+use Rattle.vast.specs.Statements.{TargetTree, DelayTree, by_number, by_name, by_value, TaskTree, print, dump_file, dump_vars, dump, end_run, StatementTree, StatementTrees, empty, block, assign, nonblocking, trigger, if_true, if_else, case_of, while_true, repeat_times, forever, for_loop, wait_for, delay, event, task, no_statement, first_statement}
+use Rattle.vast.specs.Statements as written
+use Rattle.vast.specs.Modules.{RangeTree, DeclaredTree, DeclarationKind, variables, integers, ItemTree, parameters, declaration, events, assignments, initial, always, instances, ModuleTree, SourceTree}
+use Rattle.vast.specs.declared.module.NetKind.TheVariants as net
+use Rattle.velab.specs.Resolved.{runs_expression}
+
+-- a bound is a number
+abbrev pub runs_bound : ExpressionTree → Bool
+runs_bound (number digits) = true
+runs_bound (name letters) = false
+runs_bound time = false
+runs_bound (bit letters index) = false
+runs_bound (part letters left right) = false
+runs_bound (parentheses inner) = false
+runs_bound (concatenation list) = false
+runs_bound (replication count list) = false
+runs_bound (conversion signed operand) = false
+runs_bound (apply operator operand) = false
+runs_bound (combine operator left right) = false
+runs_bound (conditional condition when_true when_false) = false
+
+-- a whole variable is written
+abbrev pub runs_target : TargetTree → Bool
+runs_target (written.whole letters) = true
+runs_target (written.bit letters index) = false
+runs_target (written.part letters left right) = false
+runs_target (written.joined targets) = false
+
+abbrev pub runs_delay : DelayTree → Bool
+runs_delay (by_number digits) = true
+runs_delay (by_name letters) = true
+runs_delay (by_value amount) = runs_expression amount
+
+-- an assignment of either kind, without a delay of its own
+abbrev pub runs_assignment : TargetTree → Option DelayTree → ExpressionTree → Bool
+runs_assignment target amount value = runs_target target && (not (is_some amount) && runs_expression value)
+
+abbrev pub runs_task : TaskTree → Bool
+runs_task (print kind arguments) = false
+runs_task (dump_file letters) = false
+runs_task (dump_vars selection) = not (is_some selection)
+runs_task (dump kind) = false
+runs_task (end_run stops digits) = true
+
+abbrev mutual
+  pub runs_statement : StatementTree → Bool
+  runs_statement empty = true
+  runs_statement (block statements) = runs_statements statements
+  runs_statement (assign target amount value) = runs_assignment target amount value
+  runs_statement (nonblocking target amount value) = runs_assignment target amount value
+  runs_statement (trigger letters) = false
+  runs_statement (if_true condition body) = runs_expression condition && runs_statement body
+  runs_statement (if_else condition body other) = runs_expression condition && (runs_statement body && runs_statement other)
+  runs_statement (case_of kind value branches) = false
+  runs_statement (while_true condition body) = runs_expression condition && runs_statement body
+  runs_statement (repeat_times count body) = false
+  runs_statement (forever body) = runs_statement body
+  runs_statement (for_loop target value condition next_target next_value body) =
+      runs_assignment target None value
+      && (runs_expression condition && (runs_assignment next_target None next_value && runs_statement body))
+  runs_statement (wait_for condition body) = false
+  runs_statement (delay amount body) = runs_delay amount && runs_statement body
+  runs_statement (event control body) = false
+  runs_statement (task call) = runs_task call
+
+  pub runs_statements : StatementTrees → Bool
+  runs_statements no_statement = true
+  runs_statements (first_statement one more) = runs_statement one && runs_statements more
+
+abbrev pub runs_range : Option RangeTree → Bool
+runs_range None = true
+runs_range (Some range) = runs_bound range.left && runs_bound range.right
+
+-- variables, no nets
+abbrev pub runs_kind : DeclarationKind → Bool
+runs_kind (variables net.Wire type) = false
+runs_kind (variables net.Reg type) = runs_range type.range
+runs_kind integers = true
+
+-- without a value of its own, or with one that runs
+abbrev pub runs_value : Option ExpressionTree → Bool
+runs_value None = true
+runs_value (Some value) = runs_expression value
+
+abbrev pub runs_declared : DeclaredTree → Bool
+runs_declared declared = runs_value declared.value
+
+abbrev pub runs_item : ItemTree → Bool
+runs_item (parameters local type settings) = false
+runs_item (declaration kind list) = runs_kind kind && list_all runs_declared list
+runs_item (events names) = false
+runs_item (assignments settings) = false
+runs_item (initial statement) = runs_statement statement
+runs_item (always statement) = runs_statement statement
+runs_item (instances letters overrides list) = false
+
+-- without parameters and ports
+abbrev pub runs_module : ModuleTree → Bool
+runs_module m = (not (is_some m.parameters) && not (is_some m.ports)) && list_all runs_item m.items
+
+abbrev pub runs : SourceTree → Bool
+runs modules = list_all runs_module modules

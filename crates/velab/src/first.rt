@@ -1,0 +1,315 @@
+// Where what isn't run yet begins in a text (E299).
+
+ghost use Rattle.std.specs.Prelude.{◌≡◌, List, is_some, not};
+ghost use Rattle.vast.specs.Words.{Text};
+ghost use Rattle.vast.specs.ModuleTrees.{source_tree};
+ghost use Rattle.vexpr_parse.specs.Texts.{words_of};
+ghost use Rattle.velab.specs.Runs.{runs};
+ghost use Rattle.velab.specs.FirstNotRun as place;
+
+use crate::expression::runs_expression;
+use vast::expression::Expression;
+use vast::module::{Bounds, DeclarationKind, Declared, ModuleItem, ModuleTree, NetKind, TextTree};
+use vast::statement::{Delay, Statement, Target, Task};
+use vlex::Tokens;
+
+// The number of the first token that an expression keeps.
+fn first_token(expression: &Expression) -> u32
+    ensures { result ≡ place.first_token expression.now }
+{
+    match expression {
+        Expression::Number(word) => word.number,
+        Expression::Name(word) => word.number,
+        Expression::Time { at } => *at,
+        Expression::Bit { name, .. } => name.number,
+        Expression::Part { name, .. } => name.number,
+        Expression::Parentheses(inner) => first_token(inner),
+        Expression::Concatenation { at, .. } => *at,
+        Expression::Replication { at, .. } => *at,
+        Expression::Conversion { operand, .. } => first_token(operand),
+        Expression::Unary { operand, .. } => first_token(operand),
+        Expression::Binary { left, .. } => first_token(left),
+        Expression::Conditional { condition, .. } => first_token(condition),
+    }
+}
+
+// The number of the first token of a delay's amount.
+fn delay_token(delay: &Delay) -> u32
+    ensures { result ≡ place.delay_token delay.now }
+{
+    match delay {
+        Delay::Number(word) => word.number,
+        Delay::Name(word) => word.number,
+        Delay::Value(value) => first_token(value),
+    }
+}
+
+fn in_expression(tokens: &Tokens<'_>, value: &Expression) -> Option<u32>
+    ensures { result ≡ place.in_expression (words_of tokens.now) value.now }
+{
+    if runs_expression(tokens, value) {
+        None
+    } else {
+        Some(first_token(value))
+    }
+}
+
+fn in_bound(value: &Expression) -> Option<u32>
+    ensures { (words : List Text) → result ≡ place.in_bound words value.now }
+{
+    match value {
+        Expression::Number(_) => None,
+        _ => Some(first_token(value)),
+    }
+}
+
+fn in_target(target: &Target) -> Option<u32>
+    ensures { (words : List Text) → result ≡ place.in_target words target.now }
+{
+    match target {
+        Target::Whole(_) => None,
+        Target::Bit { name, .. } => Some(name.number),
+        Target::Part { name, .. } => Some(name.number),
+        Target::Joined { at, .. } => Some(*at),
+    }
+}
+
+fn in_delay(tokens: &Tokens<'_>, delay: &Delay) -> Option<u32>
+    ensures { result ≡ place.in_delay (words_of tokens.now) delay.now }
+{
+    match delay {
+        Delay::Number(_) => None,
+        Delay::Name(_) => None,
+        Delay::Value(value) => in_expression(tokens, value),
+    }
+}
+
+fn in_task(at: u32, task: &Task) -> Option<u32>
+    ensures { (words : List Text) → result ≡ place.in_task words at task.now }
+{
+    match task {
+        Task::Print { .. } => Some(at),
+        Task::DumpFile(_) => Some(at),
+        Task::DumpVars(None) => None,
+        Task::DumpVars(Some(_)) => Some(at),
+        Task::Dump(_) => Some(at),
+        Task::End { .. } => None,
+    }
+}
+
+// An assignment of either kind.
+fn in_assignment(
+    tokens: &Tokens<'_>,
+    target: &Target,
+    amount: &Option<Delay>,
+    value: &Expression,
+) -> Option<u32>
+    ensures { result ≡
+        place.in_assignment (words_of tokens.now) target.now amount.now value.now }
+{
+    if let Some(at) = in_target(target) {
+        return Some(at);
+    }
+    if let Some(amount) = amount {
+        return Some(delay_token(amount));
+    }
+    in_expression(tokens, value)
+}
+
+#[cycle(looking)]
+fn in_statement(tokens: &Tokens<'_>, whole: &Statement) -> Option<u32>
+    ensures { result ≡ place.in_statement (words_of tokens.now) whole.now }
+{
+    match whole {
+        Statement::Empty => None,
+        Statement::Block(list) => in_statements(tokens, list),
+        Statement::Assign {
+            target,
+            delay,
+            value,
+            ..
+        } => in_assignment(tokens, target, delay, value),
+        Statement::Nonblocking {
+            target,
+            delay,
+            value,
+            ..
+        } => in_assignment(tokens, target, delay, value),
+        Statement::Delayed { delay, body, .. } => match in_delay(tokens, delay) {
+            Some(at) => Some(at),
+            None => in_statement(tokens, body),
+        },
+        Statement::Task { at, task } => in_task(*at, task),
+        Statement::Trigger { at, .. } => Some(*at),
+        Statement::If {
+            condition,
+            body,
+            ..
+        } => match in_expression(tokens, condition) {
+            Some(at) => Some(at),
+            None => in_statement(tokens, body),
+        },
+        Statement::IfElse {
+            condition,
+            body,
+            other,
+            ..
+        } => match in_expression(tokens, condition) {
+            Some(at) => Some(at),
+            None => match in_statement(tokens, body) {
+                Some(at) => Some(at),
+                None => in_statement(tokens, other),
+            },
+        },
+        Statement::Case { at, .. } => Some(*at),
+        Statement::While {
+            condition,
+            body,
+            ..
+        } => match in_expression(tokens, condition) {
+            Some(at) => Some(at),
+            None => in_statement(tokens, body),
+        },
+        Statement::Repeat { at, .. } => Some(*at),
+        Statement::Forever { body, .. } => in_statement(tokens, body),
+        Statement::For {
+            target,
+            value,
+            condition,
+            next_target,
+            next_value,
+            body,
+            ..
+        } => {
+            if let Some(at) = in_assignment(tokens, target, &None, value) {
+                return Some(at);
+            }
+            if let Some(at) = in_expression(tokens, condition) {
+                return Some(at);
+            }
+            if let Some(at) = in_assignment(tokens, next_target, &None, next_value) {
+                return Some(at);
+            }
+            in_statement(tokens, body)
+        }
+        Statement::Wait { at, .. } => Some(*at),
+        Statement::OnEvent { at, .. } => Some(*at),
+    }
+}
+
+#[cycle(looking)]
+fn in_statements(tokens: &Tokens<'_>, list: &[Statement]) -> Option<u32>
+    ensures { result ≡ place.in_statements (words_of tokens.now) list.now }
+{
+    for one in list {
+        if let Some(at) = in_statement(tokens, one) {
+            return Some(at);
+        }
+    }
+    None
+}
+
+fn in_range(range: &Option<Bounds>) -> Option<u32>
+    ensures { (words : List Text) → result ≡ place.in_range words range.now }
+{
+    match range {
+        None => None,
+        Some(bounds) => match in_bound(&bounds.left) {
+            Some(at) => Some(at),
+            None => in_bound(&bounds.right),
+        },
+    }
+}
+
+// A declaration that begins at the token of this number.
+fn in_kind(at: u32, kind: &DeclarationKind) -> Option<u32>
+    ensures { (words : List Text) → result ≡ place.in_kind words at kind.now }
+{
+    match kind {
+        DeclarationKind::Variables {
+            net: NetKind::Reg,
+            kind,
+        } => in_range(&kind.range),
+        DeclarationKind::Variables {
+            net: NetKind::Wire,
+            ..
+        } => Some(at),
+        DeclarationKind::Integers => None,
+    }
+}
+
+fn in_declared(tokens: &Tokens<'_>, declared: &Declared) -> Option<u32>
+    ensures { result ≡ place.in_declared (words_of tokens.now) declared.now }
+{
+    match &declared.value {
+        None => None,
+        Some(value) => in_expression(tokens, value),
+    }
+}
+
+fn in_names(tokens: &Tokens<'_>, list: &[Declared]) -> Option<u32>
+    ensures { result ≡ place.in_names (words_of tokens.now) list.now }
+{
+    for one in list {
+        if let Some(at) = in_declared(tokens, one) {
+            return Some(at);
+        }
+    }
+    None
+}
+
+fn in_item(tokens: &Tokens<'_>, whole: &ModuleItem) -> Option<u32>
+    ensures { result ≡ place.in_item (words_of tokens.now) whole.now }
+{
+    match whole {
+        ModuleItem::Parameters { at, .. } => Some(*at),
+        ModuleItem::Declaration { at, kind, declared } => match in_kind(*at, kind) {
+            Some(at) => Some(at),
+            None => in_names(tokens, declared),
+        },
+        ModuleItem::Events { at, .. } => Some(*at),
+        ModuleItem::Assignments { at, .. } => Some(*at),
+        ModuleItem::Initial { statement, .. } => in_statement(tokens, statement),
+        ModuleItem::Always { statement, .. } => in_statement(tokens, statement),
+        ModuleItem::Instances { module, .. } => Some(module.number),
+    }
+}
+
+fn in_items(tokens: &Tokens<'_>, list: &[ModuleItem]) -> Option<u32>
+    ensures { result ≡ place.in_items (words_of tokens.now) list.now }
+{
+    for one in list {
+        if let Some(at) = in_item(tokens, one) {
+            return Some(at);
+        }
+    }
+    None
+}
+
+fn in_module(tokens: &Tokens<'_>, whole: &ModuleTree) -> Option<u32>
+    ensures { result ≡ place.in_module (words_of tokens.now) whole.now }
+{
+    if whole.parameters.is_some() || whole.ports.is_some() {
+        return Some(whole.name.number);
+    }
+    in_items(tokens, &whole.items)
+}
+
+/// The number of the token at which the first construct of a text begins that isn't run yet (E299).
+pub fn not_run(tokens: &Tokens<'_>, text: &TextTree) -> Option<u32>
+    ensures place { result ≡ place.first_not_run (words_of tokens.now) text.now }
+    ensures runs { is_some result ≡ not (runs (source_tree (words_of tokens.now) text.now)) }
+{
+    in_modules(tokens, &text.modules)
+}
+
+fn in_modules(tokens: &Tokens<'_>, list: &[ModuleTree]) -> Option<u32>
+    ensures { result ≡ place.first_among (place.in_module (words_of tokens.now)) list.now }
+{
+    for one in list {
+        if let Some(at) = in_module(tokens, one) {
+            return Some(at);
+        }
+    }
+    None
+}

@@ -1,0 +1,3 @@
+pub mod Manners
+pub mod Value
+pub mod Fits

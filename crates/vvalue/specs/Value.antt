@@ -1,0 +1,218 @@
+-- What an expression is worth (IEEE 1364-2005, 3.5.1, 5.4, 5.5): its own size and sign, and its value at the size and sign of
+-- what it stands in.
+use Rattle.std.specs.Prelude.{ℕ, ◌*◌, Bool, false, ◌&&◌, ◌||◌, max, List, length, slice_get, unwrap_or}
+use Rattle.vbits.specs.declared.bit4.Bit4.{Bit4}
+use Rattle.vbits.specs.declared.bit4.Bit4.TheVariants.{Zero, One, X, Z}
+use Rattle.vbits.specs.Letters.{not_letter, and_letter, or_letter, is_one}
+use Rattle.vbits.specs.Numbers.{number}
+use Rattle.vbits.specs.Vectors as vectors
+use Rattle.vbits.specs.Vectors.{Vector, filled, single, of_number, resize, with_sign, sign_letter, concat, truth, complement}
+use Rattle.vvalue.specs.declared.manner.Shared.{Shared}
+use Rattle.vvalue.specs.declared.manner.Shared.TheVariants as shared
+use Rattle.vvalue.specs.declared.manner.Compared.{Compared}
+use Rattle.vvalue.specs.declared.manner.Compared.TheVariants as compared
+use Rattle.vvalue.specs.declared.manner.Logical.{Logical}
+use Rattle.vvalue.specs.declared.manner.Logical.TheVariants as logical
+use Rattle.vvalue.specs.declared.manner.Shift.{Shift}
+use Rattle.vvalue.specs.declared.manner.Shift.TheVariants as shift
+use Rattle.vvalue.specs.declared.manner.Manner.{Manner}
+use Rattle.vvalue.specs.declared.manner.Manner.TheVariants.{Shares, Compares, Combines, Shifts}
+use Rattle.vvalue.specs.declared.context.Context.{Context}
+use Rattle.vvalue.specs.declared.manner.Sign.{Sign}
+use Rattle.vvalue.specs.declared.manner.Sign.TheVariants as signs
+use Rattle.vvalue.specs.declared.manner.UnaryManner.{UnaryManner}
+use Rattle.vvalue.specs.declared.manner.UnaryManner.TheVariants.{Keeps, Folds, Denies}
+use Rattle.vvalue.specs.Manners.{manner, unary_manner}
+use Rattle.vdesign.specs.Expressions.{ExpressionTree, constant, variable, time, conversion, apply, combine, conditional}
+
+-- What is known when an expression is evaluated: the values of the variables, by number, the time in units in which delays are
+-- written, as `$time` tells it (17.7.1), and how many units of the precision make one of these (19.8).
+pub record Moment : Type 0 where
+  pub values : List Vector
+  pub time : ℕ
+  pub factor : ℕ
+
+-- the value of the variable of this number; x, one bit wide, where there is none
+abbrev pub value_at : Moment → ℕ → Vector
+value_at now n = unwrap_or (slice_get now.values n) (filled 1 X)
+
+-- ---- the size and the sign of an expression by itself
+
+abbrev pub size_by : Manner → ℕ → ℕ → ℕ
+size_by (Shares operator) left right = max left right
+size_by (Compares operator) left right = 1
+size_by (Combines operator) left right = 1
+size_by (Shifts operator) left right = left
+
+abbrev pub unary_size : UnaryManner → ℕ → ℕ
+unary_size (Keeps operator) size = size
+unary_size (Folds operator) size = 1
+unary_size Denies size = 1
+
+-- 5.4.1, table 5-22: how many bits an expression has by itself
+abbrev pub size_of : Moment → ExpressionTree → ℕ
+size_of now (constant c) = length c.value.letters
+size_of now (variable n) = length (value_at now n).letters
+size_of now time = 64
+size_of now (conversion signed o) = size_of now o
+size_of now (apply operator o) = unary_size (unary_manner operator) (size_of now o)
+size_of now (combine operator left right) = size_by (manner operator) (size_of now left) (size_of now right)
+size_of now (conditional condition when_true when_false) = max (size_of now when_true) (size_of now when_false)
+
+abbrev pub sign_by : Manner → Bool → Bool → Bool
+sign_by (Shares operator) left right = left && right
+sign_by (Compares operator) left right = false
+sign_by (Combines operator) left right = false
+sign_by (Shifts operator) left right = left
+
+abbrev pub unary_sign : UnaryManner → Bool → Bool
+unary_sign (Keeps operator) sign = sign
+unary_sign (Folds operator) sign = false
+unary_sign Denies sign = false
+
+-- 5.5.1: whether an expression by itself is signed
+abbrev pub is_signed : Moment → ExpressionTree → Bool
+is_signed now (constant c) = c.value.signed
+is_signed now (variable n) = (value_at now n).signed
+is_signed now time = false
+is_signed now (conversion signed o) = signed
+is_signed now (apply operator o) = unary_sign (unary_manner operator) (is_signed now o)
+is_signed now (combine operator left right) = sign_by (manner operator) (is_signed now left) (is_signed now right)
+is_signed now (conditional condition when_true when_false) = is_signed now when_true && is_signed now when_false
+
+-- ---- values
+
+-- 5.5.2: extended by the sign given, to where it stands
+abbrev pub extended : Vector → Bool → Context → Vector
+extended v extension here = with_sign (resize (with_sign v extension) here.size) here.signed
+
+-- extended by the sign of where it stands
+abbrev pub fitted : Vector → Context → Vector
+fitted v here = extended v here.signed here
+
+abbrev pub kept_value : Sign → Vector → Vector
+kept_value signs.Plus v = v
+kept_value signs.Minus v = vectors.neg v
+kept_value signs.Invert v = complement v
+
+abbrev pub shared_value : Shared → Vector → Vector → Vector
+shared_value shared.Times v w = vectors.mul v w
+shared_value shared.Divide v w = vectors.div v w
+shared_value shared.Remainder v w = vectors.rem v w
+shared_value shared.Plus v w = vectors.add v w
+shared_value shared.Minus v w = vectors.sub v w
+shared_value shared.And v w = vectors.and v w
+shared_value shared.Or v w = vectors.or v w
+shared_value shared.Xor v w = vectors.xor v w
+shared_value shared.Xnor v w = vectors.xnor v w
+
+abbrev pub compared_value : Compared → Vector → Vector → Vector
+compared_value compared.Less v w = vectors.lt v w
+compared_value compared.LessOrEqual v w = vectors.le v w
+compared_value compared.Greater v w = vectors.gt v w
+compared_value compared.GreaterOrEqual v w = vectors.ge v w
+compared_value compared.Equal v w = vectors.eq v w
+compared_value compared.NotEqual v w = vectors.ne v w
+compared_value compared.CaseEqual v w = vectors.case_eq v w
+compared_value compared.CaseNotEqual v w = vectors.case_ne v w
+
+abbrev pub combined_value : Logical → Vector → Vector → Vector
+combined_value logical.And v w = single (and_letter (truth v) (truth w))
+combined_value logical.Or v w = single (or_letter (truth v) (truth w))
+
+abbrev pub shifted_value : Shift → Vector → Vector → Vector
+shifted_value shift.Left v w = vectors.shl v w
+shifted_value shift.Right v w = vectors.shr v w
+shifted_value shift.RightSigned v w = vectors.ashr v w
+
+-- 5.1.13: one branch, or where the truth is unknown both joined
+abbrev pub chosen : Bit4 → Vector → Vector → Vector
+chosen One v w = v
+chosen Zero v w = w
+chosen X v w = vectors.join v w
+chosen Z v w = vectors.join v w
+
+-- ---- what an operand stands in
+
+abbrev pub context : ℕ → Bool → Context
+context size signed = record { size = size; signed = signed }
+
+-- an expression by itself
+abbrev pub own : Moment → ExpressionTree → Context
+own now e = context (size_of now e) (is_signed now e)
+
+-- 5.5.1: operands that are compared
+abbrev pub common : Context → Context → Context
+common left right = context (max left.size right.size) (left.signed && right.signed)
+
+-- the left operand of an operator, by what both operands are by themselves and where the result stands
+abbrev pub left_context : Manner → Context → Context → Context → Context
+left_context (Shares operator) left right here = here
+left_context (Compares operator) left right here = common left right
+left_context (Combines operator) left right here = left
+left_context (Shifts operator) left right here = here
+
+-- the right one
+abbrev pub right_context : Manner → Context → Context → Context → Context
+right_context (Shares operator) left right here = here
+right_context (Compares operator) left right here = common left right
+right_context (Combines operator) left right here = right
+right_context (Shifts operator) left right here = right
+
+-- the only one
+abbrev pub unary_context : UnaryManner → Context → Context → Context
+unary_context (Keeps operator) operand here = here
+unary_context (Folds operator) operand here = operand
+unary_context Denies operand here = operand
+
+abbrev pub unary_value : UnaryManner → Vector → Vector
+unary_value (Keeps operator) v = kept_value operator v
+unary_value (Folds operator) v = vectors.reduce v operator
+unary_value Denies v = single (not_letter (truth v))
+
+abbrev pub binary_value : Manner → Vector → Vector → Vector
+binary_value (Shares operator) v w = shared_value operator v w
+binary_value (Compares operator) v w = compared_value operator v w
+binary_value (Combines operator) v w = combined_value operator v w
+binary_value (Shifts operator) v w = shifted_value operator v w
+
+-- 5.4, 5.5: the value where it stands. What takes its operands by themselves, or at a size of their own, is extended to that. A
+-- number that spreads is extended by its leftmost letter (3.5.1)
+abbrev pub value_of : Moment → ExpressionTree → Context → Vector
+value_of now (constant c) here = extended c.value (c.spreads || here.signed) here
+value_of now (variable n) here = fitted (value_at now n) here
+value_of now time here = fitted (of_number 64 now.time) here
+value_of now (conversion signed o) here = fitted (with_sign (value_of now o (own now o)) signed) here
+value_of now (apply operator o) here =
+    let manner = unary_manner operator in
+    fitted (unary_value manner (value_of now o (unary_context manner (own now o) here))) here
+value_of now (combine operator left right) here =
+    let by = manner operator in
+    fitted (binary_value by
+    (value_of now left (left_context by (own now left) (own now right) here))
+    (value_of now right (right_context by (own now left) (own now right) here))) here
+value_of now (conditional condition when_true when_false) here =
+    fitted (chosen (truth (value_of now condition (own now condition))) (value_of now when_true here) (value_of now when_false here)) here
+
+-- ---- what actions ask of an expression
+
+-- at its own size and sign
+abbrev pub by_itself : Moment → ExpressionTree → Vector
+by_itself now e = value_of now e (own now e)
+
+-- 9.4: a condition holds where its truth is 1
+unfoldable pub holds : Moment → ExpressionTree → Bool
+holds now e = is_one (truth (by_itself now e))
+
+-- 5.4.1, 5.5.3: the right side of an assignment to so many bits, at the larger size of both sides, extended by its own sign
+-- and cut on the left
+unfoldable pub right_side : Moment → ℕ → ExpressionTree → Vector
+right_side now count e = resize (value_of now e (context (max count (size_of now e)) (is_signed now e))) count
+
+-- 9.7.1: the number of a delay, extended to 64 bits by its own sign and read as unsigned; an unknown one is 0
+abbrev pub amount_in : Vector → ℕ
+amount_in v = unwrap_or (number (resize v 64).letters) 0
+
+-- 9.7.1, 19.8: a delay in units of the precision
+unfoldable pub delay_of : Moment → ExpressionTree → ℕ
+delay_of now e = amount_in (by_itself now e) * now.factor

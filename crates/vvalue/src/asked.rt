@@ -1,0 +1,62 @@
+// What actions ask of expressions (IEEE 1364-2005, clause 9).
+
+ghost use Rattle.std.specs.Prelude.{◌≡◌, ◌≤◌};
+ghost use Rattle.vbits.specs.Letters as letters;
+ghost use Rattle.vvalue.specs.Value as spec;
+
+use crate::context::Context;
+use crate::moment::Moment;
+use crate::size::{is_signed, size_of};
+use crate::value::{by_itself, value_of};
+use vbits::{Bit4, Vec4};
+use vdesign::expression::Expression;
+
+fn is_one(letter: Bit4) -> bool
+    ensures { result ≡ letters.is_one letter }
+{
+    match letter {
+        Bit4::Zero => false,
+        Bit4::One => true,
+        Bit4::X => false,
+        Bit4::Z => false,
+    }
+}
+
+/// Whether a condition holds: its truth is 1 (9.4).
+#[tactic(auto, unfolding(crate::specs::Value::holds))]
+pub fn holds(condition: &Expression, moment: &Moment<'_>) -> bool
+    ensures { result ≡ spec.holds moment.now condition.now }
+{
+    is_one(by_itself(&condition.root, moment).truth())
+}
+
+/// What so many bits get of an expression that is assigned to them: at the larger of both sizes, extended by its own sign and cut on
+/// the left (5.4.1, 5.5.3).
+#[tactic(auto, unfolding(crate::specs::Value::right_side))]
+pub fn right_side(expression: &Expression, count: u32, moment: &Moment<'_>) -> Vec4
+    requires some { 1 ≤ count }
+    requires few { count ≤ 64 }
+    ensures { result ≡ spec.right_side moment.now count expression.now }
+{
+    let node = &expression.root;
+    let here = Context {
+        size: count.max(size_of(node, moment)),
+        signed: is_signed(node, moment),
+    };
+    value_of(node, moment, here).resize(count)
+}
+
+// The number of a delay: extended to 64 bits by its own sign and read as unsigned; an unknown one is 0.
+fn amount_of(value: Vec4) -> u64
+    ensures { result ≡ spec.amount_in value }
+{
+    value.resize(64).to_u64().unwrap_or(0)
+}
+
+/// How long a delay lasts, in units of the precision (9.7.1, 19.8).
+#[tactic(auto, unfolding(crate::specs::Value::delay_of))]
+pub fn delay_of(amount: &Expression, moment: &Moment<'_>) -> u128
+    ensures { result ≡ spec.delay_of moment.now amount.now }
+{
+    u128::from(amount_of(by_itself(&amount.root, moment))) * u128::from(moment.factor)
+}

@@ -1,0 +1,11 @@
+// What expressions of a design are worth (IEEE 1364-2005, clause 5). In go an expression and what is known at a moment; out come
+// its size, its sign and its value. The law: each is what the definition of its name in specs/Value.antt says.
+#![tactic(auto)]
+
+pub mod asked;
+mod context;
+pub mod manner;
+pub mod moment;
+mod operators;
+mod size;
+mod value;

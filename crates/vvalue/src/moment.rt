@@ -1,0 +1,35 @@
+// What is known when an expression is evaluated.
+
+ghost use Rattle.std.specs.Prelude.{◌≡◌};
+ghost use Rattle.vvalue.specs.Value as spec;
+
+use std::marker::Model;
+use vbits::Vec4;
+
+/// What is known when an expression is evaluated: the values of the variables, by number, the time as `$time` tells it, and how
+/// many units of the precision make one in which delays are written (19.8). A clause sees it as the record `Moment` of
+/// specs/Value.antt.
+#[derive(Drop)]
+pub struct Moment<'m> {
+    pub values: &'m [Vec4],
+    pub time: u64,
+    pub factor: u64,
+}
+
+impl<'m> Model for Moment<'m> {
+    ghost use Rattle.vvalue.specs.Value as value;
+
+    ghost Value = { value.Moment };
+
+    ghost view = { λ m. record { values = m.values.now; time = m.time; factor = m.factor } };
+}
+
+/// The value of the variable of this number; x, one bit wide, where there is none.
+pub fn value_at(moment: &Moment<'_>, variable: u32) -> Vec4
+    ensures { result ≡ spec.value_at moment.now variable }
+{
+    match moment.values.get(variable as usize) {
+        Some(value) => *value,
+        None => Vec4::all_x(1),
+    }
+}
