@@ -179,13 +179,7 @@ fn design(alloc: Global, text: &[u8]) -> Result<Design, Fail> {
     let source = source(alloc, &[text])?;
     let found = tokens(alloc, &source)?;
     let tree = parse(alloc, &found)?;
-    Ok(elaborate(
-        alloc,
-        &found,
-        &tree,
-        None,
-        source.timescale(),
-    )?)
+    Ok(elaborate(alloc, &found, &tree, None, source.timescale())?)
 }
 
 // The values of the slot that the last step ended.
