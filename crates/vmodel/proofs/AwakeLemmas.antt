@@ -8,8 +8,8 @@ use Rattle.vmodel.specs.declared.process.Spot.{Spot}
 use Rattle.vmodel.specs.Queue.{Queue, with_process}
 use Rattle.vmodel.specs.State.{Process, State}
 use Rattle.vmodel.specs.Waking.{wakes_at, wakes, awake, with_awake}
-use Rattle.vmodel.specs.Step.{woken, left_of}
-use Rattle.vmodel.specs.Kept.{RisesFrom, IsInOrder, count_in, places, most_places, HasRest, waits_of, IsInPlace}
+use Rattle.vmodel.specs.Step.{woken}
+use Rattle.vmodel.specs.Kept.{RisesFrom, IsInOrder, count_in, places, most_places, HasRest, IsInPlace}
 use Rattle.vmodel.proofs.PlaceLemmas.{alike, count-other, count-self, count-with, count-keeps, with_rises}
 use Rattle.vmodel.proofs.MovedLemmas.{most_at, IsWaiting}
 

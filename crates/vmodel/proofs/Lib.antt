@@ -7,6 +7,7 @@ mod OpeningLemmas
 mod PlaceLemmas
 mod MovedLemmas
 mod WakingLemmas
+mod RanLemmas
 mod AwakeLemmas
 mod KeptLemmas
 mod ValuesLemmas

@@ -20,7 +20,8 @@ use Rattle.vmodel.specs.declared.process.Spot.{Spot}
 use Rattle.vmodel.specs.declared.process.Spot.TheVariants.{Doing}
 use Rattle.vmodel.specs.declared.choice.Choice.{Choice}
 use Rattle.vmodel.specs.declared.choice.Choice.TheVariants.{Run, Update, Advance}
-use Rattle.vvalue.specs.Value.{Moment, value_at, right_side}
+use Rattle.vvalue.specs.Value.{Moment, value_at, right_side, holds as holds_at}
+use Rattle.vmodel.specs.InnerStep.{awaits}
 use Rattle.vvalue.proofs.Lengths.{right_side_length}
 use Rattle.vmodel.specs.Value.{cut_to, assigned}
 use Rattle.vmodel.specs.Parts.{written}
@@ -198,7 +199,7 @@ does-suits variables place (Nonblocking target value) after now h = record {
 }
 does-suits variables place (Delay amount body) after now h = record { wrote = tt; posted = λ u is. cc }
 does-suits variables place (On terms body) after now h = record { wrote = tt; posted = λ u is. cc }
-does-suits variables place (Until condition terms body) after now h = awaits-suit variables place (holds now condition) body after
+does-suits variables place (Until condition terms body) after now h = awaits-suit variables place (holds_at now condition) body after
 does-suits variables place DumpVars after now h = record { wrote = tt; posted = λ u is. cc }
 does-suits variables place Finish after now h = record { wrote = tt; posted = λ u is. cc }
 does-suits variables place Stop after now h = record { wrote = tt; posted = λ u is. cc }

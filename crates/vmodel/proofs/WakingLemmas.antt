@@ -1,5 +1,5 @@
 -- What wakes by a change: the tests of a change are those of the values before and after it.
-use Rattle.std.proofs.Common.{◌≡◌, ◌≢◌, ℕ, zero, suc, ◌<◌, ◌≤◌, Bool, true, false, not, ◌==◌, ◌&&◌, ◌||◌, cond, List, [], ◌∷◌, map, length, Option, Some, None, refl, sym, ap, subst, ◌∙◌, arith}
+use Rattle.std.proofs.Common.{◌≡◌, ◌≢◌, ℕ, zero, suc, ◌<◌, ◌≤◌, Bool, true, false, not, ◌==◌, ◌&&◌, ◌||◌, cond, List, [], ◌∷◌, map, length, Option, Some, None, refl, sym, ap, ◌∙◌, arith}
 use Rattle.std.specs.Prelude.{slice_get, slice_set, slice_index_or, unwrap_or}
 use Rattle.std.proofs.lemmas.Bool.Decides.{nat_tests}
 use Rattle.vbits.specs.declared.bit4.Bit4.TheVariants.{X}
@@ -172,3 +172,12 @@ awake_all comes zero [] le = refl
 awake_all comes (suc n) [] le = refl
 awake_all comes zero (process ∷ rest) le = absurd (omega (arith, le))
 awake_all comes (suc n) (process ∷ rest) le = ap (λ ps. awake comes process ∷ ps) (awake_all comes n rest (omega (arith, le)))
+
+-- a turn of the loop that wakes them one by one
+pub awake_turn : (comes : Process → Bool) (items ps : List Process) (n next : ℕ) (old new : Process) → n < length ps → length items ≡ length ps → next ≡ suc n →
+    items ≡ awake_to comes n ps → new ≡ awake comes (slice_index_or items n old) → slice_set items n new ≡ awake_to comes next ps
+awake_turn comes items ps n next old new lt len more so_far is =
+    let here : n < length (awake_to comes n ps) = omega (arith, lt, len, ap length so_far) in
+    ap (λ xs. slice_set xs n new) so_far
+    ∙ awake_step comes n ps (slice_index_or (awake_to comes n ps) n old) new old here refl (is ∙ ap (λ xs. awake comes (slice_index_or xs n old)) so_far)
+    ∙ ap (λ m. awake_to comes m ps) (sym more)

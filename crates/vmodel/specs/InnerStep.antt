@@ -1,5 +1,5 @@
 -- How the parts of a step are told: words for the contracts of parts within.
-use Rattle.std.specs.Prelude.{ℕ, Bool, cond, ◌∷◌, List, Some, drop, slice_get, slice_set}
+use Rattle.std.specs.Prelude.{ℕ, Bool, cond, ◌∷◌, List, Option, Some, drop, slice_get, slice_set}
 use Rattle.vmodel.specs.declared.process.Spot.{Spot}
 use Rattle.vmodel.specs.declared.process.Spot.TheVariants.{Doing}
 use Rattle.vmodel.specs.declared.deed.Deed.{Deed}
@@ -29,6 +29,17 @@ moved_by number left again next deed q =
 abbrev pub with_moved : ℕ → List Process → Bool → List ℕ → Deed → List Process
 with_moved number processes again next deed =
     slice_set processes number (moved (left_in processes number) again next deed)
+
+-- the state after a process is placed and the queue has it
+abbrev pub moved_on : ℕ → Bool → List ℕ → Deed → State → State
+moved_on number again next deed s = record s {
+  processes = with_moved number s.processes again next deed;
+  queue = moved_by number (left_in s.processes number) again next deed s.queue;
+}
+
+-- the state where the run ends for a reason, or goes on
+abbrev pub ended : Option Cause → State → State
+ended cause s = record s { cause = cause }
 
 -- what a step at a place did, after which these places come, and then that place again where it does
 abbrev pub did_so : ℕ → Bool → List ℕ → List Spot → Deed → Did

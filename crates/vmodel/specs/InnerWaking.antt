@@ -5,6 +5,7 @@ use Rattle.vdesign.specs.declared.action.Term.{Term}
 use Rattle.vdesign.specs.declared.action.Action.{Action}
 use Rattle.vdesign.specs.declared.action.Action.TheVariants.{On, Until}
 use Rattle.vmodel.specs.declared.values.Change.{Change}
+use Rattle.vmodel.specs.Queue.{Queue}
 use Rattle.vmodel.specs.State.{Process}
 use Rattle.vmodel.specs.Waking.{value_in, is_edge}
 
@@ -34,6 +35,9 @@ comes_by change _ = false
 abbrev pub comes_at : List Action → Change → Option ℕ → Bool
 comes_at actions change None = false
 comes_at actions change (Some place) = comes_by change (slice_get actions place)
+
+abbrev pub with_active : List ℕ → Queue → Queue
+with_active active q = record q { active = active }
 
 -- whether a process waits for this change
 abbrev pub comes : List Action → Change → Process → Bool

@@ -1,6 +1,6 @@
 -- What wakes a process that waits for a change (IEEE 1364-2005, 9.7.2): a change is the difference of a variable before and
 -- after a step.
-use Rattle.std.specs.Prelude.{ℕ, suc, Bool, false, not, ◌||◌, cond, nat_lt, List, [], ◌∷◌, Option, Some, None, map, slice_get, unwrap_or}
+use Rattle.std.specs.Prelude.{ℕ, suc, Bool, false, not, ◌||◌, cond, nat_lt, List, [], ◌∷◌, Option, Some, None, slice_get, unwrap_or}
 use Rattle.vbits.specs.declared.bit4.Bit4.{Bit4}
 use Rattle.vbits.specs.declared.bit4.Bit4.TheVariants.{Zero, One, X, Z}
 use Rattle.vbits.specs.Vectors.{Vector, filled, vector_same}

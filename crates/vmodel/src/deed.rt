@@ -197,7 +197,9 @@ pub fn deed_of<'d>(place: usize, action: &'d Action, moment: &Moment<'_>) -> Doi
             },
         },
         Action::Until {
-            condition, body, ..
+            condition,
+            body,
+            ..
         } => until_of(place, condition, body, moment),
         Action::DumpVars => Doing {
             next: &[],

@@ -10,7 +10,7 @@ ghost use Rattle.vmodel.specs.Step as spec;
 ghost use Rattle.vmodel.specs.Choices.{choices as choices_of};
 ghost use Rattle.vmodel.specs.Inner.{IsFirstAction, first_place};
 ghost use Rattle.vmodel.specs.InnerLeft.{IsWhole, left_spots};
-ghost use Rattle.vmodel.specs.InnerStep.{behind, left_in, moved, moved_by, turn_to, with_moved};
+ghost use Rattle.vmodel.specs.InnerStep.{moved_on, ended, behind, left_in, moved, moved_by, turn_to, with_moved};
 
 use crate::choice::Choice;
 use crate::deed::{Deed, Doing, Fate, deed_of};
@@ -20,7 +20,7 @@ use crate::part::Parts;
 use crate::process::{Process, Spot};
 use crate::queue::Queue;
 use crate::state::SlowState;
-use crate::waking::{wait_no_more, with_awake};
+use crate::waking::wake;
 use basis::NoMemory;
 use std::alloc::Global;
 use vdesign::action::Action;
@@ -161,11 +161,14 @@ impl SlowState {
         ensures { self.new ≡ woken design.now self.old.values
             (record self.old { values = written wrote self.old.values }) }
     {
-        let Some(change) = self.values.write_all(wrote) else {
-            return;
-        };
-        with_awake(&design.actions, &change, &self.processes, &mut self.queue.active);
-        wait_no_more(&design.actions, &change, &mut self.processes);
+        if let Some(change) = self.values.write_all(wrote) {
+            wake(
+                &design.actions,
+                &change,
+                &mut self.processes,
+                &mut self.queue,
+            );
+        }
     }
 
     // What is known now.
@@ -180,6 +183,39 @@ impl SlowState {
         }
     }
 
+    // A process has done what it did, and the queue has what becomes of it.
+    fn place(
+        &mut self,
+        number: u32,
+        again: bool,
+        next: &[usize],
+        deed: &Deed,
+    ) -> Result<(), NoMemory>
+        requires few { number < 256 }
+        requires some { 0 < length (left_in self.old.processes number) }
+        ensures ok { OnOk result (self.new ≡ moved_on number again next.now deed.now self.old) }
+        ensures err { OnErr result (self.new ≡ self.old) }
+    {
+        move_one(
+            &mut self.processes,
+            &mut self.queue,
+            number,
+            again,
+            next,
+            deed,
+        )
+    }
+
+    // What the step wrote is written, it may end the run, and the regions move.
+    fn finish(&mut self, design: &Design, deed: &Deed)
+        ensures { self.new ≡ closed (ended deed.now.cause (woken design.now self.old.values
+            (record self.old { values = written deed.now.wrote self.old.values }))) }
+    {
+        self.write(design, deed.wrote);
+        self.cause = deed.cause;
+        self.close();
+    }
+
     // A process takes one step.
     fn run(&mut self, design: &Design, number: u32) -> Result<Deed, NoMemory>
         requires { number < 256 }
@@ -191,17 +227,8 @@ impl SlowState {
             return Ok(Deed::quiet());
         };
         let Doing { next, again, deed } = deed_of(place, action, &self.moment(design));
-        move_one(
-            &mut self.processes,
-            &mut self.queue,
-            number,
-            again,
-            next,
-            &deed,
-        )?;
-        self.write(design, deed.wrote);
-        self.cause = deed.cause;
-        self.close();
+        self.place(number, again, next, &deed)?;
+        self.finish(design, &deed);
         Ok(deed)
     }
 

@@ -2,10 +2,11 @@
 
 ghost use Rattle.std.specs.Prelude.{◌≡◌, ◌≤◌, length, map};
 ghost use Rattle.vmodel.specs.Waking as spec;
-ghost use Rattle.vmodel.specs.InnerWaking.{hears_of, any_hears_of, comes as comes_of};
+ghost use Rattle.vmodel.specs.InnerWaking.{with_active, hears_of, any_hears_of, comes as comes_of};
 
 use crate::process::Process;
 use crate::process_set::ProcessSet;
+use crate::queue::Queue;
 use crate::values::Change;
 use vbits::{Bit4, Vec4};
 use vdesign::action::{Action, Edge, Term};
@@ -69,13 +70,8 @@ fn comes(actions: &[Action], change: &Change, process: &Process) -> bool
     }
 }
 
-/// The active processes, with those that wait for this change.
-pub(crate) fn with_awake(
-    actions: &[Action],
-    change: &Change,
-    processes: &[Process],
-    active: &mut ProcessSet,
-)
+// The active processes, with those that wait for this change.
+fn with_awake(actions: &[Action], change: &Change, processes: &[Process], active: &mut ProcessSet)
     requires { length processes.now ≤ 256 }
     ensures { active.new
         ≡ spec.with_awake (comes_of actions.now change.now) 0 processes.now active.old }
@@ -97,11 +93,29 @@ fn wake_one(actions: &[Action], change: &Change, process: &mut Process)
     }
 }
 
-/// Those that wait for this change don't wait any more.
-pub(crate) fn wait_no_more(actions: &[Action], change: &Change, processes: &mut [Process])
+// Those that wait for this change don't wait any more.
+fn wait_no_more(actions: &[Action], change: &Change, processes: &mut [Process])
     ensures { processes.new ≡ map (spec.awake (comes_of actions.now change.now)) processes.old }
 {
     for process in processes {
         wake_one(actions, change, process);
     }
+}
+
+/// Those that wait for this change wait no more, and are active.
+pub(crate) fn wake(
+    actions: &[Action],
+    change: &Change,
+    processes: &mut Vec<Process>,
+    queue: &mut Queue,
+)
+    requires { length processes.old.items ≤ 256 }
+    ensures processes { processes.new.items
+        ≡ map (spec.awake (comes_of actions.now change.now)) processes.old.items }
+    ensures queue { queue.new ≡ with_active
+        (spec.with_awake (comes_of actions.now change.now) 0 processes.old.items queue.old.active)
+        queue.old }
+{
+    with_awake(actions, change, processes, &mut queue.active);
+    wait_no_more(actions, change, processes);
 }

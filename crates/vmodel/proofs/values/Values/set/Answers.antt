@@ -1,14 +1,23 @@
-use Rattle.std.proofs.Common.{rules, ◌≡◌, List, slice_set, IfOk, OnOk, map, ℕ, ◌+◌, ◌-◌, ◌*◌, ◌<◌, ◌≤◌, length, ◌/◌, ◌%◌, Bool, true, false, nat_eq, nat_lt, [], ◌∷◌, ◌++◌, slice_index_or, bit_and, bit_or, Fits, w8, w32, w64, Bor, MutBor}
+use Rattle.std.proofs.Common.{◌∙◌, sym, subst, List, arith}
+use Rattle.std.specs.Prelude.{slice_set}
 use Rattle.vbits.specs.Vectors.{Vector}
-use Rattle.vmodel.specs.Parts as spec
-use Rattle.vmodel.specs.Run.{opening_value}
-use Rattle.vmodel.specs.InnerWaking.{IsChange}
+use Rattle.vbits.specs.Equal.{vectors_tell}
+use Rattle.vmodel.specs.InnerWaking.{Differ}
+use Rattle.vmodel.proofs.WakingLemmas.{got, set_same, differ_set}
 use Rattle.vmodel.proofs.values.Values.set.Goals as goal
 
--- src/values.rt:131:13
 pub returns-then-eq-clause-change : goal.returns-then-eq-clause-change
-returns-then-eq-clause-change c = ?
+returns-then-eq-clause-change c =
+    let items = c.self.inside.list.items in
+    let at = got items c.args.variable c.index.result.now _ (omega (arith, c.len.ensures, c.if-variable-len.false)) c.index.ensures in
+    sym c.self.view_is
+    ∙ set_same items c.args.variable c.index.result.now c.args.new at
+    ((vectors_tell c.index.result.now c.args.new).0 (sym c.eq.ensures ∙ c.if-eq.true))
 
--- src/values.rt:121:5
 pub returns-clause-change : goal.returns-clause-change
-returns-clause-change c = ?
+returns-clause-change c =
+    let items = c.self.inside.list.items in
+    let at = got items c.args.variable c.index.result.now _ (omega (arith, c.len.ensures, c.if-variable-len.false)) c.index.ensures in
+    subst (λ (values : List Vector). Differ (record { variable = c.args.variable; old = c.index.result.now; new = c.args.new }) values (slice_set items c.args.variable c.args.new))
+    c.self.view_is
+    (differ_set items c.args.variable c.index.result.now c.args.new at)
