@@ -1,8 +1,9 @@
 -- How the parts of a step are told: words for the contracts of parts within.
-use Rattle.std.specs.Prelude.{ℕ, Bool, cond, ◌∷◌, List, Some, drop, slice_get, slice_set}
+use Rattle.std.specs.Prelude.{ℕ, Bool, cond, ◌∷◌, List, Option, Some, drop, slice_get, slice_set}
 use Rattle.vmodel.specs.declared.process.Spot.{Spot}
 use Rattle.vmodel.specs.declared.process.Spot.TheVariants.{Doing}
 use Rattle.vmodel.specs.declared.deed.Deed.{Deed}
+use Rattle.vmodel.specs.declared.deed.Fate.TheVariants.{Waits}
 use Rattle.vmodel.specs.Queue.{Queue}
 use Rattle.vmodel.specs.declared.history.Cause.{Cause}
 use Rattle.vmodel.specs.State.{Process, State}
@@ -29,6 +30,17 @@ abbrev pub with_moved : ℕ → List Process → Bool → List ℕ → Deed → 
 with_moved number processes again next deed =
     slice_set processes number (moved (left_in processes number) again next deed)
 
+-- the state after a process is placed and the queue has it
+abbrev pub moved_on : ℕ → Bool → List ℕ → Deed → State → State
+moved_on number again next deed s = record s {
+  processes = with_moved number s.processes again next deed;
+  queue = moved_by number (left_in s.processes number) again next deed s.queue;
+}
+
+-- the state where the run ends for a reason, or goes on
+abbrev pub ended : Option Cause → State → State
+ended cause s = record s { cause = cause }
+
 -- what a step at a place did, after which these places come, and then that place again where it does
 abbrev pub did_so : ℕ → Bool → List ℕ → List Spot → Deed → Did
 did_so place again next after deed = record { left = spots next (cond again (Doing place ∷ after) after); deed = deed }
@@ -36,6 +48,11 @@ did_so place again next after deed = record { left = spots next (cond again (Doi
 -- what a loop at a place does where its condition holds, and where it does not
 abbrev pub loops : ℕ → Bool → List ℕ → List Spot → Did
 loops place holds body after = record { left = cond holds (spots body (Doing place ∷ after)) after; deed = quiet }
+
+-- what a `wait` at a place does where its condition holds, and where it does not
+abbrev pub awaits : ℕ → Bool → List ℕ → List Spot → Did
+awaits place holds body after =
+    cond holds (record { left = spots body after; deed = quiet }) (record { left = Doing place ∷ after; deed = record quiet { fate = Waits place } })
 
 -- the state after a step, and what the step did
 abbrev pub turn_to : State → Deed → Turn

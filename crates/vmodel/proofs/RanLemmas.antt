@@ -1,0 +1,91 @@
+-- A step of a process, from its parts.
+use Rattle.std.proofs.Common.{◌≡◌, ℕ, Bool, List, [], ◌∷◌, map, Option, Some, refl, sym, ap, ◌∙◌}
+use Rattle.std.specs.Prelude.{slice_set}
+use Rattle.vbits.specs.Vectors.{Vector}
+use Rattle.vdesign.specs.Design.{Design}
+use Rattle.vdesign.specs.declared.action.Action.{Action}
+use Rattle.vmodel.specs.declared.deed.Deed.{Deed}
+use Rattle.vmodel.specs.declared.part.Part.{Part}
+use Rattle.vmodel.specs.declared.process.Spot.{Spot}
+use Rattle.vmodel.specs.declared.process.Spot.TheVariants.{Doing}
+use Rattle.vmodel.specs.declared.values.Change.{Change}
+use Rattle.vmodel.specs.Parts.{written}
+use Rattle.vmodel.specs.Queue.{Queue}
+use Rattle.vmodel.specs.State.{Process, State}
+use Rattle.vmodel.specs.Waking.{wakes, awake, with_awake}
+use Rattle.vmodel.specs.InnerWaking.{Differ, comes, with_active}
+use Rattle.vmodel.specs.Inner.{first_place, first_action}
+use Rattle.vmodel.specs.InnerStep.{did_so, left_in, moved, moved_by, moved_on, ended, turn_to}
+use Rattle.vmodel.specs.Step.{Did, does, moment_of, woken, closed, turned, takes, goes_from, process_turn}
+use Rattle.vmodel.proofs.WakingLemmas.{woken_none, comes_is}
+
+-- ---- what is written
+
+-- the state with these values
+abbrev with_values : State → List Vector → State
+with_values s values = record s { values = values }
+
+pub written_same : (design : Design) (wrote : List Part) (s : State) (values : List Vector) → values ≡ written wrote s.values → s.values ≡ values →
+    with_values s values ≡ woken design s.values (with_values s (written wrote s.values))
+written_same design wrote s values is same =
+    ap (with_values s) is
+    ∙ woken_none design (with_values s (written wrote s.values))
+    ∙ ap (λ (before : List Vector). woken design before (with_values s (written wrote s.values))) (sym (same ∙ is))
+
+pub written_changed : (design : Design) (wrote : List Part) (s : State) (values : List Vector) (change : Change) → values ≡ written wrote s.values → Differ change s.values values →
+    record s {
+      values = values;
+      processes = map (awake (comes design.actions change)) s.processes;
+      queue = with_active (with_awake (comes design.actions change) 0 s.processes s.queue.active) s.queue;
+    } ≡ woken design s.values (with_values s (written wrote s.values))
+written_changed design wrote s values change is differ =
+    let hears : comes design.actions change ≡ wakes design.actions s.values (written wrote s.values) =
+    sym (comes_is design.actions change s.values values differ) ∙ ap (wakes design.actions s.values) is in
+    λ i. record s {
+      values = is i;
+      processes = map (awake (hears i)) s.processes;
+      queue = with_active (with_awake (hears i) 0 s.processes s.queue.active) s.queue;
+    }
+
+-- the same, as the parts of the code tell it
+pub awoken_is : (design : Design) (wrote : List Part) (s : State) (values : List Vector) (processes : List Process) (queue : Queue) (actions : List Action) (change : Change) →
+    values ≡ written wrote s.values → Differ change s.values values → actions ≡ design.actions →
+    processes ≡ map (awake (comes actions change)) s.processes →
+    queue ≡ with_active (with_awake (comes actions change) 0 s.processes s.queue.active) s.queue →
+    record s { values = values; processes = processes; queue = queue } ≡ woken design s.values (with_values s (written wrote s.values))
+awoken_is design wrote s values processes queue actions change is differ acts ps q =
+    (λ i. record s { values = values; processes = ps i; queue = q i })
+    ∙ ap (λ (list : List Action). record s {
+      values = values;
+      processes = map (awake (comes list change)) s.processes;
+      queue = with_active (with_awake (comes list change) 0 s.processes s.queue.active) s.queue;
+    }) acts
+    ∙ written_changed design wrote s values change is differ
+
+-- ---- the step
+
+-- a state with what the step wrote, and what becomes of the run
+abbrev finished : Design → Deed → State → State → State
+finished design deed before s = closed (ended deed.cause (woken design before.values (with_values s (written deed.wrote before.values))))
+
+ran_from : (design : Design) (p place : ℕ) (action : Action) (again : Bool) (next : List ℕ) (deed : Deed) (s : State) (left : List Spot) → left_in s.processes p ≡ left →
+    first_place left ≡ Some place → first_action design.actions left ≡ Some action →
+    ((after : List Spot) → does place action after (moment_of design s) ≡ did_so place again next after deed) →
+    goes_from design p left s ≡ turn_to (finished design deed s (moved_on p again next deed s)) deed
+ran_from design p place action again next deed s [] is at act h = cc
+ran_from design p place action again next deed s (Doing other ∷ after) is at act h =
+    let same : other ≡ place = cc in
+    ap (λ (o : Option Action). takes design p other o after s) act
+    ∙ ap (λ (n : ℕ). turned design p (does n action after (moment_of design s)) s) same
+    ∙ ap (λ (did : Did). turned design p did s) (h after)
+    ∙ ap (λ (n : ℕ). turned design p (did_so n again next after deed) s) (sym same)
+    ∙ ap (λ (l : List Spot). turn_to (finished design deed s (record s {
+      processes = slice_set s.processes p (moved l again next deed);
+      queue = moved_by p l again next deed s.queue;
+    })) deed) (sym is)
+
+pub ran : (design : Design) (p place : ℕ) (action : Action) (again : Bool) (next : List ℕ) (deed : Deed) (s : State) →
+    first_place (left_in s.processes p) ≡ Some place → first_action design.actions (left_in s.processes p) ≡ Some action →
+    ((after : List Spot) → does place action after (moment_of design s) ≡ did_so place again next after deed) →
+    process_turn design p s ≡ turn_to (closed (ended deed.cause (woken design s.values (with_values (moved_on p again next deed s) (written deed.wrote s.values))))) deed
+ran design p place action again next deed s at act h = ran_from design p place action again next deed s (left_in s.processes p) refl at act h
