@@ -146,6 +146,15 @@ fn put_command(text: &mut Vec<u8>, command: DumpCommand) -> Result<(), NoMemory>
     Ok(())
 }
 
+fn put_fate(text: &mut Vec<u8>, fate: Fate) -> Result<(), NoMemory> {
+    match fate {
+        Fate::GoesOn => {}
+        Fate::Sleeps(amount) => put_delay(text, amount)?,
+        Fate::Waits(_) => text.extend_from_slice(b" wait")?,
+    }
+    Ok(())
+}
+
 fn cause_word(cause: Cause) -> &'static [u8] {
     match cause {
         Cause::Finish => b" finish",
@@ -170,9 +179,7 @@ fn put_deed(
             put_post(text, design, part)?;
         }
     }
-    if let Fate::Sleeps(amount) = deed.fate {
-        put_delay(text, amount)?;
-    }
+    put_fate(text, deed.fate)?;
     if let Some(command) = deed.command {
         put_command(text, command)?;
     }
