@@ -6,14 +6,13 @@ ghost use Rattle.vast.specs.ExpressionTrees.{tree_of as text_tree};
 ghost use Rattle.vast.specs.StatementTrees.{target_tree, delay_tree, task_tree, statement_tree, statement_trees};
 ghost use Rattle.vast.specs.ModuleTrees.{item_tree};
 ghost use Rattle.vexpr_parse.specs.Texts.{words_of};
-ghost use Rattle.vdesign.specs.Nodes.{tree_of};
 ghost use Rattle.velab.specs.Elaborate as spec;
 ghost use Rattle.vast.specs.Statements.{forever};
 ghost use Rattle.velab.specs.Elaborate.{laid, laid_processes, knows, knows_all, statements_of};
 ghost use Rattle.velab.specs.Inner.{laid_of, all_laid_of, laid_of_item, processes_of, starts_in, initials_in, AreLaid, HasLaid, HaveLaid};
 ghost use Rattle.velab.specs.Inner.{KnowsAll, IsBreach, no_breach, BreaksKnown, BreaksStatement, BreaksStatements, BreaksAdded, BreaksProcess, BreaksProcesses};
 
-use crate::expression::{expression_of, number_of};
+use crate::expression::{alone, expression_of, number_of};
 use crate::fault::ElabFault;
 use crate::letters::letters;
 use crate::names::Names;
@@ -25,18 +24,11 @@ use vast::expression::Expression as Value;
 use vast::module::{DeclarationKind, Declared, ModuleItem, NetKind};
 use vast::statement::{Delay, Statement, Target as Written, Task};
 use vdesign::action::{Action, Places, Target};
-use vdesign::expression::{Expression, Leaf, Node};
+use vdesign::expression::{Expression, Node};
 use vlex::Tokens;
 
 /// The most processes of a design.
 const MOST_PROCESSES: usize = 256;
-
-// The expression whose root this node is.
-fn whole(root: Node) -> Expression
-    ensures { result ≡ tree_of root }
-{
-    Expression { root }
-}
 
 /// Actions in the order in which they are come to, and for each the number of the token that its statement begins with. A
 /// clause sees the actions.
@@ -116,7 +108,7 @@ fn lay_assignment(
         Written::Whole(name) => match amount {
             None => {
                 let number = number_of(names, tokens, *name)?;
-                let value = whole(expression_of(names, tokens, value)?);
+                let value = expression_of(alloc, names, tokens, value)?;
                 let action = assigning(blocking, Target::Whole(number), value);
                 put(table, into, name.number, action)
             }
@@ -144,13 +136,9 @@ fn amount_of(
         (spec.knows_amount names.now (delay_tree (words_of tokens.now) amount.now))) }
 {
     match amount {
-        Delay::Number(word) => Ok(whole(Node::Leaf(Leaf::Constant(constant_of(letters(
-            tokens, *word,
-        )))))),
-        Delay::Name(word) => Ok(whole(Node::Leaf(Leaf::Variable(number_of(
-            names, tokens, *word,
-        )?)))),
-        Delay::Value(value) => Ok(whole(expression_of(names, tokens, value)?)),
+        Delay::Number(word) => alone(alloc, Node::Constant(constant_of(letters(tokens, *word)))),
+        Delay::Name(word) => alone(alloc, Node::Variable(number_of(names, tokens, *word)?)),
+        Delay::Value(value) => expression_of(alloc, names, tokens, value),
     }
 }
 
@@ -243,7 +231,7 @@ fn lay(
             condition,
             body,
         } => {
-            let condition = whole(expression_of(names, tokens, condition)?);
+            let condition = expression_of(alloc, names, tokens, condition)?;
             let mut inner = Vec::new(alloc);
             lay(alloc, names, tokens, body, table, &mut inner)?;
             put(table, into, *at, testing(condition, inner, Vec::new(alloc)))
@@ -254,7 +242,7 @@ fn lay(
             body,
             other,
         } => {
-            let condition = whole(expression_of(names, tokens, condition)?);
+            let condition = expression_of(alloc, names, tokens, condition)?;
             let mut inner = Vec::new(alloc);
             lay(alloc, names, tokens, body, table, &mut inner)?;
             let mut outer = Vec::new(alloc);
@@ -267,7 +255,7 @@ fn lay(
             condition,
             body,
         } => {
-            let condition = whole(expression_of(names, tokens, condition)?);
+            let condition = expression_of(alloc, names, tokens, condition)?;
             let mut inner = Vec::new(alloc);
             lay(alloc, names, tokens, body, table, &mut inner)?;
             let body = Places::new(inner);
@@ -292,7 +280,7 @@ fn lay(
             lay_assignment(
                 alloc, names, tokens, true, target, &None, value, table, into,
             )?;
-            let condition = whole(expression_of(names, tokens, condition)?);
+            let condition = expression_of(alloc, names, tokens, condition)?;
             let mut inner = Vec::new(alloc);
             lay(alloc, names, tokens, body, table, &mut inner)?;
             lay_assignment(
