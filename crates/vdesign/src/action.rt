@@ -35,6 +35,55 @@ impl Places {
     }
 }
 
+/// Which change of a variable is heard (9.7.2, table 9-2).
+#[derive(Clone, Copy, Debug, PartialEq, Eq)]
+pub enum Edge {
+    /// Any change of any bit.
+    Any,
+    /// `posedge`: of the rightmost bit, from 0 or towards 1.
+    Rise,
+    /// `negedge`: of the rightmost bit, from 1 or towards 0.
+    Fall,
+}
+
+/// A term of an event control: the variable of this number, and which change of it is heard (9.7.2).
+#[derive(Clone, Copy, Debug, PartialEq, Eq)]
+pub struct Term {
+    pub edge: Edge,
+    pub variable: u32,
+}
+
+/// What is waited for: terms, of which one is enough (9.7.4).
+#[derive(Drop)]
+pub struct Terms {
+    list: Vec<Term>,
+}
+
+impl Model for Terms {
+    ghost use Rattle.std.specs.Prelude.{List};
+    ghost use Rattle.vdesign.specs.declared.action.Term.{Term};
+
+    ghost Value = { List Term };
+
+    ghost view = { λ terms. terms.list.items };
+}
+
+impl Terms {
+    /// These terms.
+    pub fn new(list: Vec<Term>) -> Terms
+        ensures { result ≡ list.items }
+    {
+        Terms { list }
+    }
+
+    /// The terms, as a list.
+    pub fn as_slice(&self) -> &[Term]
+        ensures { result.now ≡ self.now }
+    {
+        &self.list
+    }
+}
+
 /// What an assignment writes (clause 6, table 6-1).
 #[derive(Clone, Copy, Debug, PartialEq, Eq)]
 pub enum Target {
@@ -73,6 +122,17 @@ pub enum Action {
     /// `#amount` and then the body (9.7.1)
     Delay {
         amount: Expression,
+        body: Places,
+    },
+    /// `@(terms)` and then the body (9.7.2)
+    On {
+        terms: Terms,
+        body: Places,
+    },
+    /// `wait (condition)` and then the body (9.7.6); where the condition doesn't hold, one of the terms is waited for.
+    Until {
+        condition: Expression,
+        terms: Terms,
         body: Places,
     },
     /// `$dumpvars;` (18.1.2)

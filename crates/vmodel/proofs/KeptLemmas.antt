@@ -15,13 +15,15 @@ use Rattle.vmodel.specs.declared.choice.Choice.TheVariants.{Run, Update, Advance
 use Rattle.vmodel.specs.Queue.{Slot, Queue, without_process}
 use Rattle.vmodel.specs.State.{State}
 use Rattle.vmodel.specs.Choices.{in_order, first_update, or_advance, active_choices, offered, queue_choices, choices}
-use Rattle.vmodel.specs.Step.{moment_of, Did, does, going, closed_by, closed, acted, process_by, turned, takes, goes_from, without_update, updated, advanced_to, turn_of, turn_by, next}
+use Rattle.vmodel.specs.Step.{moment_of, Did, does, going, closed_by, woken, closed, acted, process_by, turned, takes, goes_from, without_update, updated, advanced_to, turn_of, turn_by, next}
 use Rattle.vmodel.specs.Run.{Setting, busy_from, opening_process, opening_of, state_after}
 use Rattle.vmodel.specs.Played.{opening_is, after_is}
-use Rattle.vmodel.specs.Kept.{RisesFrom, IsInOrder, count_in, asleep, most_places, IsInPlace, IsIdle, IsKept}
+use Rattle.vmodel.specs.Kept.{RisesFrom, IsInOrder, count_in, asleep, IsInPlace, IsIdle, IsKept}
 use Rattle.vmodel.proofs.PlaceLemmas.{count-other, count-self, count-cons, count-without, rises_below}
-use Rattle.vmodel.proofs.MovedLemmas.{LastIsActive, nobody_last, settled_by, order-moved, is_there, place-moved, left_at}
+use Rattle.vmodel.proofs.MovedLemmas.{most_at, IsWaiting, LastIsActive, nobody_last, settled_by, order-moved, is_there, place-moved, left_at}
+use Rattle.vmodel.proofs.AwakeLemmas.{order-woken, place-woken}
 use Rattle.vmodel.specs.RulesLaws.{idle_when}
+use Rattle.vbits.specs.Vectors.{Vector}
 
 -- ---- the region moves
 
@@ -33,6 +35,7 @@ closed-kept s order place = by_cause s.cause refl
         IsInPlace (record s.queue { active = i ∷ is; inactive = [] }) s.processes
     moved_on i is none some = record {
       once = λ p. omega (arith, place.once p, ap (count_in p) none, ap (count_in p) some);
+      waiting = place.waiting;
       last = λ p e. absurd (omega (arith, place.last p e, ap (count_in p) none));
     }
 
@@ -43,7 +46,7 @@ closed-kept s order place = by_cause s.cause refl
           (λ i is none some. record { active = subst (RisesFrom 0) some order.inactive; inactive = tt; future = order.future })
           (λ u us. record { active = order.active; inactive = order.inactive; future = order.future });
       place = settled_by (λ (q : Queue). IsInPlace q s.processes) s.queue (λ moves. place) moved_on
-          (λ u us. record { once = place.once; last = place.last });
+          (λ u us. record { once = place.once; waiting = place.waiting; last = place.last });
       moves = λ none. settled_by (λ (q : Queue). IsIdle q → (q.inactive ≡ []) × (q.posted ≡ [])) s.queue (λ moves. moves)
           (λ i is a b idle. let no : i ∷ is ≡ [] = idle.0 in cc)
           (λ u us idle. let no : u ∷ us ≡ [] = idle.1 in cc);
@@ -117,6 +120,9 @@ open_choice s i c active e = by_cause s.cause refl e
           (open_offered s.queue s.queue.grain s.queue.last refl active) (idle_when s.queue) i c e,
     )
 
+woken-kept : (design : Design) (before : List Vector) (s : State) → IsInOrder s.queue → IsInPlace s.queue s.processes → IsKept (closed (woken design before s))
+woken-kept design before s order place = closed-kept (woken design before s) (order-woken design before s order) (place-woken design before s place)
+
 -- ---- the steps
 
 updated-kept : (s : State) (us : List (List Part)) → IsKept s →
@@ -124,7 +130,7 @@ updated-kept : (s : State) (us : List (List Part)) → IsKept s →
 updated-kept s [] kept = (kept.order, kept.place)
 updated-kept s (u ∷ us) kept = (
   record { active = kept.order.active; inactive = kept.order.inactive; future = kept.order.future },
-  record { once = kept.place.once; last = nobody_last (record s.queue { last = None; activated = us }) refl },
+  record { once = kept.place.once; waiting = kept.place.waiting; last = nobody_last (record s.queue { last = None; activated = us }) refl },
 )
 
 advanced-kept : (s : State) (future : List (ℕ × Slot)) → s.queue.future ≡ future → IsKept s →
@@ -135,20 +141,21 @@ advanced-kept s (e ∷ es) is kept =
       record { active = h.2; inactive = kept.order.inactive; future = h.3 },
       record {
         once = λ p. omega (arith, kept.place.once p, ap (asleep p) is);
+        waiting = kept.place.waiting;
         last = nobody_last (advanced_to (e ∷ es) s.queue) refl;
       },
     )
 
-turned-kept : (p : ℕ) (did : Did) (s : State) → IsKept s → 1 ≤ count_in p s.queue.active → p < length s.processes →
-    IsKept (turned p did s).state
-turned-kept p did s kept active lt =
-    closed-kept (acted p did s) (order-moved p did.deed.fate did.deed.posted (going p did.left) s.queue kept.order)
-    (place-moved p did.deed.fate did.deed.posted (process_by did) s.queue s.processes kept.place active lt)
+turned-kept : (design : Design) (p : ℕ) (did : Did) (s : State) → IsKept s → 1 ≤ count_in p s.queue.active → p < length s.processes →
+    IsKept (turned design p did s).state
+turned-kept design p did s kept active lt =
+    woken-kept design s.values (acted p did s) (order-moved p did.deed.fate did.deed.posted (going p did.left) s.queue kept.order)
+    (place-moved p did.deed.fate did.deed.posted (process_by did) s.queue s.processes kept.place refl active lt)
 
 takes-kept : (design : Design) (p place : ℕ) (action : Option Action) (after : List Spot) (s : State) → IsKept s → 1 ≤ count_in p s.queue.active →
     p < length s.processes → IsKept (takes design p place action after s).state
 takes-kept design p place None after s kept active lt = kept
-takes-kept design p place (Some action) after s kept active lt = turned-kept p (does place action after (moment_of design s)) s kept active lt
+takes-kept design p place (Some action) after s kept active lt = turned-kept design p (does place action after (moment_of design s)) s kept active lt
 
 process-kept : (design : Design) (p : ℕ) (left : List Spot) (s : State) → IsKept s → left_at s.processes p ≡ left →
     1 ≤ count_in p s.queue.active → IsKept (goes_from design p left s).state
@@ -159,7 +166,7 @@ process-kept design p (Doing place ∷ after) s kept is active =
 turn-kept : (design : Design) (c : Choice) (s : State) → IsKept s → IsOpen c s.queue → IsKept (turn_of design c s).state
 turn-kept design (Run p) s kept active = process-kept design p (left_at s.processes p) s kept refl active
 turn-kept design Update s kept allowed =
-    let h = updated-kept s s.queue.activated kept in closed-kept (updated s) h.0 h.1
+    let h = updated-kept s s.queue.activated kept in woken-kept design s.values (updated s) h.0 h.1
 turn-kept design Advance s kept allowed =
     let h = advanced-kept s s.queue.future refl kept in
     closed-kept (record s { queue = advanced_to s.queue.future s.queue }) h.0 h.1
@@ -183,7 +190,7 @@ busy_above r n [] lt = refl
 busy_above r n ([] ∷ rest) lt = busy_above r (suc n) rest (omega arith)
 busy_above r n ((place ∷ places) ∷ rest) lt = count-other r n (busy_from (suc n) rest) (omega arith) ∙ busy_above r (suc n) rest (omega arith)
 
-busy_once : (r n k : ℕ) (ps : List (List ℕ)) → r ≡ n + k → count_in r (busy_from n ps) ≤ most_places (left_at (map opening_process ps) k)
+busy_once : (r n k : ℕ) (ps : List (List ℕ)) → r ≡ n + k → count_in r (busy_from n ps) ≤ most_at (slice_get (map opening_process ps) k)
 busy_once r n k [] e = omega arith
 busy_once r n zero ([] ∷ rest) e = omega (arith, busy_above r (suc n) rest (omega arith))
 busy_once r n (suc k) ([] ∷ rest) e = busy_once r (suc n) k rest (omega arith)
@@ -193,11 +200,17 @@ busy_once r n zero ((place ∷ places) ∷ rest) e =
 busy_once r n (suc k) ((place ∷ places) ∷ rest) e =
     omega (arith, count-other r n (busy_from (suc n) rest) (omega arith), busy_once r (suc n) k rest (omega arith))
 
+opening_waiting : (ps : List (List ℕ)) (p : ℕ) → IsWaiting (slice_get (map opening_process ps) p)
+opening_waiting [] p = tt
+opening_waiting (places ∷ rest) zero = tt
+opening_waiting (places ∷ rest) (suc p) = opening_waiting rest p
+
 opening-kept : (setting : Setting) → IsKept (opening_of setting)
 opening-kept setting = record {
   order = record { active = busy_rises 0 setting.design.processes; inactive = tt; future = tt };
   place = record {
     once = λ p. omega (arith, busy_once p 0 p setting.design.processes (omega arith));
+    waiting = λ p. opening_waiting setting.design.processes p;
     last = nobody_last (opening_of setting).queue refl;
   };
   moves = λ none idle. (refl, refl);

@@ -1,10 +1,13 @@
 mod ProcessLemmas
+mod BitLemmas
 mod SpotLemmas
 mod LeftLemmas
 mod FutureLemmas
 mod OpeningLemmas
 mod PlaceLemmas
 mod MovedLemmas
+mod WakingLemmas
+mod AwakeLemmas
 mod KeptLemmas
 mod ValuesLemmas
 mod ShapeLemmas

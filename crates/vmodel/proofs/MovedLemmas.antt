@@ -4,13 +4,13 @@ use Rattle.std.specs.Prelude.{slice_get, slice_set}
 use Rattle.std.specs.Option.{ForSome}
 use Rattle.std.proofs.lemmas.Bool.Decides.{nat_tests}
 use Rattle.vmodel.specs.declared.deed.Fate.{Fate}
-use Rattle.vmodel.specs.declared.deed.Fate.TheVariants.{GoesOn, Sleeps}
+use Rattle.vmodel.specs.declared.deed.Fate.TheVariants.{GoesOn, Sleeps, Waits}
 use Rattle.vmodel.specs.declared.part.Part.{Part}
 use Rattle.vmodel.specs.declared.process.Spot.{Spot}
 use Rattle.vmodel.specs.State.{Process}
 use Rattle.vmodel.specs.Queue.{Queue, with_process, wake_at}
-use Rattle.vmodel.specs.Step.{leaves, going, goes_on, sleeps, fares, posts, regions, settled, left_of}
-use Rattle.vmodel.specs.Kept.{IsInOrder, count_in, places, most_places, IsInPlace, IsIdle}
+use Rattle.vmodel.specs.Step.{leaves, going, goes_on, sleeps, fares, posts, regions, settled, left_of, waits_by}
+use Rattle.vmodel.specs.Kept.{IsInOrder, count_in, places, most_places, HasRest, waits_of, IsInPlace, IsIdle}
 use Rattle.vmodel.proofs.PlaceLemmas.{alike, count-other, count-self, count-without_self, count-without, count-with, asleep-wake, without_rises, with_rises, wake_rises}
 
 -- ---- what holds of a queue after a move, by the cases of the move
@@ -69,6 +69,7 @@ order-posts (Some u) q h = record { active = h.active; inactive = h.inactive; fu
 order-fares : (p : ℕ) (fate : Fate) (left : Option ℕ) (q : Queue) → IsInOrder q → IsInOrder (fares p fate left q)
 order-fares p GoesOn left q h = order-goes_on p left q h
 order-fares p (Sleeps d) left q h = order-leaves p (sleeps d left q) (order-sleeps d left q h)
+order-fares p (Waits place) left q h = order-leaves p q h
 
 pub order-moved : (p : ℕ) (fate : Fate) (posted : Option (List Part)) (left : Option ℕ) (q : Queue) → IsInOrder q → IsInOrder (fares p fate left (posts posted q))
 order-moved p fate posted left q h = order-fares p fate left (posts posted q) (order-posts posted q h)
@@ -103,6 +104,7 @@ places-fares : (r p : ℕ) (fate : Fate) (left : List Spot) (q : Queue) → r �
 places-fares r p GoesOn left q ne = places-goes_on r p (going p left) q
 places-fares r p (Sleeps d) left q ne =
     omega (arith, places-leaves p r (sleeps d (going p left) q), places-sleeps r d (going p left) q, count-going r p left ne)
+places-fares r p (Waits place) left q ne = places-leaves p r q
 
 places-others : (r p : ℕ) (fate : Fate) (posted : Option (List Part)) (left : List Spot) (q : Queue) → r ≢ p →
     places r (fares p fate (going p left) (posts posted q)) ≤ places r q
@@ -113,11 +115,11 @@ left_all : (p : ℕ) (q : Queue) → places p q ≤ 1 → 1 ≤ count_in p q.act
 left_all p q once active = omega (arith, count-without_self p q.active)
 
 own-goes_on : (p : ℕ) (left : List Spot) (q : Queue) → places p q ≤ 1 → 1 ≤ count_in p q.active →
-    places p (goes_on p (going p left) q) ≤ most_places left
+    places p (goes_on p (going p left) q) ≤ most_places None left
 own-goes_on p [] q once active = omega (arith, left_all p q once active)
 own-goes_on p (spot ∷ rest) q once active = once
 
-own-going : (p : ℕ) (left : List Spot) → count_in p (option_to_list (going p left)) ≤ most_places left
+own-going : (p : ℕ) (left : List Spot) → count_in p (option_to_list (going p left)) ≤ most_places None left
 own-going p [] = omega arith
 own-going p (spot ∷ rest) = omega (arith, count-self p [])
 
@@ -132,16 +134,17 @@ own-sleeps p d sleeper q once active =
     (λ t lt within. omega (arith, count-without_self p q.active, asleep-wake p t sleeper q.future))
 
 own-fares : (p : ℕ) (fate : Fate) (left : List Spot) (q : Queue) → places p q ≤ 1 → 1 ≤ count_in p q.active →
-    places p (fares p fate (going p left) q) ≤ most_places left
+    places p (fares p fate (going p left) q) ≤ most_places (waits_by fate left) left
 own-fares p GoesOn left q once active = own-goes_on p left q once active
 own-fares p (Sleeps d) left q once active = omega (arith, own-sleeps p d (going p left) q once active, own-going p left)
+own-fares p (Waits place) left q once active = omega (arith, left_all p q once active)
 
 active-posts : (posted : Option (List Part)) (q : Queue) → (posts posted q).active ≡ q.active
 active-posts None q = refl
 active-posts (Some u) q = refl
 
 places-own : (p : ℕ) (fate : Fate) (posted : Option (List Part)) (left : List Spot) (q : Queue) → places p q ≤ 1 → 1 ≤ count_in p q.active →
-    places p (fares p fate (going p left) (posts posted q)) ≤ most_places left
+    places p (fares p fate (going p left) (posts posted q)) ≤ most_places (waits_by fate left) left
 places-own p fate posted left q once active =
     own-fares p fate left (posts posted q) (omega (arith, once, places-posts p posted q)) (omega (arith, active, ap (count_in p) (active-posts posted q)))
 
@@ -159,6 +162,7 @@ last-goes_on p (spot ∷ rest) q active = λ r e. let same : p ≡ r = cc in sub
 last-fares : (p : ℕ) (fate : Fate) (left : List Spot) (q : Queue) → 1 ≤ count_in p q.active → LastIsActive (fares p fate (going p left) q)
 last-fares p GoesOn left q active = last-goes_on p left q active
 last-fares p (Sleeps d) left q active = nobody_last (leaves p (sleeps d (going p left) q)) refl
+last-fares p (Waits place) left q active = nobody_last (leaves p q) refl
 
 last-moved : (p : ℕ) (fate : Fate) (posted : Option (List Part)) (left : List Spot) (q : Queue) → 1 ≤ count_in p q.active →
     LastIsActive (fares p fate (going p left) (posts posted q))
@@ -174,30 +178,58 @@ is_there [] p spot rest e = cc
 is_there (r ∷ rs) zero spot rest e = omega arith
 is_there (r ∷ rs) (suc p) spot rest e = omega (arith, is_there rs p spot rest e)
 
-at-set_same : (processes : List Process) (p : ℕ) (q : Process) → p < length processes → left_at (slice_set processes p q) p ≡ q.left
-at-set_same [] p q lt = absurd (omega arith)
-at-set_same (r ∷ rs) zero q lt = refl
-at-set_same (r ∷ rs) (suc p) q lt = at-set_same rs p q (omega arith)
+abbrev pub waits_at : List Process → ℕ → Option ℕ
+waits_at processes p = waits_of (slice_get processes p)
 
-at-set_other : (processes : List Process) (p r : ℕ) (q : Process) → r ≢ p → left_at (slice_set processes p q) r ≡ left_at processes r
-at-set_other [] p r q ne = refl
-at-set_other (x ∷ xs) zero zero q ne = absurd (ne refl)
-at-set_other (x ∷ xs) zero (suc r) q ne = refl
-at-set_other (x ∷ xs) (suc p) zero q ne = refl
-at-set_other (x ∷ xs) (suc p) (suc r) q ne = at-set_other xs p r q (λ e. ne (ap suc e))
+get-set_same : (processes : List Process) (p : ℕ) (q : Process) → p < length processes → slice_get (slice_set processes p q) p ≡ Some q
+get-set_same [] p q lt = absurd (omega arith)
+get-set_same (r ∷ rs) zero q lt = refl
+get-set_same (r ∷ rs) (suc p) q lt = get-set_same rs p q (omega arith)
 
-most-one : (left : List Spot) → most_places left ≤ 1
-most-one [] = omega arith
-most-one (spot ∷ rest) = omega arith
+get-set_other : (processes : List Process) (p r : ℕ) (q : Process) → r ≢ p → slice_get (slice_set processes p q) r ≡ slice_get processes r
+get-set_other [] p r q ne = refl
+get-set_other (x ∷ xs) zero zero q ne = absurd (ne refl)
+get-set_other (x ∷ xs) zero (suc r) q ne = refl
+get-set_other (x ∷ xs) (suc p) zero q ne = refl
+get-set_other (x ∷ xs) (suc p) (suc r) q ne = get-set_other xs p r q (λ e. ne (ap suc e))
+
+-- in how many places one may stand
+abbrev pub most_at : Option Process → ℕ
+most_at o = most_places (waits_of o) (left_of o)
+
+most-one : (waits : Option ℕ) (left : List Spot) → most_places waits left ≤ 1
+most-one (Some place) left = omega arith
+most-one None [] = omega arith
+most-one None (spot ∷ rest) = omega arith
+
+rest-by : (fate : Fate) (left : List Spot) → HasRest (waits_by fate left) left
+rest-by GoesOn left = tt
+rest-by (Sleeps d) left = tt
+rest-by (Waits place) [] = tt
+rest-by (Waits place) (spot ∷ rest) = tt
+
+abbrev pub IsWaiting : Option Process → Type 0
+IsWaiting o = HasRest (waits_of o) (left_of o)
 
 pub place-moved : (p : ℕ) (fate : Fate) (posted : Option (List Part)) (after : Process) (q : Queue) (processes : List Process) → IsInPlace q processes →
-    1 ≤ count_in p q.active → p < length processes →
+    after.waits ≡ waits_by fate after.left → 1 ≤ count_in p q.active → p < length processes →
     IsInPlace (fares p fate (going p after.left) (posts posted q)) (slice_set processes p after)
-place-moved p fate posted after q processes h active lt = record {
+place-moved p fate posted after q processes h waits active lt = record {
   once = λ r. elim (alike r p) [
-    | inl e ↦ subst (λ (n : ℕ). places n moved ≤ most_places (left_at (slice_set processes p after) n)) (sym e)
-        (omega (arith, places-own p fate posted after.left q one active, ap most_places (at-set_same processes p after lt)))
-    | inr ne ↦ omega (arith, places-others r p fate posted after.left q ne, h.once r, ap most_places (at-set_other processes p r after ne))
+    | inl e ↦ subst (λ (n : ℕ). places n moved ≤ most_at (slice_get (slice_set processes p after) n)) (sym e)
+        (omega (
+          arith,
+          places-own p fate posted after.left q one active,
+          ap (λ (w : Option ℕ). most_places w after.left) waits,
+          ap most_at (get-set_same processes p after lt),
+        ))
+    | inr ne ↦ omega (arith, places-others r p fate posted after.left q ne, h.once r, ap most_at (get-set_other processes p r after ne))
+  ];
+  waiting = λ r. elim (alike r p) [
+    | inl e ↦ subst (λ (n : ℕ). IsWaiting (slice_get (slice_set processes p after) n)) (sym e)
+        (subst IsWaiting (sym (get-set_same processes p after lt))
+        (subst (λ (w : Option ℕ). HasRest w after.left) (sym waits) (rest-by fate after.left)))
+    | inr ne ↦ subst IsWaiting (sym (get-set_other processes p r after ne)) (h.waiting r)
   ];
   last = last-moved p fate posted after.left q active;
 }
@@ -206,4 +238,4 @@ place-moved p fate posted after q processes h active lt = record {
     moved = fares p fate (going p after.left) (posts posted q)
 
     one : places p q ≤ 1
-    one = omega (arith, h.once p, most-one (left_at processes p))
+    one = omega (arith, h.once p, most-one (waits_at processes p) (left_at processes p))

@@ -50,6 +50,14 @@ count-with p r (q ∷ qs) = elim (compared p q) [
   | more gt ↦ omega (arith, count-with p r qs, ap (count_in r) (with_more p q qs gt), count-cons r q qs, count-cons r q (with_process p qs))
 ]
 
+pub count-keeps : (p r : ℕ) (qs : List ℕ) → count_in r qs ≤ count_in r (with_process p qs)
+count-keeps p r [] = omega arith
+count-keeps p r (q ∷ qs) = elim (compared p q) [
+  | less lt ↦ omega (arith, ap (count_in r) (with_less p q qs lt), count-cons r p (q ∷ qs))
+  | equal e ↦ omega (arith, ap (count_in r) (with_same p q qs e))
+  | more gt ↦ omega (arith, count-keeps p r qs, ap (count_in r) (with_more p q qs gt), count-cons r q qs, count-cons r q (with_process p qs))
+]
+
 pub count-waking : (r : ℕ) (sleeper : Option ℕ) (slot : Slot) →
     count_in r (waking sleeper slot).processes ≤ count_in r slot.processes + count_in r (option_to_list sleeper)
 count-waking r None slot = omega arith

@@ -1,8 +1,7 @@
 -- Sets of processes as rising lists.
-use Rattle.std.proofs.Common.{◌≡◌, ◌≢◌, ℕ, zero, suc, ◌+◌, ◌<◌, ◌≤◌, Bool, true, false, ◌&&◌, ◌==◌, nat_le, nat_lt, List, [], ◌∷◌, length, insert, remove, get_or, refl, sym, ap, subst, ◌∙◌, arith, Some}
-use Rattle.std.specs.Prelude.{slice_get}
+use Rattle.std.proofs.Common.{◌≡◌, ◌≢◌, ℕ, zero, suc, ◌+◌, ◌<◌, ◌≤◌, Bool, true, false, ◌&&◌, ◌==◌, nat_le, nat_lt, List, [], ◌∷◌, length, get_or, refl, ap, ◌∙◌, arith}
 use Rattle.std.proofs.lemmas.Bool.Decides.{nat_tests}
-use Rattle.vmodel.specs.ProcessSets.{rises, place_of}
+use Rattle.vmodel.specs.ProcessSets.{rises}
 use Rattle.vmodel.specs.Queue.{with_process, without_process}
 
 -- what a rising list says of its first number, and of the others
@@ -46,7 +45,7 @@ rises_lower low lower (p ∷ ps) h le =
 pub lt_true : (a b : ℕ) → nat_lt a b ≡ true → a < b
 lt_true a b e = grind (arith, nat_tests)
 
-lt_false : (a b : ℕ) → nat_lt a b ≡ false → b ≤ a
+pub lt_false : (a b : ℕ) → nat_lt a b ≡ false → b ≤ a
 lt_false a b e = grind (arith, nat_tests)
 
 pub is_lt : (a b : ℕ) → a < b → nat_lt a b ≡ true
@@ -70,12 +69,6 @@ with_same p q qs e = rw (not_lt p q (omega arith), same p q e)
 
 pub with_more : (p q : ℕ) (qs : List ℕ) → q < p → with_process p (q ∷ qs) ≡ q ∷ with_process p qs
 with_more p q qs lt = rw (not_lt p q (omega arith), differs p q (omega arith))
-
-place_more : (p q : ℕ) (qs : List ℕ) → q < p → place_of p (q ∷ qs) ≡ suc (place_of p qs)
-place_more p q qs lt = rw (is_lt q p lt)
-
-place_here : (p q : ℕ) (qs : List ℕ) → p ≤ q → place_of p (q ∷ qs) ≡ 0
-place_here p q qs le = rw (not_lt q p le)
 
 pub without_other : (p q : ℕ) (qs : List ℕ) → p ≢ q → without_process p (q ∷ qs) ≡ q ∷ without_process p qs
 without_other p q qs ne = rw (differs p q ne)
@@ -126,98 +119,9 @@ rises-with p low (q ∷ qs) h le lt =
           ∙ rises_from low q (with_process p qs) parts.0 parts.1 (rises-with p (suc q) qs parts.2 (omega arith) lt)
     ]
 
--- what stands at the place of a number, if that is the number, is the number; else the number goes there
-pub with_found : (p : ℕ) (qs : List ℕ) (d : ℕ) → place_of p qs < length qs → get_or qs (place_of p qs) d ≡ p → with_process p qs ≡ qs
-with_found p [] d lt e = absurd (omega arith)
-with_found p (q ∷ qs) d lt e =
-    elim (compared p q) [
-      | less below ↦ let here : get_or (q ∷ qs) 0 d ≡ p = ap (λ i. get_or (q ∷ qs) i d) (sym (place_here p q qs (omega arith))) ∙ e in
-          absurd (omega (arith, here))
-      | equal e ↦ with_same p q qs e
-      | more above ↦ let there : place_of p (q ∷ qs) ≡ suc (place_of p qs) = place_more p q qs above in
-          let found : get_or qs (place_of p qs) d ≡ p = ap (λ i. get_or (q ∷ qs) i d) (sym there) ∙ e in
-          with_more p q qs above ∙ ap (λ rest. q ∷ rest) (with_found p qs d (omega (arith, there)) found)
-    ]
-
-pub with_inserted : (p : ℕ) (qs : List ℕ) (d : ℕ) → (place_of p qs < length qs → get_or qs (place_of p qs) d ≢ p) →
-    insert qs (place_of p qs) p ≡ with_process p qs
-with_inserted p [] d ne = refl
-with_inserted p (q ∷ qs) d ne =
-    elim (compared p q) [
-      | less below ↦ ap (λ i. insert (q ∷ qs) i p) (place_here p q qs (omega arith)) ∙ sym (with_less p q qs below)
-      | equal e ↦ let here : place_of p (q ∷ qs) ≡ 0 = place_here p q qs (omega arith) in
-          absurd (ne (omega (arith, here)) (ap (λ i. get_or (q ∷ qs) i d) here ∙ sym e))
-      | more above ↦ let there : place_of p (q ∷ qs) ≡ suc (place_of p qs) = place_more p q qs above in
-          let other : place_of p qs < length qs → get_or qs (place_of p qs) d ≢ p =
-          λ lt e. ne (omega (arith, there)) (ap (λ i. get_or (q ∷ qs) i d) there ∙ e) in
-          ap (λ i. insert (q ∷ qs) i p) there ∙ ap (λ rest. q ∷ rest) (with_inserted p qs d other) ∙ sym (with_more p q qs above)
-    ]
-
-pub without_found : (p low : ℕ) (qs : List ℕ) (d : ℕ) → rises low qs ≡ true → place_of p qs < length qs → get_or qs (place_of p qs) d ≡ p →
-    remove qs (place_of p qs) ≡ without_process p qs
-without_found p low [] d h lt e = absurd (omega arith)
-without_found p low (q ∷ qs) d h lt e =
-    let parts : (low ≤ q) × (q < 256) × (rises (suc q) qs ≡ true) = rises_parts low q qs h in
-    elim (compared p q) [
-      | less below ↦ let here : get_or (q ∷ qs) 0 d ≡ p = ap (λ i. get_or (q ∷ qs) i d) (sym (place_here p q qs (omega arith))) ∙ e in
-          absurd (omega (arith, here))
-      | equal is ↦ ap (remove (q ∷ qs)) (place_here p q qs (omega arith))
-          ∙ sym (without_same p q qs is ∙ without_above p (suc q) qs parts.2 (omega arith))
-      | more above ↦ let there : place_of p (q ∷ qs) ≡ suc (place_of p qs) = place_more p q qs above in
-          let found : get_or qs (place_of p qs) d ≡ p = ap (λ i. get_or (q ∷ qs) i d) (sym there) ∙ e in
-          ap (remove (q ∷ qs)) there
-          ∙ ap (λ rest. q ∷ rest) (without_found p (suc q) qs d parts.2 (omega (arith, there)) found)
-          ∙ sym (without_other p q qs (omega arith))
-    ]
-
-pub without_absent : (p low : ℕ) (qs : List ℕ) (d : ℕ) → rises low qs ≡ true → (place_of p qs < length qs → get_or qs (place_of p qs) d ≢ p) →
-    without_process p qs ≡ qs
-without_absent p low [] d h ne = refl
-without_absent p low (q ∷ qs) d h ne =
-    let parts : (low ≤ q) × (q < 256) × (rises (suc q) qs ≡ true) = rises_parts low q qs h in
-    elim (compared p q) [
-      | less below ↦ without_above p q (q ∷ qs) (rises_from q q qs (omega arith) parts.1 parts.2) below
-      | equal e ↦ let here : place_of p (q ∷ qs) ≡ 0 = place_here p q qs (omega arith) in
-          absurd (ne (omega (arith, here)) (ap (λ i. get_or (q ∷ qs) i d) here ∙ sym e))
-      | more above ↦ let there : place_of p (q ∷ qs) ≡ suc (place_of p qs) = place_more p q qs above in
-          let other : place_of p qs < length qs → get_or qs (place_of p qs) d ≢ p =
-          λ lt e. ne (omega (arith, there)) (ap (λ i. get_or (q ∷ qs) i d) there ∙ e) in
-          without_other p q qs (omega arith) ∙ ap (λ rest. q ∷ rest) (without_absent p (suc q) qs d parts.2 other)
-    ]
-
--- the same for lists that are known to be one
-module _ (p k : ℕ) (members xs ys : List ℕ) (xs_are : xs ≡ members) (ys_are : ys ≡ members) (place : k ≡ place_of p xs) where
-  place_is : k ≡ place_of p members
-  place_is = place ∙ ap (place_of p) xs_are
-
-  stands : (k < length ys) × (get_or ys k 0 ≡ p) → (place_of p members < length members) × (get_or members (place_of p members) 0 ≡ p)
-  stands h =
-      let at_members : (k < length members) × (get_or members k 0 ≡ p) =
-      subst (λ (zs : List ℕ). (k < length zs) × (get_or zs k 0 ≡ p)) ys_are h in
-      subst (λ (j : ℕ). (j < length members) × (get_or members j 0 ≡ p)) place_is at_members
-
-  differs_there : (k < length ys → get_or ys k 0 ≢ p) → place_of p members < length members → get_or members (place_of p members) 0 ≢ p
-  differs_there ne =
-      let at_members : k < length members → get_or members k 0 ≢ p =
-      subst (λ (zs : List ℕ). k < length zs → get_or zs k 0 ≢ p) ys_are ne in
-      subst (λ (j : ℕ). j < length members → get_or members j 0 ≢ p) place_is at_members
-
-  pub with_when_there : (k < length ys) × (get_or ys k 0 ≡ p) → with_process p members ≡ members
-  with_when_there h = let there = stands h in with_found p members 0 there.0 there.1
-
-  pub with_when_inserted : (k < length ys → get_or ys k 0 ≢ p) → insert members k p ≡ with_process p members
-  with_when_inserted ne = ap (λ j. insert members j p) place_is ∙ with_inserted p members 0 (differs_there ne)
-
-  pub without_when_removed : rises 0 members ≡ true → (k < length ys) × (get_or ys k 0 ≡ p) → remove members k ≡ without_process p members
-  without_when_removed h there =
-      let found = stands there in ap (remove members) place_is ∙ without_found p 0 members 0 h found.0 found.1
-
-  pub without_when_absent : rises 0 members ≡ true → (k < length ys → get_or ys k 0 ≢ p) → without_process p members ≡ members
-  without_when_absent h ne = without_absent p 0 members 0 h (differs_there ne)
-
-pub slice_get-rises : (low : ℕ) (ps : List ℕ) (i x : ℕ) → rises low ps ≡ true → slice_get ps i ≡ Some x → x < 256
-slice_get-rises low [] i x h e = cc
-slice_get-rises low (p ∷ ps) zero x h e =
-    let same : p ≡ x = cc in
-    omega (arith, same, (rises_parts low p ps h).1)
-slice_get-rises low (p ∷ ps) (suc i) x h e = slice_get-rises (suc p) ps i x (rises_parts low p ps h).2 e
+-- one that is no process stands in no set
+pub without_far : (p low : ℕ) (qs : List ℕ) → rises low qs ≡ true → 256 ≤ p → without_process p qs ≡ qs
+without_far p low [] h far = refl
+without_far p low (q ∷ qs) h far =
+    let parts = rises_parts low q qs h in
+    without_other p q qs (omega (arith, parts.1, far)) ∙ ap (λ rest. q ∷ rest) (without_far p (suc q) qs parts.2 far)

@@ -7,13 +7,13 @@ use Rattle.vbits.specs.declared.bit4.Bit4.TheVariants.{X}
 use Rattle.vbits.specs.Vectors.{Vector, filled, with_sign}
 use Rattle.vdesign.specs.Design.{Variable, Design}
 use Rattle.vdesign.specs.declared.action.Action.{Action}
-use Rattle.vdesign.specs.declared.action.Action.TheVariants.{Assign, Nonblocking, Test, Again, Forever, Delay, DumpVars, Finish, Stop}
+use Rattle.vdesign.specs.declared.action.Action.TheVariants.{Assign, Nonblocking, Test, Again, Forever, Delay, On, Until, DumpVars, Finish, Stop}
 use Rattle.vdesign.specs.Expressions.{ExpressionTree}
 use Rattle.vdesign.specs.declared.action.Target.{Target}
 use Rattle.vdesign.specs.declared.action.Target.TheVariants.{Whole as WholeTarget}
 use Rattle.vmodel.specs.declared.history.Cause.{Cause}
 use Rattle.vmodel.specs.declared.deed.Fate.{Fate}
-use Rattle.vmodel.specs.declared.deed.Fate.TheVariants.{GoesOn, Sleeps}
+use Rattle.vmodel.specs.declared.deed.Fate.TheVariants.{GoesOn, Sleeps, Waits}
 use Rattle.vmodel.specs.declared.part.Part.{Part}
 use Rattle.vmodel.specs.declared.part.Part.TheVariants.{Whole}
 use Rattle.vmodel.specs.declared.process.Spot.{Spot}
@@ -27,7 +27,7 @@ use Rattle.vmodel.specs.Parts.{written}
 use Rattle.vmodel.specs.Queue.{Slot, Queue, waking, empty_slot, wake_at}
 use Rattle.vmodel.specs.State.{State}
 use Rattle.vmodel.specs.Choices.{choices}
-use Rattle.vmodel.specs.Step.{moment_of, Did, does, going, leaves, fares, posts, regions, closed_by, closed, acted, takes, goes_from, left_of, first_of, without_update, updated, advanced_to, turn_of, turn_by, next}
+use Rattle.vmodel.specs.Step.{moment_of, Did, does, going, leaves, fares, posts, regions, closed_by, woken, closed, acted, takes, goes_from, left_of, first_of, without_update, updated, advanced_to, turn_of, turn_by, next}
 use Rattle.vmodel.specs.Run.{Setting, opening_value, state_after}
 use Rattle.vmodel.specs.Played.{opening_is, after_is}
 use Rattle.vmodel.specs.Kept.{HasShape, AreShaped}
@@ -153,6 +153,7 @@ fares-suit variables p (Sleeps d) left q h =
     (λ r is. record { activated = h.activated; posted = h.posted; future = h.future })
     (record { activated = h.activated; posted = h.posted; future = h.future })
     (λ t later within. record { activated = h.activated; posted = h.posted; future = wake-suits variables t left q.future h.future })
+fares-suit variables p (Waits place) left q h = record { activated = h.activated; posted = h.posted; future = h.future }
 
 regions-suit : (variables : List Variable) (active : List ℕ) (activated : List (List Part)) (inactive : List ℕ) (posted : List (List Part)) (q : Queue) →
     QueueSuits variables q → UpdatesSuit variables posted → QueueSuits variables (regions active activated inactive posted q)
@@ -172,10 +173,19 @@ closed-shaped variables s h = by_cause s.cause
       queue = regions-suit variables s.queue.active s.queue.activated s.queue.inactive s.queue.posted s.queue h.queue h.queue.posted;
     }
 
+woken-shaped : (variables : List Variable) (design : Design) (before : List Vector) (s : State) → IsShaped variables s → IsShaped variables (closed (woken design before s))
+woken-shaped variables design before s h =
+    closed-shaped variables (woken design before s)
+    (record { values = h.values; queue = record { activated = h.queue.activated; posted = h.queue.posted; future = h.queue.future } })
+
 -- what a step writes and posts
 record DeedSuits (variables : List Variable) (did : Did) : Type 0 where
   pub wrote : AllSuit variables did.deed.wrote
   pub posted : (u : List Part) → did.deed.posted ≡ Some u → AllSuit variables u
+
+awaits-suit : (variables : List Variable) (place : ℕ) (holds : Bool) (body : List ℕ) (after : List Spot) → DeedSuits variables (awaits place holds body after)
+awaits-suit variables place true body after = record { wrote = tt; posted = λ u is. cc }
+awaits-suit variables place false body after = record { wrote = tt; posted = λ u is. cc }
 
 does-suits : (variables : List Variable) (place : ℕ) (action : Action) (after : List Spot) (now : Moment) → AreShaped variables now.values →
     DeedSuits variables (does place action after now)
@@ -187,6 +197,8 @@ does-suits variables place (Nonblocking target value) after now h = record {
       subst (AllSuit variables) same (assigned-suits variables target value now h);
 }
 does-suits variables place (Delay amount body) after now h = record { wrote = tt; posted = λ u is. cc }
+does-suits variables place (On terms body) after now h = record { wrote = tt; posted = λ u is. cc }
+does-suits variables place (Until condition terms body) after now h = awaits-suit variables place (holds now condition) body after
 does-suits variables place DumpVars after now h = record { wrote = tt; posted = λ u is. cc }
 does-suits variables place Finish after now h = record { wrote = tt; posted = λ u is. cc }
 does-suits variables place Stop after now h = record { wrote = tt; posted = λ u is. cc }
@@ -205,7 +217,7 @@ takes-shaped : (variables : List Variable) (design : Design) (p place : ℕ) (ac
 takes-shaped variables design p place None after s h = h
 takes-shaped variables design p place (Some action) after s h =
     let did = does place action after (moment_of design s) in
-    closed-shaped variables (acted p did s) (acted-shaped variables p did s h (does-suits variables place action after (moment_of design s) h.values))
+    woken-shaped variables design s.values (acted p did s) (acted-shaped variables p did s h (does-suits variables place action after (moment_of design s) h.values))
 
 process-shaped : (variables : List Variable) (design : Design) (p : ℕ) (left : List Spot) (s : State) → IsShaped variables s →
     IsShaped variables (goes_from design p left s).state
@@ -227,7 +239,7 @@ advanced-suits variables (e ∷ es) q suit h = record { activated = h.activated;
 
 turn-shaped : (variables : List Variable) (design : Design) (c : Choice) (s : State) → IsShaped variables s → IsShaped variables (turn_of design c s).state
 turn-shaped variables design (Run p) s h = process-shaped variables design p (left_of (slice_get s.processes p)) s h
-turn-shaped variables design Update s h = closed-shaped variables (updated s) (updated-shaped variables s.queue.activated s h.queue.activated h)
+turn-shaped variables design Update s h = woken-shaped variables design s.values (updated s) (updated-shaped variables s.queue.activated s h.queue.activated h)
 turn-shaped variables design Advance s h =
     closed-shaped variables (record s { queue = advanced_to s.queue.future s.queue })
     (record { values = h.values; queue = advanced-suits variables s.queue.future s.queue h.queue.future h.queue })

@@ -11,7 +11,7 @@ use Rattle.vmodel.specs.declared.history.Item.{Item}
 use Rattle.vmodel.specs.declared.history.Item.TheVariants.{SlotEnd, Dump}
 use Rattle.vmodel.specs.declared.part.Part.{Part}
 use Rattle.vmodel.specs.declared.deed.Fate.{Fate}
-use Rattle.vmodel.specs.declared.deed.Fate.TheVariants.{GoesOn, Sleeps}
+use Rattle.vmodel.specs.declared.deed.Fate.TheVariants.{GoesOn, Sleeps, Waits}
 use Rattle.vmodel.specs.declared.process.Spot.{Spot}
 use Rattle.vmodel.specs.declared.process.Spot.TheVariants.{Doing}
 use Rattle.vmodel.specs.declared.choice.Choice.{Choice}
@@ -19,7 +19,7 @@ use Rattle.vmodel.specs.declared.choice.Choice.TheVariants.{Run, Update, Advance
 use Rattle.vmodel.specs.Queue.{Slot, Queue}
 use Rattle.vmodel.specs.State.{State}
 use Rattle.vmodel.specs.Choices.{choices}
-use Rattle.vmodel.specs.Step.{moment_of, Turn, Did, does, going, goes_on, fares, posts, settled, closed_by, closed, acted, turned, takes, goes_from, left_of, without_update, updated, advanced_to, turn_of, turn_by, next, command_items, idle_items, slot_end_by, slot_end_of, items_of}
+use Rattle.vmodel.specs.Step.{moment_of, Turn, Did, does, going, goes_on, fares, posts, settled, closed_by, woken, closed, acted, turned, takes, goes_from, left_of, without_update, updated, advanced_to, turn_of, turn_by, next, command_items, idle_items, slot_end_by, slot_end_of, items_of}
 use Rattle.vmodel.specs.Run.{Setting, rules_of, opening_of, state_after, given_by}
 use Rattle.vmodel.specs.Played.{opening_is, after_is, width_is}
 use Rattle.vmodel.specs.Kept.{RisesFrom, IsIdle, IsKept, slot_times, count_in}
@@ -112,20 +112,21 @@ time-goes_on p (Some same) q = refl
 time-fares : (p : ℕ) (fate : Fate) (left : Option ℕ) (q : Queue) → (fares p fate left q).time ≡ q.time
 time-fares p GoesOn left q = time-goes_on p left q
 time-fares p (Sleeps d) left q = sleeps_by (λ (r : Queue). r.time ≡ q.time) d left q refl (λ r is. refl) refl (λ t lt within. refl)
+time-fares p (Waits place) left q = refl
 
 time-posts : (posted : Option (List Part)) (q : Queue) → (posts posted q).time ≡ q.time
 time-posts None q = refl
 time-posts (Some u) q = refl
 
-time-turned : (p : ℕ) (did : Did) (s : State) → (turned p did s).state.queue.time ≡ s.queue.time
-time-turned p did s =
-    time-closed (acted p did s)
+time-turned : (design : Design) (p : ℕ) (did : Did) (s : State) → (turned design p did s).state.queue.time ≡ s.queue.time
+time-turned design p did s =
+    time-closed (woken design s.values (acted p did s))
     ∙ time-fares p did.deed.fate (going p did.left) (posts did.deed.posted s.queue)
     ∙ time-posts did.deed.posted s.queue
 
 time-takes : (design : Design) (p place : ℕ) (action : Option Action) (after : List Spot) (s : State) → (takes design p place action after s).state.queue.time ≡ s.queue.time
 time-takes design p place None after s = refl
-time-takes design p place (Some action) after s = time-turned p (does place action after (moment_of design s)) s
+time-takes design p place (Some action) after s = time-turned design p (does place action after (moment_of design s)) s
 
 time-process : (design : Design) (p : ℕ) (left : List Spot) (s : State) → (goes_from design p left s).state.queue.time ≡ s.queue.time
 time-process design p [] s = refl
@@ -152,7 +153,7 @@ turn-timed design times (Run p) s kept none active timed =
     ))
 turn-timed design times Update s kept none some timed =
     timed_turn times (turn_of design Update s) timed.rises
-    (omega (arith, timed.before none (λ idle. some idle.1), time-closed (updated s), time-updated s.queue.activated s.queue))
+    (omega (arith, timed.before none (λ idle. some idle.1), time-closed (woken design s.values (updated s)), time-updated s.queue.activated s.queue))
 turn-timed design times Advance s kept none allowed timed =
     timed_turn times (turn_of design Advance s) timed.rises
     (omega (

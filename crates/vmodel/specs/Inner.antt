@@ -57,6 +57,6 @@ abbrev pub first_action : List Action → List Spot → Option Action
 first_action actions [] = None
 first_action actions (Doing place ∷ after) = slice_get actions place
 
-abbrev pub IsFirstAction : List Action → List Spot → Option (Bor Action) → Type 0
+abbrev pub IsFirstAction : List Action → List Spot → Option (ℕ × Bor Action) → Type 0
 IsFirstAction actions left None = first_action actions left ≡ None
-IsFirstAction actions left (Some action) = first_action actions left ≡ Some action.now
+IsFirstAction actions left (Some found) = (first_place left ≡ Some found.0) × (first_action actions left ≡ Some found.1.now)

@@ -3,6 +3,7 @@ use Rattle.std.specs.Prelude.{ℕ, Bool, cond, ◌∷◌, List, Some, drop, slic
 use Rattle.vmodel.specs.declared.process.Spot.{Spot}
 use Rattle.vmodel.specs.declared.process.Spot.TheVariants.{Doing}
 use Rattle.vmodel.specs.declared.deed.Deed.{Deed}
+use Rattle.vmodel.specs.declared.deed.Fate.TheVariants.{Waits}
 use Rattle.vmodel.specs.Queue.{Queue}
 use Rattle.vmodel.specs.declared.history.Cause.{Cause}
 use Rattle.vmodel.specs.State.{Process, State}
@@ -36,6 +37,11 @@ did_so place again next after deed = record { left = spots next (cond again (Doi
 -- what a loop at a place does where its condition holds, and where it does not
 abbrev pub loops : ℕ → Bool → List ℕ → List Spot → Did
 loops place holds body after = record { left = cond holds (spots body (Doing place ∷ after)) after; deed = quiet }
+
+-- what a `wait` at a place does where its condition holds, and where it does not
+abbrev pub awaits : ℕ → Bool → List ℕ → List Spot → Did
+awaits place holds body after =
+    cond holds (record { left = spots body after; deed = quiet }) (record { left = Doing place ∷ after; deed = record quiet { fate = Waits place } })
 
 -- the state after a step, and what the step did
 abbrev pub turn_to : State → Deed → Turn

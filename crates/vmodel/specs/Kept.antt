@@ -1,5 +1,5 @@
 -- What every state of a run keeps, under every log (IEEE 1364-2005, 11.3, 11.4; docs/SCHEDULING.md).
-use Rattle.std.specs.Prelude.{◌≡◌, ℕ, suc, ◌+◌, ◌≤◌, ◌==◌, cond, List, [], ◌∷◌, length, slice_get, None}
+use Rattle.std.specs.Prelude.{◌≡◌, ℕ, suc, ◌+◌, ◌≤◌, ◌==◌, cond, List, [], ◌∷◌, length, slice_get, Option, Some, None}
 use Rattle.std.specs.Option.{ForSome}
 use Rattle.vmodel.specs.declared.process.Spot.{Spot}
 use Rattle.vmodel.specs.Queue.{Slot, Queue}
@@ -40,15 +40,27 @@ asleep p (e ∷ es) = count_in p e.1.processes + asleep p es
 abbrev pub places : ℕ → Queue → ℕ
 places p q = count_in p q.active + count_in p q.inactive + asleep p q.future
 
--- in how many places at most, by what it has left
-abbrev pub most_places : List Spot → ℕ
-most_places [] = 0
-most_places (spot ∷ rest) = 1
+-- in how many places at most, by what it waits for and what it has left
+abbrev pub most_places : Option ℕ → List Spot → ℕ
+most_places (Some place) left = 0
+most_places None [] = 0
+most_places None (spot ∷ rest) = 1
 
--- 9.9.1: a process with something left stands in one place at most, one with nothing left in none; the process that made
--- the last step is active
+-- what waits has something left
+abbrev pub HasRest : Option ℕ → List Spot → Type 0
+HasRest None left = Unit {0}
+HasRest (Some place) [] = ⊥
+HasRest (Some place) (spot ∷ rest) = Unit {0}
+
+abbrev pub waits_of : Option Process → Option ℕ
+waits_of None = None
+waits_of (Some process) = process.waits
+
+-- 9.9.1, 9.7.2: a process with something left stands in one place at most, one that waits for a change or has nothing left in
+-- none; the process that made the last step is active
 pub record IsInPlace (q : Queue) (processes : List Process) : Type 0 where
-  pub once : (p : ℕ) → places p q ≤ most_places (left_of (slice_get processes p))
+  pub once : (p : ℕ) → places p q ≤ most_places (waits_of (slice_get processes p)) (left_of (slice_get processes p))
+  pub waiting : (p : ℕ) → HasRest (waits_of (slice_get processes p)) (left_of (slice_get processes p))
   pub last : ForSome q.last (λ p. 1 ≤ count_in p q.active)
 
 abbrev pub IsIdle : Queue → Type 0

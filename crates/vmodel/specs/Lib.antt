@@ -3,6 +3,8 @@ pub mod Parts
 pub mod ProcessSets
 pub mod Queue
 pub mod State
+pub mod Waking
+pub mod InnerWaking
 pub mod Choices
 pub mod History
 pub mod Step

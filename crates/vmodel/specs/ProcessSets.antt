@@ -1,12 +1,21 @@
--- Sets of processes as rising lists of their numbers, of which there are 256.
-use Rattle.std.specs.Prelude.{ℕ, zero, suc, Bool, true, ◌&&◌, cond, nat_le, nat_lt, List, [], ◌∷◌}
+-- How sets of processes are kept: two words of 128 bits, a bit for each process.
+use Rattle.std.specs.Prelude.{ℕ, zero, suc, ◌-◌, ◌==◌, Bool, true, ◌&&◌, cond, nat_le, nat_lt, List, [], ◌∷◌}
+use Rattle.std.specs.Int.{bit_at}
+
+-- whether the bit of this process is set
+abbrev pub has : ℕ → ℕ → ℕ → Bool
+has low high p = cond (nat_lt p 128) (bit_at low p == 1) (bit_at high (p - 128) == 1)
+
+-- the numbers from `from` on, `count` of them, that are in
+unfoldable pub listed : (ℕ → Bool) → ℕ → ℕ → List ℕ
+listed is_in zero from = []
+listed is_in (suc count) from = cond (is_in from) (from ∷ listed is_in count (suc from)) (listed is_in count (suc from))
+
+-- the processes whose bits are set, in the order of their numbers
+unfoldable pub members : ℕ → ℕ → List ℕ
+members low high = listed (has low high) 256 0
 
 -- the numbers rise from low on, and are below 256
 abbrev pub rises : ℕ → List ℕ → Bool
 rises low [] = true
 rises low (p ∷ ps) = nat_le low p && nat_lt p 256 && rises (suc p) ps
-
--- how many come before this one
-abbrev pub place_of : ℕ → List ℕ → ℕ
-place_of p [] = zero
-place_of p (q ∷ qs) = cond (nat_lt q p) (suc (place_of p qs)) zero

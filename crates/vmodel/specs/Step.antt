@@ -4,7 +4,7 @@ use Rattle.vbits.specs.Vectors.{Vector}
 use Rattle.basis.specs.Timescales.{factor}
 use Rattle.vdesign.specs.Design.{Design}
 use Rattle.vdesign.specs.declared.action.Action.{Action}
-use Rattle.vdesign.specs.declared.action.Action.TheVariants.{Assign, Nonblocking, Test, Again, Forever, Delay, DumpVars, Finish, Stop}
+use Rattle.vdesign.specs.declared.action.Action.TheVariants.{Assign, Nonblocking, Test, Again, Forever, Delay, On, Until, DumpVars, Finish, Stop}
 use Rattle.vmodel.specs.declared.history.Cause.{Cause}
 use Rattle.vmodel.specs.declared.history.Cause.TheVariants.{Finish as Finished, Stop as Stopped}
 use Rattle.vmodel.specs.declared.history.DumpCommand.{DumpCommand}
@@ -14,7 +14,7 @@ use Rattle.vmodel.specs.declared.history.Item.TheVariants.{SlotEnd, Dump}
 use Rattle.vmodel.specs.declared.process.Spot.{Spot}
 use Rattle.vmodel.specs.declared.process.Spot.TheVariants.{Doing}
 use Rattle.vmodel.specs.declared.deed.Fate.{Fate}
-use Rattle.vmodel.specs.declared.deed.Fate.TheVariants.{GoesOn, Sleeps}
+use Rattle.vmodel.specs.declared.deed.Fate.TheVariants.{GoesOn, Sleeps, Waits}
 use Rattle.vmodel.specs.declared.deed.Deed.{Deed}
 use Rattle.vmodel.specs.declared.part.Part.{Part}
 use Rattle.vvalue.specs.Value.{Moment, holds, delay_of}
@@ -22,6 +22,7 @@ use Rattle.vmodel.specs.Value.{assigned}
 use Rattle.vmodel.specs.Parts.{written}
 use Rattle.vmodel.specs.Queue.{Slot, Queue, with_process, without_process, wake_after}
 use Rattle.vmodel.specs.State.{Process, State}
+use Rattle.vmodel.specs.Waking.{wakes, awake, with_awake}
 use Rattle.vmodel.specs.declared.choice.Choice.{Choice}
 use Rattle.vmodel.specs.declared.choice.Choice.TheVariants.{Run, Update, Advance}
 use Rattle.vmodel.specs.Choices.{choices}
@@ -58,6 +59,12 @@ does place (Again condition body) after now =
 does place (Forever body) after now = record { left = spots body (Doing place ∷ after); deed = quiet }
 -- 9.7.1: `#amount` suspends, and the body comes after it
 does place (Delay amount body) after now = record { left = spots body after; deed = record quiet { fate = Sleeps (delay_of now amount) } }
+-- 9.7.2: `@(terms)` waits, and the body comes after it
+does place (On terms body) after now = record { left = spots body after; deed = record quiet { fate = Waits place } }
+-- 9.7.6: `wait (condition)` goes on to its body, or waits and then tests once more
+does place (Until condition terms body) after now =
+    cond (holds now condition) (record { left = spots body after; deed = quiet })
+    (record { left = Doing place ∷ after; deed = record quiet { fate = Waits place } })
 -- 18.1.2: `$dumpvars`
 does place DumpVars after now = record { left = after; deed = record quiet { command = Some Vars } }
 -- 17.4.1: `$finish`
@@ -94,6 +101,7 @@ sleeps (suc d) sleeper q = wake_after (suc d) sleeper q
 abbrev pub fares : ℕ → Fate → Option ℕ → Queue → Queue
 fares p GoesOn left q = goes_on p left q
 fares p (Sleeps d) left q = leaves p (sleeps d left q)
+fares p (Waits place) left q = leaves p q
 
 -- 11.4: an update stands behind those posted before
 abbrev pub posts : Option (List Part) → Queue → Queue
@@ -128,9 +136,16 @@ pub record Turn : Type 0 where
   pub state : State
   pub deed : Deed
 
+-- the place at which it waits from now on; where nothing is left it has ended
+abbrev pub waits_by : Fate → List Spot → Option ℕ
+waits_by GoesOn left = None
+waits_by (Sleeps d) left = None
+waits_by (Waits place) [] = None
+waits_by (Waits place) (spot ∷ rest) = Some place
+
 -- a process after its step
 abbrev pub process_by : Did → Process
-process_by did = record { left = did.left; held = did.deed.held; waits = None }
+process_by did = record { left = did.left; held = did.deed.held; waits = waits_by did.deed.fate did.left }
 
 -- the process is placed, the parts are written, and the queue has what becomes of both
 abbrev pub acted : ℕ → Did → State → State
@@ -141,8 +156,17 @@ acted p did s = record {
   cause = did.deed.cause;
 }
 
-abbrev pub turned : ℕ → Did → State → Turn
-turned p did s = record { state = closed (acted p did s); deed = did.deed }
+-- 9.7.2: what waits for a change of the values from what they were goes on, in the same step
+abbrev pub woken : Design → List Vector → State → State
+woken design before s =
+    let comes = wakes design.actions before s.values in
+    record s {
+      processes = map (awake comes) s.processes;
+      queue = record s.queue { active = with_awake comes 0 s.processes s.queue.active };
+    }
+
+abbrev pub turned : Design → ℕ → Did → State → Turn
+turned design p did s = record { state = closed (woken design s.values (acted p did s)); deed = did.deed }
 
 -- nothing happens
 abbrev pub unmoved : State → Turn
@@ -162,7 +186,7 @@ moment_of design s =
 -- the process takes the action, if there is one
 abbrev pub takes : Design → ℕ → ℕ → Option Action → List Spot → State → Turn
 takes design p place None after s = unmoved s
-takes design p place (Some action) after s = turned p (does place action after (moment_of design s)) s
+takes design p place (Some action) after s = turned design p (does place action after (moment_of design s)) s
 
 -- it takes the action at the first of what it has left. One with nothing left is never active (specs/Kept.antt)
 abbrev pub goes_from : Design → ℕ → List Spot → State → Turn
@@ -200,7 +224,7 @@ advanced_to (e ∷ es) q =
 abbrev pub turn_of : Design → Choice → State → Turn
 turn_of design (Run p) s = process_turn design p s
 turn_of design Update s =
-    record { state = closed (updated s); deed = record quiet { wrote = first_of s.queue.activated } }
+    record { state = closed (woken design s.values (updated s)); deed = record quiet { wrote = first_of s.queue.activated } }
 turn_of design Advance s =
     record { state = closed (record s { queue = advanced_to s.queue.future s.queue }); deed = quiet }
 

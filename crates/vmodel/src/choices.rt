@@ -30,7 +30,7 @@ fn active_at(queue: &Queue, i: u32) -> Option<u32>
             if i == 0 {
                 return Some(last);
             }
-            queue.active.nth_without(last, i - 1)
+            queue.active.get_without(last, i - 1)
         }
     }
 }

@@ -5,7 +5,7 @@ ghost use Rattle.vvalue.specs.Value.{holds as holds_at};
 ghost use Rattle.vmodel.specs.declared.process.Spot.{Spot};
 ghost use Rattle.vmodel.specs.Step as spec;
 ghost use Rattle.vmodel.specs.Step.{does};
-ghost use Rattle.vmodel.specs.InnerStep.{did_so, ending_by, loops};
+ghost use Rattle.vmodel.specs.InnerStep.{awaits, did_so, ending_by, loops};
 
 use crate::history::{Cause, DumpCommand};
 use crate::part::Parts;
@@ -23,6 +23,8 @@ pub enum Fate {
     GoesOn,
     /// It sleeps so long, in units of the precision (9.7.1).
     Sleeps(u128),
+    /// It waits for a change, at the action of this place (9.7.2).
+    Waits(usize),
 }
 
 /// What a step does, beside what its process has left.
@@ -104,6 +106,30 @@ fn again_of<'d>(condition: &Expression, body: &'d Places, moment: &Moment<'_>) -
     }
 }
 
+// What a `wait` does (9.7.6).
+fn until_of<'d>(
+    place: usize,
+    condition: &Expression,
+    body: &'d Places,
+    moment: &Moment<'_>,
+) -> Doing<'d>
+    ensures { (after : List Spot) →
+        awaits place (holds_at moment.now condition.now) body.now after
+        ≡ did_so place result.again result.next.now after result.deed }
+{
+    if holds(condition, moment) {
+        return goes_to(body.as_slice());
+    }
+    Doing {
+        next: &[],
+        again: true,
+        deed: Deed {
+            fate: Fate::Waits(place),
+            ..Deed::quiet()
+        },
+    }
+}
+
 // The branch of an `if` that comes next (9.4).
 fn branch_of<'d>(
     condition: &Expression,
@@ -130,9 +156,9 @@ fn ending(cause: Cause) -> Deed
     }
 }
 
-/// What the action does at this moment.
-pub fn deed_of<'d>(action: &'d Action, moment: &Moment<'_>) -> Doing<'d>
-    ensures { (place : ℕ) (after : List Spot) →
+/// What the action of this place does at this moment.
+pub fn deed_of<'d>(place: usize, action: &'d Action, moment: &Moment<'_>) -> Doing<'d>
+    ensures { (after : List Spot) →
         does place action.now after moment.now
         ≡ did_so place result.again result.next.now after result.deed }
 {
@@ -162,6 +188,17 @@ pub fn deed_of<'d>(action: &'d Action, moment: &Moment<'_>) -> Doing<'d>
                 ..quiet
             },
         },
+        Action::On { body, .. } => Doing {
+            next: body.as_slice(),
+            again: false,
+            deed: Deed {
+                fate: Fate::Waits(place),
+                ..quiet
+            },
+        },
+        Action::Until {
+            condition, body, ..
+        } => until_of(place, condition, body, moment),
         Action::DumpVars => Doing {
             next: &[],
             again: false,

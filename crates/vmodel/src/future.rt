@@ -38,31 +38,29 @@ fn stands_at(future: &[Future], place: usize, time: u64) -> bool
 }
 
 // A future time that holds one process to wake, or none.
-fn new_future(alloc: Global, time: u64, sleeper: Option<u32>) -> Result<Future, NoMemory>
+fn new_future(alloc: Global, time: u64, sleeper: Option<u32>) -> Future
     requires { ForSome sleeper (λ p. p < 256) }
-    ensures { IfOk result (λ entry. entry ≡ (time, waking sleeper empty_slot)) }
+    ensures { result ≡ (time, waking sleeper empty_slot) }
 {
-    let mut processes = ProcessSet::new(alloc);
+    let mut processes = ProcessSet::new();
     if let Some(process) = sleeper {
-        processes.insert(process)?;
+        processes.insert(process);
     }
-    Ok(Future {
+    Future {
         time,
         processes,
         updates: VecDeque::new(alloc),
-    })
+    }
 }
 
 // One more process to wake at the future time of this place.
-fn wake_with(entry: &mut Future, sleeper: Option<u32>) -> Result<(), NoMemory>
+fn wake_with(entry: &mut Future, sleeper: Option<u32>)
     requires { ForSome sleeper (λ p. p < 256) }
-    ensures ok { OnOk result (entry.new ≡ (entry.old.0, waking sleeper entry.old.1)) }
-    ensures err { OnErr result (entry.new ≡ entry.old) }
+    ensures { entry.new ≡ (entry.old.0, waking sleeper entry.old.1) }
 {
     if let Some(process) = sleeper {
-        entry.processes.insert(process)?;
+        entry.processes.insert(process);
     }
-    Ok(())
 }
 
 /// One more process to wake at a time, which becomes a future time also where there is none. After want of memory the
@@ -78,10 +76,11 @@ pub(crate) fn wake_at(
 {
     let place = place_among(future, time);
     if stands_at(future, place, time) {
-        return wake_with(&mut future[place], sleeper);
+        wake_with(&mut future[place], sleeper);
+        return Ok(());
     }
     let alloc = *future.allocator();
-    let entry = new_future(alloc, time, sleeper)?;
+    let entry = new_future(alloc, time, sleeper);
     future.insert(place, entry)?;
     Ok(())
 }
@@ -91,7 +90,7 @@ fn copy_entry(alloc: Global, entry: &Future) -> Result<Future, NoMemory>
 {
     Ok(Future {
         time: entry.time,
-        processes: entry.processes.copy(alloc)?,
+        processes: entry.processes.copy(),
         updates: copy_updates(alloc, &entry.updates)?,
     })
 }

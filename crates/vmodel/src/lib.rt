@@ -22,6 +22,7 @@ pub mod state;
 mod step;
 mod value;
 pub mod values;
+mod waking;
 
 pub use law::run_law;
 pub use open::opening;

@@ -26,20 +26,20 @@ fn opening_processes(alloc: Global, begins: &[Places]) -> Result<Vec<Process>, N
 }
 
 // The processes that have something to do.
-fn busy(alloc: Global, begins: &[Places]) -> Result<ProcessSet, NoMemory>
+fn busy(begins: &[Places]) -> ProcessSet
     requires { length begins.now ≤ 256 }
-    ensures { IfOk result (λ set. set ≡ busy_from 0 begins.now) }
+    ensures { result ≡ busy_from 0 begins.now }
 {
-    let mut set = ProcessSet::new(alloc);
+    let mut set = ProcessSet::new();
     let mut i = begins.len();
     while i > 0 {
         i -= 1;
         let places = &begins[i];
         if !places.as_slice().is_empty() {
-            set.insert(i as u32)?;
+            set.insert(i as u32);
         }
     }
-    Ok(set)
+    set
 }
 
 fn opening_queue(active: ProcessSet, alloc: Global, until: u64, grain: Grain) -> Queue
@@ -51,7 +51,7 @@ fn opening_queue(active: ProcessSet, alloc: Global, until: u64, grain: Grain) ->
         time: 0,
         last: None,
         active,
-        inactive: ProcessSet::new(alloc),
+        inactive: ProcessSet::new(),
         activated: VecDeque::new(alloc),
         posted: VecDeque::new(alloc),
         future: Vec::new(alloc),
@@ -70,7 +70,7 @@ pub fn opening(
 ) -> Result<SlowState, NoMemory>
     ensures { IfOk result (λ state. state ≡ opening_state design.now until grain) }
 {
-    let active = busy(alloc, &design.processes)?;
+    let active = busy(&design.processes);
     Ok(SlowState {
         values: Values::opening(alloc, &design.variables)?,
         processes: opening_processes(alloc, &design.processes)?,

@@ -1,26 +1,34 @@
 // A set of processes, by their numbers.
 
-ghost use Rattle.std.specs.Prelude.{◌==◌, ◌≡◌, ◌<◌, ◌≤◌, [], ℕ, List, IsTrue, OnOk, OnErr, IfOk, length, slice_get, slice_index, Some, true, false, ◌≢◌};
+ghost use Rattle.std.specs.Prelude.{◌==◌, ◌≡◌, ◌<◌, ◌≤◌, [], ℕ, List, length, slice_get, Some, true, false};
 ghost use Rattle.std.specs.Option.{ForSome};
-ghost use Rattle.vmodel.specs.ProcessSets.{rises, place_of};
+ghost use Rattle.std.specs.Prelude.{nat_eq};
+ghost use Rattle.std.specs.Cmp.Lexicographic.{pointwise};
+ghost use Rattle.vmodel.specs.ProcessSets.{has as is_in, members};
 ghost use Rattle.vmodel.specs.Queue.{with_process, without_process};
 
-use basis::NoMemory;
-use std::alloc::Global;
 use std::marker::Model;
 
-/// A set of processes: their numbers, rising and below 256 (docs/LANGUAGE.md, "Limits").
+/// The most processes of a design (docs/LANGUAGE.md, "Limits").
+const MOST: u32 = 256;
+
+/// A set of processes: a bit for each number below 256. A clause sees the numbers, rising.
 #[derive(Drop)]
 pub struct ProcessSet {
-    members: Vec<u32>,
+    low: u128,
+    high: u128,
+    count: u32,
 }
 
 impl Model for ProcessSet {
+    ghost use Rattle.std.specs.Prelude.{◌≡◌, ℕ, List, length};
+    ghost use Rattle.vmodel.specs.ProcessSets.{members};
+
     ghost Value = { List ℕ };
 
-    ghost view = { λ set. set.members.items };
+    ghost view = { λ set. members set.low set.high };
 
-    ghost invariant = { λ set. IsTrue (rises 0 set.members.items) };
+    ghost invariant = { λ set. set.count ≡ length (members set.low set.high) };
 }
 
 /// Two are equal where they have the same members.
@@ -35,7 +43,7 @@ impl PartialEq for ProcessSet {
     ghost laws = { partial_equiv_from_equiv nat_list_eq_equiv };
 
     fn eq(&self, other: &ProcessSet) -> bool {
-        self.members == other.members
+        have_same(self.low, self.high, other.low, other.high)
     }
 }
 
@@ -45,13 +53,69 @@ impl Eq for ProcessSet {
     ghost laws = { nat_list_eq_equiv };
 }
 
+// Whether two pairs of words have the same bits.
+fn have_same(low: u128, high: u128, other_low: u128, other_high: u128) -> bool
+    ensures { result ≡ pointwise nat_eq (members low high) (members other_low other_high) }
+{
+    low == other_low && high == other_high
+}
+
+// Whether the bit of a process is set.
+fn has(low: u128, high: u128, process: u32) -> bool
+    requires { process < 256 }
+    ensures { result ≡ is_in low high process }
+{
+    if process < 128 {
+        low >> process & 1 == 1
+    } else {
+        high >> (process - 128) & 1 == 1
+    }
+}
+
 impl ProcessSet {
     /// The empty set.
-    pub fn new(alloc: Global) -> ProcessSet
+    pub fn new() -> ProcessSet
         ensures { result ≡ [] }
     {
         ProcessSet {
-            members: Vec::new(alloc),
+            low: 0,
+            high: 0,
+            count: 0,
+        }
+    }
+
+    /// The set with one process more.
+    pub fn insert(&mut self, process: u32)
+        requires { process < 256 }
+        ensures { self.new ≡ with_process process self.old }
+    {
+        if has(self.low, self.high, process) {
+            return;
+        }
+        self.count += 1;
+        if process < 128 {
+            self.low |= 1 << process;
+        } else {
+            self.high |= 1 << (process - 128);
+        }
+    }
+
+    /// The set without this process.
+    pub fn remove(&mut self, process: u32)
+        ensures { self.new ≡ without_process process self.old }
+    {
+        let (low, high) = (self.low, self.high);
+        if process >= MOST {
+            return;
+        }
+        if !has(low, high, process) {
+            return;
+        }
+        self.count -= 1;
+        if process < 128 {
+            self.low = low & !(1 << process);
+        } else {
+            self.high = high & !(1 << (process - 128));
         }
     }
 
@@ -60,39 +124,25 @@ impl ProcessSet {
         ensures exact { result ≡ length self.now }
         ensures few { result ≤ 256 }
     {
-        self.members.len() as u32
-    }
-
-    /// The process of this place in the order of their numbers.
-    pub fn nth(&self, i: u32) -> u32
-        requires { i < length self.now }
-        ensures exact { slice_get self.now i ≡ Some result }
-        ensures few { result < 256 }
-    {
-        self.members[i as usize]
+        self.count
     }
 
     /// Whether no process is in the set.
     pub fn is_empty(&self) -> bool
         ensures { result ≡ (length self.now == 0) }
     {
-        self.members.is_empty()
+        self.count == 0
     }
 
-    /// How many processes other than this one are in the set.
-    pub fn len_without(&self, process: u32) -> u32
-        ensures exact { result ≡ length (without_process process self.now) }
-        ensures few { result ≤ 256 }
+    /// A set of the same processes.
+    pub fn copy(&self) -> ProcessSet
+        ensures { result ≡ self.now }
     {
-        count_without(&self.members, process) as u32
-    }
-
-    /// The process of this place in the order of their numbers, this one left out.
-    pub fn nth_without(&self, process: u32, i: u32) -> Option<u32>
-        ensures exact { result ≡ slice_get (without_process process self.now) i }
-        ensures few { ForSome result (λ p. p < 256) }
-    {
-        nth_other(&self.members, process, i)
+        ProcessSet {
+            low: self.low,
+            high: self.high,
+            count: self.count,
+        }
     }
 
     /// The process of this place in the order of their numbers, if there is one.
@@ -100,94 +150,40 @@ impl ProcessSet {
         ensures exact { result ≡ slice_get self.now i }
         ensures few { ForSome result (λ p. p < 256) }
     {
-        if i < self.len() {
-            Some(self.nth(i))
-        } else {
-            None
-        }
+        listed_at(self.low, self.high, i)
     }
 
-    /// The set with one process more. Where memory is refused (E901) nothing changes.
-    pub fn insert(&mut self, process: u32) -> Result<(), NoMemory>
-        requires { process < 256 }
-        ensures ok { OnOk result (self.new ≡ with_process process self.old) }
-        ensures err { OnErr result (self.new ≡ self.old) }
+    /// How many processes other than this one are in the set.
+    pub fn len_without(&self, process: u32) -> u32
+        ensures exact { result ≡ length (without_process process self.now) }
+        ensures few { result ≤ 256 }
     {
-        let place = place_among(&self.members, process);
-        if stands_at(&self.members, place, process) {
-            return Ok(());
-        }
-        self.members.insert(place, process)?;
-        Ok(())
+        let mut others = self.copy();
+        others.remove(process);
+        others.len()
     }
 
-    /// The set without this process.
-    pub fn remove(&mut self, process: u32)
-        ensures { self.new ≡ without_process process self.old }
+    /// The process of this place in the order of their numbers, this one left out.
+    pub fn get_without(&self, process: u32, i: u32) -> Option<u32>
+        ensures exact { result ≡ slice_get (without_process process self.now) i }
+        ensures few { ForSome result (λ p. p < 256) }
     {
-        let place = place_among(&self.members, process);
-        if stands_at(&self.members, place, process) {
-            self.members.remove(place);
-        }
-    }
-
-    /// A set of the same processes. E901 is the only refusal.
-    pub fn copy(&self, alloc: Global) -> Result<ProcessSet, NoMemory>
-        ensures { IfOk result (λ set. set ≡ self.now) }
-    {
-        let members = Vec::from_slice(alloc, &self.members)?;
-        Ok(ProcessSet { members })
+        let mut others = self.copy();
+        others.remove(process);
+        others.get(i)
     }
 }
 
-// How many of the members are below this process.
-fn place_among(members: &[u32], process: u32) -> usize
-    ensures exact { result ≡ place_of process members.now }
-    ensures within { result ≤ length members.now }
-{
-    let mut place = 0;
-    for member in members {
-        if *member >= process {
-            return place;
-        }
-        place += 1;
-    }
-    place
-}
-
-// Whether the process stands at this place.
-fn stands_at(members: &[u32], place: usize, process: u32) -> bool
-    ensures yes { result ≡ true →
-        (place < length members.now) × (slice_index members.now place ≡ process) }
-    ensures no { result ≡ false → place < length members.now →
-        slice_index members.now place ≢ process }
-{
-    place < members.len() && members[place] == process
-}
-
-// How many of the members are other processes than this one.
-fn count_without(members: &[u32], process: u32) -> usize
-    ensures exact { result ≡ length (without_process process members.now) }
-    ensures within { result ≤ length members.now }
-{
-    let mut count = 0;
-    for member in members {
-        if *member != process {
-            count += 1;
-        }
-    }
-    count
-}
-
-// The member of this place, this process left out.
-fn nth_other(members: &[u32], process: u32, i: u32) -> Option<u32>
-    ensures exact { result ≡ slice_get (without_process process members.now) i }
+// The number of this place among those whose bits are set.
+fn listed_at(low: u128, high: u128, i: u32) -> Option<u32>
+    ensures exact { result ≡ slice_get (members low high) i }
+    ensures few { ForSome result (λ p. p < 256) }
 {
     let mut left = i;
-    for member in members {
-        if *member != process {
+    for process in 0..MOST {
+        if has(low, high, process) {
             if left == 0 {
-                return Some(*member);
+                return Some(process);
             }
             left -= 1;
         }

@@ -58,7 +58,7 @@ impl Queue {
             return self.wake_after(delay, sleeper);
         }
         if let Some(process) = sleeper {
-            self.inactive.insert(process)?;
+            self.inactive.insert(process);
         }
         Ok(())
     }
@@ -75,6 +75,7 @@ impl Queue {
                 self.sleep(delay, left)?;
                 self.leave(process);
             }
+            Fate::Waits(_) => self.leave(process),
         }
         Ok(())
     }
@@ -182,8 +183,8 @@ impl Queue {
             until: self.until,
             time: self.time,
             last: self.last,
-            active: self.active.copy(alloc)?,
-            inactive: self.inactive.copy(alloc)?,
+            active: self.active.copy(),
+            inactive: self.inactive.copy(),
             activated: copy_updates(alloc, &self.activated)?,
             posted: copy_updates(alloc, &self.posted)?,
             future: copy_future(alloc, &self.future)?,

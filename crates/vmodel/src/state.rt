@@ -32,7 +32,11 @@ impl Model for SlowState {
 
     ghost Value = { state.State };
 
+    ghost use Rattle.std.specs.Prelude.{◌≤◌, length};
+
     ghost view = { λ s. record { values = s.values; processes = s.processes.items; queue = s.queue; cause = s.cause } };
+
+    ghost invariant = { λ s. length s.processes.items ≤ 256 };
 }
 
 /// Two are equal where they hold the same.

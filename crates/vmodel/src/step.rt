@@ -1,8 +1,10 @@
 // The one step of a choice, and the region moves after it (IEEE 1364-2005, 11.3, 11.4, 11.6).
 
-ghost use Rattle.std.specs.Prelude.{◌≡◌, ◌<◌, ◌++◌, [], IfOk, OnOk, OnErr, IfSome, IfNone, length, slice_get, slice_set, drop};
+ghost use Rattle.std.specs.Prelude.{◌≡◌, ℕ, List, ◌<◌, ◌++◌, [], IfOk, OnOk, OnErr, IfSome, IfNone, length, slice_get, slice_set, drop};
 ghost use Rattle.std.specs.Option.{option_to_list};
-ghost use Rattle.vmodel.specs.Step.{spots, going, process_by, fares, posts, closed, left_of, moment_of, process_turn, turn_of, next, slot_end_of, items_of};
+ghost use Rattle.vmodel.specs.Step.{spots, going, process_by, fares, posts, woken, closed, left_of, moment_of, process_turn, turn_of, next, slot_end_of, items_of};
+ghost use Rattle.vmodel.specs.Parts.{written};
+ghost use Rattle.vmodel.specs.declared.process.Spot.{Spot};
 ghost use Rattle.vdesign.specs.Design.{Design};
 ghost use Rattle.vmodel.specs.Step as spec;
 ghost use Rattle.vmodel.specs.Choices.{choices as choices_of};
@@ -11,12 +13,14 @@ ghost use Rattle.vmodel.specs.InnerLeft.{IsWhole, left_spots};
 ghost use Rattle.vmodel.specs.InnerStep.{behind, left_in, moved, moved_by, turn_to, with_moved};
 
 use crate::choice::Choice;
-use crate::deed::{Deed, Doing, deed_of};
+use crate::deed::{Deed, Doing, Fate, deed_of};
 use crate::history::Item;
 use crate::left::Left;
+use crate::part::Parts;
 use crate::process::{Process, Spot};
 use crate::queue::Queue;
 use crate::state::SlowState;
+use crate::waking::{wait_no_more, with_awake};
 use basis::NoMemory;
 use std::alloc::Global;
 use vdesign::action::Action;
@@ -72,8 +76,23 @@ fn move_process(
     queue.move_by(number, deed.fate, deed.posted, goes)?;
     left.turn(again, next);
     process.held = deed.held;
-    process.waits = None;
+    process.waits = waits_by(deed.fate, goes);
     Ok(())
+}
+
+// Where a process waits from now on that goes on, or has ended.
+fn waits_by(fate: Fate, goes: Option<u32>) -> Option<usize>
+    ensures { (number : ℕ) (left : List Spot) → goes ≡ going number left →
+        result ≡ spec.waits_by fate left }
+{
+    match fate {
+        Fate::GoesOn => None,
+        Fate::Sleeps(_) => None,
+        Fate::Waits(place) => match goes {
+            None => None,
+            Some(_) => Some(place),
+        },
+    }
 }
 
 // The same of a process among all.
@@ -128,14 +147,25 @@ impl SlowState {
         Some(place)
     }
 
-    // The action that a process comes to first, if there is one.
-    fn action_of<'d>(&self, design: &'d Design, number: u32) -> Option<&'d Action>
+    // The place and the action that a process comes to first, if there is one.
+    fn action_of<'d>(&self, design: &'d Design, number: u32) -> Option<(usize, &'d Action)>
         ensures { IsFirstAction design.now.actions (left_in self.now.processes number) result }
     {
-        match self.place_of(number) {
-            Some(place) => design.actions.get(place),
-            None => None,
-        }
+        let place = self.place_of(number)?;
+        let action = design.actions.get(place)?;
+        Some((place, action))
+    }
+
+    // What a step wrote is written, and what waits for a change by it goes on.
+    fn write(&mut self, design: &Design, wrote: Parts)
+        ensures { self.new ≡ woken design.now self.old.values
+            (record self.old { values = written wrote self.old.values }) }
+    {
+        let Some(change) = self.values.write_all(wrote) else {
+            return;
+        };
+        with_awake(&design.actions, &change, &self.processes, &mut self.queue.active);
+        wait_no_more(&design.actions, &change, &mut self.processes);
     }
 
     // What is known now.
@@ -157,10 +187,10 @@ impl SlowState {
             process_turn design.now number self.old ≡ turn_to self.new deed) }
         ensures err { OnErr result (self.new ≡ self.old) }
     {
-        let Some(action) = self.action_of(design, number) else {
+        let Some((place, action)) = self.action_of(design, number) else {
             return Ok(Deed::quiet());
         };
-        let Doing { next, again, deed } = deed_of(action, &self.moment(design));
+        let Doing { next, again, deed } = deed_of(place, action, &self.moment(design));
         move_one(
             &mut self.processes,
             &mut self.queue,
@@ -169,22 +199,21 @@ impl SlowState {
             next,
             &deed,
         )?;
-        self.values.write_all(deed.wrote);
+        self.write(design, deed.wrote);
         self.cause = deed.cause;
         self.close();
         Ok(deed)
     }
 
     // The first activated update is written (11.4.1).
-    fn update(&mut self) -> Deed
-        ensures { (design : Design) →
-            turn_of design Choice.Update self.old ≡ turn_to self.new result }
+    fn update(&mut self, design: &Design) -> Deed
+        ensures { turn_of design.now Choice.Update self.old ≡ turn_to self.new result }
     {
         let mut deed = Deed::quiet();
         if let Some(update) = self.queue.take_update() {
-            self.values.write_all(update);
             deed.wrote = update;
         }
+        self.write(design, deed.wrote);
         self.close();
         deed
     }
@@ -208,7 +237,7 @@ impl SlowState {
         match self.choice(i) {
             None => Ok(Deed::quiet()),
             Some(Choice::Run(process)) => self.run(design, process),
-            Some(Choice::Update) => Ok(self.update()),
+            Some(Choice::Update) => Ok(self.update(design)),
             Some(Choice::Advance) => {
                 self.advance();
                 Ok(Deed::quiet())

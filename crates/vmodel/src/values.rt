@@ -1,9 +1,10 @@
 // The values of all variables, by number (IEEE 1364-2005, 4.2).
 
-ghost use Rattle.std.specs.Prelude.{◌≡◌, List, IfOk, OnOk, map};
+ghost use Rattle.std.specs.Prelude.{◌≡◌, List, slice_set, IfOk, OnOk, map};
 ghost use Rattle.vbits.specs.Vectors.{Vector};
 ghost use Rattle.vmodel.specs.Parts as spec;
 ghost use Rattle.vmodel.specs.Run.{opening_value};
+ghost use Rattle.vmodel.specs.InnerWaking.{IsChange};
 
 use crate::part::{Part, Parts};
 use basis::NoMemory;
@@ -11,6 +12,14 @@ use std::alloc::Global;
 use std::marker::Model;
 use vbits::Vec4;
 use vdesign::design::Variable;
+
+/// A change of a variable by a step.
+#[derive(Clone, Copy, Debug)]
+pub(crate) struct Change {
+    pub(crate) variable: u32,
+    pub(crate) old: Vec4,
+    pub(crate) new: Vec4,
+}
 
 /// The values of all variables. A clause sees them as their list.
 #[derive(Drop)]
@@ -99,25 +108,37 @@ impl Values {
         Ok(Values { list })
     }
 
-    /// Writes one part; a part of no variable writes nothing.
-    pub(crate) fn write(&mut self, part: Part)
-        ensures { self.new ≡ spec.write part self.old }
+    /// Writes one part; a part of no variable writes nothing. The answer is what changed.
+    fn write(&mut self, part: Part) -> Option<Change>
+        ensures values { self.new ≡ spec.write part self.old }
+        ensures change { IsChange result self.old self.new }
     {
-        match part {
-            Part::Whole { variable, value } => {
-                if (variable as usize) < self.list.len() {
-                    self.list[variable as usize] = value;
-                }
-            }
-        }
+        let Part::Whole { variable, value } = part;
+        self.set(variable, value)
     }
 
-    /// Writes the parts from left to right.
-    pub(crate) fn write_all(&mut self, parts: Parts)
-        ensures { self.new ≡ spec.written parts self.old }
+    // Writes a whole variable, if there is one.
+    fn set(&mut self, variable: u32, new: Vec4) -> Option<Change>
+        ensures values { self.new ≡ slice_set self.old variable new }
+        ensures change { IsChange result self.old self.new }
     {
-        if let Some(part) = parts.first() {
-            self.write(part);
+        if variable as usize >= self.list.len() {
+            return None;
         }
+        let old = self.list[variable as usize];
+        self.list[variable as usize] = new;
+        if old == new {
+            return None;
+        }
+        Some(Change { variable, old, new })
+    }
+
+    /// Writes the parts from left to right. The answer is what changed.
+    pub(crate) fn write_all(&mut self, parts: Parts) -> Option<Change>
+        ensures values { self.new ≡ spec.written parts self.old }
+        ensures change { IsChange result self.old self.new }
+    {
+        let part = parts.first()?;
+        self.write(part)
     }
 }

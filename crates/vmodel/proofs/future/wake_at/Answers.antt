@@ -1,6 +1,5 @@
 use Rattle.std.proofs.Common.{◌≡◌, ℕ, List, ap, subst, ◌∙◌}
 use Rattle.std.specs.Prelude.{slice_get}
-use Rattle.basis.proofs.Results.{on_ok}
 use Rattle.vmodel.specs.Queue.{Slot}
 use Rattle.vmodel.specs.Inner.{place_of_time, SomeIs, NoneIs}
 use Rattle.vmodel.proofs.FutureLemmas.{found_by, absent_by}
@@ -9,20 +8,18 @@ use Rattle.vmodel.proofs.future.wake_at.Goals as goal
 pub returns-then-stands_at-clause-ok : goal.returns-then-stands_at-clause-ok
 returns-then-stands_at-clause-ok c =
     let k = c.place_among-place.result in
-    on_ok c.wake_with.result
-    (λ becomes. found_by c.args.time c.args.sleeper c.args.future.now.items k c.index_mut.result.now c.wake_with.new.entry
+    found_by c.args.time c.args.sleeper c.args.future.now.items k c.index_mut.result.now c.wake_with.new.entry
     (c.place_among-place.ensures.exact ∙ ap (place_of_time c.args.time) c.deref.ensures.value)
     (subst (λ (xs : List (ℕ × Slot)). SomeIs (λ e. e.0 ≡ c.args.time) (slice_get xs k)) c.deref-2.ensures.value
     (c.stands_at.ensures.yes c.if-stands_at.true))
-    c.index_mut.ensures.value becomes)
-    c.wake_with.ensures.ok
+    c.index_mut.ensures.value c.wake_with.ensures
 
 pub returns-clause-ok : goal.returns-clause-ok
 returns-clause-ok c =
     let k = c.place_among-place.result in
     c.in_ok-insert.ensures.items
-    ∙ absent_by c.args.time c.args.sleeper c.args.future.now.items k c.in_ok-entry.entry
+    ∙ absent_by c.args.time c.args.sleeper c.args.future.now.items k c.new_future-entry.result
     (c.place_among-place.ensures.exact ∙ ap (place_of_time c.args.time) c.deref.ensures.value)
     (subst (λ (xs : List (ℕ × Slot)). NoneIs (λ e. e.0 ≡ c.args.time) (slice_get xs k)) c.deref-2.ensures.value
     (c.stands_at.ensures.no c.if-stands_at.false))
-    c.in_ok-entry.ensures
+    c.new_future-entry.ensures

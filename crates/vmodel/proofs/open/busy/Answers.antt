@@ -4,8 +4,8 @@ use Rattle.vmodel.specs.Run.{busy_from}
 use Rattle.vmodel.proofs.OpeningLemmas.{busy_more}
 use Rattle.vmodel.proofs.open.busy.Goals as goal
 
-pub loop-i-preserved-in-Continue-1 : goal.loop-i-preserved-in-Continue-1
-loop-i-preserved-in-Continue-1 c =
+pub loop-i-preserved-then-not-is_empty : goal.loop-i-preserved-then-not-is_empty
+loop-i-preserved-then-not-is_empty c =
     let seen : c.as_slice.result.now ≡ c.index-begins-i.result = c.as_slice.ensures in
     let full : length c.as_slice.result.now ≢ 0 = grind (arith, nat_tests) in
     let some : length c.index-begins-i.result ≢ 0 = subst (λ (xs : List ℕ). length xs ≢ 0) seen full in
@@ -13,5 +13,5 @@ loop-i-preserved-in-Continue-1 c =
     let so_far = subst (λ (n : ℕ). c.loop-i.set ≡ busy_from n (drop n c.args.begins.now)) next c.loop-i.invariant.1 in (
       omega arith,
       busy_more c.args.begins.now (c.loop-i.i - 1) c.index-begins-i.result c.loop-i.set c.insert.new.self (omega arith)
-          c.index-begins-i.is some so_far c.in_ok-insert.ensures.ok,
+          c.index-begins-i.is some so_far c.insert.ensures,
     )

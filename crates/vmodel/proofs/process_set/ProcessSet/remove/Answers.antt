@@ -1,26 +1,52 @@
-use Rattle.std.proofs.Common.{◌≡◌, refl, subst, sym, ap, ◌∙◌, List, ℕ}
-use Rattle.vmodel.specs.ProcessSets.{rises}
+use Rattle.std.proofs.Common.{sym, ap, ◌∙◌, arith}
+use Rattle.vmodel.specs.ProcessSets.{members}
 use Rattle.vmodel.specs.Queue.{without_process}
-use Rattle.vmodel.proofs.ProcessLemmas.{without_when_removed, without_when_absent, rises-without}
+use Rattle.vmodel.proofs.ProcessLemmas.{without_far}
+use Rattle.vmodel.proofs.BitLemmas.{members_without, members_shorter, members_hadnt, members_rise, clear_low, clear_high, members_some}
 use Rattle.vmodel.proofs.process_set.ProcessSet.remove.Goals as goal
+
+pub returns-then-process-ge-MOST : goal.returns-then-process-ge-MOST
+returns-then-process-ge-MOST c =
+    sym (ap (without_process c.args.process) (sym c.self.view_is)
+    ∙ without_far c.args.process 0 (members c.self.inside.low c.self.inside.high) (members_rise c.self.inside.low c.self.inside.high) c.if-process-ge-MOST.true
+    ∙ c.self.view_is)
+
+pub returns-then-not-has : goal.returns-then-not-has
+returns-then-not-has c =
+    sym (ap (without_process c.args.process) (sym c.self.view_is)
+    ∙ members_hadnt c.self.inside.low c.self.inside.high c.args.process (omega (arith, c.if-process-ge-MOST.false)) (sym c.if-not-has.ensures)
+    ∙ c.self.view_is)
+
+pub overflow_sub-self : goal.overflow_sub-self
+overflow_sub-self c =
+    omega (arith, c.self.invariant, members_some c.self.inside.low c.self.inside.high c.args.process (omega (arith, c.if-process-ge-MOST.false)) (sym c.if-not-has.ensures))
 
 pub invariant_of-self : goal.invariant_of-self
 invariant_of-self c =
-    ap (rises 0)
-    (c.remove.ensures.items
-    ∙ without_when_removed c.args.process c.place_among-place.result c.self.inside.members.items c.deref.result.now c.deref-2.result.now
-    c.deref.ensures.value c.deref-2.ensures.value c.place_among-place.ensures.exact c.self.invariant (c.if-stands_at.ensures.yes refl))
-    ∙ rises-without c.args.process 0 c.self.inside.members.items c.self.invariant
+    omega (
+      arith,
+      c.self.invariant,
+      members_shorter c.self.inside.low c.self.inside.high _ _ c.args.process (omega (arith, c.if-process-ge-MOST.false)) (sym c.if-not-has.ensures)
+          (clear_low c.self.inside.low c.self.inside.high c.args.process c.if-process-lt128.true),
+    )
 
-pub returns-then-stands_at : goal.returns-then-stands_at
-returns-then-stands_at c =
-    c.remove.ensures.items
-    ∙ without_when_removed c.args.process c.place_among-place.result c.self.inside.members.items c.deref.result.now c.deref-2.result.now
-    c.deref.ensures.value c.deref-2.ensures.value c.place_among-place.ensures.exact c.self.invariant (c.if-stands_at.ensures.yes refl)
+pub invariant_of-self-else-process-lt128 : goal.invariant_of-self-else-process-lt128
+invariant_of-self-else-process-lt128 c =
+    omega (
+      arith,
+      c.self.invariant,
+      members_shorter c.self.inside.low c.self.inside.high _ _ c.args.process (omega (arith, c.if-process-ge-MOST.false)) (sym c.if-not-has.ensures)
+          (clear_high c.self.inside.low c.self.inside.high c.args.process (omega (arith, c.if-process-lt128.false)) (omega (arith, c.if-process-ge-MOST.false))),
+    )
+
+pub returns-then-process-lt128 : goal.returns-then-process-lt128
+returns-then-process-lt128 c =
+    members_without c.self.inside.low c.self.inside.high _ _ c.args.process (omega (arith, c.if-process-ge-MOST.false))
+    (clear_low c.self.inside.low c.self.inside.high c.args.process c.if-process-lt128.true)
     ∙ ap (without_process c.args.process) c.self.view_is
 
-pub returns-else-stands_at : goal.returns-else-stands_at
-returns-else-stands_at c =
-    sym (subst (λ (xs : List ℕ). without_process c.args.process xs ≡ xs) c.self.view_is
-    (without_when_absent c.args.process c.place_among-place.result c.self.inside.members.items c.deref.result.now c.deref-2.result.now
-    c.deref.ensures.value c.deref-2.ensures.value c.place_among-place.ensures.exact c.self.invariant (c.if-stands_at.ensures.no refl)))
+pub returns-else-process-lt128 : goal.returns-else-process-lt128
+returns-else-process-lt128 c =
+    members_without c.self.inside.low c.self.inside.high _ _ c.args.process (omega (arith, c.if-process-ge-MOST.false))
+    (clear_high c.self.inside.low c.self.inside.high c.args.process (omega (arith, c.if-process-lt128.false)) (omega (arith, c.if-process-ge-MOST.false)))
+    ∙ ap (without_process c.args.process) c.self.view_is

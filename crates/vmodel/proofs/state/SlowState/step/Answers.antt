@@ -12,7 +12,7 @@ pub returns-in-Some-Update-clause-ok : goal.returns-in-Some-Update-clause-ok
 returns-in-Some-Update-clause-ok c =
     ap (λ (o : Option Choice). turn_by c.args.design.now o c.args.self.now)
     (sym c.choice.ensures.exact ∙ c.in-Some-Update.is ∙ ap Some c.in-Some-Update.field-0-is)
-    ∙ c.update.ensures c.args.design.now
+    ∙ c.update.ensures
 
 pub returns-in-Some-Advance-clause-ok : goal.returns-in-Some-Advance-clause-ok
 returns-in-Some-Advance-clause-ok c =

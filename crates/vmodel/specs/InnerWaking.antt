@@ -1,0 +1,40 @@
+-- What is told of a change to find what it wakes: words for the contracts of parts within.
+use Rattle.std.specs.Prelude.{◌≡◌, ◌≢◌, ℕ, Bool, false, ◌==◌, ◌&&◌, ◌||◌, List, [], ◌∷◌, Option, Some, None, slice_get}
+use Rattle.vbits.specs.Vectors.{Vector}
+use Rattle.vdesign.specs.declared.action.Term.{Term}
+use Rattle.vdesign.specs.declared.action.Action.{Action}
+use Rattle.vdesign.specs.declared.action.Action.TheVariants.{On, Until}
+use Rattle.vmodel.specs.declared.values.Change.{Change}
+use Rattle.vmodel.specs.State.{Process}
+use Rattle.vmodel.specs.Waking.{value_in, is_edge}
+
+-- the values differ in one variable, and so
+pub record Differ (change : Change) (before after : List Vector) : Type 0 where
+  pub old : value_in before change.variable ≡ change.old
+  pub new : value_in after change.variable ≡ change.new
+  pub others : (n : ℕ) → n ≢ change.variable → value_in before n ≡ value_in after n
+
+abbrev pub IsChange : Option Change → List Vector → List Vector → Type 0
+IsChange None before after = before ≡ after
+IsChange (Some change) before after = Differ change before after
+
+-- whether a term hears of this change
+abbrev pub hears_of : Change → Term → Bool
+hears_of change term = (term.variable == change.variable) && is_edge term.edge change.old change.new
+
+abbrev pub any_hears_of : Change → List Term → Bool
+any_hears_of change [] = false
+any_hears_of change (term ∷ terms) = hears_of change term || any_hears_of change terms
+
+abbrev pub comes_by : Change → Option Action → Bool
+comes_by change (Some (On terms body)) = any_hears_of change terms
+comes_by change (Some (Until condition terms body)) = any_hears_of change terms
+comes_by change _ = false
+
+abbrev pub comes_at : List Action → Change → Option ℕ → Bool
+comes_at actions change None = false
+comes_at actions change (Some place) = comes_by change (slice_get actions place)
+
+-- whether a process waits for this change
+abbrev pub comes : List Action → Change → Process → Bool
+comes actions change process = comes_at actions change process.waits

@@ -1,0 +1,63 @@
+-- What wakes a process that waits for a change (IEEE 1364-2005, 9.7.2): a change is the difference of a variable before and
+-- after a step.
+use Rattle.std.specs.Prelude.{ℕ, suc, Bool, false, not, ◌||◌, cond, nat_lt, List, [], ◌∷◌, Option, Some, None, map, slice_get, unwrap_or}
+use Rattle.vbits.specs.declared.bit4.Bit4.{Bit4}
+use Rattle.vbits.specs.declared.bit4.Bit4.TheVariants.{Zero, One, X, Z}
+use Rattle.vbits.specs.Vectors.{Vector, filled, vector_same}
+use Rattle.vdesign.specs.declared.action.Edge.{Edge}
+use Rattle.vdesign.specs.declared.action.Edge.TheVariants.{Any, Rise, Fall}
+use Rattle.vdesign.specs.declared.action.Term.{Term}
+use Rattle.vdesign.specs.declared.action.Action.{Action}
+use Rattle.vdesign.specs.declared.action.Action.TheVariants.{On, Until}
+use Rattle.vmodel.specs.Queue.{with_process}
+use Rattle.vmodel.specs.State.{Process}
+
+-- table 9-2: from 0 over x and z to 1
+abbrev pub rank : Bit4 → ℕ
+rank Zero = 0
+rank X = 1
+rank Z = 1
+rank One = 2
+
+-- the rightmost bit
+abbrev pub last_bit : Vector → Bit4
+last_bit value = unwrap_or (slice_get value.letters 0) X
+
+-- whether an edge stands between two values of a variable: any change, the rightmost bit towards 1, or towards 0
+abbrev pub is_edge : Edge → Vector → Vector → Bool
+is_edge Any old new = not (vector_same old new)
+is_edge Rise old new = nat_lt (rank (last_bit old)) (rank (last_bit new))
+is_edge Fall old new = nat_lt (rank (last_bit new)) (rank (last_bit old))
+
+abbrev pub value_in : List Vector → ℕ → Vector
+value_in values variable = unwrap_or (slice_get values variable) (filled 1 X)
+
+abbrev pub hears : List Vector → List Vector → Term → Bool
+hears before after term = is_edge term.edge (value_in before term.variable) (value_in after term.variable)
+
+abbrev pub any_hears : List Vector → List Vector → List Term → Bool
+any_hears before after [] = false
+any_hears before after (term ∷ terms) = hears before after term || any_hears before after terms
+
+-- whether what a process waits for at an action has come: one of its terms is enough (9.7.4)
+abbrev pub has_come : Option Action → List Vector → List Vector → Bool
+has_come (Some (On terms body)) before after = any_hears before after terms
+has_come (Some (Until condition terms body)) before after = any_hears before after terms
+has_come _ before after = false
+
+-- whether a process wakes that waits at this place of the table, or doesn't wait
+abbrev pub wakes_at : List Action → List Vector → List Vector → Option ℕ → Bool
+wakes_at actions before after None = false
+wakes_at actions before after (Some place) = has_come (slice_get actions place) before after
+
+abbrev pub wakes : List Action → List Vector → List Vector → Process → Bool
+wakes actions before after process = wakes_at actions before after process.waits
+
+-- one that wakes doesn't wait any more
+abbrev pub awake : (Process → Bool) → Process → Process
+awake wakes process = cond (wakes process) (record process { waits = None }) process
+
+-- the active processes with those that wake, of processes that are numbered from n on
+abbrev pub with_awake : (Process → Bool) → ℕ → List Process → List ℕ → List ℕ
+with_awake wakes n [] active = active
+with_awake wakes n (process ∷ rest) active = with_awake wakes (suc n) rest (cond (wakes process) (with_process n active) active)
