@@ -17,13 +17,14 @@ use crate::fault::ElabFault;
 use crate::letters::letters;
 use crate::names::Names;
 use crate::number::constant_of;
+use crate::wait::{condition_terms, event_terms};
 use basis::OrMemory;
 use std::alloc::Global;
 use std::marker::Model;
 use vast::expression::Expression as Value;
 use vast::module::{DeclarationKind, Declared, ModuleItem, NetKind};
 use vast::statement::{Delay, Statement, Target as Written, Task};
-use vdesign::action::{Action, Places, Target};
+use vdesign::action::{Action, Places, Target, Terms};
 use vdesign::expression::{Expression, Node};
 use vlex::Tokens;
 
@@ -150,6 +151,17 @@ fn testing(condition: Expression, when_true: Vec<usize>, otherwise: Vec<usize>) 
         condition,
         when_true: Places::new(when_true),
         otherwise: Places::new(otherwise),
+    }
+}
+
+// What a `wait` does.
+fn waiting(condition: Expression, terms: Terms, body: Vec<usize>) -> Action
+    ensures { result ≡ Action.Until condition terms body.items }
+{
+    Action::Until {
+        condition,
+        terms,
+        body: Places::new(body),
     }
 }
 
@@ -297,8 +309,24 @@ fn lay(
             let body = Places::new(inner);
             put(table, into, *at, Action::Again { condition, body })
         }
-        Statement::Wait { .. } => Ok(()),
-        Statement::OnEvent { .. } => Ok(()),
+        Statement::Wait {
+            at,
+            condition,
+            body,
+        } => {
+            let awaited = expression_of(alloc, names, tokens, condition)?;
+            let terms = condition_terms(alloc, names, tokens, condition)?;
+            let mut inner = Vec::new(alloc);
+            lay(alloc, names, tokens, body, table, &mut inner)?;
+            put(table, into, *at, waiting(awaited, terms, inner))
+        }
+        Statement::OnEvent { at, event, body } => {
+            let mut inner = Vec::new(alloc);
+            lay(alloc, names, tokens, body, table, &mut inner)?;
+            let terms = event_terms(alloc, names, tokens, event, body)?;
+            let body = Places::new(inner);
+            put(table, into, *at, Action::On { terms, body })
+        }
     }
 }
 
