@@ -1,18 +1,64 @@
--- The tree that an expression of the program stands for.
+-- An expression as the list of its nodes, each before its operands, and the way back: from the list comes the tree.
+use Rattle.std.proofs.Common.{◌≡◌, List, [], ◌∷◌, ◌++◌, refl, sym, ap, ◌∙◌, append_assoc, append-nil}
 use Rattle.vdesign.specs.Expressions.{ExpressionTree, constant, variable, time, conversion, apply, combine, conditional}
-use Rattle.vdesign.specs.declared.expression.Leaf as operand
-use Rattle.vdesign.specs.declared.expression.Leaf.TheVariants.{Constant, Variable, Time}
-use Rattle.vdesign.specs.declared.expression.Node as whole
-use Rattle.vdesign.specs.declared.expression.Node.TheVariants.{Leaf, Conversion, Unary, Binary, Conditional}
+use Rattle.vdesign.specs.declared.expression.Node.{Node}
+use Rattle.vdesign.specs.declared.expression.Node.TheVariants.{Constant, Variable, Time, Conversion, Unary, Binary, Conditional}
 
-abbrev pub leaf_tree : operand.Leaf → ExpressionTree
-leaf_tree (Constant number) = constant number
-leaf_tree (Variable number) = variable number
-leaf_tree Time = time
+abbrev pub nodes_of : ExpressionTree → List Node
+nodes_of (constant c) = Constant c ∷ []
+nodes_of (variable number) = Variable number ∷ []
+nodes_of time = Time ∷ []
+nodes_of (conversion signed operand) = Conversion signed ∷ nodes_of operand
+nodes_of (apply operator operand) = Unary operator ∷ nodes_of operand
+nodes_of (combine operator left right) = Binary operator ∷ (nodes_of left ++ nodes_of right)
+nodes_of (conditional condition when_true when_false) =
+    Conditional ∷ (nodes_of condition ++ (nodes_of when_true ++ nodes_of when_false))
 
-abbrev pub tree_of : whole.Node → ExpressionTree
-tree_of (Leaf leaf) = leaf_tree leaf
-tree_of (Conversion signed operand) = conversion signed (leaf_tree operand)
-tree_of (Unary operator operand) = apply operator (leaf_tree operand)
-tree_of (Binary operator left right) = combine operator (leaf_tree left) (leaf_tree right)
-tree_of (Conditional condition when_true when_false) = conditional (leaf_tree condition) (leaf_tree when_true) (leaf_tree when_false)
+-- ---- the way back: nothing from here on has to be believed
+
+-- a node takes its operands off the trees that stand behind it
+abbrev pub grown : Node → List ExpressionTree → List ExpressionTree
+grown (Constant c) trees = constant c ∷ trees
+grown (Variable number) trees = variable number ∷ trees
+grown Time trees = time ∷ trees
+grown (Conversion signed) (operand ∷ trees) = conversion signed operand ∷ trees
+grown (Unary operator) (operand ∷ trees) = apply operator operand ∷ trees
+grown (Binary operator) (left ∷ right ∷ trees) = combine operator left right ∷ trees
+grown Conditional (condition ∷ when_true ∷ when_false ∷ trees) = conditional condition when_true when_false ∷ trees
+grown _ trees = trees
+
+abbrev pub trees_of : List Node → List ExpressionTree
+trees_of [] = []
+trees_of (node ∷ more) = grown node (trees_of more)
+
+abbrev pub first_tree : List ExpressionTree → ExpressionTree
+first_tree [] = time
+first_tree (tree ∷ trees) = tree
+
+abbrev pub tree_by : List Node → ExpressionTree
+tree_by nodes = first_tree (trees_of nodes)
+
+pub trees_of_nodes : (tree : ExpressionTree) (more : List Node) → trees_of (nodes_of tree ++ more) ≡ tree ∷ trees_of more
+trees_of_nodes (constant c) more = refl
+trees_of_nodes (variable number) more = refl
+trees_of_nodes time more = refl
+trees_of_nodes (conversion signed operand) more = ap (grown (Conversion signed)) (trees_of_nodes operand more)
+trees_of_nodes (apply operator operand) more = ap (grown (Unary operator)) (trees_of_nodes operand more)
+trees_of_nodes (combine operator left right) more =
+    ap (λ nodes. grown (Binary operator) (trees_of nodes)) (append_assoc (nodes_of left) (nodes_of right) more)
+    ∙ ap (grown (Binary operator)) (trees_of_nodes left (nodes_of right ++ more) ∙ ap (λ trees. left ∷ trees) (trees_of_nodes right more))
+trees_of_nodes (conditional condition when_true when_false) more =
+    ap (λ nodes. grown Conditional (trees_of nodes))
+    (append_assoc (nodes_of condition) (nodes_of when_true ++ nodes_of when_false) more
+    ∙ ap (λ nodes. nodes_of condition ++ nodes) (append_assoc (nodes_of when_true) (nodes_of when_false) more))
+    ∙ ap (grown Conditional)
+    (trees_of_nodes condition (nodes_of when_true ++ (nodes_of when_false ++ more))
+    ∙ ap (λ trees. condition ∷ trees) (trees_of_nodes when_true (nodes_of when_false ++ more)
+    ∙ ap (λ trees. when_true ∷ trees) (trees_of_nodes when_false more)))
+
+pub tree_by_nodes : (tree : ExpressionTree) → tree_by (nodes_of tree) ≡ tree
+tree_by_nodes tree = ap tree_by (sym (append-nil (nodes_of tree))) ∙ ap first_tree (trees_of_nodes tree [])
+
+-- a list of nodes is a tree's: no node is left without its operands, and none is left over
+abbrev pub IsWhole : List Node → Type 0
+IsWhole nodes = nodes_of (tree_by nodes) ≡ nodes

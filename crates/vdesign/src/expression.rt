@@ -1,5 +1,9 @@
 // Expressions of a design (IEEE 1364-2005, clause 5): their names are resolved, and their constants reckoned.
 
+ghost use Rattle.std.specs.Prelude.{◌≡◌};
+ghost use Rattle.vdesign.specs.Expressions.{ExpressionTree};
+ghost use Rattle.vdesign.specs.Nodes.{nodes_of};
+
 use std::marker::Model;
 use vast::expression::{BinaryOperator, UnaryOperator};
 use vbits::Vec4;
@@ -20,74 +24,60 @@ pub struct Bounds {
     pub right: u32,
 }
 
-/// A node of an expression without what hangs from it. Only the definitions use it: to tell trees apart (specs/Orders.antt).
+/// A node of an expression, without its operands.
 #[derive(Clone, Copy, Debug)]
-pub enum Order {
-    Constant(Constant),
-    Variable(u32),
-    Time,
-    Conversion(bool),
-    Unary(UnaryOperator),
-    Binary(BinaryOperator),
-    Conditional,
-}
-
-/// What an operand is: it has no operator of its own.
-#[derive(Clone, Copy, Debug)]
-pub enum Leaf {
+pub enum Node {
+    /// A number.
     Constant(Constant),
     /// The whole variable of this number.
     Variable(u32),
     /// `$time` (17.7.1)
     Time,
-}
-
-/// An expression of one operator at most. A clause sees it as the tree of specs/Expressions.antt.
-#[derive(Clone, Copy, Debug)]
-pub enum Node {
-    /// An operand alone.
-    Leaf(Leaf),
     /// `$signed(operand)`, or `$unsigned(operand)` (5.5)
-    Conversion {
-        signed: bool,
-        operand: Leaf,
-    },
+    Conversion(bool),
     /// `- operand` (5.1.2)
-    Unary {
-        operator: UnaryOperator,
-        operand: Leaf,
-    },
+    Unary(UnaryOperator),
     /// `left + right` (5.1.2)
-    Binary {
-        operator: BinaryOperator,
-        left: Leaf,
-        right: Leaf,
-    },
+    Binary(BinaryOperator),
     /// `condition ? when_true : when_false` (5.1.13)
-    Conditional {
-        condition: Leaf,
-        when_true: Leaf,
-        when_false: Leaf,
-    },
+    Conditional,
 }
 
-/// An expression. A clause sees it as the tree of specs/Expressions.antt.
+/// An expression: its nodes in a list, each before its operands. A clause sees it as the tree of specs/Expressions.antt.
 #[derive(Drop)]
 pub struct Expression {
-    pub root: Node,
+    nodes: Vec<Node>,
 }
 
 impl Model for Expression {
     ghost use Rattle.vdesign.specs.Expressions.{ExpressionTree};
-    ghost use Rattle.vdesign.specs.Nodes.{tree_of};
     ghost use Rattle.std.specs.Prelude.{List};
     ghost use Rattle.std.specs.Coded.{code_by, codes};
-    ghost use Rattle.vdesign.specs.declared.expression.Order.{Order};
-    ghost use Rattle.vdesign.specs.Orders.{orders_of, tree_by, tree_by_orders};
+    ghost use Rattle.vdesign.specs.declared.expression.Node.{Node};
+    ghost use Rattle.vdesign.specs.Nodes.{IsWhole, nodes_of, tree_by, tree_by_nodes};
 
     ghost Value = { ExpressionTree };
 
-    ghost coded = { code_by (List Order) (Prim.hlevel codes) orders_of tree_by tree_by_orders };
+    ghost coded = { code_by (List Node) (Prim.hlevel codes) nodes_of tree_by tree_by_nodes };
 
-    ghost view = { λ e. tree_of e.root };
+    ghost view = { λ e. tree_by e.nodes.items };
+
+    ghost invariant = { λ e. IsWhole e.nodes.items };
+}
+
+impl Expression {
+    /// The expression of these nodes.
+    pub fn new(nodes: Vec<Node>) -> Expression
+        requires { (tree : ExpressionTree) × (nodes.items ≡ nodes_of tree) }
+        ensures { (tree : ExpressionTree) → nodes.items ≡ nodes_of tree → result ≡ tree }
+    {
+        Expression { nodes }
+    }
+
+    /// Its nodes, each before its operands.
+    pub fn nodes(&self) -> &[Node]
+        ensures { result.now ≡ nodes_of self.now }
+    {
+        &self.nodes
+    }
 }

@@ -112,11 +112,13 @@ module _ (words : List Text) where
         (assignment target None value.value)
         (either test (option_or next inner) test_runs (next_runs && inner_runs) (unless _ _)
         (either next inner next_runs inner_runs (assignment next_target None next_value.value) (statement body)))
-    statement (Wait' at condition place body) = refl
+    statement (Wait' at condition place body) =
+        either (in_expression words condition.value) (in_statement words body) (runs_expression (tree_of words condition.value))
+        (runs_statement (statement_tree words body)) (unless _ _) (statement body)
     statement (Delayed' at amount place body) =
         either (in_delay words amount) (in_statement words body) (runs_delay (delay_tree words amount)) (runs_statement (statement_tree words body))
         (unless _ _) (statement body)
-    statement (OnEvent' at control place body) = refl
+    statement (OnEvent' at control place body) = statement body
     statement (Call at call) = unless (runs_task (task_tree words call)) at
 
     row_runs : {m : _} (row : Row_of-Statement m) → is_some (in_row words row) ≡ not (runs_statements (statement_row words row))

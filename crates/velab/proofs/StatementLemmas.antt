@@ -33,14 +33,14 @@ nothing_gives table places wanted gives = record {
 -- ---- the statements of a block
 
 module _ (words : List Text) (names : List (List ℕ)) (statement : Statement) (statements : Vec Statement Global) (items : List Statement) (is : statement ≡ Block statements) (same : items ≡ statements.items) where
-  trees : statement_tree words statement ≡ block (statement_trees words items)
-  trees = ap (statement_tree words) is ∙ tree_of_whole_block words statements ∙ ap (λ (xs : List Statement). block (statement_trees words xs)) (sym same)
+  pub block_trees : statement_tree words statement ≡ block (statement_trees words items)
+  block_trees = ap (statement_tree words) is ∙ tree_of_whole_block words statements ∙ ap (λ (xs : List Statement). block (statement_trees words xs)) (sym same)
 
   pub block_laid : (table : List Action) → all_laid names table (statement_trees words items) ≡ laid names table (statement_tree words statement)
-  block_laid table = sym (ap (laid names table) trees)
+  block_laid table = sym (ap (laid names table) block_trees)
 
   pub block_knows : knows_all names (statement_trees words items) ≡ knows names (statement_tree words statement)
-  block_knows = sym (ap (knows names) trees)
+  block_knows = sym (ap (knows names) block_trees)
 
 -- so much of a block is laid: what is left leads to the same as all of it from the start
 pub record Leads (names : List (List ℕ)) (now : List Action) (before : List ℕ) (left : StatementTrees) (all : Laid) (begun : List ℕ) : Type 0 where
@@ -49,7 +49,7 @@ pub record Leads (names : List (List ℕ)) (now : List Action) (before : List �
 
 module _ (words : List Text) (names : List (List ℕ)) (xs : List Statement) (i : ℕ) where
   module _ (x : Statement) (within : i < length xs) (is : x ≡ get_or xs i x) where
-    opened : statement_trees words (drop i xs) ≡ first_statement (statement_tree words x) (statement_trees words (drop (i + 1) xs))
+    pub opened : statement_trees words (drop i xs) ≡ first_statement (statement_tree words x) (statement_trees words (drop (i + 1) xs))
     opened = ap (statement_trees words) (drop_at xs i x within is)
 
     pub laid_step : (table table_after : List Action) (places places_after : List ℕ) (all : Laid) (begun : List ℕ) →

@@ -14,7 +14,7 @@ use Rattle.vast.specs.Modules.{RangeTree, DeclarationKind, variables, integers, 
 use Rattle.vast.specs.declared.module.NetKind.TheVariants as net
 use Rattle.vdesign.specs.Design as design
 use Rattle.vdesign.specs.declared.action.Action.{Action}
-use Rattle.vdesign.specs.declared.action.Action.TheVariants.{Assign, Nonblocking, Test, Again, Forever, Delay, DumpVars, Finish, Stop}
+use Rattle.vdesign.specs.declared.action.Action.TheVariants.{Assign, Nonblocking, Test, Again, Forever, Delay, On, Until, DumpVars, Finish, Stop}
 use Rattle.vdesign.specs.declared.action.Target.{Target}
 use Rattle.vdesign.specs.declared.action.Target.TheVariants.{Whole}
 use Rattle.basis.specs.declared.timescale.Timescale.{Timescale}
@@ -25,6 +25,7 @@ use Rattle.vdesign.specs.Expressions.{ExpressionTree}
 use Rattle.velab.specs.Literals.{constant_of}
 use Rattle.velab.specs.Resolved.{resolved, knows_expression}
 use Rattle.velab.specs.Uses.{place_of, is_declared}
+use Rattle.velab.specs.Waits.{any_of, names_in, terms_of, knows_control}
 
 -- ---- names (3.7, 12.7)
 
@@ -227,10 +228,13 @@ abbrev mutual
       let next = laid_assignment true names inner.table next_target None next_value in
       let turn = placed next.table (Again (resolved names condition) (inner.places ++ next.places)) in
       record { table = turn.table; places = first.places ++ turn.places }
-  laid names table (wait_for condition body) = nothing_laid table
+  laid names table (wait_for condition body) =  -- 9.7.6
+      let inner = laid names table body in
+      placed inner.table (Until (resolved names condition) (any_of names (names_in condition)) inner.places)
   laid names table (delay amount body) =
       let inner = laid names table body in placed inner.table (Delay (amount_of names amount) inner.places)
-  laid names table (event control body) = nothing_laid table
+  laid names table (event control body) =  -- 9.7.2
+      let inner = laid names table body in placed inner.table (On (terms_of names control body) inner.places)
   laid names table (task call) = laid_task table call
 
   pub all_laid : List Text → List Action → StatementTrees → Laid
@@ -281,9 +285,9 @@ abbrev mutual
   knows names (for_loop target value condition next_target next_value body) =
       knows_assignment names target None value
       && (knows_expression names condition && (knows_assignment names next_target None next_value && knows names body))
-  knows names (wait_for condition body) = true
+  knows names (wait_for condition body) = knows_expression names condition && knows names body
   knows names (delay amount body) = knows_amount names amount && knows names body
-  knows names (event control body) = true
+  knows names (event control body) = knows_control names control && knows names body
   knows names (task call) = true
 
   pub knows_all : List Text → StatementTrees → Bool

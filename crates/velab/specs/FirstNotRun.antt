@@ -99,9 +99,9 @@ module _ (words : List Text) where
         option_or (in_assignment target None value.value)
         (option_or (in_expression condition.value)
         (option_or (in_assignment next_target None next_value.value) (in_statement body)))
-    in_statement (Wait' at condition place body) = Some at
+    in_statement (Wait' at condition place body) = option_or (in_expression condition.value) (in_statement body)
     in_statement (Delayed' at amount place body) = option_or (in_delay amount) (in_statement body)
-    in_statement (OnEvent' at control place body) = Some at
+    in_statement (OnEvent' at control place body) = in_statement body
     in_statement (Call at call) = in_task at call
 
     pub in_row : {m : _} → Row_of-Statement m → Option ℕ

@@ -25,7 +25,7 @@ use Rattle.vast.specs.declared.module.Bounds.{Bounds as Written}
 use Rattle.velab.specs.declared.fault.ElabFault.{ElabFault}
 use Rattle.velab.specs.declared.fault.ElabFault.TheVariants.{Module, Doubled, Unknown, Width, TooMany}
 use Rattle.velab.specs.Literals.{digit_letters}
-use Rattle.velab.specs.Resolved.{knows_expression, knows_operand}
+use Rattle.velab.specs.Resolved.{knows_expression}
 use Rattle.velab.specs.Uses.{is_declared}
 use Rattle.velab.specs.declared.variable.Form.{Form}
 use Rattle.vdesign.specs.declared.action.Action.{Action}
@@ -127,9 +127,6 @@ BreaksItems items = IsBreach (record (names_breach (names_in items)) { width = l
 -- a name that is used, and an expression and statements that use these names
 abbrev pub BreaksUse : List Text → Text → ElabFault → Type 0
 BreaksUse names text = IsBreach (record no_breach { unknown = is_declared names text ≡ false })
-
-abbrev pub BreaksOperand : List Text → ExpressionTree → ElabFault → Type 0
-BreaksOperand names expression = IsBreach (record no_breach { unknown = knows_operand names expression ≡ false })
 
 abbrev pub BreaksExpression : List Text → ExpressionTree → ElabFault → Type 0
 BreaksExpression names expression = IsBreach (record no_breach { unknown = knows_expression names expression ≡ false })

@@ -1,6 +1,7 @@
 pub mod Literals
 pub mod Uses
 pub mod Resolved
+pub mod Waits
 pub mod Elaborate
 pub mod Reasons
 pub mod Laws

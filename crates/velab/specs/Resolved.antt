@@ -12,22 +12,7 @@ use Rattle.velab.specs.Uses.{place_of, is_declared}
 abbrev pub not_run_yet : ExpressionTree
 not_run_yet = constant (record { value = filled 1 X; spreads = false })
 
--- an operand: a variable goes by its place among the names; parentheses have done their work
-abbrev pub operand : List Text → text.ExpressionTree → ExpressionTree
-operand names (text.number digits) = constant (constant_of digits)
-operand names (text.name letters) = variable (place_of names letters)
-operand names text.time = time
-operand names (text.bit letters index) = not_run_yet
-operand names (text.part letters left right) = not_run_yet
-operand names (text.parentheses inner) = operand names inner
-operand names (text.concatenation parts) = not_run_yet
-operand names (text.replication count parts) = not_run_yet
-operand names (text.conversion signed inner) = not_run_yet
-operand names (text.apply operator inner) = not_run_yet
-operand names (text.combine operator left right) = not_run_yet
-operand names (text.conditional condition when_true when_false) = not_run_yet
-
--- an expression of one operator at most
+-- a variable goes by its place among the names; parentheses have done their work
 abbrev pub resolved : List Text → text.ExpressionTree → ExpressionTree
 resolved names (text.number digits) = constant (constant_of digits)
 resolved names (text.name letters) = variable (place_of names letters)
@@ -37,26 +22,11 @@ resolved names (text.part letters left right) = not_run_yet
 resolved names (text.parentheses inner) = resolved names inner
 resolved names (text.concatenation parts) = not_run_yet
 resolved names (text.replication count parts) = not_run_yet
-resolved names (text.conversion signed inner) = conversion signed (operand names inner)
-resolved names (text.apply operator inner) = apply operator (operand names inner)
-resolved names (text.combine operator left right) = combine operator (operand names left) (operand names right)
+resolved names (text.conversion signed inner) = conversion signed (resolved names inner)
+resolved names (text.apply operator inner) = apply operator (resolved names inner)
+resolved names (text.combine operator left right) = combine operator (resolved names left) (resolved names right)
 resolved names (text.conditional condition when_true when_false) =
-    conditional (operand names condition) (operand names when_true) (operand names when_false)
-
--- whether the name of an operand is declared
-abbrev pub knows_operand : List Text → text.ExpressionTree → Bool
-knows_operand names (text.number digits) = true
-knows_operand names (text.name letters) = is_declared names letters
-knows_operand names text.time = true
-knows_operand names (text.bit letters index) = true
-knows_operand names (text.part letters left right) = true
-knows_operand names (text.parentheses inner) = knows_operand names inner
-knows_operand names (text.concatenation parts) = true
-knows_operand names (text.replication count parts) = true
-knows_operand names (text.conversion signed inner) = true
-knows_operand names (text.apply operator inner) = true
-knows_operand names (text.combine operator left right) = true
-knows_operand names (text.conditional condition when_true when_false) = true
+    conditional (resolved names condition) (resolved names when_true) (resolved names when_false)
 
 -- whether each name in an expression is declared; what isn't run yet uses none
 abbrev pub knows_expression : List Text → text.ExpressionTree → Bool
@@ -68,28 +38,13 @@ knows_expression names (text.part letters left right) = true
 knows_expression names (text.parentheses inner) = knows_expression names inner
 knows_expression names (text.concatenation parts) = true
 knows_expression names (text.replication count parts) = true
-knows_expression names (text.conversion signed inner) = knows_operand names inner
-knows_expression names (text.apply operator inner) = knows_operand names inner
-knows_expression names (text.combine operator left right) = knows_operand names left && knows_operand names right
+knows_expression names (text.conversion signed inner) = knows_expression names inner
+knows_expression names (text.apply operator inner) = knows_expression names inner
+knows_expression names (text.combine operator left right) = knows_expression names left && knows_expression names right
 knows_expression names (text.conditional condition when_true when_false) =
-    knows_operand names condition && (knows_operand names when_true && knows_operand names when_false)
+    knows_expression names condition && (knows_expression names when_true && knows_expression names when_false)
 
--- whether an operand is run: a number, a name or `$time`, in parentheses or not
-abbrev pub runs_operand : text.ExpressionTree → Bool
-runs_operand (text.number digits) = true
-runs_operand (text.name letters) = true
-runs_operand text.time = true
-runs_operand (text.bit letters index) = false
-runs_operand (text.part letters left right) = false
-runs_operand (text.parentheses inner) = runs_operand inner
-runs_operand (text.concatenation parts) = false
-runs_operand (text.replication count parts) = false
-runs_operand (text.conversion signed inner) = false
-runs_operand (text.apply operator inner) = false
-runs_operand (text.combine operator left right) = false
-runs_operand (text.conditional condition when_true when_false) = false
-
--- whether an expression is run: one operator, and no selects, concatenations and replications
+-- whether an expression is run: it has no selects, concatenations and replications
 abbrev pub runs_expression : text.ExpressionTree → Bool
 runs_expression (text.number digits) = true
 runs_expression (text.name letters) = true
@@ -99,8 +54,8 @@ runs_expression (text.part letters left right) = false
 runs_expression (text.parentheses inner) = runs_expression inner
 runs_expression (text.concatenation parts) = false
 runs_expression (text.replication count parts) = false
-runs_expression (text.conversion signed inner) = runs_operand inner
-runs_expression (text.apply operator inner) = runs_operand inner
-runs_expression (text.combine operator left right) = runs_operand left && runs_operand right
+runs_expression (text.conversion signed inner) = runs_expression inner
+runs_expression (text.apply operator inner) = runs_expression inner
+runs_expression (text.combine operator left right) = runs_expression left && runs_expression right
 runs_expression (text.conditional condition when_true when_false) =
-    runs_operand condition && (runs_operand when_true && runs_operand when_false)
+    runs_expression condition && (runs_expression when_true && runs_expression when_false)

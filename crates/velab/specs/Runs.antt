@@ -62,9 +62,9 @@ abbrev mutual
   runs_statement (for_loop target value condition next_target next_value body) =
       runs_assignment target None value
       && (runs_expression condition && (runs_assignment next_target None next_value && runs_statement body))
-  runs_statement (wait_for condition body) = false
+  runs_statement (wait_for condition body) = runs_expression condition && runs_statement body
   runs_statement (delay amount body) = runs_delay amount && runs_statement body
-  runs_statement (event control body) = false
+  runs_statement (event control body) = runs_statement body
   runs_statement (task call) = runs_task call
 
   pub runs_statements : StatementTrees → Bool

@@ -1,25 +1,27 @@
 // Expressions of the text, their names resolved (IEEE 1364-2005, clause 5, 12.7).
 
-ghost use Rattle.std.specs.Prelude.{◌≡◌, ◌≤◌, true, length, IfOk, OnOk};
+ghost use Rattle.std.specs.Prelude.{◌≡◌, ◌≤◌, [], ◌∷◌, ◌++◌, true, length, IfOk, OnOk};
 ghost use Rattle.basis.specs.Reasons.{IfFault};
 ghost use Rattle.vast.specs.ExpressionTrees as text;
 ghost use Rattle.vast.specs.TokenTexts.{token_text};
-ghost use Rattle.vdesign.specs.Nodes.{leaf_tree, tree_of};
+ghost use Rattle.vdesign.specs.Expressions.{ExpressionTree};
+ghost use Rattle.vdesign.specs.Nodes.{nodes_of};
 ghost use Rattle.vexpr_parse.specs.Texts.{words_of};
 ghost use Rattle.velab.specs.Uses.{place_of, is_declared};
 ghost use Rattle.velab.specs.Resolved as spec;
-ghost use Rattle.velab.specs.Resolved.{resolved, knows_expression, knows_operand};
-ghost use Rattle.velab.specs.Inner.{BreaksExpression, BreaksOperand, BreaksUse};
+ghost use Rattle.velab.specs.Resolved.{resolved, knows_expression};
+ghost use Rattle.velab.specs.Inner.{IsBreach, no_breach, BreaksExpression, BreaksUse};
 
 use crate::fault::ElabFault;
 use crate::letters::letters;
 use crate::names::Names;
 use crate::number::constant_of;
 use basis::OrMemory;
-use vast::expression::Expression;
+use std::alloc::Global;
+use vast::expression::Expression as Value;
 use vast::token::Token;
 use vbits::Vec4;
-use vdesign::expression::{Constant, Leaf, Node};
+use vdesign::expression::{Constant, Expression, Node};
 use vlex::Tokens;
 
 /// The number of a variable. E303 where there is none of that name.
@@ -42,145 +44,135 @@ pub fn number_of(
     }
 }
 
-// What stands for an operand that isn't run yet.
-fn not_run_yet() -> Leaf
-    ensures { leaf_tree result ≡ spec.not_run_yet }
+// What stands for a part that isn't run yet.
+fn not_run_yet() -> Node
+    ensures { result ∷ [] ≡ nodes_of spec.not_run_yet }
 {
-    Leaf::Constant(Constant {
+    Node::Constant(Constant {
         value: Vec4::all_x(1),
         spreads: false,
     })
 }
 
-// An operand. E303 where its name is no variable's.
-fn operand_of(
-    names: &Names<'_>,
-    tokens: &Tokens<'_>,
-    expression: &Expression,
-) -> Result<Leaf, OrMemory<ElabFault>>
-    requires { length names.now ≤ 1024 }
-    ensures ok { IfOk result (λ leaf. leaf_tree leaf
-        ≡ spec.operand names.now (text.tree_of (words_of tokens.now) expression.now)) }
-    ensures known { OnOk result
-        (knows_operand names.now (text.tree_of (words_of tokens.now) expression.now) ≡ true) }
-    ensures err { IfFault result
-        (BreaksOperand names.now (text.tree_of (words_of tokens.now) expression.now)) }
+// One node more.
+fn put(nodes: &mut Vec<Node>, node: Node) -> Result<(), OrMemory<ElabFault>>
+    ensures ok { OnOk result (nodes.new.items ≡ nodes.old.items ++ node ∷ []) }
+    ensures err { IfFault result (IsBreach no_breach) }
 {
-    match expression {
-        Expression::Number(word) => Ok(Leaf::Constant(constant_of(letters(tokens, *word)))),
-        Expression::Name(word) => Ok(Leaf::Variable(number_of(names, tokens, *word)?)),
-        Expression::Time { .. } => Ok(Leaf::Time),
-        Expression::Parentheses(inner) => operand_of(names, tokens, inner),
-        Expression::Bit { .. } => Ok(not_run_yet()),
-        Expression::Part { .. } => Ok(not_run_yet()),
-        Expression::Concatenation { .. } => Ok(not_run_yet()),
-        Expression::Replication { .. } => Ok(not_run_yet()),
-        Expression::Conversion { .. } => Ok(not_run_yet()),
-        Expression::Unary { .. } => Ok(not_run_yet()),
-        Expression::Binary { .. } => Ok(not_run_yet()),
-        Expression::Conditional { .. } => Ok(not_run_yet()),
-    }
+    nodes.push(node)?;
+    Ok(())
 }
 
-/// The expression of a design that an expression of the text stands for. E303 where a name in it is no variable's.
-pub fn expression_of(
+// Puts the nodes that an expression of the text stands for behind others. E303 where a name in it is no variable's.
+fn put_expression(
     names: &Names<'_>,
     tokens: &Tokens<'_>,
-    expression: &Expression,
-) -> Result<Node, OrMemory<ElabFault>>
+    expression: &Value,
+    nodes: &mut Vec<Node>,
+) -> Result<(), OrMemory<ElabFault>>
     requires { length names.now ≤ 1024 }
-    ensures ok { IfOk result (λ node.
-        tree_of node ≡ resolved names.now (text.tree_of (words_of tokens.now) expression.now)) }
+    ensures ok { OnOk result (nodes.new.items ≡ nodes.old.items
+        ++ nodes_of (resolved names.now (text.tree_of (words_of tokens.now) expression.now))) }
     ensures known { OnOk result
         (knows_expression names.now (text.tree_of (words_of tokens.now) expression.now) ≡ true) }
     ensures err { IfFault result
         (BreaksExpression names.now (text.tree_of (words_of tokens.now) expression.now)) }
 {
     match expression {
-        Expression::Number(word) => Ok(Node::Leaf(Leaf::Constant(constant_of(letters(
-            tokens, *word,
-        ))))),
-        Expression::Name(word) => Ok(Node::Leaf(Leaf::Variable(number_of(names, tokens, *word)?))),
-        Expression::Time { .. } => Ok(Node::Leaf(Leaf::Time)),
-        Expression::Parentheses(inner) => expression_of(names, tokens, inner),
-        Expression::Bit { .. } => Ok(Node::Leaf(not_run_yet())),
-        Expression::Part { .. } => Ok(Node::Leaf(not_run_yet())),
-        Expression::Concatenation { .. } => Ok(Node::Leaf(not_run_yet())),
-        Expression::Replication { .. } => Ok(Node::Leaf(not_run_yet())),
-        Expression::Conversion { signed, operand } => Ok(Node::Conversion {
-            signed: *signed,
-            operand: operand_of(names, tokens, operand)?,
-        }),
-        Expression::Unary { operator, operand } => Ok(Node::Unary {
-            operator: *operator,
-            operand: operand_of(names, tokens, operand)?,
-        }),
-        Expression::Binary {
+        Value::Number(word) => put(nodes, Node::Constant(constant_of(letters(tokens, *word)))),
+        Value::Name(word) => put(nodes, Node::Variable(number_of(names, tokens, *word)?)),
+        Value::Time { .. } => put(nodes, Node::Time),
+        Value::Parentheses(inner) => put_expression(names, tokens, inner, nodes),
+        Value::Bit { .. } => put(nodes, not_run_yet()),
+        Value::Part { .. } => put(nodes, not_run_yet()),
+        Value::Concatenation { .. } => put(nodes, not_run_yet()),
+        Value::Replication { .. } => put(nodes, not_run_yet()),
+        Value::Conversion { signed, operand } => {
+            put(nodes, Node::Conversion(*signed))?;
+            put_expression(names, tokens, operand, nodes)
+        }
+        Value::Unary { operator, operand } => {
+            put(nodes, Node::Unary(*operator))?;
+            put_expression(names, tokens, operand, nodes)
+        }
+        Value::Binary {
             operator,
             left,
             right,
-        } => Ok(Node::Binary {
-            operator: *operator,
-            left: operand_of(names, tokens, left)?,
-            right: operand_of(names, tokens, right)?,
-        }),
-        Expression::Conditional {
-            condition,
-            when_true,
-            when_false,
-        } => Ok(Node::Conditional {
-            condition: operand_of(names, tokens, condition)?,
-            when_true: operand_of(names, tokens, when_true)?,
-            when_false: operand_of(names, tokens, when_false)?,
-        }),
-    }
-}
-
-// Whether an operand is run.
-fn runs_operand(tokens: &Tokens<'_>, expression: &Expression) -> bool
-    ensures { result ≡ spec.runs_operand (text.tree_of (words_of tokens.now) expression.now) }
-{
-    match expression {
-        Expression::Number(_) => true,
-        Expression::Name(_) => true,
-        Expression::Time { .. } => true,
-        Expression::Parentheses(inner) => runs_operand(tokens, inner),
-        Expression::Bit { .. } => false,
-        Expression::Part { .. } => false,
-        Expression::Concatenation { .. } => false,
-        Expression::Replication { .. } => false,
-        Expression::Conversion { .. } => false,
-        Expression::Unary { .. } => false,
-        Expression::Binary { .. } => false,
-        Expression::Conditional { .. } => false,
-    }
-}
-
-/// Whether an expression is run.
-pub fn runs_expression(tokens: &Tokens<'_>, expression: &Expression) -> bool
-    ensures { result ≡ spec.runs_expression (text.tree_of (words_of tokens.now) expression.now) }
-{
-    match expression {
-        Expression::Number(_) => true,
-        Expression::Name(_) => true,
-        Expression::Time { .. } => true,
-        Expression::Parentheses(inner) => runs_expression(tokens, inner),
-        Expression::Bit { .. } => false,
-        Expression::Part { .. } => false,
-        Expression::Concatenation { .. } => false,
-        Expression::Replication { .. } => false,
-        Expression::Conversion { operand, .. } => runs_operand(tokens, operand),
-        Expression::Unary { operand, .. } => runs_operand(tokens, operand),
-        Expression::Binary { left, right, .. } => {
-            runs_operand(tokens, left) && runs_operand(tokens, right)
+        } => {
+            put(nodes, Node::Binary(*operator))?;
+            put_expression(names, tokens, left, nodes)?;
+            put_expression(names, tokens, right, nodes)
         }
-        Expression::Conditional {
+        Value::Conditional {
             condition,
             when_true,
             when_false,
         } => {
-            runs_operand(tokens, condition)
-                && (runs_operand(tokens, when_true) && runs_operand(tokens, when_false))
+            put(nodes, Node::Conditional)?;
+            put_expression(names, tokens, condition, nodes)?;
+            put_expression(names, tokens, when_true, nodes)?;
+            put_expression(names, tokens, when_false, nodes)
+        }
+    }
+}
+
+/// The expression of a design that an expression of the text stands for. E303 where a name in it is no variable's.
+pub fn expression_of(
+    alloc: Global,
+    names: &Names<'_>,
+    tokens: &Tokens<'_>,
+    expression: &Value,
+) -> Result<Expression, OrMemory<ElabFault>>
+    requires { length names.now ≤ 1024 }
+    ensures ok { IfOk result (λ e.
+        e ≡ resolved names.now (text.tree_of (words_of tokens.now) expression.now)) }
+    ensures known { OnOk result
+        (knows_expression names.now (text.tree_of (words_of tokens.now) expression.now) ≡ true) }
+    ensures err { IfFault result
+        (BreaksExpression names.now (text.tree_of (words_of tokens.now) expression.now)) }
+{
+    let mut nodes = Vec::new(alloc);
+    put_expression(names, tokens, expression, &mut nodes)?;
+    Ok(Expression::new(nodes))
+}
+
+/// The expression that is one operand alone.
+pub fn alone(alloc: Global, node: Node) -> Result<Expression, OrMemory<ElabFault>>
+    requires { (tree : ExpressionTree) × (node ∷ [] ≡ nodes_of tree) }
+    ensures ok { IfOk result (λ e. (tree : ExpressionTree) → node ∷ [] ≡ nodes_of tree → e ≡ tree) }
+    ensures err { IfFault result (IsBreach no_breach) }
+{
+    let mut nodes = Vec::new(alloc);
+    put(&mut nodes, node)?;
+    Ok(Expression::new(nodes))
+}
+
+/// Whether an expression is run.
+pub fn runs_expression(tokens: &Tokens<'_>, expression: &Value) -> bool
+    ensures { result ≡ spec.runs_expression (text.tree_of (words_of tokens.now) expression.now) }
+{
+    match expression {
+        Value::Number(_) => true,
+        Value::Name(_) => true,
+        Value::Time { .. } => true,
+        Value::Parentheses(inner) => runs_expression(tokens, inner),
+        Value::Bit { .. } => false,
+        Value::Part { .. } => false,
+        Value::Concatenation { .. } => false,
+        Value::Replication { .. } => false,
+        Value::Conversion { operand, .. } => runs_expression(tokens, operand),
+        Value::Unary { operand, .. } => runs_expression(tokens, operand),
+        Value::Binary { left, right, .. } => {
+            runs_expression(tokens, left) && runs_expression(tokens, right)
+        }
+        Value::Conditional {
+            condition,
+            when_true,
+            when_false,
+        } => {
+            runs_expression(tokens, condition)
+                && (runs_expression(tokens, when_true) && runs_expression(tokens, when_false))
         }
     }
 }

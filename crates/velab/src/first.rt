@@ -192,8 +192,15 @@ fn in_statement(tokens: &Tokens<'_>, whole: &Statement) -> Option<u32>
             }
             in_statement(tokens, body)
         }
-        Statement::Wait { at, .. } => Some(*at),
-        Statement::OnEvent { at, .. } => Some(*at),
+        Statement::Wait {
+            condition,
+            body,
+            ..
+        } => match in_expression(tokens, condition) {
+            Some(at) => Some(at),
+            None => in_statement(tokens, body),
+        },
+        Statement::OnEvent { body, .. } => in_statement(tokens, body),
     }
 }
 

@@ -14,6 +14,7 @@ mod number;
 mod statement;
 mod top;
 mod variable;
+mod wait;
 
 pub use design::elaborate;
 pub use fault::ElabFault;

@@ -6,37 +6,30 @@ ghost use Rattle.vast.specs.ExpressionTrees.{tree_of as text_tree};
 ghost use Rattle.vast.specs.StatementTrees.{target_tree, delay_tree, task_tree, statement_tree, statement_trees};
 ghost use Rattle.vast.specs.ModuleTrees.{item_tree};
 ghost use Rattle.vexpr_parse.specs.Texts.{words_of};
-ghost use Rattle.vdesign.specs.Nodes.{tree_of};
 ghost use Rattle.velab.specs.Elaborate as spec;
 ghost use Rattle.vast.specs.Statements.{forever};
 ghost use Rattle.velab.specs.Elaborate.{laid, laid_processes, knows, knows_all, statements_of};
 ghost use Rattle.velab.specs.Inner.{laid_of, all_laid_of, laid_of_item, processes_of, starts_in, initials_in, AreLaid, HasLaid, HaveLaid};
 ghost use Rattle.velab.specs.Inner.{KnowsAll, IsBreach, no_breach, BreaksKnown, BreaksStatement, BreaksStatements, BreaksAdded, BreaksProcess, BreaksProcesses};
 
-use crate::expression::{expression_of, number_of};
+use crate::expression::{alone, expression_of, number_of};
 use crate::fault::ElabFault;
 use crate::letters::letters;
 use crate::names::Names;
 use crate::number::constant_of;
+use crate::wait::{condition_terms, event_terms};
 use basis::OrMemory;
 use std::alloc::Global;
 use std::marker::Model;
 use vast::expression::Expression as Value;
 use vast::module::{DeclarationKind, Declared, ModuleItem, NetKind};
 use vast::statement::{Delay, Statement, Target as Written, Task};
-use vdesign::action::{Action, Places, Target};
-use vdesign::expression::{Expression, Leaf, Node};
+use vdesign::action::{Action, Places, Target, Terms};
+use vdesign::expression::{Expression, Node};
 use vlex::Tokens;
 
 /// The most processes of a design.
 const MOST_PROCESSES: usize = 256;
-
-// The expression whose root this node is.
-fn whole(root: Node) -> Expression
-    ensures { result ≡ tree_of root }
-{
-    Expression { root }
-}
 
 /// Actions in the order in which they are come to, and for each the number of the token that its statement begins with. A
 /// clause sees the actions.
@@ -116,7 +109,7 @@ fn lay_assignment(
         Written::Whole(name) => match amount {
             None => {
                 let number = number_of(names, tokens, *name)?;
-                let value = whole(expression_of(names, tokens, value)?);
+                let value = expression_of(alloc, names, tokens, value)?;
                 let action = assigning(blocking, Target::Whole(number), value);
                 put(table, into, name.number, action)
             }
@@ -144,13 +137,9 @@ fn amount_of(
         (spec.knows_amount names.now (delay_tree (words_of tokens.now) amount.now))) }
 {
     match amount {
-        Delay::Number(word) => Ok(whole(Node::Leaf(Leaf::Constant(constant_of(letters(
-            tokens, *word,
-        )))))),
-        Delay::Name(word) => Ok(whole(Node::Leaf(Leaf::Variable(number_of(
-            names, tokens, *word,
-        )?)))),
-        Delay::Value(value) => Ok(whole(expression_of(names, tokens, value)?)),
+        Delay::Number(word) => alone(alloc, Node::Constant(constant_of(letters(tokens, *word)))),
+        Delay::Name(word) => alone(alloc, Node::Variable(number_of(names, tokens, *word)?)),
+        Delay::Value(value) => expression_of(alloc, names, tokens, value),
     }
 }
 
@@ -162,6 +151,17 @@ fn testing(condition: Expression, when_true: Vec<usize>, otherwise: Vec<usize>) 
         condition,
         when_true: Places::new(when_true),
         otherwise: Places::new(otherwise),
+    }
+}
+
+// What a `wait` does.
+fn waiting(condition: Expression, terms: Terms, body: Vec<usize>) -> Action
+    ensures { result ≡ Action.Until condition terms body.items }
+{
+    Action::Until {
+        condition,
+        terms,
+        body: Places::new(body),
     }
 }
 
@@ -243,7 +243,7 @@ fn lay(
             condition,
             body,
         } => {
-            let condition = whole(expression_of(names, tokens, condition)?);
+            let condition = expression_of(alloc, names, tokens, condition)?;
             let mut inner = Vec::new(alloc);
             lay(alloc, names, tokens, body, table, &mut inner)?;
             put(table, into, *at, testing(condition, inner, Vec::new(alloc)))
@@ -254,7 +254,7 @@ fn lay(
             body,
             other,
         } => {
-            let condition = whole(expression_of(names, tokens, condition)?);
+            let condition = expression_of(alloc, names, tokens, condition)?;
             let mut inner = Vec::new(alloc);
             lay(alloc, names, tokens, body, table, &mut inner)?;
             let mut outer = Vec::new(alloc);
@@ -267,7 +267,7 @@ fn lay(
             condition,
             body,
         } => {
-            let condition = whole(expression_of(names, tokens, condition)?);
+            let condition = expression_of(alloc, names, tokens, condition)?;
             let mut inner = Vec::new(alloc);
             lay(alloc, names, tokens, body, table, &mut inner)?;
             let body = Places::new(inner);
@@ -292,7 +292,7 @@ fn lay(
             lay_assignment(
                 alloc, names, tokens, true, target, &None, value, table, into,
             )?;
-            let condition = whole(expression_of(names, tokens, condition)?);
+            let condition = expression_of(alloc, names, tokens, condition)?;
             let mut inner = Vec::new(alloc);
             lay(alloc, names, tokens, body, table, &mut inner)?;
             lay_assignment(
@@ -309,8 +309,24 @@ fn lay(
             let body = Places::new(inner);
             put(table, into, *at, Action::Again { condition, body })
         }
-        Statement::Wait { .. } => Ok(()),
-        Statement::OnEvent { .. } => Ok(()),
+        Statement::Wait {
+            at,
+            condition,
+            body,
+        } => {
+            let awaited = expression_of(alloc, names, tokens, condition)?;
+            let terms = condition_terms(alloc, names, tokens, condition)?;
+            let mut inner = Vec::new(alloc);
+            lay(alloc, names, tokens, body, table, &mut inner)?;
+            put(table, into, *at, waiting(awaited, terms, inner))
+        }
+        Statement::OnEvent { at, event, body } => {
+            let mut inner = Vec::new(alloc);
+            lay(alloc, names, tokens, body, table, &mut inner)?;
+            let terms = event_terms(alloc, names, tokens, event, body)?;
+            let body = Places::new(inner);
+            put(table, into, *at, Action::On { terms, body })
+        }
     }
 }
 

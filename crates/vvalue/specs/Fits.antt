@@ -14,3 +14,10 @@ AreFit (Shares operator) v w = length v.letters ≡ length w.letters
 AreFit (Compares operator) v w = length v.letters ≡ length w.letters
 AreFit (Combines operator) v w = Unit {0}
 AreFit (Shifts operator) v w = Unit {0}
+
+-- the sizes of operands that have one size
+abbrev pub HaveOneSize : Manner → Context → Context → Type 0
+HaveOneSize (Shares operator) left right = left.size ≡ right.size
+HaveOneSize (Compares operator) left right = left.size ≡ right.size
+HaveOneSize (Combines operator) left right = Unit {0}
+HaveOneSize (Shifts operator) left right = Unit {0}

@@ -1,3 +1,4 @@
 pub mod Manners
 pub mod Value
 pub mod Fits
+pub mod Reads

@@ -6,8 +6,8 @@ ghost use Rattle.vvalue.specs.Value as spec;
 
 use crate::context::Context;
 use crate::moment::Moment;
-use crate::size::{is_signed, size_of};
-use crate::value::{by_itself, value_of};
+use crate::size::own;
+use crate::value::value_of;
 use vbits::{Bit4, Vec4};
 use vdesign::expression::Expression;
 
@@ -22,12 +22,22 @@ fn is_one(letter: Bit4) -> bool
     }
 }
 
+// The value of an expression at its own size and sign.
+fn by_itself(expression: &Expression, moment: &Moment<'_>) -> Vec4
+    ensures { result ≡ spec.by_itself moment.now expression.now }
+{
+    let nodes = expression.nodes();
+    let (there, _) = own(nodes, moment);
+    let (value, _) = value_of(nodes, moment, there);
+    value
+}
+
 /// Whether a condition holds: its truth is 1 (9.4).
 #[tactic(auto, unfolding(crate::specs::Value::holds))]
 pub fn holds(condition: &Expression, moment: &Moment<'_>) -> bool
     ensures { result ≡ spec.holds moment.now condition.now }
 {
-    is_one(by_itself(&condition.root, moment).truth())
+    is_one(by_itself(condition, moment).truth())
 }
 
 /// What so many bits get of an expression that is assigned to them: at the larger of both sizes, extended by its own sign and cut on
@@ -38,12 +48,14 @@ pub fn right_side(expression: &Expression, count: u32, moment: &Moment<'_>) -> V
     requires few { count ≤ 64 }
     ensures { result ≡ spec.right_side moment.now count expression.now }
 {
-    let node = &expression.root;
+    let nodes = expression.nodes();
+    let (there, _) = own(nodes, moment);
     let here = Context {
-        size: count.max(size_of(node, moment)),
-        signed: is_signed(node, moment),
+        size: count.max(there.size),
+        signed: there.signed,
     };
-    value_of(node, moment, here).resize(count)
+    let (value, _) = value_of(nodes, moment, here);
+    value.resize(count)
 }
 
 // The number of a delay: extended to 64 bits by its own sign and read as unsigned; an unknown one is 0.
@@ -58,5 +70,5 @@ fn amount_of(value: Vec4) -> u64
 pub fn delay_of(amount: &Expression, moment: &Moment<'_>) -> u128
     ensures { result ≡ spec.delay_of moment.now amount.now }
 {
-    u128::from(amount_of(by_itself(&amount.root, moment))) * u128::from(moment.factor)
+    u128::from(amount_of(by_itself(amount, moment))) * u128::from(moment.factor)
 }

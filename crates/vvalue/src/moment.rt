@@ -1,6 +1,7 @@
 // What is known when an expression is evaluated.
 
 ghost use Rattle.std.specs.Prelude.{◌≡◌};
+ghost use Rattle.vbits.specs.Vectors.{of_number};
 ghost use Rattle.vvalue.specs.Value as spec;
 
 use std::marker::Model;
@@ -32,4 +33,11 @@ pub fn value_at(moment: &Moment<'_>, variable: u32) -> Vec4
         Some(value) => *value,
         None => Vec4::all_x(1),
     }
+}
+
+/// The time, as `$time` tells it (17.7.1).
+pub fn time_of(moment: &Moment<'_>) -> Vec4
+    ensures { result ≡ of_number 64 moment.now.time }
+{
+    Vec4::from_u64(64, moment.time)
 }

@@ -1,140 +1,101 @@
 // The size and the sign of an expression by itself (IEEE 1364-2005, 5.4.1, 5.5.1).
 
-ghost use Rattle.std.specs.Prelude.{◌≡◌, ◌≤◌};
-ghost use Rattle.vdesign.specs.Nodes.{leaf_tree, tree_of};
+ghost use Rattle.std.specs.Prelude.{◌≡◌, ◌≤◌, ◌-◌, length};
 ghost use Rattle.vvalue.specs.Value as spec;
+ghost use Rattle.vvalue.specs.Fits.{IsWithin};
+ghost use Rattle.vvalue.specs.Reads.{IsOfFirst, AreBehindFirst};
 
+use crate::context::{Context, common};
 use crate::manner::{Manner, UnaryManner, manner_of, unary_manner_of};
 use crate::moment::{Moment, value_at};
-use vdesign::expression::{Leaf, Node};
+use vbits::Vec4;
+use vdesign::expression::Node;
 
-fn size_by(manner: Manner, left: u32, right: u32) -> u32
-    requires some_left { 1 ≤ left }
-    requires few_left { left ≤ 64 }
-    requires few_right { right ≤ 64 }
-    ensures exact { result ≡ spec.size_by manner left right }
-    ensures some { 1 ≤ result }
-    ensures few { result ≤ 64 }
+const ONE_BIT: Context = Context {
+    size: 1,
+    signed: false,
+};
+
+const TIME: Context = Context {
+    size: 64,
+    signed: false,
+};
+
+// Of a value that is taken as it is.
+fn own_value(value: Vec4) -> Context
+    ensures exact { result ≡ spec.context (length value.letters) value.signed }
+    ensures within { IsWithin result }
+{
+    Context {
+        size: value.len(),
+        signed: value.signed(),
+    }
+}
+
+// Of what an operator makes of its only operand.
+fn own_unary(manner: UnaryManner, operand: Context) -> Context
+    requires { IsWithin operand }
+    ensures exact { result ≡ spec.context
+        (spec.unary_size manner operand.size) (spec.unary_sign manner operand.signed) }
+    ensures within { IsWithin result }
 {
     match manner {
-        Manner::Shares(_) => left.max(right),
-        Manner::Compares(_) => 1,
-        Manner::Combines(_) => 1,
+        UnaryManner::Keeps(_) => operand,
+        UnaryManner::Folds(_) => ONE_BIT,
+        UnaryManner::Denies => ONE_BIT,
+    }
+}
+
+// Of what an operator makes of both its operands.
+fn own_binary(manner: Manner, left: Context, right: Context) -> Context
+    requires left { IsWithin left }
+    requires right { IsWithin right }
+    ensures exact { result ≡ spec.context
+        (spec.size_by manner left.size right.size) (spec.sign_by manner left.signed right.signed) }
+    ensures within { IsWithin result }
+{
+    match manner {
+        Manner::Shares(_) => common(left, right),
+        Manner::Compares(_) => ONE_BIT,
+        Manner::Combines(_) => ONE_BIT,
         Manner::Shifts(_) => left,
     }
 }
 
-fn unary_size(manner: UnaryManner, size: u32) -> u32
-    requires some { 1 ≤ size }
-    requires few { size ≤ 64 }
-    ensures exact { result ≡ spec.unary_size manner size }
-    ensures some { 1 ≤ result }
-    ensures few { result ≤ 64 }
+/// The size and the sign that the expression has by itself that these nodes begin with, and the nodes
+/// behind it.
+pub fn own<'n>(nodes: &'n [Node], moment: &Moment<'_>) -> (Context, &'n [Node])
+    ensures exact { IsOfFirst nodes.now (spec.own moment.now) result.0 }
+    ensures rest { AreBehindFirst nodes.now result.1.now }
+    ensures within { IsWithin result.0 }
+    ensures fewer { length result.1.now ≤ length nodes.now - 1 }
 {
-    match manner {
-        UnaryManner::Keeps(_) => size,
-        UnaryManner::Folds(_) => 1,
-        UnaryManner::Denies => 1,
-    }
-}
-
-/// How many bits an operand has by itself.
-pub fn leaf_size(leaf: &Leaf, moment: &Moment<'_>) -> u32
-    ensures exact { result ≡ spec.size_of moment.now (leaf_tree leaf.now) }
-    ensures some { 1 ≤ result }
-    ensures few { result ≤ 64 }
-{
-    match leaf {
-        Leaf::Constant(constant) => constant.value.len(),
-        Leaf::Variable(variable) => value_at(moment, *variable).len(),
-        Leaf::Time => 64,
-    }
-}
-
-/// How many bits an expression has by itself.
-pub fn size_of(node: &Node, moment: &Moment<'_>) -> u32
-    ensures exact { result ≡ spec.size_of moment.now (tree_of node.now) }
-    ensures some { 1 ≤ result }
-    ensures few { result ≤ 64 }
-{
+    let Some((node, behind)) = nodes.split_first() else {
+        return (ONE_BIT, nodes);
+    };
     match node {
-        Node::Leaf(leaf) => leaf_size(leaf, moment),
-        Node::Conversion { operand, .. } => leaf_size(operand, moment),
-        Node::Unary { operator, operand } => {
-            unary_size(unary_manner_of(*operator), leaf_size(operand, moment))
+        Node::Constant(constant) => (own_value(constant.value), behind),
+        Node::Variable(number) => (own_value(value_at(moment, *number)), behind),
+        Node::Time => (TIME, behind),
+        Node::Conversion(signed) => {
+            let (operand, behind) = own(behind, moment);
+            let (size, signed) = (operand.size, *signed);
+            (Context { size, signed }, behind)
         }
-        Node::Binary {
-            operator,
-            left,
-            right,
-        } => size_by(
-            manner_of(*operator),
-            leaf_size(left, moment),
-            leaf_size(right, moment),
-        ),
-        Node::Conditional {
-            when_true,
-            when_false,
-            ..
-        } => leaf_size(when_true, moment).max(leaf_size(when_false, moment)),
-    }
-}
-
-fn sign_by(manner: Manner, left: bool, right: bool) -> bool
-    ensures { result ≡ spec.sign_by manner left right }
-{
-    match manner {
-        Manner::Shares(_) => left && right,
-        Manner::Compares(_) => false,
-        Manner::Combines(_) => false,
-        Manner::Shifts(_) => left,
-    }
-}
-
-fn unary_sign(manner: UnaryManner, sign: bool) -> bool
-    ensures { result ≡ spec.unary_sign manner sign }
-{
-    match manner {
-        UnaryManner::Keeps(_) => sign,
-        UnaryManner::Folds(_) => false,
-        UnaryManner::Denies => false,
-    }
-}
-
-/// Whether an operand by itself is signed.
-pub fn leaf_signed(leaf: &Leaf, moment: &Moment<'_>) -> bool
-    ensures { result ≡ spec.is_signed moment.now (leaf_tree leaf.now) }
-{
-    match leaf {
-        Leaf::Constant(constant) => constant.value.signed(),
-        Leaf::Variable(variable) => value_at(moment, *variable).signed(),
-        Leaf::Time => false,
-    }
-}
-
-/// Whether an expression by itself is signed.
-pub fn is_signed(node: &Node, moment: &Moment<'_>) -> bool
-    ensures { result ≡ spec.is_signed moment.now (tree_of node.now) }
-{
-    match node {
-        Node::Leaf(leaf) => leaf_signed(leaf, moment),
-        Node::Conversion { signed, .. } => *signed,
-        Node::Unary { operator, operand } => {
-            unary_sign(unary_manner_of(*operator), leaf_signed(operand, moment))
+        Node::Unary(operator) => {
+            let (operand, behind) = own(behind, moment);
+            (own_unary(unary_manner_of(*operator), operand), behind)
         }
-        Node::Binary {
-            operator,
-            left,
-            right,
-        } => sign_by(
-            manner_of(*operator),
-            leaf_signed(left, moment),
-            leaf_signed(right, moment),
-        ),
-        Node::Conditional {
-            when_true,
-            when_false,
-            ..
-        } => leaf_signed(when_true, moment) && leaf_signed(when_false, moment),
+        Node::Binary(operator) => {
+            let (left, behind) = own(behind, moment);
+            let (right, behind) = own(behind, moment);
+            (own_binary(manner_of(*operator), left, right), behind)
+        }
+        Node::Conditional => {
+            let (_, behind) = own(behind, moment);
+            let (when_true, behind) = own(behind, moment);
+            let (when_false, behind) = own(behind, moment);
+            (common(when_true, when_false), behind)
+        }
     }
 }

@@ -1,0 +1,28 @@
+use Rattle.std.proofs.Common.{◌≡◌, ◌++◌, List, OnOk, subst}
+use Rattle.basis.specs.Reasons.{IfFault}
+use Rattle.vexpr_parse.specs.Texts.{words_of}
+use Rattle.vast.specs.Words.{Text}
+use Rattle.velab.specs.Waits.{any_of}
+use Rattle.velab.specs.Inner.{BreaksKnown}
+use Rattle.velab.proofs.FaultLemmas.{handed_on}
+use Rattle.velab.proofs.StatementLemmas.{block_knows}
+use Rattle.velab.proofs.WaitLemmas.{block_reads, read_err}
+use Rattle.velab.proofs.wait.+reading.Goals as goal
+
+pub put_read-returns-in-Block-clause-ok : goal.put_read-returns-in-Block-clause-ok
+put_read-returns-in-Block-clause-ok t c =
+    subst (λ (ns : List Text). OnOk c.put_all_read.result (c.put_all_read.new.terms.items ≡ c.args.terms.now.items ++ any_of c.args.names.now ns))
+    (block_reads (words_of c.args.tokens.now) c.args.names.now c.args.statement.now c.in-Block.list c.deref.result.now c.in-Block.is c.deref.ensures.value)
+    c.put_all_read.ensures.ok
+
+pub put_read-returns-in-Block-clause-err : goal.put_read-returns-in-Block-clause-err
+put_read-returns-in-Block-clause-err t c =
+    subst (λ b. IfFault c.put_all_read.result (BreaksKnown b))
+    (block_knows (words_of c.args.tokens.now) c.args.names.now c.args.statement.now c.in-Block.list c.deref.result.now c.in-Block.is c.deref.ensures.value)
+    c.put_all_read.ensures.err
+
+pub put_all_read-returns-in_err-put_read-clause-err : goal.put_all_read-returns-in_err-put_read-clause-err
+put_all_read-returns-in_err-put_read-clause-err t c =
+    handed_on _ c.from_residual.result c.in_err-put_read.field-0.0 c.from_residual.ensures.1
+    (read_err (words_of c.args.tokens.now) c.args.names.now c.args.statements.now c.loop-statement.statement-index c.statement-item.result
+    c.loop-statement-test.true c.statement-item.is _ c.in_err-put_read.field-0.0 c.loop-statement.invariant.known c.in_err-put_read.ensures.err)

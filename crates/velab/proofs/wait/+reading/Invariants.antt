@@ -1,0 +1,14 @@
+use Rattle.std.proofs.Common.{◌≡◌, false, ◌++◌, drop}
+use Rattle.vast.specs.StatementTrees.{statement_trees}
+use Rattle.vexpr_parse.specs.Texts.{words_of}
+use Rattle.velab.specs.Elaborate.{knows_all}
+use Rattle.velab.specs.Waits.{any_of, read_by_all}
+use Rattle.velab.proofs.wait.+reading.Given as goal
+
+abbrev pub invariant-put_all_read-loop-statement : goal.invariant-put_all_read-loop-statement
+invariant-put_all_read-loop-statement l = record {
+  ok : l.terms.items ++ any_of l.names (read_by_all (statement_trees (words_of l.tokens) (drop l.statement-index l.statements)))
+      ≡ l.initial.terms.items ++ any_of l.names (read_by_all (statement_trees (words_of l.tokens) l.statements));
+  known : knows_all l.names (statement_trees (words_of l.tokens) (drop l.statement-index l.statements)) ≡ false →
+      knows_all l.names (statement_trees (words_of l.tokens) l.statements) ≡ false;
+}

@@ -1,0 +1,110 @@
+-- What event controls and `wait` listen to (IEEE 1364-2005, 9.7): terms, of which one is enough (9.7.4).
+use Rattle.std.specs.Prelude.{Bool, true, ◌&&◌, List, [], ◌∷◌, ◌++◌, map, Option, None, Some}
+use Rattle.std.specs.List.{list_all}
+use Rattle.vast.specs.Words.{Text}
+use Rattle.vast.specs.Expressions as text
+use Rattle.vast.specs.Statements.{TargetTree, DelayTree, by_number, by_name, by_value, TermTree, FurtherTerm, EventTree, by_event, by_any, by_any_enclosed, by_terms, StatementTree, StatementTrees, empty, block, assign, nonblocking, trigger, if_true, if_else, case_of, while_true, repeat_times, forever, for_loop, wait_for, delay, event, task, no_statement, first_statement}
+use Rattle.vast.specs.Statements as written
+use Rattle.vast.specs.declared.statement.Edge.{Edge as WrittenEdge}
+use Rattle.vast.specs.declared.statement.Edge.TheVariants.{Rising, Falling}
+use Rattle.vdesign.specs.declared.action.Edge.{Edge}
+use Rattle.vdesign.specs.declared.action.Edge.TheVariants.{Any, Rise, Fall}
+use Rattle.vdesign.specs.declared.action.Term.{Term}
+use Rattle.velab.specs.Uses.{place_of, is_declared}
+
+-- ---- terms (9.7.2)
+
+-- `posedge` and `negedge` hear one side of table 9-2; without them any change is heard
+abbrev pub edge_of : Option WrittenEdge → Edge
+edge_of None = Any
+edge_of (Some Rising) = Rise
+edge_of (Some Falling) = Fall
+
+abbrev pub term_by : List Text → Edge → Text → Term
+term_by names edge name = record { edge = edge; variable = place_of names name }
+
+abbrev pub term_of : List Text → TermTree → Term
+term_of names term = term_by names (edge_of term.edge) term.name
+
+-- behind a comma or behind `or`: both say the same (9.7.4)
+abbrev pub further_term_of : List Text → FurtherTerm → Term
+further_term_of names further = term_of names further.term
+
+-- any change of each of these
+abbrev pub any_of : List Text → List Text → List Term
+any_of names list = map (term_by names Any) list
+
+-- ---- what is read (9.7.5)
+
+-- every name in an expression, in the order of the text, as often as it stands there; what isn't run yet reads nothing
+abbrev pub names_in : text.ExpressionTree → List Text
+names_in (text.number digits) = []
+names_in (text.name letters) = letters ∷ []
+names_in text.time = []
+names_in (text.bit letters index) = []
+names_in (text.part letters left right) = []
+names_in (text.parentheses inner) = names_in inner
+names_in (text.concatenation parts) = []
+names_in (text.replication count parts) = []
+names_in (text.conversion signed inner) = names_in inner
+names_in (text.apply operator inner) = names_in inner
+names_in (text.combine operator left right) = names_in left ++ names_in right
+names_in (text.conditional condition when_true when_false) = names_in condition ++ (names_in when_true ++ names_in when_false)
+
+-- an assignment of either kind reads its right side, and what isn't run yet reads nothing
+abbrev pub read_by_assignment : TargetTree → Option DelayTree → text.ExpressionTree → List Text
+read_by_assignment (written.whole letters) None value = names_in value
+read_by_assignment (written.whole letters) (Some amount) value = []
+read_by_assignment (written.bit letters index) amount value = []
+read_by_assignment (written.part letters left right) amount value = []
+read_by_assignment (written.joined targets) amount value = []
+
+abbrev pub read_by_delay : DelayTree → List Text
+read_by_delay (by_number digits) = []
+read_by_delay (by_name letters) = letters ∷ []
+read_by_delay (by_value amount) = names_in amount
+
+-- The names that a statement reads, in the order of the text. What an event control or a `wait` in it listens to isn't among
+-- them, and what isn't run yet reads nothing.
+abbrev mutual
+  pub read_by : StatementTree → List Text
+  read_by empty = []
+  read_by (block statements) = read_by_all statements
+  read_by (assign target amount value) = read_by_assignment target amount value
+  read_by (nonblocking target amount value) = read_by_assignment target amount value
+  read_by (trigger letters) = []
+  read_by (if_true condition body) = names_in condition ++ read_by body
+  read_by (if_else condition body other) = names_in condition ++ (read_by body ++ read_by other)
+  read_by (case_of kind value branches) = []
+  read_by (while_true condition body) = names_in condition ++ read_by body
+  read_by (repeat_times count body) = []
+  read_by (forever body) = read_by body
+  read_by (for_loop target value condition next_target next_value body) =
+      read_by_assignment target None value ++ (names_in condition ++ (read_by_assignment next_target None next_value ++ read_by body))
+  read_by (wait_for condition body) = read_by body
+  read_by (delay amount body) = read_by_delay amount ++ read_by body
+  read_by (event control body) = read_by body
+  read_by (task call) = []
+
+  pub read_by_all : StatementTrees → List Text
+  read_by_all no_statement = []
+  read_by_all (first_statement statement rest) = read_by statement ++ read_by_all rest
+
+-- ---- event controls
+
+-- what `@control body` listens to; where `@*` reads nothing, it listens to nothing
+abbrev pub terms_of : List Text → EventTree → StatementTree → List Term
+terms_of names (by_event letters) body = term_by names Any letters ∷ []
+terms_of names by_any body = any_of names (read_by body)
+terms_of names by_any_enclosed body = any_of names (read_by body)
+terms_of names (by_terms term further) body = term_of names term ∷ map (further_term_of names) further
+
+abbrev pub knows_further : List Text → FurtherTerm → Bool
+knows_further names further = is_declared names further.term.name
+
+-- whether each name that stands in the control is declared
+abbrev pub knows_control : List Text → EventTree → Bool
+knows_control names (by_event letters) = is_declared names letters
+knows_control names by_any = true
+knows_control names by_any_enclosed = true
+knows_control names (by_terms term further) = is_declared names term.name && list_all (knows_further names) further

@@ -1,0 +1,58 @@
+-- The value of a node whose operands' values are known.
+use Rattle.std.proofs.Common.{◌≡◌, Bool, length, ap, ◌∙◌}
+use Rattle.std.proofs.lemmas.List.{length-replicate}
+use Rattle.vbits.specs.declared.bit4.Bit4.{Bit4}
+use Rattle.vbits.specs.declared.bit4.Bit4.TheVariants.{X}
+use Rattle.vbits.specs.Vectors.{Vector, filled, with_sign, truth}
+use Rattle.vast.specs.declared.expression.UnaryOperator.{UnaryOperator}
+use Rattle.vast.specs.declared.expression.BinaryOperator.{BinaryOperator}
+use Rattle.vdesign.specs.Expressions.{ExpressionTree, conversion, apply, combine, conditional}
+use Rattle.vvalue.specs.declared.context.Context.{Context}
+use Rattle.vvalue.specs.declared.manner.Manner.{Manner}
+use Rattle.vvalue.specs.declared.manner.UnaryManner.{UnaryManner}
+use Rattle.vvalue.specs.Manners.{manner, unary_manner}
+use Rattle.vvalue.specs.Value.{Moment, own, fitted, chosen, unary_context, left_context, right_context, unary_value, binary_value, value_of}
+
+pub filled_length : (v : Vector) (here : Context) → v ≡ filled here.size X → length v.letters ≡ here.size
+unfolding filled
+filled_length v here is = ap (λ (w : Vector). length w.letters) is ∙ length-replicate here.size X
+
+pub conversion_is : (now : Moment) (signed : Bool) (operand : ExpressionTree) (here there : Context)
+    (value marked whole : Vector) →
+    whole ≡ fitted marked here → marked ≡ with_sign value signed → value ≡ value_of now operand there → there ≡ own now operand →
+    whole ≡ value_of now (conversion signed operand) here
+conversion_is now signed operand here there value marked whole is marks of stands =
+    is ∙ ap (λ v. fitted v here) (marks ∙ ap (λ v. with_sign v signed) (of ∙ ap (value_of now operand) stands))
+
+pub apply_is : (now : Moment) (operator : UnaryOperator) (by : UnaryManner) (operand : ExpressionTree) (here there : Context)
+    (value made whole : Vector) →
+    whole ≡ fitted made here → made ≡ unary_value by value → value ≡ value_of now operand there →
+    there ≡ unary_context by (own now operand) here → by ≡ unary_manner operator →
+    whole ≡ value_of now (apply operator operand) here
+apply_is now operator by operand here there value made whole is makes of stands same =
+    is ∙ ap (λ v. fitted v here) (makes ∙ ap (unary_value by) (of ∙ ap (value_of now operand) stands)
+    ∙ ap (λ m. unary_value m (value_of now operand (unary_context m (own now operand) here))) same)
+
+pub combine_is : (now : Moment) (operator : BinaryOperator) (by : Manner) (left right : ExpressionTree) (here first second : Context)
+    (a b made whole : Vector) →
+    whole ≡ fitted made here → made ≡ binary_value by a b → a ≡ value_of now left first → b ≡ value_of now right second →
+    first ≡ left_context by (own now left) (own now right) here → second ≡ right_context by (own now left) (own now right) here →
+    by ≡ manner operator → whole ≡ value_of now (combine operator left right) here
+combine_is now operator by left right here first second a b made whole is makes one other stands stands_too same =
+    is ∙ ap (λ v. fitted v here)
+    (makes ∙ ap (λ v. binary_value by v b) (one ∙ ap (value_of now left) stands)
+    ∙ ap (binary_value by (value_of now left (left_context by (own now left) (own now right) here))) (other ∙ ap (value_of now right) stands_too)
+    ∙ ap (λ m. binary_value m (value_of now left (left_context m (own now left) (own now right) here))
+    (value_of now right (right_context m (own now left) (own now right) here))) same)
+
+pub conditional_is : (now : Moment) (condition when_true when_false : ExpressionTree) (here there : Context)
+    (test a b made whole : Vector) (letter : Bit4) →
+    whole ≡ fitted made here → made ≡ chosen letter a b → letter ≡ truth test →
+    test ≡ value_of now condition there → there ≡ own now condition →
+    a ≡ value_of now when_true here → b ≡ value_of now when_false here →
+    whole ≡ value_of now (conditional condition when_true when_false) here
+conditional_is now condition when_true when_false here there test a b made whole letter is makes tells of stands one other =
+    is ∙ ap (λ v. fitted v here)
+    (makes ∙ ap (λ l. chosen l a b) (tells ∙ ap truth (of ∙ ap (value_of now condition) stands))
+    ∙ ap (λ v. chosen (truth (value_of now condition (own now condition))) v b) one
+    ∙ ap (chosen (truth (value_of now condition (own now condition))) (value_of now when_true here)) other)

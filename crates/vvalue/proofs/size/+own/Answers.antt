@@ -1,0 +1,147 @@
+use Rattle.std.proofs.Common.{◌≡◌, ◌++◌, false, length, refl, ap, ◌∙◌}
+use Rattle.vdesign.specs.Expressions.{ExpressionTree, apply, combine}
+use Rattle.vdesign.specs.Nodes.{nodes_of}
+use Rattle.vdesign.specs.declared.expression.Node.TheVariants.{Constant, Variable, Time, Conversion, Unary, Binary, Conditional}
+use Rattle.vast.specs.declared.expression.UnaryOperator.{UnaryOperator}
+use Rattle.vast.specs.declared.expression.BinaryOperator.{BinaryOperator}
+use Rattle.vvalue.specs.declared.context.Context.{Context}
+use Rattle.vvalue.specs.declared.manner.Manner.{Manner}
+use Rattle.vvalue.specs.declared.manner.UnaryManner.{UnaryManner}
+use Rattle.vvalue.specs.Manners.{manner, unary_manner}
+use Rattle.vvalue.specs.Value.{Moment, context, own, common, size_by, sign_by, unary_size, unary_sign}
+use Rattle.vbits.specs.Vectors.{Vector}
+use Rattle.vvalue.proofs.NodeLemmas.{by_node, by_none}
+use Rattle.vvalue.proofs.size.+own.Goals as goal
+
+-- ---- of a node whose operands are known
+
+by_unary : UnaryManner → Context → Context
+by_unary by operand = context (unary_size by operand.size) (unary_sign by operand.signed)
+
+by_binary : Manner → Context → Context → Context
+by_binary by left right = context (size_by by left.size right.size) (sign_by by left.signed right.signed)
+
+unary_is : (now : Moment) (operator : UnaryOperator) (by : UnaryManner) (operand : ExpressionTree) (a whole : Context) →
+    whole ≡ context (unary_size by a.size) (unary_sign by a.signed) → by ≡ unary_manner operator → a ≡ own now operand →
+    whole ≡ own now (apply operator operand)
+unfolding by_unary
+unary_is now operator by operand a whole is same one =
+    is ∙ ap (λ m. by_unary m a) same ∙ ap (by_unary (unary_manner operator)) one
+
+binary_is : (now : Moment) (operator : BinaryOperator) (by : Manner) (left right : ExpressionTree) (a b whole : Context) →
+    whole ≡ context (size_by by a.size b.size) (sign_by by a.signed b.signed) → by ≡ manner operator →
+    a ≡ own now left → b ≡ own now right → whole ≡ own now (combine operator left right)
+unfolding by_binary
+binary_is now operator by left right a b whole is same one other =
+    is ∙ ap (λ m. by_binary m a b) same ∙ ap (λ (x : Context). by_binary (manner operator) x b) one
+    ∙ ap (by_binary (manner operator) (own now left)) other
+
+-- ---- the nodes
+
+pub returns-in_default-clause-exact : goal.returns-in_default-clause-exact
+returns-in_default-clause-exact t c =
+    by_none (λ tree more. context 1 false ≡ own c.args.moment.now tree) c.args.nodes.now c.in_default.ensures.cases
+
+pub returns-in-Constant-clause-exact : goal.returns-in-Constant-clause-exact
+returns-in-Constant-clause-exact t c =
+    by_node (λ tree more. c.own_value.result ≡ own c.args.moment.now tree)
+    c.args.nodes.now c.in-Some.node.now (Constant c.in-Constant.constant) c.in-Some.behind.now
+    c.in-Some.ensures.cases.0 c.in-Constant.is c.own_value.ensures.exact
+
+pub returns-in-Constant-clause-rest : goal.returns-in-Constant-clause-rest
+returns-in-Constant-clause-rest t c =
+    by_node (λ tree more. c.in-Some.behind.now ≡ more)
+    c.args.nodes.now c.in-Some.node.now (Constant c.in-Constant.constant) c.in-Some.behind.now
+    c.in-Some.ensures.cases.0 c.in-Constant.is refl
+
+pub returns-in-Variable-clause-exact : goal.returns-in-Variable-clause-exact
+returns-in-Variable-clause-exact t c =
+    by_node (λ tree more. c.own_value-in-Variable.result ≡ own c.args.moment.now tree)
+    c.args.nodes.now c.in-Some.node.now (Variable c.in-Variable.number) c.in-Some.behind.now
+    c.in-Some.ensures.cases.0 c.in-Variable.is
+    (c.own_value-in-Variable.ensures.exact ∙ ap (λ (v : Vector). context (length v.letters) v.signed) c.value_at.ensures)
+
+pub returns-in-Variable-clause-rest : goal.returns-in-Variable-clause-rest
+returns-in-Variable-clause-rest t c =
+    by_node (λ tree more. c.in-Some.behind.now ≡ more)
+    c.args.nodes.now c.in-Some.node.now (Variable c.in-Variable.number) c.in-Some.behind.now
+    c.in-Some.ensures.cases.0 c.in-Variable.is refl
+
+pub returns-in-Time-clause-exact : goal.returns-in-Time-clause-exact
+returns-in-Time-clause-exact t c =
+    by_node (λ tree more. context 64 false ≡ own c.args.moment.now tree)
+    c.args.nodes.now c.in-Some.node.now Time c.in-Some.behind.now
+    c.in-Some.ensures.cases.0 c.in-Time.is refl
+
+pub returns-in-Time-clause-rest : goal.returns-in-Time-clause-rest
+returns-in-Time-clause-rest t c =
+    by_node (λ tree more. c.in-Some.behind.now ≡ more)
+    c.args.nodes.now c.in-Some.node.now Time c.in-Some.behind.now
+    c.in-Some.ensures.cases.0 c.in-Time.is refl
+
+pub returns-in-Conversion-clause-exact : goal.returns-in-Conversion-clause-exact
+returns-in-Conversion-clause-exact t c =
+    by_node (λ tree more. context c.own.result.0.size c.in-Conversion.signed ≡ own c.args.moment.now tree)
+    c.args.nodes.now c.in-Some.node.now (Conversion c.in-Conversion.signed) c.in-Some.behind.now
+    c.in-Some.ensures.cases.0 c.in-Conversion.is
+    (λ operand more is. ap (λ (x : Context). context x.size c.in-Conversion.signed) (c.own.ensures.exact operand more is))
+
+pub returns-in-Conversion-clause-rest : goal.returns-in-Conversion-clause-rest
+returns-in-Conversion-clause-rest t c =
+    by_node (λ tree more. c.own.result.1.now ≡ more)
+    c.args.nodes.now c.in-Some.node.now (Conversion c.in-Conversion.signed) c.in-Some.behind.now
+    c.in-Some.ensures.cases.0 c.in-Conversion.is c.own.ensures.rest
+
+pub returns-in-Unary-clause-exact : goal.returns-in-Unary-clause-exact
+returns-in-Unary-clause-exact t c =
+    by_node (λ tree more. c.own_unary.result ≡ own c.args.moment.now tree)
+    c.args.nodes.now c.in-Some.node.now (Unary c.in-Unary.operator) c.in-Some.behind.now
+    c.in-Some.ensures.cases.0 c.in-Unary.is
+    (λ operand more is. unary_is c.args.moment.now c.in-Unary.operator c.unary_manner_of.result operand
+    c.own-in-Unary.result.0 c.own_unary.result
+    c.own_unary.ensures.exact c.unary_manner_of.ensures (c.own-in-Unary.ensures.exact operand more is))
+
+pub returns-in-Unary-clause-rest : goal.returns-in-Unary-clause-rest
+returns-in-Unary-clause-rest t c =
+    by_node (λ tree more. c.own-in-Unary.result.1.now ≡ more)
+    c.args.nodes.now c.in-Some.node.now (Unary c.in-Unary.operator) c.in-Some.behind.now
+    c.in-Some.ensures.cases.0 c.in-Unary.is c.own-in-Unary.ensures.rest
+
+pub returns-in-Binary-clause-exact : goal.returns-in-Binary-clause-exact
+returns-in-Binary-clause-exact t c =
+    by_node (λ tree more. c.own_binary.result ≡ own c.args.moment.now tree)
+    c.args.nodes.now c.in-Some.node.now (Binary c.in-Binary.operator) c.in-Some.behind.now
+    c.in-Some.ensures.cases.0 c.in-Binary.is
+    (λ left right more is. binary_is c.args.moment.now c.in-Binary.operator c.manner_of.result left right
+    c.own-in-Binary.result.0 c.own-in-Binary-2.result.0 c.own_binary.result
+    c.own_binary.ensures.exact c.manner_of.ensures (c.own-in-Binary.ensures.exact left (nodes_of right ++ more) is)
+    (c.own-in-Binary-2.ensures.exact right more (c.own-in-Binary.ensures.rest left (nodes_of right ++ more) is)))
+
+pub returns-in-Binary-clause-rest : goal.returns-in-Binary-clause-rest
+returns-in-Binary-clause-rest t c =
+    by_node (λ tree more. c.own-in-Binary-2.result.1.now ≡ more)
+    c.args.nodes.now c.in-Some.node.now (Binary c.in-Binary.operator) c.in-Some.behind.now
+    c.in-Some.ensures.cases.0 c.in-Binary.is
+    (λ left right more is. c.own-in-Binary-2.ensures.rest right more (c.own-in-Binary.ensures.rest left (nodes_of right ++ more) is))
+
+pub returns-in-Conditional-clause-exact : goal.returns-in-Conditional-clause-exact
+returns-in-Conditional-clause-exact t c =
+    by_node (λ tree more. c.common.result ≡ own c.args.moment.now tree)
+    c.args.nodes.now c.in-Some.node.now Conditional c.in-Some.behind.now
+    c.in-Some.ensures.cases.0 c.in-Conditional.is
+    (λ condition when_true when_false more is.
+    let behind = c.own-in-Conditional.ensures.rest condition (nodes_of when_true ++ (nodes_of when_false ++ more)) is in
+    c.common.ensures.exact
+    ∙ ap (λ (x : Context). common x c.own-in-Conditional-3.result.0)
+    (c.own-in-Conditional-2.ensures.exact when_true (nodes_of when_false ++ more) behind)
+    ∙ ap (common (own c.args.moment.now when_true))
+    (c.own-in-Conditional-3.ensures.exact when_false more (c.own-in-Conditional-2.ensures.rest when_true (nodes_of when_false ++ more) behind)))
+
+pub returns-in-Conditional-clause-rest : goal.returns-in-Conditional-clause-rest
+returns-in-Conditional-clause-rest t c =
+    by_node (λ tree more. c.own-in-Conditional-3.result.1.now ≡ more)
+    c.args.nodes.now c.in-Some.node.now Conditional c.in-Some.behind.now
+    c.in-Some.ensures.cases.0 c.in-Conditional.is
+    (λ condition when_true when_false more is.
+    c.own-in-Conditional-3.ensures.rest when_false more (c.own-in-Conditional-2.ensures.rest when_true (nodes_of when_false ++ more)
+    (c.own-in-Conditional.ensures.rest condition (nodes_of when_true ++ (nodes_of when_false ++ more)) is)))

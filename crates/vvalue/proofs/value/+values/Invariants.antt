@@ -1,0 +1,17 @@
+use Rattle.std.proofs.Common.{length, ◌+◌, ◌*◌}
+use Rattle.vvalue.proofs.value.+values.Given as goal
+
+abbrev pub decreases-of_unary : goal.decreases-of_unary
+decreases-of_unary l = 2 * length l.nodes.now + 1
+
+abbrev pub decreases-of_conversion : goal.decreases-of_conversion
+decreases-of_conversion l = 2 * length l.nodes.now + 1
+
+abbrev pub decreases-of_binary : goal.decreases-of_binary
+decreases-of_binary l = 2 * length l.nodes.now + 1
+
+abbrev pub decreases-of_conditional : goal.decreases-of_conditional
+decreases-of_conditional l = 2 * length l.nodes.now + 1
+
+abbrev pub decreases-value_of : goal.decreases-value_of
+decreases-value_of l = 2 * length l.nodes.now
