@@ -82,11 +82,27 @@ class Module:
         return self.declared or [f"v{i}" for i in range(len(self.lengths))]
 
 
-# statements that run today, and how often each is made; those of the second line only where one may stand inside. `repeat`, `until`
-# and `on` wait for their turn, and expressions of more than DEPTH operators
+# statements that run today, and how often each is made; those of the second line only where one may stand inside. `repeat` waits for
+# its turn
 LEAVES = {"assign": 6, "post": 5, "delay": 4, "empty": 1, "dump": 1, "finish": 0.2, "stop": 0.1}
-NESTED = {"block": 4, "test": 3, "again": 1, "for": 1, "forever": 0.5}
-DEPTH = 1
+NESTED = {"block": 4, "test": 3, "again": 1, "for": 1, "forever": 0.5, "on": 2, "any": 1, "until": 1}
+DEPTH = 3
+
+
+# where the expression stands that an action reads, and from where on its statements do
+READS = {"assign": 1, "post": 1, "delay": 0, "test": 0, "again": 0}
+INSIDE = {"delay": 1, "test": 1, "again": 1, "forever": 0, "on": 1, "until": 1}
+
+
+def read_by(actions):
+    """What `@*` waits for: any change of what these read, but for what an event control or a `wait` among them listens to (9.7.5)."""
+    found = set()
+    for kind, *what in actions:
+        if kind in READS:
+            found |= what[READS[kind]].reads()
+        for body in what[INSIDE.get(kind, len(what)):]:
+            found |= {place for _, place in read_by(body)}
+    return [("", place) for place in sorted(found)]
 
 
 class Texts:
@@ -170,6 +186,10 @@ class Texts:
     def make_until(self, depth):
         condition, (text, body) = self.expression(), self.statement(depth)
         return f"wait ({condition.text()}) {text}", [("until", condition, body)]
+
+    def make_any(self, depth):
+        text, body = self.statement(depth)
+        return f"@{self.rng.choice(['*', '(*)', '( * )'])} {text}", [("on", read_by(body), body)]
 
     def make_on(self, depth):
         terms = [(self.rng.choice(["", "posedge", "negedge"]), self.rng.randrange(self.count)) for _ in range(self.rng.choice([1, 1, 2, 3]))]
@@ -319,9 +339,14 @@ class Parser:
         return inner
 
     def terms(self):
-        """The terms of an event control."""
+        """The terms of an event control, or None of `@*`."""
+        if self.words.take("*"):
+            return None
         if not self.words.take("("):
             return [("", self.names.index(self.words.next()))]
+        if self.words.take("*"):
+            self.words.must(")")
+            return None
         terms = []
         while not terms or self.words.take("or", ","):
             edge = self.words.take("posedge", "negedge") or ""
@@ -356,7 +381,8 @@ class Parser:
             amount = self.within() if self.words.words[0] == "(" else self.operand()
             return [("delay", amount, self.statement())]
         if word == "@":
-            return [("on", self.terms(), self.statement())]
+            terms, body = self.terms(), self.statement()
+            return [("on", read_by(body) if terms is None else terms, body)]
         if word == "if":
             condition, body = self.within(), self.statement()
             return [("test", condition, body, self.statement() if self.words.take("else") else [])]
