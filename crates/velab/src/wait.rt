@@ -276,7 +276,8 @@ fn put_further(
 ) -> Result<(), OrMemory<ElabFault>>
     requires { length names.now ≤ 1024 }
     ensures ok { OnOk result (terms.new.items ≡ terms.old.items
-        ++ map (spec.further_term_of names.now) (map (further_term (words_of tokens.now)) further.now)) }
+        ++ map (spec.further_term_of names.now)
+        (map (further_term (words_of tokens.now)) further.now)) }
     ensures known { OnOk result (list_all (knows_further names.now)
         (map (further_term (words_of tokens.now)) further.now) ≡ true) }
     ensures err { IfFault result (BreaksKnown (list_all (knows_further names.now)
