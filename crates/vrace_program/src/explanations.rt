@@ -74,7 +74,7 @@ const EXPLANATIONS: [Explanation; 28] = [
     Explanation {
         number: 299,
         meaning: "the text is read, and what begins here isn't run yet",
-        example: "@(posedge a), case, a + b + c, wire w;",
+        example: "case, repeat (4), {a, b}, wire w;",
         advice: "write it with what docs/LANGUAGE.md lists under What runs",
     },
     Explanation {
