@@ -95,7 +95,7 @@ INSIDE = {"delay": 1, "test": 1, "again": 1, "forever": 0, "on": 1, "until": 1}
 
 
 def read_by(actions):
-    """What `@*` waits for: any change of what these read, but for what an event control or a `wait` among them listens to (9.7.5)."""
+    """What `@*` waits for: any change of what these read, the terms of event controls and the conditions of `wait` apart (9.7.5)."""
     found = set()
     for kind, *what in actions:
         if kind in READS:
@@ -255,6 +255,11 @@ def module(rng):
     for i in range(rng.randrange(1, 5)):
         text, actions = texts.statement(3)
         made.lines.append(len(lines) + 1)
+        if i and rng.random() < 0.2:
+            text, actions = rng.choice([texts.make_on, texts.make_any])(3)
+            lines.append(f"  always {text}")
+            made.processes.append([("forever", actions)])
+            continue
         if i and rng.random() < 0.3:
             lines.append(f"  always begin #1; {text} end")
             made.processes.append([("forever", [("delay", one(), [])] + actions)])

@@ -35,9 +35,9 @@ pub enum Node {
     Time,
     /// `$signed(operand)`, or `$unsigned(operand)` (5.5)
     Conversion(bool),
-    /// `- operand` (5.1.2)
+    /// `- operand` (5.1)
     Unary(UnaryOperator),
-    /// `left + right` (5.1.2)
+    /// `left + right` (5.1)
     Binary(BinaryOperator),
     /// `condition ? when_true : when_false` (5.1.13)
     Conditional,

@@ -64,8 +64,8 @@ read_by_delay (by_number digits) = []
 read_by_delay (by_name letters) = letters ∷ []
 read_by_delay (by_value amount) = names_in amount
 
--- The names that a statement reads, in the order of the text. What an event control or a `wait` in it listens to isn't among
--- them, and what isn't run yet reads nothing.
+-- The names that a statement reads, in the order of the text. The terms of an event control and the condition of a `wait` in it
+-- aren't read; the statements behind them are. What isn't run yet reads nothing.
 abbrev mutual
   pub read_by : StatementTree → List Text
   read_by empty = []
