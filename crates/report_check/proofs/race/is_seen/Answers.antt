@@ -1,7 +1,7 @@
-use Rattle.std.proofs.Common.{◌≡◌, ◌≤◌, ◌<◌, ap, sym, ◌∙◌, arith, subst, List, ℕ, false, true}
+use Rattle.std.proofs.Common.{◌≡◌, ◌≤◌, ◌<◌, refl, ap, sym, ◌∙◌, arith, subst, List, ℕ, false, true}
 use Rattle.sched_core.specs.Logs.{IsLogFrom}
 use Rattle.sched_core.proofs.RunLemmas.{IsLeft, left_whole, left_next}
-use Rattle.report_check.proofs.WalkLemmas.{seen_by_now, never_within, never_on, stuck, runs_on, stands_on}
+use Rattle.report_check.proofs.WalkLemmas.{seen_by_now, has_come, never_within, never_on, stuck, runs_on, stands_on}
 use Rattle.report_check.proofs.race.is_seen.Goals as goal
 
 pub turns-init : goal.turns-init
@@ -17,6 +17,19 @@ turns-init c =
       at = law.same setting _ _ _ (law.stands setting c.args.seen.now.1 0) c.in_ok-state.ensures;
       before = (λ h. absurd (let bad : false ≡ true = h in cc), λ b. absurd (let lt = b.earlier in omega (arith, lt)));
     }
+
+pub returns-then-has_all : goal.returns-then-has_all
+returns-then-has_all c =
+    let setting = c.args.machine.now in
+    let steps = c.args.steps in
+    let race = c.args.race.now in
+    let seen = c.args.seen.now in
+    let here = c.turns.invariant in
+    let by_now = seen_by_now setting steps race.time race.variable seen c.turns.rest.now c.turns.n c.turns.found c.in_ok-found.found c.turns.state here.at here.before c.in_ok-found.ensures in
+    let all = c.has_all.ensures.0 c.if-has_all.true in (
+      λ h. has_come setting steps race.time race.variable seen c.turns.rest.now c.turns.n here.left c.in_ok-found.found by_now here.run here.within all.0 all.1,
+      λ w. refl,
+    )
 
 pub returns-then-n-steps : goal.returns-then-n-steps
 returns-then-n-steps c =
