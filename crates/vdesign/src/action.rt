@@ -4,6 +4,7 @@ ghost use Rattle.std.specs.Prelude.{◌≡◌};
 
 use crate::expression::Expression;
 use std::marker::Model;
+use vast::statement::CaseKind;
 
 /// Places of a design's table of actions, in the order in which they are come to.
 #[derive(Drop)]
@@ -84,6 +85,49 @@ impl Terms {
     }
 }
 
+/// An item of a `case`, and the places that come where it is the first that matches (9.5). Items in front of one statement are
+/// branches of their own, in the order of the text, with the same places.
+#[derive(Drop)]
+pub struct Branch {
+    pub item: Expression,
+    pub body: Places,
+}
+
+/// The branches of a `case`, in the order of the text, without its `default` (9.5).
+#[derive(Drop)]
+pub struct Branches {
+    list: Vec<Branch>,
+}
+
+impl Model for Branches {
+    ghost use Rattle.std.specs.Prelude.{List};
+    ghost use Rattle.std.specs.Coded.{codes};
+    ghost use Rattle.vdesign.specs.declared.action.Branch.{Branch};
+    ghost use Rattle.vdesign.specs.contracts.expression.Expression as expression;
+
+    ghost Value = { List Branch };
+
+    ghost coded = { Prim.hlevel (codes, expression.the_row.coded) };
+
+    ghost view = { λ branches. branches.list.items };
+}
+
+impl Branches {
+    /// These branches.
+    pub fn new(list: Vec<Branch>) -> Branches
+        ensures { result ≡ list.items }
+    {
+        Branches { list }
+    }
+
+    /// The branches, as a list.
+    pub fn as_slice(&self) -> &[Branch]
+        ensures { result.now ≡ self.now }
+    {
+        &self.list
+    }
+}
+
 /// What an assignment writes (clause 6, table 6-1).
 #[derive(Clone, Copy, Debug, PartialEq, Eq)]
 pub enum Target {
@@ -110,9 +154,21 @@ pub enum Action {
         when_true: Places,
         otherwise: Places,
     },
+    /// `case (value) .. endcase`, and where no item matches its `default` (9.5)
+    Case {
+        kind: CaseKind,
+        value: Expression,
+        branches: Branches,
+        otherwise: Places,
+    },
     /// `while (condition) ..` (9.6), and what a `for` tests
     Again {
         condition: Expression,
+        body: Places,
+    },
+    /// `repeat (count) ..` (9.6)
+    Repeat {
+        count: Expression,
         body: Places,
     },
     /// `forever ..` (9.6), and what an `always` does (9.9.2)
@@ -134,6 +190,12 @@ pub enum Action {
         condition: Expression,
         terms: Terms,
         body: Places,
+    },
+    /// `assign target = value` (6.1), a process of its own: it writes, and then one of the terms is waited for, and it writes again.
+    Drive {
+        target: Target,
+        value: Expression,
+        terms: Terms,
     },
     /// `$dumpvars;` (18.1.2)
     DumpVars,

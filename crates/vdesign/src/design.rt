@@ -5,6 +5,7 @@ use crate::action::{Action, Places};
 use crate::expression::Bounds;
 use basis::Timescale;
 use std::marker::Model;
+use vbits::Bit4;
 
 /// A whole design, each list in the order of docs/LANGUAGE.md, "Order". A clause sees it as the record `Design` of
 /// specs/Design.antt.
@@ -56,6 +57,8 @@ pub struct Variable {
     /// In bits, 1 to 64.
     pub length: u32,
     pub signed: bool,
+    /// What each of its bits is until it is first written: x, or z where it is a net that nothing drives (4.2.2, 4.6).
+    pub start: Bit4,
     /// The numbers of the leftmost and of the rightmost bit, where it was declared with a range.
     pub bounds: Option<Bounds>,
 }
@@ -66,7 +69,7 @@ impl Model for Variable {
 
     ghost Value = { design.Variable };
 
-    ghost view = { λ v. record { name = v.name.items; kind = v.kind; length = v.length; signed = v.signed; bounds = v.bounds } };
+    ghost view = { λ v. record { name = v.name.items; kind = v.kind; length = v.length; signed = v.signed; start = v.start; bounds = v.bounds } };
 
     ghost invariant = { λ v. (1 ≤ v.length) × (v.length ≤ 64) };
 }
@@ -78,6 +81,8 @@ pub enum Kind {
     Reg,
     /// `integer`
     Integer,
+    /// `wire`
+    Wire,
 }
 
 /// A module's instance, or the top module (12.1). Scopes stand depth first, so that the variables of the
