@@ -2,11 +2,11 @@
 
 use std::alloc::Global;
 use std::test::Fail;
-use vrace::{At, Fault};
+use vrace::{At, Fault, Rule};
 use vsrc::Place;
 
 // Each refusal but want of memory, which nobody here can make, with the number that docs/FAULTS.md gives it.
-const NUMBERS: [(Fault, &str); 23] = [
+const NUMBERS: [(Fault, &str); 25] = [
     (Fault::NotEnded(At(None)), "E101"),
     (Fault::BadToken(At(None)), "E102"),
     (Fault::Directive(At(None)), "E110"),
@@ -18,11 +18,13 @@ const NUMBERS: [(Fault, &str); 23] = [
     (Fault::Outside(At(None)), "E202"),
     (Fault::TooDeep(At(None)), "E203"),
     (Fault::NotYet(At(None)), "E299"),
-    (Fault::NoTop(At(None)), "E301"),
-    (Fault::Doubled(At(None)), "E302"),
-    (Fault::Unknown(At(None)), "E303"),
-    (Fault::Width(At(None)), "E306"),
-    (Fault::TooMany(At(None)), "E309"),
+    (Fault::NoDesign(Rule::Top, At(None)), "E301"),
+    (Fault::NoDesign(Rule::Doubled, At(None)), "E302"),
+    (Fault::NoDesign(Rule::Unknown, At(None)), "E303"),
+    (Fault::NoDesign(Rule::Drivers, At(None)), "E304"),
+    (Fault::NoDesign(Rule::Width, At(None)), "E306"),
+    (Fault::NoDesign(Rule::TooMany, At(None)), "E309"),
+    (Fault::NoDesign(Rule::Kind, At(None)), "E310"),
     (Fault::BadLog, "E401"),
     (Fault::NoSuchChoice, "E402"),
     (Fault::TooManySteps, "E403"),
@@ -44,7 +46,7 @@ fn faults_print_their_numbers(rt: HostRuntime) -> Result<(), Fail> {
 #[test]
 fn faults_print_their_places(rt: HostRuntime) -> Result<(), Fail> {
     let place = Place { file: 2, line: 31 };
-    let text = format!(in rt.alloc(); "{}", Fault::Unknown(At(Some(place))))?;
+    let text = format!(in rt.alloc(); "{}", Fault::NoDesign(Rule::Unknown, At(Some(place))))?;
     assert!(rt; text.as_str() == "E303 at 2:31");
     Ok(())
 }

@@ -69,6 +69,7 @@ fn variable(
         kind: Kind::Reg,
         length,
         signed: false,
+        start: Bit4::X,
         bounds,
     })
 }

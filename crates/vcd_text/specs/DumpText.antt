@@ -8,7 +8,7 @@ use Rattle.basis.specs.declared.timescale.Span.{Span}
 use Rattle.basis.specs.Timescales.{count_number, unit_word}
 use Rattle.vdesign.specs.declared.expression.Bounds.{Bounds}
 use Rattle.vdesign.specs.declared.design.Kind.{Kind}
-use Rattle.vdesign.specs.declared.design.Kind.TheVariants.{Reg, Integer}
+use Rattle.vdesign.specs.declared.design.Kind.TheVariants.{Reg, Integer, Wire}
 use Rattle.vdesign.specs.Design.{Variable, Scope, Design}
 use Rattle.vmodel.specs.declared.history.DumpCommand.{DumpCommand}
 use Rattle.vmodel.specs.declared.history.DumpCommand.TheVariants.{Vars}
@@ -92,6 +92,7 @@ time_line t = line (35 ∷ decimal t)
 abbrev pub kind_word : Kind → List ℕ
 kind_word Reg = codes "reg"
 kind_word Integer = codes "integer"
+kind_word Wire = codes "wire"
 
 -- the range of what was declared with one
 abbrev pub bounds_text : Option Bounds → List ℕ

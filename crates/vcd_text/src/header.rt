@@ -75,6 +75,7 @@ fn put_kind(text: &mut Vec<u8>, kind: Kind) -> Result<(), NoMemory>
     match kind {
         Kind::Reg => text.extend_from_slice(b"reg")?,
         Kind::Integer => text.extend_from_slice(b"integer")?,
+        Kind::Wire => text.extend_from_slice(b"wire")?,
     }
     Ok(())
 }

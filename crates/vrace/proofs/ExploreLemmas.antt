@@ -21,7 +21,7 @@ use Rattle.vrace.specs.Refusals.{IsOfWriting}
 use Rattle.vrace.specs.RunDumps.{failures_after, fault_of}
 use Rattle.vrace.specs.declared.exploring.Status.{Status}
 use Rattle.vrace.specs.declared.fault.Fault.{Fault}
-use Rattle.vrace.specs.declared.fault.Fault.TheVariants.{NotEnded, BadToken, Directive, NoMacro, Growth, LeftOpen, Timescales, NoTree, Outside, TooDeep, NotYet, NoTop, Doubled, Unknown, Width, TooMany, BadLog, NoSuchChoice, TooManySteps, OutOfLimit, BadReport, FalseEnd, FalseRace, FalseHead, Memory, Write, Read, TooLong}
+use Rattle.vrace.specs.declared.fault.Fault.TheVariants.{NotEnded, BadToken, Directive, NoMacro, Growth, LeftOpen, Timescales, NoTree, Outside, TooDeep, NotYet, NoDesign, BadLog, NoSuchChoice, TooManySteps, OutOfLimit, BadReport, FalseEnd, FalseRace, FalseHead, Memory, Write, Read, TooLong}
 
 of_writing : (cause : OrMemory WriteFault) → IsOfWriting (fault_of cause)
 of_writing (or.Memory m) = tt
@@ -73,11 +73,7 @@ module _ (files : List (List ℕ)) (asked : Asked) (searched : Searched files as
   search_reason (NoMacro at) p = absurd p
   search_reason (LeftOpen at) p = absurd p
   search_reason (Timescales at) p = absurd p
-  search_reason (NoTop at) p = absurd p
-  search_reason (Doubled at) p = absurd p
-  search_reason (Unknown at) p = absurd p
-  search_reason (Width at) p = absurd p
-  search_reason (TooMany at) p = absurd p
+  search_reason (NoDesign rule at) p = absurd p
   search_reason BadLog p = absurd p
   search_reason NoSuchChoice p = absurd p
   search_reason TooManySteps p = absurd p
@@ -103,11 +99,7 @@ module _ (files : List (List ℕ)) (asked : Asked) (searched : Searched files as
   no_failure (NoMacro at) n p = absurd p
   no_failure (LeftOpen at) n p = absurd p
   no_failure (Timescales at) n p = absurd p
-  no_failure (NoTop at) n p = absurd p
-  no_failure (Doubled at) n p = absurd p
-  no_failure (Unknown at) n p = absurd p
-  no_failure (Width at) n p = absurd p
-  no_failure (TooMany at) n p = absurd p
+  no_failure (NoDesign rule at) n p = absurd p
   no_failure BadLog n p = absurd p
   no_failure NoSuchChoice n p = absurd p
   no_failure TooManySteps n p = absurd p

@@ -19,7 +19,7 @@ use Rattle.vrace.specs.Asked.{Asked}
 use Rattle.vrace.specs.Replays.{AreRead, texts_of, IsTreeOf, IsDesignOf, IsDesignOfFiles, grain_under, Played, setting_of, IsDump}
 use Rattle.vrace.specs.Refusals.{IsDesignFault, IsFileReason, IsTextReason, IsRunReason, IsReason, IsOfMemory, IsOfWriting}
 use Rattle.vrace.specs.declared.fault.Fault.{Fault}
-use Rattle.vrace.specs.declared.fault.Fault.TheVariants.{NotEnded, BadToken, Directive, NoMacro, Growth, LeftOpen, Timescales, NoTree, Outside, TooDeep, NotYet, NoTop, Doubled, Unknown, Width, TooMany, BadLog, NoSuchChoice, TooManySteps, OutOfLimit, BadReport, FalseEnd, FalseRace, FalseHead, Memory, Write, Read, TooLong}
+use Rattle.vrace.specs.declared.fault.Fault.TheVariants.{NotEnded, BadToken, Directive, NoMacro, Growth, LeftOpen, Timescales, NoTree, Outside, TooDeep, NotYet, NoDesign, BadLog, NoSuchChoice, TooManySteps, OutOfLimit, BadReport, FalseEnd, FalseRace, FalseHead, Memory, Write, Read, TooLong}
 use Rattle.vreport.specs.RunLaws.{same_end, never_missing, never_more}
 
 pub record Laws : Type 0 where
@@ -47,11 +47,7 @@ module _ (laws : Laws) (files : List (List ℕ)) (read : AreRead files) where
   not_for_files (Outside at) r = absurd r
   not_for_files (TooDeep at) r = absurd r
   not_for_files (NotYet at) r = absurd r
-  not_for_files (NoTop at) r = absurd r
-  not_for_files (Doubled at) r = absurd r
-  not_for_files (Unknown at) r = absurd r
-  not_for_files (Width at) r = absurd r
-  not_for_files (TooMany at) r = absurd r
+  not_for_files (NoDesign rule at) r = absurd r
   not_for_files BadLog r = absurd r
   not_for_files NoSuchChoice r = absurd r
   not_for_files TooManySteps r = absurd r
@@ -76,11 +72,7 @@ module _ (laws : Laws) (files : List (List ℕ)) (read : AreRead files) where
       not_for_text (Outside at) r = absurd (r.0 here.tree here.is_tree)
       not_for_text (TooDeep at) r = absurd (r.0 here.tree here.is_tree)
       not_for_text (NotYet at) (none, more) = absurd (none (expanded_timescale files) design here)
-      not_for_text (NoTop at) (token, (none, broken)) = absurd (none (expanded_timescale files) design here)
-      not_for_text (Doubled at) (token, (none, broken)) = absurd (none (expanded_timescale files) design here)
-      not_for_text (Unknown at) (token, (none, broken)) = absurd (none (expanded_timescale files) design here)
-      not_for_text (Width at) (token, (none, broken)) = absurd (none (expanded_timescale files) design here)
-      not_for_text (TooMany at) (token, (none, broken)) = absurd (none (expanded_timescale files) design here)
+      not_for_text (NoDesign rule at) (token, (none, broken)) = absurd (none (expanded_timescale files) design here)
       not_for_text (Memory m) r = tt
       not_for_text (Directive at) r = absurd r
       not_for_text (NoMacro at) r = absurd r
@@ -116,11 +108,7 @@ of_writing (NoTree at) r = absurd r
 of_writing (Outside at) r = absurd r
 of_writing (TooDeep at) r = absurd r
 of_writing (NotYet at) r = absurd r
-of_writing (NoTop at) r = absurd r
-of_writing (Doubled at) r = absurd r
-of_writing (Unknown at) r = absurd r
-of_writing (Width at) r = absurd r
-of_writing (TooMany at) r = absurd r
+of_writing (NoDesign rule at) r = absurd r
 of_writing BadLog r = absurd r
 of_writing NoSuchChoice r = absurd r
 of_writing TooManySteps r = absurd r
@@ -189,11 +177,7 @@ module _ (laws : Laws) where
       not_for_run (Outside at) r = absurd r
       not_for_run (TooDeep at) r = absurd r
       not_for_run (NotYet at) r = absurd r
-      not_for_run (NoTop at) r = absurd r
-      not_for_run (Doubled at) r = absurd r
-      not_for_run (Unknown at) r = absurd r
-      not_for_run (Width at) r = absurd r
-      not_for_run (TooMany at) r = absurd r
+      not_for_run (NoDesign rule at) r = absurd r
       not_for_run OutOfLimit r = absurd r
       not_for_run BadReport r = absurd r
       not_for_run (FalseEnd i) r = absurd r

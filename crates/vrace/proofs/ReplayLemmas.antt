@@ -18,7 +18,7 @@ use Rattle.vreport.specs.Dumps.{IsRunDump}
 use Rattle.vrace.proofs.DumpLemmas.{the_dump}
 use Rattle.vrace.specs.RunDumps.{IsRunFault, Ends, fault_of, failures_after}
 use Rattle.vrace.specs.declared.fault.Fault.{Fault}
-use Rattle.vrace.specs.declared.fault.Fault.TheVariants.{NotEnded, BadToken, Directive, NoMacro, Growth, LeftOpen, Timescales, NoTree, Outside, TooDeep, NotYet, NoTop, Doubled, Unknown, Width, TooMany, BadLog, NoSuchChoice, TooManySteps, OutOfLimit, BadReport, FalseEnd, FalseRace, FalseHead, Memory, Write, Read, TooLong}
+use Rattle.vrace.specs.declared.fault.Fault.TheVariants.{NotEnded, BadToken, Directive, NoMacro, Growth, LeftOpen, Timescales, NoTree, Outside, TooDeep, NotYet, NoDesign, BadLog, NoSuchChoice, TooManySteps, OutOfLimit, BadReport, FalseEnd, FalseRace, FalseHead, Memory, Write, Read, TooLong}
 
 of_writing : (cause : OrMemory WriteFault) → IsOfWriting (fault_of cause)
 of_writing (or.Memory m) = tt
@@ -57,11 +57,7 @@ module _ (files : List (List ℕ)) (asked : Asked) (log : List ℕ) (played : Pl
   run_reason (Outside at) p = absurd p
   run_reason (TooDeep at) p = absurd p
   run_reason (NotYet at) p = absurd p
-  run_reason (NoTop at) p = absurd p
-  run_reason (Doubled at) p = absurd p
-  run_reason (Unknown at) p = absurd p
-  run_reason (Width at) p = absurd p
-  run_reason (TooMany at) p = absurd p
+  run_reason (NoDesign rule at) p = absurd p
   run_reason BadLog p = absurd p
   run_reason OutOfLimit p = absurd p
   run_reason BadReport p = absurd p

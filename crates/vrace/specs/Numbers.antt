@@ -3,8 +3,20 @@ use Rattle.std.specs.Prelude.{ℕ, List, [], ◌++◌, codes, decimal}
 use Rattle.vrace.specs.Places.{place_text}
 use Rattle.vrace.specs.declared.fault.Detail.{Detail}
 use Rattle.vrace.specs.declared.fault.Detail.TheVariants.{Nothing, Place, Item}
+use Rattle.vrace.specs.declared.fault.Rule.{Rule}
+use Rattle.vrace.specs.declared.fault.Rule.TheVariants.{Top, Doubled, Unknown, Drivers, Width, TooMany, Kind}
 use Rattle.vrace.specs.declared.fault.Fault.{Fault}
-use Rattle.vrace.specs.declared.fault.Fault.TheVariants.{NotEnded, BadToken, Directive, NoMacro, Growth, LeftOpen, Timescales, NoTree, Outside, TooDeep, NotYet, NoTop, Doubled, Unknown, Width, TooMany, BadLog, NoSuchChoice, TooManySteps, OutOfLimit, BadReport, FalseEnd, FalseRace, FalseHead, Memory, Write, Read, TooLong}
+use Rattle.vrace.specs.declared.fault.Fault.TheVariants.{NotEnded, BadToken, Directive, NoMacro, Growth, LeftOpen, Timescales, NoTree, Outside, TooDeep, NotYet, NoDesign, BadLog, NoSuchChoice, TooManySteps, OutOfLimit, BadReport, FalseEnd, FalseRace, FalseHead, Memory, Write, Read, TooLong}
+
+-- what a text without a design breaks
+abbrev pub rule_number : Rule → ℕ
+rule_number Top = 301
+rule_number Doubled = 302
+rule_number Unknown = 303
+rule_number Drivers = 304
+rule_number Width = 306
+rule_number TooMany = 309
+rule_number Kind = 310
 
 abbrev pub number_of : Fault → ℕ
 number_of (NotEnded at) = 101
@@ -18,11 +30,7 @@ number_of (NoTree at) = 201
 number_of (Outside at) = 202
 number_of (TooDeep at) = 203
 number_of (NotYet at) = 299
-number_of (NoTop at) = 301
-number_of (Doubled at) = 302
-number_of (Unknown at) = 303
-number_of (Width at) = 306
-number_of (TooMany at) = 309
+number_of (NoDesign rule at) = rule_number rule
 number_of BadLog = 401
 number_of NoSuchChoice = 402
 number_of TooManySteps = 403
@@ -49,11 +57,7 @@ detail_of (NoTree at) = Place at
 detail_of (Outside at) = Place at
 detail_of (TooDeep at) = Place at
 detail_of (NotYet at) = Place at
-detail_of (NoTop at) = Place at
-detail_of (Doubled at) = Place at
-detail_of (Unknown at) = Place at
-detail_of (Width at) = Place at
-detail_of (TooMany at) = Place at
+detail_of (NoDesign rule at) = Place at
 detail_of BadLog = Nothing
 detail_of NoSuchChoice = Nothing
 detail_of TooManySteps = Nothing

@@ -26,8 +26,10 @@ use Rattle.vcd_text.specs.declared.metered.Metered.{Metered}
 use Rattle.vrace.specs.Asked.{Asked}
 use Rattle.vrace.specs.Replays.{limit, total, AreRead, AreTokens, IsTreeOf, IsDesignOf, IsDesignOfFiles, Played, setting_of, IsDump}
 use Rattle.vrace.specs.declared.fault.At.{At}
+use Rattle.vrace.specs.declared.fault.Rule.{Rule}
+use Rattle.vrace.specs.declared.fault.Rule.TheVariants.{Top, Doubled, Unknown, Drivers, Width, TooMany, Kind}
 use Rattle.vrace.specs.declared.fault.Fault.{Fault}
-use Rattle.vrace.specs.declared.fault.Fault.TheVariants.{NotEnded, BadToken, Directive, NoMacro, Growth, LeftOpen, Timescales, NoTree, Outside, TooDeep, NotYet, NoTop, Doubled, Unknown, Width, TooMany, BadLog, NoSuchChoice, TooManySteps, Memory, Write, TooLong}
+use Rattle.vrace.specs.declared.fault.Fault.TheVariants.{NotEnded, BadToken, Directive, NoMacro, Growth, LeftOpen, Timescales, NoTree, Outside, TooDeep, NotYet, NoDesign, BadLog, NoSuchChoice, TooManySteps, Memory, Write, TooLong}
 
 -- where a fault was found is told: this holds of its place
 abbrev pub IsAt : At → (Place → Type 0) → Type 0
@@ -46,6 +48,16 @@ HasRefusal source fault = (tokens : Tokenized) × AreTokens source tokens × IsR
 -- the text has a tree, and there is more in it than runs
 abbrev pub IsNotRun : List ℕ → Type 0
 IsNotRun text = (tree : SourceTree) × IsTreeOf text tree × (runs tree ≡ false)
+
+-- the rule is broken, at this token where one is known
+abbrev pub broken_at : Rule → Option ℕ → ElabFault
+broken_at Top token = elab.Module token
+broken_at Doubled token = elab.Doubled token
+broken_at Unknown token = elab.Unknown token
+broken_at Drivers token = elab.Drivers token
+broken_at Width token = elab.Width token
+broken_at TooMany token = elab.TooMany token
+broken_at Kind token = elab.Kind token
 
 -- the text has a tree that runs, and a rule of its design is broken there
 pub record IsBroken (text : List ℕ) (top : Option (List ℕ)) (fault : ElabFault) : Type 0 where
@@ -81,11 +93,7 @@ IsTextReason source top (NoTree at) = IsTreeless source.text × IsAt at (λ plac
 IsTextReason source top (Outside at) = IsTreeless source.text × IsAt at (λ place. HasRefusal source (words.Outside place))
 IsTextReason source top (TooDeep at) = IsTreeless source.text × IsAt at (λ place. HasRefusal source (words.TooDeep place))
 IsTextReason source top (NotYet at) = IsDesignless source.text top × IsNotRun source.text
-IsTextReason source top (NoTop at) = (token : Option ℕ) × Breaks source.text top (elab.Module token)
-IsTextReason source top (Doubled at) = (token : Option ℕ) × Breaks source.text top (elab.Doubled token)
-IsTextReason source top (Unknown at) = (token : Option ℕ) × Breaks source.text top (elab.Unknown token)
-IsTextReason source top (Width at) = (token : Option ℕ) × Breaks source.text top (elab.Width token)
-IsTextReason source top (TooMany at) = (token : Option ℕ) × Breaks source.text top (elab.TooMany token)
+IsTextReason source top (NoDesign rule at) = (token : Option ℕ) × Breaks source.text top (broken_at rule token)
 IsTextReason source top (Memory m) = Unit {0}
 IsTextReason source top other = ⊥
 

@@ -14,9 +14,9 @@ ghost use Rattle.velab.specs.Reasons.{IsDesignReason, HasNoDesign};
 ghost use Rattle.velab.specs.Runs.{runs};
 ghost use Rattle.vrace.specs.Replays.{limit, total, AreRead, IsDesignOf, IsDesignOfFiles};
 ghost use Rattle.vrace.specs.Unique.{IsCut, IsReadAs, IsRunAs};
-ghost use Rattle.vrace.specs.Refusals.{IsFileReason, IsTextReason, IsDesignFault};
+ghost use Rattle.vrace.specs.Refusals.{IsFileReason, IsTextReason, IsDesignFault, broken_at};
 
-use crate::fault::{At, Fault};
+use crate::fault::{At, Fault, Rule};
 use crate::read::LIMIT;
 use basis::{NoMemory, OrMemory, Timescale};
 use std::alloc::Global;
@@ -124,19 +124,29 @@ fn of_running(tokens: &Tokens<'_>, at: u32) -> Fault
     Fault::NotYet(At(place_of(tokens, at)))
 }
 
+// The rule that is broken, and the token at which it is.
+fn rule_of(fault: ElabFault) -> (Rule, Option<u32>)
+    ensures { fault ≡ broken_at result.0 result.1 }
+{
+    match fault {
+        ElabFault::Module { at } => (Rule::Top, at),
+        ElabFault::Doubled { at } => (Rule::Doubled, at),
+        ElabFault::Unknown { at } => (Rule::Unknown, at),
+        ElabFault::Drivers { at } => (Rule::Drivers, at),
+        ElabFault::Width { at } => (Rule::Width, at),
+        ElabFault::TooMany { at } => (Rule::TooMany, at),
+        ElabFault::Kind { at } => (Rule::Kind, at),
+    }
+}
+
 // What stops the elaboration of the tree.
 fn of_design(tokens: &Tokens<'_>, fault: ElabFault) -> Fault
     ensures { (source : Source) (tree : SourceTree) (top : Option (List ℕ)) →
         IsRunAs source.text tree → IsDesignReason tree top fault → HasNoDesign tree top →
         IsTextReason source top result }
 {
-    match fault {
-        ElabFault::Module { at } => Fault::NoTop(at_token(tokens, at)),
-        ElabFault::Doubled { at } => Fault::Doubled(at_token(tokens, at)),
-        ElabFault::Unknown { at } => Fault::Unknown(at_token(tokens, at)),
-        ElabFault::Width { at } => Fault::Width(at_token(tokens, at)),
-        ElabFault::TooMany { at } => Fault::TooMany(at_token(tokens, at)),
-    }
+    let (rule, at) = rule_of(fault);
+    Fault::NoDesign(rule, at_token(tokens, at))
 }
 
 // The text of the files.

@@ -1,7 +1,7 @@
 // Every refusal, with its number and, where one is known, its place in the files.
 
 ghost use Rattle.std.specs.Prelude.{◌≡◌};
-ghost use Rattle.vrace.specs.Numbers.{detail_of, number_of};
+ghost use Rattle.vrace.specs.Numbers.{detail_of, number_of, rule_number};
 ghost use Rattle.vrace.specs.declared.fault.Fault.TheVariants.{Memory};
 
 use basis::NoMemory;
@@ -24,6 +24,42 @@ impl fmt::Display for At {
         match self.0 {
             None => Ok(()),
             Some(place) => write!(f, " at {}:{}", place.file, place.line),
+        }
+    }
+}
+
+/// What a text without a design breaks.
+#[derive(Clone, Copy, Debug, PartialEq, Eq)]
+pub enum Rule {
+    /// One module is the top.
+    Top,
+    /// Each name is declared once.
+    Doubled,
+    /// Each name is declared.
+    Unknown,
+    /// A net has one driver.
+    Drivers,
+    /// Widths and bounds are within their limits.
+    Width,
+    /// Variables and processes are within their limits.
+    TooMany,
+    /// A name is of the kind that its use asks for.
+    Kind,
+}
+
+impl Rule {
+    /// Its number in docs/FAULTS.md.
+    pub fn number(&self) -> u16
+        ensures { result ≡ rule_number self.now }
+    {
+        match self {
+            Rule::Top => 301,
+            Rule::Doubled => 302,
+            Rule::Unknown => 303,
+            Rule::Drivers => 304,
+            Rule::Width => 306,
+            Rule::TooMany => 309,
+            Rule::Kind => 310,
         }
     }
 }
@@ -53,16 +89,8 @@ pub enum Fault {
     TooDeep(At),
     /// What begins here isn't run yet.
     NotYet(At),
-    /// No module is the top.
-    NoTop(At),
-    /// A name is declared twice.
-    Doubled(At),
-    /// A name isn't declared.
-    Unknown(At),
-    /// A width or a bound is out of its limits.
-    Width(At),
-    /// Too many variables or processes.
-    TooMany(At),
+    /// No design is the text's, as this rule is broken.
+    NoDesign(Rule, At),
     /// The log is ill formed.
     BadLog,
     /// The run has no such step, or not that choice there.
@@ -117,11 +145,7 @@ impl Fault {
             Fault::Outside(_) => 202,
             Fault::TooDeep(_) => 203,
             Fault::NotYet(_) => 299,
-            Fault::NoTop(_) => 301,
-            Fault::Doubled(_) => 302,
-            Fault::Unknown(_) => 303,
-            Fault::Width(_) => 306,
-            Fault::TooMany(_) => 309,
+            Fault::NoDesign(rule, _) => rule.number(),
             Fault::BadLog => 401,
             Fault::NoSuchChoice => 402,
             Fault::TooManySteps => 403,
@@ -153,11 +177,7 @@ impl Fault {
             Fault::Outside(at) => Detail::Place(*at),
             Fault::TooDeep(at) => Detail::Place(*at),
             Fault::NotYet(at) => Detail::Place(*at),
-            Fault::NoTop(at) => Detail::Place(*at),
-            Fault::Doubled(at) => Detail::Place(*at),
-            Fault::Unknown(at) => Detail::Place(*at),
-            Fault::Width(at) => Detail::Place(*at),
-            Fault::TooMany(at) => Detail::Place(*at),
+            Fault::NoDesign(_, at) => Detail::Place(*at),
             Fault::FalseEnd(item) => Detail::Item(*item),
             Fault::FalseRace(item) => Detail::Item(*item),
             Fault::BadLog => Detail::Nothing,

@@ -19,7 +19,7 @@ mod unwatched;
 pub use checking::check_text;
 pub use explore::Reason;
 pub use exploring::{Status, explore_text, explore_text_alone};
-pub use fault::{At, Detail, Fault};
+pub use fault::{At, Detail, Fault, Rule};
 pub use options::Options;
 pub use read::{LIMIT, read_text};
 pub use replay::{Show, replay_text};
