@@ -5,7 +5,8 @@ import re
 from copy import copy
 from dataclasses import dataclass, field
 
-from second_values import UNARY, Binary, Conditional, Constant, Unary, Variable, World, expression, extended, integer, is_known, truth
+from second_values import UNARY, Binary, Bit, Conditional, Constant, Conversion, Joined, Part, Repeated, Time, Unary, Variable, World
+from second_values import expression, extended, integer, is_known, truth
 
 UNTIL = 40
 
@@ -75,23 +76,35 @@ class Module:
     processes: list = field(default_factory=list)
     lines: list = field(default_factory=list)
     declared: list = field(default_factory=list)
+    driven: set = field(default_factory=set)
     factor: int = 1
     precision: str = "1 ns"
+
+    def bounds(self):
+        """The numbers of the bits of each, leftmost and rightmost."""
+        return [bounds or (length - 1, 0) for bounds, length in zip(self.ranges, self.lengths)]
+
+    def has_bits(self, place):
+        return self.ranges[place] is not None or self.kinds[place] == "integer"
+
+    def start(self):
+        """The values before anything is written: z of a net that nothing drives."""
+        letters = ["z" if kind == "wire" and n not in self.driven else "x" for n, kind in enumerate(self.kinds)]
+        return [letter * length for letter, length in zip(letters, self.lengths)]
 
     def names(self):
         return self.declared or [f"v{i}" for i in range(len(self.lengths))]
 
 
-# statements that run today, and how often each is made; those of the second line only where one may stand inside. `repeat` waits for
-# its turn
+# statements that run today, and how often each is made; those of the second line only where one may stand inside
 LEAVES = {"assign": 6, "post": 5, "delay": 4, "empty": 1, "dump": 1, "finish": 0.2, "stop": 0.1}
-NESTED = {"block": 4, "test": 3, "again": 1, "for": 1, "forever": 0.5, "on": 2, "any": 1, "until": 1}
+NESTED = {"block": 4, "test": 3, "again": 1, "for": 1, "forever": 0.5, "on": 2, "any": 1, "until": 1, "repeat": 1, "case": 2}
 DEPTH = 3
 
 
 # where the expression stands that an action reads, and from where on its statements do
-READS = {"assign": 1, "post": 1, "delay": 0, "test": 0, "again": 0}
-INSIDE = {"delay": 1, "test": 1, "again": 1, "forever": 0, "on": 1, "until": 1}
+READS = {"assign": 1, "post": 1, "delay": 0, "test": 0, "again": 0, "repeat": 0, "case": 1}
+INSIDE = {"delay": 1, "test": 1, "again": 1, "forever": 0, "on": 1, "until": 1, "repeat": 1, "case": 3}
 
 
 def read_by(actions):
@@ -100,25 +113,49 @@ def read_by(actions):
     for kind, *what in actions:
         if kind in READS:
             found |= what[READS[kind]].reads()
+        if kind == "case":
+            found |= set().union(*(item.reads() for item in what[2]))
         for body in what[INSIDE.get(kind, len(what)):]:
             found |= {place for _, place in read_by(body)}
     return [("", place) for place in sorted(found)]
 
 
 class Texts:
-    """Statements of a module with so many variables, made at random: their texts, and what they have to do."""
+    """Statements of a module, made at random: their texts, and what they have to do."""
 
-    def __init__(self, rng, count):
-        self.rng, self.count = rng, count
+    def __init__(self, rng, made):
+        self.rng, self.made, self.count = rng, made, len(made.lengths)
+        self.written = [n for n, kind in enumerate(made.kinds) if kind != "wire"]
 
     def leaf(self):
         if self.rng.random() < 0.6:
             place = self.rng.randrange(self.count)
+            if self.made.has_bits(place) and self.rng.random() < 0.4:
+                return self.rng.choice([self.bit, self.part])(place)
             return Variable(f"v{place}", place)
         return Constant((based if self.rng.random() < 0.6 else plain)(self.rng))
 
+    def bit(self, place):
+        low, high = sorted(self.made.bounds()[place])
+        numbers = [low, high, self.rng.randrange(low, high + 1), high + 1, 0]
+        if self.rng.random() < 0.6:
+            number = self.rng.choice(numbers)
+            return Bit(f"v{place}", place, Constant(Number(str(number), digits_of(number, 32), True)))
+        return Bit(f"v{place}", place, expression(self.rng, self.leaf, self.rng.choice([0, 1])))
+
+    def part(self, place):
+        left, right = self.made.bounds()[place]
+        low, high = sorted((left, right))
+        one, other = sorted(self.rng.randrange(max(0, low - 2), high + 3) for _ in range(2))
+        other = min(other, one + 63)
+        return Part(f"v{place}", place, *((other, one) if left >= right else (one, other)))
+
     def expression(self):
-        return expression(self.rng, self.leaf, min(DEPTH, self.rng.choice([0, 0, 1, 2, 3])))
+        world = World(self.made.start(), self.made.signs, 0, self.made.bounds())
+        while True:
+            made = expression(self.rng, self.leaf, min(DEPTH, self.rng.choice([0, 0, 1, 2, 3])))
+            if made.fits(world):
+                return made
 
     def statement(self, depth):
         kinds = LEAVES | NESTED if depth else LEAVES
@@ -126,7 +163,7 @@ class Texts:
         return getattr(self, "make_" + kind)(depth - 1 if depth else 0)
 
     def make_assign(self, depth, sign="="):
-        target, value = self.rng.randrange(self.count), self.expression()
+        target, value = self.rng.choice(self.written), self.expression()
         return f"v{target} {sign} {value.text()};", [("assign" if sign == "=" else "post", target, value)]
 
     def make_post(self, depth):
@@ -177,6 +214,23 @@ class Texts:
         count, (text, body) = self.rng.choice([self.expression(), self.amount()[1]]), self.statement(depth)
         return f"repeat ({count.text()}) {text}", [("repeat", count, body)]
 
+    def make_case(self, depth):
+        kind, value = self.rng.choice(["case", "casez", "casex"]), self.expression()
+        lines, items, bodies, otherwise = [], [], [], []
+        count = self.rng.choice([1, 2, 2, 3])
+        default = self.rng.randrange(2 * count)
+        for turn in range(count):
+            text, body = self.statement(depth)
+            if turn == default:
+                lines.append(f"default{self.rng.choice(['', ':'])} {text}")
+                otherwise = body
+                continue
+            several = [value if self.rng.random() < 0.1 else self.expression() for _ in range(self.rng.choice([1, 1, 2, 3]))]
+            lines.append(f"{', '.join(item.text() for item in several)}: {text}")
+            items += several
+            bodies += [body] * len(several)
+        return f"{kind} ({value.text()}) {' '.join(lines)} endcase", [("case", kind, value, items, *bodies, otherwise)]
+
     def make_forever(self, depth):
         text, body = self.statement(depth)
         if self.rng.random() < 0.8:
@@ -223,7 +277,7 @@ TIMESCALES = [
 
 def declaration(kind, signed, bounds, name):
     """Of one variable."""
-    sign = " signed" if signed and kind == "reg" else ""
+    sign = " signed" if signed and kind != "integer" else ""
     return f"{kind}{sign}{'' if bounds is None else f' [{bounds[0]}:{bounds[1]}]'} {name};"
 
 
@@ -233,7 +287,7 @@ def module(rng):
         if rng.random() < 0.2:
             lengths.append(32), ranges.append(None), kinds.append("integer"), signs.append(True)
             continue
-        kinds.append("reg"), signs.append(rng.random() < 0.3)
+        kinds.append("wire" if lengths and rng.random() < 0.3 else "reg"), signs.append(rng.random() < 0.3)
         length = rng.choice([1, 1, 2, 8, 64])
         low = rng.randrange(0, 9)
         bounds = (low + length - 1, low) if rng.random() < 0.5 else (low, low + length - 1)
@@ -244,14 +298,22 @@ def module(rng):
     if rng.random() < 0.3:
         line, made.factor, made.precision = rng.choice(TIMESCALES)
         lines.insert(0, line)
-    texts = Texts(rng, len(lengths))
+    made.driven = {n for n, kind in enumerate(kinds) if kind == "wire" and rng.random() < 0.7}
+    texts, later = Texts(rng, made), []
     for place, declared in enumerate(zip(kinds, signs, ranges, made.names())):
         lines.append(f"  {declaration(*declared)}")
-        if rng.random() < 0.1:
+        if kinds[place] == "wire" and place in made.driven and rng.random() < 0.6:
+            later.append(place)
+        elif place in made.driven or (kinds[place] != "wire" and rng.random() < 0.1):
             value = texts.expression()
             lines[-1] = f"{lines[-1][:-1]} = {value.text()};"
-            made.processes.append([("assign", place, value)])
+            made.processes.append([("drive" if place in made.driven else "assign", place, value)])
             made.lines.append(len(lines))
+    for place in later:
+        value = texts.expression()
+        lines.append(f"  assign v{place} = {value.text()};")
+        made.processes.append([("drive", place, value)])
+        made.lines.append(len(lines))
     for i in range(rng.randrange(1, 5)):
         text, actions = texts.statement(3)
         made.lines.append(len(lines) + 1)
@@ -319,7 +381,38 @@ class Parser:
             return inner
         if word in UNARY:
             return Unary(word, self.operand())
-        return Variable(word, self.names.index(word)) if word in self.names else Constant(number_of(word))
+        if word == "{":
+            return self.concatenation()
+        if word == "$time":
+            return Time()
+        if word in ("$signed", "$unsigned"):
+            return Conversion(word == "$signed", self.within())
+        return self.variable(word) if word in self.names else Constant(number_of(word))
+
+    def variable(self, name):
+        place = self.names.index(name)
+        if not self.words.take("["):
+            return Variable(name, place)
+        left = self.expression()
+        if self.words.take(":"):
+            right = self.expression()
+            self.words.must("]")
+            return Part(name, place, int(left.number.text), int(right.number.text))
+        self.words.must("]")
+        return Bit(name, place, left)
+
+    def concatenation(self):
+        """What stands behind `{`."""
+        first = self.expression()
+        if self.words.take("{"):
+            joined = self.concatenation()
+            self.words.must("}")
+            return Repeated(int(first.number.text), joined)
+        parts = [first]
+        while self.words.take(","):
+            parts.append(self.expression())
+        self.words.must("}")
+        return Joined(parts)
 
     def ranked(self, rank):
         if rank == len(RANKS):
@@ -375,6 +468,22 @@ class Parser:
         self.words.must(")")
         return [begins, ("again", condition, self.statement() + [turns])]
 
+    def case(self, kind):
+        """What stands behind `case`."""
+        value, items, bodies, otherwise = self.within(), [], [], []
+        while not self.words.take("endcase"):
+            if self.words.take("default"):
+                self.words.take(":")
+                otherwise = self.statement()
+                continue
+            several = [self.expression()]
+            while self.words.take(","):
+                several.append(self.expression())
+            self.words.must(":")
+            items += several
+            bodies += [self.statement()] * len(several)
+        return [("case", kind, value, items, *bodies, otherwise)]
+
     def compound(self, word):
         """What a statement that begins with this word has to do, where others stand in it."""
         if word == "begin":
@@ -393,13 +502,15 @@ class Parser:
             return [("test", condition, body, self.statement() if self.words.take("else") else [])]
         if word == "for":
             return self.loop()
+        if word.startswith("case"):
+            return self.case(word)
         if word == "forever":
             return [("forever", self.statement())]
         return [({"while": "again", "repeat": "repeat", "wait": "until"}[word], self.within(), self.statement())]
 
     def statement(self):
         """What the next statement has to do."""
-        if word := self.words.take("begin", "#", "@", "if", "for", "forever", "while", "repeat", "wait"):
+        if word := self.words.take("begin", "#", "@", "if", "for", "forever", "while", "repeat", "wait", "case", "casez", "casex"):
             return self.compound(word)
         if self.words.take(";"):
             return []
@@ -424,8 +535,25 @@ def declare(kind, words, made):
         made.kinds.append(kind)
         separator = words.next()
         if separator == "=":
-            made.processes.append([("assign", len(made.declared) - 1, Parser(words, made.declared).expression())])
+            drive(kind, words, made, len(made.declared) - 1)
             separator = words.next()
+
+
+def drive(kind, words, made, place):
+    """Adds the process that writes this value: of a net whenever it changes, of a variable once."""
+    made.processes.append([("drive" if kind == "wire" else "assign", place, Parser(words, made.declared).expression())])
+    if kind == "wire":
+        made.driven.add(place)
+
+
+def assignments(words, made):
+    """Adds the processes of `assign`."""
+    separator = ","
+    while separator == ",":
+        place = made.declared.index(words.next())
+        words.must("=")
+        drive("wire", words, made, place)
+        separator = words.next()
 
 
 def parsed(text):
@@ -437,8 +565,10 @@ def parsed(text):
         if word in ("initial", "always"):
             actions = Parser(words, made.declared).statement()
             made.processes.append(actions if word == "initial" else [("forever", actions)])
-        elif word in ("reg", "integer"):
+        elif word in ("reg", "integer", "wire"):
             declare(word, words, made)
+        elif word == "assign":
+            assignments(words, made)
         else:
             raise ValueError(f"no item: {word}")
     return made
@@ -449,7 +579,7 @@ def parsed(text):
 class Run:
     def __init__(self, made, by_process, until=UNTIL):
         self.made, self.by_process, self.until = made, by_process, until
-        self.values = ["x" * n for n in made.lengths]
+        self.values = made.start()
         self.rest = [list(p) for p in made.processes]
         self.active = {p for p, rest in enumerate(self.rest) if rest}
         self.inactive, self.activated, self.posted, self.future = set(), [], [], {}
@@ -481,7 +611,7 @@ class Run:
         return found or ["advance"] * bool(self.future)
 
     def world(self):
-        return World(self.values, self.made.signs, self.time // self.made.factor)
+        return World(self.values, self.made.signs, self.time // self.made.factor, self.made.bounds())
 
     def value(self, source, length):
         """What a variable of this length gets of an expression (5.4.1)."""
@@ -522,6 +652,10 @@ class Run:
         kind, *what = rest.pop(0)
         if kind == "assign":
             self.values[what[0]] = self.value(what[1], self.made.lengths[what[0]])
+        elif kind == "drive":
+            self.values[what[0]] = self.value(what[1], self.made.lengths[what[0]])
+            rest.insert(0, (kind, *what))
+            return self.wait(process, [("", place) for place in what[1].reads()])
         elif kind == "post":
             self.posted.append((what[0], self.value(what[1], self.made.lengths[what[0]])))
         elif kind == "delay":
@@ -557,9 +691,22 @@ class Run:
             return what[1] + [(kind, *what)] if self.holds(what[0]) else []
         if kind == "forever":
             return what[0] + [(kind, *what)]
+        if kind == "case":
+            return self.branch(*what)
         count = self.turns(what[0]) if kind == "repeat" else what[0] - 1
         turn = [("turn", count, what[1])] if count else []
         return turn if kind == "repeat" else what[1] + turn
+
+    def branch(self, kind, value, items, *bodies):
+        """What comes next of a `case`: the body of the first item that matches (9.5)."""
+        world, every = self.world(), [value, *items]
+        size, signed = max(one.size(world) for one in every), all(one.signed(world) for one in every)
+        passed = {"case": "", "casez": "z", "casex": "xz"}[kind]
+        first, *others = [one.at(world, size, signed) for one in every]
+        for other, body in zip(others, bodies):
+            if all(a == b or a in passed or b in passed for a, b in zip(first, other)):
+                return body
+        return bodies[-1]
 
     def wait(self, process, terms):
         self.active.discard(process)
@@ -680,12 +827,13 @@ def deed(run, choice):
         return {"dump": " dumpvars", "finish": " finish", "stop": " stop"}[kind]
     if kind == "on" or (kind == "until" and not run.holds(what[0])):
         return " wait"
-    if kind not in ("assign", "post"):
+    if kind not in ("assign", "post", "drive"):
         return ""
     target, source = what
     value = shown(run.value(source, run.made.lengths[target]))
-    old = f" {shown(run.values[target])}" if kind == "assign" else ""
-    return f" {'write' if kind == 'assign' else 'post'} tb.{run.made.names()[target]}{old} {value}"
+    old = "" if kind == "post" else f" {shown(run.values[target])}"
+    front = "post" if kind == "post" else "write"
+    return f" {front} tb.{run.made.names()[target]}{old} {value}{' wait' if kind == 'drive' else ''}"
 
 
 def step_line(run, count, index, line_of):

@@ -1,7 +1,8 @@
 """A second reading of docs/LANGUAGE.md, "Values": expressions made at random, and what they are worth. Letters stand lowest first.
 
 A node has its text, and answers its `size` and its sign (`signed`) by itself, its value `at` a size and a sign, and the variables that it
-`reads`. `world` is what is known: a list of letters for each variable, a list of signs, and the time as `$time` tells it.
+`reads`. `world` is what is known: a list of letters for each variable, a list of signs, the time as `$time` tells it, and the bounds that
+each variable was declared with, an `integer` with 31 and 0.
 """
 from dataclasses import dataclass
 
@@ -11,6 +12,7 @@ class World:
     values: list
     signs: list
     time: int
+    bounds: list
 
 
 def is_known(letters):
@@ -92,6 +94,26 @@ class Node:
         """Its value by itself."""
         return self.at(world, self.size(world), self.signed(world))
 
+    def operands(self):
+        return []
+
+    def reads(self):
+        return set().union(*(operand.reads() for operand in self.operands()))
+
+    def fits(self, world):
+        """Whether no part of it is over 64 bits."""
+        return self.size(world) <= 64 and all(operand.fits(world) for operand in self.operands())
+
+
+class Unsigned(Node):
+    """What is worth the same wherever it stands."""
+
+    def signed(self, world):
+        return False
+
+    def at(self, world, size, signed):
+        return extended(self.letters(world), signed, size)
+
 
 @dataclass
 class Constant(Node):
@@ -109,9 +131,6 @@ class Constant(Node):
     def at(self, world, size, signed):
         last = self.number.letters[-1]
         return extended(self.number.letters, signed or (self.number.spreads and last in "xz"), size)
-
-    def reads(self):
-        return set()
 
 
 @dataclass
@@ -148,9 +167,6 @@ class Time(Node):
     def at(self, world, size, signed):
         return extended(digits(world.time, 64), signed, size)
 
-    def reads(self):
-        return set()
-
 
 @dataclass
 class Conversion(Node):
@@ -169,8 +185,8 @@ class Conversion(Node):
     def at(self, world, size, signed):
         return extended(self.operand.own(world), signed, size)
 
-    def reads(self):
-        return self.operand.reads()
+    def operands(self):
+        return [self.operand]
 
 
 @dataclass
@@ -207,8 +223,8 @@ class Unary(Node):
         result = reduced(table, letters)
         return inverse(result) if "~" in self.operator else result
 
-    def reads(self):
-        return self.operand.reads()
+    def operands(self):
+        return [self.operand]
 
 
 @dataclass
@@ -285,8 +301,8 @@ class Binary(Node):
         letters = [table(a, b) for a, b in zip(left, right)]
         return "".join(map(inverse, letters) if "~" in self.operator else letters)
 
-    def reads(self):
-        return self.left.reads() | self.right.reads()
+    def operands(self):
+        return [self.left, self.right]
 
 
 @dataclass
@@ -311,8 +327,96 @@ class Conditional(Node):
             return "".join(a if a == b and a in "01" else "x" for a, b in zip(left, right))
         return left if test == "1" else right
 
+    def operands(self):
+        return [self.condition, self.when_true, self.when_false]
+
+
+def letter_at(world, variable, number):
+    """The letter of the bit of this number; x where there is none."""
+    left, right = world.bounds[variable]
+    inside = min(left, right) <= number <= max(left, right)
+    return world.values[variable][abs(number - right)] if inside else "x"
+
+
+@dataclass
+class Bit(Unsigned):
+    name: str
+    place: int
+    index: Node
+
+    def text(self):
+        return f"{self.name}[{self.index.text()}]"
+
+    def size(self, world):
+        return 1
+
+    def letters(self, world):
+        index = self.index.own(world)
+        if not is_known(index):
+            return "x"
+        return letter_at(world, self.place, integer(index, self.index.signed(world)))
+
+    def operands(self):
+        return [self.index]
+
     def reads(self):
-        return self.condition.reads() | self.when_true.reads() | self.when_false.reads()
+        return {self.place} | self.index.reads()
+
+
+@dataclass
+class Part(Unsigned):
+    name: str
+    place: int
+    left: int
+    right: int
+
+    def text(self):
+        return f"{self.name}[{self.left}:{self.right}]"
+
+    def size(self, world):
+        return abs(self.left - self.right) + 1
+
+    def letters(self, world):
+        step = 1 if self.left >= self.right else -1
+        return "".join(letter_at(world, self.place, number) for number in range(self.right, self.left + step, step))
+
+    def reads(self):
+        return {self.place}
+
+
+@dataclass
+class Joined(Unsigned):
+    parts: list
+
+    def text(self):
+        return "{" + ", ".join(part.text() for part in self.parts) + "}"
+
+    def size(self, world):
+        return sum(part.size(world) for part in self.parts)
+
+    def letters(self, world):
+        return "".join(part.own(world) for part in reversed(self.parts))
+
+    def operands(self):
+        return self.parts
+
+
+@dataclass
+class Repeated(Unsigned):
+    count: int
+    joined: Joined
+
+    def text(self):
+        return "{" + f"{self.count}{self.joined.text()}" + "}"
+
+    def size(self, world):
+        return self.count * self.joined.size(world)
+
+    def letters(self, world):
+        return self.joined.own(world) * self.count
+
+    def operands(self):
+        return [self.joined]
 
 
 UNARY = ["+", "-", "!", "~", "&", "~&", "|", "~|", "^", "~^", "^~"]
@@ -321,7 +425,8 @@ BINARY = "+ - * / % & | ^ ^~ ~^ << >> <<< >>> < <= > >= == != === !== && ||".spl
 
 def expression(rng, leaf, depth):
     """An expression whose leaves come of `leaf`."""
-    kind = rng.choices(["leaf", "unary", "binary", "conditional", "conversion", "time"], [4, 2, 5, 1, 1, 0.3])[0] if depth else "leaf"
+    kinds = {"leaf": 4, "unary": 2, "binary": 5, "conditional": 1, "conversion": 1, "time": 0.3, "joined": 0.7, "repeated": 0.4}
+    kind = rng.choices(list(kinds), list(kinds.values()))[0] if depth else "leaf"
     if kind == "leaf":
         return leaf()
     if kind == "time":
@@ -332,4 +437,7 @@ def expression(rng, leaf, depth):
         return Conversion(rng.random() < 0.5, expression(rng, leaf, depth - 1))
     if kind == "binary":
         return Binary(rng.choice(BINARY), expression(rng, leaf, depth - 1), expression(rng, leaf, depth - 1))
-    return Conditional(*(expression(rng, leaf, depth - 1) for _ in range(3)))
+    if kind == "conditional":
+        return Conditional(*(expression(rng, leaf, depth - 1) for _ in range(3)))
+    joined = Joined([expression(rng, leaf, depth - 1) for _ in range(rng.choice([1, 2, 2, 3]))])
+    return joined if kind == "joined" else Repeated(rng.choice([1, 2, 3, 64]), joined)
