@@ -10,7 +10,7 @@ pub struct Explanation {
     advice: &'static str,
 }
 
-const EXPLANATIONS: [Explanation; 28] = [
+const EXPLANATIONS: [Explanation; 30] = [
     Explanation {
         number: 101,
         meaning: "a comment or a string that begins here isn't ended",
@@ -74,7 +74,7 @@ const EXPLANATIONS: [Explanation; 28] = [
     Explanation {
         number: 299,
         meaning: "the text is read, and what begins here isn't run yet",
-        example: "case, repeat (4), {a, b}, wire w;",
+        example: "a[0] = 1;, -> e;, a = #5 b;, $display(a);",
         advice: "write it with what docs/LANGUAGE.md lists under What runs",
     },
     Explanation {
@@ -96,9 +96,15 @@ const EXPLANATIONS: [Explanation; 28] = [
         advice: "declare it; a declaration may stand behind its use",
     },
     Explanation {
+        number: 304,
+        meaning: "a net with two drivers",
+        example: "assign p = q; assign p = 0;",
+        advice: "put both into one assign, or write to two nets",
+    },
+    Explanation {
         number: 306,
-        meaning: "a bound that isn't 0 to 65,535 or has an unknown bit, or more than 64 bits",
-        example: "reg [64:0] a;",
+        meaning: "a bound that isn't 0 to 65,535 or has an unknown bit, a part in the other direction than its vector, a count of a replication that isn't 1 to 64, or more than 64 bits",
+        example: "reg [64:0] a;, {65{1'b1}}",
         advice: "split the vector",
     },
     Explanation {
@@ -106,6 +112,12 @@ const EXPLANATIONS: [Explanation; 28] = [
         meaning: "over 256 processes or 1,024 variables",
         example: "257 initials; reg v0, v1, .. up to v1024",
         advice: "split the testbench, or put several initials into one",
+    },
+    Explanation {
+        number: 310,
+        meaning: "a name of another kind than its use asks for: a net that a statement writes, a variable that an assign writes, a bit of what has no range",
+        example: "reg r; assign r = 1;, wire w; initial w = 1;",
+        advice: "declare it as what it is used as",
     },
     Explanation {
         number: 401,
