@@ -1,0 +1,88 @@
+-- Values as printed lines show them (IEEE 1364-2005, 17.1.1.2 to 17.1.1.5). Letters of a vector stand lowest first, those of a text
+-- leftmost first.
+use Rattle.std.specs.Prelude.{ℕ, zero, suc, ◌+◌, ◌-◌, ◌*◌, ◌/◌, ◌^◌, nat_lt, Bool, true, false, cond, List, [], ◌∷◌, ◌++◌, length, take, drop, replicate, Option, Some, None, codes, decimal}
+use Rattle.std.specs.List.{list_all, list_any}
+use Rattle.vbits.specs.declared.bit4.Bit4.{Bit4}
+use Rattle.vbits.specs.declared.bit4.Bit4.TheVariants.{Zero, One, X, Z}
+use Rattle.vbits.specs.Letters.{is_one}
+use Rattle.vbits.specs.Numbers.{number}
+use Rattle.vbits.specs.Vectors.{Vector, sign_letter, neg}
+
+-- ---- what isn't known (17.1.1.5)
+
+abbrev pub is_x : Bit4 → Bool
+is_x Zero = false
+is_x One = false
+is_x X = true
+is_x Z = false
+
+abbrev pub is_z : Bit4 → Bool
+is_z Zero = false
+is_z One = false
+is_z X = false
+is_z Z = true
+
+-- the one letter that stands for letters not all of which are known: `x` where all are x, `z` where all are z, `X` where some are x,
+-- else `Z`
+abbrev pub unknown_letter : List Bit4 → ℕ
+unknown_letter letters =
+    cond (list_all is_x letters) 120 (cond (list_all is_z letters) 122 (cond (list_any is_x letters) 88 90))
+
+-- ---- hexadecimal: bits are taken by fours from the right, the leftmost digit has those that are left
+
+abbrev pub hexadecimal_digit : ℕ → ℕ
+hexadecimal_digit n = cond (nat_lt n 10) (48 + n) (87 + n)
+
+abbrev pub digit_by : List Bit4 → Option ℕ → ℕ
+digit_by letters (Some n) = hexadecimal_digit n
+digit_by letters None = unknown_letter letters
+
+abbrev pub digit_of : List Bit4 → ℕ
+digit_of letters = digit_by letters (number letters)
+
+-- so many digits, the leftmost first
+abbrev pub digits_of : ℕ → List Bit4 → List ℕ
+digits_of zero letters = []
+digits_of (suc n) letters = digit_of (take 4 (drop (4 * n) letters)) ∷ digits_of n letters
+
+abbrev pub hexadecimal : Vector → List ℕ
+hexadecimal v = digits_of ((length v.letters + 3) / 4) v.letters
+
+-- ---- decimal
+
+abbrev pub is_negative : Vector → Bool
+is_negative v = is_one (sign_letter v)
+
+abbrev pub minus : Bool → List ℕ
+minus negative = cond negative (codes "-") []
+
+-- a minus before the number of what is negative, negated
+abbrev pub amount_of : Vector → Option ℕ
+amount_of v = number (cond (is_negative v) (neg v) v).letters
+
+-- in so many units, or one letter where a bit is unknown
+abbrev pub amount_text : Vector → ℕ → Option ℕ → List ℕ
+amount_text v factor (Some n) = minus (is_negative v) ++ decimal (n * factor)
+amount_text v factor None = unknown_letter v.letters ∷ []
+
+abbrev pub short_decimal : Vector → List ℕ
+short_decimal v = amount_text v 1 (amount_of v)
+
+-- the longest text of values of this sign and length: the minus counts
+abbrev pub longest : Bool → ℕ → List ℕ
+longest signed count = cond signed (minus true ++ decimal (2 ^ (count - 1))) (decimal (2 ^ count - 1))
+
+-- on the right of so many places
+abbrev pub right_in : ℕ → List ℕ → List ℕ
+right_in places text = replicate (places - length text) 32 ++ text
+
+abbrev pub decimal_text : Vector → List ℕ
+decimal_text v = right_in (length (longest v.signed (length v.letters))) (short_decimal v)
+
+-- ---- a time: the value in units of the precision, so many to one (19.8)
+
+abbrev pub short_time : ℕ → Vector → List ℕ
+short_time factor v = amount_text v factor (amount_of v)
+
+abbrev pub time_text : ℕ → Vector → List ℕ
+time_text factor v = right_in 20 (short_time factor v)
