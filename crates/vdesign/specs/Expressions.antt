@@ -2,13 +2,18 @@
 use Rattle.std.specs.Prelude.{ℕ, Bool}
 use Rattle.vast.specs.declared.expression.UnaryOperator.{UnaryOperator}
 use Rattle.vast.specs.declared.expression.BinaryOperator.{BinaryOperator}
+use Rattle.vdesign.specs.declared.expression.Bounds.{Bounds}
 use Rattle.vdesign.specs.declared.expression.Constant.{Constant}
 
 pub data ExpressionTree : Type 0 where
   constant : Constant → ExpressionTree
   variable : ℕ → ExpressionTree
+  bit : ℕ → ExpressionTree → ExpressionTree  -- name [ index ]
+  part : ℕ → Bounds → ExpressionTree  -- name [ left : right ]
   time : ExpressionTree  -- $time
   conversion : Bool → ExpressionTree → ExpressionTree  -- $signed ( operand ), or $unsigned ( operand )
   apply : UnaryOperator → ExpressionTree → ExpressionTree  -- - operand
   combine : BinaryOperator → ExpressionTree → ExpressionTree → ExpressionTree  -- left + right
   conditional : ExpressionTree → ExpressionTree → ExpressionTree → ExpressionTree  -- condition ? when_true : when_false
+  joined : ExpressionTree → ExpressionTree → ExpressionTree  -- { left, right }
+  repeated : ℕ → ExpressionTree → ExpressionTree  -- { count { operand } }

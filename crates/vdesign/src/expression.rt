@@ -31,6 +31,10 @@ pub enum Node {
     Constant(Constant),
     /// The whole variable of this number.
     Variable(u32),
+    /// `name[index]`, of the variable of this number (5.2.1)
+    Bit(u32),
+    /// `name[left:right]`, of the variable of this number (5.2.1)
+    Part { variable: u32, bounds: Bounds },
     /// `$time` (17.7.1)
     Time,
     /// `$signed(operand)`, or `$unsigned(operand)` (5.5)
@@ -41,6 +45,10 @@ pub enum Node {
     Binary(BinaryOperator),
     /// `condition ? when_true : when_false` (5.1.13)
     Conditional,
+    /// `{left, right}` (5.1.14)
+    Joined,
+    /// `{count{operand}}` (5.1.14)
+    Repeated(u32),
 }
 
 /// An expression: its nodes in a list, each before its operands. A clause sees it as the tree of specs/Expressions.antt.

@@ -181,7 +181,7 @@ written_time time (suc n) = time / suc n
 abbrev pub moment_of : Design → State → Moment
 moment_of design s =
     let units = factor design.scale in
-    record { values = s.values; time = written_time s.queue.time units; factor = units }
+    record { values = s.values; variables = design.variables; time = written_time s.queue.time units; factor = units }
 
 -- the process takes the action, if there is one
 abbrev pub takes : Design → ℕ → ℕ → Option Action → List Spot → State → Turn

@@ -172,12 +172,13 @@ impl SlowState {
     }
 
     // What is known now.
-    fn moment<'m>(&'m self, design: &Design) -> Moment<'m>
+    fn moment<'m>(&'m self, design: &'m Design) -> Moment<'m>
         ensures { result ≡ moment_of design.now self.now }
     {
         let factor = design.scale.factor();
         Moment {
             values: self.values.as_slice(),
+            variables: &design.variables,
             time: written_time(self.queue.time, factor),
             factor,
         }

@@ -1,17 +1,17 @@
 -- The value of a node whose operands' values are known.
-use Rattle.std.proofs.Common.{◌≡◌, Bool, length, ap, ◌∙◌}
+use Rattle.std.proofs.Common.{◌≡◌, ℕ, Bool, length, ap, ◌∙◌}
 use Rattle.std.proofs.lemmas.List.{length-replicate}
 use Rattle.vbits.specs.declared.bit4.Bit4.{Bit4}
 use Rattle.vbits.specs.declared.bit4.Bit4.TheVariants.{X}
 use Rattle.vbits.specs.Vectors.{Vector, filled, with_sign, truth}
 use Rattle.vast.specs.declared.expression.UnaryOperator.{UnaryOperator}
 use Rattle.vast.specs.declared.expression.BinaryOperator.{BinaryOperator}
-use Rattle.vdesign.specs.Expressions.{ExpressionTree, conversion, apply, combine, conditional}
+use Rattle.vdesign.specs.Expressions.{ExpressionTree, bit, conversion, apply, combine, conditional, joined, repeated}
 use Rattle.vvalue.specs.declared.context.Context.{Context}
 use Rattle.vvalue.specs.declared.manner.Manner.{Manner}
 use Rattle.vvalue.specs.declared.manner.UnaryManner.{UnaryManner}
 use Rattle.vvalue.specs.Manners.{manner, unary_manner}
-use Rattle.vvalue.specs.Value.{Moment, own, fitted, chosen, unary_context, left_context, right_context, unary_value, binary_value, value_of}
+use Rattle.vvalue.specs.Value.{Moment, own, fitted, chosen, unary_context, left_context, right_context, unary_value, binary_value, bit_value, joined_value, repeated_value, value_of}
 
 pub filled_length : (v : Vector) (here : Context) → v ≡ filled here.size X → length v.letters ≡ here.size
 unfolding filled
@@ -56,3 +56,23 @@ conditional_is now condition when_true when_false here there test a b made whole
     (makes ∙ ap (λ l. chosen l a b) (tells ∙ ap truth (of ∙ ap (value_of now condition) stands))
     ∙ ap (λ v. chosen (truth (value_of now condition (own now condition))) v b) one
     ∙ ap (chosen (truth (value_of now condition (own now condition))) (value_of now when_true here)) other)
+
+pub bit_is : (now : Moment) (n : ℕ) (index : ExpressionTree) (here there : Context) (value made whole : Vector) →
+    whole ≡ fitted made here → made ≡ bit_value now n value → value ≡ value_of now index there → there ≡ own now index →
+    whole ≡ value_of now (bit n index) here
+bit_is now n index here there value made whole is makes of stands =
+    is ∙ ap (λ v. fitted v here) (makes ∙ ap (bit_value now n) (of ∙ ap (value_of now index) stands))
+
+pub joined_is : (now : Moment) (left right : ExpressionTree) (here first second : Context) (a b made whole : Vector) →
+    whole ≡ fitted made here → made ≡ joined_value a b → a ≡ value_of now left first → first ≡ own now left →
+    b ≡ value_of now right second → second ≡ own now right → whole ≡ value_of now (joined left right) here
+joined_is now left right here first second a b made whole is makes one stands other stands_too =
+    is ∙ ap (λ v. fitted v here)
+    (makes ∙ ap (λ v. joined_value v b) (one ∙ ap (value_of now left) stands)
+    ∙ ap (joined_value (value_of now left (own now left))) (other ∙ ap (value_of now right) stands_too))
+
+pub repeated_is : (now : Moment) (count : ℕ) (operand : ExpressionTree) (here there : Context) (value made whole : Vector) →
+    whole ≡ fitted made here → made ≡ repeated_value count value → value ≡ value_of now operand there → there ≡ own now operand →
+    whole ≡ value_of now (repeated count operand) here
+repeated_is now count operand here there value made whole is makes of stands =
+    is ∙ ap (λ v. fitted v here) (makes ∙ ap (repeated_value count) (of ∙ ap (value_of now operand) stands))

@@ -1,6 +1,6 @@
 -- What an expression is worth (IEEE 1364-2005, 3.5.1, 5.4, 5.5): its own size and sign, and its value at the size and sign of
 -- what it stands in.
-use Rattle.std.specs.Prelude.{ℕ, ◌*◌, Bool, false, ◌&&◌, ◌||◌, max, List, length, slice_get, unwrap_or}
+use Rattle.std.specs.Prelude.{ℕ, zero, suc, ◌+◌, ◌-◌, ◌*◌, max, min, nat_le, Bool, false, cond, ◌&&◌, ◌||◌, List, [], ◌∷◌, ◌++◌, length, take, slice_get, Option, None, Some, unwrap_or, option_and_then}
 use Rattle.vbits.specs.declared.bit4.Bit4.{Bit4}
 use Rattle.vbits.specs.declared.bit4.Bit4.TheVariants.{Zero, One, X, Z}
 use Rattle.vbits.specs.Letters.{not_letter, and_letter, or_letter, is_one}
@@ -23,12 +23,15 @@ use Rattle.vvalue.specs.declared.manner.Sign.TheVariants as signs
 use Rattle.vvalue.specs.declared.manner.UnaryManner.{UnaryManner}
 use Rattle.vvalue.specs.declared.manner.UnaryManner.TheVariants.{Keeps, Folds, Denies}
 use Rattle.vvalue.specs.Manners.{manner, unary_manner}
-use Rattle.vdesign.specs.Expressions.{ExpressionTree, constant, variable, time, conversion, apply, combine, conditional}
+use Rattle.vdesign.specs.Design.{Variable}
+use Rattle.vdesign.specs.declared.expression.Bounds.{Bounds}
+use Rattle.vdesign.specs.Expressions.{ExpressionTree, constant, variable, bit, part, time, conversion, apply, combine, conditional, joined, repeated}
 
--- What is known when an expression is evaluated: the values of the variables, by number, the time in units in which delays are
--- written, as `$time` tells it (17.7.1), and how many units of the precision make one of these (19.8).
+-- What is known when an expression is evaluated: the values of the variables, by number, how these are declared, the time in units
+-- in which delays are written, as `$time` tells it (17.7.1), and how many units of the precision make one of these (19.8).
 pub record Moment : Type 0 where
   pub values : List Vector
+  pub variables : List Variable
   pub time : ℕ
   pub factor : ℕ
 
@@ -49,15 +52,24 @@ unary_size (Keeps operator) size = size
 unary_size (Folds operator) size = 1
 unary_size Denies size = 1
 
--- 5.4.1, table 5-22: how many bits an expression has by itself
+-- 5.2.1: how many bits a part has. More than 64 are no design's (E306): where they stand all the same, only 64 are looked at
+abbrev pub part_size : Bounds → ℕ
+part_size bounds = min 64 (max bounds.left bounds.right - min bounds.left bounds.right + 1)
+
+-- 5.4.1, table 5-22: how many bits an expression has by itself. No concatenation of a design has more than 64, and none is repeated
+-- 0 times (E306)
 abbrev pub size_of : Moment → ExpressionTree → ℕ
 size_of now (constant c) = length c.value.letters
 size_of now (variable n) = length (value_at now n).letters
+size_of now (bit n index) = 1
+size_of now (part n bounds) = part_size bounds
 size_of now time = 64
 size_of now (conversion signed o) = size_of now o
 size_of now (apply operator o) = unary_size (unary_manner operator) (size_of now o)
 size_of now (combine operator left right) = size_by (manner operator) (size_of now left) (size_of now right)
 size_of now (conditional condition when_true when_false) = max (size_of now when_true) (size_of now when_false)
+size_of now (joined left right) = min 64 (size_of now left + size_of now right)
+size_of now (repeated count o) = min 64 (max 1 count * size_of now o)
 
 abbrev pub sign_by : Manner → Bool → Bool → Bool
 sign_by (Shares operator) left right = left && right
@@ -74,11 +86,83 @@ unary_sign Denies sign = false
 abbrev pub is_signed : Moment → ExpressionTree → Bool
 is_signed now (constant c) = c.value.signed
 is_signed now (variable n) = (value_at now n).signed
+is_signed now (bit n index) = false
+is_signed now (part n bounds) = false
 is_signed now time = false
 is_signed now (conversion signed o) = signed
 is_signed now (apply operator o) = unary_sign (unary_manner operator) (is_signed now o)
 is_signed now (combine operator left right) = sign_by (manner operator) (is_signed now left) (is_signed now right)
 is_signed now (conditional condition when_true when_false) = is_signed now when_true && is_signed now when_false
+is_signed now (joined left right) = false
+is_signed now (repeated count o) = false
+
+-- ---- bits and parts of a variable (5.2.1)
+
+-- the numbers of its leftmost and of its rightmost bit, as declared; without a range, as of an `integer` (4.8), the rightmost is 0
+abbrev pub whole_bounds : Vector → Bounds
+whole_bounds v = record { left = length v.letters - 1; right = 0 }
+
+abbrev pub bounds_of : Moment → ℕ → Bounds
+bounds_of now n = unwrap_or (option_and_then (λ v. v.bounds) (slice_get now.variables n)) (whole_bounds (value_at now n))
+
+-- how far the bit of this number stands from the rightmost, where there is one: bounds fall or rise towards the right
+abbrev pub place_in : Bounds → ℕ → Option ℕ
+place_in bounds number =
+    cond (nat_le bounds.right bounds.left)
+    (cond (nat_le bounds.right number && nat_le number bounds.left) (Some (number - bounds.right)) None)
+    (cond (nat_le bounds.left number && nat_le number bounds.right) (Some (bounds.right - number)) None)
+
+-- a letter; x where there is no such bit
+abbrev pub letter_at : Vector → Option ℕ → Bit4
+letter_at v place = unwrap_or (option_and_then (slice_get v.letters) place) X
+
+-- the bit of this number
+abbrev pub bit_letter : Vector → Bounds → ℕ → Bit4
+bit_letter v bounds number = letter_at v (place_in bounds number)
+
+-- the number that an index is, read whole; none where it is unknown or negative
+abbrev pub index_in : Vector → Option ℕ
+index_in v = cond (is_one (sign_letter v)) None (number v.letters)
+
+abbrev pub bit_by : Vector → Bounds → Option ℕ → Bit4
+bit_by v bounds None = X
+bit_by v bounds (Some number) = bit_letter v bounds number
+
+-- `name[index]`
+abbrev pub bit_value : Moment → ℕ → Vector → Vector
+bit_value now n index = single (bit_by (value_at now n) (bounds_of now n) (index_in index))
+
+-- the number of the bit that stands so far from the right one of these bounds
+abbrev pub number_of_bit : Bounds → ℕ → ℕ
+number_of_bit bounds place = cond (nat_le bounds.right bounds.left) (bounds.right + place) (bounds.right - place)
+
+-- so many bits of a part, from its right one on
+abbrev pub part_letters : Vector → Bounds → Bounds → ℕ → List Bit4
+part_letters v bounds selected zero = []
+part_letters v bounds selected (suc count) =
+    part_letters v bounds selected count ++ bit_letter v bounds (number_of_bit selected count) ∷ []
+
+abbrev pub part_of : Vector → Bounds → Bounds → ℕ → Vector
+part_of v bounds selected count = record { letters = part_letters v bounds selected count; signed = false }
+
+-- `name[left:right]`
+abbrev pub part_value : Moment → ℕ → Bounds → Vector
+part_value now n selected = part_of (value_at now n) (bounds_of now n) selected (part_size selected)
+
+-- ---- concatenations (5.1.14)
+
+-- `{left, right}`; the leftmost bits are cut where there are more than 64
+abbrev pub joined_value : Vector → Vector → Vector
+joined_value v w = record { letters = take 64 (w.letters ++ v.letters); signed = false }
+
+-- one, and so many more on its left
+abbrev pub copies : ℕ → Vector → Vector
+copies zero v = with_sign v false
+copies (suc count) v = joined_value v (copies count v)
+
+-- `{count{operand}}`
+abbrev pub repeated_value : ℕ → Vector → Vector
+repeated_value count v = copies (count - 1) v
 
 -- ---- values
 
@@ -181,6 +265,8 @@ binary_value (Shifts operator) v w = shifted_value operator v w
 abbrev pub value_of : Moment → ExpressionTree → Context → Vector
 value_of now (constant c) here = extended c.value (c.spreads || here.signed) here
 value_of now (variable n) here = fitted (value_at now n) here
+value_of now (bit n index) here = fitted (bit_value now n (value_of now index (own now index))) here
+value_of now (part n bounds) here = fitted (part_value now n bounds) here
 value_of now time here = fitted (of_number 64 now.time) here
 value_of now (conversion signed o) here = fitted (with_sign (value_of now o (own now o)) signed) here
 value_of now (apply operator o) here =
@@ -193,6 +279,8 @@ value_of now (combine operator left right) here =
     (value_of now right (right_context by (own now left) (own now right) here))) here
 value_of now (conditional condition when_true when_false) here =
     fitted (chosen (truth (value_of now condition (own now condition))) (value_of now when_true here) (value_of now when_false here)) here
+value_of now (joined left right) here = fitted (joined_value (value_of now left (own now left)) (value_of now right (own now right))) here
+value_of now (repeated count o) here = fitted (repeated_value count (value_of now o (own now o))) here
 
 -- ---- what actions ask of an expression
 

@@ -1,26 +1,15 @@
 // What actions ask of expressions (IEEE 1364-2005, clause 9).
 
 ghost use Rattle.std.specs.Prelude.{◌≡◌, ◌≤◌};
-ghost use Rattle.vbits.specs.Letters as letters;
 ghost use Rattle.vvalue.specs.Value as spec;
 
 use crate::context::Context;
 use crate::moment::Moment;
+use crate::select::is_one;
 use crate::size::own;
 use crate::value::value_of;
-use vbits::{Bit4, Vec4};
+use vbits::Vec4;
 use vdesign::expression::Expression;
-
-fn is_one(letter: Bit4) -> bool
-    ensures { result ≡ letters.is_one letter }
-{
-    match letter {
-        Bit4::Zero => false,
-        Bit4::One => true,
-        Bit4::X => false,
-        Bit4::Z => false,
-    }
-}
 
 // The value of an expression at its own size and sign.
 fn by_itself(expression: &Expression, moment: &Moment<'_>) -> Vec4

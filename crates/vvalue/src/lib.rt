@@ -7,5 +7,6 @@ mod context;
 pub mod manner;
 pub mod moment;
 mod operators;
+mod select;
 mod size;
 mod value;

@@ -6,13 +6,16 @@ ghost use Rattle.vvalue.specs.Value as spec;
 
 use std::marker::Model;
 use vbits::Vec4;
+use vdesign::design::Variable;
+use vdesign::expression::Bounds;
 
-/// What is known when an expression is evaluated: the values of the variables, by number, the time as `$time` tells it, and how
-/// many units of the precision make one in which delays are written (19.8). A clause sees it as the record `Moment` of
-/// specs/Value.antt.
+/// What is known when an expression is evaluated: the values of the variables, by number, how they are declared, the time as `$time`
+/// tells it, and how many units of the precision make one in which delays are written (19.8). A clause sees it as the record
+/// `Moment` of specs/Value.antt.
 #[derive(Drop)]
 pub struct Moment<'m> {
     pub values: &'m [Vec4],
+    pub variables: &'m [Variable],
     pub time: u64,
     pub factor: u64,
 }
@@ -22,7 +25,7 @@ impl<'m> Model for Moment<'m> {
 
     ghost Value = { value.Moment };
 
-    ghost view = { λ m. record { values = m.values.now; time = m.time; factor = m.factor } };
+    ghost view = { λ m. record { values = m.values.now; variables = m.variables.now; time = m.time; factor = m.factor } };
 }
 
 /// The value of the variable of this number; x, one bit wide, where there is none.
@@ -32,6 +35,20 @@ pub fn value_at(moment: &Moment<'_>, variable: u32) -> Vec4
     match moment.values.get(variable as usize) {
         Some(value) => *value,
         None => Vec4::all_x(1),
+    }
+}
+
+/// The numbers of the leftmost and of the rightmost bit of the variable of this number.
+pub fn bounds_of(moment: &Moment<'_>, variable: u32) -> Bounds
+    ensures { result ≡ spec.bounds_of moment.now variable }
+{
+    let whole = Bounds {
+        left: value_at(moment, variable).len() - 1,
+        right: 0,
+    };
+    match moment.variables.get(variable as usize) {
+        Some(declared) => declared.bounds.unwrap_or(whole),
+        None => whole,
     }
 }
 

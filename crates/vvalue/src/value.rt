@@ -11,6 +11,7 @@ use crate::context::{Context, common};
 use crate::manner::{Manner, UnaryManner, manner_of, unary_manner_of};
 use crate::moment::{Moment, time_of, value_at};
 use crate::operators::{binary_value, chosen, extended, fitted, unary_value};
+use crate::select::{bit_value, joined_value, part_value, repeated_value};
 use crate::size::own;
 use vast::expression::{BinaryOperator, UnaryOperator};
 use vbits::Vec4;
@@ -81,6 +82,26 @@ fn combined(manner: Manner, left: Vec4, right: Vec4, first: Context, second: Con
     ensures { result ≡ spec.binary_value manner left right }
 {
     binary_value(manner, left, right)
+}
+
+// `name[index]`; the nodes begin with the index.
+#[cycle(values)]
+fn of_bit<'n>(
+    variable: u32,
+    nodes: &'n [Node],
+    moment: &Moment<'_>,
+    here: Context,
+) -> (Vec4, &'n [Node])
+    requires { IsWithin here }
+    ensures exact { IsOfFirst (Node.Bit variable ∷ nodes.now)
+        (λ tree. spec.value_of moment.now tree here) result.0 }
+    ensures rest { AreBehindFirst (Node.Bit variable ∷ nodes.now) result.1.now }
+    ensures len { length result.0.letters ≡ here.size }
+    ensures fewer { length result.1.now ≤ length nodes.now }
+{
+    let (there, _) = own(nodes, moment);
+    let (index, behind) = value_of(nodes, moment, there);
+    (fitted(bit_value(moment, variable, index), here), behind)
 }
 
 // `$signed(operand)`, or `$unsigned(operand)`; the nodes begin with the operand.
@@ -169,6 +190,43 @@ fn of_conditional<'n>(nodes: &'n [Node], moment: &Moment<'_>, here: Context) -> 
     )
 }
 
+// `{left, right}`; the nodes begin with both.
+#[cycle(values)]
+fn of_joined<'n>(nodes: &'n [Node], moment: &Moment<'_>, here: Context) -> (Vec4, &'n [Node])
+    requires { IsWithin here }
+    ensures exact { IsOfFirst (Node.Joined ∷ nodes.now)
+        (λ tree. spec.value_of moment.now tree here) result.0 }
+    ensures rest { AreBehindFirst (Node.Joined ∷ nodes.now) result.1.now }
+    ensures len { length result.0.letters ≡ here.size }
+    ensures fewer { length result.1.now ≤ length nodes.now }
+{
+    let (first, behind) = own(nodes, moment);
+    let (second, _) = own(behind, moment);
+    let (left, behind) = value_of(nodes, moment, first);
+    let (right, behind) = value_of(behind, moment, second);
+    (fitted(joined_value(left, right), here), behind)
+}
+
+// `{count{operand}}`; the nodes begin with the operand.
+#[cycle(values)]
+fn of_repeated<'n>(
+    count: u32,
+    nodes: &'n [Node],
+    moment: &Moment<'_>,
+    here: Context,
+) -> (Vec4, &'n [Node])
+    requires { IsWithin here }
+    ensures exact { IsOfFirst (Node.Repeated count ∷ nodes.now)
+        (λ tree. spec.value_of moment.now tree here) result.0 }
+    ensures rest { AreBehindFirst (Node.Repeated count ∷ nodes.now) result.1.now }
+    ensures len { length result.0.letters ≡ here.size }
+    ensures fewer { length result.1.now ≤ length nodes.now }
+{
+    let (there, _) = own(nodes, moment);
+    let (value, behind) = value_of(nodes, moment, there);
+    (fitted(repeated_value(count, value), here), behind)
+}
+
 /// The value, where it stands, of the expression that these nodes begin with, and the nodes behind it.
 #[cycle(values)]
 pub fn value_of<'n>(nodes: &'n [Node], moment: &Moment<'_>, here: Context) -> (Vec4, &'n [Node])
@@ -184,10 +242,17 @@ pub fn value_of<'n>(nodes: &'n [Node], moment: &Moment<'_>, here: Context) -> (V
     match node {
         Node::Constant(number) => (number_value(*number, here), behind),
         Node::Variable(number) => (fitted(value_at(moment, *number), here), behind),
+        Node::Bit(variable) => of_bit(*variable, behind, moment, here),
+        Node::Part { variable, bounds } => {
+            let value = part_value(moment, *variable, *bounds);
+            (fitted(value, here), behind)
+        }
         Node::Time => (fitted(time_of(moment), here), behind),
         Node::Conversion(signed) => of_conversion(*signed, behind, moment, here),
         Node::Unary(operator) => of_unary(*operator, behind, moment, here),
         Node::Binary(operator) => of_binary(*operator, behind, moment, here),
         Node::Conditional => of_conditional(behind, moment, here),
+        Node::Joined => of_joined(behind, moment, here),
+        Node::Repeated(count) => of_repeated(*count, behind, moment, here),
     }
 }

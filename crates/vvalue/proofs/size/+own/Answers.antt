@@ -1,7 +1,7 @@
-use Rattle.std.proofs.Common.{◌≡◌, ◌++◌, false, length, refl, ap, ◌∙◌}
+use Rattle.std.proofs.Common.{◌≡◌, ◌++◌, ◌+◌, ◌*◌, max, min, false, length, refl, ap, ◌∙◌}
 use Rattle.vdesign.specs.Expressions.{ExpressionTree, apply, combine}
 use Rattle.vdesign.specs.Nodes.{nodes_of}
-use Rattle.vdesign.specs.declared.expression.Node.TheVariants.{Constant, Variable, Time, Conversion, Unary, Binary, Conditional}
+use Rattle.vdesign.specs.declared.expression.Node.TheVariants.{Constant, Variable, Bit, Part, Time, Conversion, Unary, Binary, Conditional, Joined, Repeated}
 use Rattle.vast.specs.declared.expression.UnaryOperator.{UnaryOperator}
 use Rattle.vast.specs.declared.expression.BinaryOperator.{BinaryOperator}
 use Rattle.vvalue.specs.declared.context.Context.{Context}
@@ -81,16 +81,16 @@ returns-in-Time-clause-rest t c =
 
 pub returns-in-Conversion-clause-exact : goal.returns-in-Conversion-clause-exact
 returns-in-Conversion-clause-exact t c =
-    by_node (λ tree more. context c.own.result.0.size c.in-Conversion.signed ≡ own c.args.moment.now tree)
+    by_node (λ tree more. context c.own-in-Conversion.result.0.size c.in-Conversion.signed ≡ own c.args.moment.now tree)
     c.args.nodes.now c.in-Some.node.now (Conversion c.in-Conversion.signed) c.in-Some.behind.now
     c.in-Some.ensures.cases.0 c.in-Conversion.is
-    (λ operand more is. ap (λ (x : Context). context x.size c.in-Conversion.signed) (c.own.ensures.exact operand more is))
+    (λ operand more is. ap (λ (x : Context). context x.size c.in-Conversion.signed) (c.own-in-Conversion.ensures.exact operand more is))
 
 pub returns-in-Conversion-clause-rest : goal.returns-in-Conversion-clause-rest
 returns-in-Conversion-clause-rest t c =
-    by_node (λ tree more. c.own.result.1.now ≡ more)
+    by_node (λ tree more. c.own-in-Conversion.result.1.now ≡ more)
     c.args.nodes.now c.in-Some.node.now (Conversion c.in-Conversion.signed) c.in-Some.behind.now
-    c.in-Some.ensures.cases.0 c.in-Conversion.is c.own.ensures.rest
+    c.in-Some.ensures.cases.0 c.in-Conversion.is c.own-in-Conversion.ensures.rest
 
 pub returns-in-Unary-clause-exact : goal.returns-in-Unary-clause-exact
 returns-in-Unary-clause-exact t c =
@@ -145,3 +145,59 @@ returns-in-Conditional-clause-rest t c =
     (λ condition when_true when_false more is.
     c.own-in-Conditional-3.ensures.rest when_false more (c.own-in-Conditional-2.ensures.rest when_true (nodes_of when_false ++ more)
     (c.own-in-Conditional.ensures.rest condition (nodes_of when_true ++ (nodes_of when_false ++ more)) is)))
+
+pub returns-in-Bit-clause-exact : goal.returns-in-Bit-clause-exact
+returns-in-Bit-clause-exact t c =
+    by_node (λ tree more. context 1 false ≡ own c.args.moment.now tree)
+    c.args.nodes.now c.in-Some.node.now (Bit c.in-Bit.field-0) c.in-Some.behind.now
+    c.in-Some.ensures.cases.0 c.in-Bit.is (λ index more is. refl)
+
+pub returns-in-Bit-clause-rest : goal.returns-in-Bit-clause-rest
+returns-in-Bit-clause-rest t c =
+    by_node (λ tree more. c.own.result.1.now ≡ more)
+    c.args.nodes.now c.in-Some.node.now (Bit c.in-Bit.field-0) c.in-Some.behind.now
+    c.in-Some.ensures.cases.0 c.in-Bit.is c.own.ensures.rest
+
+pub returns-in-Part-clause-exact : goal.returns-in-Part-clause-exact
+returns-in-Part-clause-exact t c =
+    by_node (λ tree more. c.own_part.result ≡ own c.args.moment.now tree)
+    c.args.nodes.now c.in-Some.node.now (Part c.in-Part.variable c.in-Part.bounds) c.in-Some.behind.now
+    c.in-Some.ensures.cases.0 c.in-Part.is c.own_part.ensures.exact
+
+pub returns-in-Part-clause-rest : goal.returns-in-Part-clause-rest
+returns-in-Part-clause-rest t c =
+    by_node (λ tree more. c.in-Some.behind.now ≡ more)
+    c.args.nodes.now c.in-Some.node.now (Part c.in-Part.variable c.in-Part.bounds) c.in-Some.behind.now
+    c.in-Some.ensures.cases.0 c.in-Part.is refl
+
+pub returns-in-Joined-clause-exact : goal.returns-in-Joined-clause-exact
+returns-in-Joined-clause-exact t c =
+    by_node (λ tree more. c.own_joined.result ≡ own c.args.moment.now tree)
+    c.args.nodes.now c.in-Some.node.now Joined c.in-Some.behind.now
+    c.in-Some.ensures.cases.0 c.in-Joined.is
+    (λ left right more is. c.own_joined.ensures.exact
+    ∙ ap (λ (x : Context). context (min 64 (x.size + c.own-in-Joined-2.result.0.size)) false)
+    (c.own-in-Joined.ensures.exact left (nodes_of right ++ more) is)
+    ∙ ap (λ (x : Context). context (min 64 ((own c.args.moment.now left).size + x.size)) false)
+    (c.own-in-Joined-2.ensures.exact right more (c.own-in-Joined.ensures.rest left (nodes_of right ++ more) is)))
+
+pub returns-in-Joined-clause-rest : goal.returns-in-Joined-clause-rest
+returns-in-Joined-clause-rest t c =
+    by_node (λ tree more. c.own-in-Joined-2.result.1.now ≡ more)
+    c.args.nodes.now c.in-Some.node.now Joined c.in-Some.behind.now
+    c.in-Some.ensures.cases.0 c.in-Joined.is
+    (λ left right more is. c.own-in-Joined-2.ensures.rest right more (c.own-in-Joined.ensures.rest left (nodes_of right ++ more) is))
+
+pub returns-in-Repeated-clause-exact : goal.returns-in-Repeated-clause-exact
+returns-in-Repeated-clause-exact t c =
+    by_node (λ tree more. c.own_repeated.result ≡ own c.args.moment.now tree)
+    c.args.nodes.now c.in-Some.node.now (Repeated c.in-Repeated.count) c.in-Some.behind.now
+    c.in-Some.ensures.cases.0 c.in-Repeated.is
+    (λ operand more is. c.own_repeated.ensures.exact
+    ∙ ap (λ (x : Context). context (min 64 (max 1 c.in-Repeated.count * x.size)) false) (c.own-in-Repeated.ensures.exact operand more is))
+
+pub returns-in-Repeated-clause-rest : goal.returns-in-Repeated-clause-rest
+returns-in-Repeated-clause-rest t c =
+    by_node (λ tree more. c.own-in-Repeated.result.1.now ≡ more)
+    c.args.nodes.now c.in-Some.node.now (Repeated c.in-Repeated.count) c.in-Some.behind.now
+    c.in-Some.ensures.cases.0 c.in-Repeated.is c.own-in-Repeated.ensures.rest

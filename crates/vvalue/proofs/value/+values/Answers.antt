@@ -1,10 +1,10 @@
 use Rattle.std.proofs.Common.{◌≡◌, ◌++◌, refl, ap, ◌∙◌}
 use Rattle.vbits.specs.Vectors.{Vector}
 use Rattle.vdesign.specs.Nodes.{nodes_of}
-use Rattle.vdesign.specs.declared.expression.Node.TheVariants.{Constant, Variable, Time, Conversion, Unary, Binary, Conditional}
+use Rattle.vdesign.specs.declared.expression.Node.TheVariants.{Constant, Variable, Bit, Part, Time, Conversion, Unary, Binary, Conditional, Joined, Repeated}
 use Rattle.vvalue.specs.Value.{fitted, value_of}
 use Rattle.vvalue.proofs.NodeLemmas.{by_first, by_node, by_none}
-use Rattle.vvalue.proofs.ValueLemmas.{filled_length, conversion_is, apply_is, combine_is, conditional_is}
+use Rattle.vvalue.proofs.ValueLemmas.{filled_length, bit_is, conversion_is, apply_is, combine_is, conditional_is, joined_is, repeated_is}
 use Rattle.vvalue.proofs.value.+values.Goals as goal
 
 -- ---- a node with operands
@@ -68,6 +68,43 @@ of_conditional-returns-clause-rest t c =
     c.value_of-when_false.ensures.rest when_false more (c.value_of-when_true.ensures.rest when_true (nodes_of when_false ++ more)
     (c.value_of-condition.ensures.rest condition (nodes_of when_true ++ (nodes_of when_false ++ more)) is)))
 
+pub of_bit-returns-clause-exact : goal.of_bit-returns-clause-exact
+of_bit-returns-clause-exact t c =
+    by_first (λ tree more. c.fitted.result ≡ value_of c.args.moment.now tree c.args.here) (Bit c.args.variable) c.args.nodes.now
+    (λ index more is. bit_is c.args.moment.now c.args.variable index c.args.here c.own.result.0
+    c.value_of-index.result.0 c.bit_value.result c.fitted.result
+    c.fitted.ensures.exact c.bit_value.ensures (c.value_of-index.ensures.exact index more is) (c.own.ensures.exact index more is))
+
+pub of_bit-returns-clause-rest : goal.of_bit-returns-clause-rest
+of_bit-returns-clause-rest t c =
+    by_first (λ tree more. c.value_of-index.result.1.now ≡ more) (Bit c.args.variable) c.args.nodes.now c.value_of-index.ensures.rest
+
+pub of_joined-returns-clause-exact : goal.of_joined-returns-clause-exact
+of_joined-returns-clause-exact t c =
+    by_first (λ tree more. c.fitted.result ≡ value_of c.args.moment.now tree c.args.here) Joined c.args.nodes.now
+    (λ left right more is. joined_is c.args.moment.now left right c.args.here c.own.result.0 c.own-2.result.0
+    c.value_of-left.result.0 c.value_of-right.result.0 c.joined_value.result c.fitted.result
+    c.fitted.ensures.exact c.joined_value.ensures (c.value_of-left.ensures.exact left (nodes_of right ++ more) is)
+    (c.own.ensures.exact left (nodes_of right ++ more) is)
+    (c.value_of-right.ensures.exact right more (c.value_of-left.ensures.rest left (nodes_of right ++ more) is))
+    (c.own-2.ensures.exact right more (c.own.ensures.rest left (nodes_of right ++ more) is)))
+
+pub of_joined-returns-clause-rest : goal.of_joined-returns-clause-rest
+of_joined-returns-clause-rest t c =
+    by_first (λ tree more. c.value_of-right.result.1.now ≡ more) Joined c.args.nodes.now
+    (λ left right more is. c.value_of-right.ensures.rest right more (c.value_of-left.ensures.rest left (nodes_of right ++ more) is))
+
+pub of_repeated-returns-clause-exact : goal.of_repeated-returns-clause-exact
+of_repeated-returns-clause-exact t c =
+    by_first (λ tree more. c.fitted.result ≡ value_of c.args.moment.now tree c.args.here) (Repeated c.args.count) c.args.nodes.now
+    (λ operand more is. repeated_is c.args.moment.now c.args.count operand c.args.here c.own.result.0
+    c.value_of-value.result.0 c.repeated_value.result c.fitted.result
+    c.fitted.ensures.exact c.repeated_value.ensures (c.value_of-value.ensures.exact operand more is) (c.own.ensures.exact operand more is))
+
+pub of_repeated-returns-clause-rest : goal.of_repeated-returns-clause-rest
+of_repeated-returns-clause-rest t c =
+    by_first (λ tree more. c.value_of-value.result.1.now ≡ more) (Repeated c.args.count) c.args.nodes.now c.value_of-value.ensures.rest
+
 -- ---- no node, and a node without operands
 
 pub value_of-returns-in_default-clause-exact : goal.value_of-returns-in_default-clause-exact
@@ -97,6 +134,17 @@ pub value_of-returns-in-Variable-clause-rest : goal.value_of-returns-in-Variable
 value_of-returns-in-Variable-clause-rest t c =
     by_node (λ tree more. c.in-Some.behind.now ≡ more) c.args.nodes.now c.in-Some.node.now
     (Variable c.in-Variable.number) c.in-Some.behind.now c.in-Some.ensures.cases.0 c.in-Variable.is refl
+
+pub value_of-returns-in-Part-clause-exact : goal.value_of-returns-in-Part-clause-exact
+value_of-returns-in-Part-clause-exact t c =
+    by_node (λ tree more. c.fitted-in-Part.result ≡ value_of c.args.moment.now tree c.args.here) c.args.nodes.now c.in-Some.node.now
+    (Part c.in-Part.variable c.in-Part.bounds) c.in-Some.behind.now c.in-Some.ensures.cases.0 c.in-Part.is
+    (c.fitted-in-Part.ensures.exact ∙ ap (λ (v : Vector). fitted v c.args.here) c.part_value-value.ensures)
+
+pub value_of-returns-in-Part-clause-rest : goal.value_of-returns-in-Part-clause-rest
+value_of-returns-in-Part-clause-rest t c =
+    by_node (λ tree more. c.in-Some.behind.now ≡ more) c.args.nodes.now c.in-Some.node.now
+    (Part c.in-Part.variable c.in-Part.bounds) c.in-Some.behind.now c.in-Some.ensures.cases.0 c.in-Part.is refl
 
 pub value_of-returns-in-Time-clause-exact : goal.value_of-returns-in-Time-clause-exact
 value_of-returns-in-Time-clause-exact t c =
