@@ -11,7 +11,7 @@ use crate::value::value_of;
 use vbits::{Bit4, Vec4};
 use vdesign::expression::Expression;
 
-fn is_one(letter: Bit4) -> bool
+pub(crate) fn is_one(letter: Bit4) -> bool
     ensures { result ≡ letters.is_one letter }
 {
     match letter {
@@ -23,7 +23,7 @@ fn is_one(letter: Bit4) -> bool
 }
 
 // The value of an expression at its own size and sign.
-fn by_itself(expression: &Expression, moment: &Moment<'_>) -> Vec4
+pub(crate) fn by_itself(expression: &Expression, moment: &Moment<'_>) -> Vec4
     ensures { result ≡ spec.by_itself moment.now expression.now }
 {
     let nodes = expression.nodes();
