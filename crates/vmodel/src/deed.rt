@@ -1,6 +1,6 @@
 // What a step of a process does (IEEE 1364-2005, clause 9): its fate, what it writes, posts, shows, and whether it ends the run.
 
-ghost use Rattle.std.specs.Prelude.{◌≡◌, ◌∷◌, ℕ, List, cond, true, false};
+ghost use Rattle.std.specs.Prelude.{◌≡◌, ◌∷◌, [], ℕ, List, cond, true, false};
 ghost use Rattle.vvalue.specs.Value.{holds as holds_at};
 ghost use Rattle.vmodel.specs.declared.process.Spot.{Spot};
 ghost use Rattle.vmodel.specs.Step as spec;
@@ -61,6 +61,56 @@ impl Deed {
     }
 }
 
+// A step that ends the run (17.4).
+fn ending(cause: Cause) -> Deed
+    ensures { result ≡ ending_by cause }
+{
+    Deed {
+        cause: Some(cause),
+        ..Deed::quiet()
+    }
+}
+
+// A step that writes (6.2).
+fn writing(parts: Parts) -> Deed
+    ensures { result ≡ record spec.quiet { wrote = parts } }
+{
+    Deed {
+        wrote: parts,
+        ..Deed::quiet()
+    }
+}
+
+// A step that posts an update (11.4).
+fn posting(parts: Parts) -> Deed
+    ensures { result ≡ record spec.quiet { posted = Some parts } }
+{
+    Deed {
+        posted: Some(parts),
+        ..Deed::quiet()
+    }
+}
+
+// A step that suspends its process (9.7).
+fn suspending(fate: Fate) -> Deed
+    ensures { result ≡ record spec.quiet { fate = fate } }
+{
+    Deed {
+        fate,
+        ..Deed::quiet()
+    }
+}
+
+// A step that commands the dump (18.1).
+fn dumping(command: DumpCommand) -> Deed
+    ensures { result ≡ record spec.quiet { command = Some command } }
+{
+    Deed {
+        command: Some(command),
+        ..Deed::quiet()
+    }
+}
+
 /// What an action does: the places that come next, what comes behind them before the rest, and all else.
 #[derive(Clone, Copy)]
 pub struct Doing<'d> {
@@ -79,6 +129,19 @@ fn goes_to<'d>(next: &'d [usize]) -> Doing<'d>
         next,
         then: None,
         deed: Deed::quiet(),
+    }
+}
+
+// What comes next where an action does this, and goes on.
+fn goes_by<'d>(next: &'d [usize], deed: Deed) -> Doing<'d>
+    ensures next { result.next.now ≡ next.now }
+    ensures then { result.then ≡ None }
+    ensures deed { result.deed ≡ deed }
+{
+    Doing {
+        next,
+        then: None,
+        deed,
     }
 }
 
@@ -156,10 +219,7 @@ fn until_of<'d>(
     Doing {
         next: &[],
         then: Some(Spot::Doing(place)),
-        deed: Deed {
-            fate: Fate::Waits(place),
-            ..Deed::quiet()
-        },
+        deed: suspending(Fate::Waits(place)),
     }
 }
 
@@ -179,13 +239,20 @@ fn branch_of<'d>(
     }
 }
 
-// A step that ends the run (17.4).
-fn ending(cause: Cause) -> Deed
-    ensures { result ≡ ending_by cause }
+// What an `assign` does (6.1): it writes, and waits before it comes again.
+fn drive_of<'d>(place: usize, parts: Parts) -> Doing<'d>
+    ensures next { result.next.now ≡ [] }
+    ensures then { result.then ≡ Some (Spot.Doing place) }
+    ensures deed { result.deed ≡ record spec.quiet { wrote = parts; fate = Fate.Waits place } }
 {
-    Deed {
-        cause: Some(cause),
-        ..Deed::quiet()
+    Doing {
+        next: &[],
+        then: Some(Spot::Doing(place)),
+        deed: Deed {
+            wrote: parts,
+            fate: Fate::Waits(place),
+            ..Deed::quiet()
+        },
     }
 }
 
@@ -195,68 +262,18 @@ pub fn deed_of<'d>(place: usize, action: &'d Action, moment: &Moment<'_>) -> Doi
         does place action.now after moment.now
         ≡ did_so result.then result.next.now after result.deed }
 {
-    let quiet = Deed::quiet();
     match action {
-        Action::Assign { target, value } => Doing {
-            next: &[],
-            then: None,
-            deed: Deed {
-                wrote: assigned(target, value, moment),
-                ..quiet
-            },
-        },
-        Action::Nonblocking { target, value } => Doing {
-            next: &[],
-            then: None,
-            deed: Deed {
-                posted: Some(assigned(target, value, moment)),
-                ..quiet
-            },
-        },
-        Action::Delay { amount, body } => Doing {
-            next: body.as_slice(),
-            then: None,
-            deed: Deed {
-                fate: Fate::Sleeps(delay_of(amount, moment)),
-                ..quiet
-            },
-        },
-        Action::On { body, .. } => Doing {
-            next: body.as_slice(),
-            then: None,
-            deed: Deed {
-                fate: Fate::Waits(place),
-                ..quiet
-            },
-        },
-        Action::Until {
-            condition,
-            body,
-            ..
-        } => until_of(place, condition, body, moment),
-        Action::DumpVars => Doing {
-            next: &[],
-            then: None,
-            deed: Deed {
-                command: Some(DumpCommand::Vars),
-                ..quiet
-            },
-        },
+        Action::Assign { target, value } => {
+            goes_by(&[], writing(assigned(target, value, moment)))
+        }
+        Action::Nonblocking { target, value } => {
+            goes_by(&[], posting(assigned(target, value, moment)))
+        }
         Action::Test {
             condition,
             when_true,
             otherwise,
         } => goes_to(branch_of(condition, when_true, otherwise, moment)),
-        Action::Finish => Doing {
-            next: &[],
-            then: None,
-            deed: ending(Cause::Finish),
-        },
-        Action::Stop => Doing {
-            next: &[],
-            then: None,
-            deed: ending(Cause::Stop),
-        },
         Action::Case {
             kind,
             value,
@@ -266,15 +283,20 @@ pub fn deed_of<'d>(place: usize, action: &'d Action, moment: &Moment<'_>) -> Doi
         Action::Again { condition, body } => again_of(place, condition, body, moment),
         Action::Repeat { count, .. } => turns_first(place, &[], turns_of(count, moment)),
         Action::Forever { body } => comes_again(place, body.as_slice()),
-        Action::Drive { target, value, .. } => Doing {
-            next: &[],
-            then: Some(Spot::Doing(place)),
-            deed: Deed {
-                wrote: assigned(target, value, moment),
-                fate: Fate::Waits(place),
-                ..quiet
-            },
-        },
+        Action::Delay { amount, body } => {
+            let fate = Fate::Sleeps(delay_of(amount, moment));
+            goes_by(body.as_slice(), suspending(fate))
+        }
+        Action::On { body, .. } => goes_by(body.as_slice(), suspending(Fate::Waits(place))),
+        Action::Until {
+            condition,
+            body,
+            ..
+        } => until_of(place, condition, body, moment),
+        Action::Drive { target, value, .. } => drive_of(place, assigned(target, value, moment)),
+        Action::DumpVars => goes_by(&[], dumping(DumpCommand::Vars)),
+        Action::Finish => goes_by(&[], ending(Cause::Finish)),
+        Action::Stop => goes_by(&[], ending(Cause::Stop)),
     }
 }
 
