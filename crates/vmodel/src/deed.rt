@@ -1,6 +1,6 @@
 // What a step of a process does (IEEE 1364-2005, clause 9): its fate, what it writes, posts, shows, and whether it ends the run.
 
-ghost use Rattle.std.specs.Prelude.{◌≡◌, ◌∷◌, [], ℕ, List, cond, true, false};
+ghost use Rattle.std.specs.Prelude.{◌≡◌, [], ℕ, List, cond};
 ghost use Rattle.vvalue.specs.Value.{holds as holds_at};
 ghost use Rattle.vmodel.specs.declared.process.Spot.{Spot};
 ghost use Rattle.vmodel.specs.Step as spec;
