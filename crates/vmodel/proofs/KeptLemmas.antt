@@ -9,13 +9,12 @@ use Rattle.vmodel.specs.declared.history.Grain.{Grain}
 use Rattle.vmodel.specs.declared.history.Grain.TheVariants.{Process, Statement}
 use Rattle.vmodel.specs.declared.part.Part.{Part}
 use Rattle.vmodel.specs.declared.process.Spot.{Spot}
-use Rattle.vmodel.specs.declared.process.Spot.TheVariants.{Doing}
 use Rattle.vmodel.specs.declared.choice.Choice.{Choice}
 use Rattle.vmodel.specs.declared.choice.Choice.TheVariants.{Run, Update, Advance}
 use Rattle.vmodel.specs.Queue.{Slot, Queue, without_process}
 use Rattle.vmodel.specs.State.{State}
 use Rattle.vmodel.specs.Choices.{in_order, first_update, or_advance, active_choices, offered, queue_choices, choices}
-use Rattle.vmodel.specs.Step.{moment_of, Did, does, going, closed_by, woken, closed, acted, process_by, turned, takes, goes_from, without_update, updated, advanced_to, turn_of, turn_by, next}
+use Rattle.vmodel.specs.Step.{moment_of, Did, does_at, place_of, going, closed_by, woken, closed, acted, process_by, turned, takes, goes_from, without_update, updated, advanced_to, turn_of, turn_by, next}
 use Rattle.vmodel.specs.Run.{Setting, busy_from, opening_process, opening_of, state_after}
 use Rattle.vmodel.specs.Played.{opening_is, after_is}
 use Rattle.vmodel.specs.Kept.{RisesFrom, IsInOrder, count_in, asleep, IsInPlace, IsIdle, IsKept}
@@ -152,16 +151,16 @@ turned-kept design p did s kept active lt =
     woken-kept design s.values (acted p did s) (order-moved p did.deed.fate did.deed.posted (going p did.left) s.queue kept.order)
     (place-moved p did.deed.fate did.deed.posted (process_by did) s.queue s.processes kept.place refl active lt)
 
-takes-kept : (design : Design) (p place : ℕ) (action : Option Action) (after : List Spot) (s : State) → IsKept s → 1 ≤ count_in p s.queue.active →
-    p < length s.processes → IsKept (takes design p place action after s).state
-takes-kept design p place None after s kept active lt = kept
-takes-kept design p place (Some action) after s kept active lt = turned-kept design p (does place action after (moment_of design s)) s kept active lt
+takes-kept : (design : Design) (p : ℕ) (spot : Spot) (action : Option Action) (after : List Spot) (s : State) → IsKept s → 1 ≤ count_in p s.queue.active →
+    p < length s.processes → IsKept (takes design p spot action after s).state
+takes-kept design p spot None after s kept active lt = kept
+takes-kept design p spot (Some action) after s kept active lt = turned-kept design p (does_at spot action after (moment_of design s)) s kept active lt
 
 process-kept : (design : Design) (p : ℕ) (left : List Spot) (s : State) → IsKept s → left_at s.processes p ≡ left →
     1 ≤ count_in p s.queue.active → IsKept (goes_from design p left s).state
 process-kept design p [] s kept is active = kept
-process-kept design p (Doing place ∷ after) s kept is active =
-    takes-kept design p place (slice_get design.actions place) after s kept active (is_there s.processes p (Doing place) after is)
+process-kept design p (spot ∷ after) s kept is active =
+    takes-kept design p spot (slice_get design.actions (place_of spot)) after s kept active (is_there s.processes p spot after is)
 
 turn-kept : (design : Design) (c : Choice) (s : State) → IsKept s → IsOpen c s.queue → IsKept (turn_of design c s).state
 turn-kept design (Run p) s kept active = process-kept design p (left_at s.processes p) s kept refl active

@@ -5,9 +5,10 @@ use Rattle.std.specs.Option.{option_to_list}
 use Rattle.std.specs.Cmp.Lexicographic.{pointwise}
 use Rattle.std.proofs.lemmas.List.{reverse-append, append_assoc, take_more, drop_all, append-nil}
 use Rattle.vmodel.specs.declared.process.Spot.{Spot}
-use Rattle.vmodel.specs.declared.process.Spot.TheVariants.{Doing}
+use Rattle.vmodel.specs.declared.process.Spot.TheVariants.{Doing, Turning}
 use Rattle.vmodel.specs.Same.{spot_same}
-use Rattle.vmodel.specs.Step.{spots, going}
+use Rattle.vmodel.specs.Step.{spots, going, turning}
+use Rattle.vmodel.specs.InnerStep.{behind}
 use Rattle.vmodel.proofs.SpotLemmas.{same_backwards}
 
 -- ---- comparing from the bottom up
@@ -108,6 +109,10 @@ module _ (base own rest : List Spot) (kept : ℕ) (popped : Option Spot) (own_is
           ∙ done_first (take n all) (take (suc n) all ++ []) (get_or all n x)
           (append-nil (take (suc n) all) ∙ ap (λ j. take j all) here ∙ take_more all n x (omega (arith, le)))
 
+-- one spot more comes first
+pub put_first : (front own : List Spot) (spot : Spot) → reverse (front ++ (own ++ spot ∷ [])) ≡ spot ∷ reverse (front ++ own)
+put_first front own spot = ap reverse (sym (append_assoc front own (spot ∷ []))) ∙ reverse-append (front ++ own) (spot ∷ [])
+
 -- these places come before what is left then
 pub placed : (front rest own : List Spot) (places : List ℕ) (after : List Spot) → reverse own ≡ spots places (reverse rest) →
     reverse (front ++ rest) ≡ after → reverse (front ++ own) ≡ spots places after
@@ -117,11 +122,17 @@ placed front rest own places after own_is e =
     ∙ append_assoc (map Doing places) (reverse rest) (reverse front)
     ∙ ap (λ zs. map Doing places ++ zs) (sym (reverse-append front rest) ∙ e)
 
--- what comes again is left
-pub goes_again : (number : ℕ) (next : List ℕ) (left : List Spot) → 0 < length left → Some number ≡ going number (spots next left)
-goes_again number next [] some = absurd (omega (arith, some))
-goes_again number [] (spot ∷ rest) some = refl
-goes_again number (place ∷ places) (spot ∷ rest) some = refl
+-- what comes behind them is left
+pub goes_again : (number : ℕ) (next : List ℕ) (then : Option Spot) (left : List Spot) → is_some then ≡ true → Some number ≡ going number (spots next (behind then left))
+goes_again number next None left some = cc
+goes_again number [] (Some spot) left some = refl
+goes_again number (place ∷ places) (Some spot) left some = refl
+
+-- where nothing does, the rest is left
+pub goes_rest : (number : ℕ) (next : List ℕ) (then : Option Spot) (left : List Spot) (goes : Option ℕ) → is_some then ≡ false →
+    goes ≡ going number (spots next left) → goes ≡ going number (spots next (behind then left))
+goes_rest number next None left goes none is = is
+goes_rest number next (Some spot) left goes none is = cc
 
 -- where more than the first was left, something is left behind it
 pub goes_behind : (number : ℕ) (next : List ℕ) (left : List Spot) → 1 < length left → Some number ≡ going number (spots next (drop 1 left))
@@ -141,3 +152,13 @@ goes_nowhere number (place ∷ places) left none few = absurd (omega (arith, non
 goes_nowhere number [] [] none few = refl
 goes_nowhere number [] (spot ∷ []) none few = refl
 goes_nowhere number [] (spot ∷ more ∷ rest) none few = absurd (omega (arith, few))
+
+-- ---- a `repeat` with so many turns left
+
+pub turning_left : (place n : ℕ) (after : List Spot) → n ≢ 0 → turning place n after ≡ Turning place n ∷ after
+turning_left place zero after some = absurd (some refl)
+turning_left place (suc n) after some = refl
+
+pub turning_done : (place n : ℕ) (after : List Spot) → n ≡ 0 → turning place n after ≡ after
+turning_done place zero after none = refl
+turning_done place (suc n) after none = absurd (omega (arith, none))

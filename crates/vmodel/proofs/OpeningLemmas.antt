@@ -1,5 +1,8 @@
 -- The processes that have something to do, collected from the last to the first.
-use Rattle.std.proofs.Common.{◌≡◌, ◌≢◌, ◌<◌, ℕ, suc, List, [], ◌∷◌, length, drop, get_or, drop-cons, refl, sym, ap, ◌∙◌, arith}
+use Rattle.std.proofs.Common.{◌≡◌, ◌≢◌, ◌<◌, ℕ, zero, suc, false, map, replicate, List, [], ◌∷◌, length, drop, get_or, drop-cons, refl, sym, ap, ◌∙◌, arith}
+use Rattle.vbits.specs.declared.bit4.Bit4.TheVariants.{Zero, One}
+use Rattle.vbits.specs.Letters.{not_letter}
+use Rattle.vbits.specs.Vectors.{filled, complement}
 use Rattle.vmodel.specs.Queue.{with_process}
 use Rattle.vmodel.specs.Run.{busy_from}
 use Rattle.vmodel.proofs.ProcessLemmas.{with_less}
@@ -37,3 +40,13 @@ busy_same begins j [] set within is none so_far =
     ∙ sym (ap (busy_from j) (drop-cons begins j [] within)
     ∙ ap (λ (p : List ℕ). busy_from j (p ∷ drop (suc j) begins)) (sym is))
 busy_same begins j (p ∷ ps) set within is none so_far = absurd (omega arith)
+
+-- ---- the letters that a variable starts with
+
+pub ones_filled : (count : ℕ) → complement (filled count Zero) ≡ filled count One
+unfolding complement filled
+ones_filled count = λ i. record { letters = all count i; signed = false }
+  where
+    all : (n : ℕ) → map not_letter (replicate n Zero) ≡ replicate n One
+    all zero = refl
+    all (suc n) = ap (λ letters. One ∷ letters) (all n)

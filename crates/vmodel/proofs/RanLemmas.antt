@@ -1,22 +1,21 @@
 -- A step of a process, from its parts.
-use Rattle.std.proofs.Common.{◌≡◌, ℕ, Bool, List, [], ◌∷◌, map, Option, Some, refl, sym, ap, ◌∙◌}
-use Rattle.std.specs.Prelude.{slice_set}
+use Rattle.std.proofs.Common.{◌≡◌, ℕ, List, [], ◌∷◌, map, Option, Some, refl, sym, ap, ◌∙◌}
+use Rattle.std.specs.Prelude.{slice_get, slice_set}
 use Rattle.vbits.specs.Vectors.{Vector}
 use Rattle.vdesign.specs.Design.{Design}
 use Rattle.vdesign.specs.declared.action.Action.{Action}
 use Rattle.vmodel.specs.declared.deed.Deed.{Deed}
 use Rattle.vmodel.specs.declared.part.Part.{Part}
 use Rattle.vmodel.specs.declared.process.Spot.{Spot}
-use Rattle.vmodel.specs.declared.process.Spot.TheVariants.{Doing}
 use Rattle.vmodel.specs.declared.values.Change.{Change}
 use Rattle.vmodel.specs.Parts.{written}
 use Rattle.vmodel.specs.Queue.{Queue}
 use Rattle.vmodel.specs.State.{Process, State}
 use Rattle.vmodel.specs.Waking.{wakes, awake, with_awake}
 use Rattle.vmodel.specs.InnerWaking.{Differ, comes, with_active}
-use Rattle.vmodel.specs.Inner.{first_place, first_action}
+use Rattle.vmodel.specs.Inner.{first_action}
 use Rattle.vmodel.specs.InnerStep.{did_so, left_in, moved, moved_by, moved_on, ended, turn_to}
-use Rattle.vmodel.specs.Step.{Did, does, moment_of, woken, closed, turned, takes, goes_from, process_turn}
+use Rattle.vmodel.specs.Step.{Did, does_at, moment_of, woken, closed, turned, takes, goes_from, process_turn}
 use Rattle.vmodel.proofs.WakingLemmas.{woken_none, comes_is}
 
 -- ---- what is written
@@ -68,24 +67,23 @@ awoken_is design wrote s values processes queue actions change is differ acts ps
 abbrev finished : Design → Deed → State → State → State
 finished design deed before s = closed (ended deed.cause (woken design before.values (with_values s (written deed.wrote before.values))))
 
-ran_from : (design : Design) (p place : ℕ) (action : Action) (again : Bool) (next : List ℕ) (deed : Deed) (s : State) (left : List Spot) → left_in s.processes p ≡ left →
-    first_place left ≡ Some place → first_action design.actions left ≡ Some action →
-    ((after : List Spot) → does place action after (moment_of design s) ≡ did_so place again next after deed) →
-    goes_from design p left s ≡ turn_to (finished design deed s (moved_on p again next deed s)) deed
-ran_from design p place action again next deed s [] is at act h = cc
-ran_from design p place action again next deed s (Doing other ∷ after) is at act h =
-    let same : other ≡ place = cc in
+ran_from : (design : Design) (p : ℕ) (spot : Spot) (action : Action) (then : Option Spot) (next : List ℕ) (deed : Deed) (s : State) (left : List Spot) →
+    left_in s.processes p ≡ left → slice_get left 0 ≡ Some spot → first_action design.actions left ≡ Some action →
+    ((after : List Spot) → does_at spot action after (moment_of design s) ≡ did_so then next after deed) →
+    goes_from design p left s ≡ turn_to (finished design deed s (moved_on p then next deed s)) deed
+ran_from design p spot action then next deed s [] is at act h = cc
+ran_from design p spot action then next deed s (other ∷ after) is at act h =
+    let same : other ≡ spot = cc in
     ap (λ (o : Option Action). takes design p other o after s) act
-    ∙ ap (λ (n : ℕ). turned design p (does n action after (moment_of design s)) s) same
+    ∙ ap (λ (first : Spot). turned design p (does_at first action after (moment_of design s)) s) same
     ∙ ap (λ (did : Did). turned design p did s) (h after)
-    ∙ ap (λ (n : ℕ). turned design p (did_so n again next after deed) s) (sym same)
     ∙ ap (λ (l : List Spot). turn_to (finished design deed s (record s {
-      processes = slice_set s.processes p (moved l again next deed);
-      queue = moved_by p l again next deed s.queue;
+      processes = slice_set s.processes p (moved l then next deed);
+      queue = moved_by p l then next deed s.queue;
     })) deed) (sym is)
 
-pub ran : (design : Design) (p place : ℕ) (action : Action) (again : Bool) (next : List ℕ) (deed : Deed) (s : State) →
-    first_place (left_in s.processes p) ≡ Some place → first_action design.actions (left_in s.processes p) ≡ Some action →
-    ((after : List Spot) → does place action after (moment_of design s) ≡ did_so place again next after deed) →
-    process_turn design p s ≡ turn_to (closed (ended deed.cause (woken design s.values (with_values (moved_on p again next deed s) (written deed.wrote s.values))))) deed
-ran design p place action again next deed s at act h = ran_from design p place action again next deed s (left_in s.processes p) refl at act h
+pub ran : (design : Design) (p : ℕ) (spot : Spot) (action : Action) (then : Option Spot) (next : List ℕ) (deed : Deed) (s : State) →
+    slice_get (left_in s.processes p) 0 ≡ Some spot → first_action design.actions (left_in s.processes p) ≡ Some action →
+    ((after : List Spot) → does_at spot action after (moment_of design s) ≡ did_so then next after deed) →
+    process_turn design p s ≡ turn_to (closed (ended deed.cause (woken design s.values (with_values (moved_on p then next deed s) (written deed.wrote s.values))))) deed
+ran design p spot action then next deed s at act h = ran_from design p spot action then next deed s (left_in s.processes p) refl at act h

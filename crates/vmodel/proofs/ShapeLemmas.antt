@@ -7,7 +7,7 @@ use Rattle.vbits.specs.declared.bit4.Bit4.TheVariants.{X}
 use Rattle.vbits.specs.Vectors.{Vector, filled, with_sign}
 use Rattle.vdesign.specs.Design.{Variable, Design}
 use Rattle.vdesign.specs.declared.action.Action.{Action}
-use Rattle.vdesign.specs.declared.action.Action.TheVariants.{Assign, Nonblocking, Test, Again, Forever, Delay, On, Until, DumpVars, Finish, Stop}
+use Rattle.vdesign.specs.declared.action.Action.TheVariants.{Assign, Nonblocking, Test, Case, Again, Repeat, Forever, Delay, On, Until, Drive, DumpVars, Finish, Stop}
 use Rattle.vdesign.specs.Expressions.{ExpressionTree}
 use Rattle.vdesign.specs.declared.action.Target.{Target}
 use Rattle.vdesign.specs.declared.action.Target.TheVariants.{Whole as WholeTarget}
@@ -17,7 +17,7 @@ use Rattle.vmodel.specs.declared.deed.Fate.TheVariants.{GoesOn, Sleeps, Waits}
 use Rattle.vmodel.specs.declared.part.Part.{Part}
 use Rattle.vmodel.specs.declared.part.Part.TheVariants.{Whole}
 use Rattle.vmodel.specs.declared.process.Spot.{Spot}
-use Rattle.vmodel.specs.declared.process.Spot.TheVariants.{Doing}
+use Rattle.vmodel.specs.declared.process.Spot.TheVariants.{Doing, Turning}
 use Rattle.vmodel.specs.declared.choice.Choice.{Choice}
 use Rattle.vmodel.specs.declared.choice.Choice.TheVariants.{Run, Update, Advance}
 use Rattle.vvalue.specs.Value.{Moment, value_at, right_side, holds as holds_at}
@@ -28,7 +28,7 @@ use Rattle.vmodel.specs.Parts.{written}
 use Rattle.vmodel.specs.Queue.{Slot, Queue, waking, empty_slot, wake_at}
 use Rattle.vmodel.specs.State.{State}
 use Rattle.vmodel.specs.Choices.{choices}
-use Rattle.vmodel.specs.Step.{moment_of, Did, does, going, leaves, fares, posts, regions, closed_by, woken, closed, acted, takes, goes_from, left_of, first_of, without_update, updated, advanced_to, turn_of, turn_by, next}
+use Rattle.vmodel.specs.Step.{moment_of, Did, does, turns, does_at, place_of, going, leaves, fares, posts, regions, closed_by, woken, closed, acted, takes, goes_from, left_of, first_of, without_update, updated, advanced_to, turn_of, turn_by, next}
 use Rattle.vmodel.specs.Run.{Setting, opening_value, state_after}
 use Rattle.vmodel.specs.Played.{opening_is, after_is}
 use Rattle.vmodel.specs.Kept.{HasShape, AreShaped}
@@ -200,6 +200,9 @@ does-suits variables place (Nonblocking target value) after now h = record {
 does-suits variables place (Delay amount body) after now h = record { wrote = tt; posted = λ u is. cc }
 does-suits variables place (On terms body) after now h = record { wrote = tt; posted = λ u is. cc }
 does-suits variables place (Until condition terms body) after now h = awaits-suit variables place (holds_at now condition) body after
+does-suits variables place (Case kind value branches otherwise) after now h = record { wrote = tt; posted = λ u is. cc }
+does-suits variables place (Repeat count body) after now h = record { wrote = tt; posted = λ u is. cc }
+does-suits variables place (Drive target value terms) after now h = record { wrote = assigned-suits variables target value now h; posted = λ u is. cc }
 does-suits variables place DumpVars after now h = record { wrote = tt; posted = λ u is. cc }
 does-suits variables place Finish after now h = record { wrote = tt; posted = λ u is. cc }
 does-suits variables place Stop after now h = record { wrote = tt; posted = λ u is. cc }
@@ -207,23 +210,32 @@ does-suits variables place (Test condition when_true otherwise) after now h = re
 does-suits variables place (Again condition body) after now h = record { wrote = tt; posted = λ u is. cc }
 does-suits variables place (Forever body) after now h = record { wrote = tt; posted = λ u is. cc }
 
+turns-suit : (variables : List Variable) (place n : ℕ) (action : Action) (after : List Spot) → DeedSuits variables (turns place n action after)
+turns-suit variables place n (Repeat count body) after = record { wrote = tt; posted = λ u is. cc }
+turns-suit variables place n _ after = record { wrote = tt; posted = λ u is. cc }
+
+does_at-suits : (variables : List Variable) (spot : Spot) (action : Action) (after : List Spot) (now : Moment) → AreShaped variables now.values →
+    DeedSuits variables (does_at spot action after now)
+does_at-suits variables (Doing place) action after now h = does-suits variables place action after now h
+does_at-suits variables (Turning place n) action after now h = turns-suit variables place n action after
+
 acted-shaped : (variables : List Variable) (p : ℕ) (did : Did) (s : State) → IsShaped variables s → DeedSuits variables did → IsShaped variables (acted p did s)
 acted-shaped variables p did s h suits = record {
   values = shaped-written variables did.deed.wrote s.values h.values suits.wrote;
   queue = fares-suit variables p did.deed.fate (going p did.left) (posts did.deed.posted s.queue) (posts-suit variables did.deed.posted s.queue h.queue suits.posted);
 }
 
-takes-shaped : (variables : List Variable) (design : Design) (p place : ℕ) (action : Option Action) (after : List Spot) (s : State) → IsShaped variables s →
-    IsShaped variables (takes design p place action after s).state
-takes-shaped variables design p place None after s h = h
-takes-shaped variables design p place (Some action) after s h =
-    let did = does place action after (moment_of design s) in
-    woken-shaped variables design s.values (acted p did s) (acted-shaped variables p did s h (does-suits variables place action after (moment_of design s) h.values))
+takes-shaped : (variables : List Variable) (design : Design) (p : ℕ) (spot : Spot) (action : Option Action) (after : List Spot) (s : State) → IsShaped variables s →
+    IsShaped variables (takes design p spot action after s).state
+takes-shaped variables design p spot None after s h = h
+takes-shaped variables design p spot (Some action) after s h =
+    let did = does_at spot action after (moment_of design s) in
+    woken-shaped variables design s.values (acted p did s) (acted-shaped variables p did s h (does_at-suits variables spot action after (moment_of design s) h.values))
 
 process-shaped : (variables : List Variable) (design : Design) (p : ℕ) (left : List Spot) (s : State) → IsShaped variables s →
     IsShaped variables (goes_from design p left s).state
 process-shaped variables design p [] s h = h
-process-shaped variables design p (Doing place ∷ after) s h = takes-shaped variables design p place (slice_get design.actions place) after s h
+process-shaped variables design p (spot ∷ after) s h = takes-shaped variables design p spot (slice_get design.actions (place_of spot)) after s h
 
 updated-shaped : (variables : List Variable) (us : List (List Part)) (s : State) → UpdatesSuit variables us → IsShaped variables s →
     IsShaped variables (record s { values = written (first_of us) s.values; queue = without_update us s.queue })
@@ -257,8 +269,8 @@ next-shaped variables design s i h = by_choice (slice_get (choices s) i)
 opening-shape : (variable : Variable) → HasShape variable (opening_value variable)
 unfolding filled
 opening-shape variable =
-    let x : Vector = filled variable.length X in
-    (ap length (marked x variable.signed).0 ∙ length-replicate variable.length X, (marked x variable.signed).1)
+    let x : Vector = filled variable.length variable.start in
+    (ap length (marked x variable.signed).0 ∙ length-replicate variable.length variable.start, (marked x variable.signed).1)
 
 opening-shaped : (variables : List Variable) → AreShaped variables (map opening_value variables)
 opening-shaped [] = tt

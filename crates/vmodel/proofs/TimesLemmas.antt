@@ -13,13 +13,12 @@ use Rattle.vmodel.specs.declared.part.Part.{Part}
 use Rattle.vmodel.specs.declared.deed.Fate.{Fate}
 use Rattle.vmodel.specs.declared.deed.Fate.TheVariants.{GoesOn, Sleeps, Waits}
 use Rattle.vmodel.specs.declared.process.Spot.{Spot}
-use Rattle.vmodel.specs.declared.process.Spot.TheVariants.{Doing}
 use Rattle.vmodel.specs.declared.choice.Choice.{Choice}
 use Rattle.vmodel.specs.declared.choice.Choice.TheVariants.{Run, Update, Advance}
 use Rattle.vmodel.specs.Queue.{Slot, Queue}
 use Rattle.vmodel.specs.State.{State}
 use Rattle.vmodel.specs.Choices.{choices}
-use Rattle.vmodel.specs.Step.{moment_of, Turn, Did, does, going, goes_on, fares, posts, settled, closed_by, woken, closed, acted, turned, takes, goes_from, left_of, without_update, updated, advanced_to, turn_of, turn_by, next, command_items, idle_items, slot_end_by, slot_end_of, items_of}
+use Rattle.vmodel.specs.Step.{moment_of, Turn, Did, does_at, place_of, going, goes_on, fares, posts, settled, closed_by, woken, closed, acted, turned, takes, goes_from, left_of, without_update, updated, advanced_to, turn_of, turn_by, next, command_items, idle_items, slot_end_by, slot_end_of, items_of}
 use Rattle.vmodel.specs.Run.{Setting, rules_of, opening_of, state_after, given_by}
 use Rattle.vmodel.specs.Played.{opening_is, after_is, width_is}
 use Rattle.vmodel.specs.Kept.{RisesFrom, IsIdle, IsKept, slot_times, count_in}
@@ -124,13 +123,13 @@ time-turned design p did s =
     ∙ time-fares p did.deed.fate (going p did.left) (posts did.deed.posted s.queue)
     ∙ time-posts did.deed.posted s.queue
 
-time-takes : (design : Design) (p place : ℕ) (action : Option Action) (after : List Spot) (s : State) → (takes design p place action after s).state.queue.time ≡ s.queue.time
-time-takes design p place None after s = refl
-time-takes design p place (Some action) after s = time-turned design p (does place action after (moment_of design s)) s
+time-takes : (design : Design) (p : ℕ) (spot : Spot) (action : Option Action) (after : List Spot) (s : State) → (takes design p spot action after s).state.queue.time ≡ s.queue.time
+time-takes design p spot None after s = refl
+time-takes design p spot (Some action) after s = time-turned design p (does_at spot action after (moment_of design s)) s
 
 time-process : (design : Design) (p : ℕ) (left : List Spot) (s : State) → (goes_from design p left s).state.queue.time ≡ s.queue.time
 time-process design p [] s = refl
-time-process design p (Doing place ∷ after) s = time-takes design p place (slice_get design.actions place) after s
+time-process design p (spot ∷ after) s = time-takes design p spot (slice_get design.actions (place_of spot)) after s
 
 time-updated : (us : List (List Part)) (q : Queue) → (without_update us q).time ≡ q.time
 time-updated [] q = refl

@@ -13,13 +13,12 @@ use Rattle.vmodel.specs.declared.history.Item.TheVariants.{SlotEnd, Dump}
 use Rattle.vmodel.specs.declared.part.Part.{Part}
 use Rattle.vmodel.specs.declared.part.Part.TheVariants.{Whole}
 use Rattle.vmodel.specs.declared.process.Spot.{Spot}
-use Rattle.vmodel.specs.declared.process.Spot.TheVariants.{Doing}
 use Rattle.vmodel.specs.declared.choice.Choice.{Choice}
 use Rattle.vmodel.specs.declared.choice.Choice.TheVariants.{Run, Update, Advance}
 use Rattle.vmodel.specs.State.{State}
 use Rattle.vmodel.specs.Choices.{choices}
 use Rattle.vmodel.specs.Parts.{written}
-use Rattle.vmodel.specs.Step.{moment_of, Turn, does, closed_by, woken, closed, acted, takes, goes_from, left_of, first_of, updated, advanced_to, turn_of, turn_by, next, command_items, idle_items, slot_end_by, slot_end_of, items_of}
+use Rattle.vmodel.specs.Step.{moment_of, Turn, does_at, place_of, closed_by, woken, closed, acted, takes, goes_from, left_of, first_of, updated, advanced_to, turn_of, turn_by, next, command_items, idle_items, slot_end_by, slot_end_of, items_of}
 use Rattle.vmodel.specs.Run.{Setting, opening_value, opening_of, state_after, given_by}
 use Rattle.vmodel.specs.Played.{opening_is, after_is}
 use Rattle.vmodel.specs.Kept.{HasValues}
@@ -38,15 +37,15 @@ length-closed s = by_cause s.cause
     by_cause (Some cause) = refl
     by_cause None = refl
 
-takes-full : (design : Design) (p place : ℕ) (action : Option Action) (after : List Spot) (s : State) → length (takes design p place action after s).state.values ≡ length s.values
-takes-full design p place None after s = refl
-takes-full design p place (Some action) after s =
-    let did = does place action after (moment_of design s) in
+takes-full : (design : Design) (p : ℕ) (spot : Spot) (action : Option Action) (after : List Spot) (s : State) → length (takes design p spot action after s).state.values ≡ length s.values
+takes-full design p spot None after s = refl
+takes-full design p spot (Some action) after s =
+    let did = does_at spot action after (moment_of design s) in
     length-closed (woken design s.values (acted p did s)) ∙ length-written did.deed.wrote s.values
 
 process-full : (design : Design) (p : ℕ) (left : List Spot) (s : State) → length (goes_from design p left s).state.values ≡ length s.values
 process-full design p [] s = refl
-process-full design p (Doing place ∷ after) s = takes-full design p place (slice_get design.actions place) after s
+process-full design p (spot ∷ after) s = takes-full design p spot (slice_get design.actions (place_of spot)) after s
 
 turn-full : (design : Design) (c : Choice) (s : State) → length (turn_of design c s).state.values ≡ length s.values
 turn-full design (Run p) s = process-full design p (left_of (slice_get s.processes p)) s

@@ -10,7 +10,7 @@ use Rattle.vdesign.specs.declared.action.Edge.{Edge}
 use Rattle.vdesign.specs.declared.action.Edge.TheVariants.{Any, Rise, Fall}
 use Rattle.vdesign.specs.declared.action.Term.{Term}
 use Rattle.vdesign.specs.declared.action.Action.{Action}
-use Rattle.vdesign.specs.declared.action.Action.TheVariants.{Assign, Nonblocking, Test, Again, Forever, Delay, On, Until, DumpVars, Finish, Stop}
+use Rattle.vdesign.specs.declared.action.Action.TheVariants.{Assign, Nonblocking, Test, Case, Again, Repeat, Forever, Delay, On, Until, Drive, DumpVars, Finish, Stop}
 use Rattle.vmodel.specs.declared.values.Change.{Change}
 use Rattle.vmodel.specs.Queue.{with_process}
 use Rattle.vmodel.specs.State.{Process, State}
@@ -42,6 +42,9 @@ none_comes values (Some (Again condition body)) = refl
 none_comes values (Some (Forever body)) = refl
 none_comes values (Some (Delay amount body)) = refl
 none_comes values (Some (Until condition terms body)) = none_hears values terms
+none_comes values (Some (Case kind value branches otherwise)) = refl
+none_comes values (Some (Repeat count body)) = refl
+none_comes values (Some (Drive target value terms)) = none_hears values terms
 none_comes values (Some DumpVars) = refl
 none_comes values (Some Finish) = refl
 none_comes values (Some Stop) = refl
@@ -102,6 +105,9 @@ comes_is_by change before after (Some (Again condition body)) d = refl
 comes_is_by change before after (Some (Forever body)) d = refl
 comes_is_by change before after (Some (Delay amount body)) d = refl
 comes_is_by change before after (Some (Until condition terms body)) d = any_is change before after terms d
+comes_is_by change before after (Some (Case kind value branches otherwise)) d = refl
+comes_is_by change before after (Some (Repeat count body)) d = refl
+comes_is_by change before after (Some (Drive target value terms)) d = any_is change before after terms d
 comes_is_by change before after (Some DumpVars) d = refl
 comes_is_by change before after (Some Finish) d = refl
 comes_is_by change before after (Some Stop) d = refl

@@ -6,7 +6,7 @@ use Rattle.std.proofs.Common.{ap}
 use Rattle.vbits.specs.Vectors.{Vector}
 use Rattle.vbits.specs.Planes.{values_of, unknowns_of}
 use Rattle.vmodel.specs.declared.process.Spot.{Spot}
-use Rattle.vmodel.specs.declared.process.Spot.TheVariants.{Doing}
+use Rattle.vmodel.specs.declared.process.Spot.TheVariants.{Doing, Turning}
 use Rattle.vmodel.specs.State.{Process, State}
 use Rattle.vmodel.specs.Same.{state_same}
 use Rattle.vmodel.specs.SameLaws.{states_tell}
@@ -19,10 +19,11 @@ abbrev pub values_mixed : ℕ → List Vector → ℕ
 values_mixed digest [] = digest
 values_mixed digest (v ∷ values) = values_mixed (mixed (mixed digest (values_of v.letters)) (unknowns_of v.letters)) values
 
--- where a process stands
+-- where a process stands, and how many turns are left there
 abbrev pub stand_of : Option Spot → ℕ
 stand_of None = 0
 stand_of (Some (Doing place)) = (place + 1) % 2 ^ 64
+stand_of (Some (Turning place turns)) = mixed ((place + 1) % 2 ^ 64) turns
 
 abbrev pub processes_mixed : ℕ → List Process → ℕ
 processes_mixed digest [] = digest

@@ -5,8 +5,8 @@ use Rattle.std.specs.Prelude.{slice_get}
 use Rattle.std.specs.Borrow.{Bor}
 use Rattle.vdesign.specs.declared.action.Action.{Action}
 use Rattle.vmodel.specs.declared.process.Spot.{Spot}
-use Rattle.vmodel.specs.declared.process.Spot.TheVariants.{Doing}
 use Rattle.vmodel.specs.Queue.{Slot, Queue}
+use Rattle.vmodel.specs.Step.{place_of}
 
 -- ---- parts
 
@@ -50,13 +50,14 @@ unposted q = record q { posted = take (length q.posted - 1) q.posted }
 -- the place that the first of the spots names, if there is one
 abbrev pub first_place : List Spot → Option ℕ
 first_place [] = None
-first_place (Doing place ∷ after) = Some place
+first_place (spot ∷ after) = Some (place_of spot)
 
 -- the action there
 abbrev pub first_action : List Action → List Spot → Option Action
 first_action actions [] = None
-first_action actions (Doing place ∷ after) = slice_get actions place
+first_action actions (spot ∷ after) = slice_get actions (place_of spot)
 
-abbrev pub IsFirstAction : List Action → List Spot → Option (ℕ × Bor Action) → Type 0
+-- the first of the spots and the action at its place, or none where either is missing
+abbrev pub IsFirstAction : List Action → List Spot → Option (Spot × Bor Action) → Type 0
 IsFirstAction actions left None = first_action actions left ≡ None
-IsFirstAction actions left (Some found) = (first_place left ≡ Some found.0) × (first_action actions left ≡ Some found.1.now)
+IsFirstAction actions left (Some found) = (slice_get left 0 ≡ Some found.0) × (first_action actions left ≡ Some found.1.now)

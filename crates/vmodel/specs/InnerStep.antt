@@ -1,5 +1,5 @@
 -- How the parts of a step are told: words for the contracts of parts within.
-use Rattle.std.specs.Prelude.{ℕ, Bool, cond, ◌∷◌, List, Option, Some, drop, slice_get, slice_set}
+use Rattle.std.specs.Prelude.{ℕ, Bool, cond, ◌∷◌, List, Option, Some, None, drop, slice_get, slice_set}
 use Rattle.vmodel.specs.declared.process.Spot.{Spot}
 use Rattle.vmodel.specs.declared.process.Spot.TheVariants.{Doing}
 use Rattle.vmodel.specs.declared.deed.Deed.{Deed}
@@ -13,37 +13,38 @@ use Rattle.vmodel.specs.Step.{Did, Turn, spots, going, process_by, fares, posts,
 abbrev pub left_in : List Process → ℕ → List Spot
 left_in processes number = left_of (slice_get processes number)
 
--- what stands behind a step: what was left, with the first of it where that comes again
-abbrev pub behind : Bool → List Spot → List Spot
-behind again left = cond again left (drop 1 left)
+-- what stands behind the places that come next: a spot, where one is given, and the rest
+abbrev pub behind : Option Spot → List Spot → List Spot
+behind None rest = rest
+behind (Some spot) rest = spot ∷ rest
 
 -- a process that had so much left, behind a step after which these places come
-abbrev pub moved : List Spot → Bool → List ℕ → Deed → Process
-moved left again next deed = process_by (record { left = spots next (behind again left); deed = deed })
+abbrev pub moved : List Spot → Option Spot → List ℕ → Deed → Process
+moved left then next deed = process_by (record { left = spots next (behind then (drop 1 left)); deed = deed })
 
 -- and the queue
-abbrev pub moved_by : ℕ → List Spot → Bool → List ℕ → Deed → Queue → Queue
-moved_by number left again next deed q =
-    fares number deed.fate (going number (spots next (behind again left))) (posts deed.posted q)
+abbrev pub moved_by : ℕ → List Spot → Option Spot → List ℕ → Deed → Queue → Queue
+moved_by number left then next deed q =
+    fares number deed.fate (going number (spots next (behind then (drop 1 left)))) (posts deed.posted q)
 
-abbrev pub with_moved : ℕ → List Process → Bool → List ℕ → Deed → List Process
-with_moved number processes again next deed =
-    slice_set processes number (moved (left_in processes number) again next deed)
+abbrev pub with_moved : ℕ → List Process → Option Spot → List ℕ → Deed → List Process
+with_moved number processes then next deed =
+    slice_set processes number (moved (left_in processes number) then next deed)
 
 -- the state after a process is placed and the queue has it
-abbrev pub moved_on : ℕ → Bool → List ℕ → Deed → State → State
-moved_on number again next deed s = record s {
-  processes = with_moved number s.processes again next deed;
-  queue = moved_by number (left_in s.processes number) again next deed s.queue;
+abbrev pub moved_on : ℕ → Option Spot → List ℕ → Deed → State → State
+moved_on number then next deed s = record s {
+  processes = with_moved number s.processes then next deed;
+  queue = moved_by number (left_in s.processes number) then next deed s.queue;
 }
 
 -- the state where the run ends for a reason, or goes on
 abbrev pub ended : Option Cause → State → State
 ended cause s = record s { cause = cause }
 
--- what a step at a place did, after which these places come, and then that place again where it does
-abbrev pub did_so : ℕ → Bool → List ℕ → List Spot → Deed → Did
-did_so place again next after deed = record { left = spots next (cond again (Doing place ∷ after) after); deed = deed }
+-- what a step did, after which these places come, and then this spot where one is given
+abbrev pub did_so : Option Spot → List ℕ → List Spot → Deed → Did
+did_so then next after deed = record { left = spots next (behind then after); deed = deed }
 
 -- what a loop at a place does where its condition holds, and where it does not
 abbrev pub loops : ℕ → Bool → List ℕ → List Spot → Did

@@ -3,7 +3,7 @@ use Rattle.std.specs.Prelude.{◌≡◌, ◌≢◌, ℕ, Bool, false, ◌==◌, 
 use Rattle.vbits.specs.Vectors.{Vector}
 use Rattle.vdesign.specs.declared.action.Term.{Term}
 use Rattle.vdesign.specs.declared.action.Action.{Action}
-use Rattle.vdesign.specs.declared.action.Action.TheVariants.{On, Until}
+use Rattle.vdesign.specs.declared.action.Action.TheVariants.{On, Until, Drive}
 use Rattle.vmodel.specs.declared.values.Change.{Change}
 use Rattle.vmodel.specs.Queue.{Queue}
 use Rattle.vmodel.specs.State.{Process}
@@ -30,6 +30,7 @@ any_hears_of change (term ∷ terms) = hears_of change term || any_hears_of chan
 abbrev pub comes_by : Change → Option Action → Bool
 comes_by change (Some (On terms body)) = any_hears_of change terms
 comes_by change (Some (Until condition terms body)) = any_hears_of change terms
+comes_by change (Some (Drive target value terms)) = any_hears_of change terms
 comes_by change _ = false
 
 abbrev pub comes_at : List Action → Change → Option ℕ → Bool

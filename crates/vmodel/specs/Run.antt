@@ -1,6 +1,5 @@
 -- Runs under logs, and their histories (docs/SCHEDULING.md).
 use Rattle.std.specs.Prelude.{ℕ, zero, suc, ◌==◌, ◌&&◌, ◌||◌, is_some, Bool, true, false, List, [], ◌∷◌, ◌++◌, Option, Some, None, map, length}
-use Rattle.vbits.specs.declared.bit4.Bit4.TheVariants.{X}
 use Rattle.vbits.specs.Vectors.{Vector, filled, with_sign}
 use Rattle.sched_core.specs.Rules.{Rules, stands, choice_at}
 use Rattle.vdesign.specs.Design.{Variable, Design}
@@ -16,9 +15,9 @@ use Rattle.vmodel.specs.History.{History}
 use Rattle.vmodel.specs.Same.{state_same}
 use Rattle.vmodel.specs.Step.{spots, next, items_of, slot_end_of}
 
--- every variable starts at x (4.2.2)
+-- a variable starts at x, a net that nothing drives at z (4.2.2, 4.6)
 abbrev pub opening_value : Variable → Vector
-opening_value variable = with_sign (filled variable.length X) variable.signed
+opening_value variable = with_sign (filled variable.length variable.start) variable.signed
 
 -- a process begins at its first places
 abbrev pub opening_process : List ℕ → Process

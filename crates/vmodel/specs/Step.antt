@@ -1,10 +1,10 @@
 -- `Step` (IEEE 1364-2005, 11.3, 11.4, 11.6; docs/SCHEDULING.md): the one step of a choice, then the region moves.
-use Rattle.std.specs.Prelude.{ℕ, zero, suc, List, [], ◌∷◌, ◌++◌, Option, Some, None, map, slice_get, slice_set, ◌/◌, cond}
+use Rattle.std.specs.Prelude.{ℕ, zero, suc, ◌-◌, List, [], ◌∷◌, ◌++◌, Option, Some, None, map, slice_get, slice_set, ◌/◌, cond}
 use Rattle.vbits.specs.Vectors.{Vector}
 use Rattle.basis.specs.Timescales.{factor}
 use Rattle.vdesign.specs.Design.{Design}
 use Rattle.vdesign.specs.declared.action.Action.{Action}
-use Rattle.vdesign.specs.declared.action.Action.TheVariants.{Assign, Nonblocking, Test, Again, Forever, Delay, On, Until, DumpVars, Finish, Stop}
+use Rattle.vdesign.specs.declared.action.Action.TheVariants.{Assign, Nonblocking, Test, Case, Again, Repeat, Forever, Delay, On, Until, Drive, DumpVars, Finish, Stop}
 use Rattle.vmodel.specs.declared.history.Cause.{Cause}
 use Rattle.vmodel.specs.declared.history.Cause.TheVariants.{Finish as Finished, Stop as Stopped}
 use Rattle.vmodel.specs.declared.history.DumpCommand.{DumpCommand}
@@ -12,12 +12,13 @@ use Rattle.vmodel.specs.declared.history.DumpCommand.TheVariants.{Vars}
 use Rattle.vmodel.specs.declared.history.Item.{Item}
 use Rattle.vmodel.specs.declared.history.Item.TheVariants.{SlotEnd, Dump}
 use Rattle.vmodel.specs.declared.process.Spot.{Spot}
-use Rattle.vmodel.specs.declared.process.Spot.TheVariants.{Doing}
+use Rattle.vmodel.specs.declared.process.Spot.TheVariants.{Doing, Turning}
 use Rattle.vmodel.specs.declared.deed.Fate.{Fate}
 use Rattle.vmodel.specs.declared.deed.Fate.TheVariants.{GoesOn, Sleeps, Waits}
 use Rattle.vmodel.specs.declared.deed.Deed.{Deed}
 use Rattle.vmodel.specs.declared.part.Part.{Part}
 use Rattle.vvalue.specs.Value.{Moment, holds, delay_of}
+use Rattle.vvalue.specs.Cases.{places_of_case, turns_of}
 use Rattle.vmodel.specs.Value.{assigned}
 use Rattle.vmodel.specs.Parts.{written}
 use Rattle.vmodel.specs.Queue.{Slot, Queue, with_process, without_process, wake_after}
@@ -43,6 +44,11 @@ quiet = record { held = None; fate = GoesOn; wrote = []; posted = None; command 
 abbrev pub spots : List ℕ → List Spot → List Spot
 spots places after = map Doing places ++ after
 
+-- a `repeat` at a place with so many turns left, before what stands behind it; where none is left it has ended
+abbrev pub turning : ℕ → ℕ → List Spot → List Spot
+turning place zero after = after
+turning place (suc n) after = Turning place (suc n) ∷ after
+
 -- what an action at a place does at a moment, of a process that has `after` left behind it
 abbrev pub does : ℕ → Action → List Spot → Moment → Did
 -- 9.2.1: `target = value` writes
@@ -52,9 +58,14 @@ does place (Nonblocking target value) after now = record { left = after; deed = 
 -- 9.4: `if (condition) .. else ..`
 does place (Test condition when_true otherwise) after now =
     record { left = spots (cond (holds now condition) when_true otherwise) after; deed = quiet }
+-- 9.5: `case (value) ..`
+does place (Case kind value branches otherwise) after now =
+    record { left = spots (places_of_case now kind value branches otherwise) after; deed = quiet }
 -- 9.6: `while (condition) ..` tests once more behind its body
 does place (Again condition body) after now =
     record { left = cond (holds now condition) (spots body (Doing place ∷ after)) after; deed = quiet }
+-- 9.6: `repeat (count) ..` takes its count
+does place (Repeat count body) after now = record { left = turning place (turns_of now count) after; deed = quiet }
 -- 9.6: `forever ..` comes again behind its body
 does place (Forever body) after now = record { left = spots body (Doing place ∷ after); deed = quiet }
 -- 9.7.1: `#amount` suspends, and the body comes after it
@@ -65,12 +76,30 @@ does place (On terms body) after now = record { left = spots body after; deed = 
 does place (Until condition terms body) after now =
     cond (holds now condition) (record { left = spots body after; deed = quiet })
     (record { left = Doing place ∷ after; deed = record quiet { fate = Waits place } })
+-- 6.1: `assign target = value` writes, waits for a change, and writes again
+does place (Drive target value terms) after now =
+    record { left = Doing place ∷ after; deed = record quiet { wrote = assigned now target value; fate = Waits place } }
 -- 18.1.2: `$dumpvars`
 does place DumpVars after now = record { left = after; deed = record quiet { command = Some Vars } }
 -- 17.4.1: `$finish`
 does place Finish after now = record { left = after; deed = record quiet { cause = Some Finished } }
 -- 17.4.2: `$stop`
 does place Stop after now = record { left = after; deed = record quiet { cause = Some Stopped } }
+
+-- 9.6: what the start of a turn of the action at a place does, where so many turns are left: the body comes, and then the turns
+-- that are left behind this one. No other action than `repeat` has turns
+abbrev pub turns : ℕ → ℕ → Action → List Spot → Did
+turns place n (Repeat count body) after = record { left = spots body (turning place (n - 1) after); deed = quiet }
+turns place n _ after = record { left = Turning place n ∷ after; deed = quiet }
+
+-- what the first of what is left does by the action at its place
+abbrev pub does_at : Spot → Action → List Spot → Moment → Did
+does_at (Doing place) action after now = does place action after now
+does_at (Turning place n) action after now = turns place n action after
+
+abbrev pub place_of : Spot → ℕ
+place_of (Doing place) = place
+place_of (Turning place n) = place
 
 -- ---- what becomes of the process in the queue
 
@@ -184,14 +213,14 @@ moment_of design s =
     record { values = s.values; variables = design.variables; time = written_time s.queue.time units; factor = units }
 
 -- the process takes the action, if there is one
-abbrev pub takes : Design → ℕ → ℕ → Option Action → List Spot → State → Turn
-takes design p place None after s = unmoved s
-takes design p place (Some action) after s = turned design p (does place action after (moment_of design s)) s
+abbrev pub takes : Design → ℕ → Spot → Option Action → List Spot → State → Turn
+takes design p spot None after s = unmoved s
+takes design p spot (Some action) after s = turned design p (does_at spot action after (moment_of design s)) s
 
 -- it takes the action at the first of what it has left. One with nothing left is never active (specs/Kept.antt)
 abbrev pub goes_from : Design → ℕ → List Spot → State → Turn
 goes_from design p [] s = unmoved s
-goes_from design p (Doing place ∷ after) s = takes design p place (slice_get design.actions place) after s
+goes_from design p (spot ∷ after) s = takes design p spot (slice_get design.actions (place_of spot)) after s
 
 abbrev pub left_of : Option Process → List Spot
 left_of None = []

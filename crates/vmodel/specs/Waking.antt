@@ -8,7 +8,7 @@ use Rattle.vdesign.specs.declared.action.Edge.{Edge}
 use Rattle.vdesign.specs.declared.action.Edge.TheVariants.{Any, Rise, Fall}
 use Rattle.vdesign.specs.declared.action.Term.{Term}
 use Rattle.vdesign.specs.declared.action.Action.{Action}
-use Rattle.vdesign.specs.declared.action.Action.TheVariants.{On, Until}
+use Rattle.vdesign.specs.declared.action.Action.TheVariants.{On, Until, Drive}
 use Rattle.vmodel.specs.Queue.{with_process}
 use Rattle.vmodel.specs.State.{Process}
 
@@ -43,6 +43,7 @@ any_hears before after (term ∷ terms) = hears before after term || any_hears b
 abbrev pub has_come : Option Action → List Vector → List Vector → Bool
 has_come (Some (On terms body)) before after = any_hears before after terms
 has_come (Some (Until condition terms body)) before after = any_hears before after terms
+has_come (Some (Drive target value terms)) before after = any_hears before after terms
 has_come _ before after = false
 
 -- whether a process wakes that waits at this place of the table, or doesn't wait

@@ -1,19 +1,21 @@
 // What a step of a process does (IEEE 1364-2005, clause 9): its fate, what it writes, posts, shows, and whether it ends the run.
 
-ghost use Rattle.std.specs.Prelude.{◌≡◌, ◌∷◌, ℕ, List, cond, true, false};
+ghost use Rattle.std.specs.Prelude.{◌≡◌, [], ℕ, List, cond};
 ghost use Rattle.vvalue.specs.Value.{holds as holds_at};
 ghost use Rattle.vmodel.specs.declared.process.Spot.{Spot};
 ghost use Rattle.vmodel.specs.Step as spec;
-ghost use Rattle.vmodel.specs.Step.{does};
-ghost use Rattle.vmodel.specs.InnerStep.{awaits, did_so, ending_by, loops};
+ghost use Rattle.vmodel.specs.Step.{does, does_at};
+ghost use Rattle.vmodel.specs.InnerStep.{awaits, behind, did_so, ending_by, loops};
 
 use crate::history::{Cause, DumpCommand};
 use crate::part::Parts;
+use crate::process::Spot;
 use crate::value::assigned;
 use vbits::Vec4;
 use vdesign::action::{Action, Places};
 use vdesign::expression::Expression;
 use vvalue::asked::{delay_of, holds};
+use vvalue::cases::{places_of_case, turns_of};
 use vvalue::moment::Moment;
 
 /// What becomes of a process by its step.
@@ -59,48 +61,142 @@ impl Deed {
     }
 }
 
-/// What an action does: the places that come next, whether it comes again behind them, and all else.
+// A step that ends the run (17.4).
+fn ending(cause: Cause) -> Deed
+    ensures { result ≡ ending_by cause }
+{
+    Deed {
+        cause: Some(cause),
+        ..Deed::quiet()
+    }
+}
+
+// A step that writes (6.2).
+fn writing(parts: Parts) -> Deed
+    ensures { result ≡ record spec.quiet { wrote = parts } }
+{
+    Deed {
+        wrote: parts,
+        ..Deed::quiet()
+    }
+}
+
+// A step that posts an update (11.4).
+fn posting(parts: Parts) -> Deed
+    ensures { result ≡ record spec.quiet { posted = Some parts } }
+{
+    Deed {
+        posted: Some(parts),
+        ..Deed::quiet()
+    }
+}
+
+// A step that suspends its process (9.7).
+fn suspending(fate: Fate) -> Deed
+    ensures { result ≡ record spec.quiet { fate = fate } }
+{
+    Deed {
+        fate,
+        ..Deed::quiet()
+    }
+}
+
+// A step that commands the dump (18.1).
+fn dumping(command: DumpCommand) -> Deed
+    ensures { result ≡ record spec.quiet { command = Some command } }
+{
+    Deed {
+        command: Some(command),
+        ..Deed::quiet()
+    }
+}
+
+/// What an action does: the places that come next, what comes behind them before the rest, and all else.
 #[derive(Clone, Copy)]
 pub struct Doing<'d> {
     pub next: &'d [usize],
-    pub again: bool,
+    pub then: Option<Spot>,
     pub deed: Deed,
 }
 
 // What comes next where an action only goes on.
 fn goes_to<'d>(next: &'d [usize]) -> Doing<'d>
     ensures next { result.next.now ≡ next.now }
-    ensures again { result.again ≡ false }
+    ensures then { result.then ≡ None }
     ensures deed { result.deed ≡ spec.quiet }
 {
     Doing {
         next,
-        again: false,
+        then: None,
         deed: Deed::quiet(),
     }
 }
 
-// What comes next where an action comes again behind these places.
-fn comes_again<'d>(next: &'d [usize]) -> Doing<'d>
+// What comes next where an action does this, and goes on.
+fn goes_by<'d>(next: &'d [usize], deed: Deed) -> Doing<'d>
     ensures next { result.next.now ≡ next.now }
-    ensures again { result.again ≡ true }
+    ensures then { result.then ≡ None }
+    ensures deed { result.deed ≡ deed }
+{
+    Doing {
+        next,
+        then: None,
+        deed,
+    }
+}
+
+// What comes next where an action comes again behind these places.
+fn comes_again<'d>(place: usize, next: &'d [usize]) -> Doing<'d>
+    ensures next { result.next.now ≡ next.now }
+    ensures then { result.then ≡ Some (Spot.Doing place) }
     ensures deed { result.deed ≡ spec.quiet }
 {
     Doing {
         next,
-        again: true,
+        then: Some(Spot::Doing(place)),
+        deed: Deed::quiet(),
+    }
+}
+
+// A `repeat` with so many turns left, where one is left (9.6).
+#[tactic(auto, using(crate::proofs::LeftLemmas::turning_left, crate::proofs::LeftLemmas::turning_done))]
+fn turning(place: usize, turns: u64) -> Option<Spot>
+    ensures { (after : List Spot) → spec.turning place turns after ≡ behind result after }
+{
+    if turns == 0 {
+        None
+    } else {
+        Some(Spot::Turning(place, turns))
+    }
+}
+
+// What comes next where a `repeat` has so many turns left behind these places (9.6).
+fn turns_first<'d>(place: usize, next: &'d [usize], turns: u64) -> Doing<'d>
+    ensures next { result.next.now ≡ next.now }
+    ensures then { (after : List Spot) →
+        spec.turning place turns after ≡ behind result.then after }
+    ensures deed { result.deed ≡ spec.quiet }
+{
+    Doing {
+        next,
+        then: turning(place, turns),
         deed: Deed::quiet(),
     }
 }
 
 // What a `while` does (9.6).
-fn again_of<'d>(condition: &Expression, body: &'d Places, moment: &Moment<'_>) -> Doing<'d>
-    ensures { (place : ℕ) (after : List Spot) →
+fn again_of<'d>(
+    place: usize,
+    condition: &Expression,
+    body: &'d Places,
+    moment: &Moment<'_>,
+) -> Doing<'d>
+    ensures { (after : List Spot) →
         loops place (holds_at moment.now condition.now) body.now after
-        ≡ did_so place result.again result.next.now after result.deed }
+        ≡ did_so result.then result.next.now after result.deed }
 {
     if holds(condition, moment) {
-        comes_again(body.as_slice())
+        comes_again(place, body.as_slice())
     } else {
         goes_to(&[])
     }
@@ -115,18 +211,15 @@ fn until_of<'d>(
 ) -> Doing<'d>
     ensures { (after : List Spot) →
         awaits place (holds_at moment.now condition.now) body.now after
-        ≡ did_so place result.again result.next.now after result.deed }
+        ≡ did_so result.then result.next.now after result.deed }
 {
     if holds(condition, moment) {
         return goes_to(body.as_slice());
     }
     Doing {
         next: &[],
-        again: true,
-        deed: Deed {
-            fate: Fate::Waits(place),
-            ..Deed::quiet()
-        },
+        then: Some(Spot::Doing(place)),
+        deed: suspending(Fate::Waits(place)),
     }
 }
 
@@ -146,13 +239,20 @@ fn branch_of<'d>(
     }
 }
 
-// A step that ends the run (17.4).
-fn ending(cause: Cause) -> Deed
-    ensures { result ≡ ending_by cause }
+// What an `assign` does (6.1): it writes, and waits before it comes again.
+fn drive_of<'d>(place: usize, parts: Parts) -> Doing<'d>
+    ensures next { result.next.now ≡ [] }
+    ensures then { result.then ≡ Some (Spot.Doing place) }
+    ensures deed { result.deed ≡ record spec.quiet { wrote = parts; fate = Fate.Waits place } }
 {
-    Deed {
-        cause: Some(cause),
-        ..Deed::quiet()
+    Doing {
+        next: &[],
+        then: Some(Spot::Doing(place)),
+        deed: Deed {
+            wrote: parts,
+            fate: Fate::Waits(place),
+            ..Deed::quiet()
+        },
     }
 }
 
@@ -160,71 +260,72 @@ fn ending(cause: Cause) -> Deed
 pub fn deed_of<'d>(place: usize, action: &'d Action, moment: &Moment<'_>) -> Doing<'d>
     ensures { (after : List Spot) →
         does place action.now after moment.now
-        ≡ did_so place result.again result.next.now after result.deed }
+        ≡ did_so result.then result.next.now after result.deed }
 {
-    let quiet = Deed::quiet();
     match action {
-        Action::Assign { target, value } => Doing {
-            next: &[],
-            again: false,
-            deed: Deed {
-                wrote: assigned(target, value, moment),
-                ..quiet
-            },
-        },
-        Action::Nonblocking { target, value } => Doing {
-            next: &[],
-            again: false,
-            deed: Deed {
-                posted: Some(assigned(target, value, moment)),
-                ..quiet
-            },
-        },
-        Action::Delay { amount, body } => Doing {
-            next: body.as_slice(),
-            again: false,
-            deed: Deed {
-                fate: Fate::Sleeps(delay_of(amount, moment)),
-                ..quiet
-            },
-        },
-        Action::On { body, .. } => Doing {
-            next: body.as_slice(),
-            again: false,
-            deed: Deed {
-                fate: Fate::Waits(place),
-                ..quiet
-            },
-        },
-        Action::Until {
-            condition,
-            body,
-            ..
-        } => until_of(place, condition, body, moment),
-        Action::DumpVars => Doing {
-            next: &[],
-            again: false,
-            deed: Deed {
-                command: Some(DumpCommand::Vars),
-                ..quiet
-            },
-        },
+        Action::Assign { target, value } => {
+            goes_by(&[], writing(assigned(target, value, moment)))
+        }
+        Action::Nonblocking { target, value } => {
+            goes_by(&[], posting(assigned(target, value, moment)))
+        }
         Action::Test {
             condition,
             when_true,
             otherwise,
         } => goes_to(branch_of(condition, when_true, otherwise, moment)),
-        Action::Finish => Doing {
+        Action::Case {
+            kind,
+            value,
+            branches,
+            otherwise,
+        } => goes_to(places_of_case(*kind, value, branches, otherwise, moment)),
+        Action::Again { condition, body } => again_of(place, condition, body, moment),
+        Action::Repeat { count, .. } => turns_first(place, &[], turns_of(count, moment)),
+        Action::Forever { body } => comes_again(place, body.as_slice()),
+        Action::Delay { amount, body } => {
+            let fate = Fate::Sleeps(delay_of(amount, moment));
+            goes_by(body.as_slice(), suspending(fate))
+        }
+        Action::On { body, .. } => goes_by(body.as_slice(), suspending(Fate::Waits(place))),
+        Action::Until {
+            condition,
+            body,
+            ..
+        } => until_of(place, condition, body, moment),
+        Action::Drive { target, value, .. } => drive_of(place, assigned(target, value, moment)),
+        Action::DumpVars => goes_by(&[], dumping(DumpCommand::Vars)),
+        Action::Finish => goes_by(&[], ending(Cause::Finish)),
+        Action::Stop => goes_by(&[], ending(Cause::Stop)),
+    }
+}
+
+// What the start of a turn of the action at this place does, where so many turns are left (9.6).
+fn turn_of<'d>(place: usize, turns: u64, action: &'d Action) -> Doing<'d>
+    ensures { (after : List Spot) →
+        spec.turns place turns action.now after
+        ≡ did_so result.then result.next.now after result.deed }
+{
+    match action {
+        Action::Repeat { body, .. } => {
+            turns_first(place, body.as_slice(), turns.saturating_sub(1))
+        }
+        _ => Doing {
             next: &[],
-            again: false,
-            deed: ending(Cause::Finish),
+            then: Some(Spot::Turning(place, turns)),
+            deed: Deed::quiet(),
         },
-        Action::Stop => Doing {
-            next: &[],
-            again: false,
-            deed: ending(Cause::Stop),
-        },
-        Action::Again { condition, body } => again_of(condition, body, moment),
-        Action::Forever { body } => comes_again(body.as_slice()),
+    }
+}
+
+/// What the action that this spot is at does at this moment.
+pub fn deed_at<'d>(spot: Spot, action: &'d Action, moment: &Moment<'_>) -> Doing<'d>
+    ensures { (after : List Spot) →
+        does_at spot action.now after moment.now
+        ≡ did_so result.then result.next.now after result.deed }
+{
+    match spot {
+        Spot::Doing(place) => deed_of(place, action, moment),
+        Spot::Turning(place, turns) => turn_of(place, turns, action),
     }
 }

@@ -29,13 +29,14 @@ fn mix_values(first: u64, values: &[Vec4]) -> u64
     digest
 }
 
-// Where a process stands.
+// Where a process stands, and how many turns are left there.
 fn stand_of(process: &Process) -> u64
     ensures { result ≡ stand_of_spot (slice_get process.now.left 0) }
 {
     match process.first() {
         None => 0,
         Some(Spot::Doing(place)) => (place as u64).wrapping_add(1),
+        Some(Spot::Turning(place, turns)) => mix((place as u64).wrapping_add(1), turns),
     }
 }
 

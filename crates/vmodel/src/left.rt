@@ -1,6 +1,6 @@
 // What a process has left, kept as a stack above a list that states share.
 
-ghost use Rattle.std.specs.Prelude.{◌≡◌, ◌≤◌, ◌<◌, ◌+◌, [], IfOk, drop, length, slice_get, vec_len, vec_capacity};
+ghost use Rattle.std.specs.Prelude.{◌≡◌, ◌≤◌, ◌<◌, ◌+◌, [], ◌∷◌, IfOk, drop, length, slice_get, vec_len, vec_capacity};
 ghost use Rattle.std.specs.Cmp.Lexicographic.{pointwise};
 ghost use Rattle.vmodel.specs.Same.{spot_same};
 ghost use Rattle.vmodel.specs.Step.{spots};
@@ -131,22 +131,51 @@ impl Left {
         true
     }
 
-    // The first is done, and these places come before the rest. There is room for them.
-    fn go(&mut self, places: &[usize])
+    // The first is done.
+    fn go(&mut self)
         requires whole { IsWhole self.old }
         requires some { 0 < length (left_spots self.old) }
-        requires room { vec_len self.old.own + length places.now ≤ vec_capacity self.old.own }
         ensures whole { IsWhole self.new }
-        ensures value { left_spots self.new ≡ spots places.now (drop 1 (left_spots self.old)) }
+        ensures value { left_spots self.new ≡ drop 1 (left_spots self.old) }
+        ensures room { vec_len self.new.own ≤ vec_len self.old.own }
+        ensures capacity { vec_capacity self.new.own ≡ vec_capacity self.old.own }
     {
         if self.own.pop().is_none() {
             self.kept -= 1;
         }
-        put_spots(&mut self.own, places);
     }
 
-    // The first comes again, and these places come before it. There is room for them.
-    fn stay(&mut self, places: &[usize])
+    // This spot comes first. There is room for it.
+    fn put(&mut self, spot: Spot)
+        requires whole { IsWhole self.old }
+        requires room { vec_len self.old.own < vec_capacity self.old.own }
+        ensures whole { IsWhole self.new }
+        ensures value { left_spots self.new ≡ spot ∷ left_spots self.old }
+        ensures room { vec_len self.new.own ≤ vec_len self.old.own + 1 }
+        ensures capacity { vec_capacity self.new.own ≡ vec_capacity self.old.own }
+    {
+        self.own.push_reserved(spot);
+    }
+
+    // The first is done, and this spot comes first, where one is given. There is room for it.
+    fn change(&mut self, then: Option<Spot>)
+        requires whole { IsWhole self.old }
+        requires some { 0 < length (left_spots self.old) }
+        requires room { vec_len self.old.own < vec_capacity self.old.own }
+        ensures whole { IsWhole self.new }
+        ensures value { left_spots self.new ≡ behind then (drop 1 (left_spots self.old)) }
+        ensures room { vec_len self.new.own ≤ vec_len self.old.own + 1 }
+        ensures capacity { vec_capacity self.new.own ≡ vec_capacity self.old.own }
+    {
+        self.go();
+        match then {
+            None => {}
+            Some(spot) => self.put(spot),
+        }
+    }
+
+    // These places come first. There is room for them.
+    fn put_places(&mut self, places: &[usize])
         requires whole { IsWhole self.old }
         requires room { vec_len self.old.own + length places.now ≤ vec_capacity self.old.own }
         ensures whole { IsWhole self.new }
@@ -155,18 +184,17 @@ impl Left {
         put_spots(&mut self.own, places);
     }
 
-    // The first is done, or comes again, and these places come before the rest. There is room for them.
-    pub(crate) fn turn(&mut self, again: bool, places: &[usize])
+    // The first is done, and these places come next, and behind them this spot, where one is given. There is room for all.
+    pub(crate) fn turn(&mut self, then: Option<Spot>, places: &[usize])
         requires whole { IsWhole self.old }
         requires some { 0 < length (left_spots self.old) }
-        requires room { vec_len self.old.own + length places.now ≤ vec_capacity self.old.own }
+        requires room { vec_len self.old.own + (length places.now + 1)
+            ≤ vec_capacity self.old.own }
         ensures whole { IsWhole self.new }
-        ensures value { left_spots self.new ≡ spots places.now (behind again (left_spots self.old)) }
+        ensures value { left_spots self.new
+            ≡ spots places.now (behind then (drop 1 (left_spots self.old))) }
     {
-        if again {
-            self.stay(places);
-        } else {
-            self.go(places);
-        }
+        self.change(then);
+        self.put_places(places);
     }
 }

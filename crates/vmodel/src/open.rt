@@ -59,7 +59,7 @@ fn opening_queue(active: ProcessSet, alloc: Global, until: u64, grain: Grain) ->
     }
 }
 
-/// The state that a run of the design opens with: time 0, every variable x, all processes active that have something
+/// The state that a run of the design opens with: time 0, every variable as it starts, all processes active that have something
 /// to do. `until` is the time limit, in units of the precision. Nothing of the design is copied but the number and the
 /// widths of its variables and where its processes begin. E901 is the only refusal.
 pub fn opening(

@@ -1,7 +1,7 @@
 // What a process stands at: what it has left, the value that it holds, and where it waits (IEEE 1364-2005, clause 9).
 
 ghost use Rattle.std.specs.Prelude.{◌≡◌, ◌+◌, ◌≤◌, reverse, length, slice_get, vec_len, vec_capacity, IfOk};
-ghost use Rattle.vmodel.specs.Step.{spots};
+ghost use Rattle.vmodel.specs.Step.{spots, place_of};
 ghost use Rattle.vmodel.specs.Run.{opening_process};
 
 use crate::left::Left;
@@ -15,6 +15,8 @@ use vbits::Vec4;
 pub enum Spot {
     /// The action at this place of the design's table.
     Doing(usize),
+    /// The `repeat` at this place, with so many turns left: 1 at least (9.6).
+    Turning(usize, u64),
 }
 
 /// Two are equal where they hold the same.
@@ -28,8 +30,13 @@ impl PartialEq for Spot {
     ghost laws = { partial_equiv_from_equiv spots_equivalent };
 
     fn eq(&self, other: &Spot) -> bool {
-        let (Spot::Doing(place), Spot::Doing(same)) = (self, other);
-        place == same
+        match (self, other) {
+            (Spot::Doing(place), Spot::Doing(same)) => place == same,
+            (Spot::Turning(place, turns), Spot::Turning(same, like)) => {
+                place == same && turns == like
+            }
+            _ => false,
+        }
     }
 }
 
@@ -78,6 +85,18 @@ impl Eq for Process {
     ghost use Rattle.vmodel.specs.SameLaws.{processes_equivalent};
 
     ghost laws = { processes_equivalent };
+}
+
+impl Spot {
+    /// The place in the design's table of the action that it is at.
+    pub fn place(self) -> usize
+        ensures { result ≡ place_of self }
+    {
+        match self {
+            Spot::Doing(place) => place,
+            Spot::Turning(place, _) => place,
+        }
+    }
 }
 
 impl Process {

@@ -13,7 +13,7 @@ ghost use Rattle.vmodel.specs.InnerLeft.{IsWhole, left_spots};
 ghost use Rattle.vmodel.specs.InnerStep.{moved_on, ended, behind, left_in, moved, moved_by, turn_to, with_moved};
 
 use crate::choice::Choice;
-use crate::deed::{Deed, Doing, Fate, deed_of};
+use crate::deed::{Deed, Doing, Fate, deed_at};
 use crate::history::Item;
 use crate::left::Left;
 use crate::part::Parts;
@@ -41,13 +41,13 @@ fn goes_on_after(number: u32, left: &Left, next: &[usize]) -> Option<u32>
 }
 
 // The process, where it has something left behind a step.
-#[tactic(auto, using(crate::proofs::LeftLemmas::goes_again))]
-fn goes_after(number: u32, left: &Left, again: bool, next: &[usize]) -> Option<u32>
+#[tactic(auto, using(crate::proofs::LeftLemmas::goes_again, crate::proofs::LeftLemmas::goes_rest))]
+fn goes_after(number: u32, left: &Left, then: Option<Spot>, next: &[usize]) -> Option<u32>
     requires whole { IsWhole left.now }
     requires some { 0 < length (left_spots left.now) }
-    ensures { result ≡ going number (spots next.now (behind again (left_spots left.now))) }
+    ensures { result ≡ going number (spots next.now (behind then (drop 1 (left_spots left.now)))) }
 {
-    if again {
+    if then.is_some() {
         return Some(number);
     }
     goes_on_after(number, left, next)
@@ -58,23 +58,23 @@ fn move_process(
     process: &mut Process,
     queue: &mut Queue,
     number: u32,
-    again: bool,
+    then: Option<Spot>,
     next: &[usize],
     deed: &Deed,
 ) -> Result<(), NoMemory>
     requires few { number < 256 }
     requires some { 0 < length process.old.left }
-    ensures ok { OnOk result (process.new ≡ moved process.old.left again next.now deed.now) }
+    ensures ok { OnOk result (process.new ≡ moved process.old.left then next.now deed.now) }
     ensures queue { OnOk result
-        (queue.new ≡ moved_by number process.old.left again next.now deed.now queue.old) }
+        (queue.new ≡ moved_by number process.old.left then next.now deed.now queue.old) }
     ensures err { OnErr result (process.new ≡ process.old) }
     ensures err_queue { OnErr result (queue.new ≡ queue.old) }
 {
     let left = &mut process.left;
-    left.own.reserve(next.len())?;
-    let goes = goes_after(number, left, again, next);
+    left.own.reserve(next.len() + 1)?;
+    let goes = goes_after(number, left, then, next);
     queue.move_by(number, deed.fate, deed.posted, goes)?;
-    left.turn(again, next);
+    left.turn(then, next);
     process.held = deed.held;
     process.waits = waits_by(deed.fate, goes);
     Ok(())
@@ -100,22 +100,22 @@ fn move_one(
     processes: &mut Vec<Process>,
     queue: &mut Queue,
     number: u32,
-    again: bool,
+    then: Option<Spot>,
     next: &[usize],
     deed: &Deed,
 ) -> Result<(), NoMemory>
     requires few { number < 256 }
     requires some { 0 < length (left_in processes.old.items number) }
     ensures ok { OnOk result
-        (processes.new.items ≡ with_moved number processes.old.items again next.now deed.now) }
+        (processes.new.items ≡ with_moved number processes.old.items then next.now deed.now) }
     ensures queue { OnOk result
-        (queue.new ≡ moved_by number (left_in processes.old.items number) again next.now deed.now
+        (queue.new ≡ moved_by number (left_in processes.old.items number) then next.now deed.now
         queue.old) }
     ensures err { OnErr result (processes.new.items ≡ processes.old.items) }
     ensures err_queue { OnErr result (queue.new ≡ queue.old) }
 {
     let process = &mut processes[number as usize];
-    move_process(process, queue, number, again, next, deed)
+    move_process(process, queue, number, then, next, deed)
 }
 
 // A time in units in which delays are written (17.7.1).
@@ -138,22 +138,27 @@ impl SlowState {
         }
     }
 
+    // What a process comes to first, if something is left.
+    fn spot_of(&self, number: u32) -> Option<Spot>
+        ensures { result ≡ slice_get (left_in self.now.processes number) 0 }
+    {
+        self.processes.get(number as usize)?.first()
+    }
+
     /// The place in the design's table of the action that a process comes to first, if there is one.
     pub fn place_of(&self, number: u32) -> Option<usize>
         ensures { result ≡ first_place (left_in self.now.processes number) }
     {
-        let process = self.processes.get(number as usize)?;
-        let Spot::Doing(place) = process.first()?;
-        Some(place)
+        Some(self.spot_of(number)?.place())
     }
 
-    // The place and the action that a process comes to first, if there is one.
-    fn action_of<'d>(&self, design: &'d Design, number: u32) -> Option<(usize, &'d Action)>
+    // What a process comes to first, and the action there, if there is one.
+    fn action_of<'d>(&self, design: &'d Design, number: u32) -> Option<(Spot, &'d Action)>
         ensures { IsFirstAction design.now.actions (left_in self.now.processes number) result }
     {
-        let place = self.place_of(number)?;
-        let action = design.actions.get(place)?;
-        Some((place, action))
+        let spot = self.spot_of(number)?;
+        let action = design.actions.get(spot.place())?;
+        Some((spot, action))
     }
 
     // What a step wrote is written, and what waits for a change by it goes on.
@@ -188,20 +193,20 @@ impl SlowState {
     fn place(
         &mut self,
         number: u32,
-        again: bool,
+        then: Option<Spot>,
         next: &[usize],
         deed: &Deed,
     ) -> Result<(), NoMemory>
         requires few { number < 256 }
         requires some { 0 < length (left_in self.old.processes number) }
-        ensures ok { OnOk result (self.new ≡ moved_on number again next.now deed.now self.old) }
+        ensures ok { OnOk result (self.new ≡ moved_on number then next.now deed.now self.old) }
         ensures err { OnErr result (self.new ≡ self.old) }
     {
         move_one(
             &mut self.processes,
             &mut self.queue,
             number,
-            again,
+            then,
             next,
             deed,
         )
@@ -224,11 +229,11 @@ impl SlowState {
             process_turn design.now number self.old ≡ turn_to self.new deed) }
         ensures err { OnErr result (self.new ≡ self.old) }
     {
-        let Some((place, action)) = self.action_of(design, number) else {
+        let Some((spot, action)) = self.action_of(design, number) else {
             return Ok(Deed::quiet());
         };
-        let Doing { next, again, deed } = deed_of(place, action, &self.moment(design));
-        self.place(number, again, next, &deed)?;
+        let Doing { next, then, deed } = deed_at(spot, action, &self.moment(design));
+        self.place(number, then, next, &deed)?;
         self.finish(design, &deed);
         Ok(deed)
     }

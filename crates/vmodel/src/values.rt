@@ -1,6 +1,7 @@
 // The values of all variables, by number (IEEE 1364-2005, 4.2).
 
-ghost use Rattle.std.specs.Prelude.{◌≡◌, List, slice_set, IfOk, OnOk, map};
+ghost use Rattle.std.specs.Prelude.{◌≡◌, ◌≤◌, List, slice_set, IfOk, OnOk, map};
+ghost use Rattle.vbits.specs.Vectors as vectors;
 ghost use Rattle.vbits.specs.Vectors.{Vector};
 ghost use Rattle.vmodel.specs.Parts as spec;
 ghost use Rattle.vmodel.specs.Run.{opening_value};
@@ -10,7 +11,7 @@ use crate::part::{Part, Parts};
 use basis::NoMemory;
 use std::alloc::Global;
 use std::marker::Model;
-use vbits::Vec4;
+use vbits::{Bit4, Vec4};
 use vdesign::design::Variable;
 
 /// A change of a variable by a step.
@@ -57,14 +58,30 @@ impl Eq for Values {
     ghost laws = { values_equivalent };
 }
 
+// So many letters that are the same.
+#[tactic(auto, using(crate::proofs::OpeningLemmas::ones_filled))]
+fn filled(len: u32, letter: Bit4) -> Vec4
+    requires some { 1 ≤ len }
+    requires few { len ≤ 64 }
+    ensures { result ≡ vectors.filled len letter }
+{
+    match letter {
+        Bit4::Zero => Vec4::zeros(len),
+        Bit4::One => Vec4::zeros(len).not(),
+        Bit4::X => Vec4::all_x(len),
+        Bit4::Z => Vec4::all_z(len),
+    }
+}
+
 impl Values {
-    /// Every variable starts at x (4.2.2).
+    /// A variable starts at x, a net that nothing drives at z (4.2.2, 4.6).
     pub fn opening(alloc: Global, variables: &[Variable]) -> Result<Values, NoMemory>
         ensures { IfOk result (λ values. values ≡ map opening_value variables.now) }
     {
         let mut list = Vec::new(alloc);
         for variable in variables {
-            list.push(Vec4::all_x(variable.length).with_sign(variable.signed))?;
+            let value = filled(variable.length, variable.start);
+            list.push(value.with_sign(variable.signed))?;
         }
         Ok(Values { list })
     }

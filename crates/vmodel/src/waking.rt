@@ -66,6 +66,7 @@ fn comes(actions: &[Action], change: &Change, process: &Process) -> bool
     match actions.get(place) {
         Some(Action::On { terms, .. }) => any_hears(terms.as_slice(), change),
         Some(Action::Until { terms, .. }) => any_hears(terms.as_slice(), change),
+        Some(Action::Drive { terms, .. }) => any_hears(terms.as_slice(), change),
         _ => false,
     }
 }

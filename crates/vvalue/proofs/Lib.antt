@@ -1,3 +1,4 @@
+pub mod CaseLemmas
 pub mod Lengths
 pub mod NodeLemmas
 pub mod ValueLemmas

@@ -1,4 +1,5 @@
 pub mod Manners
 pub mod Value
+pub mod Cases
 pub mod Fits
 pub mod Reads

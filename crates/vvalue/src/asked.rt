@@ -12,7 +12,7 @@ use vbits::Vec4;
 use vdesign::expression::Expression;
 
 // The value of an expression at its own size and sign.
-fn by_itself(expression: &Expression, moment: &Moment<'_>) -> Vec4
+pub(crate) fn by_itself(expression: &Expression, moment: &Moment<'_>) -> Vec4
     ensures { result ≡ spec.by_itself moment.now expression.now }
 {
     let nodes = expression.nodes();

@@ -3,6 +3,7 @@
 #![tactic(auto)]
 
 pub mod asked;
+pub mod cases;
 mod context;
 pub mod manner;
 pub mod moment;

@@ -2,7 +2,7 @@ use Rattle.std.proofs.Common.{refl, take}
 use Rattle.std.specs.Arc.{arc_slice_items}
 use Rattle.vmodel.specs.InnerLeft.{left_spots}
 use Rattle.vmodel.proofs.LeftLemmas.{placed}
-use Rattle.vmodel.proofs.left.Left.stay.Goals as goal
+use Rattle.vmodel.proofs.left.Left.put_places.Goals as goal
 
 pub returns-clause-value : goal.returns-clause-value
 returns-clause-value c =

@@ -1,0 +1,7 @@
+use Rattle.std.proofs.Common.{[]}
+use Rattle.vvalue.proofs.NodeLemmas.{alone}
+use Rattle.vvalue.proofs.cases.value_at.Goals as goal
+
+pub returns-clause-exact : goal.returns-clause-exact
+returns-clause-exact c =
+    c.value_of.ensures.exact c.args.expression.now [] (alone c.args.expression.now c.nodes.result.now c.nodes.ensures)

@@ -1,0 +1,68 @@
+-- What `case` and `repeat` ask of expressions (IEEE 1364-2005, 9.5, 9.6).
+use Rattle.std.specs.Prelude.{ℕ, Bool, true, false, ◌&&◌, ◌||◌, cond, List, [], ◌∷◌, unwrap_or}
+use Rattle.vast.specs.declared.statement.CaseKind.{CaseKind}
+use Rattle.vast.specs.declared.statement.CaseKind.TheVariants as kinds
+use Rattle.vbits.specs.declared.bit4.Bit4.{Bit4}
+use Rattle.vbits.specs.declared.bit4.Bit4.TheVariants.{Zero, One, X, Z}
+use Rattle.vbits.specs.Letters.{is_unknown, is_one, is_same}
+use Rattle.vbits.specs.Numbers.{number}
+use Rattle.vbits.specs.Vectors.{Vector, sign_letter}
+use Rattle.vdesign.specs.Expressions.{ExpressionTree}
+use Rattle.vdesign.specs.declared.action.Branch.{Branch}
+use Rattle.vvalue.specs.declared.context.Context.{Context}
+use Rattle.vvalue.specs.Value.{Moment, own, common, value_of, by_itself}
+
+-- ---- 9.5: `case`
+
+abbrev pub is_z : Bit4 → Bool
+is_z Z = true
+is_z Zero = false
+is_z One = false
+is_z X = false
+
+-- 9.5.1: the letters that count as any letter: none, z, or x and z
+abbrev pub is_any : CaseKind → Bit4 → Bool
+is_any kinds.Exact letter = false
+is_any kinds.Z letter = is_z letter
+is_any kinds.X letter = is_unknown letter
+
+-- two letters at one place: a place is passed over where either counts as any letter
+abbrev pub passes : CaseKind → Bit4 → Bit4 → Bool
+passes kind a b = (is_any kind a || is_any kind b) || is_same a b
+
+abbrev pub all_pass : CaseKind → List Bit4 → List Bit4 → Bool
+all_pass kind [] ys = true
+all_pass kind (x ∷ xs) [] = true
+all_pass kind (x ∷ xs) (y ∷ ys) = passes kind x y && all_pass kind xs ys
+
+-- whether the value of a `case` and that of an item match, letter by letter; both have as many letters
+unfoldable pub matches : CaseKind → Vector → Vector → Bool
+matches kind value item = all_pass kind value.letters item.letters
+
+-- 9.5: all expressions of a `case` stand at the longest of their sizes, signed where all are
+abbrev pub widest : Moment → Context → List Branch → Context
+widest now here [] = here
+widest now here (branch ∷ more) = widest now (common here (own now branch.item)) more
+
+abbrev pub case_context : Moment → ExpressionTree → List Branch → Context
+case_context now value branches = widest now (own now value) branches
+
+-- what comes next is the body of the first branch whose item matches, or else what stands under `default`
+abbrev pub places_at : Moment → CaseKind → Context → Vector → List Branch → List ℕ → List ℕ
+places_at now kind here value [] otherwise = otherwise
+places_at now kind here value (branch ∷ more) otherwise =
+    cond (matches kind value (value_of now branch.item here)) branch.body (places_at now kind here value more otherwise)
+
+unfoldable pub places_of_case : Moment → CaseKind → ExpressionTree → List Branch → List ℕ → List ℕ
+places_of_case now kind value branches otherwise =
+    let here = case_context now value branches in
+    places_at now kind here (value_of now value here) branches otherwise
+
+-- ---- 9.6: `repeat`
+
+-- a count is read by its own sign; one that is unknown is 0, and so is one below 0
+abbrev pub turns_in : Vector → ℕ
+turns_in count = cond (is_one (sign_letter count)) 0 (unwrap_or (number count.letters) 0)
+
+unfoldable pub turns_of : Moment → ExpressionTree → ℕ
+turns_of now count = turns_in (by_itself now count)

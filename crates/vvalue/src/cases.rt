@@ -1,0 +1,193 @@
+// What `case` and `repeat` ask of expressions (IEEE 1364-2005, 9.5, 9.6).
+
+ghost use Rattle.std.specs.Prelude.{◌≡◌, length};
+ghost use Rattle.vbits.specs.Letters as letters;
+ghost use Rattle.vbits.specs.Vectors.{sign_letter};
+ghost use Rattle.vvalue.specs.Cases as spec;
+ghost use Rattle.vvalue.specs.Fits.{IsWithin};
+ghost use Rattle.vvalue.specs.Value.{own as own_context, value_of as value_there};
+
+use crate::asked::by_itself;
+use crate::select::is_one;
+use crate::context::{Context, common};
+use crate::moment::Moment;
+use crate::size::own;
+use crate::value::value_of;
+use vast::statement::CaseKind;
+use vbits::{Bit4, Vec4};
+use vdesign::action::{Branch, Branches, Places};
+use vdesign::expression::Expression;
+
+fn is_z(letter: Bit4) -> bool
+    ensures { result ≡ spec.is_z letter }
+{
+    match letter {
+        Bit4::Zero => false,
+        Bit4::One => false,
+        Bit4::X => false,
+        Bit4::Z => true,
+    }
+}
+
+fn is_unknown(letter: Bit4) -> bool
+    ensures { result ≡ letters.is_unknown letter }
+{
+    match letter {
+        Bit4::Zero => false,
+        Bit4::One => false,
+        Bit4::X => true,
+        Bit4::Z => true,
+    }
+}
+
+// Whether a letter counts as any letter (9.5.1).
+fn is_any(kind: CaseKind, letter: Bit4) -> bool
+    ensures { result ≡ spec.is_any kind letter }
+{
+    match kind {
+        CaseKind::Exact => false,
+        CaseKind::Z => is_z(letter),
+        CaseKind::X => is_unknown(letter),
+    }
+}
+
+fn is_same(letter: Bit4, other: Bit4) -> bool
+    ensures { result ≡ letters.is_same letter other }
+{
+    match (letter, other) {
+        (Bit4::Zero, Bit4::Zero) => true,
+        (Bit4::One, Bit4::One) => true,
+        (Bit4::X, Bit4::X) => true,
+        (Bit4::Z, Bit4::Z) => true,
+        _ => false,
+    }
+}
+
+fn passes(kind: CaseKind, letter: Bit4, other: Bit4) -> bool
+    ensures { result ≡ spec.passes kind letter other }
+{
+    is_any(kind, letter) || is_any(kind, other) || is_same(letter, other)
+}
+
+// Whether the value of a `case` and that of an item match.
+#[tactic(auto, unfolding(crate::specs::Cases::matches))]
+fn matches(kind: CaseKind, value: Vec4, item: Vec4) -> bool
+    requires { length value.letters ≡ length item.letters }
+    ensures { result ≡ spec.matches kind value item }
+{
+    let len = value.len();
+    let mut i = 0;
+    while i < len {
+        if !passes(kind, value.bit(i), item.bit(i)) {
+            return false;
+        }
+        i += 1;
+    }
+    true
+}
+
+// What an expression stands in by itself.
+fn context_of(expression: &Expression, moment: &Moment<'_>) -> Context
+    ensures exact { result ≡ own_context moment.now expression.now }
+    ensures within { IsWithin result }
+{
+    own(expression.nodes(), moment).0
+}
+
+// The value of an expression where it stands.
+fn value_at(expression: &Expression, moment: &Moment<'_>, here: Context) -> Vec4
+    requires { IsWithin here }
+    ensures exact { result ≡ value_there moment.now expression.now here }
+    ensures len { length result.letters ≡ here.size }
+{
+    value_of(expression.nodes(), moment, here).0
+}
+
+// What all expressions of a `case` stand in.
+fn case_context(value: &Expression, branches: &[Branch], moment: &Moment<'_>) -> Context
+    ensures exact { result ≡ spec.case_context moment.now value.now branches.now }
+    ensures within { IsWithin result }
+{
+    let mut here = context_of(value, moment);
+    for branch in branches {
+        here = common(here, context_of(&branch.item, moment));
+    }
+    here
+}
+
+// What comes next, where the value of a `case` is known.
+fn places_at<'d>(
+    kind: CaseKind,
+    value: Vec4,
+    branches: &'d [Branch],
+    otherwise: &'d Places,
+    moment: &Moment<'_>,
+    here: Context,
+) -> &'d [usize]
+    requires within { IsWithin here }
+    requires len { length value.letters ≡ here.size }
+    ensures { result.now
+        ≡ spec.places_at moment.now kind here value branches.now otherwise.now }
+{
+    for branch in branches {
+        if matches(kind, value, value_at(&branch.item, moment, here)) {
+            return branch.body.as_slice();
+        }
+    }
+    otherwise.as_slice()
+}
+
+/// What comes next by a `case`: the places of the first branch whose item matches the value, or those of its `default`. All
+/// expressions stand at the longest of their sizes, signed where all are (9.5).
+#[tactic(auto, unfolding(crate::specs::Cases::places_of_case))]
+pub fn places_of_case<'d>(
+    kind: CaseKind,
+    value: &Expression,
+    branches: &'d Branches,
+    otherwise: &'d Places,
+    moment: &Moment<'_>,
+) -> &'d [usize]
+    ensures { result.now
+        ≡ spec.places_of_case moment.now kind value.now branches.now otherwise.now }
+{
+    let branches = branches.as_slice();
+    let here = case_context(value, branches, moment);
+    places_at(
+        kind,
+        value_at(value, moment, here),
+        branches,
+        otherwise,
+        moment,
+        here,
+    )
+}
+
+// Whether a count is below 0.
+fn is_negative(count: Vec4) -> bool
+    ensures { result ≡ letters.is_one (sign_letter count) }
+{
+    if count.signed() {
+        is_one(count.bit(count.len() - 1))
+    } else {
+        false
+    }
+}
+
+// How many turns a count stands for.
+fn turns_in(count: Vec4) -> u64
+    ensures { result ≡ spec.turns_in count }
+{
+    if is_negative(count) {
+        0
+    } else {
+        count.to_u64().unwrap_or(0)
+    }
+}
+
+/// How many turns a `repeat` makes: its count by its own sign; one that is unknown is 0, and so is one below 0 (9.6).
+#[tactic(auto, unfolding(crate::specs::Cases::turns_of))]
+pub fn turns_of(count: &Expression, moment: &Moment<'_>) -> u64
+    ensures { result ≡ spec.turns_of moment.now count.now }
+{
+    turns_in(by_itself(count, moment))
+}
