@@ -2,15 +2,14 @@
 
 ghost use Rattle.std.specs.Prelude.{◌≡◌, length};
 ghost use Rattle.vbits.specs.Letters as letters;
-ghost use Rattle.vbits.specs.Vectors.{sign_letter};
 ghost use Rattle.vvalue.specs.Cases as spec;
 ghost use Rattle.vvalue.specs.Fits.{IsWithin};
 ghost use Rattle.vvalue.specs.Value.{own as own_context, value_of as value_there};
 
 use crate::asked::by_itself;
-use crate::select::is_one;
 use crate::context::{Context, common};
 use crate::moment::Moment;
+use crate::select::is_negative;
 use crate::size::own;
 use crate::value::value_of;
 use vast::statement::CaseKind;
@@ -160,17 +159,6 @@ pub fn places_of_case<'d>(
         moment,
         here,
     )
-}
-
-// Whether a count is below 0.
-fn is_negative(count: Vec4) -> bool
-    ensures { result ≡ letters.is_one (sign_letter count) }
-{
-    if count.signed() {
-        is_one(count.bit(count.len() - 1))
-    } else {
-        false
-    }
 }
 
 // How many turns a count stands for.

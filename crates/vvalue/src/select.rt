@@ -65,7 +65,8 @@ fn bit_letter(value: Vec4, bounds: Bounds, number: u64) -> Bit4
     letter_at(value, place_in(bounds, number))
 }
 
-fn is_negative(value: Vec4) -> bool
+/// Whether it is signed and its leftmost letter is 1.
+pub fn is_negative(value: Vec4) -> bool
     ensures { result ≡ letters.is_one (sign_letter value) }
 {
     if !value.signed() {
