@@ -12,6 +12,7 @@ returns c =
       kind = c.variable.inside.kind;
       length = c.variable.inside.length;
       signed = c.variable.inside.signed;
+      start = c.variable.inside.start;
       bounds = c.variable.inside.bounds;
     } in
     variable_put c.args.text.now.items c.extend_from_slice.new.self.items c.put_kind.new.text.items c.extend_from_slice-2.new.self.items c.put_number.new.text.items
