@@ -23,7 +23,7 @@ use Rattle.vdesign.specs.declared.design.Kind.{Kind}
 use Rattle.vdesign.specs.declared.design.Kind.TheVariants.{Reg, Integer, Wire}
 use Rattle.vdesign.specs.declared.expression.Bounds.{Bounds}
 use Rattle.vdesign.specs.Expressions.{ExpressionTree}
-use Rattle.velab.specs.Literals.{constant_of}
+use Rattle.velab.specs.Constants.{bound_of}
 use Rattle.velab.specs.Resolved.{resolved, knows_expression}
 use Rattle.velab.specs.Uses.{place_of, is_declared}
 use Rattle.velab.specs.Waits.{any_of, names_in, terms_of, knows_control}
@@ -87,30 +87,6 @@ declarations m = flat_map declarations_of m.items
 
 abbrev pub declared_names : ModuleTree → List Text
 declared_names m = map (λ d. d.name) (declarations m)
-
-abbrev pub is_negative : Vector → Bool
-is_negative value = is_one (sign_letter value)
-
--- 0 to 65535, where the value is known and not negative
-abbrev pub bound_in : Vector → Option ℕ
-bound_in value =
-    cond (is_negative value) None
-    (option_and_then (λ n. cond (nat_le n 65535) (Some n) None) (numbers.number value.letters))
-
--- a bound is a number
-abbrev pub bound_of : text.ExpressionTree → Option ℕ
-bound_of (text.number digits) = bound_in (constant_of digits).value
-bound_of (text.name letters) = None
-bound_of text.time = None
-bound_of (text.bit letters index) = None
-bound_of (text.part letters left right) = None
-bound_of (text.parentheses inner) = None
-bound_of (text.concatenation list) = None
-bound_of (text.replication count list) = None
-bound_of (text.conversion signed operand) = None
-bound_of (text.apply operator operand) = None
-bound_of (text.combine operator left right) = None
-bound_of (text.conditional condition when_true when_false) = None
 
 -- rising or falling
 abbrev pub span : Bounds → ℕ
