@@ -21,7 +21,8 @@ use Rattle.vast.specs.declared.module.ModuleItem.{ModuleItem}
 use Rattle.vast.specs.declared.module.ModuleItem.TheVariants as items
 use Rattle.vast.specs.declared.module.ModuleTree.{ModuleTree}
 use Rattle.vast.specs.declared.module.TextTree.{TextTree}
-use Rattle.velab.specs.Runs.{runs_bound, runs_target, runs_delay, runs_assignment, runs_task, runs_statement, runs_statements, runs_range, runs_kind, runs_value, runs_declared, runs_item, runs_module, runs}
+use Rattle.velab.specs.Constants.{runs_bound}
+use Rattle.velab.specs.Runs.{runs_target, runs_delay, runs_assignment, runs_task, runs_statement, runs_statements, runs_range, runs_kind, runs_value, runs_declared, runs_item, runs_module, runs}
 use Rattle.velab.specs.Resolved.{runs_expression}
 use Rattle.velab.specs.FirstNotRun.{unless_run, first_among, in_expression, in_bound, in_target, in_delay, in_assignment, in_statement, in_row, in_statements, in_range, in_kind, in_declared, in_item, in_items, in_head, in_module, first_not_run, delay_token}
 

@@ -21,7 +21,8 @@ use Rattle.vdesign.specs.declared.design.Kind.{Kind}
 use Rattle.basis.specs.declared.memory.OrMemory.{OrMemory}
 use Rattle.basis.specs.Reasons.{Because, IfFault}
 use Rattle.velab.specs.declared.fault.ElabFault.{ElabFault}
-use Rattle.velab.specs.Elaborate.{is_negative, has_double, has_range, Declaration, declared, all_declared, declarations_of, bounds_of, variable_by, variable_of}
+use Rattle.velab.specs.Constants.{is_negative}
+use Rattle.velab.specs.Elaborate.{has_double, has_range, Declaration, declared, all_declared, declarations_of, bounds_of, variable_by, variable_of}
 use Rattle.velab.specs.Uses.{is_declared}
 use Rattle.velab.specs.Inner.{names_of, names_in, texts_of}
 use Rattle.velab.specs.Inner.{IsBreach, no_breach}

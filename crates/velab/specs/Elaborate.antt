@@ -3,6 +3,7 @@ use Rattle.std.specs.Prelude.{◌≡◌, ◌≤◌, ℕ, ◌+◌, ◌-◌, max, 
 use Rattle.std.specs.List.{list_any, list_all, flat_map, filter_map, find}
 use Rattle.std.specs.Borrow.{Bor}
 use Rattle.std.specs.Str.{bytes_eq}
+use Rattle.vbits.specs.declared.bit4.Bit4.TheVariants.{X}
 use Rattle.vbits.specs.Letters.{is_one}
 use Rattle.vbits.specs.Numbers as numbers
 use Rattle.vbits.specs.Vectors.{Vector, sign_letter}
@@ -19,10 +20,10 @@ use Rattle.vdesign.specs.declared.action.Target.{Target}
 use Rattle.vdesign.specs.declared.action.Target.TheVariants.{Whole}
 use Rattle.basis.specs.declared.timescale.Timescale.{Timescale}
 use Rattle.vdesign.specs.declared.design.Kind.{Kind}
-use Rattle.vdesign.specs.declared.design.Kind.TheVariants.{Reg, Integer}
+use Rattle.vdesign.specs.declared.design.Kind.TheVariants.{Reg, Integer, Wire}
 use Rattle.vdesign.specs.declared.expression.Bounds.{Bounds}
 use Rattle.vdesign.specs.Expressions.{ExpressionTree}
-use Rattle.velab.specs.Literals.{constant_of}
+use Rattle.velab.specs.Constants.{bound_of}
 use Rattle.velab.specs.Resolved.{resolved, knows_expression}
 use Rattle.velab.specs.Uses.{place_of, is_declared}
 use Rattle.velab.specs.Waits.{any_of, names_in, terms_of, knows_control}
@@ -87,30 +88,6 @@ declarations m = flat_map declarations_of m.items
 abbrev pub declared_names : ModuleTree → List Text
 declared_names m = map (λ d. d.name) (declarations m)
 
-abbrev pub is_negative : Vector → Bool
-is_negative value = is_one (sign_letter value)
-
--- 0 to 65535, where the value is known and not negative
-abbrev pub bound_in : Vector → Option ℕ
-bound_in value =
-    cond (is_negative value) None
-    (option_and_then (λ n. cond (nat_le n 65535) (Some n) None) (numbers.number value.letters))
-
--- a bound is a number
-abbrev pub bound_of : text.ExpressionTree → Option ℕ
-bound_of (text.number digits) = bound_in (constant_of digits).value
-bound_of (text.name letters) = None
-bound_of text.time = None
-bound_of (text.bit letters index) = None
-bound_of (text.part letters left right) = None
-bound_of (text.parentheses inner) = None
-bound_of (text.concatenation list) = None
-bound_of (text.replication count list) = None
-bound_of (text.conversion signed operand) = None
-bound_of (text.apply operator operand) = None
-bound_of (text.combine operator left right) = None
-bound_of (text.conditional condition when_true when_false) = None
-
 -- rising or falling
 abbrev pub span : Bounds → ℕ
 span bounds = max bounds.left bounds.right - min bounds.left bounds.right + 1
@@ -142,6 +119,7 @@ abbrev pub length_of : Kind → Option Bounds → ℕ
 length_of kind (Some bounds) = span bounds
 length_of Reg None = 1
 length_of Integer None = 32
+length_of Wire None = 1
 
 -- its name stands behind its module's and a dot
 abbrev pub variable_by : Text → Kind → Bool → Option Bounds → Text → design.Variable
@@ -150,6 +128,7 @@ variable_by top kind signed bounds text = record {
   kind = kind;
   length = length_of kind bounds;
   signed = signed;
+  start = X;
   bounds = bounds;
 }
 

@@ -21,7 +21,8 @@ use Rattle.vast.specs.declared.module.ModuleItem.TheVariants as items
 use Rattle.vast.specs.declared.module.ModuleTree.{ModuleTree}
 use Rattle.vast.specs.declared.module.TextTree.{TextTree}
 use Rattle.velab.specs.Resolved.{runs_expression}
-use Rattle.velab.specs.Runs.{runs_bound, runs_target, runs_delay, runs_task}
+use Rattle.velab.specs.Constants.{runs_bound}
+use Rattle.velab.specs.Runs.{runs_target, runs_delay, runs_task}
 
 -- The tokens that constructs begin with
 

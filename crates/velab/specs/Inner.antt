@@ -29,7 +29,8 @@ use Rattle.velab.specs.Resolved.{knows_expression}
 use Rattle.velab.specs.Uses.{is_declared}
 use Rattle.velab.specs.declared.variable.Form.{Form}
 use Rattle.vdesign.specs.declared.action.Action.{Action}
-use Rattle.velab.specs.Elaborate.{Laid, Processes, has_double, module_names, declarations_of, declared_names, declarations, start_of, statements_of, initials, bound_of, is_range, has_range, knows, knows_all, laid, all_laid, laid_processes, bounds_of, variable_by, variable_of}
+use Rattle.velab.specs.Constants.{bound_of}
+use Rattle.velab.specs.Elaborate.{Laid, Processes, has_double, module_names, declarations_of, declared_names, declarations, start_of, statements_of, initials, is_range, has_range, knows, knows_all, laid, all_laid, laid_processes, bounds_of, variable_by, variable_of}
 
 -- ---- parts of a module
 

@@ -1,5 +1,6 @@
 pub mod Literals
 pub mod Uses
+pub mod Constants
 pub mod Resolved
 pub mod Waits
 pub mod Elaborate
@@ -7,5 +8,6 @@ pub mod Reasons
 pub mod Laws
 pub mod Inner
 pub mod InnerVariables
+pub mod InnerParts
 pub mod Runs
 pub mod FirstNotRun

@@ -1,27 +1,13 @@
 -- What runs of a text today: all else is refused (E299; docs/LANGUAGE.md, "What runs").
 use Rattle.std.specs.Prelude.{Bool, true, false, ◌&&◌, not, is_some, Option, Some, None}
 use Rattle.std.specs.List.{list_all}
-use Rattle.vast.specs.Expressions.{ExpressionTree, number, name, time, bit, part, parentheses, concatenation, replication, conversion, apply, combine, conditional}
+use Rattle.vast.specs.Expressions.{ExpressionTree}
 use Rattle.vast.specs.Statements.{TargetTree, DelayTree, by_number, by_name, by_value, TaskTree, print, dump_file, dump_vars, dump, end_run, StatementTree, StatementTrees, empty, block, assign, nonblocking, trigger, if_true, if_else, case_of, while_true, repeat_times, forever, for_loop, wait_for, delay, event, task, no_statement, first_statement}
 use Rattle.vast.specs.Statements as written
 use Rattle.vast.specs.Modules.{RangeTree, DeclaredTree, DeclarationKind, variables, integers, ItemTree, parameters, declaration, events, assignments, initial, always, instances, ModuleTree, SourceTree}
 use Rattle.vast.specs.declared.module.NetKind.TheVariants as net
+use Rattle.velab.specs.Constants.{runs_bound}
 use Rattle.velab.specs.Resolved.{runs_expression}
-
--- a bound is a number
-abbrev pub runs_bound : ExpressionTree → Bool
-runs_bound (number digits) = true
-runs_bound (name letters) = false
-runs_bound time = false
-runs_bound (bit letters index) = false
-runs_bound (part letters left right) = false
-runs_bound (parentheses inner) = false
-runs_bound (concatenation list) = false
-runs_bound (replication count list) = false
-runs_bound (conversion signed operand) = false
-runs_bound (apply operator operand) = false
-runs_bound (combine operator left right) = false
-runs_bound (conditional condition when_true when_false) = false
 
 -- a whole variable is written
 abbrev pub runs_target : TargetTree → Bool

@@ -36,20 +36,25 @@ any_of names list = map (term_by names Any) list
 
 -- ---- what is read (9.7.5)
 
--- every name in an expression, in the order of the text, as often as it stands there; what isn't run yet reads nothing
-abbrev pub names_in : text.ExpressionTree → List Text
-names_in (text.number digits) = []
-names_in (text.name letters) = letters ∷ []
-names_in text.time = []
-names_in (text.bit letters index) = []
-names_in (text.part letters left right) = []
-names_in (text.parentheses inner) = names_in inner
-names_in (text.concatenation parts) = []
-names_in (text.replication count parts) = []
-names_in (text.conversion signed inner) = names_in inner
-names_in (text.apply operator inner) = names_in inner
-names_in (text.combine operator left right) = names_in left ++ names_in right
-names_in (text.conditional condition when_true when_false) = names_in condition ++ (names_in when_true ++ names_in when_false)
+-- every name in an expression, in the order of the text, as often as it stands there; bounds and counts that run use none
+abbrev mutual
+  pub names_in : text.ExpressionTree → List Text
+  names_in (text.number digits) = []
+  names_in (text.name letters) = letters ∷ []
+  names_in text.time = []
+  names_in (text.bit letters index) = letters ∷ names_in index
+  names_in (text.part letters left right) = letters ∷ []
+  names_in (text.parentheses inner) = names_in inner
+  names_in (text.concatenation parts) = names_in_parts parts
+  names_in (text.replication count parts) = names_in_parts parts
+  names_in (text.conversion signed inner) = names_in inner
+  names_in (text.apply operator inner) = names_in inner
+  names_in (text.combine operator left right) = names_in left ++ names_in right
+  names_in (text.conditional condition when_true when_false) = names_in condition ++ (names_in when_true ++ names_in when_false)
+
+  pub names_in_parts : text.ExpressionTrees → List Text
+  names_in_parts text.none = []
+  names_in_parts (text.first one more) = names_in one ++ names_in_parts more
 
 -- an assignment of either kind reads its right side, and what isn't run yet reads nothing
 abbrev pub read_by_assignment : TargetTree → Option DelayTree → text.ExpressionTree → List Text

@@ -7,6 +7,7 @@ ghost use Rattle.vast.specs.TokenTexts.{token_text};
 ghost use Rattle.vast.specs.ExpressionTrees.{tree_of};
 ghost use Rattle.vast.specs.ModuleTrees.{range_tree, item_tree};
 ghost use Rattle.vexpr_parse.specs.Texts.{words_of};
+ghost use Rattle.velab.specs.Constants as constants;
 ghost use Rattle.velab.specs.Elaborate as spec;
 ghost use Rattle.velab.specs.Elaborate.{has_double, has_range, has_bounds, declared_as, is_range, variable_of, declarations_of, declarations, declared_names, length_of};
 ghost use Rattle.vdesign.specs.declared.design.Kind.TheVariants.{Reg};
@@ -62,7 +63,7 @@ fn is_one(letter: Bit4) -> bool
 }
 
 fn is_negative(value: Vec4) -> bool
-    ensures { result ≡ spec.is_negative value }
+    ensures { result ≡ constants.is_negative value }
 {
     if !value.signed() {
         return false;
@@ -72,7 +73,7 @@ fn is_negative(value: Vec4) -> bool
 
 // The number of a bit that a value gives.
 fn bound_in(value: Vec4) -> Option<u32>
-    ensures value { result ≡ spec.bound_in value }
+    ensures value { result ≡ constants.bound_in value }
     ensures within { IfSome result (λ n. n ≤ 65535) }
 {
     if is_negative(value) {
@@ -86,9 +87,9 @@ fn bound_in(value: Vec4) -> Option<u32>
     }
 }
 
-// The number of a bit that is written, where it is a number.
-fn bound_of(tokens: &Tokens<'_>, bound: &Expression) -> Option<u32>
-    ensures value { result ≡ spec.bound_of (tree_of (words_of tokens.now) bound.now) }
+/// The number of a bit that is written, where it is a number.
+pub fn bound_of(tokens: &Tokens<'_>, bound: &Expression) -> Option<u32>
+    ensures value { result ≡ constants.bound_of (tree_of (words_of tokens.now) bound.now) }
     ensures within { IfSome result (λ n. n ≤ 65535) }
 {
     match bound {
@@ -109,7 +110,7 @@ fn token_of(bound: &Expression) -> Option<u32> {
 // E306 where it isn't 0 to 65,535.
 fn right_bound(tokens: &Tokens<'_>, bound: &Expression) -> Result<u32, OrMemory<ElabFault>>
     ensures ok { IfOk result (λ n.
-        spec.bound_of (tree_of (words_of tokens.now) bound.now) ≡ Some n) }
+        constants.bound_of (tree_of (words_of tokens.now) bound.now) ≡ Some n) }
     ensures within { IfOk result (λ n. n ≤ 65535) }
     ensures err { IfFault result (BreaksBound (tree_of (words_of tokens.now) bound.now)) }
 {
@@ -179,6 +180,7 @@ fn length_of(form: Form) -> u32
         None => match form.kind {
             Kind::Reg => 1,
             Kind::Integer => 32,
+            Kind::Wire => 1,
         },
     }
 }
@@ -203,6 +205,7 @@ fn variable(alloc: Global, scope: &[u8], form: Form, name: &[u8]) -> Result<Vari
         kind: form.kind,
         length: length_of(form),
         signed: form.signed,
+        start: Bit4::X,
         bounds: form.bounds,
     })
 }

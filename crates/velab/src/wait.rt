@@ -3,16 +3,16 @@
 ghost use Rattle.std.specs.Prelude.{◌≡◌, ◌≤◌, [], ◌∷◌, ◌++◌, true, length, map, option_map, IfOk, OnOk};
 ghost use Rattle.std.specs.List.{list_all};
 ghost use Rattle.basis.specs.Reasons.{IfFault};
-ghost use Rattle.vast.specs.ExpressionTrees.{tree_of as text_tree};
+ghost use Rattle.vast.specs.ExpressionTrees.{tree_of as text_tree, trees_of as text_trees};
 ghost use Rattle.vast.specs.TokenTexts.{token_text};
 ghost use Rattle.vast.specs.StatementTrees.{target_tree, delay_tree, further_term, event_tree, statement_tree, statement_trees};
 ghost use Rattle.vexpr_parse.specs.Texts.{words_of};
 ghost use Rattle.vast.specs.Statements.{event as on_event};
 ghost use Rattle.velab.specs.Uses.{is_declared};
-ghost use Rattle.velab.specs.Resolved.{knows_expression};
+ghost use Rattle.velab.specs.Resolved.{knows_expression, knows_parts};
 ghost use Rattle.velab.specs.Elaborate.{knows_assignment, knows_amount};
 ghost use Rattle.velab.specs.Waits as spec;
-ghost use Rattle.velab.specs.Waits.{any_of, names_in, read_by, read_by_all, read_by_assignment, read_by_delay, knows_control, knows_further};
+ghost use Rattle.velab.specs.Waits.{any_of, names_in, names_in_parts, read_by, read_by_all, read_by_assignment, read_by_delay, knows_control, knows_further};
 ghost use Rattle.velab.specs.Inner.{BreaksKnown, BreaksUse, BreaksExpression, BreaksStatement, BreaksStatements};
 
 use crate::expression::number_of;
@@ -56,7 +56,30 @@ fn put_term(
     Ok(())
 }
 
+// Any change of each name in the parts of a concatenation.
+#[cycle(naming)]
+fn put_part_names(
+    names: &Names<'_>,
+    tokens: &Tokens<'_>,
+    parts: &[Value],
+    terms: &mut Vec<Term>,
+) -> Result<(), OrMemory<ElabFault>>
+    requires { length names.now ≤ 1024 }
+    ensures ok { OnOk result (terms.new.items ≡ terms.old.items
+        ++ any_of names.now (names_in_parts (text_trees (words_of tokens.now) parts.now))) }
+    ensures known { OnOk result
+        (knows_parts names.now (text_trees (words_of tokens.now) parts.now) ≡ true) }
+    ensures err { IfFault result
+        (BreaksKnown (knows_parts names.now (text_trees (words_of tokens.now) parts.now))) }
+{
+    for one in parts {
+        put_names(names, tokens, one, terms)?;
+    }
+    Ok(())
+}
+
 // Any change of each name in an expression. E303 where one is no variable's.
+#[cycle(naming)]
 fn put_names(
     names: &Names<'_>,
     tokens: &Tokens<'_>,
@@ -76,10 +99,13 @@ fn put_names(
         Value::Name(word) => put_term(names, tokens, Edge::Any, *word, terms),
         Value::Time { .. } => Ok(()),
         Value::Parentheses(inner) => put_names(names, tokens, inner, terms),
-        Value::Bit { .. } => Ok(()),
-        Value::Part { .. } => Ok(()),
-        Value::Concatenation { .. } => Ok(()),
-        Value::Replication { .. } => Ok(()),
+        Value::Bit { name, index } => {
+            put_term(names, tokens, Edge::Any, *name, terms)?;
+            put_names(names, tokens, index, terms)
+        }
+        Value::Part { name, .. } => put_term(names, tokens, Edge::Any, *name, terms),
+        Value::Concatenation { parts, .. } => put_part_names(names, tokens, parts, terms),
+        Value::Replication { parts, .. } => put_part_names(names, tokens, parts, terms),
         Value::Conversion { operand, .. } => put_names(names, tokens, operand, terms),
         Value::Unary { operand, .. } => put_names(names, tokens, operand, terms),
         Value::Binary { left, right, .. } => {
