@@ -3,6 +3,7 @@ use Rattle.std.specs.Prelude.{◌≡◌, ◌≤◌, ℕ, ◌+◌, ◌-◌, max, 
 use Rattle.std.specs.List.{list_any, list_all, flat_map, filter_map, find}
 use Rattle.std.specs.Borrow.{Bor}
 use Rattle.std.specs.Str.{bytes_eq}
+use Rattle.vbits.specs.declared.bit4.Bit4.TheVariants.{X}
 use Rattle.vbits.specs.Letters.{is_one}
 use Rattle.vbits.specs.Numbers as numbers
 use Rattle.vbits.specs.Vectors.{Vector, sign_letter}
@@ -19,7 +20,7 @@ use Rattle.vdesign.specs.declared.action.Target.{Target}
 use Rattle.vdesign.specs.declared.action.Target.TheVariants.{Whole}
 use Rattle.basis.specs.declared.timescale.Timescale.{Timescale}
 use Rattle.vdesign.specs.declared.design.Kind.{Kind}
-use Rattle.vdesign.specs.declared.design.Kind.TheVariants.{Reg, Integer}
+use Rattle.vdesign.specs.declared.design.Kind.TheVariants.{Reg, Integer, Wire}
 use Rattle.vdesign.specs.declared.expression.Bounds.{Bounds}
 use Rattle.vdesign.specs.Expressions.{ExpressionTree}
 use Rattle.velab.specs.Literals.{constant_of}
@@ -137,19 +138,21 @@ has_range (initial statement) = true
 has_range (always statement) = true
 has_range (instances letters overrides list) = true
 
--- without a range a `reg` has 1 bit, an `integer` 32
+-- without a range a `reg` or a `wire` has 1 bit, an `integer` 32
 abbrev pub length_of : Kind → Option Bounds → ℕ
 length_of kind (Some bounds) = span bounds
 length_of Reg None = 1
 length_of Integer None = 32
+length_of Wire None = 1
 
--- its name stands behind its module's and a dot
+-- its name stands behind its module's and a dot; it is x until it is first written (4.2.2)
 abbrev pub variable_by : Text → Kind → Bool → Option Bounds → Text → design.Variable
 variable_by top kind signed bounds text = record {
   name = top ++ 46 ∷ text;
   kind = kind;
   length = length_of kind bounds;
   signed = signed;
+  start = X;
   bounds = bounds;
 }
 

@@ -179,6 +179,7 @@ fn length_of(form: Form) -> u32
         None => match form.kind {
             Kind::Reg => 1,
             Kind::Integer => 32,
+            Kind::Wire => 1,
         },
     }
 }
@@ -203,6 +204,7 @@ fn variable(alloc: Global, scope: &[u8], form: Form, name: &[u8]) -> Result<Vari
         kind: form.kind,
         length: length_of(form),
         signed: form.signed,
+        start: Bit4::X,
         bounds: form.bounds,
     })
 }
