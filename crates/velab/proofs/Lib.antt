@@ -4,6 +4,7 @@ pub mod VariableLemmas
 pub mod ListLemmas
 pub mod FaultLemmas
 pub mod StatementLemmas
+pub mod BranchLemmas
 pub mod TopLemmas
 mod WaitLemmas
 mod ProcessLemmas
