@@ -5,6 +5,7 @@ pub mod ListLemmas
 pub mod FaultLemmas
 pub mod StatementLemmas
 pub mod PartLemmas
+pub mod BranchLemmas
 pub mod TopLemmas
 mod WaitLemmas
 mod ProcessLemmas

@@ -5,13 +5,15 @@ use Rattle.std.proofs.Common.{◌≡◌, ℕ, Bool, true, false, ◌&&◌, not, 
 use Rattle.std.specs.Prelude.{Box}
 use Rattle.std.specs.List.{list_all}
 use Rattle.vast.specs.Words.{Text}
-use Rattle.vast.specs.ExpressionTrees.{tree_of, boxed_tree}
-use Rattle.vast.specs.StatementTrees.{target_tree, delay_tree, task_tree, statement_tree, statement_row}
+use Rattle.vast.specs.ExpressionTrees.{tree_of, trees_of, boxed_tree}
+use Rattle.vast.specs.StatementTrees.{target_tree, delay_tree, task_tree, statement_tree, statement_row, branch_tree, branch_row}
 use Rattle.vast.specs.ModuleTrees.{range_tree, declaration_kind, declared_tree, item_tree, module_tree, source_tree}
 use Rattle.vast.specs.declared.expression.Expression.{Expression}
 use Rattle.vast.specs.declared.statement.Target.{Target}
 use Rattle.vast.specs.declared.statement.Delay.{Delay}
-use Rattle.vast.specs.declared.statement.Statement.{Statement, Block, Empty, Block', Assign, Nonblocking, Trigger, If', IfElse', Case', While', Repeat', Forever', For', Wait', Delayed', OnEvent', Task as Call, Row_of-Statement, end_of-Statement, more_of-Statement, items-the_row-Statement, items_hidden-the_row-Statement-0}
+use Rattle.vast.specs.declared.statement.Statement.{Statement, Block, Case, Empty, Block', Assign, Nonblocking, Trigger, If', IfElse', Case', While', Repeat', Forever', For', Wait', Delayed', OnEvent', Task as Call, Row_of-Statement, end_of-Statement, more_of-Statement, items-the_row-Statement, items_hidden-the_row-Statement-0, Row_of-Branch, end_of-Branch, more_of-Branch, items-the_row-Branch, items_hidden-the_row-Branch-1}
+use Rattle.vast.specs.declared.statement.Branch.{Branch, Labelled, Default}
+use Rattle.vast.specs.declared.statement.CaseKind.{CaseKind}
 use Rattle.vast.specs.declared.module.NetKind.TheVariants as net
 use Rattle.vast.specs.declared.module.Bounds.{Bounds}
 use Rattle.vast.specs.declared.module.DeclarationKind.{DeclarationKind}
@@ -22,9 +24,9 @@ use Rattle.vast.specs.declared.module.ModuleItem.TheVariants as items
 use Rattle.vast.specs.declared.module.ModuleTree.{ModuleTree}
 use Rattle.vast.specs.declared.module.TextTree.{TextTree}
 use Rattle.velab.specs.Constants.{runs_bound}
-use Rattle.velab.specs.Runs.{runs_target, runs_delay, runs_assignment, runs_task, runs_statement, runs_statements, runs_range, runs_kind, runs_value, runs_declared, runs_item, runs_module, runs}
+use Rattle.velab.specs.Runs.{runs_target, runs_delay, runs_assignment, runs_task, runs_statement, runs_statements, runs_range, runs_kind, runs_value, runs_declared, runs_item, runs_module, runs, runs_items, runs_branch, runs_branches}
 use Rattle.velab.specs.Resolved.{runs_expression}
-use Rattle.velab.specs.FirstNotRun.{unless_run, first_among, in_expression, in_bound, in_target, in_delay, in_assignment, in_statement, in_row, in_statements, in_range, in_kind, in_declared, in_item, in_items, in_head, in_module, first_not_run, delay_token}
+use Rattle.velab.specs.FirstNotRun.{unless_run, first_among, in_expression, in_bound, in_target, in_delay, in_assignment, in_labels, in_statement, in_row, in_branch, in_branch_row, in_statements, in_branches, in_range, in_kind, in_declared, in_item, in_items, in_head, in_module, first_not_run, delay_token}
 
 -- ---- a list is looked through from its start
 
@@ -37,6 +39,10 @@ abbrev row_of : Statement → (n : Count) × Row_of-Statement n
 row_of (Block' shape row) = (_, row)
 row_of _ = (_, end_of-Statement)
 
+abbrev branches_of : Statement → (n : Count) × Row_of-Branch n
+branches_of (Case' at kind value shape row) = (_, row)
+branches_of _ = (_, end_of-Branch)
+
 module _ (words : List Text) where
   in_whole_row : (n : _) (row : Row_of-Statement n) → in_row words row ≡ in_statements words (items-the_row-Statement n row)
   in_whole_row n end_of-Statement = refl
@@ -46,6 +52,17 @@ module _ (words : List Text) where
   in_block statements =
       let row = row_of (Block statements) in
       in_whole_row row.0 row.1 ∙ ap (in_statements words) (items_hidden-the_row-Statement-0 statements)
+
+  in_whole_branches : (n : _) (row : Row_of-Branch n) → in_branch_row words row ≡ in_branches words (items-the_row-Branch n row)
+  in_whole_branches n end_of-Branch = refl
+  in_whole_branches n (more_of-Branch one more) = ap (option_or (in_branch words one)) (in_whole_branches _ more)
+
+  pub in_whole_case : (at : ℕ) (kind : CaseKind) (value : Box Expression Global) (branches : Vec Branch Global) →
+      in_statement words (Case at kind value branches) ≡ option_or (in_expression words value.value) (in_branches words branches.items)
+  in_whole_case at kind value branches =
+      let row = branches_of (Case at kind value branches) in
+      ap (option_or (in_expression words value.value))
+      (in_whole_branches row.0 row.1 ∙ ap (in_branches words) (items_hidden-the_row-Branch-1 branches))
 
 -- ---- where and whether
 
@@ -78,6 +95,12 @@ module _ (words : List Text) where
   assignment target (Some amount) value =
       either (in_target words target) (Some (delay_token amount)) (runs_target (target_tree words target)) false (unless _ _) refl
 
+  labels : (list : List Expression) → is_some (in_labels words list) ≡ not (runs_items (trees_of words list))
+  labels [] = refl
+  labels (one ∷ more) =
+      either (in_expression words one) (in_labels words more) (runs_expression (tree_of words one)) (runs_items (trees_of words more))
+      (unless _ _) (labels more)
+
   mutual
     statement : (s : Statement) → is_some (in_statement words s) ≡ not (runs_statement (statement_tree words s))
     statement Empty = refl
@@ -94,11 +117,15 @@ module _ (words : List Text) where
         (unless _ _)
         (either (in_statement words body) (in_statement words other) (runs_statement (statement_tree words body))
         (runs_statement (statement_tree words other)) (statement body) (statement other))
-    statement (Case' at kind value shape row) = refl
+    statement (Case' at kind value shape row) =
+        either (in_expression words value.value) (in_branch_row words row) (runs_expression (tree_of words value.value))
+        (runs_branches (branch_row words row)) (unless _ _) (branches_run row)
     statement (While' at condition place body) =
         either (in_expression words condition.value) (in_statement words body) (runs_expression (tree_of words condition.value))
         (runs_statement (statement_tree words body)) (unless _ _) (statement body)
-    statement (Repeat' at count place body) = refl
+    statement (Repeat' at count place body) =
+        either (in_expression words count.value) (in_statement words body) (runs_expression (tree_of words count.value))
+        (runs_statement (statement_tree words body)) (unless _ _) (statement body)
     statement (Forever' at place body) = statement body
     statement (For' at target value condition next_target next_value place body) =
         let first = in_assignment words target None value.value in
@@ -127,6 +154,18 @@ module _ (words : List Text) where
     row_runs (more_of-Statement one more) =
         either (in_statement words one) (in_row words more) (runs_statement (statement_tree words one)) (runs_statements (statement_row words more))
         (statement one) (row_runs more)
+
+    branch : (b : Branch) → is_some (in_branch words b) ≡ not (runs_branch (branch_tree words b))
+    branch (Labelled list body) =
+        either (in_labels words list.items) (in_statement words body) (runs_items (trees_of words list.items))
+        (runs_statement (statement_tree words body)) (labels list.items) (statement body)
+    branch (Default colon body) = statement body
+
+    branches_run : {m : _} (row : Row_of-Branch m) → is_some (in_branch_row words row) ≡ not (runs_branches (branch_row words row))
+    branches_run end_of-Branch = refl
+    branches_run (more_of-Branch one more) =
+        either (in_branch words one) (in_branch_row words more) (runs_branch (branch_tree words one)) (runs_branches (branch_row words more))
+        (branch one) (branches_run more)
 
   range : (r : Option Bounds) → is_some (in_range words r) ≡ not (runs_range (option_map (range_tree words) r))
   range None = refl

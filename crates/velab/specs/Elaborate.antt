@@ -9,13 +9,14 @@ use Rattle.vbits.specs.Numbers as numbers
 use Rattle.vbits.specs.Vectors.{Vector, sign_letter}
 use Rattle.vast.specs.Words.{Text}
 use Rattle.vast.specs.Expressions as text
-use Rattle.vast.specs.Statements.{TargetTree, DelayTree, by_number, by_name, by_value, TaskTree, print, dump_file, dump_vars, dump, end_run, SelectionTree, StatementTree, StatementTrees, empty, block, assign, nonblocking, trigger, if_true, if_else, case_of, while_true, repeat_times, forever, for_loop, wait_for, delay, event, task, no_statement, first_statement}
+use Rattle.vast.specs.Statements.{TargetTree, DelayTree, by_number, by_name, by_value, TaskTree, print, dump_file, dump_vars, dump, end_run, SelectionTree, StatementTree, StatementTrees, empty, block, assign, nonblocking, trigger, if_true, if_else, case_of, while_true, repeat_times, forever, for_loop, wait_for, delay, event, task, no_statement, first_statement, BranchTree, BranchTrees, labelled, default, no_branch, first_branch}
 use Rattle.vast.specs.Statements as written
 use Rattle.vast.specs.Modules.{RangeTree, DeclarationKind, variables, integers, DeclaredTree, ItemTree, parameters, declaration, events, assignments, initial, always, instances, ModuleTree, SourceTree}
 use Rattle.vast.specs.declared.module.NetKind.TheVariants as net
 use Rattle.vdesign.specs.Design as design
 use Rattle.vdesign.specs.declared.action.Action.{Action}
-use Rattle.vdesign.specs.declared.action.Action.TheVariants.{Assign, Nonblocking, Test, Again, Forever, Delay, On, Until, DumpVars, Finish, Stop}
+use Rattle.vdesign.specs.declared.action.Action.TheVariants.{Assign, Nonblocking, Test, Case, Again, Repeat, Forever, Delay, On, Until, DumpVars, Finish, Stop}
+use Rattle.vdesign.specs.declared.action.Branch.{Branch}
 use Rattle.vdesign.specs.declared.action.Target.{Target}
 use Rattle.vdesign.specs.declared.action.Target.TheVariants.{Whole}
 use Rattle.basis.specs.declared.timescale.Timescale.{Timescale}
@@ -114,14 +115,14 @@ has_range (initial statement) = true
 has_range (always statement) = true
 has_range (instances letters overrides list) = true
 
--- without a range a `reg` has 1 bit, an `integer` 32
+-- without a range a `reg` or a `wire` has 1 bit, an `integer` 32
 abbrev pub length_of : Kind → Option Bounds → ℕ
 length_of kind (Some bounds) = span bounds
 length_of Reg None = 1
 length_of Integer None = 32
 length_of Wire None = 1
 
--- its name stands behind its module's and a dot
+-- its name stands behind its module's and a dot; it is x until it is first written (4.2.2)
 abbrev pub variable_by : Text → Kind → Bool → Option Bounds → Text → design.Variable
 variable_by top kind signed bounds text = record {
   name = top ++ 46 ∷ text;
@@ -180,6 +181,17 @@ laid_task table (dump_vars selection) = laid_dump table selection
 laid_task table (dump kind) = nothing_laid table
 laid_task table (end_run stops digits) = placed table (ending stops)
 
+-- the table of actions so far, with what the branches of a `case` add to it: the branches, and the places of the `default`
+pub record LaidBranches : Type 0 where
+  pub table : List Action
+  pub branches : List Branch
+  pub otherwise : List ℕ
+
+-- 9.5: each item in front of a statement is a branch of its own with the same places
+abbrev pub branches_by : List Text → List ℕ → text.ExpressionTrees → List Branch
+branches_by names places text.none = []
+branches_by names places (text.first item more) = record { item = resolved names item; body = places } ∷ branches_by names places more
+
 -- a statement behind what the table has: `begin`, `end` and `;` are no action, what stands inside is laid first, and what isn't
 -- run yet lays nothing
 abbrev mutual
@@ -195,10 +207,13 @@ abbrev mutual
       let one = laid names table body in
       let two = laid names one.table other in
       placed two.table (Test (resolved names condition) one.places two.places)
-  laid names table (case_of kind value branches) = nothing_laid table
+  laid names table (case_of kind value branches) =  -- 9.5
+      let inner = laid_branches names table branches in
+      placed inner.table (Case kind (resolved names value) inner.branches inner.otherwise)
   laid names table (while_true condition body) =
       let inner = laid names table body in placed inner.table (Again (resolved names condition) inner.places)
-  laid names table (repeat_times count body) = nothing_laid table
+  laid names table (repeat_times count body) =
+      let inner = laid names table body in placed inner.table (Repeat (resolved names count) inner.places)
   laid names table (forever body) =
       let inner = laid names table body in placed inner.table (Forever inner.places)
   laid names table (for_loop target value condition next_target next_value body) =
@@ -222,6 +237,25 @@ abbrev mutual
       let front = laid names table statement in
       let behind = all_laid names front.table rest in
       record { table = behind.table; places = front.places ++ behind.places }
+
+  pub laid_branch : List Text → List Action → BranchTree → LaidBranches
+  laid_branch names table (labelled items body) =
+      let inner = laid names table body in
+      record { table = inner.table; branches = branches_by names inner.places items; otherwise = [] }
+  laid_branch names table (default colon body) =
+      let inner = laid names table body in record { table = inner.table; branches = []; otherwise = inner.places }
+
+  -- the `default` may stand anywhere among them; a case has one at most
+  pub laid_branches : List Text → List Action → BranchTrees → LaidBranches
+  laid_branches names table no_branch = record { table = table; branches = []; otherwise = [] }
+  laid_branches names table (first_branch branch rest) =
+      let front = laid_branch names table branch in
+      let behind = laid_branches names front.table rest in
+      record {
+        table = behind.table;
+        branches = front.branches ++ behind.branches;
+        otherwise = front.otherwise ++ behind.otherwise;
+      }
 
 -- the table of several processes, and where each of them begins
 pub record Processes : Type 0 where
@@ -247,6 +281,11 @@ knows_amount names (by_number digits) = true
 knows_amount names (by_name letters) = is_declared names letters
 knows_amount names (by_value amount) = knows_expression names amount
 
+-- the items in front of one statement of a `case`
+abbrev pub knows_items : List Text → text.ExpressionTrees → Bool
+knows_items names text.none = true
+knows_items names (text.first item more) = knows_expression names item && knows_items names more
+
 -- whether each name in a statement is declared, before it or after it; what isn't run yet uses none
 abbrev mutual
   pub knows : List Text → StatementTree → Bool
@@ -257,9 +296,9 @@ abbrev mutual
   knows names (trigger letters) = true
   knows names (if_true condition body) = knows_expression names condition && knows names body
   knows names (if_else condition body other) = knows_expression names condition && (knows names body && knows names other)
-  knows names (case_of kind value branches) = true
+  knows names (case_of kind value branches) = knows_expression names value && knows_branches names branches
   knows names (while_true condition body) = knows_expression names condition && knows names body
-  knows names (repeat_times count body) = true
+  knows names (repeat_times count body) = knows_expression names count && knows names body
   knows names (forever body) = knows names body
   knows names (for_loop target value condition next_target next_value body) =
       knows_assignment names target None value
@@ -272,6 +311,14 @@ abbrev mutual
   pub knows_all : List Text → StatementTrees → Bool
   knows_all names no_statement = true
   knows_all names (first_statement statement rest) = knows names statement && knows_all names rest
+
+  pub knows_branch : List Text → BranchTree → Bool
+  knows_branch names (labelled items body) = knows_items names items && knows names body
+  knows_branch names (default colon body) = knows names body
+
+  pub knows_branches : List Text → BranchTrees → Bool
+  knows_branches names no_branch = true
+  knows_branches names (first_branch branch rest) = knows_branch names branch && knows_branches names rest
 
 -- 6.2.1: `reg a = e` is an `initial a = e` at its place
 abbrev pub start_of : DeclaredTree → Option StatementTree

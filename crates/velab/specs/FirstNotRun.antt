@@ -10,7 +10,8 @@ use Rattle.vast.specs.declared.statement.Target.{Target, Whole, Bit, Part, Joine
 use Rattle.vast.specs.declared.statement.Delay.{Delay}
 use Rattle.vast.specs.declared.statement.Delay.TheVariants as delays
 use Rattle.vast.specs.declared.statement.Task.{Task}
-use Rattle.vast.specs.declared.statement.Statement.{Statement, Empty, Block', Assign, Nonblocking, Trigger, If', IfElse', Case', While', Repeat', Forever', For', Wait', Delayed', OnEvent', Task as Call, Row_of-Statement, end_of-Statement, more_of-Statement}
+use Rattle.vast.specs.declared.statement.Statement.{Statement, Empty, Block', Assign, Nonblocking, Trigger, If', IfElse', Case', While', Repeat', Forever', For', Wait', Delayed', OnEvent', Task as Call, Row_of-Statement, end_of-Statement, more_of-Statement, Row_of-Branch, end_of-Branch, more_of-Branch}
+use Rattle.vast.specs.declared.statement.Branch.{Branch, Labelled, Default}
 use Rattle.vast.specs.declared.module.NetKind.TheVariants as net
 use Rattle.vast.specs.declared.module.Bounds.{Bounds}
 use Rattle.vast.specs.declared.module.DeclarationKind.{DeclarationKind}
@@ -82,6 +83,10 @@ module _ (words : List Text) where
   in_assignment target amount value =
       option_or (in_target target) (option_or (option_map delay_token amount) (in_expression value))
 
+  -- the items in front of one statement of a `case`
+  abbrev pub in_labels : List Expression → Option ℕ
+  in_labels list = first_among in_expression list
+
   abbrev mutual
     pub in_statement : Statement → Option ℕ
     in_statement Empty = None
@@ -92,9 +97,9 @@ module _ (words : List Text) where
     in_statement (If' at condition place body) = option_or (in_expression condition.value) (in_statement body)
     in_statement (IfElse' at condition place body place_too other) =
         option_or (in_expression condition.value) (option_or (in_statement body) (in_statement other))
-    in_statement (Case' at kind value shape row) = Some at
+    in_statement (Case' at kind value shape row) = option_or (in_expression value.value) (in_branch_row row)
     in_statement (While' at condition place body) = option_or (in_expression condition.value) (in_statement body)
-    in_statement (Repeat' at count place body) = Some at
+    in_statement (Repeat' at count place body) = option_or (in_expression count.value) (in_statement body)
     in_statement (Forever' at place body) = in_statement body
     in_statement (For' at target value condition next_target next_value place body) =
         option_or (in_assignment target None value.value)
@@ -109,8 +114,19 @@ module _ (words : List Text) where
     in_row end_of-Statement = None
     in_row (more_of-Statement one more) = option_or (in_statement one) (in_row more)
 
+    pub in_branch : Branch → Option ℕ
+    in_branch (Labelled labels body) = option_or (in_labels labels.items) (in_statement body)
+    in_branch (Default colon body) = in_statement body
+
+    pub in_branch_row : {m : _} → Row_of-Branch m → Option ℕ
+    in_branch_row end_of-Branch = None
+    in_branch_row (more_of-Branch one more) = option_or (in_branch one) (in_branch_row more)
+
   abbrev pub in_statements : List Statement → Option ℕ
   in_statements list = first_among in_statement list
+
+  abbrev pub in_branches : List Branch → Option ℕ
+  in_branches list = first_among in_branch list
 
   abbrev pub in_bounds : Bounds → Option ℕ
   in_bounds bounds = option_or (in_bound bounds.left.value) (in_bound bounds.right.value)

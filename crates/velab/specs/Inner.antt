@@ -8,9 +8,9 @@ use Rattle.vdesign.specs.Design as design
 use Rattle.vlex.specs.Bytes.{is_underscore}
 use Rattle.vast.specs.Words.{Text}
 use Rattle.vast.specs.TokenTexts.{token_text}
-use Rattle.vast.specs.Expressions.{ExpressionTree}
-use Rattle.vast.specs.Statements.{StatementTree, StatementTrees}
-use Rattle.vast.specs.StatementTrees.{statement_tree, statement_trees}
+use Rattle.vast.specs.Expressions.{ExpressionTree, ExpressionTrees}
+use Rattle.vast.specs.Statements.{StatementTree, StatementTrees, BranchTree, BranchTrees}
+use Rattle.vast.specs.StatementTrees.{statement_tree, statement_trees, branch_tree, branch_trees}
 use Rattle.vast.specs.Modules.{RangeTree, ItemTree, declaration, variables, integers, ModuleTree, SourceTree}
 use Rattle.vast.specs.ModuleTrees.{module_tree, range_tree, type_tree, declaration_kind, declared_tree, item_tree}
 use Rattle.vast.specs.declared.module.DeclarationKind.{DeclarationKind as DeclarationWords}
@@ -18,6 +18,7 @@ use Rattle.vast.specs.declared.module.NetKind.{NetKind}
 use Rattle.vast.specs.declared.module.NetKind.TheVariants.{Reg}
 use Rattle.vast.specs.declared.module.SignAndRange.{SignAndRange}
 use Rattle.vast.specs.declared.statement.Statement.{Statement}
+use Rattle.vast.specs.declared.statement.Branch.{Branch as WrittenBranch}
 use Rattle.vast.specs.declared.module.ModuleTree.{ModuleTree as Parsed}
 use Rattle.vast.specs.declared.module.ModuleItem.{ModuleItem}
 use Rattle.vast.specs.declared.module.Declared.{Declared}
@@ -30,7 +31,8 @@ use Rattle.velab.specs.Uses.{is_declared}
 use Rattle.velab.specs.declared.variable.Form.{Form}
 use Rattle.vdesign.specs.declared.action.Action.{Action}
 use Rattle.velab.specs.Constants.{bound_of}
-use Rattle.velab.specs.Elaborate.{Laid, Processes, has_double, module_names, declarations_of, declared_names, declarations, start_of, statements_of, initials, is_range, has_range, knows, knows_all, laid, all_laid, laid_processes, bounds_of, variable_by, variable_of}
+use Rattle.velab.specs.Elaborate.{Laid, Processes, has_double, module_names, declarations_of, declared_names, declarations, start_of, statements_of, initials, is_range, has_range, knows, knows_all, laid, all_laid, laid_processes, bounds_of, variable_by, variable_of, LaidBranches, knows_items, knows_branch, knows_branches, laid_branch, laid_branches}
+use Rattle.vdesign.specs.declared.action.Branch.{Branch}
 
 -- ---- parts of a module
 
@@ -45,6 +47,12 @@ names_in items = map (λ d. d.name) (flat_map declarations_of items)
 pub record IsLaid (what : Laid) (before : List ℕ) (table_after : List Action) (places_after : List ℕ) : Type 0 where
   pub table : table_after ≡ what.table
   pub places : places_after ≡ before ++ what.places
+
+-- the same of the branches of a `case`, and of its `default`
+pub record AreBranches (what : LaidBranches) (before : List Branch) (default_before : List ℕ) (table_after : List Action) (after : List Branch) (default_after : List ℕ) : Type 0 where
+  pub table : table_after ≡ what.table
+  pub branches : after ≡ before ++ what.branches
+  pub otherwise : default_after ≡ default_before ++ what.otherwise
 
 -- the same of processes
 pub record AreLaid (what : Processes) (before : List (List ℕ)) (table_after : List Action) (begins_after : List (List ℕ)) : Type 0 where
@@ -138,6 +146,15 @@ BreaksStatement names statement = IsBreach (record no_breach { unknown = knows n
 abbrev pub BreaksStatements : List Text → StatementTrees → ElabFault → Type 0
 BreaksStatements names statements = IsBreach (record no_breach { unknown = knows_all names statements ≡ false })
 
+abbrev pub BreaksLabels : List Text → ExpressionTrees → ElabFault → Type 0
+BreaksLabels names items = IsBreach (record no_breach { unknown = knows_items names items ≡ false })
+
+abbrev pub BreaksBranch : List Text → BranchTree → ElabFault → Type 0
+BreaksBranch names branch = IsBreach (record no_breach { unknown = knows_branch names branch ≡ false })
+
+abbrev pub BreaksBranches : List Text → BranchTrees → ElabFault → Type 0
+BreaksBranches names branches = IsBreach (record no_breach { unknown = knows_branches names branches ≡ false })
+
 abbrev pub BreaksKnown : Bool → ElabFault → Type 0
 BreaksKnown known = IsBreach (record no_breach { unknown = known ≡ false })
 
@@ -173,6 +190,12 @@ laid_of words names table statement = laid names table (statement_tree words sta
 abbrev pub all_laid_of : List Text → List Text → List Action → List Statement → Laid
 all_laid_of words names table statements = all_laid names table (statement_trees words statements)
 
+abbrev pub branch_laid_of : List Text → List Text → List Action → WrittenBranch → LaidBranches
+branch_laid_of words names table branch = laid_branch names table (branch_tree words branch)
+
+abbrev pub branches_laid_of : List Text → List Text → List Action → List WrittenBranch → LaidBranches
+branches_laid_of words names table branches = laid_branches names table (branch_trees words branches)
+
 abbrev pub laid_of_item : List Text → List Text → List Action → ModuleItem → Processes
 laid_of_item words names table item = laid_processes names table (statements_of (item_tree words item))
 
@@ -190,6 +213,9 @@ processes_of words names items = laid_processes names [] (initials_in words item
 -- where there was no fault, these were laid
 abbrev pub HasLaid : {A B T E : Type 0} → Result T E → Laid → Vec ℕ A → List Action → Vec ℕ B → Type 0
 HasLaid result what before table after = OnOk result (IsLaid what before.items table after.items)
+
+abbrev pub HasBranches : {A B C D T E : Type 0} → Result T E → LaidBranches → Vec Branch A → Vec ℕ B → List Action → Vec Branch C → Vec ℕ D → Type 0
+HasBranches result what before default_before table after default_after = OnOk result (AreBranches what before.items default_before.items table after.items default_after.items)
 
 abbrev pub HaveLaid : {A B T E : Type 0} → Result T E → Processes → Vec (List ℕ) A → List Action → Vec (List ℕ) B → Type 0
 HaveLaid result what before table after = OnOk result (AreLaid what before.items table after.items)

@@ -2,7 +2,8 @@
 use Rattle.std.specs.Prelude.{Bool, true, false, ◌&&◌, not, is_some, Option, Some, None}
 use Rattle.std.specs.List.{list_all}
 use Rattle.vast.specs.Expressions.{ExpressionTree}
-use Rattle.vast.specs.Statements.{TargetTree, DelayTree, by_number, by_name, by_value, TaskTree, print, dump_file, dump_vars, dump, end_run, StatementTree, StatementTrees, empty, block, assign, nonblocking, trigger, if_true, if_else, case_of, while_true, repeat_times, forever, for_loop, wait_for, delay, event, task, no_statement, first_statement}
+use Rattle.vast.specs.Statements.{TargetTree, DelayTree, by_number, by_name, by_value, TaskTree, print, dump_file, dump_vars, dump, end_run, StatementTree, StatementTrees, empty, block, assign, nonblocking, trigger, if_true, if_else, case_of, while_true, repeat_times, forever, for_loop, wait_for, delay, event, task, no_statement, first_statement, BranchTree, BranchTrees, labelled, default, no_branch, first_branch}
+use Rattle.vast.specs.Expressions as text
 use Rattle.vast.specs.Statements as written
 use Rattle.vast.specs.Modules.{RangeTree, DeclaredTree, DeclarationKind, variables, integers, ItemTree, parameters, declaration, events, assignments, initial, always, instances, ModuleTree, SourceTree}
 use Rattle.vast.specs.declared.module.NetKind.TheVariants as net
@@ -32,6 +33,11 @@ runs_task (dump_vars selection) = not (is_some selection)
 runs_task (dump kind) = false
 runs_task (end_run stops digits) = true
 
+-- the items in front of one statement of a `case`
+abbrev pub runs_items : text.ExpressionTrees → Bool
+runs_items text.none = true
+runs_items (text.first one more) = runs_expression one && runs_items more
+
 abbrev mutual
   pub runs_statement : StatementTree → Bool
   runs_statement empty = true
@@ -41,9 +47,9 @@ abbrev mutual
   runs_statement (trigger letters) = false
   runs_statement (if_true condition body) = runs_expression condition && runs_statement body
   runs_statement (if_else condition body other) = runs_expression condition && (runs_statement body && runs_statement other)
-  runs_statement (case_of kind value branches) = false
+  runs_statement (case_of kind value branches) = runs_expression value && runs_branches branches
   runs_statement (while_true condition body) = runs_expression condition && runs_statement body
-  runs_statement (repeat_times count body) = false
+  runs_statement (repeat_times count body) = runs_expression count && runs_statement body
   runs_statement (forever body) = runs_statement body
   runs_statement (for_loop target value condition next_target next_value body) =
       runs_assignment target None value
@@ -56,6 +62,14 @@ abbrev mutual
   pub runs_statements : StatementTrees → Bool
   runs_statements no_statement = true
   runs_statements (first_statement one more) = runs_statement one && runs_statements more
+
+  pub runs_branch : BranchTree → Bool
+  runs_branch (labelled items body) = runs_items items && runs_statement body
+  runs_branch (default colon body) = runs_statement body
+
+  pub runs_branches : BranchTrees → Bool
+  runs_branches no_branch = true
+  runs_branches (first_branch one more) = runs_branch one && runs_branches more
 
 abbrev pub runs_range : Option RangeTree → Bool
 runs_range None = true

@@ -3,7 +3,7 @@ use Rattle.std.specs.Prelude.{Bool, true, ◌&&◌, List, [], ◌∷◌, ◌++�
 use Rattle.std.specs.List.{list_all}
 use Rattle.vast.specs.Words.{Text}
 use Rattle.vast.specs.Expressions as text
-use Rattle.vast.specs.Statements.{TargetTree, DelayTree, by_number, by_name, by_value, TermTree, FurtherTerm, EventTree, by_event, by_any, by_any_enclosed, by_terms, StatementTree, StatementTrees, empty, block, assign, nonblocking, trigger, if_true, if_else, case_of, while_true, repeat_times, forever, for_loop, wait_for, delay, event, task, no_statement, first_statement}
+use Rattle.vast.specs.Statements.{TargetTree, DelayTree, by_number, by_name, by_value, TermTree, FurtherTerm, EventTree, by_event, by_any, by_any_enclosed, by_terms, StatementTree, StatementTrees, empty, block, assign, nonblocking, trigger, if_true, if_else, case_of, while_true, repeat_times, forever, for_loop, wait_for, delay, event, task, no_statement, first_statement, BranchTree, BranchTrees, labelled, default, no_branch, first_branch}
 use Rattle.vast.specs.Statements as written
 use Rattle.vast.specs.declared.statement.Edge.{Edge as WrittenEdge}
 use Rattle.vast.specs.declared.statement.Edge.TheVariants.{Rising, Falling}
@@ -69,6 +69,11 @@ read_by_delay (by_number digits) = []
 read_by_delay (by_name letters) = letters ∷ []
 read_by_delay (by_value amount) = names_in amount
 
+-- the items in front of one statement of a `case`
+abbrev pub read_by_items : text.ExpressionTrees → List Text
+read_by_items text.none = []
+read_by_items (text.first item more) = names_in item ++ read_by_items more
+
 -- The names that a statement reads, in the order of the text. The terms of an event control and the condition of a `wait` in it
 -- aren't read; the statements behind them are. What isn't run yet reads nothing.
 abbrev mutual
@@ -80,9 +85,9 @@ abbrev mutual
   read_by (trigger letters) = []
   read_by (if_true condition body) = names_in condition ++ read_by body
   read_by (if_else condition body other) = names_in condition ++ (read_by body ++ read_by other)
-  read_by (case_of kind value branches) = []
+  read_by (case_of kind value branches) = names_in value ++ read_by_branches branches
   read_by (while_true condition body) = names_in condition ++ read_by body
-  read_by (repeat_times count body) = []
+  read_by (repeat_times count body) = names_in count ++ read_by body
   read_by (forever body) = read_by body
   read_by (for_loop target value condition next_target next_value body) =
       read_by_assignment target None value ++ (names_in condition ++ (read_by_assignment next_target None next_value ++ read_by body))
@@ -94,6 +99,14 @@ abbrev mutual
   pub read_by_all : StatementTrees → List Text
   read_by_all no_statement = []
   read_by_all (first_statement statement rest) = read_by statement ++ read_by_all rest
+
+  pub read_by_branch : BranchTree → List Text
+  read_by_branch (labelled items body) = read_by_items items ++ read_by body
+  read_by_branch (default colon body) = read_by body
+
+  pub read_by_branches : BranchTrees → List Text
+  read_by_branches no_branch = []
+  read_by_branches (first_branch branch rest) = read_by_branch branch ++ read_by_branches rest
 
 -- ---- event controls
 

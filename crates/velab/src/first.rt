@@ -1,6 +1,7 @@
 // Where what isn't run yet begins in a text (E299).
 
 ghost use Rattle.std.specs.Prelude.{◌≡◌, List, is_some, not};
+ghost use Rattle.std.specs.Option.{option_or};
 ghost use Rattle.vast.specs.Words.{Text};
 ghost use Rattle.vast.specs.ModuleTrees.{source_tree};
 ghost use Rattle.vexpr_parse.specs.Texts.{words_of};
@@ -10,7 +11,7 @@ ghost use Rattle.velab.specs.FirstNotRun as place;
 use crate::expression::runs_expression;
 use vast::expression::Expression;
 use vast::module::{Bounds, DeclarationKind, Declared, ModuleItem, ModuleTree, NetKind, TextTree};
-use vast::statement::{Delay, Statement, Target, Task};
+use vast::statement::{Branch, Delay, Statement, Target, Task};
 use vlex::Tokens;
 
 // The number of the first token that an expression keeps.
@@ -116,6 +117,18 @@ fn in_assignment(
     in_expression(tokens, value)
 }
 
+// The items in front of a statement of a `case`.
+fn in_labels(tokens: &Tokens<'_>, list: &[Expression]) -> Option<u32>
+    ensures { result ≡ place.in_labels (words_of tokens.now) list.now }
+{
+    for one in list {
+        if let Some(at) = in_expression(tokens, one) {
+            return Some(at);
+        }
+    }
+    None
+}
+
 #[cycle(looking)]
 fn in_statement(tokens: &Tokens<'_>, whole: &Statement) -> Option<u32>
     ensures { result ≡ place.in_statement (words_of tokens.now) whole.now }
@@ -161,7 +174,11 @@ fn in_statement(tokens: &Tokens<'_>, whole: &Statement) -> Option<u32>
                 None => in_statement(tokens, other),
             },
         },
-        Statement::Case { at, .. } => Some(*at),
+        Statement::Case {
+            value,
+            branches,
+            ..
+        } => in_case(tokens, branches, value),
         Statement::While {
             condition,
             body,
@@ -170,7 +187,10 @@ fn in_statement(tokens: &Tokens<'_>, whole: &Statement) -> Option<u32>
             Some(at) => Some(at),
             None => in_statement(tokens, body),
         },
-        Statement::Repeat { at, .. } => Some(*at),
+        Statement::Repeat { count, body, .. } => match in_expression(tokens, count) {
+            Some(at) => Some(at),
+            None => in_statement(tokens, body),
+        },
         Statement::Forever { body, .. } => in_statement(tokens, body),
         Statement::For {
             target,
@@ -214,6 +234,42 @@ fn in_statements(tokens: &Tokens<'_>, list: &[Statement]) -> Option<u32>
         }
     }
     None
+}
+
+#[cycle(looking)]
+fn in_case(tokens: &Tokens<'_>, branches: &[Branch], value: &Expression) -> Option<u32>
+    ensures { result ≡ option_or (place.in_expression (words_of tokens.now) value.now)
+        (place.in_branches (words_of tokens.now) branches.now) }
+{
+    match in_expression(tokens, value) {
+        Some(at) => Some(at),
+        None => in_branches(tokens, branches),
+    }
+}
+
+#[cycle(looking)]
+fn in_branches(tokens: &Tokens<'_>, list: &[Branch]) -> Option<u32>
+    ensures { result ≡ place.in_branches (words_of tokens.now) list.now }
+{
+    for one in list {
+        if let Some(at) = in_branch(tokens, one) {
+            return Some(at);
+        }
+    }
+    None
+}
+
+#[cycle(looking)]
+fn in_branch(tokens: &Tokens<'_>, branch: &Branch) -> Option<u32>
+    ensures { result ≡ place.in_branch (words_of tokens.now) branch.now }
+{
+    match branch {
+        Branch::Labelled { labels, body } => match in_labels(tokens, labels) {
+            Some(at) => Some(at),
+            None => in_statement(tokens, body),
+        },
+        Branch::Default { body, .. } => in_statement(tokens, body),
+    }
 }
 
 fn in_range(range: &Option<Bounds>) -> Option<u32>

@@ -2,15 +2,16 @@
 ghost use Rattle.std.specs.Prelude.{◌≡◌, ◌<◌, ◌≤◌, ◌+◌, [], ◌++◌, ◌∷◌, true, false, length, map, option_map, List, IfOk, OnOk};
 ghost use Rattle.basis.specs.Reasons.{IfFault};
 ghost use Rattle.vast.specs.Words.{Text};
-ghost use Rattle.vast.specs.ExpressionTrees.{tree_of as text_tree};
-ghost use Rattle.vast.specs.StatementTrees.{target_tree, delay_tree, task_tree, statement_tree, statement_trees};
+ghost use Rattle.vast.specs.ExpressionTrees.{tree_of as text_tree, trees_of};
+ghost use Rattle.vast.specs.StatementTrees.{target_tree, delay_tree, task_tree, statement_tree, statement_trees, branch_tree, branch_trees};
 ghost use Rattle.vast.specs.ModuleTrees.{item_tree};
 ghost use Rattle.vexpr_parse.specs.Texts.{words_of};
 ghost use Rattle.velab.specs.Elaborate as spec;
-ghost use Rattle.vast.specs.Statements.{forever};
-ghost use Rattle.velab.specs.Elaborate.{laid, laid_processes, knows, knows_all, statements_of};
-ghost use Rattle.velab.specs.Inner.{laid_of, all_laid_of, laid_of_item, processes_of, starts_in, initials_in, AreLaid, HasLaid, HaveLaid};
-ghost use Rattle.velab.specs.Inner.{KnowsAll, IsBreach, no_breach, BreaksKnown, BreaksStatement, BreaksStatements, BreaksAdded, BreaksProcess, BreaksProcesses};
+ghost use Rattle.vast.specs.Statements.{forever, case_of};
+ghost use Rattle.velab.specs.Elaborate.{laid, laid_processes, branches_by, knows, knows_all, knows_items, knows_branch, knows_branches, statements_of};
+ghost use Rattle.velab.specs.Inner.{laid_of, all_laid_of, branch_laid_of, branches_laid_of, laid_of_item, processes_of, starts_in, initials_in, AreLaid, HasLaid, HasBranches, HaveLaid};
+ghost use Rattle.velab.specs.Resolved.{resolved, knows_expression};
+ghost use Rattle.velab.specs.Inner.{KnowsAll, IsBreach, no_breach, BreaksKnown, BreaksExpression, BreaksStatement, BreaksStatements, BreaksLabels, BreaksBranch, BreaksBranches, BreaksAdded, BreaksProcess, BreaksProcesses};
 
 use crate::expression::{alone, expression_of, number_of};
 use crate::fault::ElabFault;
@@ -23,8 +24,8 @@ use std::alloc::Global;
 use std::marker::Model;
 use vast::expression::Expression as Value;
 use vast::module::{DeclarationKind, Declared, ModuleItem, NetKind};
-use vast::statement::{Delay, Statement, Target as Written, Task};
-use vdesign::action::{Action, Places, Target, Terms};
+use vast::statement::{Branch, CaseKind, Delay, Statement, Target as Written, Task};
+use vdesign::action::{Action, Branch as Choice, Branches, Places, Target, Terms};
 use vdesign::expression::{Expression, Node};
 use vlex::Tokens;
 
@@ -154,6 +155,72 @@ fn testing(condition: Expression, when_true: Vec<usize>, otherwise: Vec<usize>) 
     }
 }
 
+// What a `case` does.
+fn choosing(
+    kind: CaseKind,
+    value: Expression,
+    branches: Vec<Choice>,
+    otherwise: Vec<usize>,
+) -> Action
+    ensures { result ≡ Action.Case kind value branches.items otherwise.items }
+{
+    Action::Case {
+        kind,
+        value,
+        branches: Branches::new(branches),
+        otherwise: Places::new(otherwise),
+    }
+}
+
+// A branch of an item, with a copy of the places.
+fn put_label(
+    alloc: Global,
+    names: &Names<'_>,
+    tokens: &Tokens<'_>,
+    label: &Value,
+    body: &[usize],
+    into: &mut Vec<Choice>,
+) -> Result<(), OrMemory<ElabFault>>
+    requires { length names.now ≤ 1024 }
+    ensures ok { OnOk result (into.new.items ≡ into.old.items ++ record {
+      item = resolved names.now (text_tree (words_of tokens.now) label.now);
+      body = body.now;
+    } ∷ []) }
+    ensures known { OnOk result
+        (knows_expression names.now (text_tree (words_of tokens.now) label.now) ≡ true) }
+    ensures err { IfFault result
+        (BreaksExpression names.now (text_tree (words_of tokens.now) label.now)) }
+{
+    let item = expression_of(alloc, names, tokens, label)?;
+    let places = Vec::from_slice(alloc, body)?;
+    let body = Places::new(places);
+    into.push(Choice { item, body })?;
+    Ok(())
+}
+
+// A branch of each item in front of a statement, all with the same places.
+fn put_labels(
+    alloc: Global,
+    names: &Names<'_>,
+    tokens: &Tokens<'_>,
+    labels: &[Value],
+    body: &[usize],
+    into: &mut Vec<Choice>,
+) -> Result<(), OrMemory<ElabFault>>
+    requires { length names.now ≤ 1024 }
+    ensures ok { OnOk result (into.new.items ≡ into.old.items
+        ++ branches_by names.now body.now (trees_of (words_of tokens.now) labels.now)) }
+    ensures known { OnOk result
+        (knows_items names.now (trees_of (words_of tokens.now) labels.now) ≡ true) }
+    ensures err { IfFault result
+        (BreaksLabels names.now (trees_of (words_of tokens.now) labels.now)) }
+{
+    for label in labels {
+        put_label(alloc, names, tokens, label, body, into)?;
+    }
+    Ok(())
+}
+
 // What a `wait` does.
 fn waiting(condition: Expression, terms: Terms, body: Vec<usize>) -> Action
     ensures { result ≡ Action.Until condition terms body.items }
@@ -261,7 +328,14 @@ fn lay(
             lay(alloc, names, tokens, other, table, &mut outer)?;
             put(table, into, *at, testing(condition, inner, outer))
         }
-        Statement::Case { .. } => Ok(()),
+        Statement::Case {
+            at,
+            kind,
+            value,
+            branches,
+        } => lay_case(
+            alloc, names, tokens, *at, *kind, branches, value, table, into,
+        ),
         Statement::While {
             at,
             condition,
@@ -273,7 +347,13 @@ fn lay(
             let body = Places::new(inner);
             put(table, into, *at, Action::Again { condition, body })
         }
-        Statement::Repeat { .. } => Ok(()),
+        Statement::Repeat { at, count, body } => {
+            let count = expression_of(alloc, names, tokens, count)?;
+            let mut inner = Vec::new(alloc);
+            lay(alloc, names, tokens, body, table, &mut inner)?;
+            let body = Places::new(inner);
+            put(table, into, *at, Action::Repeat { count, body })
+        }
         Statement::Forever { at, body } => {
             let mut inner = Vec::new(alloc);
             lay(alloc, names, tokens, body, table, &mut inner)?;
@@ -352,6 +432,100 @@ fn lay_all(
         lay(alloc, names, tokens, statement, table, into)?;
     }
     Ok(())
+}
+
+// What stands behind a `case`.
+#[cycle(statements)]
+fn lay_case(
+    alloc: Global,
+    names: &Names<'_>,
+    tokens: &Tokens<'_>,
+    at: u32,
+    kind: CaseKind,
+    branches: &[Branch],
+    value: &Value,
+    table: &mut Table,
+    into: &mut Vec<usize>,
+) -> Result<(), OrMemory<ElabFault>>
+    requires { length names.now ≤ 1024 }
+    ensures ok { HasLaid result (laid names.now table.old
+        (case_of kind (text_tree (words_of tokens.now) value.now)
+        (branch_trees (words_of tokens.now) branches.now))) into.old table.new into.new }
+    ensures known { OnOk result (knows names.now
+        (case_of kind (text_tree (words_of tokens.now) value.now)
+        (branch_trees (words_of tokens.now) branches.now)) ≡ true) }
+    ensures err { IfFault result (BreaksStatement names.now
+        (case_of kind (text_tree (words_of tokens.now) value.now)
+        (branch_trees (words_of tokens.now) branches.now))) }
+{
+    let value = expression_of(alloc, names, tokens, value)?;
+    let mut choices = Vec::new(alloc);
+    let mut otherwise = Vec::new(alloc);
+    lay_branches(
+        alloc,
+        names,
+        tokens,
+        branches,
+        table,
+        &mut choices,
+        &mut otherwise,
+    )?;
+    put(table, into, at, choosing(kind, value, choices, otherwise))
+}
+
+// The branches of a `case`, and the places of its `default`.
+#[cycle(statements)]
+fn lay_branches(
+    alloc: Global,
+    names: &Names<'_>,
+    tokens: &Tokens<'_>,
+    branches: &[Branch],
+    table: &mut Table,
+    into: &mut Vec<Choice>,
+    otherwise: &mut Vec<usize>,
+) -> Result<(), OrMemory<ElabFault>>
+    requires { length names.now ≤ 1024 }
+    ensures ok { HasBranches result
+        (branches_laid_of (words_of tokens.now) names.now table.old branches.now) into.old
+        otherwise.old table.new into.new otherwise.new }
+    ensures known { OnOk result
+        (knows_branches names.now (branch_trees (words_of tokens.now) branches.now) ≡ true) }
+    ensures err { IfFault result
+        (BreaksBranches names.now (branch_trees (words_of tokens.now) branches.now)) }
+{
+    for branch in branches {
+        lay_branch(alloc, names, tokens, branch, table, into, otherwise)?;
+    }
+    Ok(())
+}
+
+#[cycle(statements)]
+fn lay_branch(
+    alloc: Global,
+    names: &Names<'_>,
+    tokens: &Tokens<'_>,
+    branch: &Branch,
+    table: &mut Table,
+    into: &mut Vec<Choice>,
+    otherwise: &mut Vec<usize>,
+) -> Result<(), OrMemory<ElabFault>>
+    requires { length names.now ≤ 1024 }
+    ensures ok { HasBranches result
+        (branch_laid_of (words_of tokens.now) names.now table.old branch.now) into.old
+        otherwise.old table.new into.new otherwise.new }
+    ensures known { OnOk result
+        (knows_branch names.now (branch_tree (words_of tokens.now) branch.now) ≡ true) }
+    ensures err { IfFault result
+        (BreaksBranch names.now (branch_tree (words_of tokens.now) branch.now)) }
+{
+    match branch {
+        Branch::Labelled { labels, body } => {
+            let mut places = Vec::new(alloc);
+            lay(alloc, names, tokens, body, table, &mut places)?;
+            put_labels(alloc, names, tokens, labels, &places, into)
+        }
+        Branch::Default { body, .. } => lay(alloc, names, tokens, body, table, otherwise),
+    }
 }
 
 // The same of a statement that comes again and again (9.9.2).

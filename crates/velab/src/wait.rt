@@ -5,15 +5,15 @@ ghost use Rattle.std.specs.List.{list_all};
 ghost use Rattle.basis.specs.Reasons.{IfFault};
 ghost use Rattle.vast.specs.ExpressionTrees.{tree_of as text_tree, trees_of as text_trees};
 ghost use Rattle.vast.specs.TokenTexts.{token_text};
-ghost use Rattle.vast.specs.StatementTrees.{target_tree, delay_tree, further_term, event_tree, statement_tree, statement_trees};
+ghost use Rattle.vast.specs.StatementTrees.{target_tree, delay_tree, further_term, event_tree, statement_tree, statement_trees, branch_tree, branch_trees};
 ghost use Rattle.vexpr_parse.specs.Texts.{words_of};
-ghost use Rattle.vast.specs.Statements.{event as on_event};
+ghost use Rattle.vast.specs.Statements.{event as on_event, case_of};
 ghost use Rattle.velab.specs.Uses.{is_declared};
 ghost use Rattle.velab.specs.Resolved.{knows_expression, knows_parts};
-ghost use Rattle.velab.specs.Elaborate.{knows_assignment, knows_amount};
+ghost use Rattle.velab.specs.Elaborate.{knows_assignment, knows_amount, knows_items, knows_branch, knows_branches};
 ghost use Rattle.velab.specs.Waits as spec;
-ghost use Rattle.velab.specs.Waits.{any_of, names_in, names_in_parts, read_by, read_by_all, read_by_assignment, read_by_delay, knows_control, knows_further};
-ghost use Rattle.velab.specs.Inner.{BreaksKnown, BreaksUse, BreaksExpression, BreaksStatement, BreaksStatements};
+ghost use Rattle.velab.specs.Waits.{any_of, names_in, names_in_parts, read_by, read_by_all, read_by_assignment, read_by_delay, knows_control, knows_further, read_by_items, read_by_branch, read_by_branches};
+ghost use Rattle.velab.specs.Inner.{BreaksKnown, BreaksUse, BreaksExpression, BreaksStatement, BreaksStatements, BreaksLabels, BreaksBranch, BreaksBranches};
 
 use crate::expression::number_of;
 use crate::fault::ElabFault;
@@ -21,7 +21,9 @@ use crate::names::Names;
 use basis::OrMemory;
 use std::alloc::Global;
 use vast::expression::Expression as Value;
-use vast::statement::{Delay, Edge as Side, Event, FurtherTerm, Statement, Target};
+use vast::statement::{
+    Branch, CaseKind, Delay, Edge as Side, Event, FurtherTerm, Statement, Target,
+};
 use vast::token::Token;
 use vdesign::action::{Edge, Term, Terms};
 use vlex::Tokens;
@@ -172,6 +174,25 @@ fn put_delay(
     }
 }
 
+// Any change of each name in the items in front of a statement of a `case`. E303 where one is no variable's.
+fn put_labels(
+    names: &Names<'_>,
+    tokens: &Tokens<'_>,
+    labels: &[Value],
+    terms: &mut Vec<Term>,
+) -> Result<(), OrMemory<ElabFault>>
+    requires { length names.now ≤ 1024 }
+    ensures ok { OnOk result (terms.new.items ≡ terms.old.items
+        ++ any_of names.now (read_by_items (text_trees (words_of tokens.now) labels.now))) }
+    ensures err { IfFault result
+        (BreaksLabels names.now (text_trees (words_of tokens.now) labels.now)) }
+{
+    for label in labels {
+        put_names(names, tokens, label, terms)?;
+    }
+    Ok(())
+}
+
 // Any change of each name that a statement reads. E303 where one is no variable's.
 #[cycle(reading)]
 fn put_read(
@@ -225,7 +246,12 @@ fn put_read(
             put_read(names, tokens, body, terms)?;
             put_read(names, tokens, other, terms)
         }
-        Statement::Case { .. } => Ok(()),
+        Statement::Case {
+            kind,
+            value,
+            branches,
+            ..
+        } => put_case(names, tokens, *kind, branches, value, terms),
         Statement::While {
             condition,
             body,
@@ -234,7 +260,10 @@ fn put_read(
             put_names(names, tokens, condition, terms)?;
             put_read(names, tokens, body, terms)
         }
-        Statement::Repeat { .. } => Ok(()),
+        Statement::Repeat { count, body, .. } => {
+            put_names(names, tokens, count, terms)?;
+            put_read(names, tokens, body, terms)
+        }
         Statement::Forever { body, .. } => put_read(names, tokens, body, terms),
         Statement::For {
             target,
@@ -272,6 +301,68 @@ fn put_all_read(
         put_read(names, tokens, statement, terms)?;
     }
     Ok(())
+}
+
+#[cycle(reading)]
+fn put_case(
+    names: &Names<'_>,
+    tokens: &Tokens<'_>,
+    kind: CaseKind,
+    branches: &[Branch],
+    value: &Value,
+    terms: &mut Vec<Term>,
+) -> Result<(), OrMemory<ElabFault>>
+    requires { length names.now ≤ 1024 }
+    ensures ok { OnOk result (terms.new.items ≡ terms.old.items ++ any_of names.now (read_by
+        (case_of kind (text_tree (words_of tokens.now) value.now)
+        (branch_trees (words_of tokens.now) branches.now)))) }
+    ensures err { IfFault result (BreaksStatement names.now
+        (case_of kind (text_tree (words_of tokens.now) value.now)
+        (branch_trees (words_of tokens.now) branches.now))) }
+{
+    put_names(names, tokens, value, terms)?;
+    put_branches(names, tokens, branches, terms)
+}
+
+#[cycle(reading)]
+fn put_branches(
+    names: &Names<'_>,
+    tokens: &Tokens<'_>,
+    branches: &[Branch],
+    terms: &mut Vec<Term>,
+) -> Result<(), OrMemory<ElabFault>>
+    requires { length names.now ≤ 1024 }
+    ensures ok { OnOk result (terms.new.items ≡ terms.old.items ++ any_of names.now
+        (read_by_branches (branch_trees (words_of tokens.now) branches.now))) }
+    ensures err { IfFault result
+        (BreaksBranches names.now (branch_trees (words_of tokens.now) branches.now)) }
+{
+    for branch in branches {
+        put_branch(names, tokens, branch, terms)?;
+    }
+    Ok(())
+}
+
+#[cycle(reading)]
+fn put_branch(
+    names: &Names<'_>,
+    tokens: &Tokens<'_>,
+    branch: &Branch,
+    terms: &mut Vec<Term>,
+) -> Result<(), OrMemory<ElabFault>>
+    requires { length names.now ≤ 1024 }
+    ensures ok { OnOk result (terms.new.items ≡ terms.old.items ++ any_of names.now
+        (read_by_branch (branch_tree (words_of tokens.now) branch.now))) }
+    ensures err { IfFault result
+        (BreaksBranch names.now (branch_tree (words_of tokens.now) branch.now)) }
+{
+    match branch {
+        Branch::Labelled { labels, body } => {
+            put_labels(names, tokens, labels, terms)?;
+            put_read(names, tokens, body, terms)
+        }
+        Branch::Default { body, .. } => put_read(names, tokens, body, terms),
+    }
 }
 
 // A further term of an event control. E303 where its name is no variable's.

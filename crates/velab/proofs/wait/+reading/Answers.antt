@@ -2,10 +2,12 @@ use Rattle.std.proofs.Common.{◌≡◌, ◌++◌, List, OnOk, subst}
 use Rattle.basis.specs.Reasons.{IfFault}
 use Rattle.vexpr_parse.specs.Texts.{words_of}
 use Rattle.vast.specs.Words.{Text}
-use Rattle.velab.specs.Waits.{any_of}
-use Rattle.velab.specs.Inner.{BreaksKnown}
+use Rattle.vast.specs.Statements.{StatementTree}
+use Rattle.velab.specs.Waits.{any_of, read_by}
+use Rattle.velab.specs.Inner.{BreaksKnown, BreaksStatement}
 use Rattle.velab.proofs.FaultLemmas.{handed_on}
 use Rattle.velab.proofs.StatementLemmas.{block_knows}
+use Rattle.velab.proofs.BranchLemmas.{case_tree}
 use Rattle.velab.proofs.WaitLemmas.{block_reads, read_err}
 use Rattle.velab.proofs.wait.+reading.Goals as goal
 
@@ -26,3 +28,17 @@ put_all_read-returns-in_err-put_read-clause-err t c =
     handed_on _ c.from_residual.result c.in_err-put_read.field-0.0 c.from_residual.ensures.1
     (read_err (words_of c.args.tokens.now) c.args.names.now c.args.statements.now c.loop-statement.statement-index c.statement-item.result
     c.loop-statement-test.true c.statement-item.is _ c.in_err-put_read.field-0.0 c.loop-statement.invariant.known c.in_err-put_read.ensures.err)
+
+pub put_read-returns-in-Case-clause-ok : goal.put_read-returns-in-Case-clause-ok
+put_read-returns-in-Case-clause-ok t c =
+    subst (λ (s : StatementTree). OnOk c.put_case.result (c.put_case.new.terms.items ≡ c.args.terms.now.items ++ any_of c.args.names.now (read_by s)))
+    (case_tree (words_of c.args.tokens.now) c.args.statement.now c.in-Case.at c.in-Case.kind c.in-Case.value c.in-Case.branches
+    c.deref-in-Case-2.result.now c.deref-in-Case.result.now c.in-Case.is c.deref-in-Case-2.ensures c.deref-in-Case.ensures.value)
+    c.put_case.ensures.ok
+
+pub put_read-returns-in-Case-clause-err : goal.put_read-returns-in-Case-clause-err
+put_read-returns-in-Case-clause-err t c =
+    subst (λ (s : StatementTree). IfFault c.put_case.result (BreaksStatement c.args.names.now s))
+    (case_tree (words_of c.args.tokens.now) c.args.statement.now c.in-Case.at c.in-Case.kind c.in-Case.value c.in-Case.branches
+    c.deref-in-Case-2.result.now c.deref-in-Case.result.now c.in-Case.is c.deref-in-Case-2.ensures c.deref-in-Case.ensures.value)
+    c.put_case.ensures.err
