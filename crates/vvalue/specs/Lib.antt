@@ -2,3 +2,4 @@ pub mod Manners
 pub mod Value
 pub mod Fits
 pub mod Reads
+pub mod Flaws

@@ -4,6 +4,7 @@
 
 pub mod asked;
 mod context;
+pub mod flaw;
 pub mod manner;
 pub mod moment;
 mod operators;

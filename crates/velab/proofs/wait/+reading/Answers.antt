@@ -6,7 +6,7 @@ use Rattle.velab.specs.Waits.{any_of}
 use Rattle.velab.specs.Inner.{BreaksKnown}
 use Rattle.velab.proofs.FaultLemmas.{handed_on}
 use Rattle.velab.proofs.StatementLemmas.{block_knows}
-use Rattle.velab.proofs.WaitLemmas.{block_reads, read_err}
+use Rattle.velab.proofs.WaitLemmas.{block_reads, read_err, for_body_err}
 use Rattle.velab.proofs.wait.+reading.Goals as goal
 
 pub put_read-returns-in-Block-clause-ok : goal.put_read-returns-in-Block-clause-ok
@@ -26,3 +26,9 @@ put_all_read-returns-in_err-put_read-clause-err t c =
     handed_on _ c.from_residual.result c.in_err-put_read.field-0.0 c.from_residual.ensures.1
     (read_err (words_of c.args.tokens.now) c.args.names.now c.args.statements.now c.loop-statement.statement-index c.statement-item.result
     c.loop-statement-test.true c.statement-item.is _ c.in_err-put_read.field-0.0 c.loop-statement.invariant.known c.in_err-put_read.ensures.err)
+
+pub put_read-returns-in_ok-put_assignment-in-For-2-clause-err : goal.put_read-returns-in_ok-put_assignment-in-For-2-clause-err
+put_read-returns-in_ok-put_assignment-in-For-2-clause-err t c =
+    for_body_err c.put_read-in-For.result (words_of c.args.tokens.now) c.args.names.now c.args.statement.now c.deref-in-For-4.result.now
+    c.in-For.at c.in-For.target c.in-For.value c.in-For.condition c.in-For.next_target c.in-For.next_value c.in-For.body c.in-For.is
+    c.deref-in-For-4.ensures c.put_read-in-For.ensures.err
