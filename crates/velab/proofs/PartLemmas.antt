@@ -1,5 +1,5 @@
 -- The parts of concatenations: their nodes, their names, and whether they run.
-use Rattle.std.proofs.Common.{◌≡◌, ◌<◌, ◌≤◌, ℕ, zero, suc, ◌+◌, ◌-◌, Bool, true, false, ◌&&◌, List, [], ◌∷◌, ◌++◌, length, drop, get_or, Vec, Global, Box, Result, Ok, Err, OnOk, refl, sym, ap, subst, ◌∙◌, append_assoc, append-nil, arith}
+use Rattle.std.proofs.Common.{◌≡◌, ◌<◌, ◌≤◌, ℕ, zero, suc, ◌+◌, ◌-◌, Bool, true, false, ◌&&◌, List, [], ◌∷◌, ◌++◌, length, drop, get_or, Vec, Global, Box, Result, Ok, Err, OnOk, refl, sym, ap, ◌∙◌, append_assoc, append-nil, arith}
 use Rattle.std.specs.Bool.{◌==◌}
 use Rattle.std.proofs.Math.ListN.{drop_of_length-le}
 use Rattle.basis.specs.declared.memory.OrMemory.{OrMemory}
@@ -11,7 +11,7 @@ use Rattle.vast.specs.declared.expression.Expression.{Expression, Concatenation,
 use Rattle.vast.proofs.ExpressionLemmas.{tree_of_concatenation, tree_of_replication}
 use Rattle.vdesign.specs.Nodes.{nodes_of}
 use Rattle.vdesign.specs.declared.expression.Node.{Node}
-use Rattle.vdesign.specs.declared.expression.Node.TheVariants.{Conversion, Joined}
+use Rattle.vdesign.specs.declared.expression.Node.TheVariants.{Conversion}
 use Rattle.velab.specs.declared.fault.ElabFault.{ElabFault}
 use Rattle.velab.specs.Inner.{BreaksKnown}
 use Rattle.velab.specs.InnerParts.{before_part}

@@ -1,12 +1,9 @@
 -- `Elaborates tree top scale design`: the design that a text stands for (IEEE 1364-2005, clause 12).
-use Rattle.std.specs.Prelude.{◌≡◌, ◌≤◌, ℕ, ◌+◌, ◌-◌, max, min, nat_le, Bool, true, false, ◌&&◌, ◌||◌, cond, List, [], ◌∷◌, ◌++◌, map, length, Option, None, Some, is_some, unwrap_or, option_map, option_and_then}
+use Rattle.std.specs.Prelude.{◌≡◌, ◌≤◌, ℕ, ◌+◌, ◌-◌, max, min, nat_le, Bool, true, false, ◌&&◌, ◌||◌, cond, List, [], ◌∷◌, ◌++◌, map, length, Option, None, Some, is_some, unwrap_or, option_map}
 use Rattle.std.specs.List.{list_any, list_all, flat_map, filter_map, find}
 use Rattle.std.specs.Borrow.{Bor}
 use Rattle.std.specs.Str.{bytes_eq}
 use Rattle.vbits.specs.declared.bit4.Bit4.TheVariants.{X}
-use Rattle.vbits.specs.Letters.{is_one}
-use Rattle.vbits.specs.Numbers as numbers
-use Rattle.vbits.specs.Vectors.{Vector, sign_letter}
 use Rattle.vast.specs.Words.{Text}
 use Rattle.vast.specs.Expressions as text
 use Rattle.vast.specs.Statements.{TargetTree, DelayTree, by_number, by_name, by_value, TaskTree, print, dump_file, dump_vars, dump, end_run, SelectionTree, StatementTree, StatementTrees, empty, block, assign, nonblocking, trigger, if_true, if_else, case_of, while_true, repeat_times, forever, for_loop, wait_for, delay, event, task, no_statement, first_statement, BranchTree, BranchTrees, labelled, default, no_branch, first_branch}

@@ -3,3 +3,4 @@ pub mod Value
 pub mod Cases
 pub mod Fits
 pub mod Reads
+pub mod Flaws

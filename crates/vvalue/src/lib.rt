@@ -5,6 +5,7 @@
 pub mod asked;
 pub mod cases;
 mod context;
+pub mod flaw;
 pub mod manner;
 pub mod moment;
 mod operators;

@@ -1,4 +1,4 @@
-use Rattle.std.proofs.Common.{◌≡◌, ◌-◌, ◌++◌, ◌∷◌, [], ◌<◌, ◌≤◌, ℕ, length, true, OnOk, subst, sym, ap, ◌∙◌, arith}
+use Rattle.std.proofs.Common.{◌≡◌, ◌-◌, ◌++◌, ◌∷◌, [], ℕ, true, OnOk, subst, sym, ap, ◌∙◌, arith}
 use Rattle.basis.specs.Reasons.{IfFault}
 use Rattle.vast.specs.Expressions.{ExpressionTree}
 use Rattle.vast.specs.ExpressionTrees.{tree_of, trees_of}
@@ -7,7 +7,7 @@ use Rattle.vdesign.specs.Nodes.{nodes_of}
 use Rattle.vdesign.specs.declared.expression.Node.{Node}
 use Rattle.vdesign.specs.declared.expression.Node.TheVariants.{Repeated}
 use Rattle.velab.specs.Constants.{count_of}
-use Rattle.velab.specs.Resolved.{resolved, resolved_parts, knows_expression, knows_parts}
+use Rattle.velab.specs.Resolved.{resolved, resolved_parts, knows_expression}
 use Rattle.velab.specs.Inner.{BreaksExpression}
 use Rattle.velab.proofs.PartLemmas.{one_and_parts, concatenation_is, replication_is, next_part, next_known, ends_with, some_of}
 use Rattle.velab.proofs.expression.+expressions.Goals as goal

@@ -1,7 +1,6 @@
 use Rattle.std.proofs.Common.{◌&&◌, sym, ap, ◌∙◌}
-use Rattle.vast.specs.ExpressionTrees.{tree_of, trees_of}
+use Rattle.vast.specs.ExpressionTrees.{trees_of}
 use Rattle.vexpr_parse.specs.Texts.{words_of}
-use Rattle.velab.specs.Constants.{runs_bound}
 use Rattle.velab.specs.Resolved.{runs_expression, runs_parts}
 use Rattle.velab.proofs.PartLemmas.{concatenation_is, replication_is}
 use Rattle.velab.proofs.expression.+running.Goals as goal

@@ -8,7 +8,7 @@ use Rattle.velab.specs.Inner.{BreaksKnown, BreaksStatement}
 use Rattle.velab.proofs.FaultLemmas.{handed_on}
 use Rattle.velab.proofs.StatementLemmas.{block_knows}
 use Rattle.velab.proofs.BranchLemmas.{case_tree}
-use Rattle.velab.proofs.WaitLemmas.{block_reads, read_err}
+use Rattle.velab.proofs.WaitLemmas.{block_reads, read_err, for_body_err}
 use Rattle.velab.proofs.wait.+reading.Goals as goal
 
 pub put_read-returns-in-Block-clause-ok : goal.put_read-returns-in-Block-clause-ok
@@ -42,3 +42,9 @@ put_read-returns-in-Case-clause-err t c =
     (case_tree (words_of c.args.tokens.now) c.args.statement.now c.in-Case.at c.in-Case.kind c.in-Case.value c.in-Case.branches
     c.deref-in-Case-2.result.now c.deref-in-Case.result.now c.in-Case.is c.deref-in-Case-2.ensures c.deref-in-Case.ensures.value)
     c.put_case.ensures.err
+
+pub put_read-returns-in_ok-put_assignment-in-For-2-clause-err : goal.put_read-returns-in_ok-put_assignment-in-For-2-clause-err
+put_read-returns-in_ok-put_assignment-in-For-2-clause-err t c =
+    for_body_err c.put_read-in-For.result (words_of c.args.tokens.now) c.args.names.now c.args.statement.now c.deref-in-For-4.result.now
+    c.in-For.at c.in-For.target c.in-For.value c.in-For.condition c.in-For.next_target c.in-For.next_value c.in-For.body c.in-For.is
+    c.deref-in-For-4.ensures c.put_read-in-For.ensures.err

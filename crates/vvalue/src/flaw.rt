@@ -1,0 +1,160 @@
+// What is wrong with the sizes of an expression, or with the bits that it asks for (IEEE 1364-2005, 5.1.14, 5.2.1).
+
+ghost use Rattle.std.specs.Prelude.{◌≡◌, ◌≤◌, ◌+◌, ◌-◌, ◌*◌, nat_le, ◌&&◌, length, slice_get};
+ghost use Rattle.std.specs.Option.{option_or};
+ghost use Rattle.vvalue.specs.Flaws as spec;
+ghost use Rattle.vvalue.specs.Fits.{IsWithin};
+ghost use Rattle.vvalue.specs.Reads.{IsOfFirst, AreBehindFirst};
+
+use crate::context::Context;
+use crate::moment::{Moment, bounds_of};
+use crate::size::own;
+use vdesign::design::Kind;
+use vdesign::expression::{Bounds, Expression, Node};
+
+/// What may be wrong with an expression.
+#[derive(Clone, Copy, Debug, PartialEq, Eq)]
+pub enum Flaw {
+    /// A bit or a part is selected of a variable that is no vector and no `integer`.
+    NoBits,
+    /// More than 64 bits are joined, nothing or more than 64 bits are repeated, or a part has wrong bounds.
+    Size,
+}
+
+/// The greatest number of a bit.
+const GREATEST_BOUND: u32 = 65535;
+/// The most bits of a value.
+const WIDEST: u32 = 64;
+
+fn unless(right: bool, flaw: Flaw) -> Option<Flaw>
+    ensures { result ≡ spec.unless right flaw }
+{
+    if right { None } else { Some(flaw) }
+}
+
+fn kind_has_bits(kind: Kind, ranged: bool) -> bool
+    ensures { result ≡ spec.kind_has_bits kind ranged }
+{
+    match kind {
+        Kind::Integer => true,
+        Kind::Reg => ranged,
+        Kind::Wire => ranged,
+    }
+}
+
+// Whether bits may be selected of the variable of this number.
+fn has_bits(moment: &Moment<'_>, variable: u32) -> bool
+    ensures { result ≡ spec.has_bits (slice_get moment.now.variables variable) }
+{
+    match moment.variables.get(variable as usize) {
+        Some(declared) => kind_has_bits(declared.kind, declared.bounds.is_some()),
+        None => true,
+    }
+}
+
+// Whether both go from left to right in one order.
+fn in_order(declared: Bounds, selected: Bounds) -> bool
+    ensures { result ≡ spec.in_order declared selected }
+{
+    if declared.right <= declared.left && selected.right <= selected.left {
+        return true;
+    }
+    declared.left <= declared.right && selected.left <= selected.right
+}
+
+fn is_part(declared: Bounds, selected: Bounds) -> bool
+    ensures { result ≡ spec.is_part declared selected }
+{
+    let (most, least) = (
+        selected.left.max(selected.right),
+        selected.left.min(selected.right),
+    );
+    most <= GREATEST_BOUND && (most - least < WIDEST && in_order(declared, selected))
+}
+
+// Of a bit, without its index.
+fn bit_flaw(moment: &Moment<'_>, variable: u32) -> Option<Flaw>
+    ensures { result ≡
+        spec.unless (spec.has_bits (slice_get moment.now.variables variable)) Flaw.NoBits }
+{
+    unless(has_bits(moment, variable), Flaw::NoBits)
+}
+
+fn part_flaw(moment: &Moment<'_>, variable: u32, bounds: Bounds) -> Option<Flaw>
+    ensures { result ≡ spec.part_flaw moment.now variable bounds }
+{
+    let right = is_part(bounds_of(moment, variable), bounds);
+    bit_flaw(moment, variable).or(unless(right, Flaw::Size))
+}
+
+// Of what is joined.
+fn joined_flaw(left: Context, right: Context) -> Option<Flaw>
+    requires left { IsWithin left }
+    requires right { IsWithin right }
+    ensures { result ≡ spec.unless (nat_le (left.size + right.size) 64) Flaw.Size }
+{
+    unless(left.size + right.size <= WIDEST, Flaw::Size)
+}
+
+// Of what is repeated.
+fn repeated_flaw(count: u32, operand: Context) -> Option<Flaw>
+    requires { IsWithin operand }
+    ensures { result ≡
+        spec.unless (nat_le 1 count && nat_le (count * operand.size) 64) Flaw.Size }
+{
+    let right = 1 <= count && count.saturating_mul(operand.size) <= WIDEST;
+    unless(right, Flaw::Size)
+}
+
+// Of the expression that these nodes begin with, and the nodes behind it.
+fn flaw_at<'n>(nodes: &'n [Node], moment: &Moment<'_>) -> (Option<Flaw>, &'n [Node])
+    ensures exact { IsOfFirst nodes.now (spec.flaw_of moment.now) result.0 }
+    ensures rest { AreBehindFirst nodes.now result.1.now }
+    ensures fewer { length result.1.now ≤ length nodes.now - 1 }
+{
+    let Some((node, behind)) = nodes.split_first() else {
+        return (None, nodes);
+    };
+    match node {
+        Node::Constant(_) => (None, behind),
+        Node::Variable(_) => (None, behind),
+        Node::Bit(variable) => {
+            let (index, behind) = flaw_at(behind, moment);
+            (bit_flaw(moment, *variable).or(index), behind)
+        }
+        Node::Part { variable, bounds } => (part_flaw(moment, *variable, *bounds), behind),
+        Node::Time => (None, behind),
+        Node::Conversion(_) => flaw_at(behind, moment),
+        Node::Unary(_) => flaw_at(behind, moment),
+        Node::Binary(_) => {
+            let (left, behind) = flaw_at(behind, moment);
+            let (right, behind) = flaw_at(behind, moment);
+            (left.or(right), behind)
+        }
+        Node::Conditional => {
+            let (condition, behind) = flaw_at(behind, moment);
+            let (when_true, behind) = flaw_at(behind, moment);
+            let (when_false, behind) = flaw_at(behind, moment);
+            (condition.or(when_true.or(when_false)), behind)
+        }
+        Node::Joined => {
+            let (first, next) = own(behind, moment);
+            let (second, _) = own(next, moment);
+            let (left, behind) = flaw_at(behind, moment);
+            let (right, behind) = flaw_at(behind, moment);
+            (left.or(right.or(joined_flaw(first, second))), behind)
+        }
+        Node::Repeated(count) => {
+            let (there, _) = own(behind, moment);
+            let (operand, behind) = flaw_at(behind, moment);
+            (operand.or(repeated_flaw(*count, there)), behind)
+        }
+    }
+}
+
+/// What is wrong with an expression, where something is.
+pub fn flaw_of(expression: &Expression, moment: &Moment<'_>) -> Option<Flaw>
+    ensures { result ≡ spec.flaw_of moment.now expression.now }
+{
+    flaw_at(expression.nodes(), moment).0
+}
