@@ -8,5 +8,6 @@ pub mod BranchLemmas
 pub mod TopLemmas
 mod WaitLemmas
 mod ProcessLemmas
+pub mod DesignLemmas
 mod NamedLemmas
 mod NotRunLemmas
