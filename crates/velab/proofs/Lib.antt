@@ -9,5 +9,6 @@ pub mod BranchLemmas
 pub mod TopLemmas
 mod WaitLemmas
 mod ProcessLemmas
+pub mod DesignLemmas
 mod NamedLemmas
 mod NotRunLemmas

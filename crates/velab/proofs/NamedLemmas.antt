@@ -11,11 +11,10 @@ use Rattle.basis.specs.declared.timescale.Timescale.{Timescale}
 use Rattle.vast.specs.Words.{Text, begins_name, is_in_name, is_name, is_reserved}
 use Rattle.vast.specs.Names.{has_letters_of_name, is_path_from, is_path}
 use Rattle.vdesign.specs.Named.{AreNamed}
-use Rattle.vast.specs.declared.module.NetKind.TheVariants as net
 use Rattle.vast.specs.Modules.{ItemTree, parameters, declaration, variables, integers, events, assignments, initial, always, instances, DeclarationKind, ModuleTree, SourceTree, DerivesText, DeclaredTree, fits, fits_module, fits_item, fits_declared, fits_optional, fits_optional_parameters, fits_optional_ports, fits_declaration_kind, are_some}
 use Rattle.vdesign.specs.Design.{Variable, Design}
-use Rattle.vdesign.specs.declared.design.Kind.TheVariants.{Reg, Integer}
-use Rattle.velab.specs.Elaborate.{Declaration, all_declared, declared_as, declarations_of, declarations, declared_names, variable_of, has_double, top_of, design_of, Elaborates}
+use Rattle.vdesign.specs.declared.design.Kind.TheVariants.{Integer}
+use Rattle.velab.specs.Elaborate.{Declaration, all_declared, kind_of, declared_as, declarations_of, declarations, declared_names, variable_of, has_double, top_of, design_of, Elaborates}
 
 -- ---- letters
 
@@ -86,8 +85,7 @@ all_declared_named kind signed range (one ∷ more) fit =
     (all_declared_named kind signed range more (and_right (fits_declared 64 one) (list_all (fits_declared 64) more) fit))
 
 kind_named : (kind : DeclarationKind) (list : List DeclaredTree) → list_all (fits_declared 64) list ≡ true → list_all is_name (names (declared_as kind list)) ≡ true
-kind_named (variables net.Wire type) list fit = refl
-kind_named (variables net.Reg type) list fit = all_declared_named Reg type.signed type.range list fit
+kind_named (variables word type) list fit = all_declared_named (kind_of word) type.signed type.range list fit
 kind_named integers list fit = all_declared_named Integer true None list fit
 
 item_named : (item : ItemTree) → fits_item 64 item ≡ true → item_is_named item ≡ true

@@ -1,5 +1,5 @@
 -- Bounds and the lists of declared names.
-use Rattle.std.proofs.Common.{◌≡◌, ◌<◌, ◌≤◌, ℕ, ◌+◌, drop, ◌-◌, Bool, true, false, cond, ◌||◌, List, [], ◌∷◌, ◌++◌, length, map, get_or, slice_get, Option, Some, Result, Ok, Err, refl, sym, ap, subst, ◌∙◌, true≢false, length-append, arith}
+use Rattle.std.proofs.Common.{◌≡◌, ◌<◌, ◌≤◌, ℕ, ◌+◌, drop, ◌-◌, Bool, true, false, cond, ◌||◌, List, [], ◌∷◌, ◌++◌, length, map, get_or, slice_get, Option, Some, None, Result, Ok, Err, refl, sym, ap, subst, ◌∙◌, true≢false, length-append, arith}
 use Rattle.std.proofs.lemmas.Option.{unwrap_or-slice_get}
 use Rattle.std.proofs.lemmas.List.Folds.{list_any-append}
 use Rattle.std.specs.Prelude.{unwrap_or, option_map}
@@ -18,11 +18,12 @@ use Rattle.vast.specs.declared.module.Declared.{Declared}
 use Rattle.vast.specs.declared.module.ModuleItem.{ModuleItem}
 use Rattle.vdesign.specs.declared.expression.Bounds.{Bounds}
 use Rattle.vdesign.specs.declared.design.Kind.{Kind}
+use Rattle.vdesign.specs.declared.design.Kind.TheVariants.{Reg, Integer, Wire}
 use Rattle.basis.specs.declared.memory.OrMemory.{OrMemory}
 use Rattle.basis.specs.Reasons.{Because, IfFault}
 use Rattle.velab.specs.declared.fault.ElabFault.{ElabFault}
 use Rattle.velab.specs.Constants.{is_negative}
-use Rattle.velab.specs.Elaborate.{has_double, has_range, Declaration, declared, all_declared, declarations_of, bounds_of, variable_by, variable_of}
+use Rattle.velab.specs.Elaborate.{has_double, has_range, Declaration, declared, all_declared, declarations_of, bounds_of, variable_by, variable_of, length_of}
 use Rattle.velab.specs.Uses.{is_declared}
 use Rattle.velab.specs.Inner.{names_of, names_in, texts_of}
 use Rattle.velab.specs.Inner.{IsBreach, no_breach}
@@ -141,3 +142,9 @@ items_err words items i item names all ranges e within is same right h =
 
     whole_is : part ++ rest ≡ all
     whole_is = stopped items i item within is (λ xs. names_in (map (item_tree words) xs)) (λ x. names_of (item_tree words x)) (in_order words) names all same
+
+-- without a range nothing is long
+pub alone_short : (kind : Kind) → length_of kind None ≤ 64
+alone_short Reg = omega arith
+alone_short Integer = omega arith
+alone_short Wire = omega arith

@@ -8,11 +8,12 @@ use Rattle.vast.specs.Words.{Text}
 use Rattle.vast.specs.Expressions as text
 use Rattle.vast.specs.Statements.{TargetTree, DelayTree, by_number, by_name, by_value, TaskTree, print, dump_file, dump_vars, dump, end_run, SelectionTree, StatementTree, StatementTrees, empty, block, assign, nonblocking, trigger, if_true, if_else, case_of, while_true, repeat_times, forever, for_loop, wait_for, delay, event, task, no_statement, first_statement, BranchTree, BranchTrees, labelled, default, no_branch, first_branch}
 use Rattle.vast.specs.Statements as written
-use Rattle.vast.specs.Modules.{RangeTree, DeclarationKind, variables, integers, DeclaredTree, ItemTree, parameters, declaration, events, assignments, initial, always, instances, ModuleTree, SourceTree}
+use Rattle.vast.specs.Modules.{RangeTree, DeclarationKind, variables, integers, SettingTree, DeclaredTree, ItemTree, parameters, declaration, events, assignments, initial, always, instances, ModuleTree, SourceTree}
+use Rattle.vast.specs.declared.module.NetKind.{NetKind}
 use Rattle.vast.specs.declared.module.NetKind.TheVariants as net
 use Rattle.vdesign.specs.Design as design
 use Rattle.vdesign.specs.declared.action.Action.{Action}
-use Rattle.vdesign.specs.declared.action.Action.TheVariants.{Assign, Nonblocking, Test, Case, Again, Repeat, Forever, Delay, On, Until, DumpVars, Finish, Stop}
+use Rattle.vdesign.specs.declared.action.Action.TheVariants.{Assign, Nonblocking, Test, Case, Again, Repeat, Forever, Delay, On, Until, Drive, DumpVars, Finish, Stop}
 use Rattle.vdesign.specs.declared.action.Branch.{Branch}
 use Rattle.vdesign.specs.declared.action.Target.{Target}
 use Rattle.vdesign.specs.declared.action.Target.TheVariants.{Whole}
@@ -64,10 +65,13 @@ declared kind signed range text = record { name = text; kind = kind; signed = si
 abbrev pub all_declared : Kind → Bool → Option RangeTree → List DeclaredTree → List Declaration
 all_declared kind signed range list = map (declared kind signed range) (map (λ one. one.name) list)
 
--- what isn't run yet declares nothing
+-- 4.2.1, 4.2.2
+abbrev pub kind_of : NetKind → Kind
+kind_of net.Wire = Wire
+kind_of net.Reg = Reg
+
 abbrev pub declared_as : DeclarationKind → List DeclaredTree → List Declaration
-declared_as (variables net.Wire type) list = []
-declared_as (variables net.Reg type) list = all_declared Reg type.signed type.range list
+declared_as (variables word type) list = all_declared (kind_of word) type.signed type.range list
 declared_as integers list = all_declared Integer true None list
 
 abbrev pub declarations_of : ItemTree → List Declaration
@@ -99,8 +103,7 @@ is_range None = true
 is_range (Some range) = is_some (bound_of range.left) && is_some (bound_of range.right) && nat_le (span (bounds_of range)) 64
 
 abbrev pub has_bounds : DeclarationKind → Bool
-has_bounds (variables net.Wire type) = true
-has_bounds (variables net.Reg type) = is_range type.range
+has_bounds (variables word type) = is_range type.range
 has_bounds integers = true
 
 abbrev pub has_range : ItemTree → Bool
@@ -254,15 +257,28 @@ abbrev mutual
         otherwise = front.otherwise ++ behind.otherwise;
       }
 
+-- what a process does: a statement, or it drives the net of this name (6.1)
+pub data ProcessTree : Type 0 where
+  does : StatementTree → ProcessTree
+  drives : Text → text.ExpressionTree → ProcessTree
+
+-- 6.1: it writes, and it writes again at any change of a name that is read
+abbrev pub driving : List Text → Text → text.ExpressionTree → Action
+driving names letters value = Drive (Whole (place_of names letters)) (resolved names value) (any_of names (names_in value))
+
+abbrev pub laid_process : List Text → List Action → ProcessTree → Laid
+laid_process names table (does statement) = laid names table statement
+laid_process names table (drives letters value) = placed table (driving names letters value)
+
 -- the table of several processes, and where each of them begins
 pub record Processes : Type 0 where
   pub table : List Action
   pub begins : List (List ℕ)
 
-abbrev pub laid_processes : List Text → List Action → List StatementTree → Processes
+abbrev pub laid_processes : List Text → List Action → List ProcessTree → Processes
 laid_processes names table [] = record { table = table; begins = [] }
-laid_processes names table (statement ∷ rest) =
-    let front = laid names table statement in
+laid_processes names table (process ∷ rest) =
+    let front = laid_process names table process in
     let behind = laid_processes names front.table rest in
     record { table = behind.table; begins = front.places ∷ behind.begins }
 
@@ -317,29 +333,42 @@ abbrev mutual
   knows_branches names no_branch = true
   knows_branches names (first_branch branch rest) = knows_branch names branch && knows_branches names rest
 
--- 6.2.1: `reg a = e` is an `initial a = e` at its place
-abbrev pub start_of : DeclaredTree → Option StatementTree
-start_of declared = option_map (λ value. assign (written.whole declared.name) None value) declared.value
+abbrev pub knows_drive : List Text → Text → text.ExpressionTree → Bool
+knows_drive names letters value = is_declared names letters && knows_expression names value
 
--- what isn't run yet has no process
-abbrev pub starts_of : DeclarationKind → List DeclaredTree → List StatementTree
-starts_of (variables net.Wire type) list = []
-starts_of (variables net.Reg type) list = filter_map start_of list
-starts_of integers list = filter_map start_of list
+abbrev pub knows_process : List Text → ProcessTree → Bool
+knows_process names (does statement) = knows names statement
+knows_process names (drives letters value) = knows_drive names letters value
 
--- the statements of the processes that an item makes
-abbrev pub statements_of : ItemTree → List StatementTree
-statements_of (parameters local type settings) = []
-statements_of (declaration kind list) = starts_of kind list
-statements_of (events names) = []
-statements_of (assignments settings) = []
-statements_of (initial statement) = statement ∷ []
-statements_of (always statement) = forever statement ∷ []  -- 9.9.2
-statements_of (instances letters overrides list) = []
+-- `reg a = e` is an `initial a = e` at its place (6.2.1), and `wire a = e` drives a (6.1.1)
+abbrev pub process_by : NetKind → Text → text.ExpressionTree → ProcessTree
+process_by net.Wire letters value = drives letters value
+process_by net.Reg letters value = does (assign (written.whole letters) None value)
+
+abbrev pub process_of : NetKind → DeclaredTree → Option ProcessTree
+process_of word declared = option_map (process_by word declared.name) declared.value
+
+abbrev pub starts_of : DeclarationKind → List DeclaredTree → List ProcessTree
+starts_of (variables word type) list = filter_map (process_of word) list
+starts_of integers list = filter_map (process_of net.Reg) list
+
+-- 6.1.2
+abbrev pub driven_by : SettingTree → ProcessTree
+driven_by setting = drives setting.name setting.value
+
+-- the processes that an item makes
+abbrev pub process_trees_by : ItemTree → List ProcessTree
+process_trees_by (parameters local type settings) = []
+process_trees_by (declaration kind list) = starts_of kind list
+process_trees_by (events names) = []
+process_trees_by (assignments settings) = map driven_by settings
+process_trees_by (initial statement) = does statement ∷ []
+process_trees_by (always statement) = does (forever statement) ∷ []  -- 9.9.2
+process_trees_by (instances letters overrides list) = []
 
 -- in the order of the text
-abbrev pub initials : ModuleTree → List StatementTree
-initials m = flat_map statements_of m.items
+abbrev pub process_trees : ModuleTree → List ProcessTree
+process_trees m = flat_map process_trees_by m.items
 
 -- ---- the design (12.1)
 
@@ -349,7 +378,7 @@ scope_by top count = record { name = top; depth = 0; variables = count }
 -- under the timescale of the text (19.8)
 abbrev pub design_of : Timescale → ModuleTree → design.Design
 design_of scale m =
-    let processes = laid_processes (declared_names m) [] (initials m) in
+    let processes = laid_processes (declared_names m) [] (process_trees m) in
     record {
       top = m.name;
       scale = scale;
@@ -362,10 +391,10 @@ design_of scale m =
 -- what the rules ask of a module
 pub record IsRight (m : ModuleTree) : Type 0 where
   pub names_differ : has_double (declared_names m) ≡ false
-  pub names_known : list_all (knows (declared_names m)) (initials m) ≡ true
+  pub names_known : list_all (knows_process (declared_names m)) (process_trees m) ≡ true
   pub ranges : list_all has_range m.items ≡ true
   pub few_variables : length (declarations m) ≤ 1024
-  pub few_processes : length (initials m) ≤ 256
+  pub few_processes : length (process_trees m) ≤ 256
 
 -- The text has a top, its modules have names of their own, the top is right, and the design is the one that it describes.
 pub record Elaborates (tree : SourceTree) (top : Option Text) (scale : Timescale) (design : design.Design) : Type 0 where

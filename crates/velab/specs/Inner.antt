@@ -12,16 +12,16 @@ use Rattle.vast.specs.Expressions.{ExpressionTree, ExpressionTrees}
 use Rattle.vast.specs.Statements.{StatementTree, StatementTrees, BranchTree, BranchTrees}
 use Rattle.vast.specs.StatementTrees.{statement_tree, statement_trees, branch_tree, branch_trees}
 use Rattle.vast.specs.Modules.{RangeTree, ItemTree, declaration, variables, integers, ModuleTree, SourceTree}
-use Rattle.vast.specs.ModuleTrees.{module_tree, range_tree, type_tree, declaration_kind, declared_tree, item_tree}
+use Rattle.vast.specs.ModuleTrees.{module_tree, range_tree, type_tree, declaration_kind, declared_tree, setting_tree, item_tree}
 use Rattle.vast.specs.declared.module.DeclarationKind.{DeclarationKind as DeclarationWords}
 use Rattle.vast.specs.declared.module.NetKind.{NetKind}
-use Rattle.vast.specs.declared.module.NetKind.TheVariants.{Reg}
 use Rattle.vast.specs.declared.module.SignAndRange.{SignAndRange}
 use Rattle.vast.specs.declared.statement.Statement.{Statement}
 use Rattle.vast.specs.declared.statement.Branch.{Branch as WrittenBranch}
 use Rattle.vast.specs.declared.module.ModuleTree.{ModuleTree as Parsed}
 use Rattle.vast.specs.declared.module.ModuleItem.{ModuleItem}
 use Rattle.vast.specs.declared.module.Declared.{Declared}
+use Rattle.vast.specs.declared.module.Setting.{Setting}
 use Rattle.vast.specs.declared.module.Bounds.{Bounds as Written}
 use Rattle.velab.specs.declared.fault.ElabFault.{ElabFault}
 use Rattle.velab.specs.declared.fault.ElabFault.TheVariants.{Module, Doubled, Unknown, Width, TooMany}
@@ -31,7 +31,7 @@ use Rattle.velab.specs.Uses.{is_declared}
 use Rattle.velab.specs.declared.variable.Form.{Form}
 use Rattle.vdesign.specs.declared.action.Action.{Action}
 use Rattle.velab.specs.Constants.{bound_of}
-use Rattle.velab.specs.Elaborate.{Laid, Processes, has_double, module_names, declarations_of, declared_names, declarations, start_of, statements_of, initials, is_range, has_range, knows, knows_all, laid, all_laid, laid_processes, bounds_of, variable_by, variable_of, LaidBranches, knows_items, knows_branch, knows_branches, laid_branch, laid_branches}
+use Rattle.velab.specs.Elaborate.{Laid, Processes, has_double, module_names, declarations_of, declared_names, declarations, is_range, has_range, knows, knows_all, laid, all_laid, laid_processes, bounds_of, variable_by, variable_of, LaidBranches, knows_items, knows_branch, knows_branches, laid_branch, laid_branches, process_trees_by, process_trees, ProcessTree, process_of, driven_by, knows_process}
 use Rattle.vdesign.specs.declared.action.Branch.{Branch}
 
 -- ---- parts of a module
@@ -94,9 +94,9 @@ IsBreach breaches (TooMany at) = breaches.many
 abbrev pub BreaksModule : ModuleTree → ElabFault → Type 0
 BreaksModule m = IsBreach (record {
   doubled = has_double (declared_names m) ≡ true;
-  unknown = list_all (knows (declared_names m)) (initials m) ≡ false;
+  unknown = list_all (knows_process (declared_names m)) (process_trees m) ≡ false;
   width = list_all has_range m.items ≡ false;
-  many = (1024 < length (declarations m)) ⊎ (256 < length (initials m));
+  many = (1024 < length (declarations m)) ⊎ (256 < length (process_trees m));
 })
 
 -- ---- and why a part of a module has none
@@ -159,25 +159,25 @@ abbrev pub BreaksKnown : Bool → ElabFault → Type 0
 BreaksKnown known = IsBreach (record no_breach { unknown = known ≡ false })
 
 -- these processes behind those that there are, those of an item, and all processes
-abbrev pub BreaksAdded : {X T : Type 0} → List Text → Vec X T → List StatementTree → ElabFault → Type 0
-BreaksAdded names processes statements = IsBreach (record no_breach {
-  unknown = list_all (knows names) statements ≡ false;
-  many = 256 < length processes.items + length statements;
+abbrev pub BreaksAdded : {X T : Type 0} → List Text → Vec X T → List ProcessTree → ElabFault → Type 0
+BreaksAdded names processes trees = IsBreach (record no_breach {
+  unknown = list_all (knows_process names) trees ≡ false;
+  many = 256 < length processes.items + length trees;
 })
 
 abbrev pub BreaksProcess : {X T : Type 0} → List Text → Vec X T → ItemTree → ElabFault → Type 0
-BreaksProcess names processes item = BreaksAdded names processes (statements_of item)
+BreaksProcess names processes item = BreaksAdded names processes (process_trees_by item)
 
 abbrev pub BreaksProcesses : List Text → List ItemTree → ElabFault → Type 0
 BreaksProcesses names items = IsBreach (record no_breach {
-  unknown = list_all (knows names) (flat_map statements_of items) ≡ false;
-  many = 256 < length (flat_map statements_of items);
+  unknown = list_all (knows_process names) (flat_map process_trees_by items) ≡ false;
+  many = 256 < length (flat_map process_trees_by items);
 })
 
 -- ---- what the parts of a text are made to, told of the program's values
 
-abbrev pub KnowsAll : List Text → List StatementTree → Type 0
-KnowsAll names statements = list_all (knows names) statements ≡ true
+abbrev pub KnowsAll : List Text → List ProcessTree → Type 0
+KnowsAll names trees = list_all (knows_process names) trees ≡ true
 
 -- the names that are declared together, in the words of a text
 abbrev pub texts_of : List Text → List Declared → List Text
@@ -197,18 +197,21 @@ abbrev pub branches_laid_of : List Text → List Text → List Action → List W
 branches_laid_of words names table branches = laid_branches names table (branch_trees words branches)
 
 abbrev pub laid_of_item : List Text → List Text → List Action → ModuleItem → Processes
-laid_of_item words names table item = laid_processes names table (statements_of (item_tree words item))
+laid_of_item words names table item = laid_processes names table (process_trees_by (item_tree words item))
 
--- the statements by which names are declared with a value
-abbrev pub starts_in : List Text → List Declared → List StatementTree
-starts_in words list = filter_map start_of (map (declared_tree words) list)
+-- the processes by which names are declared with a value, and those of an `assign`
+abbrev pub starts_in : List Text → NetKind → List Declared → List ProcessTree
+starts_in words word list = filter_map (process_of word) (map (declared_tree words) list)
 
--- the statements of items, and the processes that they describe
-abbrev pub initials_in : List Text → List ModuleItem → List StatementTree
-initials_in words items = flat_map statements_of (map (item_tree words) items)
+abbrev pub drives_in : List Text → List Setting → List ProcessTree
+drives_in words list = map driven_by (map (setting_tree words) list)
+
+-- the processes of items, and what they lay
+abbrev pub process_trees_in : List Text → List ModuleItem → List ProcessTree
+process_trees_in words items = flat_map process_trees_by (map (item_tree words) items)
 
 abbrev pub processes_of : List Text → List Text → List ModuleItem → Processes
-processes_of words names items = laid_processes names [] (initials_in words items)
+processes_of words names items = laid_processes names [] (process_trees_in words items)
 
 -- where there was no fault, these were laid
 abbrev pub HasLaid : {A B T E : Type 0} → Result T E → Laid → Vec ℕ A → List Action → Vec ℕ B → Type 0
@@ -238,9 +241,6 @@ kind_item words kind list = declaration (declaration_kind words kind) (map (decl
 
 abbrev pub net_item : List Text → NetKind → SignAndRange → List Declared → ItemTree
 net_item words net type list = declaration (variables net (type_tree words type)) (map (declared_tree words) list)
-
-abbrev pub registers_item : List Text → SignAndRange → List Declared → ItemTree
-registers_item words = net_item words Reg
 
 abbrev pub integers_item : List Text → List Declared → ItemTree
 integers_item words list = declaration integers (map (declared_tree words) list)

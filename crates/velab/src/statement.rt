@@ -1,15 +1,17 @@
 // Processes: what statements have to do, their names resolved (clause 9).
-ghost use Rattle.std.specs.Prelude.{◌≡◌, ◌<◌, ◌≤◌, ◌+◌, [], ◌++◌, ◌∷◌, true, false, length, map, option_map, List, IfOk, OnOk};
+ghost use Rattle.std.specs.Prelude.{None, ◌≡◌, ◌<◌, ◌≤◌, ◌+◌, [], ◌++◌, ◌∷◌, true, false, length, map, option_map, List, IfOk, OnOk};
 ghost use Rattle.basis.specs.Reasons.{IfFault};
 ghost use Rattle.vast.specs.Words.{Text};
 ghost use Rattle.vast.specs.ExpressionTrees.{tree_of as text_tree, trees_of};
 ghost use Rattle.vast.specs.StatementTrees.{target_tree, delay_tree, task_tree, statement_tree, statement_trees, branch_tree, branch_trees};
 ghost use Rattle.vast.specs.ModuleTrees.{item_tree};
+ghost use Rattle.vast.specs.TokenTexts.{token_text};
 ghost use Rattle.vexpr_parse.specs.Texts.{words_of};
 ghost use Rattle.velab.specs.Elaborate as spec;
-ghost use Rattle.vast.specs.Statements.{forever, case_of};
-ghost use Rattle.velab.specs.Elaborate.{laid, laid_processes, branches_by, knows, knows_all, knows_items, knows_branch, knows_branches, statements_of};
-ghost use Rattle.velab.specs.Inner.{laid_of, all_laid_of, branch_laid_of, branches_laid_of, laid_of_item, processes_of, starts_in, initials_in, AreLaid, HasLaid, HasBranches, HaveLaid};
+ghost use Rattle.vast.specs.Statements.{forever, case_of, assign, whole};
+ghost use Rattle.vast.specs.TokenTexts.{token_text};
+ghost use Rattle.velab.specs.Elaborate.{does, drives, laid, laid_process, laid_processes, knows_process, branches_by, knows, knows_all, knows_items, knows_branch, knows_branches, process_trees_by};
+ghost use Rattle.velab.specs.Inner.{laid_of, all_laid_of, branch_laid_of, branches_laid_of, laid_of_item, processes_of, starts_in, drives_in, process_trees_in, AreLaid, HasLaid, HasBranches, HaveLaid};
 ghost use Rattle.velab.specs.Resolved.{resolved, knows_expression};
 ghost use Rattle.velab.specs.Inner.{KnowsAll, IsBreach, no_breach, BreaksKnown, BreaksExpression, BreaksStatement, BreaksStatements, BreaksLabels, BreaksBranch, BreaksBranches, BreaksAdded, BreaksProcess, BreaksProcesses};
 
@@ -23,8 +25,9 @@ use basis::OrMemory;
 use std::alloc::Global;
 use std::marker::Model;
 use vast::expression::Expression as Value;
-use vast::module::{DeclarationKind, Declared, ModuleItem, NetKind};
+use vast::module::{DeclarationKind, Declared, ModuleItem, NetKind, Setting};
 use vast::statement::{Branch, CaseKind, Delay, Statement, Target as Written, Task};
+use vast::token::Token;
 use vdesign::action::{Action, Branch as Choice, Branches, Places, Target, Terms};
 use vdesign::expression::{Expression, Node};
 use vlex::Tokens;
@@ -553,11 +556,120 @@ fn lay_forever(
     put(table, into, at, Action::Forever { body })
 }
 
-// The process of a name that is declared with a value, if it is. E309 where there are enough processes.
+// What drives a net.
+fn lay_drive(
+    alloc: Global,
+    names: &Names<'_>,
+    tokens: &Tokens<'_>,
+    net: Token,
+    value: &Value,
+    table: &mut Table,
+    into: &mut Vec<usize>,
+) -> Result<(), OrMemory<ElabFault>>
+    requires { length names.now ≤ 1024 }
+    ensures ok { HasLaid result (laid_process names.now table.old (drives
+        (token_text (words_of tokens.now) net) (text_tree (words_of tokens.now) value.now)))
+        into.old table.new into.new }
+    ensures known { OnOk result (knows_process names.now (drives
+        (token_text (words_of tokens.now) net) (text_tree (words_of tokens.now) value.now)) ≡ true) }
+    ensures err { IfFault result (BreaksKnown (knows_process names.now (drives
+        (token_text (words_of tokens.now) net) (text_tree (words_of tokens.now) value.now)))) }
+{
+    let number = number_of(names, tokens, net)?;
+    let terms = condition_terms(alloc, names, tokens, value)?;
+    let value = expression_of(alloc, names, tokens, value)?;
+    let target = Target::Whole(number);
+    let action = Action::Drive {
+        target,
+        value,
+        terms,
+    };
+    put(table, into, net.number, action)
+}
+
+// The process that drives a net. E309 where there are enough processes.
+fn lay_net(
+    alloc: Global,
+    names: &Names<'_>,
+    tokens: &Tokens<'_>,
+    net: Token,
+    value: &Value,
+    table: &mut Table,
+    into: &mut Vec<Places>,
+) -> Result<(), OrMemory<ElabFault>>
+    requires names { length names.now ≤ 1024 }
+    requires few { length into.old.items ≤ 256 }
+    ensures ok { HaveLaid result (laid_processes names.now table.old (drives
+        (token_text (words_of tokens.now) net) (text_tree (words_of tokens.now) value.now) ∷ []))
+        into.old table.new into.new }
+    ensures few { OnOk result (length into.new.items ≤ 256) }
+    ensures known { OnOk result (KnowsAll names.now (drives
+        (token_text (words_of tokens.now) net) (text_tree (words_of tokens.now) value.now) ∷ [])) }
+    ensures err { IfFault result (BreaksAdded names.now into.old (drives
+        (token_text (words_of tokens.now) net) (text_tree (words_of tokens.now) value.now) ∷ [])) }
+{
+    if into.len() >= MOST_PROCESSES {
+        return Err(OrMemory::Fault(ElabFault::TooMany {
+            at: Some(net.number),
+        }));
+    }
+    let mut begins = Vec::new(alloc);
+    lay_drive(alloc, names, tokens, net, value, table, &mut begins)?;
+    into.push(Places::new(begins))?;
+    Ok(())
+}
+
+// The process of a variable that is declared with a value. E309 where there are enough processes.
+fn lay_variable(
+    alloc: Global,
+    names: &Names<'_>,
+    tokens: &Tokens<'_>,
+    name: Token,
+    value: &Value,
+    table: &mut Table,
+    into: &mut Vec<Places>,
+) -> Result<(), OrMemory<ElabFault>>
+    requires names { length names.now ≤ 1024 }
+    requires few { length into.old.items ≤ 256 }
+    ensures ok { HaveLaid result (laid_processes names.now table.old (does (assign
+        (whole (token_text (words_of tokens.now) name)) None
+        (text_tree (words_of tokens.now) value.now)) ∷ [])) into.old table.new into.new }
+    ensures few { OnOk result (length into.new.items ≤ 256) }
+    ensures known { OnOk result (KnowsAll names.now (does (assign
+        (whole (token_text (words_of tokens.now) name)) None
+        (text_tree (words_of tokens.now) value.now)) ∷ [])) }
+    ensures err { IfFault result (BreaksAdded names.now into.old (does (assign
+        (whole (token_text (words_of tokens.now) name)) None
+        (text_tree (words_of tokens.now) value.now)) ∷ [])) }
+{
+    if into.len() >= MOST_PROCESSES {
+        return Err(OrMemory::Fault(ElabFault::TooMany {
+            at: Some(name.number),
+        }));
+    }
+    let target = Written::Whole(name);
+    let mut begins = Vec::new(alloc);
+    lay_assignment(
+        alloc,
+        names,
+        tokens,
+        true,
+        &target,
+        &None,
+        value,
+        table,
+        &mut begins,
+    )?;
+    into.push(Places::new(begins))?;
+    Ok(())
+}
+
+// The process of a name that is declared with a value, if it is.
 fn lay_start(
     alloc: Global,
     names: &Names<'_>,
     tokens: &Tokens<'_>,
+    word: NetKind,
     one: &Declared,
     table: &mut Table,
     into: &mut Vec<Places>,
@@ -565,36 +677,19 @@ fn lay_start(
     requires names { length names.now ≤ 1024 }
     requires few { length into.old.items ≤ 256 }
     ensures ok { HaveLaid result (laid_processes names.now table.old
-        (starts_in (words_of tokens.now) (one.now ∷ []))) into.old table.new into.new }
+        (starts_in (words_of tokens.now) word (one.now ∷ []))) into.old table.new into.new }
     ensures few { OnOk result (length into.new.items ≤ 256) }
-    ensures known { OnOk result (KnowsAll names.now (starts_in (words_of tokens.now) (one.now ∷ []))) }
+    ensures known { OnOk result
+        (KnowsAll names.now (starts_in (words_of tokens.now) word (one.now ∷ []))) }
     ensures err { IfFault result
-        (BreaksAdded names.now into.old (starts_in (words_of tokens.now) (one.now ∷ []))) }
+        (BreaksAdded names.now into.old (starts_in (words_of tokens.now) word (one.now ∷ []))) }
 {
     match &one.value {
         None => Ok(()),
-        Some(value) => {
-            if into.len() >= MOST_PROCESSES {
-                return Err(OrMemory::Fault(ElabFault::TooMany {
-                    at: Some(one.name.number),
-                }));
-            }
-            let target = Written::Whole(one.name);
-            let mut begins = Vec::new(alloc);
-            lay_assignment(
-                alloc,
-                names,
-                tokens,
-                true,
-                &target,
-                &None,
-                value,
-                table,
-                &mut begins,
-            )?;
-            into.push(Places::new(begins))?;
-            Ok(())
-        }
+        Some(value) => match word {
+            NetKind::Wire => lay_net(alloc, names, tokens, one.name, value, table, into),
+            NetKind::Reg => lay_variable(alloc, names, tokens, one.name, value, table, into),
+        },
     }
 }
 
@@ -603,6 +698,7 @@ fn lay_starts(
     alloc: Global,
     names: &Names<'_>,
     tokens: &Tokens<'_>,
+    word: NetKind,
     list: &[Declared],
     table: &mut Table,
     into: &mut Vec<Places>,
@@ -610,14 +706,59 @@ fn lay_starts(
     requires names { length names.now ≤ 1024 }
     requires few { length into.old.items ≤ 256 }
     ensures ok { HaveLaid result (laid_processes names.now table.old
-        (starts_in (words_of tokens.now) list.now)) into.old table.new into.new }
+        (starts_in (words_of tokens.now) word list.now)) into.old table.new into.new }
     ensures few { OnOk result (length into.new.items ≤ 256) }
-    ensures known { OnOk result (KnowsAll names.now (starts_in (words_of tokens.now) list.now)) }
+    ensures known { OnOk result (KnowsAll names.now (starts_in (words_of tokens.now) word list.now)) }
     ensures err { IfFault result
-        (BreaksAdded names.now into.old (starts_in (words_of tokens.now) list.now)) }
+        (BreaksAdded names.now into.old (starts_in (words_of tokens.now) word list.now)) }
 {
     for one in list {
-        lay_start(alloc, names, tokens, one, table, into)?;
+        lay_start(alloc, names, tokens, word, one, table, into)?;
+    }
+    Ok(())
+}
+
+// The process of one part of an `assign`.
+fn lay_setting(
+    alloc: Global,
+    names: &Names<'_>,
+    tokens: &Tokens<'_>,
+    one: &Setting,
+    table: &mut Table,
+    into: &mut Vec<Places>,
+) -> Result<(), OrMemory<ElabFault>>
+    requires names { length names.now ≤ 1024 }
+    requires few { length into.old.items ≤ 256 }
+    ensures ok { HaveLaid result (laid_processes names.now table.old
+        (drives_in (words_of tokens.now) (one.now ∷ []))) into.old table.new into.new }
+    ensures few { OnOk result (length into.new.items ≤ 256) }
+    ensures known { OnOk result (KnowsAll names.now (drives_in (words_of tokens.now) (one.now ∷ []))) }
+    ensures err { IfFault result
+        (BreaksAdded names.now into.old (drives_in (words_of tokens.now) (one.now ∷ []))) }
+{
+    lay_net(alloc, names, tokens, one.name, &one.value, table, into)
+}
+
+// The processes of an `assign`.
+fn lay_drives(
+    alloc: Global,
+    names: &Names<'_>,
+    tokens: &Tokens<'_>,
+    list: &[Setting],
+    table: &mut Table,
+    into: &mut Vec<Places>,
+) -> Result<(), OrMemory<ElabFault>>
+    requires names { length names.now ≤ 1024 }
+    requires few { length into.old.items ≤ 256 }
+    ensures ok { HaveLaid result (laid_processes names.now table.old
+        (drives_in (words_of tokens.now) list.now)) into.old table.new into.new }
+    ensures few { OnOk result (length into.new.items ≤ 256) }
+    ensures known { OnOk result (KnowsAll names.now (drives_in (words_of tokens.now) list.now)) }
+    ensures err { IfFault result
+        (BreaksAdded names.now into.old (drives_in (words_of tokens.now) list.now)) }
+{
+    for one in list {
+        lay_setting(alloc, names, tokens, one, table, into)?;
     }
     Ok(())
 }
@@ -638,7 +779,7 @@ fn lay_process(
         into.new }
     ensures few { OnOk result (length into.new.items ≤ 256) }
     ensures known { OnOk result
-        (KnowsAll names.now (statements_of (item_tree (words_of tokens.now) item.now))) }
+        (KnowsAll names.now (process_trees_by (item_tree (words_of tokens.now) item.now))) }
     ensures err { IfFault result
         (BreaksProcess names.now into.old (item_tree (words_of tokens.now) item.now)) }
 {
@@ -654,18 +795,17 @@ fn lay_process(
         }
         ModuleItem::Parameters { .. } => Ok(()),
         ModuleItem::Declaration { kind, declared, .. } => match kind {
-            DeclarationKind::Variables {
-                net: NetKind::Wire,
-                ..
-            } => Ok(()),
-            DeclarationKind::Variables {
-                net: NetKind::Reg,
-                ..
-            } => lay_starts(alloc, names, tokens, declared, table, into),
-            DeclarationKind::Integers => lay_starts(alloc, names, tokens, declared, table, into),
+            DeclarationKind::Variables { net, .. } => {
+                lay_starts(alloc, names, tokens, *net, declared, table, into)
+            }
+            DeclarationKind::Integers => {
+                lay_starts(alloc, names, tokens, NetKind::Reg, declared, table, into)
+            }
         },
         ModuleItem::Events { .. } => Ok(()),
-        ModuleItem::Assignments { .. } => Ok(()),
+        ModuleItem::Assignments { settings, .. } => {
+            lay_drives(alloc, names, tokens, settings, table, into)
+        }
         ModuleItem::Always { at, statement } => {
             if into.len() >= MOST_PROCESSES {
                 return Err(OrMemory::Fault(ElabFault::TooMany { at: None }));
@@ -686,7 +826,8 @@ pub struct ProcessTable {
     pub begins: Vec<Places>,
 }
 
-/// A process for each `initial`, for each `always` and for each name that is declared with a value, in the order of the text. Errors: E303, E309, E901.
+/// A process for each `initial`, each `always`, each net that an `assign` drives and each name that is declared with a value, in the order of the
+/// text. Errors: E303, E309, E901.
 pub fn processes(
     alloc: Global,
     tokens: &Tokens<'_>,
@@ -697,9 +838,9 @@ pub fn processes(
     ensures ok { IfOk result (λ ps. AreLaid
         (processes_of (words_of tokens.now) names.now items.now) [] ps.table ps.begins.items) }
     ensures few { IfOk result (λ ps. length ps.begins.items ≤ 256) }
-    ensures count { OnOk result (length (initials_in (words_of tokens.now) items.now) ≤ 256) }
+    ensures count { OnOk result (length (process_trees_in (words_of tokens.now) items.now) ≤ 256) }
     ensures known { OnOk result
-        (KnowsAll names.now (initials_in (words_of tokens.now) items.now)) }
+        (KnowsAll names.now (process_trees_in (words_of tokens.now) items.now)) }
     ensures err { IfFault result
         (BreaksProcesses names.now (map (item_tree (words_of tokens.now)) items.now)) }
 {

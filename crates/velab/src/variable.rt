@@ -1,4 +1,4 @@
-// Variables: what a module declares by `reg` and by `integer` (4.2, 4.3, 4.8).
+// Variables and nets: what a module declares by `reg`, by `integer` and by `wire` (4.2, 4.3, 4.8).
 ghost use Rattle.std.specs.Prelude.{◌≡◌, ◌<◌, ◌≤◌, [], ◌++◌, ◌∷◌, ℕ, Some, None, true, false, length, map, option_map, IfOk, IfSome, OnOk};
 ghost use Rattle.std.specs.List.{list_all, flat_map};
 ghost use Rattle.basis.specs.Reasons.{IfFault};
@@ -10,8 +10,8 @@ ghost use Rattle.vexpr_parse.specs.Texts.{words_of};
 ghost use Rattle.velab.specs.Constants as constants;
 ghost use Rattle.velab.specs.Elaborate as spec;
 ghost use Rattle.velab.specs.Elaborate.{has_double, has_range, has_bounds, declared_as, is_range, variable_of, declarations_of, declarations, declared_names, length_of};
-ghost use Rattle.vdesign.specs.declared.design.Kind.TheVariants.{Reg};
-ghost use Rattle.velab.specs.Inner.{bounds_for, integers_item, kind_item, net_item, registers_item, texts_of, variable_in, variables_by, variables_for, variables_of};
+ghost use Rattle.vdesign.specs.declared.design.Kind.{Kind};
+ghost use Rattle.velab.specs.Inner.{bounds_for, integers_item, kind_item, net_item, texts_of, variable_in, variables_by, variables_for, variables_of};
 ghost use Rattle.velab.specs.InnerVariables.{PutsVariables};
 ghost use Rattle.velab.specs.Inner.{names_in, names_of, BreaksBound, BreaksRange, BreaksDeclaration, BreaksNames, BreaksItem, BreaksItems};
 
@@ -158,7 +158,7 @@ fn range_bounds(
     ensures ok { IfOk result (λ bounds. bounds ≡ bounds_for (words_of tokens.now) range.now) }
     ensures range { OnOk result
         (is_range (option_map (range_tree (words_of tokens.now)) range.now) ≡ true) }
-    ensures few { IfOk result (λ bounds. length_of Reg bounds ≤ 64) }
+    ensures few { IfOk result (λ bounds. (kind : Kind) → length_of kind bounds ≤ 64) }
     ensures err { IfFault result
         (BreaksRange (option_map (range_tree (words_of tokens.now)) range.now)) }
 {
@@ -265,32 +265,6 @@ fn declare_all<'t>(
     Ok(())
 }
 
-// The variables of a `reg`. E306 where its range is none.
-fn declare_registers<'t>(
-    alloc: Global,
-    tokens: &Tokens<'t>,
-    scope: &[u8],
-    kind: &SignAndRange,
-    list: &[Declared],
-    into: &mut Declarations<'t>,
-) -> Result<(), OrMemory<ElabFault>>
-    requires { length into.old.names ≤ 1024 }
-    ensures names { OnOk result (into.new.names ≡ into.old.names ++ names_of (registers_item (words_of tokens.now) kind.now list.now)) }
-    ensures variables { PutsVariables into.old into.new result
-        (map (variable_of scope.now) (declarations_of (registers_item (words_of tokens.now) kind.now list.now))) }
-    ensures few { OnOk result (length into.new.names ≤ 1024) }
-    ensures range { OnOk result (has_range (registers_item (words_of tokens.now) kind.now list.now) ≡ true) }
-    ensures err { IfFault result (BreaksItem into.old.names (registers_item (words_of tokens.now) kind.now list.now)) }
-{
-    let bounds = range_bounds(tokens, &kind.range)?;
-    let form = Form {
-        kind: Kind::Reg,
-        signed: kind.signed,
-        bounds,
-    };
-    declare_all(alloc, tokens, scope, form, list, into)
-}
-
 // The variables of an `integer`.
 fn declare_integers<'t>(
     alloc: Global,
@@ -314,7 +288,17 @@ fn declare_integers<'t>(
     declare_all(alloc, tokens, scope, form, list, into)
 }
 
-// The variables of a net or of a variable: nets aren't run yet.
+// What a word declares.
+fn kind_of(net: NetKind) -> Kind
+    ensures { result ≡ spec.kind_of net }
+{
+    match net {
+        NetKind::Wire => Kind::Wire,
+        NetKind::Reg => Kind::Reg,
+    }
+}
+
+// The variables of a `reg` or of a `wire`. E306 where its range is none.
 fn declare_net<'t>(
     alloc: Global,
     tokens: &Tokens<'t>,
@@ -332,10 +316,13 @@ fn declare_net<'t>(
     ensures range { OnOk result (has_range (net_item (words_of tokens.now) net kind.now list.now) ≡ true) }
     ensures err { IfFault result (BreaksItem into.old.names (net_item (words_of tokens.now) net kind.now list.now)) }
 {
-    match net {
-        NetKind::Wire => Ok(()),
-        NetKind::Reg => declare_registers(alloc, tokens, scope, kind, list, into),
-    }
+    let bounds = range_bounds(tokens, &kind.range)?;
+    let form = Form {
+        kind: kind_of(net),
+        signed: kind.signed,
+        bounds,
+    };
+    declare_all(alloc, tokens, scope, form, list, into)
 }
 
 // The variables of a declaration.

@@ -4,7 +4,7 @@ use Rattle.vast.specs.declared.module.ModuleItem.{ModuleItem}
 use Rattle.vexpr_parse.specs.Texts.{words_of}
 use Rattle.velab.specs.Elaborate.{laid_processes}
 use Rattle.velab.proofs.FaultLemmas.{handed_on}
-use Rattle.velab.specs.Inner.{initials_in}
+use Rattle.velab.specs.Inner.{process_trees_in}
 use Rattle.velab.proofs.ProcessLemmas.{LeadTo, count_laid, item_step, item_known, item_err}
 use Rattle.velab.proofs.statement.processes.Goals as goal
 
@@ -16,9 +16,9 @@ returns-in_err-lay_process-clause-err c =
 
 pub returns-clause-count : goal.returns-clause-count
 returns-clause-count c =
-    count_laid c.args.names.now c.loop-item.table c.loop-item.begins.items (initials_in (words_of c.args.tokens.now) c.args.items.now)
-    (subst (λ (items : List ModuleItem). LeadTo c.args.names.now c.loop-item.table c.loop-item.begins.items (initials_in (words_of c.args.tokens.now) items)
-    (laid_processes c.args.names.now [] (initials_in (words_of c.args.tokens.now) c.args.items.now))) (drop_of_length-le c.args.items.now c.loop-item-test.false) c.loop-item.invariant.ok)
+    count_laid c.args.names.now c.loop-item.table c.loop-item.begins.items (process_trees_in (words_of c.args.tokens.now) c.args.items.now)
+    (subst (λ (items : List ModuleItem). LeadTo c.args.names.now c.loop-item.table c.loop-item.begins.items (process_trees_in (words_of c.args.tokens.now) items)
+    (laid_processes c.args.names.now [] (process_trees_in (words_of c.args.tokens.now) c.args.items.now))) (drop_of_length-le c.args.items.now c.loop-item-test.false) c.loop-item.invariant.ok)
     c.loop-item.invariant.few
 
 pub loop-item-preserved : goal.loop-item-preserved
