@@ -2,6 +2,7 @@ pub mod Literals
 pub mod Uses
 pub mod Resolved
 pub mod Waits
+pub mod Right
 pub mod Elaborate
 pub mod Reasons
 pub mod Laws

@@ -14,6 +14,7 @@ ghost use Rattle.velab.specs.Inner.{bounds_for, integers_item, kind_item, net_it
 ghost use Rattle.velab.specs.InnerVariables.{PutsVariables};
 ghost use Rattle.velab.specs.Inner.{names_in, names_of, BreaksBound, BreaksRange, BreaksDeclaration, BreaksNames, BreaksItem, BreaksItems};
 
+use crate::driven::Home;
 use crate::fault::ElabFault;
 use crate::letters::letters;
 use crate::names::Names;
@@ -194,17 +195,35 @@ fn dotted(alloc: Global, scope: &[u8], name: &[u8]) -> Result<Vec<u8>, NoMemory>
     Ok(text)
 }
 
-fn variable(alloc: Global, scope: &[u8], form: Form, name: &[u8]) -> Result<Variable, NoMemory>
+// What each bit of a variable is until it is first written.
+fn start_of(scope: &Home<'_>, kind: Kind, name: &[u8]) -> Bit4
+    ensures { result ≡ spec.start_by scope.now kind name.now }
+{
+    match kind {
+        Kind::Reg => Bit4::X,
+        Kind::Integer => Bit4::X,
+        Kind::Wire => {
+            if scope.driven.place(name).is_some() {
+                Bit4::X
+            } else {
+                Bit4::Z
+            }
+        }
+    }
+}
+
+fn variable(alloc: Global, scope: &Home<'_>, form: Form, name: &[u8]) -> Result<Variable, NoMemory>
     requires { spec.length_of form.kind form.bounds ≤ 64 }
     ensures { IfOk result (λ v. v ≡ variable_in scope.now form name.now) }
 {
-    let name = dotted(alloc, scope, name)?;
+    let start = start_of(scope, form.kind, name);
+    let name = dotted(alloc, scope.name, name)?;
     Ok(Variable {
         name,
         kind: form.kind,
         length: length_of(form),
         signed: form.signed,
-        start: Bit4::X,
+        start,
         bounds: form.bounds,
     })
 }
@@ -213,7 +232,7 @@ fn variable(alloc: Global, scope: &[u8], form: Form, name: &[u8]) -> Result<Vari
 fn declare<'t>(
     alloc: Global,
     tokens: &Tokens<'t>,
-    scope: &[u8],
+    scope: &Home<'_>,
     form: Form,
     token: Token,
     into: &mut Declarations<'t>,
@@ -243,7 +262,7 @@ fn declare<'t>(
 fn declare_all<'t>(
     alloc: Global,
     tokens: &Tokens<'t>,
-    scope: &[u8],
+    scope: &Home<'_>,
     form: Form,
     list: &[Declared],
     into: &mut Declarations<'t>,
@@ -268,7 +287,7 @@ fn declare_all<'t>(
 fn declare_integers<'t>(
     alloc: Global,
     tokens: &Tokens<'t>,
-    scope: &[u8],
+    scope: &Home<'_>,
     list: &[Declared],
     into: &mut Declarations<'t>,
 ) -> Result<(), OrMemory<ElabFault>>
@@ -301,7 +320,7 @@ fn kind_of(net: NetKind) -> Kind
 fn declare_net<'t>(
     alloc: Global,
     tokens: &Tokens<'t>,
-    scope: &[u8],
+    scope: &Home<'_>,
     net: NetKind,
     kind: &SignAndRange,
     list: &[Declared],
@@ -328,7 +347,7 @@ fn declare_net<'t>(
 fn declare_kind<'t>(
     alloc: Global,
     tokens: &Tokens<'t>,
-    scope: &[u8],
+    scope: &Home<'_>,
     kind: &DeclarationKind,
     list: &[Declared],
     into: &mut Declarations<'t>,
@@ -353,7 +372,7 @@ fn declare_kind<'t>(
 fn declare_item<'t>(
     alloc: Global,
     tokens: &Tokens<'t>,
-    scope: &[u8],
+    scope: &Home<'_>,
     item: &ModuleItem,
     into: &mut Declarations<'t>,
 ) -> Result<(), OrMemory<ElabFault>>
@@ -382,7 +401,7 @@ fn declare_item<'t>(
 pub fn declare_items<'t>(
     alloc: Global,
     tokens: &Tokens<'t>,
-    scope: &[u8],
+    scope: &Home<'_>,
     items: &[ModuleItem],
 ) -> Result<Declarations<'t>, OrMemory<ElabFault>>
     ensures names { IfOk result (λ d.
