@@ -10,5 +10,6 @@ pub mod TopLemmas
 mod WaitLemmas
 mod ProcessLemmas
 pub mod DesignLemmas
+pub mod DrivenLemmas
 mod NamedLemmas
 mod NotRunLemmas

@@ -14,7 +14,7 @@ use Rattle.vdesign.specs.Named.{AreNamed}
 use Rattle.vast.specs.Modules.{ItemTree, parameters, declaration, variables, integers, events, assignments, initial, always, instances, DeclarationKind, ModuleTree, SourceTree, DerivesText, DeclaredTree, fits, fits_module, fits_item, fits_declared, fits_optional, fits_optional_parameters, fits_optional_ports, fits_declaration_kind, are_some}
 use Rattle.vdesign.specs.Design.{Variable, Design}
 use Rattle.vdesign.specs.declared.design.Kind.TheVariants.{Integer}
-use Rattle.velab.specs.Elaborate.{Declaration, all_declared, kind_of, declared_as, declarations_of, declarations, declared_names, variable_of, has_double, top_of, design_of, Elaborates}
+use Rattle.velab.specs.Elaborate.{Home, home_of, Declaration, all_declared, kind_of, declared_as, declarations_of, declarations, declared_names, variable_of, has_double, top_of, design_of, Elaborates}
 
 -- ---- letters
 
@@ -120,13 +120,13 @@ all_named tree fit = passes (fits_module 64) is_named module_fits tree fit
 
 -- ---- the variables
 
-paths_of : (top : Text) (ds : List Declaration) → has_letters_of_name top ≡ true → list_all is_name (names ds) ≡ true →
+paths_of : (top : Home) (ds : List Declaration) → has_letters_of_name top.name ≡ true → list_all is_name (names ds) ≡ true →
     (i : ℕ) (v : Variable) → slice_get (map (variable_of top) ds) i ≡ Some v → is_path v.name ≡ true
 paths_of top [] e h i v at = cc
 paths_of top (d ∷ ds) e h zero v at =
     let is : variable_of top d ≡ v = cc in
     subst (λ (w : Variable). is_path w.name ≡ true) is
-    (dotted_is_path top d.name e (letters d.name (and_left (is_name d.name) (list_all is_name (names ds)) h)))
+    (dotted_is_path top.name d.name e (letters d.name (and_left (is_name d.name) (list_all is_name (names ds)) h)))
 paths_of top (d ∷ ds) e h (suc i) v at = paths_of top ds e (and_right (is_name d.name) (list_all is_name (names ds)) h) i v at
 
 same_end : (top text other : Text) → top ++ 46 ∷ text ≡ top ++ 46 ∷ other → text ≡ other
@@ -134,17 +134,17 @@ same_end [] text other e = cc
 same_end (c ∷ cs) text other e = let rest : cs ++ 46 ∷ text ≡ cs ++ 46 ∷ other = cc in same_end cs text other rest
 
 -- a variable of that name is of that declared name
-among : (top : Text) (ds : List Declaration) (j : ℕ) (w : Variable) (text : Text) → slice_get (map (variable_of top) ds) j ≡ Some w →
-    top ++ 46 ∷ text ≡ w.name → list_any (bytes_eq text) (names ds) ≡ true
+among : (top : Home) (ds : List Declaration) (j : ℕ) (w : Variable) (text : Text) → slice_get (map (variable_of top) ds) j ≡ Some w →
+    top.name ++ 46 ∷ text ≡ w.name → list_any (bytes_eq text) (names ds) ≡ true
 among top [] j w text at e = cc
 among top (d ∷ ds) zero w text at e =
     let is : w ≡ variable_of top d = cc in
     or_first (bytes_eq text d.name) (list_any (bytes_eq text) (names ds))
-    ((bytes_eq-Decides text d.name).1 (same_end top text d.name (e ∙ ap (λ (v : Variable). v.name) is)))
+    ((bytes_eq-Decides text d.name).1 (same_end top.name text d.name (e ∙ ap (λ (v : Variable). v.name) is)))
 among top (d ∷ ds) (suc j) w text at e =
     or_second (bytes_eq text d.name) (list_any (bytes_eq text) (names ds)) (among top ds j w text at e)
 
-distinct_of : (top : Text) (ds : List Declaration) → has_double (names ds) ≡ false → (i j : ℕ) (v w : Variable) → i < j →
+distinct_of : (top : Home) (ds : List Declaration) → has_double (names ds) ≡ false → (i j : ℕ) (v w : Variable) → i < j →
     slice_get (map (variable_of top) ds) i ≡ Some v → slice_get (map (variable_of top) ds) j ≡ Some w → v.name ≢ w.name
 distinct_of top [] none i j v w lt first second = cc
 distinct_of top (d ∷ ds) none i zero v w lt first second = absurd (omega (arith, lt))
@@ -181,8 +181,8 @@ module_named : (scale : Timescale) (m : ModuleTree) → is_named m ≡ true → 
     AreNamed (design_of scale m)
 module_named scale m e none = record {
   top = top;
-  paths = paths_of m.name (declarations m) top (all_names m.items (and_right (is_name m.name) (list_all item_is_named m.items) e));
-  distinct = distinct_of m.name (declarations m) none;
+  paths = paths_of (home_of m) (declarations m) top (all_names m.items (and_right (is_name m.name) (list_all item_is_named m.items) e));
+  distinct = distinct_of (home_of m) (declarations m) none;
 }
   where
     top : has_letters_of_name m.name ≡ true

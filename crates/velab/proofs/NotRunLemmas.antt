@@ -7,14 +7,13 @@ use Rattle.std.specs.List.{list_all}
 use Rattle.vast.specs.Words.{Text}
 use Rattle.vast.specs.ExpressionTrees.{tree_of, trees_of, boxed_tree}
 use Rattle.vast.specs.StatementTrees.{target_tree, delay_tree, task_tree, statement_tree, statement_row, branch_tree, branch_row}
-use Rattle.vast.specs.ModuleTrees.{range_tree, declaration_kind, declared_tree, item_tree, module_tree, source_tree}
+use Rattle.vast.specs.ModuleTrees.{range_tree, declaration_kind, declared_tree, setting_tree, item_tree, module_tree, source_tree}
 use Rattle.vast.specs.declared.expression.Expression.{Expression}
 use Rattle.vast.specs.declared.statement.Target.{Target}
 use Rattle.vast.specs.declared.statement.Delay.{Delay}
 use Rattle.vast.specs.declared.statement.Statement.{Statement, Block, Case, Empty, Block', Assign, Nonblocking, Trigger, If', IfElse', Case', While', Repeat', Forever', For', Wait', Delayed', OnEvent', Task as Call, Row_of-Statement, end_of-Statement, more_of-Statement, items-the_row-Statement, items_hidden-the_row-Statement-0, Row_of-Branch, end_of-Branch, more_of-Branch, items-the_row-Branch, items_hidden-the_row-Branch-1}
 use Rattle.vast.specs.declared.statement.Branch.{Branch, Labelled, Default}
 use Rattle.vast.specs.declared.statement.CaseKind.{CaseKind}
-use Rattle.vast.specs.declared.module.NetKind.TheVariants as net
 use Rattle.vast.specs.declared.module.Bounds.{Bounds}
 use Rattle.vast.specs.declared.module.DeclarationKind.{DeclarationKind}
 use Rattle.vast.specs.declared.module.DeclarationKind.TheVariants as declaring
@@ -24,9 +23,9 @@ use Rattle.vast.specs.declared.module.ModuleItem.TheVariants as items
 use Rattle.vast.specs.declared.module.ModuleTree.{ModuleTree}
 use Rattle.vast.specs.declared.module.TextTree.{TextTree}
 use Rattle.velab.specs.Constants.{runs_bound}
-use Rattle.velab.specs.Runs.{runs_target, runs_delay, runs_assignment, runs_task, runs_statement, runs_statements, runs_range, runs_kind, runs_value, runs_declared, runs_item, runs_module, runs, runs_items, runs_branch, runs_branches}
+use Rattle.velab.specs.Runs.{runs_target, runs_delay, runs_assignment, runs_task, runs_statement, runs_statements, runs_range, runs_kind, runs_value, runs_declared, runs_item, runs_module, runs, runs_items, runs_branch, runs_branches, runs_setting}
 use Rattle.velab.specs.Resolved.{runs_expression}
-use Rattle.velab.specs.FirstNotRun.{unless_run, first_among, in_expression, in_bound, in_target, in_delay, in_assignment, in_labels, in_statement, in_row, in_branch, in_branch_row, in_statements, in_branches, in_range, in_kind, in_declared, in_item, in_items, in_head, in_module, first_not_run, delay_token}
+use Rattle.velab.specs.FirstNotRun.{unless_run, first_among, in_expression, in_bound, in_target, in_delay, in_assignment, in_labels, in_statement, in_row, in_branch, in_branch_row, in_statements, in_branches, in_range, in_kind, in_declared, in_setting, in_item, in_items, in_head, in_module, first_not_run, delay_token}
 
 -- ---- a list is looked through from its start
 
@@ -173,10 +172,9 @@ module _ (words : List Text) where
       either (in_bound words r.left.value) (in_bound words r.right.value) (runs_bound (tree_of words r.left.value)) (runs_bound (tree_of words r.right.value))
       (unless _ _) (unless _ _)
 
-  kind : (at : ℕ) (k : DeclarationKind) → is_some (in_kind words at k) ≡ not (runs_kind (declaration_kind words k))
-  kind at (declaring.Variables net.Wire type) = refl
-  kind at (declaring.Variables net.Reg type) = range type.range
-  kind at declaring.Integers = refl
+  kind : (k : DeclarationKind) → is_some (in_kind words k) ≡ not (runs_kind (declaration_kind words k))
+  kind (declaring.Variables word type) = range type.range
+  kind declaring.Integers = refl
 
   value_runs : (value : Option (Box Expression Global)) →
       is_some (option_and_then (λ v. in_expression words v.value) value) ≡ not (runs_value (option_map (boxed_tree words) value))
@@ -186,14 +184,14 @@ module _ (words : List Text) where
   item : (m : ModuleItem) → is_some (in_item words m) ≡ not (runs_item (item_tree words m))
   item (items.Parameters at local type settings) = refl
   item (items.Declaration at k declared) =
-      either (in_kind words at k) (first_among (in_declared words) declared.items) (runs_kind (declaration_kind words k))
-      (list_all runs_declared (map (declared_tree words) declared.items)) (kind at k)
+      either (in_kind words k) (first_among (in_declared words) declared.items) (runs_kind (declaration_kind words k))
+      (list_all runs_declared (map (declared_tree words) declared.items)) (kind k)
       (among (in_declared words) (declared_tree words) runs_declared one_declared declared.items)
     where
       one_declared : (d : Declared) → is_some (in_declared words d) ≡ not (runs_declared (declared_tree words d))
       one_declared d = value_runs d.value
   item (items.Events at names) = refl
-  item (items.Assignments at settings) = refl
+  item (items.Assignments at settings) = among (in_setting words) (setting_tree words) runs_setting (λ one. unless _ _) settings.items
   item (items.Initial at s) = statement s
   item (items.Always at s) = statement s
   item (items.Instances name overrides list) = refl

@@ -9,7 +9,7 @@ use Rattle.basis.specs.declared.memory.OrMemory.{OrMemory}
 use Rattle.basis.specs.declared.memory.OrMemory.TheVariants.{Fault, Memory}
 use Rattle.basis.specs.Reasons.{Because, IfFault}
 use Rattle.velab.specs.declared.fault.ElabFault.{ElabFault}
-use Rattle.velab.specs.declared.fault.ElabFault.TheVariants.{Module as ModuleFault, Doubled, Unknown, Width, TooMany}
+use Rattle.velab.specs.declared.fault.ElabFault.TheVariants.{Module as ModuleFault, Doubled, Unknown, Drivers, Width, TooMany, Kind}
 use Rattle.velab.specs.Elaborate.{top_of, has_double, module_names}
 use Rattle.velab.specs.Uses.{is_declared}
 use Rattle.velab.specs.Reasons.{IsDesignReason}
@@ -33,6 +33,8 @@ top_err (Ok x) tree top m is h = tt
 top_err (Err (Fault (ModuleFault at))) tree top m is h = absurd h
 top_err (Err (Fault (Doubled at))) tree top m is h = inr (m, is, h)
 top_err (Err (Fault (Unknown at))) tree top m is h = (m, is, h)
+top_err (Err (Fault (Drivers at))) tree top m is h = (m, is, h)
 top_err (Err (Fault (Width at))) tree top m is h = (m, is, h)
 top_err (Err (Fault (TooMany at))) tree top m is h = (m, is, h)
+top_err (Err (Fault (Kind at))) tree top m is h = (m, is, h)
 top_err (Err (Memory m')) tree top m is h = tt

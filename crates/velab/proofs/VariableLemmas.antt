@@ -23,7 +23,7 @@ use Rattle.basis.specs.declared.memory.OrMemory.{OrMemory}
 use Rattle.basis.specs.Reasons.{Because, IfFault}
 use Rattle.velab.specs.declared.fault.ElabFault.{ElabFault}
 use Rattle.velab.specs.Constants.{is_negative}
-use Rattle.velab.specs.Elaborate.{has_double, has_range, Declaration, declared, all_declared, declarations_of, bounds_of, variable_by, variable_of, length_of}
+use Rattle.velab.specs.Elaborate.{has_double, has_range, Declaration, declared, all_declared, declarations_of, bounds_of, variable_by, variable_of, length_of, Home}
 use Rattle.velab.specs.Uses.{is_declared}
 use Rattle.velab.specs.Inner.{names_of, names_in, texts_of}
 use Rattle.velab.specs.Inner.{IsBreach, no_breach}
@@ -80,7 +80,7 @@ module _ (kind : Kind) (signed : Bool) (range : Option RangeTree) where
   map_names [] = refl
   map_names (t ∷ ts) = ap (λ l. t ∷ l) (map_names ts)
 
-  map_variables : (scope : Text) (ts : List Text) →
+  map_variables : (scope : Home) (ts : List Text) →
       map (variable_of scope) (map (declared kind signed range) ts) ≡ map (variable_by scope kind signed (option_map bounds_of range)) ts
   map_variables scope [] = refl
   map_variables scope (t ∷ ts) = ap (λ l. variable_by scope kind signed (option_map bounds_of range) t ∷ l) (map_variables scope ts)
@@ -93,7 +93,7 @@ module _ (kind : Kind) (signed : Bool) (range : Option RangeTree) where
     pub item_names : texts_of words list ≡ map (λ (d : Declaration). d.name) (all_declared kind signed range (map (declared_tree words) list))
     item_names = sym (map_names _ ∙ names_view list)
 
-    pub item_variables : (scope : Text) (bounds : Option Bounds) → bounds ≡ option_map bounds_of range →
+    pub item_variables : (scope : Home) (bounds : Option Bounds) → bounds ≡ option_map bounds_of range →
         map (variable_by scope kind signed bounds) (texts_of words list) ≡ map (variable_of scope) (all_declared kind signed range (map (declared_tree words) list))
     item_variables scope bounds bounds_is =
         ap (λ b. map (variable_by scope kind signed b) (texts_of words list)) bounds_is

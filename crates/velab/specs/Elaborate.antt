@@ -3,7 +3,8 @@ use Rattle.std.specs.Prelude.{◌≡◌, ◌≤◌, ℕ, ◌+◌, ◌-◌, max, 
 use Rattle.std.specs.List.{list_any, list_all, flat_map, filter_map, find}
 use Rattle.std.specs.Borrow.{Bor}
 use Rattle.std.specs.Str.{bytes_eq}
-use Rattle.vbits.specs.declared.bit4.Bit4.TheVariants.{X}
+use Rattle.vbits.specs.declared.bit4.Bit4.TheVariants.{X, Z}
+use Rattle.vbits.specs.declared.bit4.Bit4.{Bit4}
 use Rattle.vast.specs.Words.{Text}
 use Rattle.vast.specs.Expressions as text
 use Rattle.vast.specs.Statements.{TargetTree, DelayTree, by_number, by_name, by_value, TaskTree, print, dump_file, dump_vars, dump, end_run, SelectionTree, StatementTree, StatementTrees, empty, block, assign, nonblocking, trigger, if_true, if_else, case_of, while_true, repeat_times, forever, for_loop, wait_for, delay, event, task, no_statement, first_statement, BranchTree, BranchTrees, labelled, default, no_branch, first_branch}
@@ -24,6 +25,7 @@ use Rattle.vdesign.specs.declared.expression.Bounds.{Bounds}
 use Rattle.vdesign.specs.Expressions.{ExpressionTree}
 use Rattle.velab.specs.Constants.{bound_of}
 use Rattle.velab.specs.Resolved.{resolved, knows_expression}
+use Rattle.velab.specs.Right.{writes_rightly}
 use Rattle.velab.specs.Uses.{place_of, is_declared}
 use Rattle.velab.specs.Waits.{any_of, names_in, terms_of, knows_control}
 
@@ -122,19 +124,55 @@ length_of Reg None = 1
 length_of Integer None = 32
 length_of Wire None = 1
 
--- its name stands behind its module's and a dot; it is x until it is first written (4.2.2)
-abbrev pub variable_by : Text → Kind → Bool → Option Bounds → Text → design.Variable
-variable_by top kind signed bounds text = record {
-  name = top ++ 46 ∷ text;
+-- where variables stand: the name of their module, and the names of the nets in it that something drives
+pub record Home : Type 0 where
+  pub name : Text
+  pub driven : List Text
+
+-- what each bit is until it is first written: z of a net that nothing drives, and else x (4.2.2, 4.6.1)
+abbrev pub start_by : Home → Kind → Text → Bit4
+start_by home Reg text = X
+start_by home Integer text = X
+start_by home Wire text = cond (is_declared home.driven text) X Z
+
+-- its name stands behind its module's and a dot
+abbrev pub variable_by : Home → Kind → Bool → Option Bounds → Text → design.Variable
+variable_by home kind signed bounds text = record {
+  name = home.name ++ 46 ∷ text;
   kind = kind;
   length = length_of kind bounds;
   signed = signed;
-  start = X;
+  start = start_by home kind text;
   bounds = bounds;
 }
 
-abbrev pub variable_of : Text → Declaration → design.Variable
-variable_of top d = variable_by top d.kind d.signed (option_map bounds_of d.range) d.name
+abbrev pub variable_of : Home → Declaration → design.Variable
+variable_of home d = variable_by home d.kind d.signed (option_map bounds_of d.range) d.name
+
+-- a net that is declared with a value is driven by it (6.1.1)
+abbrev pub driver_of : DeclaredTree → Option Text
+driver_of declared = option_map (λ value. declared.name) declared.value
+
+abbrev pub drivers_as : DeclarationKind → List DeclaredTree → List Text
+drivers_as (variables net.Wire type) list = filter_map driver_of list
+drivers_as (variables net.Reg type) list = []
+drivers_as integers list = []
+
+-- the nets that an item drives, as often as it does (6.1)
+abbrev pub drivers_by : ItemTree → List Text
+drivers_by (parameters local type settings) = []
+drivers_by (declaration kind list) = drivers_as kind list
+drivers_by (events names) = []
+drivers_by (assignments settings) = map (λ setting. setting.name) settings
+drivers_by (initial statement) = []
+drivers_by (always statement) = []
+drivers_by (instances letters overrides list) = []
+
+abbrev pub driven_names : ModuleTree → List Text
+driven_names m = flat_map drivers_by m.items
+
+abbrev pub home_of : ModuleTree → Home
+home_of m = record { name = m.name; driven = driven_names m }
 
 -- ---- processes (9.9.1)
 
@@ -382,11 +420,17 @@ design_of scale m =
     record {
       top = m.name;
       scale = scale;
-      variables = map (variable_of m.name) (declarations m);
+      variables = map (variable_of (home_of m)) (declarations m);
       scopes = scope_by m.name (length (declarations m)) ∷ [];
       actions = processes.table;
       processes = processes.begins;
     }
+
+-- whether each action of its processes writes what it may
+abbrev pub has_right_kinds : ModuleTree → Bool
+has_right_kinds m =
+    list_all (writes_rightly (map (variable_of (home_of m)) (declarations m)))
+    (laid_processes (declared_names m) [] (process_trees m)).table
 
 -- what the rules ask of a module
 pub record IsRight (m : ModuleTree) : Type 0 where
@@ -395,6 +439,8 @@ pub record IsRight (m : ModuleTree) : Type 0 where
   pub ranges : list_all has_range m.items ≡ true
   pub few_variables : length (declarations m) ≤ 1024
   pub few_processes : length (process_trees m) ≤ 256
+  pub one_driver : has_double (driven_names m) ≡ false
+  pub kinds : has_right_kinds m ≡ true
 
 -- The text has a top, its modules have names of their own, the top is right, and the design is the one that it describes.
 pub record Elaborates (tree : SourceTree) (top : Option Text) (scale : Timescale) (design : design.Design) : Type 0 where

@@ -12,11 +12,11 @@ use Rattle.vast.specs.declared.statement.Delay.TheVariants as delays
 use Rattle.vast.specs.declared.statement.Task.{Task}
 use Rattle.vast.specs.declared.statement.Statement.{Statement, Empty, Block', Assign, Nonblocking, Trigger, If', IfElse', Case', While', Repeat', Forever', For', Wait', Delayed', OnEvent', Task as Call, Row_of-Statement, end_of-Statement, more_of-Statement, Row_of-Branch, end_of-Branch, more_of-Branch}
 use Rattle.vast.specs.declared.statement.Branch.{Branch, Labelled, Default}
-use Rattle.vast.specs.declared.module.NetKind.TheVariants as net
 use Rattle.vast.specs.declared.module.Bounds.{Bounds}
 use Rattle.vast.specs.declared.module.DeclarationKind.{DeclarationKind}
 use Rattle.vast.specs.declared.module.DeclarationKind.TheVariants as declaring
 use Rattle.vast.specs.declared.module.Declared.{Declared}
+use Rattle.vast.specs.declared.module.Setting.{Setting}
 use Rattle.vast.specs.declared.module.ModuleItem.{ModuleItem}
 use Rattle.vast.specs.declared.module.ModuleItem.TheVariants as items
 use Rattle.vast.specs.declared.module.ModuleTree.{ModuleTree}
@@ -135,11 +135,9 @@ module _ (words : List Text) where
   in_range None = None
   in_range (Some bounds) = in_bounds bounds
 
-  -- of a declaration that begins here: variables are run, nets aren't
-  abbrev pub in_kind : ℕ → DeclarationKind → Option ℕ
-  in_kind at (declaring.Variables net.Wire type) = Some at
-  in_kind at (declaring.Variables net.Reg type) = in_range type.range
-  in_kind at declaring.Integers = None
+  abbrev pub in_kind : DeclarationKind → Option ℕ
+  in_kind (declaring.Variables word type) = in_range type.range
+  in_kind declaring.Integers = None
 
   -- a declared name: only its value may be what isn't run
   abbrev pub in_declared : Declared → Option ℕ
@@ -148,11 +146,17 @@ module _ (words : List Text) where
   abbrev pub in_names : List Declared → Option ℕ
   in_names list = first_among in_declared list
 
+  abbrev pub in_setting : Setting → Option ℕ
+  in_setting setting = in_expression setting.value.value
+
+  abbrev pub in_settings : List Setting → Option ℕ
+  in_settings list = first_among in_setting list
+
   abbrev pub in_item : ModuleItem → Option ℕ
   in_item (items.Parameters at local type settings) = Some at
-  in_item (items.Declaration at kind declared) = option_or (in_kind at kind) (in_names declared.items)
+  in_item (items.Declaration at kind declared) = option_or (in_kind kind) (in_names declared.items)
   in_item (items.Events at names) = Some at
-  in_item (items.Assignments at settings) = Some at
+  in_item (items.Assignments at settings) = in_settings settings.items
   in_item (items.Initial at statement) = in_statement statement
   in_item (items.Always at statement) = in_statement statement
   in_item (items.Instances name overrides list) = Some name.number

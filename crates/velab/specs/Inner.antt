@@ -24,14 +24,14 @@ use Rattle.vast.specs.declared.module.Declared.{Declared}
 use Rattle.vast.specs.declared.module.Setting.{Setting}
 use Rattle.vast.specs.declared.module.Bounds.{Bounds as Written}
 use Rattle.velab.specs.declared.fault.ElabFault.{ElabFault}
-use Rattle.velab.specs.declared.fault.ElabFault.TheVariants.{Module, Doubled, Unknown, Width, TooMany}
+use Rattle.velab.specs.declared.fault.ElabFault.TheVariants.{Module, Doubled, Unknown, Drivers, Width, TooMany, Kind}
 use Rattle.velab.specs.Literals.{digit_letters}
 use Rattle.velab.specs.Resolved.{knows_expression}
 use Rattle.velab.specs.Uses.{is_declared}
 use Rattle.velab.specs.declared.variable.Form.{Form}
 use Rattle.vdesign.specs.declared.action.Action.{Action}
 use Rattle.velab.specs.Constants.{bound_of}
-use Rattle.velab.specs.Elaborate.{Laid, Processes, has_double, module_names, declarations_of, declared_names, declarations, is_range, has_range, knows, knows_all, laid, all_laid, laid_processes, bounds_of, variable_by, variable_of, LaidBranches, knows_items, knows_branch, knows_branches, laid_branch, laid_branches, process_trees_by, process_trees, ProcessTree, process_of, driven_by, knows_process}
+use Rattle.velab.specs.Elaborate.{Laid, Processes, has_double, module_names, declarations_of, declared_names, declarations, is_range, has_range, knows, knows_all, laid, all_laid, laid_processes, bounds_of, variable_by, variable_of, LaidBranches, knows_items, knows_branch, knows_branches, laid_branch, laid_branches, process_trees_by, process_trees, ProcessTree, process_of, driven_by, knows_process, Home, driver_of, drivers_by, driven_names, has_right_kinds, IsRight}
 use Rattle.vdesign.specs.declared.action.Branch.{Branch}
 
 -- ---- parts of a module
@@ -87,17 +87,47 @@ abbrev pub IsBreach : Breaches → ElabFault → Type 0
 IsBreach breaches (Module at) = ⊥
 IsBreach breaches (Doubled at) = breaches.doubled
 IsBreach breaches (Unknown at) = breaches.unknown
+IsBreach breaches (Drivers at) = ⊥
 IsBreach breaches (Width at) = breaches.width
 IsBreach breaches (TooMany at) = breaches.many
+IsBreach breaches (Kind at) = ⊥
+
+-- a net has two drivers, where this is so of the names that are driven
+abbrev pub IsTwice : Bool → ElabFault → Type 0
+IsTwice twice (Module at) = ⊥
+IsTwice twice (Doubled at) = ⊥
+IsTwice twice (Unknown at) = ⊥
+IsTwice twice (Drivers at) = twice ≡ true
+IsTwice twice (Width at) = ⊥
+IsTwice twice (TooMany at) = ⊥
+IsTwice twice (Kind at) = ⊥
+
+abbrev pub BreaksDrivers : List Text → ElabFault → Type 0
+BreaksDrivers driven = IsTwice (has_double driven)
+
+-- what may not be written is, where actions don't write rightly
+abbrev pub IsWrong : Bool → ElabFault → Type 0
+IsWrong rightly (Module at) = ⊥
+IsWrong rightly (Doubled at) = ⊥
+IsWrong rightly (Unknown at) = ⊥
+IsWrong rightly (Drivers at) = ⊥
+IsWrong rightly (Width at) = ⊥
+IsWrong rightly (TooMany at) = ⊥
+IsWrong rightly (Kind at) = rightly ≡ false
+
+-- a module is right, where each net has one driver and actions write what they may
+abbrev pub IsRightIf : ModuleTree → Type 0
+IsRightIf m = has_double (driven_names m) ≡ false → has_right_kinds m ≡ true → IsRight m
 
 -- a rule is broken in a module
 abbrev pub BreaksModule : ModuleTree → ElabFault → Type 0
-BreaksModule m = IsBreach (record {
-  doubled = has_double (declared_names m) ≡ true;
-  unknown = list_all (knows_process (declared_names m)) (process_trees m) ≡ false;
-  width = list_all has_range m.items ≡ false;
-  many = (1024 < length (declarations m)) ⊎ (256 < length (process_trees m));
-})
+BreaksModule m (Module at) = ⊥
+BreaksModule m (Doubled at) = has_double (declared_names m) ≡ true
+BreaksModule m (Unknown at) = list_all (knows_process (declared_names m)) (process_trees m) ≡ false
+BreaksModule m (Drivers at) = has_double (driven_names m) ≡ true
+BreaksModule m (Width at) = list_all has_range m.items ≡ false
+BreaksModule m (TooMany at) = (1024 < length (declarations m)) ⊎ (256 < length (process_trees m))
+BreaksModule m (Kind at) = has_right_kinds m ≡ false
 
 -- ---- and why a part of a module has none
 
@@ -228,11 +258,11 @@ abbrev pub bounds_for : List Text → Option Written → Option Bounds
 bounds_for words range = option_map bounds_of (option_map (range_tree words) range)
 
 -- a variable declared in this form
-abbrev pub variable_in : List ℕ → Form → Text → design.Variable
+abbrev pub variable_in : Home → Form → Text → design.Variable
 variable_in scope form = variable_by scope form.kind form.signed form.bounds
 
 -- the variables of names declared in this form, of an item, and of items
-abbrev pub variables_by : List Text → List ℕ → Form → List Declared → List design.Variable
+abbrev pub variables_by : List Text → Home → Form → List Declared → List design.Variable
 variables_by words scope form list = map (variable_in scope form) (texts_of words list)
 
 -- a declaration, as an item
@@ -245,8 +275,18 @@ net_item words net type list = declaration (variables net (type_tree words type)
 abbrev pub integers_item : List Text → List Declared → ItemTree
 integers_item words list = declaration integers (map (declared_tree words) list)
 
-abbrev pub variables_for : List Text → List ℕ → ModuleItem → List design.Variable
+abbrev pub variables_for : List Text → Home → ModuleItem → List design.Variable
 variables_for words scope item = map (variable_of scope) (declarations_of (item_tree words item))
 
-abbrev pub variables_of : List Text → List ℕ → List ModuleItem → List design.Variable
+abbrev pub variables_of : List Text → Home → List ModuleItem → List design.Variable
 variables_of words scope items = map (variable_of scope) (flat_map declarations_of (map (item_tree words) items))
+
+-- the nets that are driven by the values that they are declared with, by an `assign`, and by items
+abbrev pub declared_drivers : List Text → List Declared → List Text
+declared_drivers words list = filter_map driver_of (map (declared_tree words) list)
+
+abbrev pub set_drivers : List Text → List Setting → List Text
+set_drivers words list = map (λ setting. setting.name) (map (setting_tree words) list)
+
+abbrev pub item_drivers : List Text → List ModuleItem → List Text
+item_drivers words items = flat_map drivers_by (map (item_tree words) items)

@@ -3,6 +3,7 @@ pub mod Uses
 pub mod Constants
 pub mod Resolved
 pub mod Waits
+pub mod Right
 pub mod Elaborate
 pub mod Reasons
 pub mod Laws

@@ -5,7 +5,7 @@ use Rattle.vast.specs.Expressions.{ExpressionTree}
 use Rattle.vast.specs.Statements.{TargetTree, DelayTree, by_number, by_name, by_value, TaskTree, print, dump_file, dump_vars, dump, end_run, StatementTree, StatementTrees, empty, block, assign, nonblocking, trigger, if_true, if_else, case_of, while_true, repeat_times, forever, for_loop, wait_for, delay, event, task, no_statement, first_statement, BranchTree, BranchTrees, labelled, default, no_branch, first_branch}
 use Rattle.vast.specs.Expressions as text
 use Rattle.vast.specs.Statements as written
-use Rattle.vast.specs.Modules.{RangeTree, DeclaredTree, DeclarationKind, variables, integers, ItemTree, parameters, declaration, events, assignments, initial, always, instances, ModuleTree, SourceTree}
+use Rattle.vast.specs.Modules.{RangeTree, DeclaredTree, DeclarationKind, variables, integers, ItemTree, parameters, declaration, events, assignments, initial, always, instances, ModuleTree, SourceTree, SettingTree}
 use Rattle.vast.specs.declared.module.NetKind.TheVariants as net
 use Rattle.velab.specs.Constants.{runs_bound}
 use Rattle.velab.specs.Resolved.{runs_expression}
@@ -75,10 +75,8 @@ abbrev pub runs_range : Option RangeTree → Bool
 runs_range None = true
 runs_range (Some range) = runs_bound range.left && runs_bound range.right
 
--- variables, no nets
 abbrev pub runs_kind : DeclarationKind → Bool
-runs_kind (variables net.Wire type) = false
-runs_kind (variables net.Reg type) = runs_range type.range
+runs_kind (variables word type) = runs_range type.range
 runs_kind integers = true
 
 -- without a value of its own, or with one that runs
@@ -89,11 +87,14 @@ runs_value (Some value) = runs_expression value
 abbrev pub runs_declared : DeclaredTree → Bool
 runs_declared declared = runs_value declared.value
 
+abbrev pub runs_setting : SettingTree → Bool
+runs_setting setting = runs_expression setting.value
+
 abbrev pub runs_item : ItemTree → Bool
 runs_item (parameters local type settings) = false
 runs_item (declaration kind list) = runs_kind kind && list_all runs_declared list
 runs_item (events names) = false
-runs_item (assignments settings) = false
+runs_item (assignments settings) = list_all runs_setting settings
 runs_item (initial statement) = runs_statement statement
 runs_item (always statement) = runs_statement statement
 runs_item (instances letters overrides list) = false

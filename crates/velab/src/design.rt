@@ -8,10 +8,12 @@ ghost use Rattle.vexpr_parse.specs.Texts.{words_of};
 ghost use Rattle.velab.specs.Elaborate as spec;
 ghost use Rattle.velab.specs.Elaborate.{Elaborates, IsRight, named_text};
 ghost use Rattle.velab.specs.Reasons.{IsDesignReason, IsOnlyDesign, HasNoDesign};
-ghost use Rattle.velab.specs.Inner.{BreaksModule};
+ghost use Rattle.velab.specs.Inner.{BreaksModule, IsRightIf};
 
+use crate::driven::{Home, home_of};
 use crate::fault::ElabFault;
 use crate::letters::letters;
+use crate::right::check_kinds;
 use crate::statement::{ProcessTable, processes};
 use crate::top::{check_names, top_of};
 use crate::variable::{Declarations, declare_items};
@@ -35,19 +37,21 @@ fn scopes(alloc: Global, name: &[u8], variables: u32) -> Result<Vec<Scope>, NoMe
     Ok(scopes)
 }
 
-// The design that a module describes, where it is right.
-fn design_of(
+// The design that a module describes, where its names, its ranges and its numbers are right.
+fn described(
     alloc: Global,
     tokens: &Tokens<'_>,
     unit: &ModuleTree,
+    home: &Home<'_>,
     scale: Timescale,
 ) -> Result<Design, OrMemory<ElabFault>>
+    requires { home.now ≡ spec.home_of (module_tree (words_of tokens.now) unit.now) }
     ensures ok { IfOk result (λ design. design ≡ spec.design_of scale (module_tree (words_of tokens.now) unit.now)) }
-    ensures right { OnOk result (IsRight (module_tree (words_of tokens.now) unit.now)) }
+    ensures right { OnOk result (IsRightIf (module_tree (words_of tokens.now) unit.now)) }
     ensures err { IfFault result (BreaksModule (module_tree (words_of tokens.now) unit.now)) }
 {
     let name = letters(tokens, unit.name);
-    let Declarations { names, variables } = declare_items(alloc, tokens, name, &unit.items)?;
+    let Declarations { names, variables } = declare_items(alloc, tokens, home, &unit.items)?;
     let ProcessTable { table, begins } = processes(alloc, tokens, &names, &unit.items)?;
     Ok(Design {
         top: Vec::from_slice(alloc, name)?,
@@ -60,10 +64,27 @@ fn design_of(
     })
 }
 
+// The design that a module describes, where it is right.
+fn design_of(
+    alloc: Global,
+    tokens: &Tokens<'_>,
+    unit: &ModuleTree,
+    scale: Timescale,
+) -> Result<Design, OrMemory<ElabFault>>
+    ensures ok { IfOk result (λ design. design ≡ spec.design_of scale (module_tree (words_of tokens.now) unit.now)) }
+    ensures right { OnOk result (IsRight (module_tree (words_of tokens.now) unit.now)) }
+    ensures err { IfFault result (BreaksModule (module_tree (words_of tokens.now) unit.now)) }
+{
+    let home = home_of(alloc, tokens, unit)?;
+    let design = described(alloc, tokens, unit, &home, scale)?;
+    check_kinds(&design)?;
+    Ok(design)
+}
+
 /// The design that the text stands for, under its timescale. `top` names its top module; without it the text's only module
 /// is the top.
-/// Errors: E301, E302, E303, E306 and E309, each only where its rule is broken, and E901. Of several faults
-/// any one may be answered. Modules other than the top are not looked into (12.1).
+/// Errors: E301, E302, E303, E304, E306, E309 and E310, each only where its rule is broken, and E901. Of several
+/// faults any one may be answered. Modules other than the top are not looked into (12.1).
 pub fn elaborate(
     alloc: Global,
     tokens: &Tokens<'_>,

@@ -9,8 +9,12 @@ pub enum ElabFault {
     Doubled { at: Option<u32> },
     /// E303: a name that is no variable of the module.
     Unknown { at: Option<u32> },
+    /// E304: a net that two continuous assignments drive.
+    Drivers { at: Option<u32> },
     /// E306: a bound that isn't 0 to 65,535, or more than 64 bits from one bound to the other.
     Width { at: Option<u32> },
     /// E309: more than 1,024 variables or more than 256 processes.
     TooMany { at: Option<u32> },
+    /// E310: a process that assigns to a net, or a continuous assignment to what is no net.
+    Kind { at: Option<u32> },
 }

@@ -10,7 +10,7 @@ ghost use Rattle.velab.specs.FirstNotRun as place;
 
 use crate::expression::runs_expression;
 use vast::expression::Expression;
-use vast::module::{Bounds, DeclarationKind, Declared, ModuleItem, ModuleTree, NetKind, TextTree};
+use vast::module::{Bounds, DeclarationKind, Declared, ModuleItem, ModuleTree, Setting, TextTree};
 use vast::statement::{Branch, Delay, Statement, Target, Task};
 use vlex::Tokens;
 
@@ -284,19 +284,11 @@ fn in_range(range: &Option<Bounds>) -> Option<u32>
     }
 }
 
-// A declaration that begins at the token of this number.
-fn in_kind(at: u32, kind: &DeclarationKind) -> Option<u32>
-    ensures { (words : List Text) → result ≡ place.in_kind words at kind.now }
+fn in_kind(kind: &DeclarationKind) -> Option<u32>
+    ensures { (words : List Text) → result ≡ place.in_kind words kind.now }
 {
     match kind {
-        DeclarationKind::Variables {
-            net: NetKind::Reg,
-            kind,
-        } => in_range(&kind.range),
-        DeclarationKind::Variables {
-            net: NetKind::Wire,
-            ..
-        } => Some(at),
+        DeclarationKind::Variables { kind, .. } => in_range(&kind.range),
         DeclarationKind::Integers => None,
     }
 }
@@ -321,17 +313,34 @@ fn in_names(tokens: &Tokens<'_>, list: &[Declared]) -> Option<u32>
     None
 }
 
+fn in_setting(tokens: &Tokens<'_>, setting: &Setting) -> Option<u32>
+    ensures { result ≡ place.in_setting (words_of tokens.now) setting.now }
+{
+    in_expression(tokens, &setting.value)
+}
+
+fn in_settings(tokens: &Tokens<'_>, list: &[Setting]) -> Option<u32>
+    ensures { result ≡ place.in_settings (words_of tokens.now) list.now }
+{
+    for one in list {
+        if let Some(at) = in_setting(tokens, one) {
+            return Some(at);
+        }
+    }
+    None
+}
+
 fn in_item(tokens: &Tokens<'_>, whole: &ModuleItem) -> Option<u32>
     ensures { result ≡ place.in_item (words_of tokens.now) whole.now }
 {
     match whole {
         ModuleItem::Parameters { at, .. } => Some(*at),
-        ModuleItem::Declaration { at, kind, declared } => match in_kind(*at, kind) {
+        ModuleItem::Declaration { kind, declared, .. } => match in_kind(kind) {
             Some(at) => Some(at),
             None => in_names(tokens, declared),
         },
         ModuleItem::Events { at, .. } => Some(*at),
-        ModuleItem::Assignments { at, .. } => Some(*at),
+        ModuleItem::Assignments { settings, .. } => in_settings(tokens, settings),
         ModuleItem::Initial { statement, .. } => in_statement(tokens, statement),
         ModuleItem::Always { statement, .. } => in_statement(tokens, statement),
         ModuleItem::Instances { module, .. } => Some(module.number),

@@ -4,6 +4,7 @@
 #![tactic(auto)]
 
 mod design;
+mod driven;
 mod expression;
 mod fault;
 mod first;
@@ -11,6 +12,7 @@ pub mod law;
 mod letters;
 mod names;
 mod number;
+mod right;
 mod statement;
 mod top;
 mod variable;

@@ -15,6 +15,7 @@ ghost use Rattle.velab.specs.Inner.{bounds_for, integers_item, kind_item, net_it
 ghost use Rattle.velab.specs.InnerVariables.{PutsVariables};
 ghost use Rattle.velab.specs.Inner.{names_in, names_of, BreaksBound, BreaksRange, BreaksDeclaration, BreaksNames, BreaksItem, BreaksItems};
 
+use crate::driven::Home;
 use crate::fault::ElabFault;
 use crate::letters::letters;
 use crate::names::Names;
@@ -195,17 +196,35 @@ fn dotted(alloc: Global, scope: &[u8], name: &[u8]) -> Result<Vec<u8>, NoMemory>
     Ok(text)
 }
 
-fn variable(alloc: Global, scope: &[u8], form: Form, name: &[u8]) -> Result<Variable, NoMemory>
+// What each bit of a variable is until it is first written.
+fn start_of(scope: &Home<'_>, kind: Kind, name: &[u8]) -> Bit4
+    ensures { result ≡ spec.start_by scope.now kind name.now }
+{
+    match kind {
+        Kind::Reg => Bit4::X,
+        Kind::Integer => Bit4::X,
+        Kind::Wire => {
+            if scope.driven.place(name).is_some() {
+                Bit4::X
+            } else {
+                Bit4::Z
+            }
+        }
+    }
+}
+
+fn variable(alloc: Global, scope: &Home<'_>, form: Form, name: &[u8]) -> Result<Variable, NoMemory>
     requires { spec.length_of form.kind form.bounds ≤ 64 }
     ensures { IfOk result (λ v. v ≡ variable_in scope.now form name.now) }
 {
-    let name = dotted(alloc, scope, name)?;
+    let start = start_of(scope, form.kind, name);
+    let name = dotted(alloc, scope.name, name)?;
     Ok(Variable {
         name,
         kind: form.kind,
         length: length_of(form),
         signed: form.signed,
-        start: Bit4::X,
+        start,
         bounds: form.bounds,
     })
 }
@@ -214,7 +233,7 @@ fn variable(alloc: Global, scope: &[u8], form: Form, name: &[u8]) -> Result<Vari
 fn declare<'t>(
     alloc: Global,
     tokens: &Tokens<'t>,
-    scope: &[u8],
+    scope: &Home<'_>,
     form: Form,
     token: Token,
     into: &mut Declarations<'t>,
@@ -244,7 +263,7 @@ fn declare<'t>(
 fn declare_all<'t>(
     alloc: Global,
     tokens: &Tokens<'t>,
-    scope: &[u8],
+    scope: &Home<'_>,
     form: Form,
     list: &[Declared],
     into: &mut Declarations<'t>,
@@ -269,7 +288,7 @@ fn declare_all<'t>(
 fn declare_integers<'t>(
     alloc: Global,
     tokens: &Tokens<'t>,
-    scope: &[u8],
+    scope: &Home<'_>,
     list: &[Declared],
     into: &mut Declarations<'t>,
 ) -> Result<(), OrMemory<ElabFault>>
@@ -302,7 +321,7 @@ fn kind_of(net: NetKind) -> Kind
 fn declare_net<'t>(
     alloc: Global,
     tokens: &Tokens<'t>,
-    scope: &[u8],
+    scope: &Home<'_>,
     net: NetKind,
     kind: &SignAndRange,
     list: &[Declared],
@@ -329,7 +348,7 @@ fn declare_net<'t>(
 fn declare_kind<'t>(
     alloc: Global,
     tokens: &Tokens<'t>,
-    scope: &[u8],
+    scope: &Home<'_>,
     kind: &DeclarationKind,
     list: &[Declared],
     into: &mut Declarations<'t>,
@@ -354,7 +373,7 @@ fn declare_kind<'t>(
 fn declare_item<'t>(
     alloc: Global,
     tokens: &Tokens<'t>,
-    scope: &[u8],
+    scope: &Home<'_>,
     item: &ModuleItem,
     into: &mut Declarations<'t>,
 ) -> Result<(), OrMemory<ElabFault>>
@@ -383,7 +402,7 @@ fn declare_item<'t>(
 pub fn declare_items<'t>(
     alloc: Global,
     tokens: &Tokens<'t>,
-    scope: &[u8],
+    scope: &Home<'_>,
     items: &[ModuleItem],
 ) -> Result<Declarations<'t>, OrMemory<ElabFault>>
     ensures names { IfOk result (λ d.

@@ -459,7 +459,8 @@ pub fn event_terms(
     Ok(Terms::new(terms))
 }
 
-/// What `wait (condition)` listens to: any change of a name in the condition (9.7.6). E303 where one is no variable's.
+/// Any change of a name in an expression: what `wait (condition)` listens to (9.7.6), and what a driven net does (6.1). E303 where one is no
+/// variable's.
 pub fn condition_terms(
     alloc: Global,
     names: &Names<'_>,
