@@ -1,4 +1,4 @@
--- Values as printed lines show them (IEEE 1364-2005, 17.1.1.2 to 17.1.1.5). Letters of a vector stand lowest first, those of a text
+-- Values as printed lines show them (IEEE 1364-2005, 17.1.1.2 to 17.1.1.4). Letters of a vector stand lowest first, those of a text
 -- leftmost first.
 use Rattle.std.specs.Prelude.{ℕ, zero, suc, ◌+◌, ◌-◌, ◌*◌, ◌/◌, ◌^◌, nat_lt, Bool, true, false, cond, List, [], ◌∷◌, ◌++◌, length, take, drop, replicate, Option, Some, None, codes, decimal}
 use Rattle.std.specs.List.{list_all, list_any}
@@ -8,7 +8,7 @@ use Rattle.vbits.specs.Letters.{is_one}
 use Rattle.vbits.specs.Numbers.{number}
 use Rattle.vbits.specs.Vectors.{Vector, sign_letter, neg}
 
--- ---- what isn't known (17.1.1.5)
+-- ---- what isn't known (17.1.1.4)
 
 abbrev pub is_x : Bit4 → Bool
 is_x Zero = false

@@ -94,14 +94,14 @@ fn put_right(text: &mut Vec<u8>, places: usize, shown: &[u8]) -> Result<(), NoMe
 }
 
 /// Puts a value behind the text, in decimal digits, signed values with a minus; where a bit is unknown it is one letter, as of a
-/// hexadecimal digit. The error is want of memory, E901.
+/// hexadecimal digit. The error is want of memory, E901; nothing is said of the text then.
 pub fn put_short_decimal(text: &mut Vec<u8>, value: Vec4) -> Result<(), NoMemory>
     ensures { OnOk result (text.new.items ≡ text.old.items ++ spec.short_decimal value) }
 {
     put_amount(text, value, 1)
 }
 
-/// The same, on the right of as many places as the longest value of this length and sign takes (17.1.1.3). The error is E901.
+/// The same, on the right of as many places as the longest value of this length and sign takes (17.1.1.3). The error is E901, as there.
 pub fn put_decimal(text: &mut Vec<u8>, value: Vec4) -> Result<(), NoMemory>
     ensures { OnOk result (text.new.items ≡ text.old.items ++ spec.decimal_text value) }
 {
@@ -110,14 +110,14 @@ pub fn put_decimal(text: &mut Vec<u8>, value: Vec4) -> Result<(), NoMemory>
     put_right(text, places(value), &shown)
 }
 
-/// Puts a time behind the text: the value, in units of which `factor` make one of its own. The error is E901.
+/// Puts a time behind the text: the value, in units of which `factor` make one of its own. The error is E901, as there.
 pub fn put_short_time(text: &mut Vec<u8>, value: Vec4, factor: u64) -> Result<(), NoMemory>
     ensures { OnOk result (text.new.items ≡ text.old.items ++ spec.short_time factor value) }
 {
     put_amount(text, value, factor)
 }
 
-/// The same, on the right of 20 places (17.1.1.2). The error is E901.
+/// The same, on the right of 20 places (17.3.2). The error is E901, as there.
 pub fn put_time(text: &mut Vec<u8>, value: Vec4, factor: u64) -> Result<(), NoMemory>
     ensures { OnOk result (text.new.items ≡ text.old.items ++ spec.time_text factor value) }
 {

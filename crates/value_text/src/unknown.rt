@@ -1,4 +1,4 @@
-// What stands for letters that aren't known (17.1.1.5).
+// What stands for letters that aren't known (17.1.1.4).
 
 ghost use Rattle.std.specs.Prelude.{◌≡◌};
 ghost use Rattle.std.specs.List.{list_all, list_any};

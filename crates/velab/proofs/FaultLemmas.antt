@@ -1,14 +1,15 @@
 -- What a fault of a part says of the whole.
 use Rattle.std.specs.List.{list_all}
 use Rattle.vast.specs.Modules.{ModuleTree}
-use Rattle.velab.specs.Elaborate.{has_double, has_range, declarations, declared_names, driven_names, has_right_kinds, process_trees, knows_process}
-use Rattle.std.proofs.Common.{◌<◌, ◌⊎◌, Bool, true, false, length, ◌≡◌, Result, Ok, Err, IsErrAnd, sym, subst}
+use Rattle.velab.specs.Elaborate.{has_double, has_range, declarations, declared_names, driven_names, has_right_kinds, module_flaw, process_trees, knows_process}
+use Rattle.vvalue.specs.declared.flaw.Flaw.{Flaw}
+use Rattle.std.proofs.Common.{◌<◌, ◌⊎◌, inl, inr, Option, ◌∙◌, Bool, true, false, length, ◌≡◌, Result, Ok, Err, IsErrAnd, sym, subst}
 use Rattle.basis.specs.declared.memory.OrMemory.{OrMemory}
 use Rattle.basis.specs.declared.memory.OrMemory.TheVariants.{Fault, Memory}
 use Rattle.basis.specs.Reasons.{Because, IfFault}
 use Rattle.velab.specs.declared.fault.ElabFault.{ElabFault}
 use Rattle.velab.specs.declared.fault.ElabFault.TheVariants.{Module, Doubled, Unknown, Drivers, Width, TooMany, Kind}
-use Rattle.velab.specs.Inner.{Breaches, IsBreach, IsTwice, IsWrong, BreaksModule}
+use Rattle.velab.specs.Inner.{Breaches, IsBreach, IsTwice, IsWrong, IsFlaw, BreaksModule}
 
 pub because_of : {b c : Breaches} → (b.doubled → c.doubled) → (b.unknown → c.unknown) → (b.width → c.width) → (b.many → c.many) →
     (e : OrMemory ElabFault) → Because (IsBreach b) e → Because (IsBreach c) e
@@ -30,7 +31,7 @@ of_module m f g h k (Fault (Module at)) b = absurd b
 of_module m f g h k (Fault (Doubled at)) b = f b
 of_module m f g h k (Fault (Unknown at)) b = g b
 of_module m f g h k (Fault (Drivers at)) b = absurd b
-of_module m f g h k (Fault (Width at)) b = h b
+of_module m f g h k (Fault (Width at)) b = inl (h b)
 of_module m f g h k (Fault (TooMany at)) b = k b
 of_module m f g h k (Fault (Kind at)) b = absurd b
 of_module m f g h k (Memory n) b = tt
@@ -52,8 +53,18 @@ written_wrong m f (Fault (Unknown at)) b = absurd b
 written_wrong m f (Fault (Drivers at)) b = absurd b
 written_wrong m f (Fault (Width at)) b = absurd b
 written_wrong m f (Fault (TooMany at)) b = absurd b
-written_wrong m f (Fault (Kind at)) b = f b
+written_wrong m f (Fault (Kind at)) b = inl (f b)
 written_wrong m f (Memory n) b = tt
+
+pub flawed_module : {flaw : Option Flaw} (m : ModuleTree) → flaw ≡ module_flaw m → (e : OrMemory ElabFault) → Because (IsFlaw flaw) e → Because (BreaksModule m) e
+flawed_module m is (Fault (Module at)) b = absurd b
+flawed_module m is (Fault (Doubled at)) b = absurd b
+flawed_module m is (Fault (Unknown at)) b = absurd b
+flawed_module m is (Fault (Drivers at)) b = absurd b
+flawed_module m is (Fault (Width at)) b = inr (sym is ∙ b)
+flawed_module m is (Fault (TooMany at)) b = absurd b
+flawed_module m is (Fault (Kind at)) b = inr (sym is ∙ b)
+flawed_module m is (Memory n) b = tt
 
 -- a fault that `?` hands on
 pub handed_on : {T : Type 0} (P : ElabFault → Type 0) (result : Result T (OrMemory ElabFault)) (e : OrMemory ElabFault) → IsErrAnd result (λ y. y ≡ e) → Because P e → IfFault result P

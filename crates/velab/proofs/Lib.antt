@@ -3,6 +3,7 @@ pub mod NameLemmas
 pub mod VariableLemmas
 pub mod ListLemmas
 pub mod FaultLemmas
+mod BrokenLemmas
 pub mod StatementLemmas
 pub mod PartLemmas
 pub mod BranchLemmas

@@ -26,6 +26,8 @@ use Rattle.vdesign.specs.Expressions.{ExpressionTree}
 use Rattle.velab.specs.Constants.{bound_of}
 use Rattle.velab.specs.Resolved.{resolved, knows_expression}
 use Rattle.velab.specs.Right.{writes_rightly}
+use Rattle.vvalue.specs.declared.flaw.Flaw.{Flaw}
+use Rattle.velab.specs.ActionFlaws.{blank_moment, table_flaw}
 use Rattle.velab.specs.Uses.{place_of, is_declared}
 use Rattle.velab.specs.Waits.{any_of, names_in, terms_of, knows_control}
 
@@ -432,6 +434,12 @@ has_right_kinds m =
     list_all (writes_rightly (map (variable_of (home_of m)) (declarations m)))
     (laid_processes (declared_names m) [] (process_trees m)).table
 
+-- what is wrong with an expression of its actions, where something is
+abbrev pub module_flaw : ModuleTree → Option Flaw
+module_flaw m =
+    table_flaw (blank_moment (map (variable_of (home_of m)) (declarations m)))
+    (laid_processes (declared_names m) [] (process_trees m)).table
+
 -- what the rules ask of a module
 pub record IsRight (m : ModuleTree) : Type 0 where
   pub names_differ : has_double (declared_names m) ≡ false
@@ -441,6 +449,7 @@ pub record IsRight (m : ModuleTree) : Type 0 where
   pub few_processes : length (process_trees m) ≤ 256
   pub one_driver : has_double (driven_names m) ≡ false
   pub kinds : has_right_kinds m ≡ true
+  pub flawless : module_flaw m ≡ None
 
 -- The text has a top, its modules have names of their own, the top is right, and the design is the one that it describes.
 pub record Elaborates (tree : SourceTree) (top : Option Text) (scale : Timescale) (design : design.Design) : Type 0 where

@@ -1,5 +1,5 @@
 -- What the steps of elaboration are told by and answer; nothing here has to be believed.
-use Rattle.std.specs.Prelude.{◌≡◌, ◌<◌, ◌≤◌, ◌⊎◌, ℕ, ◌+◌, ◌-◌, Bool, true, false, cond, List, [], ◌++◌, Vec, map, length, take, Option, None, option_map, Result, OnOk}
+use Rattle.std.specs.Prelude.{◌≡◌, ◌<◌, ◌≤◌, ◌⊎◌, ℕ, ◌+◌, ◌-◌, Bool, true, false, cond, List, [], ◌++◌, Vec, map, length, take, Option, None, Some, option_map, Result, OnOk}
 use Rattle.std.specs.Borrow.{Bor}
 use Rattle.std.specs.List.{list_all, flat_map, filter_map}
 use Rattle.vbits.specs.declared.bit4.Bit4.{Bit4}
@@ -23,6 +23,8 @@ use Rattle.vast.specs.declared.module.ModuleItem.{ModuleItem}
 use Rattle.vast.specs.declared.module.Declared.{Declared}
 use Rattle.vast.specs.declared.module.Setting.{Setting}
 use Rattle.vast.specs.declared.module.Bounds.{Bounds as Written}
+use Rattle.vvalue.specs.declared.flaw.Flaw.{Flaw}
+use Rattle.vvalue.specs.declared.flaw.Flaw.TheVariants.{NoBits, Size}
 use Rattle.velab.specs.declared.fault.ElabFault.{ElabFault}
 use Rattle.velab.specs.declared.fault.ElabFault.TheVariants.{Module, Doubled, Unknown, Drivers, Width, TooMany, Kind}
 use Rattle.velab.specs.Literals.{digit_letters}
@@ -31,7 +33,7 @@ use Rattle.velab.specs.Uses.{is_declared}
 use Rattle.velab.specs.declared.variable.Form.{Form}
 use Rattle.vdesign.specs.declared.action.Action.{Action}
 use Rattle.velab.specs.Constants.{bound_of}
-use Rattle.velab.specs.Elaborate.{Laid, Processes, has_double, module_names, declarations_of, declared_names, declarations, is_range, has_range, knows, knows_all, laid, all_laid, laid_processes, bounds_of, variable_by, variable_of, LaidBranches, knows_items, knows_branch, knows_branches, laid_branch, laid_branches, process_trees_by, process_trees, ProcessTree, process_of, driven_by, knows_process, Home, driver_of, drivers_by, driven_names, has_right_kinds, IsRight}
+use Rattle.velab.specs.Elaborate.{module_flaw, Laid, Processes, has_double, module_names, declarations_of, declared_names, declarations, is_range, has_range, knows, knows_all, laid, all_laid, laid_processes, bounds_of, variable_by, variable_of, LaidBranches, knows_items, knows_branch, knows_branches, laid_branch, laid_branches, process_trees_by, process_trees, ProcessTree, process_of, driven_by, knows_process, Home, driver_of, drivers_by, driven_names, has_right_kinds, IsRight}
 use Rattle.vdesign.specs.declared.action.Branch.{Branch}
 
 -- ---- parts of a module
@@ -115,9 +117,19 @@ IsWrong rightly (Width at) = ⊥
 IsWrong rightly (TooMany at) = ⊥
 IsWrong rightly (Kind at) = rightly ≡ false
 
--- a module is right, where each net has one driver and actions write what they may
+-- the fault is this flaw of an expression
+abbrev pub IsFlaw : Option Flaw → ElabFault → Type 0
+IsFlaw flaw (Module at) = ⊥
+IsFlaw flaw (Doubled at) = ⊥
+IsFlaw flaw (Unknown at) = ⊥
+IsFlaw flaw (Drivers at) = ⊥
+IsFlaw flaw (Width at) = flaw ≡ Some Size
+IsFlaw flaw (TooMany at) = ⊥
+IsFlaw flaw (Kind at) = flaw ≡ Some NoBits
+
+-- a module is right, where each net has one driver, actions write what they may, and nothing is wrong with their expressions
 abbrev pub IsRightIf : ModuleTree → Type 0
-IsRightIf m = has_double (driven_names m) ≡ false → has_right_kinds m ≡ true → IsRight m
+IsRightIf m = has_double (driven_names m) ≡ false → has_right_kinds m ≡ true → module_flaw m ≡ None → IsRight m
 
 -- a rule is broken in a module
 abbrev pub BreaksModule : ModuleTree → ElabFault → Type 0
@@ -125,9 +137,9 @@ BreaksModule m (Module at) = ⊥
 BreaksModule m (Doubled at) = has_double (declared_names m) ≡ true
 BreaksModule m (Unknown at) = list_all (knows_process (declared_names m)) (process_trees m) ≡ false
 BreaksModule m (Drivers at) = has_double (driven_names m) ≡ true
-BreaksModule m (Width at) = list_all has_range m.items ≡ false
+BreaksModule m (Width at) = (list_all has_range m.items ≡ false) ⊎ (module_flaw m ≡ Some Size)
 BreaksModule m (TooMany at) = (1024 < length (declarations m)) ⊎ (256 < length (process_trees m))
-BreaksModule m (Kind at) = has_right_kinds m ≡ false
+BreaksModule m (Kind at) = (has_right_kinds m ≡ false) ⊎ (module_flaw m ≡ Some NoBits)
 
 -- ---- and why a part of a module has none
 

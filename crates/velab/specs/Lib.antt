@@ -4,6 +4,7 @@ pub mod Constants
 pub mod Resolved
 pub mod Waits
 pub mod Right
+pub mod ActionFlaws
 pub mod Elaborate
 pub mod Reasons
 pub mod Laws

@@ -5,9 +5,10 @@ use Rattle.vast.specs.Words.{Text}
 use Rattle.vast.specs.Modules.{ModuleTree, SourceTree}
 use Rattle.basis.specs.declared.timescale.Timescale.{Timescale}
 use Rattle.vdesign.specs.Design.{Design}
+use Rattle.vvalue.specs.declared.flaw.Flaw.TheVariants.{NoBits, Size}
 use Rattle.velab.specs.declared.fault.ElabFault.{ElabFault}
 use Rattle.velab.specs.declared.fault.ElabFault.TheVariants.{Module, Doubled, Unknown, Drivers, Width, TooMany, Kind}
-use Rattle.velab.specs.Elaborate.{top_of, has_double, module_names, declared_names, declarations, process_trees, driven_names, has_range, has_right_kinds, knows_process, Elaborates}
+use Rattle.velab.specs.Elaborate.{top_of, has_double, module_names, declared_names, declarations, process_trees, driven_names, has_range, has_right_kinds, module_flaw, knows_process, Elaborates}
 
 -- the text has a top, of which this holds
 abbrev pub OfTop : SourceTree → Option Text → (ModuleTree → Type 0) → Type 0
@@ -19,9 +20,9 @@ IsDesignReason tree top (Module at) = top_of tree top ≡ None
 IsDesignReason tree top (Doubled at) = (has_double (module_names tree) ≡ true) ⊎ OfTop tree top (λ m. has_double (declared_names m) ≡ true)
 IsDesignReason tree top (Unknown at) = OfTop tree top (λ m. list_all (knows_process (declared_names m)) (process_trees m) ≡ false)
 IsDesignReason tree top (Drivers at) = OfTop tree top (λ m. has_double (driven_names m) ≡ true)
-IsDesignReason tree top (Width at) = OfTop tree top (λ m. list_all has_range m.items ≡ false)
+IsDesignReason tree top (Width at) = OfTop tree top (λ m. (list_all has_range m.items ≡ false) ⊎ (module_flaw m ≡ Some Size))
 IsDesignReason tree top (TooMany at) = OfTop tree top (λ m. (1024 < length (declarations m)) ⊎ (256 < length (process_trees m)))
-IsDesignReason tree top (Kind at) = OfTop tree top (λ m. has_right_kinds m ≡ false)
+IsDesignReason tree top (Kind at) = OfTop tree top (λ m. (has_right_kinds m ≡ false) ⊎ (module_flaw m ≡ Some NoBits))
 
 -- no design is the text's, under no timescale
 abbrev pub HasNoDesign : SourceTree → Option Text → Type 0

@@ -17,6 +17,7 @@ use crate::right::check_kinds;
 use crate::statement::{ProcessTable, processes};
 use crate::top::{check_names, top_of};
 use crate::variable::{Declarations, declare_items};
+use crate::width::check_flaws;
 use basis::{NoMemory, OrMemory, Timescale};
 use std::alloc::Global;
 use vast::module::{ModuleTree, TextTree};
@@ -78,6 +79,7 @@ fn design_of(
     let home = home_of(alloc, tokens, unit)?;
     let design = described(alloc, tokens, unit, &home, scale)?;
     check_kinds(&design)?;
+    check_flaws(alloc, &design)?;
     Ok(design)
 }
 

@@ -13,6 +13,7 @@ mod letters;
 mod names;
 mod number;
 mod right;
+mod width;
 mod statement;
 mod top;
 mod variable;

@@ -105,7 +105,7 @@ const EXPLANATIONS: [Explanation; 30] = [
         number: 306,
         meaning: "a bound that isn't 0 to 65,535 or has an unknown bit, a part in the other direction than its vector, a count of a replication that isn't 1 to 64, or more than 64 bits",
         example: "reg [64:0] a;, {65{1'b1}}",
-        advice: "split the vector",
+        advice: "split the vector, turn the part round, or write a count from 1 to 64",
     },
     Explanation {
         number: 309,

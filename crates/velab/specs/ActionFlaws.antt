@@ -1,0 +1,46 @@
+-- What is wrong with the expressions of actions (IEEE 1364-2005, 5.1.14, 5.2.1): their sizes, and bits of what has none.
+use Rattle.std.specs.Prelude.{List, [], ◌∷◌, map, Option, None}
+use Rattle.std.specs.Option.{option_or}
+use Rattle.vbits.specs.declared.bit4.Bit4.TheVariants.{X}
+use Rattle.vbits.specs.Vectors.{Vector, filled}
+use Rattle.vdesign.specs.Design.{Variable}
+use Rattle.vdesign.specs.declared.action.Action.{Action}
+use Rattle.vdesign.specs.declared.action.Action.TheVariants.{Assign, Nonblocking, Test, Case, Again, Repeat, Forever, Delay, On, Until, Drive, DumpVars, Finish, Stop}
+use Rattle.vdesign.specs.declared.action.Branch.{Branch}
+use Rattle.vvalue.specs.Value.{Moment}
+use Rattle.vvalue.specs.Flaws.{flaw_of}
+use Rattle.vvalue.specs.declared.flaw.Flaw.{Flaw}
+
+-- each of its bits is x: a size never depends on a value
+abbrev pub blank : Variable → Vector
+blank v = filled v.length X
+
+abbrev pub blank_moment : List Variable → Moment
+blank_moment variables = record { values = map blank variables; variables = variables; time = 0; factor = 1 }
+
+-- the first that is wrong
+abbrev pub first_of : {A : Type 0} → (A → Option Flaw) → List A → Option Flaw
+first_of flaw [] = None
+first_of flaw (one ∷ more) = option_or (flaw one) (first_of flaw more)
+
+abbrev pub branch_flaw : Moment → Branch → Option Flaw
+branch_flaw now branch = flaw_of now branch.item
+
+abbrev pub action_flaw : Moment → Action → Option Flaw
+action_flaw now (Assign target value) = flaw_of now value
+action_flaw now (Nonblocking target value) = flaw_of now value
+action_flaw now (Test condition when_true otherwise) = flaw_of now condition
+action_flaw now (Case kind value branches otherwise) = option_or (flaw_of now value) (first_of (branch_flaw now) branches)
+action_flaw now (Again condition body) = flaw_of now condition
+action_flaw now (Repeat count body) = flaw_of now count
+action_flaw now (Forever body) = None
+action_flaw now (Delay amount body) = flaw_of now amount
+action_flaw now (On terms body) = None
+action_flaw now (Until condition terms body) = flaw_of now condition
+action_flaw now (Drive target value terms) = flaw_of now value
+action_flaw now DumpVars = None
+action_flaw now Finish = None
+action_flaw now Stop = None
+
+abbrev pub table_flaw : Moment → List Action → Option Flaw
+table_flaw now table = first_of (action_flaw now) table

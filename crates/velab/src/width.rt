@@ -1,0 +1,118 @@
+// What is wrong with the expressions of actions (IEEE 1364-2005, 5.1.14, 5.2.1).
+
+ghost use Rattle.std.specs.Prelude.{◌≡◌, map, None, Some, IfOk, OnOk};
+ghost use Rattle.basis.specs.Reasons.{IfFault};
+ghost use Rattle.velab.specs.ActionFlaws as spec;
+ghost use Rattle.velab.specs.Inner.{IsFlaw};
+
+use crate::fault::ElabFault;
+use basis::{NoMemory, OrMemory};
+use std::alloc::Global;
+use vbits::Vec4;
+use vdesign::action::{Action, Branch};
+use vdesign::design::{Design, Variable};
+use vvalue::flaw::{Flaw, flaw_of};
+use vvalue::moment::Moment;
+
+// For each variable as many bits as it has.
+fn blanks(alloc: Global, variables: &[Variable]) -> Result<Vec<Vec4>, NoMemory>
+    ensures { IfOk result (λ values. values.items ≡ map spec.blank variables.now) }
+{
+    let mut values = Vec::new(alloc);
+    for variable in variables {
+        values.push(Vec4::all_x(variable.length))?;
+    }
+    Ok(values)
+}
+
+fn branches_flaw(branches: &[Branch], moment: &Moment<'_>) -> Option<Flaw>
+    ensures { result ≡ spec.first_of (spec.branch_flaw moment.now) branches.now }
+{
+    for branch in branches {
+        if let Some(flaw) = flaw_of(&branch.item, moment) {
+            return Some(flaw);
+        }
+    }
+    None
+}
+
+fn action_flaw(action: &Action, moment: &Moment<'_>) -> Option<Flaw>
+    ensures { result ≡ spec.action_flaw moment.now action.now }
+{
+    match action {
+        Action::Assign { value, .. } => flaw_of(value, moment),
+        Action::Nonblocking { value, .. } => flaw_of(value, moment),
+        Action::Test { condition, .. } => flaw_of(condition, moment),
+        Action::Case {
+            value,
+            branches,
+            ..
+        } => match flaw_of(value, moment) {
+            Some(flaw) => Some(flaw),
+            None => branches_flaw(branches.as_slice(), moment),
+        },
+        Action::Again { condition, .. } => flaw_of(condition, moment),
+        Action::Repeat { count, .. } => flaw_of(count, moment),
+        Action::Forever { .. } => None,
+        Action::Delay { amount, .. } => flaw_of(amount, moment),
+        Action::On { .. } => None,
+        Action::Until { condition, .. } => flaw_of(condition, moment),
+        Action::Drive { value, .. } => flaw_of(value, moment),
+        Action::DumpVars => None,
+        Action::Finish => None,
+        Action::Stop => None,
+    }
+}
+
+fn table_flaw(actions: &[Action], moment: &Moment<'_>) -> Option<Flaw>
+    ensures { result ≡ spec.table_flaw moment.now actions.now }
+{
+    for action in actions {
+        if let Some(flaw) = action_flaw(action, moment) {
+            return Some(flaw);
+        }
+    }
+    None
+}
+
+// The token that the statement of the first action begins with of which an expression is wrong.
+fn token_of(design: &Design, moment: &Moment<'_>) -> Option<u32> {
+    for (action, origin) in design.actions.iter().zip(&design.origins) {
+        if action_flaw(action, moment).is_some() {
+            return Some(*origin);
+        }
+    }
+    None
+}
+
+fn fault_of(flaw: Flaw, at: Option<u32>) -> ElabFault
+    ensures { IsFlaw (Some flaw) result }
+{
+    match flaw {
+        Flaw::NoBits => ElabFault::Kind { at },
+        Flaw::Size => ElabFault::Width { at },
+    }
+}
+
+/// E306 or E310 where an expression of an action is wrong.
+pub fn check_flaws(alloc: Global, design: &Design) -> Result<(), OrMemory<ElabFault>>
+    ensures ok { OnOk result
+        (spec.table_flaw (spec.blank_moment design.now.variables) design.now.actions ≡ None) }
+    ensures err { IfFault result
+        (IsFlaw (spec.table_flaw (spec.blank_moment design.now.variables) design.now.actions)) }
+{
+    let values = blanks(alloc, &design.variables)?;
+    let moment = Moment {
+        values: &values,
+        variables: &design.variables,
+        time: 0,
+        factor: 1,
+    };
+    match table_flaw(&design.actions, &moment) {
+        None => Ok(()),
+        Some(flaw) => {
+            let at = token_of(design, &moment);
+            Err(OrMemory::Fault(fault_of(flaw, at)))
+        }
+    }
+}
