@@ -13,11 +13,11 @@ mod letters;
 mod names;
 mod number;
 mod right;
-mod width;
 mod statement;
 mod top;
 mod variable;
 mod wait;
+mod width;
 
 pub use design::elaborate;
 pub use fault::ElabFault;
