@@ -1,5 +1,5 @@
 -- What the parts of a module say of the whole.
-use Rattle.std.proofs.Common.{◌≡◌, ◌<◌, ◌≤◌, inl, inr, true, false, Option, None, List, length, map, sym, ap, subst, ◌∙◌}
+use Rattle.std.proofs.Common.{◌≡◌, ◌<◌, ◌≤◌, inl, inr, true, false, None, List, length, map, sym, ap, subst, ◌∙◌}
 use Rattle.std.specs.List.{list_all}
 use Rattle.std.proofs.lemmas.List.{length-map}
 use Rattle.basis.specs.Reasons.{Because}
@@ -13,7 +13,6 @@ use Rattle.vdesign.specs.Design.{Design}
 use Rattle.basis.specs.declared.timescale.Timescale.{Timescale}
 use Rattle.vast.specs.Modules.{ModuleTree}
 use Rattle.velab.specs.Right.{writes_rightly}
-use Rattle.vvalue.specs.declared.flaw.Flaw.{Flaw}
 use Rattle.velab.specs.ActionFlaws.{blank_moment, table_flaw}
 use Rattle.velab.specs.Elaborate.{design_of, driven_names, has_right_kinds, module_flaw, Declaration, has_double, has_range, declarations, declared_names, knows_process, IsRight}
 use Rattle.velab.specs.Inner.{names_in, process_trees_in, KnowsAll, IsWrong, IsFlaw, BreaksItems, BreaksProcesses, BreaksModule}

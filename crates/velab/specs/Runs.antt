@@ -6,7 +6,6 @@ use Rattle.vast.specs.Statements.{TargetTree, DelayTree, by_number, by_name, by_
 use Rattle.vast.specs.Expressions as text
 use Rattle.vast.specs.Statements as written
 use Rattle.vast.specs.Modules.{RangeTree, DeclaredTree, DeclarationKind, variables, integers, ItemTree, parameters, declaration, events, assignments, initial, always, instances, ModuleTree, SourceTree, SettingTree}
-use Rattle.vast.specs.declared.module.NetKind.TheVariants as net
 use Rattle.velab.specs.Constants.{runs_bound}
 use Rattle.velab.specs.Resolved.{runs_expression}
 
