@@ -7,7 +7,7 @@ use std::alloc::Global;
 use std::io;
 use std::io::{Read, Write};
 use std::test::Fail;
-use vbits::Vec4;
+use vbits::{Bit4, Vec4};
 use vcd_text::{DumpSink, Header, Metered, write_vcd};
 use vdesign::design::{Design, Kind, Scope, Variable};
 use vdesign::expression::Bounds;
