@@ -6,7 +6,7 @@ use vrace::{At, Fault, Rule};
 use vsrc::Place;
 
 // Each refusal but want of memory, which nobody here can make, with the number that docs/FAULTS.md gives it.
-const NUMBERS: [(Fault, &str); 25] = [
+const NUMBERS: [(Fault, &str); 28] = [
     (Fault::NotEnded(At(None)), "E101"),
     (Fault::BadToken(At(None)), "E102"),
     (Fault::Directive(At(None)), "E110"),
@@ -22,7 +22,10 @@ const NUMBERS: [(Fault, &str); 25] = [
     (Fault::NoDesign(Rule::Doubled, At(None)), "E302"),
     (Fault::NoDesign(Rule::Unknown, At(None)), "E303"),
     (Fault::NoDesign(Rule::Drivers, At(None)), "E304"),
+    (Fault::NoDesign(Rule::Ports, At(None)), "E305"),
     (Fault::NoDesign(Rule::Width, At(None)), "E306"),
+    (Fault::NoDesign(Rule::Constant, At(None)), "E307"),
+    (Fault::NoDesign(Rule::Depth, At(None)), "E308"),
     (Fault::NoDesign(Rule::TooMany, At(None)), "E309"),
     (Fault::NoDesign(Rule::Kind, At(None)), "E310"),
     (Fault::BadLog, "E401"),

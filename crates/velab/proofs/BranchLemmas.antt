@@ -1,9 +1,7 @@
 -- What a `case` lays on the table, branch by branch.
-use Rattle.std.proofs.Common.{◌≡◌, ◌<◌, ◌≤◌, ℕ, ◌+◌, Bool, true, false, ◌&&◌, List, ◌++◌, length, drop, get_or, Vec, Global, sym, ap, subst, ◌∙◌, append_assoc, append-nil}
+use Rattle.std.proofs.Common.{◌≡◌, ◌<◌, ◌≤◌, ℕ, ◌+◌, Option, None, List, ◌++◌, length, drop, get_or, Vec, Global, sym, ap, subst, ◌∙◌, append_assoc, append-nil}
 use Rattle.std.specs.Prelude.{Box}
 use Rattle.std.proofs.Math.ListN.{drop_of_length-le}
-use Rattle.basis.specs.Reasons.{Because}
-use Rattle.basis.specs.declared.memory.OrMemory.{OrMemory}
 use Rattle.vast.specs.Words.{Text}
 use Rattle.vast.specs.ExpressionTrees.{tree_of}
 use Rattle.vast.specs.Statements.{BranchTrees, case_of, no_branch, first_branch}
@@ -15,10 +13,11 @@ use Rattle.vast.specs.declared.statement.Statement.{Statement, Case}
 use Rattle.vast.proofs.WholeTreeLemmas.{tree_of_case}
 use Rattle.vdesign.specs.declared.action.Action.{Action}
 use Rattle.vdesign.specs.declared.action.Branch.{Branch}
-use Rattle.velab.specs.Elaborate.{LaidBranches, laid_branch, laid_branches, knows_branch, knows_branches}
-use Rattle.velab.specs.declared.fault.ElabFault.{ElabFault}
-use Rattle.velab.specs.Inner.{AreBranches, BreaksKnown}
-use Rattle.velab.proofs.FaultLemmas.{because_of}
+use Rattle.velab.specs.Elaborate.{LaidBranches, laid_branch, laid_branches, broken_branch, broken_branches}
+use Rattle.velab.specs.declared.fault.Rule.{Rule}
+use Rattle.velab.specs.Scopes.{Scope}
+use Rattle.velab.specs.Inner.{AreBranches}
+use Rattle.velab.proofs.FaultLemmas.{goes_on}
 use Rattle.velab.proofs.ListLemmas.{drop_at}
 
 -- the tree of a `case`
@@ -34,54 +33,47 @@ case_tree words statement at kind value branches amount items is same these =
     )
 
 -- so many branches are laid: what is left leads to the same as all of them from the start
-pub record LeadsBranches (names : List (List ℕ)) (now : List Action) (before : List Branch) (default_before : List ℕ) (left : BranchTrees) (all : LaidBranches) (begun : List Branch) (default_begun : List ℕ) : Type 0 where
-  pub table : (laid_branches names now left).table ≡ all.table
-  pub branches : before ++ (laid_branches names now left).branches ≡ begun ++ all.branches
-  pub otherwise : default_before ++ (laid_branches names now left).otherwise ≡ default_begun ++ all.otherwise
+pub record LeadsBranches (scope : Scope) (now : List Action) (before : List Branch) (default_before : List ℕ) (left : BranchTrees) (all : LaidBranches) (begun : List Branch) (default_begun : List ℕ) : Type 0 where
+  pub table : (laid_branches scope now left).table ≡ all.table
+  pub branches : before ++ (laid_branches scope now left).branches ≡ begun ++ all.branches
+  pub otherwise : default_before ++ (laid_branches scope now left).otherwise ≡ default_begun ++ all.otherwise
 
-module _ (words : List Text) (names : List (List ℕ)) (xs : List WrittenBranch) (i : ℕ) where
+module _ (words : List Text) (scope : Scope) (xs : List WrittenBranch) (i : ℕ) where
   module _ (x : WrittenBranch) (within : i < length xs) (is : x ≡ get_or xs i x) where
     pub branches_opened : branch_trees words (drop i xs) ≡ first_branch (branch_tree words x) (branch_trees words (drop (i + 1) xs))
     branches_opened = ap (branch_trees words) (drop_at xs i x within is)
 
     pub branches_step : (table table_after : List Action) (before after : List Branch) (places places_after : List ℕ) (all : LaidBranches) (begun : List Branch) (places_begun : List ℕ) →
-        AreBranches (laid_branch names table (branch_tree words x)) before places table_after after places_after →
-        LeadsBranches names table before places (branch_trees words (drop i xs)) all begun places_begun →
-        LeadsBranches names table_after after places_after (branch_trees words (drop (i + 1) xs)) all begun places_begun
+        AreBranches (laid_branch scope table (branch_tree words x)) before places table_after after places_after →
+        LeadsBranches scope table before places (branch_trees words (drop i xs)) all begun places_begun →
+        LeadsBranches scope table_after after places_after (branch_trees words (drop (i + 1) xs)) all begun places_begun
     branches_step table table_after before after places places_after all begun places_begun put leads =
         let rest : BranchTrees = branch_trees words (drop (i + 1) xs) in
-        let front : LaidBranches = laid_branch names table (branch_tree words x) in
-        let here : LeadsBranches names table before places (first_branch (branch_tree words x) rest) all begun places_begun =
-        subst (λ (t : BranchTrees). LeadsBranches names table before places t all begun places_begun) branches_opened leads in
+        let front : LaidBranches = laid_branch scope table (branch_tree words x) in
+        let here : LeadsBranches scope table before places (first_branch (branch_tree words x) rest) all begun places_begun =
+        subst (λ (t : BranchTrees). LeadsBranches scope table before places t all begun places_begun) branches_opened leads in
         record {
-          table = ap (λ (t : List Action). (laid_branches names t rest).table) put.table ∙ here.table;
-          branches = ap (λ (t : List Action). after ++ (laid_branches names t rest).branches) put.table
-              ∙ ap (λ (p : List Branch). p ++ (laid_branches names front.table rest).branches) put.branches
-              ∙ append_assoc before front.branches (laid_branches names front.table rest).branches
+          table = ap (λ (t : List Action). (laid_branches scope t rest).table) put.table ∙ here.table;
+          branches = ap (λ (t : List Action). after ++ (laid_branches scope t rest).branches) put.table
+              ∙ ap (λ (p : List Branch). p ++ (laid_branches scope front.table rest).branches) put.branches
+              ∙ append_assoc before front.branches (laid_branches scope front.table rest).branches
               ∙ here.branches;
-          otherwise = ap (λ (t : List Action). places_after ++ (laid_branches names t rest).otherwise) put.table
-              ∙ ap (λ (p : List ℕ). p ++ (laid_branches names front.table rest).otherwise) put.otherwise
-              ∙ append_assoc places front.otherwise (laid_branches names front.table rest).otherwise
+          otherwise = ap (λ (t : List Action). places_after ++ (laid_branches scope t rest).otherwise) put.table
+              ∙ ap (λ (p : List ℕ). p ++ (laid_branches scope front.table rest).otherwise) put.otherwise
+              ∙ append_assoc places front.otherwise (laid_branches scope front.table rest).otherwise
               ∙ here.otherwise;
         }
 
-    pub branches_known : (all : Bool) → knows_branch names (branch_tree words x) ≡ true → knows_branches names (branch_trees words (drop i xs)) ≡ all →
-        knows_branches names (branch_trees words (drop (i + 1) xs)) ≡ all
-    branches_known all known same =
-        sym (ap (λ b. b && knows_branches names (branch_trees words (drop (i + 1) xs))) known) ∙ sym (ap (knows_branches names) branches_opened) ∙ same
-
-    pub branches_err : (all : Bool) (e : OrMemory ElabFault) → (knows_branches names (branch_trees words (drop i xs)) ≡ false → all ≡ false) →
-        Because (BreaksKnown (knows_branch names (branch_tree words x))) e → Because (BreaksKnown all) e
-    branches_err all e leads =
-        because_of (λ p. p)
-        (λ unknown. leads (ap (knows_branches names) branches_opened ∙ ap (λ b. b && knows_branches names (branch_trees words (drop (i + 1) xs))) unknown))
-        (λ p. p) (λ p. p) e
+    pub branches_right : (all : Option Rule) → broken_branch scope (branch_tree words x) ≡ None → broken_branches scope (branch_trees words (drop i xs)) ≡ all →
+        broken_branches scope (branch_trees words (drop (i + 1) xs)) ≡ all
+    branches_right all right same =
+        goes_on (broken_branch scope (branch_tree words x)) _ _ all (ap (broken_branches scope) branches_opened) right same
 
   pub branches_end : (table : List Action) (before : List Branch) (places : List ℕ) (all : LaidBranches) (begun : List Branch) (places_begun : List ℕ) → length xs ≤ i →
-      LeadsBranches names table before places (branch_trees words (drop i xs)) all begun places_begun → AreBranches all begun places_begun table before places
+      LeadsBranches scope table before places (branch_trees words (drop i xs)) all begun places_begun → AreBranches all begun places_begun table before places
   branches_end table before places all begun places_begun end leads =
-      let here : LeadsBranches names table before places no_branch all begun places_begun =
-      subst (λ (l : List WrittenBranch). LeadsBranches names table before places (branch_trees words l) all begun places_begun) (drop_of_length-le xs end) leads in
+      let here : LeadsBranches scope table before places no_branch all begun places_begun =
+      subst (λ (l : List WrittenBranch). LeadsBranches scope table before places (branch_trees words l) all begun places_begun) (drop_of_length-le xs end) leads in
       record {
         table = here.table;
         branches = sym (append-nil before) ∙ here.branches;

@@ -1,80 +1,82 @@
 -- What the parts of a module say of the whole.
-use Rattle.std.proofs.Common.{◌≡◌, ◌<◌, ◌≤◌, inl, inr, true, false, None, List, length, map, sym, ap, subst, ◌∙◌}
+use Rattle.std.proofs.Common.{◌≡◌, ◌<◌, ◌≤◌, ℕ, ◌+◌, Bool, true, false, None, Some, Option, List, [], ◌∷◌, ◌++◌, length, map, refl, sym, ap, subst, ◌∙◌, arith}
 use Rattle.std.specs.List.{list_all}
-use Rattle.std.proofs.lemmas.List.{length-map}
 use Rattle.basis.specs.Reasons.{Because}
 use Rattle.basis.specs.declared.memory.OrMemory.{OrMemory}
-use Rattle.vast.specs.Words.{Text}
-use Rattle.vast.specs.ModuleTrees.{item_tree, module_tree}
-use Rattle.vast.specs.declared.module.ModuleItem.{ModuleItem}
-use Rattle.vast.specs.declared.module.ModuleTree.{ModuleTree as Parsed}
-use Rattle.velab.specs.declared.fault.ElabFault.{ElabFault}
+use Rattle.basis.specs.declared.memory.OrMemory.TheVariants.{Fault, Memory}
 use Rattle.vdesign.specs.Design.{Design}
 use Rattle.basis.specs.declared.timescale.Timescale.{Timescale}
 use Rattle.vast.specs.Modules.{ModuleTree}
+use Rattle.velab.specs.declared.fault.Rule.{Rule}
+use Rattle.velab.specs.declared.fault.Rule.TheVariants.{Kind, Drivers}
+use Rattle.velab.specs.declared.fault.ElabFault.{ElabFault}
 use Rattle.velab.specs.Right.{writes_rightly}
 use Rattle.velab.specs.ActionFlaws.{blank_moment, table_flaw}
-use Rattle.velab.specs.Elaborate.{design_of, driven_names, has_right_kinds, module_flaw, Declaration, has_double, has_range, declarations, declared_names, knows_process, IsRight}
-use Rattle.velab.specs.Inner.{names_in, process_trees_in, KnowsAll, IsWrong, IsFlaw, BreaksItems, BreaksProcesses, BreaksModule}
-use Rattle.velab.proofs.FaultLemmas.{of_module, written_wrong, flawed_module}
+use Rattle.velab.specs.Rules.{unless, broken_if, flaw_rule, IsBroken, Breaks, rules_in}
+use Rattle.velab.specs.Scopes.{Scope}
+use Rattle.velab.specs.Elaborate.{has_double, design_of, driven_names, has_right_kinds, module_flaw, name_rules, item_rules, design_rules, broken_rules_of, Given, with_given, with_all}
+use Rattle.velab.specs.Inner.{BreaksOf}
+use Rattle.velab.proofs.FaultLemmas.{breaks_here, breaks_later, none_first, front_breaks, back_breaks}
 
-module _ (words : List Text) (unit : Parsed) (names : List Text) (items others : List ModuleItem) (same : items ≡ unit.items.items) (same_others : others ≡ unit.items.items)
-    (told : names ≡ names_in (map (item_tree words) items)) where
-  names_told : names ≡ declared_names (module_tree words unit)
-  names_told = told ∙ ap (λ (is : List ModuleItem). names_in (map (item_tree words) is)) same
+-- a rule of several, by its place
+pub first_of : (a : Option Rule) (more : List (Option Rule)) (e : OrMemory ElabFault) → Because (IsBroken a) e → Because (BreaksOf (rules_in (a ∷ more))) e
+first_of a more (Fault f) h = breaks_here a more f.rule h
+first_of a more (Memory m) h = tt
 
-  -- what holds of these names and items holds of the module's
-  moved : (P : List Text → List ModuleItem → Type 0) → P names others → P (declared_names (module_tree words unit)) unit.items.items
-  moved P p = subst (λ ns. P ns unit.items.items) names_told (subst (λ (is : List ModuleItem). P names is) same_others p)
+pub later_of : (a : Option Rule) (more : List (Option Rule)) (e : OrMemory ElabFault) → Because (BreaksOf (rules_in more)) e → Because (BreaksOf (rules_in (a ∷ more))) e
+later_of a more (Fault f) h = breaks_later a more f.rule h
+later_of a more (Memory m) h = tt
 
-  pub module_right : has_double names ≡ false → KnowsAll names (process_trees_in words others) → list_all has_range (map (item_tree words) items) ≡ true →
-      length names ≤ 1024 → length (process_trees_in words others) ≤ 256 → has_double (driven_names (module_tree words unit)) ≡ false →
-      has_right_kinds (module_tree words unit) ≡ true → module_flaw (module_tree words unit) ≡ None → IsRight (module_tree words unit)
-  module_right differ known ranges few count once kinds flawless = record {
-    names_differ = sym (ap has_double names_told) ∙ differ;
-    names_known = moved (λ ns is. list_all (knows_process ns) (process_trees_in words is) ≡ true) known;
-    ranges = sym (ap (λ (is : List ModuleItem). list_all has_range (map (item_tree words) is)) same) ∙ ranges;
-    few_variables = subst (λ n. n ≤ 1024) (ap (length {A = Text}) names_told ∙ length-map (declarations (module_tree words unit)) (λ (d : Declaration). d.name)) few;
-    few_processes = subst (λ (is : List ModuleItem). length (process_trees_in words is) ≤ 256) same_others count;
-    one_driver = once;
-    kinds = kinds;
-    flawless = flawless;
-  }
+-- rules of a module, by the part that breaks them
+module _ (m : ModuleTree) where
+  pub names_err : (e : OrMemory ElabFault) → Because (BreaksOf (rules_in (name_rules m))) e → Because (BreaksOf (broken_rules_of m)) e
+  names_err (Fault f) h = front_breaks (rules_in (name_rules m)) (rules_in (item_rules m) ++ rules_in (design_rules m)) f.rule h
+  names_err (Memory n) h = tt
 
-  pub processes_err : (e : OrMemory ElabFault) → Because (BreaksProcesses names (map (item_tree words) others)) e → Because (BreaksModule (module_tree words unit)) e
-  processes_err e =
-      of_module (module_tree words unit) (λ no. absurd no)
-      (λ unknown. moved (λ ns is. list_all (knows_process ns) (process_trees_in words is) ≡ false) unknown)
-      (λ no. absurd no)
-      (λ many. inr (subst (λ (is : List ModuleItem). 256 < length (process_trees_in words is)) same_others many))
-      e
+  pub items_err : (e : OrMemory ElabFault) → Because (BreaksOf (rules_in (item_rules m))) e → Because (BreaksOf (broken_rules_of m)) e
+  items_err (Fault f) h =
+      back_breaks (rules_in (name_rules m)) (rules_in (item_rules m) ++ rules_in (design_rules m)) f.rule
+      (front_breaks (rules_in (item_rules m)) (rules_in (design_rules m)) f.rule h)
+  items_err (Memory n) h = tt
 
-  pub items_err : (e : OrMemory ElabFault) → Because (BreaksItems (map (item_tree words) items)) e → Because (BreaksModule (module_tree words unit)) e
-  items_err e =
-      of_module (module_tree words unit)
-      (λ doubled. subst (λ (is : List ModuleItem). has_double (names_in (map (item_tree words) is)) ≡ true) same doubled)
-      (λ no. absurd no)
-      (λ width. subst (λ (is : List ModuleItem). list_all has_range (map (item_tree words) is) ≡ false) same width)
-      (λ many. inl (subst (λ n. 1024 < n) (length-map (declarations (module_tree words unit)) (λ (d : Declaration). d.name))
-      (subst (λ (is : List ModuleItem). 1024 < length (names_in (map (item_tree words) is))) same many)))
-      e
+  pub design_err : (e : OrMemory ElabFault) → Because (BreaksOf (rules_in (design_rules m))) e → Because (BreaksOf (broken_rules_of m)) e
+  design_err (Fault f) h =
+      back_breaks (rules_in (name_rules m)) (rules_in (item_rules m) ++ rules_in (design_rules m)) f.rule
+      (back_breaks (rules_in (item_rules m)) (rules_in (design_rules m)) f.rule h)
+  design_err (Memory n) h = tt
 
--- what is written rightly in the design of a module
+  pub all_right : rules_in (name_rules m) ≡ [] → rules_in (item_rules m) ≡ [] → rules_in (design_rules m) ≡ [] → broken_rules_of m ≡ []
+  all_right names items design = (λ i. names i ++ (items i ++ design i))
+
+-- what is written rightly in the design of a module, and what is wrong with its expressions
 module _ (scale : Timescale) (m : ModuleTree) (design : Design) (is : design ≡ design_of scale m) where
   kinds_are : list_all (writes_rightly design.variables) design.actions ≡ has_right_kinds m
   kinds_are = ap (λ (d : Design). list_all (writes_rightly d.variables) d.actions) is
 
-  pub kinds_hold : list_all (writes_rightly design.variables) design.actions ≡ true → has_right_kinds m ≡ true
-  kinds_hold e = sym kinds_are ∙ e
-
-  pub kinds_err : (e : OrMemory ElabFault) → Because (IsWrong (list_all (writes_rightly design.variables) design.actions)) e → Because (BreaksModule m) e
-  kinds_err e = written_wrong m (λ wrong. sym kinds_are ∙ wrong) e
-
   flaws_are : table_flaw (blank_moment design.variables) design.actions ≡ module_flaw m
   flaws_are = ap (λ (d : Design). table_flaw (blank_moment d.variables) d.actions) is
 
-  pub flawless_too : table_flaw (blank_moment design.variables) design.actions ≡ None → module_flaw m ≡ None
-  flawless_too e = sym flaws_are ∙ e
+  pub kinds_err : (e : OrMemory ElabFault) → Because (IsBroken (unless (list_all (writes_rightly design.variables) design.actions) Kind)) e → Because (BreaksOf (broken_rules_of m)) e
+  kinds_err e h =
+      design_err m e (later_of (broken_if (has_double (driven_names m)) Drivers) _ e (first_of _ _ e
+      (subst (λ b. Because (IsBroken (unless b Kind)) e) kinds_are h)))
 
-  pub flaws_err : (e : OrMemory ElabFault) → Because (IsFlaw (table_flaw (blank_moment design.variables) design.actions)) e → Because (BreaksModule m) e
-  flaws_err e = flawed_module m flaws_are e
+  pub flaws_err : (e : OrMemory ElabFault) → Because (IsBroken (flaw_rule (table_flaw (blank_moment design.variables) design.actions))) e → Because (BreaksOf (broken_rules_of m)) e
+  flaws_err e h =
+      design_err m e (later_of (broken_if (has_double (driven_names m)) Drivers) _ e (later_of (unless (has_right_kinds m) Kind) _ e (first_of _ _ e
+      (subst (λ f. Because (IsBroken (flaw_rule f)) e) flaws_are h))))
+
+  pub design_right : has_double (driven_names m) ≡ false → list_all (writes_rightly design.variables) design.actions ≡ true →
+      table_flaw (blank_moment design.variables) design.actions ≡ None → rules_in (design_rules m) ≡ []
+  design_right once kinds flawless =
+      none_first (broken_if (has_double (driven_names m)) Drivers) (unless (has_right_kinds m) Kind ∷ flaw_rule (module_flaw m) ∷ []) (ap (λ b. broken_if b Drivers) once)
+      (none_first (unless (has_right_kinds m) Kind) (flaw_rule (module_flaw m) ∷ []) (ap (λ b. unless b Kind) (sym kinds_are ∙ kinds))
+      (none_first (flaw_rule (module_flaw m)) [] (ap flaw_rule (sym flaws_are ∙ flawless)) refl))
+
+pub drivers_err : (m : ModuleTree) (e : OrMemory ElabFault) → Because (IsBroken (broken_if (has_double (driven_names m)) Drivers)) e → Because (BreaksOf (broken_rules_of m)) e
+drivers_err m e h = design_err m e (first_of _ _ e h)
+
+-- so many are known
+pub known_all : (scope : Scope) (list : List Given) → (with_all scope list).known ≡ scope.known + length list
+known_all scope [] = omega arith
+known_all scope (one ∷ more) = let rest = known_all (with_given scope one) more in omega (arith, rest)

@@ -8,7 +8,7 @@ use Rattle.std.proofs.lemmas.List.Folds.{list_any-append}
 use Rattle.basis.proofs.Bools.{or_second, or_left, or_right}
 use Rattle.vast.specs.Words.{Text}
 use Rattle.velab.specs.Elaborate.{has_double}
-use Rattle.velab.specs.Uses.{is_declared}
+use Rattle.velab.specs.Scopes.{is_declared}
 
 abbrev pub texts : List (Bor Text) → List Text
 texts = map (λ key. key.now)

@@ -14,7 +14,12 @@ use Rattle.vdesign.specs.Named.{AreNamed}
 use Rattle.vast.specs.Modules.{ItemTree, parameters, declaration, variables, integers, events, assignments, initial, always, instances, DeclarationKind, ModuleTree, SourceTree, DerivesText, DeclaredTree, fits, fits_module, fits_item, fits_declared, fits_optional, fits_optional_parameters, fits_optional_ports, fits_declaration_kind, are_some}
 use Rattle.vdesign.specs.Design.{Variable, Design}
 use Rattle.vdesign.specs.declared.design.Kind.TheVariants.{Integer}
-use Rattle.velab.specs.Elaborate.{Home, home_of, Declaration, all_declared, kind_of, declared_as, declarations_of, declarations, declared_names, variable_of, has_double, top_of, design_of, Elaborates}
+use Rattle.velab.specs.Elaborate.{Home, home_of, Declaration, all_declared, kind_of, declared_as, declarations_of, declarations, declared_names, variable_of, variables_from, variables_in, item_scope, behind_item, has_double, top_of, module_names, design_of, name_rules, broken_rules, broken_rules_of, broken_top, Elaborates}
+use Rattle.velab.specs.declared.fault.Rule.{Rule}
+use Rattle.velab.specs.declared.fault.Rule.TheVariants.{Doubled}
+use Rattle.velab.specs.Rules.{broken_if, rules_in}
+use Rattle.velab.specs.Scopes.{Scope}
+use Rattle.velab.proofs.FaultLemmas.{none_was, front_none}
 
 -- ---- letters
 
@@ -120,43 +125,71 @@ all_named tree fit = passes (fits_module 64) is_named module_fits tree fit
 
 -- ---- the variables
 
-paths_of : (top : Home) (ds : List Declaration) → has_letters_of_name top.name ≡ true → list_all is_name (names ds) ≡ true →
-    (i : ℕ) (v : Variable) → slice_get (map (variable_of top) ds) i ≡ Some v → is_path v.name ≡ true
-paths_of top [] e h i v at = cc
-paths_of top (d ∷ ds) e h zero v at =
-    let is : variable_of top d ≡ v = cc in
-    subst (λ (w : Variable). is_path w.name ≡ true) is
-    (dotted_is_path top.name d.name e (letters d.name (and_left (is_name d.name) (list_all is_name (names ds)) h)))
-paths_of top (d ∷ ds) e h (suc i) v at = paths_of top ds e (and_right (is_name d.name) (list_all is_name (names ds)) h) i v at
+-- its name stands behind its module's
+abbrev dotted : Home → Text → Text
+dotted top text = top.name ++ 46 ∷ text
+
+called_of : (top : Home) (scope : Scope) (ds : List Declaration) → map (λ (v : Variable). v.name) (map (variable_of top scope) ds) ≡ map (dotted top) (names ds)
+called_of top scope [] = refl
+called_of top scope (d ∷ ds) = ap (λ (l : List Text). dotted top d.name ∷ l) (called_of top scope ds)
+
+called_from : (top : Home) (scope : Scope) (items : List ItemTree) →
+    map (λ (v : Variable). v.name) (variables_from top scope items) ≡ map (dotted top) (names (flat_map declarations_of items))
+called_from top scope [] = refl
+called_from top scope (item ∷ items) =
+    map-append (λ (v : Variable). v.name) (map (variable_of top scope) (declarations_of item)) (variables_from top (behind_item scope item) items)
+    ∙ (λ i. called_of top scope (declarations_of item) i ++ called_from top (behind_item scope item) items i)
+    ∙ sym (map-append (dotted top) (names (declarations_of item)) (names (flat_map declarations_of items)))
+    ∙ sym (ap (map (dotted top)) (map-append (λ d. d.name) (declarations_of item) (flat_map declarations_of items)))
+
+paths_of : (top : Home) (ts : List Text) → has_letters_of_name top.name ≡ true → list_all is_name ts ≡ true →
+    (vs : List Variable) → map (λ (v : Variable). v.name) vs ≡ map (dotted top) ts → (i : ℕ) (v : Variable) → slice_get vs i ≡ Some v → is_path v.name ≡ true
+paths_of top ts e h [] same i v at = cc
+paths_of top [] e h (w ∷ vs) same i v at = cc
+paths_of top (t ∷ ts) e h (w ∷ vs) same zero v at =
+    let is : w ≡ v = cc in
+    let first : w.name ≡ dotted top t = cc in
+    subst (λ (name : Text). is_path name ≡ true) (sym first ∙ ap (λ (x : Variable). x.name) is)
+    (dotted_is_path top.name t e (letters t (and_left (is_name t) (list_all is_name ts) h)))
+paths_of top (t ∷ ts) e h (w ∷ vs) same (suc i) v at =
+    let rest : map (λ (x : Variable). x.name) vs ≡ map (dotted top) ts = cc in
+    paths_of top ts e (and_right (is_name t) (list_all is_name ts) h) vs rest i v at
 
 same_end : (top text other : Text) → top ++ 46 ∷ text ≡ top ++ 46 ∷ other → text ≡ other
 same_end [] text other e = cc
 same_end (c ∷ cs) text other e = let rest : cs ++ 46 ∷ text ≡ cs ++ 46 ∷ other = cc in same_end cs text other rest
 
 -- a variable of that name is of that declared name
-among : (top : Home) (ds : List Declaration) (j : ℕ) (w : Variable) (text : Text) → slice_get (map (variable_of top) ds) j ≡ Some w →
-    top.name ++ 46 ∷ text ≡ w.name → list_any (bytes_eq text) (names ds) ≡ true
-among top [] j w text at e = cc
-among top (d ∷ ds) zero w text at e =
-    let is : w ≡ variable_of top d = cc in
-    or_first (bytes_eq text d.name) (list_any (bytes_eq text) (names ds))
-    ((bytes_eq-Decides text d.name).1 (same_end top.name text d.name (e ∙ ap (λ (v : Variable). v.name) is)))
-among top (d ∷ ds) (suc j) w text at e =
-    or_second (bytes_eq text d.name) (list_any (bytes_eq text) (names ds)) (among top ds j w text at e)
+among : (top : Home) (ts : List Text) (vs : List Variable) → map (λ (v : Variable). v.name) vs ≡ map (dotted top) ts → (j : ℕ) (w : Variable) (text : Text) →
+    slice_get vs j ≡ Some w → dotted top text ≡ w.name → list_any (bytes_eq text) ts ≡ true
+among top ts [] same j w text at e = cc
+among top [] (x ∷ vs) same j w text at e = cc
+among top (t ∷ ts) (x ∷ vs) same zero w text at e =
+    let is : w ≡ x = cc in
+    let first : x.name ≡ dotted top t = cc in
+    or_first (bytes_eq text t) (list_any (bytes_eq text) ts)
+    ((bytes_eq-Decides text t).1 (same_end top.name text t (e ∙ ap (λ (v : Variable). v.name) is ∙ first)))
+among top (t ∷ ts) (x ∷ vs) same (suc j) w text at e =
+    let rest : map (λ (v : Variable). v.name) vs ≡ map (dotted top) ts = cc in
+    or_second (bytes_eq text t) (list_any (bytes_eq text) ts) (among top ts vs rest j w text at e)
 
-distinct_of : (top : Home) (ds : List Declaration) → has_double (names ds) ≡ false → (i j : ℕ) (v w : Variable) → i < j →
-    slice_get (map (variable_of top) ds) i ≡ Some v → slice_get (map (variable_of top) ds) j ≡ Some w → v.name ≢ w.name
-distinct_of top [] none i j v w lt first second = cc
-distinct_of top (d ∷ ds) none i zero v w lt first second = absurd (omega (arith, lt))
-distinct_of top (d ∷ ds) none zero (suc j) v w lt first second = λ same.
-    let is : variable_of top d ≡ v = cc in
+distinct_of : (top : Home) (ts : List Text) → has_double ts ≡ false → (vs : List Variable) → map (λ (v : Variable). v.name) vs ≡ map (dotted top) ts →
+    (i j : ℕ) (v w : Variable) → i < j → slice_get vs i ≡ Some v → slice_get vs j ≡ Some w → v.name ≢ w.name
+distinct_of top ts none [] same i j v w lt first second = cc
+distinct_of top [] none (x ∷ vs) same i j v w lt first second = cc
+distinct_of top (t ∷ ts) none (x ∷ vs) same i zero v w lt first second = absurd (omega (arith, lt))
+distinct_of top (t ∷ ts) none (x ∷ vs) same zero (suc j) v w lt first second = λ alike.
+    let is : x ≡ v = cc in
+    let called : x.name ≡ dotted top t = cc in
+    let rest : map (λ (v : Variable). v.name) vs ≡ map (dotted top) ts = cc in
     true≢false
     (
-    sym (among top ds j w d.name second (ap (λ (x : Variable). x.name) is ∙ same))
-    ∙ or_left (list_any (bytes_eq d.name) (names ds)) (has_double (names ds)) none
+    sym (among top ts vs rest j w t second (sym called ∙ ap (λ (y : Variable). y.name) is ∙ alike))
+    ∙ or_left (list_any (bytes_eq t) ts) (has_double ts) none
     )
-distinct_of top (d ∷ ds) none (suc i) (suc j) v w lt first second =
-    distinct_of top ds (or_right (list_any (bytes_eq d.name) (names ds)) (has_double (names ds)) none) i j v w (omega (arith, lt)) first second
+distinct_of top (t ∷ ts) none (x ∷ vs) same (suc i) (suc j) v w lt first second =
+    let rest : map (λ (v : Variable). v.name) vs ≡ map (dotted top) ts = cc in
+    distinct_of top ts (or_right (list_any (bytes_eq t) ts) (has_double ts) none) vs rest i j v w (omega (arith, lt)) first second
 
 -- ---- the top
 
@@ -181,15 +214,33 @@ module_named : (scale : Timescale) (m : ModuleTree) → is_named m ≡ true → 
     AreNamed (design_of scale m)
 module_named scale m e none = record {
   top = top;
-  paths = paths_of (home_of m) (declarations m) top (all_names m.items (and_right (is_name m.name) (list_all item_is_named m.items) e));
-  distinct = distinct_of (home_of m) (declarations m) none;
+  paths = paths_of (home_of m) (declared_names m) top (all_names m.items (and_right (is_name m.name) (list_all item_is_named m.items) e)) (variables_in m) called;
+  distinct = distinct_of (home_of m) (declared_names m) none (variables_in m) called;
 }
   where
     top : has_letters_of_name m.name ≡ true
     top = letters m.name (and_left (is_name m.name) (list_all item_is_named m.items) e)
 
+    called : map (λ (v : Variable). v.name) (variables_in m) ≡ map (dotted (home_of m)) (declared_names m)
+    called = called_from (home_of m) (item_scope m) m.items
+
+none_doubled : (b : Bool) → broken_if b Doubled ≡ None → b ≡ false
+none_doubled true e = cc
+none_doubled false e = refl
+
+names_right : (tree : SourceTree) (top : Option Text) (m : ModuleTree) → top_of tree top ≡ Some m → broken_rules tree top ≡ [] → broken_rules_of m ≡ []
+names_right tree top m is e =
+    sym (ap broken_top is) ∙ behind_none (rules_in (broken_if (has_double (module_names tree)) Doubled ∷ [])) (broken_top (top_of tree top)) e
+  where
+    behind_none : (xs ys : List Rule) → xs ++ ys ≡ [] → ys ≡ []
+    behind_none [] ys e = e
+    behind_none (x ∷ xs) ys e = cc
+
 pub named_by : (words : List Text) (tree : SourceTree) (top : Option Text) (scale : Timescale) (design : Design) →
     DerivesText words tree → Elaborates tree top scale design → AreNamed design
 named_by words tree top scale design derives elaborates =
+    let m : ModuleTree = elaborates.unit in
     subst AreNamed (sym elaborates.describes)
-    (module_named scale elaborates.unit (top_named tree top elaborates.unit (all_named tree derives.fitting) elaborates.is_top) elaborates.right.names_differ)
+    (module_named scale m (top_named tree top m (all_named tree derives.fitting) elaborates.is_top)
+    (none_doubled (has_double (declared_names m)) (none_was _ _
+    (front_none (rules_in (name_rules m)) _ (names_right tree top m elaborates.is_top elaborates.right)))))

@@ -1,6 +1,7 @@
 -- The parts of concatenations: their nodes, their names, and whether they run.
-use Rattle.std.proofs.Common.{◌≡◌, ◌<◌, ◌≤◌, ℕ, zero, suc, ◌+◌, ◌-◌, Bool, true, false, ◌&&◌, List, [], ◌∷◌, ◌++◌, length, drop, get_or, Vec, Global, Box, Result, Ok, Err, OnOk, refl, sym, ap, ◌∙◌, append_assoc, append-nil, arith}
+use Rattle.std.proofs.Common.{◌≡◌, ◌<◌, ◌≤◌, ℕ, zero, suc, ◌+◌, ◌-◌, Bool, true, false, Option, None, List, [], ◌∷◌, ◌++◌, length, drop, get_or, Vec, Global, Box, Result, Ok, Err, OnOk, refl, sym, ap, ◌∙◌, append_assoc, append-nil, arith}
 use Rattle.std.specs.Bool.{◌==◌}
+use Rattle.std.specs.Option.{option_or}
 use Rattle.std.proofs.Math.ListN.{drop_of_length-le}
 use Rattle.basis.specs.declared.memory.OrMemory.{OrMemory}
 use Rattle.basis.specs.Reasons.{Because}
@@ -13,10 +14,12 @@ use Rattle.vdesign.specs.Nodes.{nodes_of}
 use Rattle.vdesign.specs.declared.expression.Node.{Node}
 use Rattle.vdesign.specs.declared.expression.Node.TheVariants.{Conversion}
 use Rattle.velab.specs.declared.fault.ElabFault.{ElabFault}
-use Rattle.velab.specs.Inner.{BreaksKnown}
 use Rattle.velab.specs.InnerParts.{before_part}
-use Rattle.velab.specs.Resolved.{resolved, resolved_parts, knows_expression, knows_parts}
-use Rattle.velab.proofs.FaultLemmas.{because_of}
+use Rattle.velab.specs.Resolved.{resolved, resolved_parts, broken, broken_parts}
+use Rattle.velab.specs.declared.fault.Rule.{Rule}
+use Rattle.velab.specs.Rules.{IsBroken}
+use Rattle.velab.specs.Scopes.{Scope}
+use Rattle.velab.proofs.FaultLemmas.{goes_on, stops_at}
 use Rattle.velab.proofs.ListLemmas.{drop_at}
 
 -- one node and the nodes of parts behind it
@@ -41,27 +44,27 @@ module _ (words : List Text) where
     replication_is =
         (λ i. replication (tree_of words (counted i)) (trees_of words (same i))) ∙ sym (ap (tree_of words) is ∙ tree_of_replication words at count parts)
 
-  module _ (names : List Text) where
+  module _ (scope : Scope) where
     -- the nodes of what is left of the parts
     abbrev pub nodes_left : List Expression → List Node
     nodes_left [] = []
-    nodes_left (x ∷ xs) = nodes_of (resolved_parts names (trees_of words (x ∷ xs)))
+    nodes_left (x ∷ xs) = nodes_of (resolved_parts scope (trees_of words (x ∷ xs)))
 
     none_left : (xs : List Expression) (i : ℕ) → length xs ≤ i → nodes_left (drop i xs) ≡ []
     none_left xs i end = ap nodes_left (drop_of_length-le xs end)
 
-    all_left : (xs : List Expression) → 0 < length xs → nodes_left xs ≡ nodes_of (resolved_parts names (trees_of words xs))
+    all_left : (xs : List Expression) → 0 < length xs → nodes_left xs ≡ nodes_of (resolved_parts scope (trees_of words xs))
     all_left [] some = absurd (omega (arith, some))
     all_left (x ∷ xs) some = refl
 
     pub ends_with : (xs : List Expression) (i : ℕ) (now old : List Node) → length xs ≤ i → 0 < length xs →
-        now ++ nodes_left (drop i xs) ≡ old ++ nodes_left xs → now ≡ old ++ nodes_of (resolved_parts names (trees_of words xs))
+        now ++ nodes_left (drop i xs) ≡ old ++ nodes_left xs → now ≡ old ++ nodes_of (resolved_parts scope (trees_of words xs))
     ends_with xs i now old end some whole =
         sym (append-nil now) ∙ ap (λ ns. now ++ ns) (sym (none_left xs i end)) ∙ whole ∙ ap (λ ns. old ++ ns) (all_left xs some)
 
     first_left : (x : Expression) (xs : List Expression) →
-        nodes_left (x ∷ xs) ≡ before_part (length xs) ∷ (nodes_of (resolved names (tree_of words x)) ++ nodes_left xs)
-    first_left x [] = ap (λ ns. Conversion false ∷ ns) (sym (append-nil (nodes_of (resolved names (tree_of words x)))))
+        nodes_left (x ∷ xs) ≡ before_part (length xs) ∷ (nodes_of (resolved scope (tree_of words x)) ++ nodes_left xs)
+    first_left x [] = ap (λ ns. Conversion false ∷ ns) (sym (append-nil (nodes_of (resolved scope (tree_of words x)))))
     first_left x (y ∷ ys) = refl
 
     rest_length : (xs : List Expression) (i : ℕ) → length (drop i xs) ≡ length xs - i
@@ -71,10 +74,10 @@ module _ (words : List Text) where
 
     module _ (xs : List Expression) (i : ℕ) (x : Expression) (within : i < length xs) (is : x ≡ get_or xs i x) where
       pub next_part : (left : ℕ) (done between next all : List Node) → left ≡ length xs - i - 1 →
-          between ≡ done ++ before_part left ∷ [] → next ≡ between ++ nodes_of (resolved names (tree_of words x)) →
+          between ≡ done ++ before_part left ∷ [] → next ≡ between ++ nodes_of (resolved scope (tree_of words x)) →
           done ++ nodes_left (drop i xs) ≡ all → next ++ nodes_left (drop (i + 1) xs) ≡ all
       next_part left done between next all fewer put_before put whole =
-          let own : List Node = nodes_of (resolved names (tree_of words x)) in
+          let own : List Node = nodes_of (resolved scope (tree_of words x)) in
           let rest : List Expression = drop (i + 1) xs in
           let count : left ≡ length rest = fewer ∙ omega (arith, rest_length xs (i + 1)) in
           ap (λ ns. ns ++ nodes_left rest) (put ∙ ap (λ ns. ns ++ own) put_before)
@@ -84,18 +87,14 @@ module _ (words : List Text) where
           ∙ ap (λ ns. done ++ ns) (sym (ap nodes_left (drop_at xs i x within is) ∙ first_left x rest))
           ∙ whole
 
-      opened_known : knows_parts names (trees_of words (drop i xs)) ≡
-          (knows_expression names (tree_of words x) && knows_parts names (trees_of words (drop (i + 1) xs)))
-      opened_known = ap (λ (l : List Expression). knows_parts names (trees_of words l)) (drop_at xs i x within is)
+      opened_parts : (fixed : Bool) → broken_parts fixed scope (trees_of words (drop i xs)) ≡
+          option_or (broken fixed scope (tree_of words x)) (broken_parts fixed scope (trees_of words (drop (i + 1) xs)))
+      opened_parts fixed = ap (λ (l : List Expression). broken_parts fixed scope (trees_of words l)) (drop_at xs i x within is)
 
-      pub next_known : (all : Bool) → knows_expression names (tree_of words x) ≡ true → knows_parts names (trees_of words (drop i xs)) ≡ all →
-          knows_parts names (trees_of words (drop (i + 1) xs)) ≡ all
-      next_known all known same =
-          sym (ap (λ b. b && knows_parts names (trees_of words (drop (i + 1) xs))) known) ∙ sym opened_known ∙ same
+      pub next_right : (fixed : Bool) (all : Option Rule) → broken fixed scope (tree_of words x) ≡ None →
+          broken_parts fixed scope (trees_of words (drop i xs)) ≡ all → broken_parts fixed scope (trees_of words (drop (i + 1) xs)) ≡ all
+      next_right fixed all right same = goes_on (broken fixed scope (tree_of words x)) _ _ all (opened_parts fixed) right same
 
-      pub part_err : (all : Bool) → knows_parts names (trees_of words (drop i xs)) ≡ all →
-          (e : OrMemory ElabFault) → Because (BreaksKnown (knows_expression names (tree_of words x))) e → Because (BreaksKnown all) e
-      part_err all same =
-          because_of (λ p. p)
-          (λ unknown. sym same ∙ opened_known ∙ ap (λ b. b && knows_parts names (trees_of words (drop (i + 1) xs))) unknown)
-          (λ p. p) (λ p. p)
+      pub part_err : (fixed : Bool) (all : Option Rule) → broken_parts fixed scope (trees_of words (drop i xs)) ≡ all →
+          (e : OrMemory ElabFault) → Because (IsBroken (broken fixed scope (tree_of words x))) e → Because (IsBroken all) e
+      part_err fixed all same = stops_at (broken fixed scope (tree_of words x)) _ _ all (opened_parts fixed) same

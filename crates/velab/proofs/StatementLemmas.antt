@@ -1,6 +1,7 @@
 -- What a statement lays on the table, statement by statement of a block.
-use Rattle.std.proofs.Common.{◌≡◌, ◌<◌, ◌≤◌, ℕ, ◌+◌, Bool, true, ◌&&◌, List, [], ◌∷◌, ◌++◌, length, drop, get_or, Vec, Global, Result, Ok, Err, OnOk, sym, ap, subst, ◌∙◌, append_assoc, append-nil}
+use Rattle.std.proofs.Common.{◌≡◌, ◌<◌, ◌≤◌, ℕ, ◌+◌, None, Option, List, [], ◌∷◌, ◌++◌, length, drop, get_or, Vec, Global, Result, Ok, Err, OnOk, sym, ap, subst, ◌∙◌, append_assoc, append-nil}
 use Rattle.std.proofs.Math.ListN.{drop_of_length-le}
+use Rattle.std.specs.Option.{option_or}
 use Rattle.vast.specs.Words.{Text}
 use Rattle.vast.specs.Statements.{StatementTrees, block, first_statement, no_statement}
 use Rattle.vast.specs.StatementTrees.{statement_tree, statement_trees}
@@ -9,7 +10,9 @@ use Rattle.vast.proofs.WholeTreeLemmas.{tree_of_whole_block}
 use Rattle.vdesign.specs.declared.action.Action.{Action}
 use Rattle.basis.specs.declared.memory.OrMemory.{OrMemory}
 use Rattle.velab.specs.declared.fault.ElabFault.{ElabFault}
-use Rattle.velab.specs.Elaborate.{Laid, placed, nothing_laid, laid, all_laid, knows, knows_all}
+use Rattle.velab.specs.Elaborate.{Laid, placed, nothing_laid, laid, all_laid, broken_in, broken_in_all}
+use Rattle.velab.specs.declared.fault.Rule.{Rule}
+use Rattle.velab.specs.Scopes.{Scope}
 use Rattle.velab.specs.Inner.{IsLaid}
 use Rattle.velab.proofs.ListLemmas.{drop_at}
 
@@ -32,49 +35,49 @@ nothing_gives table places wanted gives = record {
 
 -- ---- the statements of a block
 
-module _ (words : List Text) (names : List (List ℕ)) (statement : Statement) (statements : Vec Statement Global) (items : List Statement) (is : statement ≡ Block statements) (same : items ≡ statements.items) where
+module _ (words : List Text) (scope : Scope) (statement : Statement) (statements : Vec Statement Global) (items : List Statement) (is : statement ≡ Block statements) (same : items ≡ statements.items) where
   pub block_trees : statement_tree words statement ≡ block (statement_trees words items)
   block_trees = ap (statement_tree words) is ∙ tree_of_whole_block words statements ∙ ap (λ (xs : List Statement). block (statement_trees words xs)) (sym same)
 
-  pub block_laid : (table : List Action) → all_laid names table (statement_trees words items) ≡ laid names table (statement_tree words statement)
-  block_laid table = sym (ap (laid names table) block_trees)
+  pub block_laid : (table : List Action) → all_laid scope table (statement_trees words items) ≡ laid scope table (statement_tree words statement)
+  block_laid table = sym (ap (laid scope table) block_trees)
 
-  pub block_knows : knows_all names (statement_trees words items) ≡ knows names (statement_tree words statement)
-  block_knows = sym (ap (knows names) block_trees)
+  pub block_broken : broken_in_all scope (statement_trees words items) ≡ broken_in scope (statement_tree words statement)
+  block_broken = sym (ap (broken_in scope) block_trees)
 
 -- so much of a block is laid: what is left leads to the same as all of it from the start
-pub record Leads (names : List (List ℕ)) (now : List Action) (before : List ℕ) (left : StatementTrees) (all : Laid) (begun : List ℕ) : Type 0 where
-  pub table : (all_laid names now left).table ≡ all.table
-  pub places : before ++ (all_laid names now left).places ≡ begun ++ all.places
+pub record Leads (scope : Scope) (now : List Action) (before : List ℕ) (left : StatementTrees) (all : Laid) (begun : List ℕ) : Type 0 where
+  pub table : (all_laid scope now left).table ≡ all.table
+  pub places : before ++ (all_laid scope now left).places ≡ begun ++ all.places
 
-module _ (words : List Text) (names : List (List ℕ)) (xs : List Statement) (i : ℕ) where
+module _ (words : List Text) (scope : Scope) (xs : List Statement) (i : ℕ) where
   module _ (x : Statement) (within : i < length xs) (is : x ≡ get_or xs i x) where
     pub opened : statement_trees words (drop i xs) ≡ first_statement (statement_tree words x) (statement_trees words (drop (i + 1) xs))
     opened = ap (statement_trees words) (drop_at xs i x within is)
 
     pub laid_step : (table table_after : List Action) (places places_after : List ℕ) (all : Laid) (begun : List ℕ) →
-        IsLaid (laid names table (statement_tree words x)) places table_after places_after →
-        Leads names table places (statement_trees words (drop i xs)) all begun →
-        Leads names table_after places_after (statement_trees words (drop (i + 1) xs)) all begun
+        IsLaid (laid scope table (statement_tree words x)) places table_after places_after →
+        Leads scope table places (statement_trees words (drop i xs)) all begun →
+        Leads scope table_after places_after (statement_trees words (drop (i + 1) xs)) all begun
     laid_step table table_after places places_after all begun put leads =
         let rest : StatementTrees = statement_trees words (drop (i + 1) xs) in
-        let front : Laid = laid names table (statement_tree words x) in
-        let here : Leads names table places (first_statement (statement_tree words x) rest) all begun = subst (λ (t : StatementTrees). Leads names table places t all begun) opened leads in
+        let front : Laid = laid scope table (statement_tree words x) in
+        let here : Leads scope table places (first_statement (statement_tree words x) rest) all begun = subst (λ (t : StatementTrees). Leads scope table places t all begun) opened leads in
         record {
-          table = ap (λ (t : List Action). (all_laid names t rest).table) put.table ∙ here.table;
-          places = ap (λ (t : List Action). places_after ++ (all_laid names t rest).places) put.table
-              ∙ ap (λ (p : List ℕ). p ++ (all_laid names front.table rest).places) put.places
-              ∙ append_assoc places front.places (all_laid names front.table rest).places
+          table = ap (λ (t : List Action). (all_laid scope t rest).table) put.table ∙ here.table;
+          places = ap (λ (t : List Action). places_after ++ (all_laid scope t rest).places) put.table
+              ∙ ap (λ (p : List ℕ). p ++ (all_laid scope front.table rest).places) put.places
+              ∙ append_assoc places front.places (all_laid scope front.table rest).places
               ∙ here.places;
         }
 
-    pub knows_step : (all : Bool) → knows names (statement_tree words x) ≡ true → knows_all names (statement_trees words (drop i xs)) ≡ all → knows_all names (statement_trees words (drop (i + 1) xs)) ≡ all
-    knows_step all known same =
-        sym (ap (λ b. b && knows_all names (statement_trees words (drop (i + 1) xs))) known) ∙ sym (ap (knows_all names) opened) ∙ same
+    pub right_step : (all : Option Rule) → broken_in scope (statement_tree words x) ≡ None → broken_in_all scope (statement_trees words (drop i xs)) ≡ all → broken_in_all scope (statement_trees words (drop (i + 1) xs)) ≡ all
+    right_step all right same =
+        sym (ap (λ b. option_or b (broken_in_all scope (statement_trees words (drop (i + 1) xs)))) right) ∙ sym (ap (broken_in_all scope) opened) ∙ same
 
   pub laid_end : (table : List Action) (places : List ℕ) (all : Laid) (begun : List ℕ) → length xs ≤ i →
-      Leads names table places (statement_trees words (drop i xs)) all begun → IsLaid all begun table places
+      Leads scope table places (statement_trees words (drop i xs)) all begun → IsLaid all begun table places
   laid_end table places all begun end leads =
-      let here : Leads names table places no_statement all begun =
-      subst (λ (l : List Statement). Leads names table places (statement_trees words l) all begun) (drop_of_length-le xs end) leads in
+      let here : Leads scope table places no_statement all begun =
+      subst (λ (l : List Statement). Leads scope table places (statement_trees words l) all begun) (drop_of_length-le xs end) leads in
       record { table = here.table; places = sym (append-nil places) ∙ here.places }

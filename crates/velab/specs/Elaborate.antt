@@ -1,6 +1,7 @@
 -- `Elaborates tree top scale design`: the design that a text stands for (IEEE 1364-2005, clause 12).
-use Rattle.std.specs.Prelude.{◌≡◌, ◌≤◌, ℕ, ◌+◌, ◌-◌, max, min, nat_le, Bool, true, false, ◌&&◌, ◌||◌, cond, List, [], ◌∷◌, ◌++◌, map, length, Option, None, Some, is_some, unwrap_or, option_map}
+use Rattle.std.specs.Prelude.{◌≡◌, ◌≤◌, ℕ, ◌+◌, ◌-◌, max, min, nat_le, Bool, true, false, ◌&&◌, ◌||◌, not, nat_lt, cond, suc, List, [], ◌∷◌, ◌++◌, map, length, Option, None, Some, is_some, unwrap_or, option_map, slice_get}
 use Rattle.std.specs.List.{list_any, list_all, flat_map, filter_map, find}
+use Rattle.std.specs.Option.{option_or}
 use Rattle.std.specs.Borrow.{Bor}
 use Rattle.std.specs.Str.{bytes_eq}
 use Rattle.vbits.specs.declared.bit4.Bit4.TheVariants.{X, Z}
@@ -9,7 +10,8 @@ use Rattle.vast.specs.Words.{Text}
 use Rattle.vast.specs.Expressions as text
 use Rattle.vast.specs.Statements.{TargetTree, DelayTree, by_number, by_name, by_value, TaskTree, print, dump_file, dump_vars, dump, end_run, SelectionTree, StatementTree, StatementTrees, empty, block, assign, nonblocking, trigger, if_true, if_else, case_of, while_true, repeat_times, forever, for_loop, wait_for, delay, event, task, no_statement, first_statement, BranchTree, BranchTrees, labelled, default, no_branch, first_branch}
 use Rattle.vast.specs.Statements as written
-use Rattle.vast.specs.Modules.{RangeTree, DeclarationKind, variables, integers, SettingTree, DeclaredTree, ItemTree, parameters, declaration, events, assignments, initial, always, instances, ModuleTree, SourceTree}
+use Rattle.vbits.specs.Vectors.{Vector, with_sign}
+use Rattle.vast.specs.Modules.{RangeTree, TypeTree, ParameterType, integer, typed, HeadParameter, DeclarationKind, variables, integers, SettingTree, DeclaredTree, ItemTree, parameters, declaration, events, assignments, initial, always, instances, ModuleTree, SourceTree}
 use Rattle.vast.specs.declared.module.NetKind.{NetKind}
 use Rattle.vast.specs.declared.module.NetKind.TheVariants as net
 use Rattle.vdesign.specs.Design as design
@@ -23,13 +25,19 @@ use Rattle.vdesign.specs.declared.design.Kind.{Kind}
 use Rattle.vdesign.specs.declared.design.Kind.TheVariants.{Reg, Integer, Wire}
 use Rattle.vdesign.specs.declared.expression.Bounds.{Bounds}
 use Rattle.vdesign.specs.Expressions.{ExpressionTree}
-use Rattle.velab.specs.Constants.{bound_of}
-use Rattle.velab.specs.Resolved.{resolved, knows_expression}
-use Rattle.velab.specs.Right.{writes_rightly}
+use Rattle.vvalue.specs.Value.{by_itself, right_side}
 use Rattle.vvalue.specs.declared.flaw.Flaw.{Flaw}
+use Rattle.velab.specs.declared.fault.Rule.{Rule}
+use Rattle.velab.specs.declared.fault.Rule.TheVariants as rule
+use Rattle.velab.specs.declared.scope.Meaning.{Meaning}
+use Rattle.velab.specs.declared.scope.Meaning.TheVariants.{Parameter}
+use Rattle.velab.specs.Rules.{unless, broken_if, flaw_rule, rules_in}
+use Rattle.velab.specs.Scopes.{Scope, at, is_declared, number_of, broken_name, broken_variable}
+use Rattle.velab.specs.Constants.{nothing, worth, bound_in}
+use Rattle.velab.specs.Resolved.{resolved, broken_expression, broken_constant}
+use Rattle.velab.specs.Right.{writes_rightly}
 use Rattle.velab.specs.ActionFlaws.{blank_moment, table_flaw}
-use Rattle.velab.specs.Uses.{place_of, is_declared}
-use Rattle.velab.specs.Waits.{any_of, names_in, terms_of, knows_control}
+use Rattle.velab.specs.Waits.{any_of, names_in, terms_of, broken_control}
 
 -- ---- names (3.7, 12.7)
 
@@ -98,26 +106,36 @@ declared_names m = map (λ d. d.name) (declarations m)
 abbrev pub span : Bounds → ℕ
 span bounds = max bounds.left bounds.right - min bounds.left bounds.right + 1
 
-abbrev pub bounds_of : RangeTree → Bounds
-bounds_of range = record { left = unwrap_or (bound_of range.left) 0; right = unwrap_or (bound_of range.right) 0 }
+-- 0 stands for what is no bound
+abbrev pub bound_of : Scope → text.ExpressionTree → ℕ
+bound_of scope tree = unwrap_or (bound_in (worth (resolved scope tree))) 0
+
+abbrev pub bounds_of : Scope → RangeTree → Bounds
+bounds_of scope range = record { left = bound_of scope range.left; right = bound_of scope range.right }
+
+-- 4.3.1
+abbrev pub broken_bound : Scope → text.ExpressionTree → Option Rule
+broken_bound scope tree = option_or (broken_constant scope tree) (unless (is_some (bound_in (worth (resolved scope tree)))) rule.Width)
 
 -- two bounds, and at most 64 bits from one to the other
-abbrev pub is_range : Option RangeTree → Bool
-is_range None = true
-is_range (Some range) = is_some (bound_of range.left) && is_some (bound_of range.right) && nat_le (span (bounds_of range)) 64
+abbrev pub broken_range : Scope → Option RangeTree → Option Rule
+broken_range scope None = None
+broken_range scope (Some range) =
+    option_or (broken_bound scope range.left)
+    (option_or (broken_bound scope range.right) (unless (nat_le (span (bounds_of scope range)) 64) rule.Width))
 
-abbrev pub has_bounds : DeclarationKind → Bool
-has_bounds (variables word type) = is_range type.range
-has_bounds integers = true
+abbrev pub broken_kind : Scope → DeclarationKind → Option Rule
+broken_kind scope (variables word type) = broken_range scope type.range
+broken_kind scope integers = None
 
-abbrev pub has_range : ItemTree → Bool
-has_range (parameters local type settings) = true
-has_range (declaration kind list) = has_bounds kind
-has_range (events names) = true
-has_range (assignments settings) = true
-has_range (initial statement) = true
-has_range (always statement) = true
-has_range (instances letters overrides list) = true
+abbrev pub broken_declaration : Scope → ItemTree → Option Rule
+broken_declaration scope (parameters local type settings) = None
+broken_declaration scope (declaration kind list) = broken_kind scope kind
+broken_declaration scope (events names) = None
+broken_declaration scope (assignments settings) = None
+broken_declaration scope (initial statement) = None
+broken_declaration scope (always statement) = None
+broken_declaration scope (instances letters overrides list) = None
 
 -- without a range a `reg` or a `wire` has 1 bit, an `integer` 32
 abbrev pub length_of : Kind → Option Bounds → ℕ
@@ -148,8 +166,8 @@ variable_by home kind signed bounds text = record {
   bounds = bounds;
 }
 
-abbrev pub variable_of : Home → Declaration → design.Variable
-variable_of home d = variable_by home d.kind d.signed (option_map bounds_of d.range) d.name
+abbrev pub variable_of : Home → Scope → Declaration → design.Variable
+variable_of home scope d = variable_by home d.kind d.signed (option_map (bounds_of scope) d.range) d.name
 
 -- a net that is declared with a value is driven by it (6.1.1)
 abbrev pub driver_of : DeclaredTree → Option Text
@@ -176,6 +194,112 @@ driven_names m = flat_map drivers_by m.items
 abbrev pub home_of : ModuleTree → Home
 home_of m = record { name = m.name; driven = driven_names m }
 
+-- ---- parameters (4.10, 12.2)
+
+-- a parameter as it is written, with its type where one is
+pub record Given : Type 0 where
+  pub type : Option ParameterType
+  pub setting : SettingTree
+
+abbrev pub given : Option ParameterType → SettingTree → Given
+given type setting = record { type = type; setting = setting }
+
+-- in the head of a module one without a type has that of the one before it
+abbrev pub given_behind : Option ParameterType → List HeadParameter → List Given
+given_behind type [] = []
+given_behind type (head ∷ more) = given (option_or head.kind type) head.setting ∷ given_behind (option_or head.kind type) more
+
+abbrev pub given_in_head : Option (List HeadParameter) → List Given
+given_in_head None = []
+given_in_head (Some list) = given_behind None list
+
+abbrev pub given_by : ItemTree → List Given
+given_by (parameters local type settings) = map (given (Some type)) settings
+given_by (declaration kind list) = []
+given_by (events names) = []
+given_by (assignments settings) = []
+given_by (initial statement) = []
+given_by (always statement) = []
+given_by (instances letters overrides list) = []
+
+-- 4.10.1: without a range it has the size of its value, and the value's sign unless it is declared to be signed
+abbrev pub typed_value : Bool → Option Bounds → ExpressionTree → Vector
+typed_value signed (Some bounds) value = with_sign (right_side nothing (span bounds) value) signed
+typed_value true None value = with_sign (worth value) true
+typed_value false None value = worth value
+
+abbrev pub parameter_bounds : Scope → Option ParameterType → Option Bounds
+parameter_bounds scope None = None
+parameter_bounds scope (Some integer) = None
+parameter_bounds scope (Some (typed type)) = option_map (bounds_of scope) type.range
+
+abbrev pub parameter_by : Option ParameterType → Option Bounds → ExpressionTree → Vector
+parameter_by None bounds value = worth value
+parameter_by (Some integer) bounds value = with_sign (right_side nothing 32 value) true
+parameter_by (Some (typed type)) bounds value = typed_value type.signed bounds value
+
+abbrev pub broken_type : Scope → Option ParameterType → Option Rule
+broken_type scope None = None
+broken_type scope (Some integer) = None
+broken_type scope (Some (typed type)) = broken_range scope type.range
+
+abbrev pub parameter_of : Scope → Given → Meaning
+parameter_of scope one =
+    let bounds = parameter_bounds scope one.type in
+    Parameter (parameter_by one.type bounds (resolved scope one.setting.value)) bounds scope.known
+
+-- a parameter is known from its place on, to what stands behind it
+abbrev pub with_given : Scope → Given → Scope
+with_given scope one = record {
+  names = scope.names ++ one.setting.name ∷ [];
+  variables = scope.variables;
+  others = scope.others ++ parameter_of scope one ∷ [];
+  known = scope.known + 1;
+}
+
+abbrev pub with_all : Scope → List Given → Scope
+with_all scope [] = scope
+with_all scope (one ∷ more) = with_all (with_given scope one) more
+
+-- its name is new, its range is right, and its value constant
+abbrev pub broken_given : Scope → Given → Option Rule
+broken_given scope one =
+    option_or (broken_type scope one.type)
+    (option_or (broken_constant scope one.setting.value) (broken_if (is_declared scope.names one.setting.name) rule.Doubled))
+
+abbrev pub broken_all : Scope → List Given → Option Rule
+broken_all scope [] = None
+broken_all scope (one ∷ more) = option_or (broken_given scope one) (broken_all (with_given scope one) more)
+
+-- what is known behind an item: its parameters too
+abbrev pub behind_item : Scope → ItemTree → Scope
+behind_item scope item = at scope (scope.known + length (given_by item))
+
+-- the names of variables, and no parameters
+abbrev pub first_scope : ModuleTree → Scope
+first_scope m = record { names = declared_names m; variables = length (declared_names m); others = []; known = 0 }
+
+abbrev pub head_scope : ModuleTree → Scope
+head_scope m = with_all (first_scope m) (given_in_head m.parameters)
+
+abbrev pub whole_scope : ModuleTree → Scope
+whole_scope m = with_all (head_scope m) (flat_map given_by m.items)
+
+-- what is known at the first item: all names, but as constants only the parameters of the head
+abbrev pub item_scope : ModuleTree → Scope
+item_scope m = at (whole_scope m) (head_scope m).known
+
+-- ---- the variables of items, each in the scope of its place
+
+abbrev pub variables_from : Home → Scope → List ItemTree → List design.Variable
+variables_from home scope [] = []
+variables_from home scope (item ∷ more) =
+    map (variable_of home scope) (declarations_of item) ++ variables_from home (behind_item scope item) more
+
+abbrev pub broken_from : Scope → List ItemTree → Option Rule
+broken_from scope [] = None
+broken_from scope (item ∷ more) = option_or (broken_declaration scope item) (broken_from (behind_item scope item) more)
+
 -- ---- processes (9.9.1)
 
 -- the table of actions so far, with what a statement adds to it, and the places at which the statement begins
@@ -194,17 +318,17 @@ nothing_laid table = record { table = table; places = [] }
 abbrev pub assigning : Bool → Target → ExpressionTree → Action
 assigning blocking target value = cond blocking (Assign target value) (Nonblocking target value)
 
-abbrev pub laid_assignment : Bool → List Text → List Action → TargetTree → Option DelayTree → text.ExpressionTree → Laid
-laid_assignment blocking names table (written.whole letters) None value = placed table (assigning blocking (Whole (place_of names letters)) (resolved names value))
-laid_assignment blocking names table (written.whole letters) (Some amount) value = nothing_laid table
-laid_assignment blocking names table (written.bit letters index) amount value = nothing_laid table
-laid_assignment blocking names table (written.part letters left right) amount value = nothing_laid table
-laid_assignment blocking names table (written.joined targets) amount value = nothing_laid table
+abbrev pub laid_assignment : Bool → Scope → List Action → TargetTree → Option DelayTree → text.ExpressionTree → Laid
+laid_assignment blocking scope table (written.whole letters) None value = placed table (assigning blocking (Whole (number_of scope letters)) (resolved scope value))
+laid_assignment blocking scope table (written.whole letters) (Some amount) value = nothing_laid table
+laid_assignment blocking scope table (written.bit letters index) amount value = nothing_laid table
+laid_assignment blocking scope table (written.part letters left right) amount value = nothing_laid table
+laid_assignment blocking scope table (written.joined targets) amount value = nothing_laid table
 
-abbrev pub amount_of : List Text → DelayTree → ExpressionTree
-amount_of names (by_number digits) = resolved names (text.number digits)
-amount_of names (by_name letters) = resolved names (text.name letters)
-amount_of names (by_value amount) = resolved names amount
+abbrev pub amount_of : Scope → DelayTree → ExpressionTree
+amount_of scope (by_number digits) = resolved scope (text.number digits)
+amount_of scope (by_name letters) = resolved scope (text.name letters)
+amount_of scope (by_value amount) = resolved scope amount
 
 abbrev pub laid_dump : List Action → Option SelectionTree → Laid
 laid_dump table None = placed table DumpVars
@@ -228,69 +352,69 @@ pub record LaidBranches : Type 0 where
   pub otherwise : List ℕ
 
 -- 9.5: each item in front of a statement is a branch of its own with the same places
-abbrev pub branches_by : List Text → List ℕ → text.ExpressionTrees → List Branch
-branches_by names places text.none = []
-branches_by names places (text.first item more) = record { item = resolved names item; body = places } ∷ branches_by names places more
+abbrev pub branches_by : Scope → List ℕ → text.ExpressionTrees → List Branch
+branches_by scope places text.none = []
+branches_by scope places (text.first item more) = record { item = resolved scope item; body = places } ∷ branches_by scope places more
 
 -- a statement behind what the table has: `begin`, `end` and `;` are no action, what stands inside is laid first, and what isn't
 -- run yet lays nothing
 abbrev mutual
-  pub laid : List Text → List Action → StatementTree → Laid
-  laid names table empty = nothing_laid table
-  laid names table (block statements) = all_laid names table statements
-  laid names table (assign target amount value) = laid_assignment true names table target amount value
-  laid names table (nonblocking target amount value) = laid_assignment false names table target amount value
-  laid names table (trigger letters) = nothing_laid table
-  laid names table (if_true condition body) =
-      let inner = laid names table body in placed inner.table (Test (resolved names condition) inner.places [])
-  laid names table (if_else condition body other) =
-      let one = laid names table body in
-      let two = laid names one.table other in
-      placed two.table (Test (resolved names condition) one.places two.places)
-  laid names table (case_of kind value branches) =  -- 9.5
-      let inner = laid_branches names table branches in
-      placed inner.table (Case kind (resolved names value) inner.branches inner.otherwise)
-  laid names table (while_true condition body) =
-      let inner = laid names table body in placed inner.table (Again (resolved names condition) inner.places)
-  laid names table (repeat_times count body) =
-      let inner = laid names table body in placed inner.table (Repeat (resolved names count) inner.places)
-  laid names table (forever body) =
-      let inner = laid names table body in placed inner.table (Forever inner.places)
-  laid names table (for_loop target value condition next_target next_value body) =
-      let first = laid_assignment true names table target None value in
-      let inner = laid names first.table body in
-      let next = laid_assignment true names inner.table next_target None next_value in
-      let turn = placed next.table (Again (resolved names condition) (inner.places ++ next.places)) in
+  pub laid : Scope → List Action → StatementTree → Laid
+  laid scope table empty = nothing_laid table
+  laid scope table (block statements) = all_laid scope table statements
+  laid scope table (assign target amount value) = laid_assignment true scope table target amount value
+  laid scope table (nonblocking target amount value) = laid_assignment false scope table target amount value
+  laid scope table (trigger letters) = nothing_laid table
+  laid scope table (if_true condition body) =
+      let inner = laid scope table body in placed inner.table (Test (resolved scope condition) inner.places [])
+  laid scope table (if_else condition body other) =
+      let one = laid scope table body in
+      let two = laid scope one.table other in
+      placed two.table (Test (resolved scope condition) one.places two.places)
+  laid scope table (case_of kind value branches) =  -- 9.5
+      let inner = laid_branches scope table branches in
+      placed inner.table (Case kind (resolved scope value) inner.branches inner.otherwise)
+  laid scope table (while_true condition body) =
+      let inner = laid scope table body in placed inner.table (Again (resolved scope condition) inner.places)
+  laid scope table (repeat_times count body) =
+      let inner = laid scope table body in placed inner.table (Repeat (resolved scope count) inner.places)
+  laid scope table (forever body) =
+      let inner = laid scope table body in placed inner.table (Forever inner.places)
+  laid scope table (for_loop target value condition next_target next_value body) =
+      let first = laid_assignment true scope table target None value in
+      let inner = laid scope first.table body in
+      let next = laid_assignment true scope inner.table next_target None next_value in
+      let turn = placed next.table (Again (resolved scope condition) (inner.places ++ next.places)) in
       record { table = turn.table; places = first.places ++ turn.places }
-  laid names table (wait_for condition body) =  -- 9.7.6
-      let inner = laid names table body in
-      placed inner.table (Until (resolved names condition) (any_of names (names_in condition)) inner.places)
-  laid names table (delay amount body) =
-      let inner = laid names table body in placed inner.table (Delay (amount_of names amount) inner.places)
-  laid names table (event control body) =  -- 9.7.2
-      let inner = laid names table body in placed inner.table (On (terms_of names control body) inner.places)
-  laid names table (task call) = laid_task table call
+  laid scope table (wait_for condition body) =  -- 9.7.6
+      let inner = laid scope table body in
+      placed inner.table (Until (resolved scope condition) (any_of scope (names_in condition)) inner.places)
+  laid scope table (delay amount body) =
+      let inner = laid scope table body in placed inner.table (Delay (amount_of scope amount) inner.places)
+  laid scope table (event control body) =  -- 9.7.2
+      let inner = laid scope table body in placed inner.table (On (terms_of scope control body) inner.places)
+  laid scope table (task call) = laid_task table call
 
-  pub all_laid : List Text → List Action → StatementTrees → Laid
-  all_laid names table no_statement = nothing_laid table
-  all_laid names table (first_statement statement rest) =
-      let front = laid names table statement in
-      let behind = all_laid names front.table rest in
+  pub all_laid : Scope → List Action → StatementTrees → Laid
+  all_laid scope table no_statement = nothing_laid table
+  all_laid scope table (first_statement statement rest) =
+      let front = laid scope table statement in
+      let behind = all_laid scope front.table rest in
       record { table = behind.table; places = front.places ++ behind.places }
 
-  pub laid_branch : List Text → List Action → BranchTree → LaidBranches
-  laid_branch names table (labelled items body) =
-      let inner = laid names table body in
-      record { table = inner.table; branches = branches_by names inner.places items; otherwise = [] }
-  laid_branch names table (default colon body) =
-      let inner = laid names table body in record { table = inner.table; branches = []; otherwise = inner.places }
+  pub laid_branch : Scope → List Action → BranchTree → LaidBranches
+  laid_branch scope table (labelled items body) =
+      let inner = laid scope table body in
+      record { table = inner.table; branches = branches_by scope inner.places items; otherwise = [] }
+  laid_branch scope table (default colon body) =
+      let inner = laid scope table body in record { table = inner.table; branches = []; otherwise = inner.places }
 
   -- the `default` may stand anywhere among them; a case has one at most
-  pub laid_branches : List Text → List Action → BranchTrees → LaidBranches
-  laid_branches names table no_branch = record { table = table; branches = []; otherwise = [] }
-  laid_branches names table (first_branch branch rest) =
-      let front = laid_branch names table branch in
-      let behind = laid_branches names front.table rest in
+  pub laid_branches : Scope → List Action → BranchTrees → LaidBranches
+  laid_branches scope table no_branch = record { table = table; branches = []; otherwise = [] }
+  laid_branches scope table (first_branch branch rest) =
+      let front = laid_branch scope table branch in
+      let behind = laid_branches scope front.table rest in
       record {
         table = behind.table;
         branches = front.branches ++ behind.branches;
@@ -303,82 +427,88 @@ pub data ProcessTree : Type 0 where
   drives : Text → text.ExpressionTree → ProcessTree
 
 -- 6.1: it writes, and it writes again at any change of a name that is read
-abbrev pub driving : List Text → Text → text.ExpressionTree → Action
-driving names letters value = Drive (Whole (place_of names letters)) (resolved names value) (any_of names (names_in value))
+abbrev pub driving : Scope → Text → text.ExpressionTree → Action
+driving scope letters value = Drive (Whole (number_of scope letters)) (resolved scope value) (any_of scope (names_in value))
 
-abbrev pub laid_process : List Text → List Action → ProcessTree → Laid
-laid_process names table (does statement) = laid names table statement
-laid_process names table (drives letters value) = placed table (driving names letters value)
+abbrev pub laid_process : Scope → List Action → ProcessTree → Laid
+laid_process scope table (does statement) = laid scope table statement
+laid_process scope table (drives letters value) = placed table (driving scope letters value)
 
 -- the table of several processes, and where each of them begins
 pub record Processes : Type 0 where
   pub table : List Action
   pub begins : List (List ℕ)
 
-abbrev pub laid_processes : List Text → List Action → List ProcessTree → Processes
-laid_processes names table [] = record { table = table; begins = [] }
-laid_processes names table (process ∷ rest) =
-    let front = laid_process names table process in
-    let behind = laid_processes names front.table rest in
+abbrev pub laid_processes : Scope → List Action → List ProcessTree → Processes
+laid_processes scope table [] = record { table = table; begins = [] }
+laid_processes scope table (process ∷ rest) =
+    let front = laid_process scope table process in
+    let behind = laid_processes scope front.table rest in
     record { table = behind.table; begins = front.places ∷ behind.begins }
 
-abbrev pub knows_assignment : List Text → TargetTree → Option DelayTree → text.ExpressionTree → Bool
-knows_assignment names (written.whole letters) None value = is_declared names letters && knows_expression names value
-knows_assignment names (written.whole letters) (Some amount) value = true
-knows_assignment names (written.bit letters index) amount value = true
-knows_assignment names (written.part letters left right) amount value = true
-knows_assignment names (written.joined targets) amount value = true
+abbrev pub broken_assignment : Scope → TargetTree → Option DelayTree → text.ExpressionTree → Option Rule
+broken_assignment scope (written.whole letters) None value = option_or (broken_variable scope letters) (broken_expression scope value)
+broken_assignment scope (written.whole letters) (Some amount) value = None
+broken_assignment scope (written.bit letters index) amount value = None
+broken_assignment scope (written.part letters left right) amount value = None
+broken_assignment scope (written.joined targets) amount value = None
 
-abbrev pub knows_amount : List Text → DelayTree → Bool
-knows_amount names (by_number digits) = true
-knows_amount names (by_name letters) = is_declared names letters
-knows_amount names (by_value amount) = knows_expression names amount
+abbrev pub broken_amount : Scope → DelayTree → Option Rule
+broken_amount scope (by_number digits) = None
+broken_amount scope (by_name letters) = broken_name false scope letters
+broken_amount scope (by_value amount) = broken_expression scope amount
 
 -- the items in front of one statement of a `case`
-abbrev pub knows_items : List Text → text.ExpressionTrees → Bool
-knows_items names text.none = true
-knows_items names (text.first item more) = knows_expression names item && knows_items names more
+abbrev pub broken_items : Scope → text.ExpressionTrees → Option Rule
+broken_items scope text.none = None
+broken_items scope (text.first item more) = option_or (broken_expression scope item) (broken_items scope more)
 
--- whether each name in a statement is declared, before it or after it; what isn't run yet uses none
+-- the first rule that is broken in a statement; what isn't run yet breaks none
 abbrev mutual
-  pub knows : List Text → StatementTree → Bool
-  knows names empty = true
-  knows names (block statements) = knows_all names statements
-  knows names (assign target amount value) = knows_assignment names target amount value
-  knows names (nonblocking target amount value) = knows_assignment names target amount value
-  knows names (trigger letters) = true
-  knows names (if_true condition body) = knows_expression names condition && knows names body
-  knows names (if_else condition body other) = knows_expression names condition && (knows names body && knows names other)
-  knows names (case_of kind value branches) = knows_expression names value && knows_branches names branches
-  knows names (while_true condition body) = knows_expression names condition && knows names body
-  knows names (repeat_times count body) = knows_expression names count && knows names body
-  knows names (forever body) = knows names body
-  knows names (for_loop target value condition next_target next_value body) =
-      knows_assignment names target None value
-      && (knows_expression names condition && (knows_assignment names next_target None next_value && knows names body))
-  knows names (wait_for condition body) = knows_expression names condition && knows names body
-  knows names (delay amount body) = knows_amount names amount && knows names body
-  knows names (event control body) = knows_control names control && knows names body
-  knows names (task call) = true
+  pub broken_in : Scope → StatementTree → Option Rule
+  broken_in scope empty = None
+  broken_in scope (block statements) = broken_in_all scope statements
+  broken_in scope (assign target amount value) = broken_assignment scope target amount value
+  broken_in scope (nonblocking target amount value) = broken_assignment scope target amount value
+  broken_in scope (trigger letters) = None
+  broken_in scope (if_true condition body) = option_or (broken_expression scope condition) (broken_in scope body)
+  broken_in scope (if_else condition body other) =
+      option_or (broken_expression scope condition) (option_or (broken_in scope body) (broken_in scope other))
+  broken_in scope (case_of kind value branches) = option_or (broken_expression scope value) (broken_branches scope branches)
+  broken_in scope (while_true condition body) = option_or (broken_expression scope condition) (broken_in scope body)
+  broken_in scope (repeat_times count body) = option_or (broken_expression scope count) (broken_in scope body)
+  broken_in scope (forever body) = broken_in scope body
+  broken_in scope (for_loop target value condition next_target next_value body) =
+      option_or (broken_assignment scope target None value)
+      (option_or (broken_expression scope condition)
+      (option_or (broken_in scope body) (broken_assignment scope next_target None next_value)))
+  broken_in scope (wait_for condition body) = option_or (broken_expression scope condition) (broken_in scope body)
+  broken_in scope (delay amount body) = option_or (broken_amount scope amount) (broken_in scope body)
+  broken_in scope (event control body) = option_or (broken_control scope control) (broken_in scope body)
+  broken_in scope (task call) = None
 
-  pub knows_all : List Text → StatementTrees → Bool
-  knows_all names no_statement = true
-  knows_all names (first_statement statement rest) = knows names statement && knows_all names rest
+  pub broken_in_all : Scope → StatementTrees → Option Rule
+  broken_in_all scope no_statement = None
+  broken_in_all scope (first_statement statement rest) = option_or (broken_in scope statement) (broken_in_all scope rest)
 
-  pub knows_branch : List Text → BranchTree → Bool
-  knows_branch names (labelled items body) = knows_items names items && knows names body
-  knows_branch names (default colon body) = knows names body
+  pub broken_branch : Scope → BranchTree → Option Rule
+  broken_branch scope (labelled items body) = option_or (broken_in scope body) (broken_items scope items)
+  broken_branch scope (default colon body) = broken_in scope body
 
-  pub knows_branches : List Text → BranchTrees → Bool
-  knows_branches names no_branch = true
-  knows_branches names (first_branch branch rest) = knows_branch names branch && knows_branches names rest
+  pub broken_branches : Scope → BranchTrees → Option Rule
+  broken_branches scope no_branch = None
+  broken_branches scope (first_branch branch rest) = option_or (broken_branch scope branch) (broken_branches scope rest)
 
-abbrev pub knows_drive : List Text → Text → text.ExpressionTree → Bool
-knows_drive names letters value = is_declared names letters && knows_expression names value
+abbrev pub broken_drive : Scope → Text → text.ExpressionTree → Option Rule
+broken_drive scope letters value = option_or (broken_variable scope letters) (broken_expression scope value)
 
-abbrev pub knows_process : List Text → ProcessTree → Bool
-knows_process names (does statement) = knows names statement
-knows_process names (drives letters value) = knows_drive names letters value
+abbrev pub broken_process : Scope → ProcessTree → Option Rule
+broken_process scope (does statement) = broken_in scope statement
+broken_process scope (drives letters value) = broken_drive scope letters value
+
+abbrev pub broken_processes : Scope → List ProcessTree → Option Rule
+broken_processes scope [] = None
+broken_processes scope (process ∷ rest) = option_or (broken_process scope process) (broken_processes scope rest)
 
 -- `reg a = e` is an `initial a = e` at its place (6.2.1), and `wire a = e` drives a (6.1.1)
 abbrev pub process_by : NetKind → Text → text.ExpressionTree → ProcessTree
@@ -410,51 +540,89 @@ process_trees_by (instances letters overrides list) = []
 abbrev pub process_trees : ModuleTree → List ProcessTree
 process_trees m = flat_map process_trees_by m.items
 
+-- the processes of items, each in the scope of its place
+abbrev pub laid_items : Scope → List Action → List ItemTree → Processes
+laid_items scope table [] = record { table = table; begins = [] }
+laid_items scope table (item ∷ more) =
+    let front = laid_processes scope table (process_trees_by item) in
+    let behind = laid_items (behind_item scope item) front.table more in
+    record { table = behind.table; begins = front.begins ++ behind.begins }
+
+abbrev pub broken_items_from : Scope → List ItemTree → Option Rule
+broken_items_from scope [] = None
+broken_items_from scope (item ∷ more) =
+    option_or (broken_processes scope (process_trees_by item)) (broken_items_from (behind_item scope item) more)
+
 -- ---- the design (12.1)
 
 abbrev pub scope_by : Text → ℕ → design.Scope
 scope_by top count = record { name = top; depth = 0; variables = count }
 
+abbrev pub variables_in : ModuleTree → List design.Variable
+variables_in m = variables_from (home_of m) (item_scope m) m.items
+
+abbrev pub processes_in : ModuleTree → Processes
+processes_in m = laid_items (item_scope m) [] m.items
+
 -- under the timescale of the text (19.8)
 abbrev pub design_of : Timescale → ModuleTree → design.Design
-design_of scale m =
-    let processes = laid_processes (declared_names m) [] (process_trees m) in
-    record {
-      top = m.name;
-      scale = scale;
-      variables = map (variable_of (home_of m)) (declarations m);
-      scopes = scope_by m.name (length (declarations m)) ∷ [];
-      actions = processes.table;
-      processes = processes.begins;
-    }
+design_of scale m = record {
+  top = m.name;
+  scale = scale;
+  variables = variables_in m;
+  scopes = scope_by m.name (length (declared_names m)) ∷ [];
+  actions = (processes_in m).table;
+  processes = (processes_in m).begins;
+}
 
 -- whether each action of its processes writes what it may
 abbrev pub has_right_kinds : ModuleTree → Bool
-has_right_kinds m =
-    list_all (writes_rightly (map (variable_of (home_of m)) (declarations m)))
-    (laid_processes (declared_names m) [] (process_trees m)).table
+has_right_kinds m = list_all (writes_rightly (variables_in m)) (processes_in m).table
 
 -- what is wrong with an expression of its actions, where something is
 abbrev pub module_flaw : ModuleTree → Option Flaw
-module_flaw m =
-    table_flaw (blank_moment (map (variable_of (home_of m)) (declarations m)))
-    (laid_processes (declared_names m) [] (process_trees m)).table
+module_flaw m = table_flaw (blank_moment (variables_in m)) (processes_in m).table
 
--- what the rules ask of a module
-pub record IsRight (m : ModuleTree) : Type 0 where
-  pub names_differ : has_double (declared_names m) ≡ false
-  pub names_known : list_all (knows_process (declared_names m)) (process_trees m) ≡ true
-  pub ranges : list_all has_range m.items ≡ true
-  pub few_variables : length (declarations m) ≤ 1024
-  pub few_processes : length (process_trees m) ≤ 256
-  pub one_driver : has_double (driven_names m) ≡ false
-  pub kinds : has_right_kinds m ≡ true
-  pub flawless : module_flaw m ≡ None
+-- what the names of a module break: those of variables, and the parameters of its head and of its body
+abbrev pub name_rules : ModuleTree → List (Option Rule)
+name_rules m =
+    broken_if (has_double (declared_names m)) rule.Doubled
+    ∷ unless (nat_le (length (declared_names m)) 1024) rule.TooMany
+    ∷ broken_all (first_scope m) (given_in_head m.parameters)
+    ∷ broken_all (head_scope m) (flat_map given_by m.items)
+    ∷ []
 
--- The text has a top, its modules have names of their own, the top is right, and the design is the one that it describes.
+-- what its items break: the ranges of variables, and processes
+abbrev pub item_rules : ModuleTree → List (Option Rule)
+item_rules m =
+    broken_from (item_scope m) m.items
+    ∷ broken_items_from (item_scope m) m.items
+    ∷ unless (nat_le (length (processes_in m).begins) 256) rule.TooMany
+    ∷ []
+
+-- what its design breaks: drivers of nets, what is written, and sizes
+abbrev pub design_rules : ModuleTree → List (Option Rule)
+design_rules m =
+    broken_if (has_double (driven_names m)) rule.Drivers
+    ∷ unless (has_right_kinds m) rule.Kind
+    ∷ flaw_rule (module_flaw m)
+    ∷ []
+
+-- the rules that a module breaks
+abbrev pub broken_rules_of : ModuleTree → List Rule
+broken_rules_of m = rules_in (name_rules m) ++ (rules_in (item_rules m) ++ rules_in (design_rules m))
+
+abbrev pub broken_top : Option ModuleTree → List Rule
+broken_top None = rule.Top ∷ []
+broken_top (Some m) = broken_rules_of m
+
+-- the rules that a text breaks
+abbrev pub broken_rules : SourceTree → Option Text → List Rule
+broken_rules tree top = rules_in (broken_if (has_double (module_names tree)) rule.Doubled ∷ []) ++ broken_top (top_of tree top)
+
+-- No rule is broken, so that the text has a top, and the design is the one that it describes.
 pub record Elaborates (tree : SourceTree) (top : Option Text) (scale : Timescale) (design : design.Design) : Type 0 where
+  pub right : broken_rules tree top ≡ []
   pub unit : ModuleTree
   pub is_top : top_of tree top ≡ Some unit
-  pub modules_differ : has_double (module_names tree) ≡ false
-  pub right : IsRight unit
   pub describes : design ≡ design_of scale unit

@@ -3,8 +3,7 @@
 use Rattle.std.specs.Prelude.{ℕ, Bool, if◌then◌else◌, List, [], ◌∷◌, Option, Some, None, option_map, option_and_then}
 use Rattle.std.specs.Option.{option_or}
 use Rattle.vast.specs.Words.{Text}
-use Rattle.vast.specs.ExpressionTrees.{tree_of}
-use Rattle.vast.specs.StatementTrees.{target_tree, delay_tree, task_tree}
+use Rattle.vast.specs.StatementTrees.{target_tree, task_tree}
 use Rattle.vast.specs.declared.expression.Expression.{Expression, Number, Name, Time, Bit', Part', Parentheses', Concatenation', Replication', Conversion', Unary', Binary', Conditional'}
 use Rattle.vast.specs.declared.statement.Target.{Target, Whole, Bit, Part, Joined'}
 use Rattle.vast.specs.declared.statement.Delay.{Delay}
@@ -21,9 +20,7 @@ use Rattle.vast.specs.declared.module.ModuleItem.{ModuleItem}
 use Rattle.vast.specs.declared.module.ModuleItem.TheVariants as items
 use Rattle.vast.specs.declared.module.ModuleTree.{ModuleTree}
 use Rattle.vast.specs.declared.module.TextTree.{TextTree}
-use Rattle.velab.specs.Resolved.{runs_expression}
-use Rattle.velab.specs.Constants.{runs_bound}
-use Rattle.velab.specs.Runs.{runs_target, runs_delay, runs_task}
+use Rattle.velab.specs.Runs.{runs_target, runs_task}
 
 -- The tokens that constructs begin with
 
@@ -63,50 +60,33 @@ first_among place [] = None
 first_among place (one ∷ more) = option_or (place one) (first_among place more)
 
 module _ (words : List Text) where
-  abbrev pub in_expression : Expression → Option ℕ
-  in_expression value = unless_run (runs_expression (tree_of words value)) (first_token value)
-
-  abbrev pub in_bound : Expression → Option ℕ
-  in_bound value = unless_run (runs_bound (tree_of words value)) (first_token value)
-
   abbrev pub in_target : Target → Option ℕ
   in_target target = unless_run (runs_target (target_tree words target)) (target_token target)
-
-  abbrev pub in_delay : Delay → Option ℕ
-  in_delay amount = unless_run (runs_delay (delay_tree words amount)) (delay_token amount)
 
   abbrev pub in_task : ℕ → Task → Option ℕ
   in_task at call = unless_run (runs_task (task_tree words call)) at
 
   -- no delay of an assignment's own is run
-  abbrev pub in_assignment : Target → Option Delay → Expression → Option ℕ
-  in_assignment target amount value =
-      option_or (in_target target) (option_or (option_map delay_token amount) (in_expression value))
-
-  -- the items in front of one statement of a `case`
-  abbrev pub in_labels : List Expression → Option ℕ
-  in_labels list = first_among in_expression list
+  abbrev pub in_assignment : Target → Option Delay → Option ℕ
+  in_assignment target amount = option_or (in_target target) (option_map delay_token amount)
 
   abbrev mutual
     pub in_statement : Statement → Option ℕ
     in_statement Empty = None
     in_statement (Block' shape row) = in_row row
-    in_statement (Assign at target amount value) = in_assignment target amount value.value
-    in_statement (Nonblocking at target amount value) = in_assignment target amount value.value
+    in_statement (Assign at target amount value) = in_assignment target amount
+    in_statement (Nonblocking at target amount value) = in_assignment target amount
     in_statement (Trigger at name) = Some at
-    in_statement (If' at condition place body) = option_or (in_expression condition.value) (in_statement body)
-    in_statement (IfElse' at condition place body place_too other) =
-        option_or (in_expression condition.value) (option_or (in_statement body) (in_statement other))
-    in_statement (Case' at kind value shape row) = option_or (in_expression value.value) (in_branch_row row)
-    in_statement (While' at condition place body) = option_or (in_expression condition.value) (in_statement body)
-    in_statement (Repeat' at count place body) = option_or (in_expression count.value) (in_statement body)
+    in_statement (If' at condition place body) = in_statement body
+    in_statement (IfElse' at condition place body place_too other) = option_or (in_statement body) (in_statement other)
+    in_statement (Case' at kind value shape row) = in_branch_row row
+    in_statement (While' at condition place body) = in_statement body
+    in_statement (Repeat' at count place body) = in_statement body
     in_statement (Forever' at place body) = in_statement body
     in_statement (For' at target value condition next_target next_value place body) =
-        option_or (in_assignment target None value.value)
-        (option_or (in_expression condition.value)
-        (option_or (in_assignment next_target None next_value.value) (in_statement body)))
-    in_statement (Wait' at condition place body) = option_or (in_expression condition.value) (in_statement body)
-    in_statement (Delayed' at amount place body) = option_or (in_delay amount) (in_statement body)
+        option_or (in_assignment target None) (option_or (in_assignment next_target None) (in_statement body))
+    in_statement (Wait' at condition place body) = in_statement body
+    in_statement (Delayed' at amount place body) = in_statement body
     in_statement (OnEvent' at control place body) = in_statement body
     in_statement (Call at call) = in_task at call
 
@@ -115,7 +95,7 @@ module _ (words : List Text) where
     in_row (more_of-Statement one more) = option_or (in_statement one) (in_row more)
 
     pub in_branch : Branch → Option ℕ
-    in_branch (Labelled labels body) = option_or (in_labels labels.items) (in_statement body)
+    in_branch (Labelled labels body) = in_statement body
     in_branch (Default colon body) = in_statement body
 
     pub in_branch_row : {m : _} → Row_of-Branch m → Option ℕ
@@ -128,35 +108,11 @@ module _ (words : List Text) where
   abbrev pub in_branches : List Branch → Option ℕ
   in_branches list = first_among in_branch list
 
-  abbrev pub in_bounds : Bounds → Option ℕ
-  in_bounds bounds = option_or (in_bound bounds.left.value) (in_bound bounds.right.value)
-
-  abbrev pub in_range : Option Bounds → Option ℕ
-  in_range None = None
-  in_range (Some bounds) = in_bounds bounds
-
-  abbrev pub in_kind : DeclarationKind → Option ℕ
-  in_kind (declaring.Variables word type) = in_range type.range
-  in_kind declaring.Integers = None
-
-  -- a declared name: only its value may be what isn't run
-  abbrev pub in_declared : Declared → Option ℕ
-  in_declared declared = option_and_then (λ value. in_expression value.value) declared.value
-
-  abbrev pub in_names : List Declared → Option ℕ
-  in_names list = first_among in_declared list
-
-  abbrev pub in_setting : Setting → Option ℕ
-  in_setting setting = in_expression setting.value.value
-
-  abbrev pub in_settings : List Setting → Option ℕ
-  in_settings list = first_among in_setting list
-
   abbrev pub in_item : ModuleItem → Option ℕ
-  in_item (items.Parameters at local type settings) = Some at
-  in_item (items.Declaration at kind declared) = option_or (in_kind kind) (in_names declared.items)
+  in_item (items.Parameters at local type settings) = None
+  in_item (items.Declaration at kind declared) = None
   in_item (items.Events at names) = Some at
-  in_item (items.Assignments at settings) = in_settings settings.items
+  in_item (items.Assignments at settings) = None
   in_item (items.Initial at statement) = in_statement statement
   in_item (items.Always at statement) = in_statement statement
   in_item (items.Instances name overrides list) = Some name.number
@@ -164,14 +120,12 @@ module _ (words : List Text) where
   abbrev pub in_items : List ModuleItem → Option ℕ
   in_items list = first_among in_item list
 
-  -- parameters and ports of a module's head aren't run: they are told of at the module's name
-  abbrev pub in_head : {P Q : Type 0} → ℕ → Option P → Option Q → Option ℕ
-  in_head at None None = None
-  in_head at None (Some ports) = Some at
-  in_head at (Some parameters) ports = Some at
+  -- ports of a module's head aren't run: they are told of at the module's name
+  abbrev pub in_head : {Q : Type 0} → ℕ → Option Q → Option ℕ
+  in_head at ports = option_map (λ _. at) ports
 
   abbrev pub in_module : ModuleTree → Option ℕ
-  in_module m = option_or (in_head m.name.number m.parameters m.ports) (in_items m.items.items)
+  in_module m = option_or (in_head m.name.number m.ports) (in_items m.items.items)
 
   -- the whole text
   abbrev pub first_not_run : TextTree → Option ℕ

@@ -11,8 +11,8 @@ use Rattle.vast.specs.TokenTexts.{token_text}
 use Rattle.vast.specs.Expressions.{ExpressionTree, ExpressionTrees}
 use Rattle.vast.specs.Statements.{StatementTree, StatementTrees, BranchTree, BranchTrees}
 use Rattle.vast.specs.StatementTrees.{statement_tree, statement_trees, branch_tree, branch_trees}
-use Rattle.vast.specs.Modules.{RangeTree, ItemTree, declaration, variables, integers, ModuleTree, SourceTree}
-use Rattle.vast.specs.ModuleTrees.{module_tree, range_tree, type_tree, declaration_kind, declared_tree, setting_tree, item_tree}
+use Rattle.vast.specs.Modules.{RangeTree, ParameterType, ItemTree, declaration, variables, integers, ModuleTree, SourceTree}
+use Rattle.vast.specs.ModuleTrees.{module_tree, range_tree, parameter_type, head_parameter, type_tree, declaration_kind, declared_tree, setting_tree, item_tree}
 use Rattle.vast.specs.declared.module.DeclarationKind.{DeclarationKind as DeclarationWords}
 use Rattle.vast.specs.declared.module.NetKind.{NetKind}
 use Rattle.vast.specs.declared.module.SignAndRange.{SignAndRange}
@@ -23,17 +23,17 @@ use Rattle.vast.specs.declared.module.ModuleItem.{ModuleItem}
 use Rattle.vast.specs.declared.module.Declared.{Declared}
 use Rattle.vast.specs.declared.module.Setting.{Setting}
 use Rattle.vast.specs.declared.module.Bounds.{Bounds as Written}
-use Rattle.vvalue.specs.declared.flaw.Flaw.{Flaw}
-use Rattle.vvalue.specs.declared.flaw.Flaw.TheVariants.{NoBits, Size}
+use Rattle.vast.specs.declared.module.HeadParameter.{HeadParameter as HeadWords}
+use Rattle.vast.specs.declared.module.ParameterType.{ParameterType as ParameterWords}
+use Rattle.velab.specs.declared.fault.Rule.{Rule}
+use Rattle.velab.specs.declared.fault.Rule.TheVariants.{Doubled, Drivers}
 use Rattle.velab.specs.declared.fault.ElabFault.{ElabFault}
-use Rattle.velab.specs.declared.fault.ElabFault.TheVariants.{Module, Doubled, Unknown, Drivers, Width, TooMany, Kind}
+use Rattle.velab.specs.Rules.{IsBroken, Breaks, broken_if}
+use Rattle.velab.specs.Scopes.{Scope}
 use Rattle.velab.specs.Literals.{digit_letters}
-use Rattle.velab.specs.Resolved.{knows_expression}
-use Rattle.velab.specs.Uses.{is_declared}
 use Rattle.velab.specs.declared.variable.Form.{Form}
 use Rattle.vdesign.specs.declared.action.Action.{Action}
-use Rattle.velab.specs.Constants.{bound_of}
-use Rattle.velab.specs.Elaborate.{module_flaw, Laid, Processes, has_double, module_names, declarations_of, declared_names, declarations, is_range, has_range, knows, knows_all, laid, all_laid, laid_processes, bounds_of, variable_by, variable_of, LaidBranches, knows_items, knows_branch, knows_branches, laid_branch, laid_branches, process_trees_by, process_trees, ProcessTree, process_of, driven_by, knows_process, Home, driver_of, drivers_by, driven_names, has_right_kinds, IsRight}
+use Rattle.velab.specs.Elaborate.{Laid, Processes, has_double, declarations_of, laid, all_laid, laid_processes, laid_items, bounds_of, span, variable_by, variable_of, LaidBranches, laid_branch, laid_branches, process_trees_by, ProcessTree, process_of, driven_by, broken_processes, Home, driver_of, drivers_by, Given, given, given_by, given_in_head}
 use Rattle.vdesign.specs.declared.action.Branch.{Branch}
 
 -- ---- parts of a module
@@ -73,173 +73,64 @@ shifted_letters count c letters = cond (is_underscore c) letters (digit_letters 
 
 -- ---- why a part of a text has no design
 
--- what breaks each of the rules that a part of the text can break: names differ, names are declared, ranges are wide
--- as they may be, and there are not too many variables and processes
-pub record Breaches : Type 1 where
-  pub doubled : Type 0
-  pub unknown : Type 0
-  pub width : Type 0
-  pub many : Type 0
+-- a name stands twice among these
+abbrev pub DoublesIn : List Text → ElabFault → Type 0
+DoublesIn names = IsBroken (broken_if (has_double names) Doubled)
 
-abbrev pub no_breach : Breaches
-no_breach = record { doubled = ⊥; unknown = ⊥; width = ⊥; many = ⊥ }
-
--- the rule of the fault is broken by what breaks it
-abbrev pub IsBreach : Breaches → ElabFault → Type 0
-IsBreach breaches (Module at) = ⊥
-IsBreach breaches (Doubled at) = breaches.doubled
-IsBreach breaches (Unknown at) = breaches.unknown
-IsBreach breaches (Drivers at) = ⊥
-IsBreach breaches (Width at) = breaches.width
-IsBreach breaches (TooMany at) = breaches.many
-IsBreach breaches (Kind at) = ⊥
-
--- a net has two drivers, where this is so of the names that are driven
-abbrev pub IsTwice : Bool → ElabFault → Type 0
-IsTwice twice (Module at) = ⊥
-IsTwice twice (Doubled at) = ⊥
-IsTwice twice (Unknown at) = ⊥
-IsTwice twice (Drivers at) = twice ≡ true
-IsTwice twice (Width at) = ⊥
-IsTwice twice (TooMany at) = ⊥
-IsTwice twice (Kind at) = ⊥
-
+-- a net is driven twice
 abbrev pub BreaksDrivers : List Text → ElabFault → Type 0
-BreaksDrivers driven = IsTwice (has_double driven)
+BreaksDrivers driven = IsBroken (broken_if (has_double driven) Drivers)
 
--- what may not be written is, where actions don't write rightly
-abbrev pub IsWrong : Bool → ElabFault → Type 0
-IsWrong rightly (Module at) = ⊥
-IsWrong rightly (Doubled at) = ⊥
-IsWrong rightly (Unknown at) = ⊥
-IsWrong rightly (Drivers at) = ⊥
-IsWrong rightly (Width at) = ⊥
-IsWrong rightly (TooMany at) = ⊥
-IsWrong rightly (Kind at) = rightly ≡ false
+-- a fault is one of these rules
+abbrev pub BreaksOf : List Rule → ElabFault → Type 0
+BreaksOf rules fault = Breaks rules fault.rule
 
--- the fault is this flaw of an expression
-abbrev pub IsFlaw : Option Flaw → ElabFault → Type 0
-IsFlaw flaw (Module at) = ⊥
-IsFlaw flaw (Doubled at) = ⊥
-IsFlaw flaw (Unknown at) = ⊥
-IsFlaw flaw (Drivers at) = ⊥
-IsFlaw flaw (Width at) = flaw ≡ Some Size
-IsFlaw flaw (TooMany at) = ⊥
-IsFlaw flaw (Kind at) = flaw ≡ Some NoBits
-
--- a module is right, where each net has one driver, actions write what they may, and nothing is wrong with their expressions
-abbrev pub IsRightIf : ModuleTree → Type 0
-IsRightIf m = has_double (driven_names m) ≡ false → has_right_kinds m ≡ true → module_flaw m ≡ None → IsRight m
-
--- a rule is broken in a module
-abbrev pub BreaksModule : ModuleTree → ElabFault → Type 0
-BreaksModule m (Module at) = ⊥
-BreaksModule m (Doubled at) = has_double (declared_names m) ≡ true
-BreaksModule m (Unknown at) = list_all (knows_process (declared_names m)) (process_trees m) ≡ false
-BreaksModule m (Drivers at) = has_double (driven_names m) ≡ true
-BreaksModule m (Width at) = (list_all has_range m.items ≡ false) ⊎ (module_flaw m ≡ Some Size)
-BreaksModule m (TooMany at) = (1024 < length (declarations m)) ⊎ (256 < length (process_trees m))
-BreaksModule m (Kind at) = (has_right_kinds m ≡ false) ⊎ (module_flaw m ≡ Some NoBits)
-
--- ---- and why a part of a module has none
-
--- the names of modules
-abbrev pub BreaksModules : SourceTree → ElabFault → Type 0
-BreaksModules modules = IsBreach (record no_breach { doubled = has_double (module_names modules) ≡ true })
-
--- one name more, of a module or of a variable behind others
-abbrev pub BreaksName : List Text → Text → ElabFault → Type 0
-BreaksName names text = IsBreach (record no_breach { doubled = is_declared names text ≡ true })
-
-abbrev pub BreaksDeclaration : List Text → Text → ElabFault → Type 0
-BreaksDeclaration names text = IsBreach (record no_breach { doubled = is_declared names text ≡ true; many = 1024 ≤ length names })
-
--- all the names that are declared, so far or in the end
-abbrev pub names_breach : List Text → Breaches
-names_breach names = record no_breach { doubled = has_double names ≡ true; many = 1024 < length names }
-
-abbrev pub BreaksNames : List Text → ElabFault → Type 0
-BreaksNames names = IsBreach (names_breach names)
-
--- a bound, and a range
-abbrev pub BreaksBound : ExpressionTree → ElabFault → Type 0
-BreaksBound bound = IsBreach (record no_breach { width = bound_of bound ≡ None })
-
-abbrev pub BreaksRange : Option RangeTree → ElabFault → Type 0
-BreaksRange range = IsBreach (record no_breach { width = is_range range ≡ false })
-
--- an item behind these names, and items
-abbrev pub BreaksItem : List Text → ItemTree → ElabFault → Type 0
-BreaksItem names item = IsBreach (record (names_breach (names ++ names_of item)) { width = has_range item ≡ false })
-
-abbrev pub BreaksItems : List ItemTree → ElabFault → Type 0
-BreaksItems items = IsBreach (record (names_breach (names_in items)) { width = list_all has_range items ≡ false })
-
--- a name that is used, and an expression and statements that use these names
-abbrev pub BreaksUse : List Text → Text → ElabFault → Type 0
-BreaksUse names text = IsBreach (record no_breach { unknown = is_declared names text ≡ false })
-
-abbrev pub BreaksExpression : List Text → ExpressionTree → ElabFault → Type 0
-BreaksExpression names expression = IsBreach (record no_breach { unknown = knows_expression names expression ≡ false })
-
-abbrev pub BreaksStatement : List Text → StatementTree → ElabFault → Type 0
-BreaksStatement names statement = IsBreach (record no_breach { unknown = knows names statement ≡ false })
-
-abbrev pub BreaksStatements : List Text → StatementTrees → ElabFault → Type 0
-BreaksStatements names statements = IsBreach (record no_breach { unknown = knows_all names statements ≡ false })
-
-abbrev pub BreaksLabels : List Text → ExpressionTrees → ElabFault → Type 0
-BreaksLabels names items = IsBreach (record no_breach { unknown = knows_items names items ≡ false })
-
-abbrev pub BreaksBranch : List Text → BranchTree → ElabFault → Type 0
-BreaksBranch names branch = IsBreach (record no_breach { unknown = knows_branch names branch ≡ false })
-
-abbrev pub BreaksBranches : List Text → BranchTrees → ElabFault → Type 0
-BreaksBranches names branches = IsBreach (record no_breach { unknown = knows_branches names branches ≡ false })
-
-abbrev pub BreaksKnown : Bool → ElabFault → Type 0
-BreaksKnown known = IsBreach (record no_breach { unknown = known ≡ false })
-
--- these processes behind those that there are, those of an item, and all processes
-abbrev pub BreaksAdded : {X T : Type 0} → List Text → Vec X T → List ProcessTree → ElabFault → Type 0
-BreaksAdded names processes trees = IsBreach (record no_breach {
-  unknown = list_all (knows_process names) trees ≡ false;
-  many = 256 < length processes.items + length trees;
-})
-
-abbrev pub BreaksProcess : {X T : Type 0} → List Text → Vec X T → ItemTree → ElabFault → Type 0
-BreaksProcess names processes item = BreaksAdded names processes (process_trees_by item)
-
-abbrev pub BreaksProcesses : List Text → List ItemTree → ElabFault → Type 0
-BreaksProcesses names items = IsBreach (record no_breach {
-  unknown = list_all (knows_process names) (flat_map process_trees_by items) ≡ false;
-  many = 256 < length (flat_map process_trees_by items);
-})
+-- bounds that are at most 64 bits apart
+abbrev pub IsNarrow : Option Bounds → Type 0
+IsNarrow None = Unit {0}
+IsNarrow (Some bounds) = span bounds ≤ 64
 
 -- ---- what the parts of a text are made to, told of the program's values
 
-abbrev pub KnowsAll : List Text → List ProcessTree → Type 0
-KnowsAll names trees = list_all (knows_process names) trees ≡ true
+-- no rule is broken in any of these processes
+abbrev pub AreRight : Scope → List ProcessTree → Type 0
+AreRight scope trees = broken_processes scope trees ≡ None
+
+-- parameters, in the words of a text
+abbrev pub type_of : List Text → Option (Bor ParameterWords) → Option ParameterType
+type_of words = option_map (λ kind. parameter_type words kind.now)
+
+abbrev pub given_of : List Text → Option (Bor ParameterWords) → Setting → Given
+given_of words kind setting = given (type_of words kind) (setting_tree words setting)
+
+abbrev pub given_all : List Text → ParameterWords → List Setting → List Given
+given_all words kind list = map (given (Some (parameter_type words kind))) (map (setting_tree words) list)
+
+abbrev pub given_in : List Text → List ModuleItem → List Given
+given_in words items = flat_map given_by (map (item_tree words) items)
+
+abbrev pub given_at_head : {X : Type 0} → List Text → Option (Vec HeadWords X) → List Given
+given_at_head {X = X} words list = given_in_head (option_map (λ (heads : Vec HeadWords X). map (head_parameter words) heads.items) list)
 
 -- the names that are declared together, in the words of a text
 abbrev pub texts_of : List Text → List Declared → List Text
 texts_of words list = map (λ one. token_text words one.name) list
 
 -- a statement laid on a table, statements, and the statement of an item
-abbrev pub laid_of : List Text → List Text → List Action → Statement → Laid
-laid_of words names table statement = laid names table (statement_tree words statement)
+abbrev pub laid_of : List Text → Scope → List Action → Statement → Laid
+laid_of words scope table statement = laid scope table (statement_tree words statement)
 
-abbrev pub all_laid_of : List Text → List Text → List Action → List Statement → Laid
-all_laid_of words names table statements = all_laid names table (statement_trees words statements)
+abbrev pub all_laid_of : List Text → Scope → List Action → List Statement → Laid
+all_laid_of words scope table statements = all_laid scope table (statement_trees words statements)
 
-abbrev pub branch_laid_of : List Text → List Text → List Action → WrittenBranch → LaidBranches
-branch_laid_of words names table branch = laid_branch names table (branch_tree words branch)
+abbrev pub branch_laid_of : List Text → Scope → List Action → WrittenBranch → LaidBranches
+branch_laid_of words scope table branch = laid_branch scope table (branch_tree words branch)
 
-abbrev pub branches_laid_of : List Text → List Text → List Action → List WrittenBranch → LaidBranches
-branches_laid_of words names table branches = laid_branches names table (branch_trees words branches)
+abbrev pub branches_laid_of : List Text → Scope → List Action → List WrittenBranch → LaidBranches
+branches_laid_of words scope table branches = laid_branches scope table (branch_trees words branches)
 
-abbrev pub laid_of_item : List Text → List Text → List Action → ModuleItem → Processes
-laid_of_item words names table item = laid_processes names table (process_trees_by (item_tree words item))
+abbrev pub laid_of_item : List Text → Scope → List Action → ModuleItem → Processes
+laid_of_item words scope table item = laid_processes scope table (process_trees_by (item_tree words item))
 
 -- the processes by which names are declared with a value, and those of an `assign`
 abbrev pub starts_in : List Text → NetKind → List Declared → List ProcessTree
@@ -248,12 +139,9 @@ starts_in words word list = filter_map (process_of word) (map (declared_tree wor
 abbrev pub drives_in : List Text → List Setting → List ProcessTree
 drives_in words list = map driven_by (map (setting_tree words) list)
 
--- the processes of items, and what they lay
-abbrev pub process_trees_in : List Text → List ModuleItem → List ProcessTree
-process_trees_in words items = flat_map process_trees_by (map (item_tree words) items)
-
-abbrev pub processes_of : List Text → List Text → List ModuleItem → Processes
-processes_of words names items = laid_processes names [] (process_trees_in words items)
+-- the processes of items
+abbrev pub processes_of : List Text → Scope → List ModuleItem → Processes
+processes_of words scope items = laid_items scope [] (map (item_tree words) items)
 
 -- where there was no fault, these were laid
 abbrev pub HasLaid : {A B T E : Type 0} → Result T E → Laid → Vec ℕ A → List Action → Vec ℕ B → Type 0
@@ -266,8 +154,8 @@ abbrev pub HaveLaid : {A B T E : Type 0} → Result T E → Processes → Vec (L
 HaveLaid result what before table after = OnOk result (AreLaid what before.items table after.items)
 
 -- the bounds of a range, where there is one
-abbrev pub bounds_for : List Text → Option Written → Option Bounds
-bounds_for words range = option_map bounds_of (option_map (range_tree words) range)
+abbrev pub bounds_for : List Text → Scope → Option Written → Option Bounds
+bounds_for words scope range = option_map (bounds_of scope) (option_map (range_tree words) range)
 
 -- a variable declared in this form
 abbrev pub variable_in : Home → Form → Text → design.Variable
@@ -287,11 +175,8 @@ net_item words net type list = declaration (variables net (type_tree words type)
 abbrev pub integers_item : List Text → List Declared → ItemTree
 integers_item words list = declaration integers (map (declared_tree words) list)
 
-abbrev pub variables_for : List Text → Home → ModuleItem → List design.Variable
-variables_for words scope item = map (variable_of scope) (declarations_of (item_tree words item))
-
-abbrev pub variables_of : List Text → Home → List ModuleItem → List design.Variable
-variables_of words scope items = map (variable_of scope) (flat_map declarations_of (map (item_tree words) items))
+abbrev pub variables_for : List Text → Home → Scope → ModuleItem → List design.Variable
+variables_for words home scope item = map (variable_of home scope) (declarations_of (item_tree words item))
 
 -- the nets that are driven by the values that they are declared with, by an `assign`, and by items
 abbrev pub declared_drivers : List Text → List Declared → List Text

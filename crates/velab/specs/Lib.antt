@@ -1,5 +1,6 @@
 pub mod Literals
-pub mod Uses
+pub mod Rules
+pub mod Scopes
 pub mod Constants
 pub mod Resolved
 pub mod Waits
@@ -9,7 +10,6 @@ pub mod Elaborate
 pub mod Reasons
 pub mod Laws
 pub mod Inner
-pub mod InnerVariables
 pub mod InnerParts
 pub mod Runs
 pub mod FirstNotRun

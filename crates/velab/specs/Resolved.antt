@@ -1,83 +1,120 @@
--- `resolved names tree`: the expression of a design that an expression of a text stands for (IEEE 1364-2005, clause 5, 12.7).
-use Rattle.std.specs.Prelude.{Bool, true, false, ◌&&◌, List}
+-- `resolved scope tree`: the expression of a design that an expression of a text stands for (IEEE 1364-2005, clause 5, 12.7).
+use Rattle.std.specs.Prelude.{Bool, true, false, not, Option, None, Some, unwrap_or}
+use Rattle.std.specs.Option.{option_or}
 use Rattle.vbits.specs.declared.bit4.Bit4.TheVariants.{X}
-use Rattle.vbits.specs.Vectors.{filled}
-use Rattle.vast.specs.Words.{Text}
+use Rattle.vbits.specs.Vectors.{Vector, filled}
 use Rattle.vast.specs.Expressions as text
 use Rattle.vdesign.specs.Expressions.{ExpressionTree, constant, variable, bit, part, time, conversion, apply, combine, conditional, joined, repeated}
+use Rattle.vdesign.specs.declared.expression.Bounds.{Bounds}
+use Rattle.vvalue.specs.Value.{bit_of, part_of, part_size}
+use Rattle.vvalue.specs.Flaws.{is_part}
 use Rattle.velab.specs.Literals.{constant_of}
-use Rattle.velab.specs.Constants.{runs_bound, part_bounds, count_of}
-use Rattle.velab.specs.Uses.{place_of, is_declared}
+use Rattle.velab.specs.Rules.{unless}
+use Rattle.velab.specs.Scopes.{Scope, meaning_of, broken_name, bounds_for}
+use Rattle.velab.specs.Constants.{worth, also_flawed, part_bounds, count_in}
+use Rattle.velab.specs.declared.fault.Rule.{Rule}
+use Rattle.velab.specs.declared.fault.Rule.TheVariants.{Width, Constant}
+use Rattle.velab.specs.declared.scope.Meaning.{Meaning}
+use Rattle.velab.specs.declared.scope.Meaning.TheVariants.{Variable, Parameter}
 
--- a concatenation of nothing: no text has one
+-- a value as it is: it isn't extended by its leftmost letter
+abbrev pub plain : Vector → ExpressionTree
+plain value = constant (record { value = value; spreads = false })
+
+-- a concatenation of nothing, or a name that isn't declared: no text of a design has one
 abbrev pub no_parts : ExpressionTree
-no_parts = constant (record { value = filled 1 X; spreads = false })
+no_parts = plain (filled 1 X)
 
 -- 5.1.14: a part in front of others that are joined already; the last one is unsigned by itself
 abbrev pub in_front : ExpressionTree → text.ExpressionTrees → ExpressionTree → ExpressionTree
 in_front one text.none others = conversion false one
 in_front one (text.first next more) others = joined one others
 
--- a variable goes by its place among the names; parentheses have done their work
+-- a parameter stands for its value (4.10)
+abbrev pub resolved_name : Option Meaning → ExpressionTree
+resolved_name None = no_parts
+resolved_name (Some (Variable number)) = variable number
+resolved_name (Some (Parameter value bounds before)) = plain value
+
+-- name [ index ]
+abbrev pub resolved_bit : Option Meaning → ExpressionTree → ExpressionTree
+resolved_bit None index = no_parts
+resolved_bit (Some (Variable number)) index = bit number index
+resolved_bit (Some (Parameter value bounds before)) index = plain (bit_of value (bounds_for value bounds) (worth index))
+
+-- name [ left : right ]
+abbrev pub resolved_part : Option Meaning → Bounds → ExpressionTree
+resolved_part None selected = no_parts
+resolved_part (Some (Variable number)) selected = part number selected
+resolved_part (Some (Parameter value bounds before)) selected = plain (part_of value (bounds_for value bounds) selected (part_size selected))
+
+-- a variable goes by its number; parentheses have done their work
 abbrev mutual
-  pub resolved : List Text → text.ExpressionTree → ExpressionTree
-  resolved names (text.number digits) = constant (constant_of digits)
-  resolved names (text.name letters) = variable (place_of names letters)
-  resolved names text.time = time
-  resolved names (text.bit letters index) = bit (place_of names letters) (resolved names index)
-  resolved names (text.part letters left right) = part (place_of names letters) (part_bounds left right)
-  resolved names (text.parentheses inner) = resolved names inner
-  resolved names (text.concatenation parts) = resolved_parts names parts
-  resolved names (text.replication count parts) = repeated (count_of count) (resolved_parts names parts)
-  resolved names (text.conversion signed inner) = conversion signed (resolved names inner)
-  resolved names (text.apply operator inner) = apply operator (resolved names inner)
-  resolved names (text.combine operator left right) = combine operator (resolved names left) (resolved names right)
-  resolved names (text.conditional condition when_true when_false) =
-      conditional (resolved names condition) (resolved names when_true) (resolved names when_false)
+  pub resolved : Scope → text.ExpressionTree → ExpressionTree
+  resolved scope (text.number digits) = constant (constant_of digits)
+  resolved scope (text.name letters) = resolved_name (meaning_of scope letters)
+  resolved scope text.time = time
+  resolved scope (text.bit letters index) = resolved_bit (meaning_of scope letters) (resolved scope index)
+  resolved scope (text.part letters left right) =
+      resolved_part (meaning_of scope letters) (part_bounds (worth (resolved scope left)) (worth (resolved scope right)))
+  resolved scope (text.parentheses inner) = resolved scope inner
+  resolved scope (text.concatenation parts) = resolved_parts scope parts
+  resolved scope (text.replication count parts) = repeated (count_in (worth (resolved scope count))) (resolved_parts scope parts)
+  resolved scope (text.conversion signed inner) = conversion signed (resolved scope inner)
+  resolved scope (text.apply operator inner) = apply operator (resolved scope inner)
+  resolved scope (text.combine operator left right) = combine operator (resolved scope left) (resolved scope right)
+  resolved scope (text.conditional condition when_true when_false) =
+      conditional (resolved scope condition) (resolved scope when_true) (resolved scope when_false)
 
   -- `{a, b, c}` is a in front of `{b, c}`
-  pub resolved_parts : List Text → text.ExpressionTrees → ExpressionTree
-  resolved_parts names text.none = no_parts
-  resolved_parts names (text.first one more) = in_front (resolved names one) more (resolved_parts names more)
+  pub resolved_parts : Scope → text.ExpressionTrees → ExpressionTree
+  resolved_parts scope text.none = no_parts
+  resolved_parts scope (text.first one more) = in_front (resolved scope one) more (resolved_parts scope more)
 
--- whether each name in an expression is declared; bounds and counts that run use none
+-- the index of a variable's bit is any expression; today that of a parameter's is constant
+abbrev pub index_rule : Option Meaning → Option Rule → Option Rule → Option Rule
+index_rule None of_variable of_parameter = None
+index_rule (Some (Variable number)) of_variable of_parameter = of_variable
+index_rule (Some (Parameter value bounds before)) of_variable of_parameter = of_parameter
+
+-- the part of a variable is looked at in the finished design
+abbrev pub part_rule : Option Meaning → Bounds → Option Rule
+part_rule None selected = None
+part_rule (Some (Variable number)) selected = None
+part_rule (Some (Parameter value bounds before)) selected = unless (is_part (bounds_for value bounds) selected) Width
+
+-- The first rule that a name in an expression breaks, or a constant in it. An expression may itself have to be constant.
 abbrev mutual
-  pub knows_expression : List Text → text.ExpressionTree → Bool
-  knows_expression names (text.number digits) = true
-  knows_expression names (text.name letters) = is_declared names letters
-  knows_expression names text.time = true
-  knows_expression names (text.bit letters index) = is_declared names letters && knows_expression names index
-  knows_expression names (text.part letters left right) = is_declared names letters
-  knows_expression names (text.parentheses inner) = knows_expression names inner
-  knows_expression names (text.concatenation parts) = knows_parts names parts
-  knows_expression names (text.replication count parts) = knows_parts names parts
-  knows_expression names (text.conversion signed inner) = knows_expression names inner
-  knows_expression names (text.apply operator inner) = knows_expression names inner
-  knows_expression names (text.combine operator left right) = knows_expression names left && knows_expression names right
-  knows_expression names (text.conditional condition when_true when_false) =
-      knows_expression names condition && (knows_expression names when_true && knows_expression names when_false)
+  pub broken : Bool → Scope → text.ExpressionTree → Option Rule
+  broken fixed scope (text.number digits) = None
+  broken fixed scope (text.name letters) = broken_name fixed scope letters
+  broken fixed scope text.time = unless (not fixed) Constant
+  broken fixed scope (text.bit letters index) =
+      option_or (broken_name fixed scope letters)
+      (index_rule (meaning_of scope letters) (broken fixed scope index) (also_flawed (broken true scope index) (resolved scope index)))
+  broken fixed scope (text.part letters left right) =
+      option_or (broken_name fixed scope letters)
+      (option_or (also_flawed (broken true scope left) (resolved scope left))
+      (option_or (also_flawed (broken true scope right) (resolved scope right))
+      (part_rule (meaning_of scope letters) (part_bounds (worth (resolved scope left)) (worth (resolved scope right))))))
+  broken fixed scope (text.parentheses inner) = broken fixed scope inner
+  broken fixed scope (text.concatenation parts) = broken_parts fixed scope parts
+  broken fixed scope (text.replication count parts) =
+      option_or (also_flawed (broken true scope count) (resolved scope count)) (broken_parts fixed scope parts)
+  broken fixed scope (text.conversion signed inner) = broken fixed scope inner
+  broken fixed scope (text.apply operator inner) = broken fixed scope inner
+  broken fixed scope (text.combine operator left right) = option_or (broken fixed scope left) (broken fixed scope right)
+  broken fixed scope (text.conditional condition when_true when_false) =
+      option_or (broken fixed scope condition) (option_or (broken fixed scope when_true) (broken fixed scope when_false))
 
-  pub knows_parts : List Text → text.ExpressionTrees → Bool
-  knows_parts names text.none = true
-  knows_parts names (text.first one more) = knows_expression names one && knows_parts names more
+  pub broken_parts : Bool → Scope → text.ExpressionTrees → Option Rule
+  broken_parts fixed scope text.none = None
+  broken_parts fixed scope (text.first one more) = option_or (broken fixed scope one) (broken_parts fixed scope more)
 
--- whether an expression is run: the bounds of parts and the counts of replications in it are numbers
-abbrev mutual
-  pub runs_expression : text.ExpressionTree → Bool
-  runs_expression (text.number digits) = true
-  runs_expression (text.name letters) = true
-  runs_expression text.time = true
-  runs_expression (text.bit letters index) = runs_expression index
-  runs_expression (text.part letters left right) = runs_bound left && runs_bound right
-  runs_expression (text.parentheses inner) = runs_expression inner
-  runs_expression (text.concatenation parts) = runs_parts parts
-  runs_expression (text.replication count parts) = runs_bound count && runs_parts parts
-  runs_expression (text.conversion signed inner) = runs_expression inner
-  runs_expression (text.apply operator inner) = runs_expression inner
-  runs_expression (text.combine operator left right) = runs_expression left && runs_expression right
-  runs_expression (text.conditional condition when_true when_false) =
-      runs_expression condition && (runs_expression when_true && runs_expression when_false)
+-- an expression of any kind
+abbrev pub broken_expression : Scope → text.ExpressionTree → Option Rule
+broken_expression scope tree = broken false scope tree
 
-  pub runs_parts : text.ExpressionTrees → Bool
-  runs_parts text.none = true
-  runs_parts (text.first one more) = runs_expression one && runs_parts more
+-- a constant: its names are right, and its sizes
+abbrev pub broken_constant : Scope → text.ExpressionTree → Option Rule
+broken_constant scope tree = also_flawed (broken true scope tree) (resolved scope tree)

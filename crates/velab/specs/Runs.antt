@@ -6,8 +6,6 @@ use Rattle.vast.specs.Statements.{TargetTree, DelayTree, by_number, by_name, by_
 use Rattle.vast.specs.Expressions as text
 use Rattle.vast.specs.Statements as written
 use Rattle.vast.specs.Modules.{RangeTree, DeclaredTree, DeclarationKind, variables, integers, ItemTree, parameters, declaration, events, assignments, initial, always, instances, ModuleTree, SourceTree, SettingTree}
-use Rattle.velab.specs.Constants.{runs_bound}
-use Rattle.velab.specs.Resolved.{runs_expression}
 
 -- a whole variable is written
 abbrev pub runs_target : TargetTree → Bool
@@ -16,14 +14,9 @@ runs_target (written.bit letters index) = false
 runs_target (written.part letters left right) = false
 runs_target (written.joined targets) = false
 
-abbrev pub runs_delay : DelayTree → Bool
-runs_delay (by_number digits) = true
-runs_delay (by_name letters) = true
-runs_delay (by_value amount) = runs_expression amount
-
 -- an assignment of either kind, without a delay of its own
-abbrev pub runs_assignment : TargetTree → Option DelayTree → ExpressionTree → Bool
-runs_assignment target amount value = runs_target target && (not (is_some amount) && runs_expression value)
+abbrev pub runs_assignment : TargetTree → Option DelayTree → Bool
+runs_assignment target amount = runs_target target && not (is_some amount)
 
 abbrev pub runs_task : TaskTree → Bool
 runs_task (print kind arguments) = false
@@ -32,29 +25,23 @@ runs_task (dump_vars selection) = not (is_some selection)
 runs_task (dump kind) = false
 runs_task (end_run stops digits) = true
 
--- the items in front of one statement of a `case`
-abbrev pub runs_items : text.ExpressionTrees → Bool
-runs_items text.none = true
-runs_items (text.first one more) = runs_expression one && runs_items more
-
 abbrev mutual
   pub runs_statement : StatementTree → Bool
   runs_statement empty = true
   runs_statement (block statements) = runs_statements statements
-  runs_statement (assign target amount value) = runs_assignment target amount value
-  runs_statement (nonblocking target amount value) = runs_assignment target amount value
+  runs_statement (assign target amount value) = runs_assignment target amount
+  runs_statement (nonblocking target amount value) = runs_assignment target amount
   runs_statement (trigger letters) = false
-  runs_statement (if_true condition body) = runs_expression condition && runs_statement body
-  runs_statement (if_else condition body other) = runs_expression condition && (runs_statement body && runs_statement other)
-  runs_statement (case_of kind value branches) = runs_expression value && runs_branches branches
-  runs_statement (while_true condition body) = runs_expression condition && runs_statement body
-  runs_statement (repeat_times count body) = runs_expression count && runs_statement body
+  runs_statement (if_true condition body) = runs_statement body
+  runs_statement (if_else condition body other) = runs_statement body && runs_statement other
+  runs_statement (case_of kind value branches) = runs_branches branches
+  runs_statement (while_true condition body) = runs_statement body
+  runs_statement (repeat_times count body) = runs_statement body
   runs_statement (forever body) = runs_statement body
   runs_statement (for_loop target value condition next_target next_value body) =
-      runs_assignment target None value
-      && (runs_expression condition && (runs_assignment next_target None next_value && runs_statement body))
-  runs_statement (wait_for condition body) = runs_expression condition && runs_statement body
-  runs_statement (delay amount body) = runs_delay amount && runs_statement body
+      runs_assignment target None && (runs_assignment next_target None && runs_statement body)
+  runs_statement (wait_for condition body) = runs_statement body
+  runs_statement (delay amount body) = runs_statement body
   runs_statement (event control body) = runs_statement body
   runs_statement (task call) = runs_task call
 
@@ -63,44 +50,25 @@ abbrev mutual
   runs_statements (first_statement one more) = runs_statement one && runs_statements more
 
   pub runs_branch : BranchTree → Bool
-  runs_branch (labelled items body) = runs_items items && runs_statement body
+  runs_branch (labelled items body) = runs_statement body
   runs_branch (default colon body) = runs_statement body
 
   pub runs_branches : BranchTrees → Bool
   runs_branches no_branch = true
   runs_branches (first_branch one more) = runs_branch one && runs_branches more
 
-abbrev pub runs_range : Option RangeTree → Bool
-runs_range None = true
-runs_range (Some range) = runs_bound range.left && runs_bound range.right
-
-abbrev pub runs_kind : DeclarationKind → Bool
-runs_kind (variables word type) = runs_range type.range
-runs_kind integers = true
-
--- without a value of its own, or with one that runs
-abbrev pub runs_value : Option ExpressionTree → Bool
-runs_value None = true
-runs_value (Some value) = runs_expression value
-
-abbrev pub runs_declared : DeclaredTree → Bool
-runs_declared declared = runs_value declared.value
-
-abbrev pub runs_setting : SettingTree → Bool
-runs_setting setting = runs_expression setting.value
-
 abbrev pub runs_item : ItemTree → Bool
-runs_item (parameters local type settings) = false
-runs_item (declaration kind list) = runs_kind kind && list_all runs_declared list
+runs_item (parameters local type settings) = true
+runs_item (declaration kind list) = true
 runs_item (events names) = false
-runs_item (assignments settings) = list_all runs_setting settings
+runs_item (assignments settings) = true
 runs_item (initial statement) = runs_statement statement
 runs_item (always statement) = runs_statement statement
 runs_item (instances letters overrides list) = false
 
--- without parameters and ports
+-- without ports
 abbrev pub runs_module : ModuleTree → Bool
-runs_module m = (not (is_some m.parameters) && not (is_some m.ports)) && list_all runs_item m.items
+runs_module m = not (is_some m.ports) && list_all runs_item m.items
 
 abbrev pub runs : SourceTree → Bool
 runs modules = list_all runs_module modules

@@ -1,6 +1,7 @@
 -- What event controls and `wait` listen to (IEEE 1364-2005, 9.7): terms, of which one is enough (9.7.4).
-use Rattle.std.specs.Prelude.{Bool, true, ◌&&◌, List, [], ◌∷◌, ◌++◌, map, Option, None, Some}
-use Rattle.std.specs.List.{list_all}
+use Rattle.std.specs.Prelude.{List, [], ◌∷◌, ◌++◌, map, Option, None, Some}
+use Rattle.std.specs.List.{flat_map}
+use Rattle.std.specs.Option.{option_or}
 use Rattle.vast.specs.Words.{Text}
 use Rattle.vast.specs.Expressions as text
 use Rattle.vast.specs.Statements.{TargetTree, DelayTree, by_number, by_name, by_value, TermTree, FurtherTerm, EventTree, by_event, by_any, by_any_enclosed, by_terms, StatementTree, StatementTrees, empty, block, assign, nonblocking, trigger, if_true, if_else, case_of, while_true, repeat_times, forever, for_loop, wait_for, delay, event, task, no_statement, first_statement, BranchTree, BranchTrees, labelled, default, no_branch, first_branch}
@@ -10,7 +11,10 @@ use Rattle.vast.specs.declared.statement.Edge.TheVariants.{Rising, Falling}
 use Rattle.vdesign.specs.declared.action.Edge.{Edge}
 use Rattle.vdesign.specs.declared.action.Edge.TheVariants.{Any, Rise, Fall}
 use Rattle.vdesign.specs.declared.action.Term.{Term}
-use Rattle.velab.specs.Uses.{place_of, is_declared}
+use Rattle.velab.specs.declared.fault.Rule.{Rule}
+use Rattle.velab.specs.declared.scope.Meaning.{Meaning}
+use Rattle.velab.specs.declared.scope.Meaning.TheVariants.{Variable, Parameter}
+use Rattle.velab.specs.Scopes.{Scope, meaning_of, number_of, broken_variable}
 
 -- ---- terms (9.7.2)
 
@@ -20,23 +24,32 @@ edge_of None = Any
 edge_of (Some Rising) = Rise
 edge_of (Some Falling) = Fall
 
-abbrev pub term_by : List Text → Edge → Text → Term
-term_by names edge name = record { edge = edge; variable = place_of names name }
+abbrev pub term_by : Scope → Edge → Text → Term
+term_by scope edge name = record { edge = edge; variable = number_of scope name }
 
-abbrev pub term_of : List Text → TermTree → Term
-term_of names term = term_by names (edge_of term.edge) term.name
+abbrev pub term_of : Scope → TermTree → Term
+term_of scope term = term_by scope (edge_of term.edge) term.name
 
 -- behind a comma or behind `or`: both say the same (9.7.4)
-abbrev pub further_term_of : List Text → FurtherTerm → Term
-further_term_of names further = term_of names further.term
+abbrev pub further_term_of : Scope → FurtherTerm → Term
+further_term_of scope further = term_of scope further.term
+
+-- any change of a variable is heard; a parameter never changes
+abbrev pub heard : Option Meaning → List Term
+heard None = []
+heard (Some (Variable number)) = record { edge = Any; variable = number } ∷ []
+heard (Some (Parameter value bounds before)) = []
 
 -- any change of each of these
-abbrev pub any_of : List Text → List Text → List Term
-any_of names list = map (term_by names Any) list
+abbrev pub heard_by : Scope → Text → List Term
+heard_by scope name = heard (meaning_of scope name)
+
+abbrev pub any_of : Scope → List Text → List Term
+any_of scope list = flat_map (heard_by scope) list
 
 -- ---- what is read (9.7.5)
 
--- every name in an expression, in the order of the text, as often as it stands there; bounds and counts that run use none
+-- every name in an expression, in the order of the text, as often as it stands there; bounds and counts use those of parameters alone
 abbrev mutual
   pub names_in : text.ExpressionTree → List Text
   names_in (text.number digits) = []
@@ -111,18 +124,19 @@ abbrev mutual
 -- ---- event controls
 
 -- what `@control body` listens to; where `@*` reads nothing, it listens to nothing
-abbrev pub terms_of : List Text → EventTree → StatementTree → List Term
-terms_of names (by_event letters) body = term_by names Any letters ∷ []
-terms_of names by_any body = any_of names (read_by body)
-terms_of names by_any_enclosed body = any_of names (read_by body)
-terms_of names (by_terms term further) body = term_of names term ∷ map (further_term_of names) further
+abbrev pub terms_of : Scope → EventTree → StatementTree → List Term
+terms_of scope (by_event letters) body = term_by scope Any letters ∷ []
+terms_of scope by_any body = any_of scope (read_by body)
+terms_of scope by_any_enclosed body = any_of scope (read_by body)
+terms_of scope (by_terms term further) body = term_of scope term ∷ map (further_term_of scope) further
 
-abbrev pub knows_further : List Text → FurtherTerm → Bool
-knows_further names further = is_declared names further.term.name
+abbrev pub broken_further : Scope → List FurtherTerm → Option Rule
+broken_further scope [] = None
+broken_further scope (further ∷ more) = option_or (broken_variable scope further.term.name) (broken_further scope more)
 
--- whether each name that stands in the control is declared
-abbrev pub knows_control : List Text → EventTree → Bool
-knows_control names (by_event letters) = is_declared names letters
-knows_control names by_any = true
-knows_control names by_any_enclosed = true
-knows_control names (by_terms term further) = is_declared names term.name && list_all (knows_further names) further
+-- each name that stands in the control is a variable's
+abbrev pub broken_control : Scope → EventTree → Option Rule
+broken_control scope (by_event letters) = broken_variable scope letters
+broken_control scope by_any = None
+broken_control scope by_any_enclosed = None
+broken_control scope (by_terms term further) = option_or (broken_variable scope term.name) (broken_further scope further)

@@ -8,7 +8,7 @@ ghost use Rattle.velab.specs.Elaborate as spec;
 ghost use Rattle.velab.specs.Elaborate.{has_double, drivers_by, driven_names};
 ghost use Rattle.velab.specs.Inner.{declared_drivers, set_drivers, item_drivers, BreaksDrivers};
 
-use crate::fault::ElabFault;
+use crate::fault::{ElabFault, Rule};
 use crate::letters::letters;
 use crate::names::Names;
 use basis::OrMemory;
@@ -46,7 +46,8 @@ fn add_driver<'t>(
     match into.add(letters(tokens, net), net.number) {
         Ok(()) => Ok(()),
         Err(OrMemory::Memory(none)) => Err(OrMemory::Memory(none)),
-        Err(OrMemory::Fault(_)) => Err(OrMemory::Fault(ElabFault::Drivers {
+        Err(OrMemory::Fault(_)) => Err(OrMemory::Fault(ElabFault {
+            rule: Rule::Drivers,
             at: Some(net.number),
         })),
     }

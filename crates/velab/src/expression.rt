@@ -1,25 +1,25 @@
 // Expressions of the text, their names resolved (IEEE 1364-2005, clause 5, 12.7).
 
-ghost use Rattle.std.specs.Prelude.{◌≡◌, ◌≤◌, [], ◌∷◌, ◌++◌, List, true, length, IfOk, OnOk};
+ghost use Rattle.std.specs.Prelude.{◌≡◌, ◌≤◌, [], ◌∷◌, ◌++◌, true, false, Some, None, length, IfOk, OnOk};
 ghost use Rattle.basis.specs.Reasons.{IfFault};
-ghost use Rattle.vast.specs.Words.{Text};
 ghost use Rattle.vast.specs.ExpressionTrees as text;
+ghost use Rattle.vast.specs.Expressions.{bit};
 ghost use Rattle.vast.specs.TokenTexts.{token_text};
 ghost use Rattle.vdesign.specs.Expressions.{ExpressionTree};
 ghost use Rattle.vdesign.specs.Nodes.{nodes_of};
 ghost use Rattle.vexpr_parse.specs.Texts.{words_of};
-ghost use Rattle.velab.specs.Uses.{place_of, is_declared};
 ghost use Rattle.velab.specs.Constants as constants;
+ghost use Rattle.velab.specs.Scopes.{meaning_of, broken_name, bounds_for};
 ghost use Rattle.velab.specs.Resolved as spec;
-ghost use Rattle.velab.specs.Resolved.{resolved, resolved_parts, knows_expression, knows_parts};
+ghost use Rattle.velab.specs.Resolved.{resolved, resolved_parts, broken, broken_parts, broken_expression, broken_constant};
 ghost use Rattle.velab.specs.InnerParts as inner;
-ghost use Rattle.velab.specs.Inner.{IsBreach, no_breach, BreaksKnown, BreaksExpression, BreaksUse};
+ghost use Rattle.velab.specs.Rules.{IsBroken};
 
-use crate::fault::ElabFault;
+use crate::constant::{count_in, part_bounds, worth_of};
+use crate::fault::{ElabFault, Rule};
 use crate::letters::letters;
-use crate::names::Names;
 use crate::number::constant_of;
-use crate::variable::bound_of;
+use crate::scope::{Meaning, Scope, named};
 use basis::OrMemory;
 use std::alloc::Global;
 use vast::expression::Expression as Value;
@@ -27,57 +27,24 @@ use vast::token::Token;
 use vbits::Vec4;
 use vdesign::expression::{Bounds, Constant, Expression, Node};
 use vlex::Tokens;
+use vvalue::flaw::is_part;
+use vvalue::select::{bit_of, part_of};
 
-/// What stands for a bound that is none.
-const NO_BOUND: u32 = 65536;
-
-/// The number of a variable. E303 where there is none of that name.
-pub fn number_of(
-    names: &Names<'_>,
-    tokens: &Tokens<'_>,
-    token: Token,
-) -> Result<u32, OrMemory<ElabFault>>
-    requires { length names.now ≤ 1024 }
-    ensures ok { IfOk result (λ n. n ≡ place_of names.now (token_text (words_of tokens.now) token)) }
-    ensures declared { OnOk result
-        (is_declared names.now (token_text (words_of tokens.now) token) ≡ true) }
-    ensures err { IfFault result (BreaksUse names.now (token_text (words_of tokens.now) token)) }
+// A value as it is.
+fn plain(value: Vec4) -> Node
+    ensures { result ∷ [] ≡ nodes_of (spec.plain value) }
 {
-    match names.place(letters(tokens, token)) {
-        Some(place) => Ok(place as u32),
-        None => Err(OrMemory::Fault(ElabFault::Unknown {
-            at: Some(token.number),
-        })),
-    }
+    Node::Constant(Constant {
+        value,
+        spreads: false,
+    })
 }
 
 // What stands for a concatenation of nothing.
 fn no_parts() -> Node
     ensures { result ∷ [] ≡ nodes_of spec.no_parts }
 {
-    Node::Constant(Constant {
-        value: Vec4::all_x(1),
-        spreads: false,
-    })
-}
-
-// The bounds of a part.
-fn part_bounds(tokens: &Tokens<'_>, left: &Value, right: &Value) -> Bounds
-    ensures { result ≡ constants.part_bounds
-        (text.tree_of (words_of tokens.now) left.now)
-        (text.tree_of (words_of tokens.now) right.now) }
-{
-    Bounds {
-        left: bound_of(tokens, left).unwrap_or(NO_BOUND),
-        right: bound_of(tokens, right).unwrap_or(NO_BOUND),
-    }
-}
-
-// How often a replication repeats.
-fn count_of(tokens: &Tokens<'_>, count: &Value) -> u32
-    ensures { result ≡ constants.count_of (text.tree_of (words_of tokens.now) count.now) }
-{
-    bound_of(tokens, count).unwrap_or(0)
+    plain(Vec4::all_x(1))
 }
 
 // What stands before a part with so many behind it.
@@ -94,27 +61,79 @@ fn before_part(left: usize) -> Node
 // One node more.
 fn put(nodes: &mut Vec<Node>, node: Node) -> Result<(), OrMemory<ElabFault>>
     ensures ok { OnOk result (nodes.new.items ≡ nodes.old.items ++ node ∷ []) }
-    ensures err { IfFault result (IsBreach no_breach) }
+    ensures err { IfFault result (IsBroken None) }
 {
     nodes.push(node)?;
     Ok(())
 }
 
+// What a name stands for.
+fn name_node(meaning: Meaning) -> Node
+    ensures { result ∷ [] ≡ nodes_of (spec.resolved_name (Some meaning)) }
+{
+    match meaning {
+        Meaning::Variable(number) => Node::Variable(number),
+        Meaning::Parameter { value, .. } => plain(value),
+    }
+}
+
+// The bounds of a parameter.
+fn bounds_for(value: Vec4, bounds: Option<Bounds>) -> Bounds
+    ensures { result ≡ bounds_for value bounds }
+{
+    bounds.unwrap_or(Bounds {
+        left: value.len() - 1,
+        right: 0,
+    })
+}
+
+// `name[left:right]`, where both bounds are known. E306 where they are no part of a parameter.
+fn part_node(
+    meaning: Meaning,
+    selected: Bounds,
+    at: Token,
+) -> Result<Node, OrMemory<ElabFault>>
+    ensures ok { IfOk result (λ node.
+        node ∷ [] ≡ nodes_of (spec.resolved_part (Some meaning) selected)) }
+    ensures right { OnOk result (spec.part_rule (Some meaning) selected ≡ None) }
+    ensures err { IfFault result (IsBroken (spec.part_rule (Some meaning) selected)) }
+{
+    match meaning {
+        Meaning::Variable(variable) => Ok(Node::Part {
+            variable,
+            bounds: selected,
+        }),
+        Meaning::Parameter { value, bounds, .. } => {
+            let bounds = bounds_for(value, bounds);
+            if is_part(bounds, selected) {
+                Ok(plain(part_of(value, bounds, selected)))
+            } else {
+                Err(OrMemory::Fault(ElabFault {
+                    rule: Rule::Width,
+                    at: Some(at.number),
+                }))
+            }
+        }
+    }
+}
+
 // The parts of a concatenation.
 #[cycle(expressions)]
 fn put_parts(
-    names: &Names<'_>,
+    alloc: Global,
+    scope: &Scope<'_, '_>,
+    fixed: bool,
     tokens: &Tokens<'_>,
     parts: &[Value],
     nodes: &mut Vec<Node>,
 ) -> Result<(), OrMemory<ElabFault>>
-    requires { length names.now ≤ 1024 }
+    requires { scope.now.variables ≤ 1024 }
     ensures ok { OnOk result (nodes.new.items ≡ nodes.old.items
-        ++ nodes_of (resolved_parts names.now (text.trees_of (words_of tokens.now) parts.now))) }
-    ensures known { OnOk result
-        (knows_parts names.now (text.trees_of (words_of tokens.now) parts.now) ≡ true) }
+        ++ nodes_of (resolved_parts scope.now (text.trees_of (words_of tokens.now) parts.now))) }
+    ensures right { OnOk result
+        (broken_parts fixed scope.now (text.trees_of (words_of tokens.now) parts.now) ≡ None) }
     ensures err { IfFault result
-        (BreaksKnown (knows_parts names.now (text.trees_of (words_of tokens.now) parts.now))) }
+        (IsBroken (broken_parts fixed scope.now (text.trees_of (words_of tokens.now) parts.now))) }
 {
     if parts.is_empty() {
         return put(nodes, no_parts());
@@ -123,53 +142,145 @@ fn put_parts(
     for one in parts {
         left -= 1;
         put(nodes, before_part(left))?;
-        put_expression(names, tokens, one, nodes)?;
+        put_expression(alloc, scope, fixed, tokens, one, nodes)?;
     }
     Ok(())
 }
 
-// Puts the nodes that an expression of the text stands for behind others. E303 where a name in it is no variable's.
+// What a constant expression is worth, which stands behind this token.
+#[cycle(expressions)]
+fn worth(
+    alloc: Global,
+    scope: &Scope<'_, '_>,
+    tokens: &Tokens<'_>,
+    expression: &Value,
+    at: Option<u32>,
+) -> Result<Vec4, OrMemory<ElabFault>>
+    requires { scope.now.variables ≤ 1024 }
+    ensures ok { IfOk result (λ value. value ≡
+        constants.worth (resolved scope.now (text.tree_of (words_of tokens.now) expression.now))) }
+    ensures right { OnOk result
+        (broken_constant scope.now (text.tree_of (words_of tokens.now) expression.now) ≡ None) }
+    ensures err { IfFault result
+        (IsBroken (broken_constant scope.now (text.tree_of (words_of tokens.now) expression.now))) }
+{
+    let mut nodes = Vec::new(alloc);
+    put_expression(alloc, scope, true, tokens, expression, &mut nodes)?;
+    let resolved = Expression::new(nodes);
+    worth_of(&resolved, at)
+}
+
+// `name[index]`
+#[cycle(expressions)]
+fn put_bit(
+    alloc: Global,
+    scope: &Scope<'_, '_>,
+    fixed: bool,
+    tokens: &Tokens<'_>,
+    index: &Value,
+    name: Token,
+    nodes: &mut Vec<Node>,
+) -> Result<(), OrMemory<ElabFault>>
+    requires { scope.now.variables ≤ 1024 }
+    ensures ok { OnOk result (nodes.new.items ≡ nodes.old.items ++ nodes_of (resolved scope.now
+        (bit (token_text (words_of tokens.now) name) (text.tree_of (words_of tokens.now) index.now)))) }
+    ensures right { OnOk result (broken fixed scope.now
+        (bit (token_text (words_of tokens.now) name) (text.tree_of (words_of tokens.now) index.now)) ≡ None) }
+    ensures err { IfFault result (IsBroken (broken fixed scope.now
+        (bit (token_text (words_of tokens.now) name) (text.tree_of (words_of tokens.now) index.now)))) }
+{
+    match named(scope, fixed, tokens, name)? {
+        Meaning::Variable(number) => {
+            put(nodes, Node::Bit(number))?;
+            put_expression(alloc, scope, fixed, tokens, index, nodes)
+        }
+        Meaning::Parameter { value, bounds, .. } => {
+            let index = worth(alloc, scope, tokens, index, Some(name.number))?;
+            let letter = bit_of(value, bounds_for(value, bounds), index);
+            put(nodes, plain(letter))
+        }
+    }
+}
+
+// `{count{part, part}}`, of which the count is known.
+#[cycle(expressions)]
+fn put_repeated(
+    alloc: Global,
+    scope: &Scope<'_, '_>,
+    fixed: bool,
+    tokens: &Tokens<'_>,
+    parts: &[Value],
+    count: Vec4,
+    nodes: &mut Vec<Node>,
+) -> Result<(), OrMemory<ElabFault>>
+    requires { scope.now.variables ≤ 1024 }
+    ensures ok { OnOk result (nodes.new.items ≡ nodes.old.items ++ Node.Repeated (constants.count_in count)
+        ∷ nodes_of (resolved_parts scope.now (text.trees_of (words_of tokens.now) parts.now))) }
+    ensures right { OnOk result
+        (broken_parts fixed scope.now (text.trees_of (words_of tokens.now) parts.now) ≡ None) }
+    ensures err { IfFault result
+        (IsBroken (broken_parts fixed scope.now (text.trees_of (words_of tokens.now) parts.now))) }
+{
+    put(nodes, Node::Repeated(count_in(count)))?;
+    put_parts(alloc, scope, fixed, tokens, parts, nodes)
+}
+
+// Puts the nodes that an expression of the text stands for behind others.
 #[cycle(expressions)]
 fn put_expression(
-    names: &Names<'_>,
+    alloc: Global,
+    scope: &Scope<'_, '_>,
+    fixed: bool,
     tokens: &Tokens<'_>,
     expression: &Value,
     nodes: &mut Vec<Node>,
 ) -> Result<(), OrMemory<ElabFault>>
-    requires { length names.now ≤ 1024 }
+    requires { scope.now.variables ≤ 1024 }
     ensures ok { OnOk result (nodes.new.items ≡ nodes.old.items
-        ++ nodes_of (resolved names.now (text.tree_of (words_of tokens.now) expression.now))) }
-    ensures known { OnOk result
-        (knows_expression names.now (text.tree_of (words_of tokens.now) expression.now) ≡ true) }
+        ++ nodes_of (resolved scope.now (text.tree_of (words_of tokens.now) expression.now))) }
+    ensures right { OnOk result
+        (broken fixed scope.now (text.tree_of (words_of tokens.now) expression.now) ≡ None) }
     ensures err { IfFault result
-        (BreaksExpression names.now (text.tree_of (words_of tokens.now) expression.now)) }
+        (IsBroken (broken fixed scope.now (text.tree_of (words_of tokens.now) expression.now))) }
 {
     match expression {
         Value::Number(word) => put(nodes, Node::Constant(constant_of(letters(tokens, *word)))),
-        Value::Name(word) => put(nodes, Node::Variable(number_of(names, tokens, *word)?)),
-        Value::Time { .. } => put(nodes, Node::Time),
-        Value::Parentheses(inner) => put_expression(names, tokens, inner, nodes),
-        Value::Bit { name, index } => {
-            put(nodes, Node::Bit(number_of(names, tokens, *name)?))?;
-            put_expression(names, tokens, index, nodes)
+        Value::Name(word) => {
+            let meaning = named(scope, fixed, tokens, *word)?;
+            put(nodes, name_node(meaning))
         }
+        Value::Time { at } => {
+            if fixed {
+                return Err(OrMemory::Fault(ElabFault {
+                    rule: Rule::Constant,
+                    at: Some(*at),
+                }));
+            }
+            put(nodes, Node::Time)
+        }
+        Value::Parentheses(inner) => put_expression(alloc, scope, fixed, tokens, inner, nodes),
+        Value::Bit { name, index } => put_bit(alloc, scope, fixed, tokens, index, *name, nodes),
         Value::Part { name, left, right } => {
-            let variable = number_of(names, tokens, *name)?;
-            let bounds = part_bounds(tokens, left, right);
-            put(nodes, Node::Part { variable, bounds })
+            let meaning = named(scope, fixed, tokens, *name)?;
+            let left = worth(alloc, scope, tokens, left, Some(name.number))?;
+            let right = worth(alloc, scope, tokens, right, Some(name.number))?;
+            let node = part_node(meaning, part_bounds(left, right), *name)?;
+            put(nodes, node)
         }
-        Value::Concatenation { parts, .. } => put_parts(names, tokens, parts, nodes),
-        Value::Replication { count, parts, .. } => {
-            put(nodes, Node::Repeated(count_of(tokens, count)))?;
-            put_parts(names, tokens, parts, nodes)
+        Value::Concatenation { parts, .. } => {
+            put_parts(alloc, scope, fixed, tokens, parts, nodes)
+        }
+        Value::Replication { at, count, parts } => {
+            let count = worth(alloc, scope, tokens, count, Some(*at))?;
+            put_repeated(alloc, scope, fixed, tokens, parts, count, nodes)
         }
         Value::Conversion { signed, operand } => {
             put(nodes, Node::Conversion(*signed))?;
-            put_expression(names, tokens, operand, nodes)
+            put_expression(alloc, scope, fixed, tokens, operand, nodes)
         }
         Value::Unary { operator, operand } => {
             put(nodes, Node::Unary(*operator))?;
-            put_expression(names, tokens, operand, nodes)
+            put_expression(alloc, scope, fixed, tokens, operand, nodes)
         }
         Value::Binary {
             operator,
@@ -177,8 +288,8 @@ fn put_expression(
             right,
         } => {
             put(nodes, Node::Binary(*operator))?;
-            put_expression(names, tokens, left, nodes)?;
-            put_expression(names, tokens, right, nodes)
+            put_expression(alloc, scope, fixed, tokens, left, nodes)?;
+            put_expression(alloc, scope, fixed, tokens, right, nodes)
         }
         Value::Conditional {
             condition,
@@ -186,93 +297,84 @@ fn put_expression(
             when_false,
         } => {
             put(nodes, Node::Conditional)?;
-            put_expression(names, tokens, condition, nodes)?;
-            put_expression(names, tokens, when_true, nodes)?;
-            put_expression(names, tokens, when_false, nodes)
+            put_expression(alloc, scope, fixed, tokens, condition, nodes)?;
+            put_expression(alloc, scope, fixed, tokens, when_true, nodes)?;
+            put_expression(alloc, scope, fixed, tokens, when_false, nodes)
         }
     }
 }
 
-/// The expression of a design that an expression of the text stands for. E303 where a name in it is no variable's.
+/// The expression of a design that an expression of the text stands for. E303 where a name in it is not declared, E306 or E307 where
+/// what has to be constant in it is wrong.
 pub fn expression_of(
     alloc: Global,
-    names: &Names<'_>,
+    scope: &Scope<'_, '_>,
     tokens: &Tokens<'_>,
     expression: &Value,
 ) -> Result<Expression, OrMemory<ElabFault>>
-    requires { length names.now ≤ 1024 }
+    requires { scope.now.variables ≤ 1024 }
     ensures ok { IfOk result (λ e.
-        e ≡ resolved names.now (text.tree_of (words_of tokens.now) expression.now)) }
-    ensures known { OnOk result
-        (knows_expression names.now (text.tree_of (words_of tokens.now) expression.now) ≡ true) }
+        e ≡ resolved scope.now (text.tree_of (words_of tokens.now) expression.now)) }
+    ensures right { OnOk result
+        (broken_expression scope.now (text.tree_of (words_of tokens.now) expression.now) ≡ None) }
     ensures err { IfFault result
-        (BreaksExpression names.now (text.tree_of (words_of tokens.now) expression.now)) }
+        (IsBroken (broken_expression scope.now (text.tree_of (words_of tokens.now) expression.now))) }
 {
     let mut nodes = Vec::new(alloc);
-    put_expression(names, tokens, expression, &mut nodes)?;
+    put_expression(alloc, scope, false, tokens, expression, &mut nodes)?;
     Ok(Expression::new(nodes))
+}
+
+/// The expression that a name of the text stands for.
+pub fn expression_of_name(
+    alloc: Global,
+    scope: &Scope<'_, '_>,
+    tokens: &Tokens<'_>,
+    name: Token,
+) -> Result<Expression, OrMemory<ElabFault>>
+    requires { scope.now.variables ≤ 1024 }
+    ensures ok { IfOk result (λ e.
+        e ≡ spec.resolved_name (meaning_of scope.now (token_text (words_of tokens.now) name))) }
+    ensures right { OnOk result
+        (broken_name false scope.now (token_text (words_of tokens.now) name) ≡ None) }
+    ensures err { IfFault result
+        (IsBroken (broken_name false scope.now (token_text (words_of tokens.now) name))) }
+{
+    let meaning = named(scope, false, tokens, name)?;
+    let mut nodes = Vec::new(alloc);
+    put(&mut nodes, name_node(meaning))?;
+    Ok(Expression::new(nodes))
+}
+
+/// The value of a constant expression. E303, E306 or E307 where it is none.
+pub fn constant_expression(
+    alloc: Global,
+    scope: &Scope<'_, '_>,
+    tokens: &Tokens<'_>,
+    expression: &Value,
+) -> Result<Expression, OrMemory<ElabFault>>
+    requires { scope.now.variables ≤ 1024 }
+    ensures ok { IfOk result (λ e.
+        e ≡ resolved scope.now (text.tree_of (words_of tokens.now) expression.now)) }
+    ensures right { OnOk result
+        (broken_constant scope.now (text.tree_of (words_of tokens.now) expression.now) ≡ None) }
+    ensures err { IfFault result
+        (IsBroken (broken_constant scope.now (text.tree_of (words_of tokens.now) expression.now))) }
+{
+    let mut nodes = Vec::new(alloc);
+    put_expression(alloc, scope, true, tokens, expression, &mut nodes)?;
+    let resolved = Expression::new(nodes);
+    worth_of(&resolved, None)?;
+    Ok(resolved)
 }
 
 /// The expression that is one operand alone.
 pub fn alone(alloc: Global, node: Node) -> Result<Expression, OrMemory<ElabFault>>
     requires { (tree : ExpressionTree) × (node ∷ [] ≡ nodes_of tree) }
     ensures ok { IfOk result (λ e. (tree : ExpressionTree) → node ∷ [] ≡ nodes_of tree → e ≡ tree) }
-    ensures err { IfFault result (IsBreach no_breach) }
+    ensures err { IfFault result (IsBroken None) }
 {
     let mut nodes = Vec::new(alloc);
     put(&mut nodes, node)?;
     Ok(Expression::new(nodes))
-}
-
-// Whether what stands for a bound or for a count is run.
-fn runs_bound(constant: &Value) -> bool
-    ensures { (words : List Text) → result ≡
-        constants.runs_bound (text.tree_of words constant.now) }
-{
-    match constant {
-        Value::Number(_) => true,
-        _ => false,
-    }
-}
-
-#[cycle(running)]
-fn runs_parts(tokens: &Tokens<'_>, parts: &[Value]) -> bool
-    ensures { result ≡ spec.runs_parts (text.trees_of (words_of tokens.now) parts.now) }
-{
-    for one in parts {
-        if !runs_expression(tokens, one) {
-            return false;
-        }
-    }
-    true
-}
-
-/// Whether an expression is run.
-#[cycle(running)]
-pub fn runs_expression(tokens: &Tokens<'_>, expression: &Value) -> bool
-    ensures { result ≡ spec.runs_expression (text.tree_of (words_of tokens.now) expression.now) }
-{
-    match expression {
-        Value::Number(_) => true,
-        Value::Name(_) => true,
-        Value::Time { .. } => true,
-        Value::Parentheses(inner) => runs_expression(tokens, inner),
-        Value::Bit { index, .. } => runs_expression(tokens, index),
-        Value::Part { left, right, .. } => runs_bound(left) && runs_bound(right),
-        Value::Concatenation { parts, .. } => runs_parts(tokens, parts),
-        Value::Replication { count, parts, .. } => runs_bound(count) && runs_parts(tokens, parts),
-        Value::Conversion { operand, .. } => runs_expression(tokens, operand),
-        Value::Unary { operand, .. } => runs_expression(tokens, operand),
-        Value::Binary { left, right, .. } => {
-            runs_expression(tokens, left) && runs_expression(tokens, right)
-        }
-        Value::Conditional {
-            condition,
-            when_true,
-            when_false,
-        } => {
-            runs_expression(tokens, condition)
-                && (runs_expression(tokens, when_true) && runs_expression(tokens, when_false))
-        }
-    }
 }

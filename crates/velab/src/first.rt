@@ -8,9 +8,8 @@ ghost use Rattle.vexpr_parse.specs.Texts.{words_of};
 ghost use Rattle.velab.specs.Runs.{runs};
 ghost use Rattle.velab.specs.FirstNotRun as place;
 
-use crate::expression::runs_expression;
 use vast::expression::Expression;
-use vast::module::{Bounds, DeclarationKind, Declared, ModuleItem, ModuleTree, Setting, TextTree};
+use vast::module::{ModuleItem, ModuleTree, TextTree};
 use vast::statement::{Branch, Delay, Statement, Target, Task};
 use vlex::Tokens;
 
@@ -45,25 +44,6 @@ fn delay_token(delay: &Delay) -> u32
     }
 }
 
-fn in_expression(tokens: &Tokens<'_>, value: &Expression) -> Option<u32>
-    ensures { result ≡ place.in_expression (words_of tokens.now) value.now }
-{
-    if runs_expression(tokens, value) {
-        None
-    } else {
-        Some(first_token(value))
-    }
-}
-
-fn in_bound(value: &Expression) -> Option<u32>
-    ensures { (words : List Text) → result ≡ place.in_bound words value.now }
-{
-    match value {
-        Expression::Number(_) => None,
-        _ => Some(first_token(value)),
-    }
-}
-
 fn in_target(target: &Target) -> Option<u32>
     ensures { (words : List Text) → result ≡ place.in_target words target.now }
 {
@@ -72,16 +52,6 @@ fn in_target(target: &Target) -> Option<u32>
         Target::Bit { name, .. } => Some(name.number),
         Target::Part { name, .. } => Some(name.number),
         Target::Joined { at, .. } => Some(*at),
-    }
-}
-
-fn in_delay(tokens: &Tokens<'_>, delay: &Delay) -> Option<u32>
-    ensures { result ≡ place.in_delay (words_of tokens.now) delay.now }
-{
-    match delay {
-        Delay::Number(_) => None,
-        Delay::Name(_) => None,
-        Delay::Value(value) => in_expression(tokens, value),
     }
 }
 
@@ -99,34 +69,16 @@ fn in_task(at: u32, task: &Task) -> Option<u32>
 }
 
 // An assignment of either kind.
-fn in_assignment(
-    tokens: &Tokens<'_>,
-    target: &Target,
-    amount: &Option<Delay>,
-    value: &Expression,
-) -> Option<u32>
-    ensures { result ≡
-        place.in_assignment (words_of tokens.now) target.now amount.now value.now }
+fn in_assignment(target: &Target, amount: &Option<Delay>) -> Option<u32>
+    ensures { (words : List Text) → result ≡ place.in_assignment words target.now amount.now }
 {
     if let Some(at) = in_target(target) {
         return Some(at);
     }
-    if let Some(amount) = amount {
-        return Some(delay_token(amount));
+    match amount {
+        None => None,
+        Some(amount) => Some(delay_token(amount)),
     }
-    in_expression(tokens, value)
-}
-
-// The items in front of a statement of a `case`.
-fn in_labels(tokens: &Tokens<'_>, list: &[Expression]) -> Option<u32>
-    ensures { result ≡ place.in_labels (words_of tokens.now) list.now }
-{
-    for one in list {
-        if let Some(at) = in_expression(tokens, one) {
-            return Some(at);
-        }
-    }
-    None
 }
 
 #[cycle(looking)]
@@ -136,90 +88,35 @@ fn in_statement(tokens: &Tokens<'_>, whole: &Statement) -> Option<u32>
     match whole {
         Statement::Empty => None,
         Statement::Block(list) => in_statements(tokens, list),
-        Statement::Assign {
-            target,
-            delay,
-            value,
-            ..
-        } => in_assignment(tokens, target, delay, value),
-        Statement::Nonblocking {
-            target,
-            delay,
-            value,
-            ..
-        } => in_assignment(tokens, target, delay, value),
-        Statement::Delayed { delay, body, .. } => match in_delay(tokens, delay) {
-            Some(at) => Some(at),
-            None => in_statement(tokens, body),
-        },
+        Statement::Assign { target, delay, .. } => in_assignment(target, delay),
+        Statement::Nonblocking { target, delay, .. } => in_assignment(target, delay),
+        Statement::Delayed { body, .. } => in_statement(tokens, body),
         Statement::Task { at, task } => in_task(*at, task),
         Statement::Trigger { at, .. } => Some(*at),
-        Statement::If {
-            condition,
-            body,
-            ..
-        } => match in_expression(tokens, condition) {
+        Statement::If { body, .. } => in_statement(tokens, body),
+        Statement::IfElse { body, other, .. } => match in_statement(tokens, body) {
             Some(at) => Some(at),
-            None => in_statement(tokens, body),
+            None => in_statement(tokens, other),
         },
-        Statement::IfElse {
-            condition,
-            body,
-            other,
-            ..
-        } => match in_expression(tokens, condition) {
-            Some(at) => Some(at),
-            None => match in_statement(tokens, body) {
-                Some(at) => Some(at),
-                None => in_statement(tokens, other),
-            },
-        },
-        Statement::Case {
-            value,
-            branches,
-            ..
-        } => in_case(tokens, branches, value),
-        Statement::While {
-            condition,
-            body,
-            ..
-        } => match in_expression(tokens, condition) {
-            Some(at) => Some(at),
-            None => in_statement(tokens, body),
-        },
-        Statement::Repeat { count, body, .. } => match in_expression(tokens, count) {
-            Some(at) => Some(at),
-            None => in_statement(tokens, body),
-        },
+        Statement::Case { branches, .. } => in_branches(tokens, branches),
+        Statement::While { body, .. } => in_statement(tokens, body),
+        Statement::Repeat { body, .. } => in_statement(tokens, body),
         Statement::Forever { body, .. } => in_statement(tokens, body),
         Statement::For {
             target,
-            value,
-            condition,
             next_target,
-            next_value,
             body,
             ..
         } => {
-            if let Some(at) = in_assignment(tokens, target, &None, value) {
+            if let Some(at) = in_assignment(target, &None) {
                 return Some(at);
             }
-            if let Some(at) = in_expression(tokens, condition) {
-                return Some(at);
-            }
-            if let Some(at) = in_assignment(tokens, next_target, &None, next_value) {
+            if let Some(at) = in_assignment(next_target, &None) {
                 return Some(at);
             }
             in_statement(tokens, body)
         }
-        Statement::Wait {
-            condition,
-            body,
-            ..
-        } => match in_expression(tokens, condition) {
-            Some(at) => Some(at),
-            None => in_statement(tokens, body),
-        },
+        Statement::Wait { body, .. } => in_statement(tokens, body),
         Statement::OnEvent { body, .. } => in_statement(tokens, body),
     }
 }
@@ -234,17 +131,6 @@ fn in_statements(tokens: &Tokens<'_>, list: &[Statement]) -> Option<u32>
         }
     }
     None
-}
-
-#[cycle(looking)]
-fn in_case(tokens: &Tokens<'_>, branches: &[Branch], value: &Expression) -> Option<u32>
-    ensures { result ≡ option_or (place.in_expression (words_of tokens.now) value.now)
-        (place.in_branches (words_of tokens.now) branches.now) }
-{
-    match in_expression(tokens, value) {
-        Some(at) => Some(at),
-        None => in_branches(tokens, branches),
-    }
 }
 
 #[cycle(looking)]
@@ -264,83 +150,19 @@ fn in_branch(tokens: &Tokens<'_>, branch: &Branch) -> Option<u32>
     ensures { result ≡ place.in_branch (words_of tokens.now) branch.now }
 {
     match branch {
-        Branch::Labelled { labels, body } => match in_labels(tokens, labels) {
-            Some(at) => Some(at),
-            None => in_statement(tokens, body),
-        },
+        Branch::Labelled { body, .. } => in_statement(tokens, body),
         Branch::Default { body, .. } => in_statement(tokens, body),
     }
-}
-
-fn in_range(range: &Option<Bounds>) -> Option<u32>
-    ensures { (words : List Text) → result ≡ place.in_range words range.now }
-{
-    match range {
-        None => None,
-        Some(bounds) => match in_bound(&bounds.left) {
-            Some(at) => Some(at),
-            None => in_bound(&bounds.right),
-        },
-    }
-}
-
-fn in_kind(kind: &DeclarationKind) -> Option<u32>
-    ensures { (words : List Text) → result ≡ place.in_kind words kind.now }
-{
-    match kind {
-        DeclarationKind::Variables { kind, .. } => in_range(&kind.range),
-        DeclarationKind::Integers => None,
-    }
-}
-
-fn in_declared(tokens: &Tokens<'_>, declared: &Declared) -> Option<u32>
-    ensures { result ≡ place.in_declared (words_of tokens.now) declared.now }
-{
-    match &declared.value {
-        None => None,
-        Some(value) => in_expression(tokens, value),
-    }
-}
-
-fn in_names(tokens: &Tokens<'_>, list: &[Declared]) -> Option<u32>
-    ensures { result ≡ place.in_names (words_of tokens.now) list.now }
-{
-    for one in list {
-        if let Some(at) = in_declared(tokens, one) {
-            return Some(at);
-        }
-    }
-    None
-}
-
-fn in_setting(tokens: &Tokens<'_>, setting: &Setting) -> Option<u32>
-    ensures { result ≡ place.in_setting (words_of tokens.now) setting.now }
-{
-    in_expression(tokens, &setting.value)
-}
-
-fn in_settings(tokens: &Tokens<'_>, list: &[Setting]) -> Option<u32>
-    ensures { result ≡ place.in_settings (words_of tokens.now) list.now }
-{
-    for one in list {
-        if let Some(at) = in_setting(tokens, one) {
-            return Some(at);
-        }
-    }
-    None
 }
 
 fn in_item(tokens: &Tokens<'_>, whole: &ModuleItem) -> Option<u32>
     ensures { result ≡ place.in_item (words_of tokens.now) whole.now }
 {
     match whole {
-        ModuleItem::Parameters { at, .. } => Some(*at),
-        ModuleItem::Declaration { kind, declared, .. } => match in_kind(kind) {
-            Some(at) => Some(at),
-            None => in_names(tokens, declared),
-        },
+        ModuleItem::Parameters { .. } => None,
+        ModuleItem::Declaration { .. } => None,
         ModuleItem::Events { at, .. } => Some(*at),
-        ModuleItem::Assignments { settings, .. } => in_settings(tokens, settings),
+        ModuleItem::Assignments { .. } => None,
         ModuleItem::Initial { statement, .. } => in_statement(tokens, statement),
         ModuleItem::Always { statement, .. } => in_statement(tokens, statement),
         ModuleItem::Instances { module, .. } => Some(module.number),
@@ -361,7 +183,7 @@ fn in_items(tokens: &Tokens<'_>, list: &[ModuleItem]) -> Option<u32>
 fn in_module(tokens: &Tokens<'_>, whole: &ModuleTree) -> Option<u32>
     ensures { result ≡ place.in_module (words_of tokens.now) whole.now }
 {
-    if whole.parameters.is_some() || whole.ports.is_some() {
+    if whole.ports.is_some() {
         return Some(whole.name.number);
     }
     in_items(tokens, &whole.items)

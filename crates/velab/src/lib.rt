@@ -3,6 +3,8 @@
 // The law: a design is the one that `Elaborates` gives the tree, and each fault is a rule that the tree breaks.
 #![tactic(auto)]
 
+mod constant;
+mod declared;
 mod design;
 mod driven;
 mod expression;
@@ -12,7 +14,10 @@ pub mod law;
 mod letters;
 mod names;
 mod number;
+mod parameter;
+mod range;
 mod right;
+mod scope;
 mod statement;
 mod top;
 mod variable;
@@ -20,5 +25,5 @@ mod wait;
 mod width;
 
 pub use design::elaborate;
-pub use fault::ElabFault;
+pub use fault::{ElabFault, Rule};
 pub use first::not_run;

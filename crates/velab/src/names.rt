@@ -4,10 +4,10 @@ ghost use Rattle.std.specs.Prelude.{◌≡◌, ◌<◌, ◌++◌, ◌∷◌, [],
 ghost use Rattle.std.specs.Str.{bytes_eq};
 ghost use Rattle.basis.specs.Reasons.{IfFault};
 ghost use Rattle.velab.specs.Elaborate.{has_double};
-ghost use Rattle.velab.specs.Uses.{is_declared};
-ghost use Rattle.velab.specs.Inner.{BreaksName};
+ghost use Rattle.velab.specs.Rules.{broken_if, IsBroken};
+ghost use Rattle.velab.specs.Scopes.{is_declared};
 
-use crate::fault::ElabFault;
+use crate::fault::{ElabFault, Rule};
 use basis::OrMemory;
 use indexmap::IndexSet;
 use std::alloc::Global;
@@ -52,11 +52,15 @@ impl<'t> Names<'t> {
     pub fn add(&mut self, text: &'t [u8], at: u32) -> Result<(), OrMemory<ElabFault>>
         ensures added { OnOk result (self.new ≡ self.old ++ text.now ∷ []) }
         ensures unique { has_double self.new ≡ false }
-        ensures err { IfFault result (BreaksName self.old text.now) }
+        ensures fresh { OnOk result (is_declared self.old text.now ≡ false) }
+        ensures err { IfFault result (IsBroken (broken_if (is_declared self.old text.now) Rule.Doubled)) }
     {
         let added = self.set.insert(text)?;
         if !added {
-            return Err(OrMemory::Fault(ElabFault::Doubled { at: Some(at) }));
+            return Err(OrMemory::Fault(ElabFault {
+                rule: Rule::Doubled,
+                at: Some(at),
+            }));
         }
         Ok(())
     }

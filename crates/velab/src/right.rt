@@ -3,9 +3,9 @@ ghost use Rattle.std.specs.Prelude.{◌≡◌, true, OnOk};
 ghost use Rattle.std.specs.List.{list_all};
 ghost use Rattle.basis.specs.Reasons.{IfFault};
 ghost use Rattle.velab.specs.Right as spec;
-ghost use Rattle.velab.specs.Inner.{IsWrong};
+ghost use Rattle.velab.specs.Rules.{unless, IsBroken};
 
-use crate::fault::ElabFault;
+use crate::fault::{ElabFault, Rule};
 use basis::OrMemory;
 use vdesign::action::{Action, Target};
 use vdesign::design::{Design, Kind, Variable};
@@ -78,10 +78,13 @@ pub fn check_kinds(design: &Design) -> Result<(), OrMemory<ElabFault>>
     ensures ok { OnOk result
         (list_all (spec.writes_rightly design.now.variables) design.now.actions ≡ true) }
     ensures err { IfFault result
-        (IsWrong (list_all (spec.writes_rightly design.now.variables) design.now.actions)) }
+        (IsBroken (unless (list_all (spec.writes_rightly design.now.variables) design.now.actions) Rule.Kind)) }
 {
     if all_write_rightly(&design.variables, &design.actions) {
         return Ok(());
     }
-    Err(OrMemory::Fault(ElabFault::Kind { at: wrong(design) }))
+    Err(OrMemory::Fault(ElabFault {
+        rule: Rule::Kind,
+        at: wrong(design),
+    }))
 }

@@ -1,5 +1,5 @@
 // Processes: what statements have to do, their names resolved (clause 9).
-ghost use Rattle.std.specs.Prelude.{None, ◌≡◌, ◌<◌, ◌≤◌, ◌+◌, [], ◌++◌, ◌∷◌, true, false, length, map, option_map, List, IfOk, OnOk};
+ghost use Rattle.std.specs.Prelude.{None, ◌≡◌, ◌<◌, ◌≤◌, ◌+◌, ◌^◌, [], ◌++◌, ◌∷◌, true, false, length, map, option_map, List, IfOk, OnOk};
 ghost use Rattle.basis.specs.Reasons.{IfFault};
 ghost use Rattle.vast.specs.Words.{Text};
 ghost use Rattle.vast.specs.ExpressionTrees.{tree_of as text_tree, trees_of};
@@ -10,16 +10,17 @@ ghost use Rattle.vexpr_parse.specs.Texts.{words_of};
 ghost use Rattle.velab.specs.Elaborate as spec;
 ghost use Rattle.vast.specs.Statements.{forever, case_of, assign, whole};
 ghost use Rattle.vast.specs.TokenTexts.{token_text};
-ghost use Rattle.velab.specs.Elaborate.{does, drives, laid, laid_process, laid_processes, knows_process, branches_by, knows, knows_all, knows_items, knows_branch, knows_branches, process_trees_by};
-ghost use Rattle.velab.specs.Inner.{laid_of, all_laid_of, branch_laid_of, branches_laid_of, laid_of_item, processes_of, starts_in, drives_in, process_trees_in, AreLaid, HasLaid, HasBranches, HaveLaid};
-ghost use Rattle.velab.specs.Resolved.{resolved, knows_expression};
-ghost use Rattle.velab.specs.Inner.{KnowsAll, IsBreach, no_breach, BreaksKnown, BreaksExpression, BreaksStatement, BreaksStatements, BreaksLabels, BreaksBranch, BreaksBranches, BreaksAdded, BreaksProcess, BreaksProcesses};
+ghost use Rattle.velab.specs.Elaborate.{does, drives, laid, laid_process, laid_processes, broken_process, broken_processes, broken_items_from, branches_by, broken_in, broken_in_all, broken_items, broken_branch, broken_branches, process_trees_by};
+ghost use Rattle.velab.specs.Inner.{laid_of, all_laid_of, branch_laid_of, branches_laid_of, laid_of_item, processes_of, starts_in, drives_in, AreRight, given_in, AreLaid, HasLaid, HasBranches, HaveLaid};
+ghost use Rattle.velab.specs.Resolved.{resolved, broken_expression};
+ghost use Rattle.velab.specs.Rules.{IsBroken};
 
-use crate::expression::{alone, expression_of, number_of};
+use crate::expression::{alone, expression_of, expression_of_name};
 use crate::fault::ElabFault;
 use crate::letters::letters;
-use crate::names::Names;
 use crate::number::constant_of;
+use crate::parameter::given_count;
+use crate::scope::{Scope, number_of};
 use crate::wait::{condition_terms, event_terms};
 use basis::OrMemory;
 use std::alloc::Global;
@@ -31,9 +32,6 @@ use vast::token::Token;
 use vdesign::action::{Action, Branch as Choice, Branches, Places, Target, Terms};
 use vdesign::expression::{Expression, Node};
 use vlex::Tokens;
-
-/// The most processes of a design.
-const MOST_PROCESSES: usize = 256;
 
 /// Actions in the order in which they are come to, and for each the number of the token that its statement begins with. A
 /// clause sees the actions.
@@ -65,7 +63,7 @@ fn put(
 ) -> Result<(), OrMemory<ElabFault>>
     ensures table { OnOk result (table.new ≡ table.old ++ action ∷ []) }
     ensures place { OnOk result (into.new.items ≡ into.old.items ++ length table.old ∷ []) }
-    ensures err { IfFault result (IsBreach no_breach) }
+    ensures err { IfFault result (IsBroken None) }
 {
     into.push(table.actions.len())?;
     table.origins.push(at)?;
@@ -86,7 +84,7 @@ fn assigning(blocking: bool, target: Target, value: Expression) -> Action
 // An assignment of either kind: what isn't run yet lays nothing.
 fn lay_assignment(
     alloc: Global,
-    names: &Names<'_>,
+    scope: &Scope<'_, '_>,
     tokens: &Tokens<'_>,
     blocking: bool,
     target: &Written,
@@ -95,16 +93,16 @@ fn lay_assignment(
     table: &mut Table,
     into: &mut Vec<usize>,
 ) -> Result<(), OrMemory<ElabFault>>
-    requires { length names.now ≤ 1024 }
-    ensures ok { HasLaid result (spec.laid_assignment blocking names.now table.old
+    requires { scope.now.variables ≤ 1024 }
+    ensures ok { HasLaid result (spec.laid_assignment blocking scope.now table.old
         (target_tree (words_of tokens.now) target.now)
         (option_map (delay_tree (words_of tokens.now)) amount.now)
         (text_tree (words_of tokens.now) value.now)) into.old table.new into.new }
-    ensures known { OnOk result (spec.knows_assignment names.now
+    ensures right { OnOk result (spec.broken_assignment scope.now
         (target_tree (words_of tokens.now) target.now)
         (option_map (delay_tree (words_of tokens.now)) amount.now)
-        (text_tree (words_of tokens.now) value.now) ≡ true) }
-    ensures err { IfFault result (BreaksKnown (spec.knows_assignment names.now
+        (text_tree (words_of tokens.now) value.now) ≡ None) }
+    ensures err { IfFault result (IsBroken (spec.broken_assignment scope.now
         (target_tree (words_of tokens.now) target.now)
         (option_map (delay_tree (words_of tokens.now)) amount.now)
         (text_tree (words_of tokens.now) value.now))) }
@@ -112,8 +110,8 @@ fn lay_assignment(
     match target {
         Written::Whole(name) => match amount {
             None => {
-                let number = number_of(names, tokens, *name)?;
-                let value = expression_of(alloc, names, tokens, value)?;
+                let number = number_of(scope, tokens, *name)?;
+                let value = expression_of(alloc, scope, tokens, value)?;
                 let action = assigning(blocking, Target::Whole(number), value);
                 put(table, into, name.number, action)
             }
@@ -128,22 +126,22 @@ fn lay_assignment(
 // For how long a delay waits.
 fn amount_of(
     alloc: Global,
-    names: &Names<'_>,
+    scope: &Scope<'_, '_>,
     tokens: &Tokens<'_>,
     amount: &Delay,
 ) -> Result<Expression, OrMemory<ElabFault>>
-    requires { length names.now ≤ 1024 }
+    requires { scope.now.variables ≤ 1024 }
     ensures ok { IfOk result (λ e.
-        e ≡ spec.amount_of names.now (delay_tree (words_of tokens.now) amount.now)) }
-    ensures known { OnOk result
-        (spec.knows_amount names.now (delay_tree (words_of tokens.now) amount.now) ≡ true) }
-    ensures err { IfFault result (BreaksKnown
-        (spec.knows_amount names.now (delay_tree (words_of tokens.now) amount.now))) }
+        e ≡ spec.amount_of scope.now (delay_tree (words_of tokens.now) amount.now)) }
+    ensures right { OnOk result
+        (spec.broken_amount scope.now (delay_tree (words_of tokens.now) amount.now) ≡ None) }
+    ensures err { IfFault result (IsBroken
+        (spec.broken_amount scope.now (delay_tree (words_of tokens.now) amount.now))) }
 {
     match amount {
         Delay::Number(word) => alone(alloc, Node::Constant(constant_of(letters(tokens, *word)))),
-        Delay::Name(word) => alone(alloc, Node::Variable(number_of(names, tokens, *word)?)),
-        Delay::Value(value) => expression_of(alloc, names, tokens, value),
+        Delay::Name(word) => expression_of_name(alloc, scope, tokens, *word),
+        Delay::Value(value) => expression_of(alloc, scope, tokens, value),
     }
 }
 
@@ -178,23 +176,22 @@ fn choosing(
 // A branch of an item, with a copy of the places.
 fn put_label(
     alloc: Global,
-    names: &Names<'_>,
+    scope: &Scope<'_, '_>,
     tokens: &Tokens<'_>,
     label: &Value,
     body: &[usize],
     into: &mut Vec<Choice>,
 ) -> Result<(), OrMemory<ElabFault>>
-    requires { length names.now ≤ 1024 }
+    requires { scope.now.variables ≤ 1024 }
     ensures ok { OnOk result (into.new.items ≡ into.old.items ++ record {
-      item = resolved names.now (text_tree (words_of tokens.now) label.now);
+      item = resolved scope.now (text_tree (words_of tokens.now) label.now);
       body = body.now;
     } ∷ []) }
-    ensures known { OnOk result
-        (knows_expression names.now (text_tree (words_of tokens.now) label.now) ≡ true) }
-    ensures err { IfFault result
-        (BreaksExpression names.now (text_tree (words_of tokens.now) label.now)) }
+    ensures right { OnOk result
+        (broken_expression scope.now (text_tree (words_of tokens.now) label.now) ≡ None) }
+    ensures err { IfFault result (IsBroken (broken_expression scope.now (text_tree (words_of tokens.now) label.now))) }
 {
-    let item = expression_of(alloc, names, tokens, label)?;
+    let item = expression_of(alloc, scope, tokens, label)?;
     let places = Vec::from_slice(alloc, body)?;
     let body = Places::new(places);
     into.push(Choice { item, body })?;
@@ -204,22 +201,21 @@ fn put_label(
 // A branch of each item in front of a statement, all with the same places.
 fn put_labels(
     alloc: Global,
-    names: &Names<'_>,
+    scope: &Scope<'_, '_>,
     tokens: &Tokens<'_>,
     labels: &[Value],
     body: &[usize],
     into: &mut Vec<Choice>,
 ) -> Result<(), OrMemory<ElabFault>>
-    requires { length names.now ≤ 1024 }
+    requires { scope.now.variables ≤ 1024 }
     ensures ok { OnOk result (into.new.items ≡ into.old.items
-        ++ branches_by names.now body.now (trees_of (words_of tokens.now) labels.now)) }
-    ensures known { OnOk result
-        (knows_items names.now (trees_of (words_of tokens.now) labels.now) ≡ true) }
-    ensures err { IfFault result
-        (BreaksLabels names.now (trees_of (words_of tokens.now) labels.now)) }
+        ++ branches_by scope.now body.now (trees_of (words_of tokens.now) labels.now)) }
+    ensures right { OnOk result
+        (broken_items scope.now (trees_of (words_of tokens.now) labels.now) ≡ None) }
+    ensures err { IfFault result (IsBroken (broken_items scope.now (trees_of (words_of tokens.now) labels.now))) }
 {
     for label in labels {
-        put_label(alloc, names, tokens, label, body, into)?;
+        put_label(alloc, scope, tokens, label, body, into)?;
     }
     Ok(())
 }
@@ -250,7 +246,7 @@ fn lay_task(
 ) -> Result<(), OrMemory<ElabFault>>
     ensures ok { (words : List Text) → HasLaid result
         (spec.laid_task table.old (task_tree words task.now)) into.old table.new into.new }
-    ensures err { IfFault result (IsBreach no_breach) }
+    ensures err { IfFault result (IsBroken None) }
 {
     match task {
         Task::Print { .. } => Ok(()),
@@ -266,30 +262,29 @@ fn lay_task(
 #[cycle(statements)]
 fn lay(
     alloc: Global,
-    names: &Names<'_>,
+    scope: &Scope<'_, '_>,
     tokens: &Tokens<'_>,
     statement: &Statement,
     table: &mut Table,
     into: &mut Vec<usize>,
 ) -> Result<(), OrMemory<ElabFault>>
-    requires { length names.now ≤ 1024 }
-    ensures ok { HasLaid result (laid_of (words_of tokens.now) names.now table.old statement.now)
+    requires { scope.now.variables ≤ 1024 }
+    ensures ok { HasLaid result (laid_of (words_of tokens.now) scope.now table.old statement.now)
         into.old table.new into.new }
-    ensures known { OnOk result
-        (knows names.now (statement_tree (words_of tokens.now) statement.now) ≡ true) }
-    ensures err { IfFault result
-        (BreaksStatement names.now (statement_tree (words_of tokens.now) statement.now)) }
+    ensures right { OnOk result
+        (broken_in scope.now (statement_tree (words_of tokens.now) statement.now) ≡ None) }
+    ensures err { IfFault result (IsBroken (broken_in scope.now (statement_tree (words_of tokens.now) statement.now))) }
 {
     match statement {
         Statement::Empty => Ok(()),
-        Statement::Block(list) => lay_all(alloc, names, tokens, list, table, into),
+        Statement::Block(list) => lay_all(alloc, scope, tokens, list, table, into),
         Statement::Assign {
             target,
             delay,
             value,
             ..
         } => lay_assignment(
-            alloc, names, tokens, true, target, delay, value, table, into,
+            alloc, scope, tokens, true, target, delay, value, table, into,
         ),
         Statement::Nonblocking {
             target,
@@ -297,12 +292,12 @@ fn lay(
             value,
             ..
         } => lay_assignment(
-            alloc, names, tokens, false, target, delay, value, table, into,
+            alloc, scope, tokens, false, target, delay, value, table, into,
         ),
         Statement::Delayed { at, delay, body } => {
-            let amount = amount_of(alloc, names, tokens, delay)?;
+            let amount = amount_of(alloc, scope, tokens, delay)?;
             let mut inner = Vec::new(alloc);
-            lay(alloc, names, tokens, body, table, &mut inner)?;
+            lay(alloc, scope, tokens, body, table, &mut inner)?;
             let body = Places::new(inner);
             put(table, into, *at, Action::Delay { amount, body })
         }
@@ -313,9 +308,9 @@ fn lay(
             condition,
             body,
         } => {
-            let condition = expression_of(alloc, names, tokens, condition)?;
+            let condition = expression_of(alloc, scope, tokens, condition)?;
             let mut inner = Vec::new(alloc);
-            lay(alloc, names, tokens, body, table, &mut inner)?;
+            lay(alloc, scope, tokens, body, table, &mut inner)?;
             put(table, into, *at, testing(condition, inner, Vec::new(alloc)))
         }
         Statement::IfElse {
@@ -324,11 +319,11 @@ fn lay(
             body,
             other,
         } => {
-            let condition = expression_of(alloc, names, tokens, condition)?;
+            let condition = expression_of(alloc, scope, tokens, condition)?;
             let mut inner = Vec::new(alloc);
-            lay(alloc, names, tokens, body, table, &mut inner)?;
+            lay(alloc, scope, tokens, body, table, &mut inner)?;
             let mut outer = Vec::new(alloc);
-            lay(alloc, names, tokens, other, table, &mut outer)?;
+            lay(alloc, scope, tokens, other, table, &mut outer)?;
             put(table, into, *at, testing(condition, inner, outer))
         }
         Statement::Case {
@@ -337,29 +332,29 @@ fn lay(
             value,
             branches,
         } => lay_case(
-            alloc, names, tokens, *at, *kind, branches, value, table, into,
+            alloc, scope, tokens, *at, *kind, branches, value, table, into,
         ),
         Statement::While {
             at,
             condition,
             body,
         } => {
-            let condition = expression_of(alloc, names, tokens, condition)?;
+            let condition = expression_of(alloc, scope, tokens, condition)?;
             let mut inner = Vec::new(alloc);
-            lay(alloc, names, tokens, body, table, &mut inner)?;
+            lay(alloc, scope, tokens, body, table, &mut inner)?;
             let body = Places::new(inner);
             put(table, into, *at, Action::Again { condition, body })
         }
         Statement::Repeat { at, count, body } => {
-            let count = expression_of(alloc, names, tokens, count)?;
+            let count = expression_of(alloc, scope, tokens, count)?;
             let mut inner = Vec::new(alloc);
-            lay(alloc, names, tokens, body, table, &mut inner)?;
+            lay(alloc, scope, tokens, body, table, &mut inner)?;
             let body = Places::new(inner);
             put(table, into, *at, Action::Repeat { count, body })
         }
         Statement::Forever { at, body } => {
             let mut inner = Vec::new(alloc);
-            lay(alloc, names, tokens, body, table, &mut inner)?;
+            lay(alloc, scope, tokens, body, table, &mut inner)?;
             let body = Places::new(inner);
             put(table, into, *at, Action::Forever { body })
         }
@@ -373,14 +368,14 @@ fn lay(
             body,
         } => {
             lay_assignment(
-                alloc, names, tokens, true, target, &None, value, table, into,
+                alloc, scope, tokens, true, target, &None, value, table, into,
             )?;
-            let condition = expression_of(alloc, names, tokens, condition)?;
+            let condition = expression_of(alloc, scope, tokens, condition)?;
             let mut inner = Vec::new(alloc);
-            lay(alloc, names, tokens, body, table, &mut inner)?;
+            lay(alloc, scope, tokens, body, table, &mut inner)?;
             lay_assignment(
                 alloc,
-                names,
+                scope,
                 tokens,
                 true,
                 next_target,
@@ -397,16 +392,16 @@ fn lay(
             condition,
             body,
         } => {
-            let awaited = expression_of(alloc, names, tokens, condition)?;
-            let terms = condition_terms(alloc, names, tokens, condition)?;
+            let awaited = expression_of(alloc, scope, tokens, condition)?;
+            let terms = condition_terms(alloc, scope, tokens, condition)?;
             let mut inner = Vec::new(alloc);
-            lay(alloc, names, tokens, body, table, &mut inner)?;
+            lay(alloc, scope, tokens, body, table, &mut inner)?;
             put(table, into, *at, waiting(awaited, terms, inner))
         }
         Statement::OnEvent { at, event, body } => {
+            let terms = event_terms(alloc, scope, tokens, event, body)?;
             let mut inner = Vec::new(alloc);
-            lay(alloc, names, tokens, body, table, &mut inner)?;
-            let terms = event_terms(alloc, names, tokens, event, body)?;
+            lay(alloc, scope, tokens, body, table, &mut inner)?;
             let body = Places::new(inner);
             put(table, into, *at, Action::On { terms, body })
         }
@@ -416,23 +411,22 @@ fn lay(
 #[cycle(statements)]
 fn lay_all(
     alloc: Global,
-    names: &Names<'_>,
+    scope: &Scope<'_, '_>,
     tokens: &Tokens<'_>,
     statements: &[Statement],
     table: &mut Table,
     into: &mut Vec<usize>,
 ) -> Result<(), OrMemory<ElabFault>>
-    requires { length names.now ≤ 1024 }
+    requires { scope.now.variables ≤ 1024 }
     ensures ok { HasLaid result
-        (all_laid_of (words_of tokens.now) names.now table.old statements.now) into.old table.new
+        (all_laid_of (words_of tokens.now) scope.now table.old statements.now) into.old table.new
         into.new }
-    ensures known { OnOk result
-        (knows_all names.now (statement_trees (words_of tokens.now) statements.now) ≡ true) }
-    ensures err { IfFault result
-        (BreaksStatements names.now (statement_trees (words_of tokens.now) statements.now)) }
+    ensures right { OnOk result
+        (broken_in_all scope.now (statement_trees (words_of tokens.now) statements.now) ≡ None) }
+    ensures err { IfFault result (IsBroken (broken_in_all scope.now (statement_trees (words_of tokens.now) statements.now))) }
 {
     for statement in statements {
-        lay(alloc, names, tokens, statement, table, into)?;
+        lay(alloc, scope, tokens, statement, table, into)?;
     }
     Ok(())
 }
@@ -441,7 +435,7 @@ fn lay_all(
 #[cycle(statements)]
 fn lay_case(
     alloc: Global,
-    names: &Names<'_>,
+    scope: &Scope<'_, '_>,
     tokens: &Tokens<'_>,
     at: u32,
     kind: CaseKind,
@@ -450,23 +444,23 @@ fn lay_case(
     table: &mut Table,
     into: &mut Vec<usize>,
 ) -> Result<(), OrMemory<ElabFault>>
-    requires { length names.now ≤ 1024 }
-    ensures ok { HasLaid result (laid names.now table.old
+    requires { scope.now.variables ≤ 1024 }
+    ensures ok { HasLaid result (laid scope.now table.old
         (case_of kind (text_tree (words_of tokens.now) value.now)
         (branch_trees (words_of tokens.now) branches.now))) into.old table.new into.new }
-    ensures known { OnOk result (knows names.now
+    ensures right { OnOk result (broken_in scope.now
         (case_of kind (text_tree (words_of tokens.now) value.now)
-        (branch_trees (words_of tokens.now) branches.now)) ≡ true) }
-    ensures err { IfFault result (BreaksStatement names.now
+        (branch_trees (words_of tokens.now) branches.now)) ≡ None) }
+    ensures err { IfFault result (IsBroken (broken_in scope.now
         (case_of kind (text_tree (words_of tokens.now) value.now)
-        (branch_trees (words_of tokens.now) branches.now))) }
+        (branch_trees (words_of tokens.now) branches.now)))) }
 {
-    let value = expression_of(alloc, names, tokens, value)?;
+    let value = expression_of(alloc, scope, tokens, value)?;
     let mut choices = Vec::new(alloc);
     let mut otherwise = Vec::new(alloc);
     lay_branches(
         alloc,
-        names,
+        scope,
         tokens,
         branches,
         table,
@@ -480,24 +474,23 @@ fn lay_case(
 #[cycle(statements)]
 fn lay_branches(
     alloc: Global,
-    names: &Names<'_>,
+    scope: &Scope<'_, '_>,
     tokens: &Tokens<'_>,
     branches: &[Branch],
     table: &mut Table,
     into: &mut Vec<Choice>,
     otherwise: &mut Vec<usize>,
 ) -> Result<(), OrMemory<ElabFault>>
-    requires { length names.now ≤ 1024 }
+    requires { scope.now.variables ≤ 1024 }
     ensures ok { HasBranches result
-        (branches_laid_of (words_of tokens.now) names.now table.old branches.now) into.old
+        (branches_laid_of (words_of tokens.now) scope.now table.old branches.now) into.old
         otherwise.old table.new into.new otherwise.new }
-    ensures known { OnOk result
-        (knows_branches names.now (branch_trees (words_of tokens.now) branches.now) ≡ true) }
-    ensures err { IfFault result
-        (BreaksBranches names.now (branch_trees (words_of tokens.now) branches.now)) }
+    ensures right { OnOk result
+        (broken_branches scope.now (branch_trees (words_of tokens.now) branches.now) ≡ None) }
+    ensures err { IfFault result (IsBroken (broken_branches scope.now (branch_trees (words_of tokens.now) branches.now))) }
 {
     for branch in branches {
-        lay_branch(alloc, names, tokens, branch, table, into, otherwise)?;
+        lay_branch(alloc, scope, tokens, branch, table, into, otherwise)?;
     }
     Ok(())
 }
@@ -505,53 +498,52 @@ fn lay_branches(
 #[cycle(statements)]
 fn lay_branch(
     alloc: Global,
-    names: &Names<'_>,
+    scope: &Scope<'_, '_>,
     tokens: &Tokens<'_>,
     branch: &Branch,
     table: &mut Table,
     into: &mut Vec<Choice>,
     otherwise: &mut Vec<usize>,
 ) -> Result<(), OrMemory<ElabFault>>
-    requires { length names.now ≤ 1024 }
+    requires { scope.now.variables ≤ 1024 }
     ensures ok { HasBranches result
-        (branch_laid_of (words_of tokens.now) names.now table.old branch.now) into.old
+        (branch_laid_of (words_of tokens.now) scope.now table.old branch.now) into.old
         otherwise.old table.new into.new otherwise.new }
-    ensures known { OnOk result
-        (knows_branch names.now (branch_tree (words_of tokens.now) branch.now) ≡ true) }
-    ensures err { IfFault result
-        (BreaksBranch names.now (branch_tree (words_of tokens.now) branch.now)) }
+    ensures right { OnOk result
+        (broken_branch scope.now (branch_tree (words_of tokens.now) branch.now) ≡ None) }
+    ensures err { IfFault result (IsBroken (broken_branch scope.now (branch_tree (words_of tokens.now) branch.now))) }
 {
     match branch {
         Branch::Labelled { labels, body } => {
             let mut places = Vec::new(alloc);
-            lay(alloc, names, tokens, body, table, &mut places)?;
-            put_labels(alloc, names, tokens, labels, &places, into)
+            lay(alloc, scope, tokens, body, table, &mut places)?;
+            put_labels(alloc, scope, tokens, labels, &places, into)
         }
-        Branch::Default { body, .. } => lay(alloc, names, tokens, body, table, otherwise),
+        Branch::Default { body, .. } => lay(alloc, scope, tokens, body, table, otherwise),
     }
 }
 
 // The same of a statement that comes again and again (9.9.2).
 fn lay_forever(
     alloc: Global,
-    names: &Names<'_>,
+    scope: &Scope<'_, '_>,
     tokens: &Tokens<'_>,
     at: u32,
     statement: &Statement,
     table: &mut Table,
     into: &mut Vec<usize>,
 ) -> Result<(), OrMemory<ElabFault>>
-    requires { length names.now ≤ 1024 }
-    ensures ok { HasLaid result (laid names.now table.old
+    requires { scope.now.variables ≤ 1024 }
+    ensures ok { HasLaid result (laid scope.now table.old
         (forever (statement_tree (words_of tokens.now) statement.now))) into.old table.new
         into.new }
-    ensures known { OnOk result (knows names.now
-        (forever (statement_tree (words_of tokens.now) statement.now)) ≡ true) }
-    ensures err { IfFault result (BreaksStatement names.now
-        (forever (statement_tree (words_of tokens.now) statement.now))) }
+    ensures right { OnOk result (broken_in scope.now
+        (forever (statement_tree (words_of tokens.now) statement.now)) ≡ None) }
+    ensures err { IfFault result (IsBroken (broken_in scope.now
+        (forever (statement_tree (words_of tokens.now) statement.now)))) }
 {
     let mut inner = Vec::new(alloc);
-    lay(alloc, names, tokens, statement, table, &mut inner)?;
+    lay(alloc, scope, tokens, statement, table, &mut inner)?;
     let body = Places::new(inner);
     put(table, into, at, Action::Forever { body })
 }
@@ -559,25 +551,25 @@ fn lay_forever(
 // What drives a net.
 fn lay_drive(
     alloc: Global,
-    names: &Names<'_>,
+    scope: &Scope<'_, '_>,
     tokens: &Tokens<'_>,
     net: Token,
     value: &Value,
     table: &mut Table,
     into: &mut Vec<usize>,
 ) -> Result<(), OrMemory<ElabFault>>
-    requires { length names.now ≤ 1024 }
-    ensures ok { HasLaid result (laid_process names.now table.old (drives
+    requires { scope.now.variables ≤ 1024 }
+    ensures ok { HasLaid result (laid_process scope.now table.old (drives
         (token_text (words_of tokens.now) net) (text_tree (words_of tokens.now) value.now)))
         into.old table.new into.new }
-    ensures known { OnOk result (knows_process names.now (drives
-        (token_text (words_of tokens.now) net) (text_tree (words_of tokens.now) value.now)) ≡ true) }
-    ensures err { IfFault result (BreaksKnown (knows_process names.now (drives
+    ensures right { OnOk result (broken_process scope.now (drives
+        (token_text (words_of tokens.now) net) (text_tree (words_of tokens.now) value.now)) ≡ None) }
+    ensures err { IfFault result (IsBroken (broken_process scope.now (drives
         (token_text (words_of tokens.now) net) (text_tree (words_of tokens.now) value.now)))) }
 {
-    let number = number_of(names, tokens, net)?;
-    let terms = condition_terms(alloc, names, tokens, value)?;
-    let value = expression_of(alloc, names, tokens, value)?;
+    let number = number_of(scope, tokens, net)?;
+    let terms = condition_terms(alloc, scope, tokens, value)?;
+    let value = expression_of(alloc, scope, tokens, value)?;
     let target = Target::Whole(number);
     let action = Action::Drive {
         target,
@@ -587,71 +579,57 @@ fn lay_drive(
     put(table, into, net.number, action)
 }
 
-// The process that drives a net. E309 where there are enough processes.
+// The process that drives a net.
 fn lay_net(
     alloc: Global,
-    names: &Names<'_>,
+    scope: &Scope<'_, '_>,
     tokens: &Tokens<'_>,
     net: Token,
     value: &Value,
     table: &mut Table,
     into: &mut Vec<Places>,
 ) -> Result<(), OrMemory<ElabFault>>
-    requires names { length names.now ≤ 1024 }
-    requires few { length into.old.items ≤ 256 }
-    ensures ok { HaveLaid result (laid_processes names.now table.old (drives
+    requires { scope.now.variables ≤ 1024 }
+    ensures ok { HaveLaid result (laid_processes scope.now table.old (drives
         (token_text (words_of tokens.now) net) (text_tree (words_of tokens.now) value.now) ∷ []))
         into.old table.new into.new }
-    ensures few { OnOk result (length into.new.items ≤ 256) }
-    ensures known { OnOk result (KnowsAll names.now (drives
+    ensures right { OnOk result (AreRight scope.now (drives
         (token_text (words_of tokens.now) net) (text_tree (words_of tokens.now) value.now) ∷ [])) }
-    ensures err { IfFault result (BreaksAdded names.now into.old (drives
-        (token_text (words_of tokens.now) net) (text_tree (words_of tokens.now) value.now) ∷ [])) }
+    ensures err { IfFault result (IsBroken (broken_processes scope.now (drives
+        (token_text (words_of tokens.now) net) (text_tree (words_of tokens.now) value.now) ∷ []))) }
 {
-    if into.len() >= MOST_PROCESSES {
-        return Err(OrMemory::Fault(ElabFault::TooMany {
-            at: Some(net.number),
-        }));
-    }
     let mut begins = Vec::new(alloc);
-    lay_drive(alloc, names, tokens, net, value, table, &mut begins)?;
+    lay_drive(alloc, scope, tokens, net, value, table, &mut begins)?;
     into.push(Places::new(begins))?;
     Ok(())
 }
 
-// The process of a variable that is declared with a value. E309 where there are enough processes.
+// The process of a variable that is declared with a value.
 fn lay_variable(
     alloc: Global,
-    names: &Names<'_>,
+    scope: &Scope<'_, '_>,
     tokens: &Tokens<'_>,
     name: Token,
     value: &Value,
     table: &mut Table,
     into: &mut Vec<Places>,
 ) -> Result<(), OrMemory<ElabFault>>
-    requires names { length names.now ≤ 1024 }
-    requires few { length into.old.items ≤ 256 }
-    ensures ok { HaveLaid result (laid_processes names.now table.old (does (assign
+    requires { scope.now.variables ≤ 1024 }
+    ensures ok { HaveLaid result (laid_processes scope.now table.old (does (assign
         (whole (token_text (words_of tokens.now) name)) None
         (text_tree (words_of tokens.now) value.now)) ∷ [])) into.old table.new into.new }
-    ensures few { OnOk result (length into.new.items ≤ 256) }
-    ensures known { OnOk result (KnowsAll names.now (does (assign
+    ensures right { OnOk result (AreRight scope.now (does (assign
         (whole (token_text (words_of tokens.now) name)) None
         (text_tree (words_of tokens.now) value.now)) ∷ [])) }
-    ensures err { IfFault result (BreaksAdded names.now into.old (does (assign
+    ensures err { IfFault result (IsBroken (broken_processes scope.now (does (assign
         (whole (token_text (words_of tokens.now) name)) None
-        (text_tree (words_of tokens.now) value.now)) ∷ [])) }
+        (text_tree (words_of tokens.now) value.now)) ∷ []))) }
 {
-    if into.len() >= MOST_PROCESSES {
-        return Err(OrMemory::Fault(ElabFault::TooMany {
-            at: Some(name.number),
-        }));
-    }
     let target = Written::Whole(name);
     let mut begins = Vec::new(alloc);
     lay_assignment(
         alloc,
-        names,
+        scope,
         tokens,
         true,
         &target,
@@ -667,28 +645,26 @@ fn lay_variable(
 // The process of a name that is declared with a value, if it is.
 fn lay_start(
     alloc: Global,
-    names: &Names<'_>,
+    scope: &Scope<'_, '_>,
     tokens: &Tokens<'_>,
     word: NetKind,
     one: &Declared,
     table: &mut Table,
     into: &mut Vec<Places>,
 ) -> Result<(), OrMemory<ElabFault>>
-    requires names { length names.now ≤ 1024 }
-    requires few { length into.old.items ≤ 256 }
-    ensures ok { HaveLaid result (laid_processes names.now table.old
+    requires { scope.now.variables ≤ 1024 }
+    ensures ok { HaveLaid result (laid_processes scope.now table.old
         (starts_in (words_of tokens.now) word (one.now ∷ []))) into.old table.new into.new }
-    ensures few { OnOk result (length into.new.items ≤ 256) }
-    ensures known { OnOk result
-        (KnowsAll names.now (starts_in (words_of tokens.now) word (one.now ∷ []))) }
+    ensures right { OnOk result
+        (AreRight scope.now (starts_in (words_of tokens.now) word (one.now ∷ []))) }
     ensures err { IfFault result
-        (BreaksAdded names.now into.old (starts_in (words_of tokens.now) word (one.now ∷ []))) }
+        (IsBroken (broken_processes scope.now (starts_in (words_of tokens.now) word (one.now ∷ [])))) }
 {
     match &one.value {
         None => Ok(()),
         Some(value) => match word {
-            NetKind::Wire => lay_net(alloc, names, tokens, one.name, value, table, into),
-            NetKind::Reg => lay_variable(alloc, names, tokens, one.name, value, table, into),
+            NetKind::Wire => lay_net(alloc, scope, tokens, one.name, value, table, into),
+            NetKind::Reg => lay_variable(alloc, scope, tokens, one.name, value, table, into),
         },
     }
 }
@@ -696,24 +672,22 @@ fn lay_start(
 // The processes of names that are declared together.
 fn lay_starts(
     alloc: Global,
-    names: &Names<'_>,
+    scope: &Scope<'_, '_>,
     tokens: &Tokens<'_>,
     word: NetKind,
     list: &[Declared],
     table: &mut Table,
     into: &mut Vec<Places>,
 ) -> Result<(), OrMemory<ElabFault>>
-    requires names { length names.now ≤ 1024 }
-    requires few { length into.old.items ≤ 256 }
-    ensures ok { HaveLaid result (laid_processes names.now table.old
+    requires { scope.now.variables ≤ 1024 }
+    ensures ok { HaveLaid result (laid_processes scope.now table.old
         (starts_in (words_of tokens.now) word list.now)) into.old table.new into.new }
-    ensures few { OnOk result (length into.new.items ≤ 256) }
-    ensures known { OnOk result (KnowsAll names.now (starts_in (words_of tokens.now) word list.now)) }
+    ensures right { OnOk result (AreRight scope.now (starts_in (words_of tokens.now) word list.now)) }
     ensures err { IfFault result
-        (BreaksAdded names.now into.old (starts_in (words_of tokens.now) word list.now)) }
+        (IsBroken (broken_processes scope.now (starts_in (words_of tokens.now) word list.now))) }
 {
     for one in list {
-        lay_start(alloc, names, tokens, word, one, table, into)?;
+        lay_start(alloc, scope, tokens, word, one, table, into)?;
     }
     Ok(())
 }
@@ -721,97 +695,85 @@ fn lay_starts(
 // The process of one part of an `assign`.
 fn lay_setting(
     alloc: Global,
-    names: &Names<'_>,
+    scope: &Scope<'_, '_>,
     tokens: &Tokens<'_>,
     one: &Setting,
     table: &mut Table,
     into: &mut Vec<Places>,
 ) -> Result<(), OrMemory<ElabFault>>
-    requires names { length names.now ≤ 1024 }
-    requires few { length into.old.items ≤ 256 }
-    ensures ok { HaveLaid result (laid_processes names.now table.old
+    requires { scope.now.variables ≤ 1024 }
+    ensures ok { HaveLaid result (laid_processes scope.now table.old
         (drives_in (words_of tokens.now) (one.now ∷ []))) into.old table.new into.new }
-    ensures few { OnOk result (length into.new.items ≤ 256) }
-    ensures known { OnOk result (KnowsAll names.now (drives_in (words_of tokens.now) (one.now ∷ []))) }
+    ensures right { OnOk result (AreRight scope.now (drives_in (words_of tokens.now) (one.now ∷ []))) }
     ensures err { IfFault result
-        (BreaksAdded names.now into.old (drives_in (words_of tokens.now) (one.now ∷ []))) }
+        (IsBroken (broken_processes scope.now (drives_in (words_of tokens.now) (one.now ∷ [])))) }
 {
-    lay_net(alloc, names, tokens, one.name, &one.value, table, into)
+    lay_net(alloc, scope, tokens, one.name, &one.value, table, into)
 }
 
 // The processes of an `assign`.
 fn lay_drives(
     alloc: Global,
-    names: &Names<'_>,
+    scope: &Scope<'_, '_>,
     tokens: &Tokens<'_>,
     list: &[Setting],
     table: &mut Table,
     into: &mut Vec<Places>,
 ) -> Result<(), OrMemory<ElabFault>>
-    requires names { length names.now ≤ 1024 }
-    requires few { length into.old.items ≤ 256 }
-    ensures ok { HaveLaid result (laid_processes names.now table.old
+    requires { scope.now.variables ≤ 1024 }
+    ensures ok { HaveLaid result (laid_processes scope.now table.old
         (drives_in (words_of tokens.now) list.now)) into.old table.new into.new }
-    ensures few { OnOk result (length into.new.items ≤ 256) }
-    ensures known { OnOk result (KnowsAll names.now (drives_in (words_of tokens.now) list.now)) }
+    ensures right { OnOk result (AreRight scope.now (drives_in (words_of tokens.now) list.now)) }
     ensures err { IfFault result
-        (BreaksAdded names.now into.old (drives_in (words_of tokens.now) list.now)) }
+        (IsBroken (broken_processes scope.now (drives_in (words_of tokens.now) list.now))) }
 {
     for one in list {
-        lay_setting(alloc, names, tokens, one, table, into)?;
+        lay_setting(alloc, scope, tokens, one, table, into)?;
     }
     Ok(())
 }
 
-// E309 where there are enough processes.
-fn lay_process(
+// The processes of an item.
+fn lay_item(
     alloc: Global,
-    names: &Names<'_>,
+    scope: &Scope<'_, '_>,
     tokens: &Tokens<'_>,
     item: &ModuleItem,
     table: &mut Table,
     into: &mut Vec<Places>,
 ) -> Result<(), OrMemory<ElabFault>>
-    requires names { length names.now ≤ 1024 }
-    requires few { length into.old.items ≤ 256 }
+    requires { scope.now.variables ≤ 1024 }
     ensures ok { HaveLaid result
-        (laid_of_item (words_of tokens.now) names.now table.old item.now) into.old table.new
+        (laid_of_item (words_of tokens.now) scope.now table.old item.now) into.old table.new
         into.new }
-    ensures few { OnOk result (length into.new.items ≤ 256) }
-    ensures known { OnOk result
-        (KnowsAll names.now (process_trees_by (item_tree (words_of tokens.now) item.now))) }
-    ensures err { IfFault result
-        (BreaksProcess names.now into.old (item_tree (words_of tokens.now) item.now)) }
+    ensures right { OnOk result
+        (AreRight scope.now (process_trees_by (item_tree (words_of tokens.now) item.now))) }
+    ensures err { IfFault result (IsBroken
+        (broken_processes scope.now (process_trees_by (item_tree (words_of tokens.now) item.now)))) }
 {
     match item {
         ModuleItem::Initial { statement, .. } => {
-            if into.len() >= MOST_PROCESSES {
-                return Err(OrMemory::Fault(ElabFault::TooMany { at: None }));
-            }
             let mut begins = Vec::new(alloc);
-            lay(alloc, names, tokens, statement, table, &mut begins)?;
+            lay(alloc, scope, tokens, statement, table, &mut begins)?;
             into.push(Places::new(begins))?;
             Ok(())
         }
         ModuleItem::Parameters { .. } => Ok(()),
         ModuleItem::Declaration { kind, declared, .. } => match kind {
             DeclarationKind::Variables { net, .. } => {
-                lay_starts(alloc, names, tokens, *net, declared, table, into)
+                lay_starts(alloc, scope, tokens, *net, declared, table, into)
             }
             DeclarationKind::Integers => {
-                lay_starts(alloc, names, tokens, NetKind::Reg, declared, table, into)
+                lay_starts(alloc, scope, tokens, NetKind::Reg, declared, table, into)
             }
         },
         ModuleItem::Events { .. } => Ok(()),
         ModuleItem::Assignments { settings, .. } => {
-            lay_drives(alloc, names, tokens, settings, table, into)
+            lay_drives(alloc, scope, tokens, settings, table, into)
         }
         ModuleItem::Always { at, statement } => {
-            if into.len() >= MOST_PROCESSES {
-                return Err(OrMemory::Fault(ElabFault::TooMany { at: None }));
-            }
             let mut begins = Vec::new(alloc);
-            lay_forever(alloc, names, tokens, *at, statement, table, &mut begins)?;
+            lay_forever(alloc, scope, tokens, *at, statement, table, &mut begins)?;
             into.push(Places::new(begins))?;
             Ok(())
         }
@@ -827,30 +789,32 @@ pub struct ProcessTable {
 }
 
 /// A process for each `initial`, each `always`, each net that an `assign` drives and each name that is declared with a value, in the order of the
-/// text. Errors: E303, E309, E901.
+/// text. `scope` is that of the first item. Errors: E303, E306, E307, E310, E901.
 pub fn processes(
     alloc: Global,
     tokens: &Tokens<'_>,
-    names: &Names<'_>,
+    scope: &Scope<'_, '_>,
     items: &[ModuleItem],
 ) -> Result<ProcessTable, OrMemory<ElabFault>>
-    requires { length names.now ≤ 1024 }
+    requires few { scope.now.variables ≤ 1024 }
+    requires small { scope.now.known + length (given_in (words_of tokens.now) items.now) < 2 ^ 64 }
     ensures ok { IfOk result (λ ps. AreLaid
-        (processes_of (words_of tokens.now) names.now items.now) [] ps.table ps.begins.items) }
-    ensures few { IfOk result (λ ps. length ps.begins.items ≤ 256) }
-    ensures count { OnOk result (length (process_trees_in (words_of tokens.now) items.now) ≤ 256) }
-    ensures known { OnOk result
-        (KnowsAll names.now (process_trees_in (words_of tokens.now) items.now)) }
+        (processes_of (words_of tokens.now) scope.now items.now) [] ps.table ps.begins.items) }
+    ensures right { OnOk result
+        (broken_items_from scope.now (map (item_tree (words_of tokens.now)) items.now) ≡ None) }
     ensures err { IfFault result
-        (BreaksProcesses names.now (map (item_tree (words_of tokens.now)) items.now)) }
+        (IsBroken (broken_items_from scope.now (map (item_tree (words_of tokens.now)) items.now))) }
 {
     let mut table = Table {
         actions: Vec::new(alloc),
         origins: Vec::new(alloc),
     };
     let mut begins = Vec::new(alloc);
+    let mut known = scope.known;
     for item in items {
-        lay_process(alloc, names, tokens, item, &mut table, &mut begins)?;
+        let here = scope.at(known);
+        lay_item(alloc, &here, tokens, item, &mut table, &mut begins)?;
+        known += given_count(item);
     }
     Ok(ProcessTable { table, begins })
 }

@@ -5,7 +5,7 @@ ghost use Rattle.vast.specs.ModuleTrees.{module_tree};
 ghost use Rattle.vexpr_parse.specs.Texts.{words_of};
 ghost use Rattle.velab.specs.Elaborate as spec;
 ghost use Rattle.velab.specs.Elaborate.{has_double, module_names, named_text};
-ghost use Rattle.velab.specs.Inner.{BreaksModules, unit_tree};
+ghost use Rattle.velab.specs.Inner.{DoublesIn, unit_tree};
 
 use crate::fault::ElabFault;
 use crate::letters::letters;
@@ -22,7 +22,7 @@ pub fn check_names(
     modules: &[ModuleTree],
 ) -> Result<(), OrMemory<ElabFault>>
     ensures ok { OnOk result (has_double (module_names (map (module_tree (words_of tokens.now)) modules.now)) ≡ false) }
-    ensures err { IfFault result (BreaksModules (map (module_tree (words_of tokens.now)) modules.now)) }
+    ensures err { IfFault result (DoublesIn (module_names (map (module_tree (words_of tokens.now)) modules.now))) }
 {
     let mut names = Names::new(alloc);
     for unit in modules {

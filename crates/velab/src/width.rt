@@ -3,8 +3,9 @@
 ghost use Rattle.std.specs.Prelude.{◌≡◌, map, None, Some, IfOk, OnOk};
 ghost use Rattle.basis.specs.Reasons.{IfFault};
 ghost use Rattle.velab.specs.ActionFlaws as spec;
-ghost use Rattle.velab.specs.Inner.{IsFlaw};
+ghost use Rattle.velab.specs.Rules.{flaw_rule, IsBroken};
 
+use crate::constant::rule_of;
 use crate::fault::ElabFault;
 use basis::{NoMemory, OrMemory};
 use std::alloc::Global;
@@ -85,21 +86,12 @@ fn token_of(design: &Design, moment: &Moment<'_>) -> Option<u32> {
     None
 }
 
-fn fault_of(flaw: Flaw, at: Option<u32>) -> ElabFault
-    ensures { IsFlaw (Some flaw) result }
-{
-    match flaw {
-        Flaw::NoBits => ElabFault::Kind { at },
-        Flaw::Size => ElabFault::Width { at },
-    }
-}
-
 /// E306 or E310 where an expression of an action is wrong.
 pub fn check_flaws(alloc: Global, design: &Design) -> Result<(), OrMemory<ElabFault>>
     ensures ok { OnOk result
         (spec.table_flaw (spec.blank_moment design.now.variables) design.now.actions ≡ None) }
     ensures err { IfFault result
-        (IsFlaw (spec.table_flaw (spec.blank_moment design.now.variables) design.now.actions)) }
+        (IsBroken (flaw_rule (spec.table_flaw (spec.blank_moment design.now.variables) design.now.actions))) }
 {
     let values = blanks(alloc, &design.variables)?;
     let moment = Moment {
@@ -112,7 +104,8 @@ pub fn check_flaws(alloc: Global, design: &Design) -> Result<(), OrMemory<ElabFa
         None => Ok(()),
         Some(flaw) => {
             let at = token_of(design, &moment);
-            Err(OrMemory::Fault(fault_of(flaw, at)))
+            let rule = rule_of(flaw);
+            Err(OrMemory::Fault(ElabFault { rule, at }))
         }
     }
 }

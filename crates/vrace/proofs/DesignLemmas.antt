@@ -45,7 +45,7 @@ not_run text tree top read none = (
 )
 
 pub breaks : (text : List ℕ) (tree : SourceTree) (top : Option (List ℕ)) (fault : ElabFault) → IsRunAs text tree →
-    IsDesignReason tree top fault → HasNoDesign tree top → Breaks text top fault
+    IsDesignReason tree top fault → HasNoDesign tree top → Breaks text top fault.rule
 breaks text tree top fault run reason none = (
   (λ scale design is.
       none scale design (subst (λ t. Elaborates t top scale design) (run.is_read.only is.tree is.is_tree) is.elaborated)),

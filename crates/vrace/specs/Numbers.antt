@@ -3,18 +3,21 @@ use Rattle.std.specs.Prelude.{ℕ, List, [], ◌++◌, codes, decimal}
 use Rattle.vrace.specs.Places.{place_text}
 use Rattle.vrace.specs.declared.fault.Detail.{Detail}
 use Rattle.vrace.specs.declared.fault.Detail.TheVariants.{Nothing, Place, Item}
-use Rattle.vrace.specs.declared.fault.Rule.{Rule}
-use Rattle.vrace.specs.declared.fault.Rule.TheVariants.{Top, Doubled, Unknown, Drivers, Width, TooMany, Kind}
+use Rattle.velab.specs.declared.fault.Rule.{Rule}
+use Rattle.velab.specs.declared.fault.Rule.TheVariants.{Top, Doubled, Unknown, Drivers, Ports, Width, Constant, Depth, TooMany, Kind}
 use Rattle.vrace.specs.declared.fault.Fault.{Fault}
 use Rattle.vrace.specs.declared.fault.Fault.TheVariants.{NotEnded, BadToken, Directive, NoMacro, Growth, LeftOpen, Timescales, NoTree, Outside, TooDeep, NotYet, NoDesign, BadLog, NoSuchChoice, TooManySteps, OutOfLimit, BadReport, FalseEnd, FalseRace, FalseHead, Memory, Write, Read, TooLong}
 
--- what a text without a design breaks
+-- a rule that a text without a design breaks
 abbrev pub rule_number : Rule → ℕ
 rule_number Top = 301
 rule_number Doubled = 302
 rule_number Unknown = 303
 rule_number Drivers = 304
+rule_number Ports = 305
 rule_number Width = 306
+rule_number Constant = 307
+rule_number Depth = 308
 rule_number TooMany = 309
 rule_number Kind = 310
 

@@ -16,9 +16,8 @@ use Rattle.vparse.specs.Refusals.{IsRefusal}
 use Rattle.vparse.specs.declared.fault.SyntaxFault.{SyntaxFault}
 use Rattle.vparse.specs.declared.fault.SyntaxFault.TheVariants as words
 use Rattle.velab.specs.Runs.{runs}
-use Rattle.velab.specs.Reasons.{IsDesignReason}
-use Rattle.velab.specs.declared.fault.ElabFault.{ElabFault}
-use Rattle.velab.specs.declared.fault.ElabFault.TheVariants as elab
+use Rattle.velab.specs.Elaborate.{broken_rules}
+use Rattle.velab.specs.Rules.{Breaks as Among}
 use Rattle.sched_core.specs.LogText.{IsNoNamedLogText}
 use Rattle.sched_core.specs.Replay.{IsMissing, TakesMore}
 use Rattle.vmodel.specs.Run.{rules_of}
@@ -26,8 +25,7 @@ use Rattle.vcd_text.specs.declared.metered.Metered.{Metered}
 use Rattle.vrace.specs.Asked.{Asked}
 use Rattle.vrace.specs.Replays.{limit, total, AreRead, AreTokens, IsTreeOf, IsDesignOf, IsDesignOfFiles, Played, setting_of, IsDump}
 use Rattle.vrace.specs.declared.fault.At.{At}
-use Rattle.vrace.specs.declared.fault.Rule.{Rule}
-use Rattle.vrace.specs.declared.fault.Rule.TheVariants.{Top, Doubled, Unknown, Drivers, Width, TooMany, Kind}
+use Rattle.velab.specs.declared.fault.Rule.{Rule}
 use Rattle.vrace.specs.declared.fault.Fault.{Fault}
 use Rattle.vrace.specs.declared.fault.Fault.TheVariants.{NotEnded, BadToken, Directive, NoMacro, Growth, LeftOpen, Timescales, NoTree, Outside, TooDeep, NotYet, NoDesign, BadLog, NoSuchChoice, TooManySteps, Memory, Write, TooLong}
 
@@ -49,25 +47,15 @@ HasRefusal source fault = (tokens : Tokenized) × AreTokens source tokens × IsR
 abbrev pub IsNotRun : List ℕ → Type 0
 IsNotRun text = (tree : SourceTree) × IsTreeOf text tree × (runs tree ≡ false)
 
--- the rule is broken, at this token where one is known
-abbrev pub broken_at : Rule → Option ℕ → ElabFault
-broken_at Top token = elab.Module token
-broken_at Doubled token = elab.Doubled token
-broken_at Unknown token = elab.Unknown token
-broken_at Drivers token = elab.Drivers token
-broken_at Width token = elab.Width token
-broken_at TooMany token = elab.TooMany token
-broken_at Kind token = elab.Kind token
-
--- the text has a tree that runs, and a rule of its design is broken there
-pub record IsBroken (text : List ℕ) (top : Option (List ℕ)) (fault : ElabFault) : Type 0 where
+-- the text has a tree that runs, which breaks the rule
+pub record IsBroken (text : List ℕ) (top : Option (List ℕ)) (rule : Rule) : Type 0 where
   pub tree : SourceTree
   pub is_tree : IsTreeOf text tree
   pub all_runs : runs tree ≡ true
-  pub broken : IsDesignReason tree top fault
+  pub broken : Among (broken_rules tree top) rule
 
-abbrev pub Breaks : List ℕ → Option (List ℕ) → ElabFault → Type 0
-Breaks text top fault = IsDesignless text top × IsBroken text top fault
+abbrev pub Breaks : List ℕ → Option (List ℕ) → Rule → Type 0
+Breaks text top rule = IsDesignless text top × IsBroken text top rule
 
 -- the directives and macros of the files have this fault, at this place
 abbrev pub IsRefusedBy : (Place → SrcFault) → List (List ℕ) → At → Type 0
@@ -93,7 +81,7 @@ IsTextReason source top (NoTree at) = IsTreeless source.text × IsAt at (λ plac
 IsTextReason source top (Outside at) = IsTreeless source.text × IsAt at (λ place. HasRefusal source (words.Outside place))
 IsTextReason source top (TooDeep at) = IsTreeless source.text × IsAt at (λ place. HasRefusal source (words.TooDeep place))
 IsTextReason source top (NotYet at) = IsDesignless source.text top × IsNotRun source.text
-IsTextReason source top (NoDesign rule at) = (token : Option ℕ) × Breaks source.text top (broken_at rule token)
+IsTextReason source top (NoDesign rule at) = Breaks source.text top rule
 IsTextReason source top (Memory m) = Unit {0}
 IsTextReason source top other = ⊥
 

@@ -14,9 +14,9 @@ ghost use Rattle.velab.specs.Reasons.{IsDesignReason, HasNoDesign};
 ghost use Rattle.velab.specs.Runs.{runs};
 ghost use Rattle.vrace.specs.Replays.{limit, total, AreRead, IsDesignOf, IsDesignOfFiles};
 ghost use Rattle.vrace.specs.Unique.{IsCut, IsReadAs, IsRunAs};
-ghost use Rattle.vrace.specs.Refusals.{IsFileReason, IsTextReason, IsDesignFault, broken_at};
+ghost use Rattle.vrace.specs.Refusals.{IsFileReason, IsTextReason, IsDesignFault};
 
-use crate::fault::{At, Fault, Rule};
+use crate::fault::{At, Fault};
 use crate::read::LIMIT;
 use basis::{NoMemory, OrMemory, Timescale};
 use std::alloc::Global;
@@ -124,29 +124,13 @@ fn of_running(tokens: &Tokens<'_>, at: u32) -> Fault
     Fault::NotYet(At(place_of(tokens, at)))
 }
 
-// The rule that is broken, and the token at which it is.
-fn rule_of(fault: ElabFault) -> (Rule, Option<u32>)
-    ensures { fault ≡ broken_at result.0 result.1 }
-{
-    match fault {
-        ElabFault::Module { at } => (Rule::Top, at),
-        ElabFault::Doubled { at } => (Rule::Doubled, at),
-        ElabFault::Unknown { at } => (Rule::Unknown, at),
-        ElabFault::Drivers { at } => (Rule::Drivers, at),
-        ElabFault::Width { at } => (Rule::Width, at),
-        ElabFault::TooMany { at } => (Rule::TooMany, at),
-        ElabFault::Kind { at } => (Rule::Kind, at),
-    }
-}
-
 // What stops the elaboration of the tree.
 fn of_design(tokens: &Tokens<'_>, fault: ElabFault) -> Fault
     ensures { (source : Source) (tree : SourceTree) (top : Option (List ℕ)) →
         IsRunAs source.text tree → IsDesignReason tree top fault → HasNoDesign tree top →
         IsTextReason source top result }
 {
-    let (rule, at) = rule_of(fault);
-    Fault::NoDesign(rule, at_token(tokens, at))
+    Fault::NoDesign(fault.rule, at_token(tokens, fault.at))
 }
 
 // The text of the files.

@@ -7,6 +7,7 @@ ghost use Rattle.vrace.specs.declared.fault.Fault.TheVariants.{Memory};
 use basis::NoMemory;
 use std::error::Error;
 use std::fmt;
+use velab::Rule;
 use vsrc::Place;
 
 /// A place in the files, if one is known. It prints as ` at F:L`, the numbers of the file and of its line from 1, or as
@@ -28,39 +29,21 @@ impl fmt::Display for At {
     }
 }
 
-/// What a text without a design breaks.
-#[derive(Clone, Copy, Debug, PartialEq, Eq)]
-pub enum Rule {
-    /// One module is the top.
-    Top,
-    /// Each name is declared once.
-    Doubled,
-    /// Each name is declared.
-    Unknown,
-    /// A net has one driver.
-    Drivers,
-    /// Widths and bounds are within their limits.
-    Width,
-    /// Variables and processes are within their limits.
-    TooMany,
-    /// A name is of the kind that its use asks for.
-    Kind,
-}
-
-impl Rule {
-    /// Its number in docs/FAULTS.md.
-    pub fn number(&self) -> u16
-        ensures { result ≡ rule_number self.now }
-    {
-        match self {
-            Rule::Top => 301,
-            Rule::Doubled => 302,
-            Rule::Unknown => 303,
-            Rule::Drivers => 304,
-            Rule::Width => 306,
-            Rule::TooMany => 309,
-            Rule::Kind => 310,
-        }
+// The number in docs/FAULTS.md of a rule that a text breaks.
+fn rule_number(rule: Rule) -> u16
+    ensures { result ≡ rule_number rule }
+{
+    match rule {
+        Rule::Top => 301,
+        Rule::Doubled => 302,
+        Rule::Unknown => 303,
+        Rule::Drivers => 304,
+        Rule::Ports => 305,
+        Rule::Width => 306,
+        Rule::Constant => 307,
+        Rule::Depth => 308,
+        Rule::TooMany => 309,
+        Rule::Kind => 310,
     }
 }
 
@@ -145,7 +128,7 @@ impl Fault {
             Fault::Outside(_) => 202,
             Fault::TooDeep(_) => 203,
             Fault::NotYet(_) => 299,
-            Fault::NoDesign(rule, _) => rule.number(),
+            Fault::NoDesign(rule, _) => rule_number(*rule),
             Fault::BadLog => 401,
             Fault::NoSuchChoice => 402,
             Fault::TooManySteps => 403,

@@ -128,9 +128,13 @@ abbrev pub bit_by : Vector → Bounds → Option ℕ → Bit4
 bit_by v bounds None = X
 bit_by v bounds (Some number) = bit_letter v bounds number
 
+-- the bit that an index gives
+abbrev pub bit_of : Vector → Bounds → Vector → Vector
+bit_of v bounds index = single (bit_by v bounds (index_in index))
+
 -- `name[index]`
 abbrev pub bit_value : Moment → ℕ → Vector → Vector
-bit_value now n index = single (bit_by (value_at now n) (bounds_of now n) (index_in index))
+bit_value now n index = bit_of (value_at now n) (bounds_of now n) index
 
 -- the number of the bit that stands so far from the right one of these bounds
 abbrev pub number_of_bit : Bounds → ℕ → ℕ

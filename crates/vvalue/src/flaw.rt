@@ -62,7 +62,8 @@ fn in_order(declared: Bounds, selected: Bounds) -> bool
     declared.left <= declared.right && selected.left <= selected.right
 }
 
-fn is_part(declared: Bounds, selected: Bounds) -> bool
+/// Whether a part of what is declared so has right bounds (5.2.1).
+pub fn is_part(declared: Bounds, selected: Bounds) -> bool
     ensures { result ≡ spec.is_part declared selected }
 {
     let (most, least) = (

@@ -9,6 +9,6 @@ pub mod flaw;
 pub mod manner;
 pub mod moment;
 mod operators;
-mod select;
+pub mod select;
 mod size;
 mod value;

@@ -86,16 +86,26 @@ fn index_in(value: Vec4) -> Option<u64>
     }
 }
 
+/// The bit of a value that an index gives, by its bounds (5.2.1).
+pub fn bit_of(value: Vec4, bounds: Bounds, index: Vec4) -> Vec4
+    ensures { result ≡ spec.bit_of value bounds index }
+{
+    let letter = match index_in(index) {
+        Some(number) => bit_letter(value, bounds, number),
+        None => Bit4::X,
+    };
+    Vec4::of_bit(letter)
+}
+
 /// `name[index]`
 pub fn bit_value(moment: &Moment<'_>, variable: u32, index: Vec4) -> Vec4
     ensures { result ≡ spec.bit_value moment.now variable index }
 {
-    let value = value_at(moment, variable);
-    let letter = match index_in(index) {
-        Some(number) => bit_letter(value, bounds_of(moment, variable), number),
-        None => Bit4::X,
-    };
-    Vec4::of_bit(letter)
+    bit_of(
+        value_at(moment, variable),
+        bounds_of(moment, variable),
+        index,
+    )
 }
 
 /// How many bits a part has.
@@ -123,8 +133,17 @@ fn number_of_bit(bounds: Bounds, place: u32) -> u64
 pub fn part_value(moment: &Moment<'_>, variable: u32, part: Bounds) -> Vec4
     ensures { result ≡ spec.part_value moment.now variable part }
 {
-    let value = value_at(moment, variable);
-    let bounds = bounds_of(moment, variable);
+    part_of(
+        value_at(moment, variable),
+        bounds_of(moment, variable),
+        part,
+    )
+}
+
+/// A part of a value, by its bounds (5.2.1).
+pub fn part_of(value: Vec4, bounds: Bounds, part: Bounds) -> Vec4
+    ensures { result ≡ spec.part_of value bounds part (spec.part_size part) }
+{
     let mut read = Vec4::of_bit(bit_letter(value, bounds, number_of_bit(part, 0)));
     for place in 1..part_size(part) {
         let letter = bit_letter(value, bounds, number_of_bit(part, place));

@@ -5,17 +5,18 @@ use Rattle.vast.specs.declared.module.ModuleTree.{ModuleTree as Module}
 use Rattle.vexpr_parse.specs.Texts.{words_of}
 use Rattle.velab.specs.Elaborate.{top_of}
 use Rattle.velab.proofs.BrokenLemmas.{no_design}
-use Rattle.velab.proofs.TopLemmas.{top_err}
+use Rattle.velab.proofs.TopLemmas.{top_reason}
 use Rattle.velab.proofs.design.elaborate.Goals as goal
 
 pub returns-in-Some-clause-reason : goal.returns-in-Some-clause-reason
 returns-in-Some-clause-reason c =
     let top : Option (List ℕ) = option_map (λ (t : Bor (List ℕ)). t.now) c.args.top in
-    top_err c.design_of.result (source_tree (words_of c.args.tokens.now) c.args.text.now) top (module_tree (words_of c.args.tokens.now) c.in-Some.unit.now)
+    top_reason c.design_of.result (source_tree (words_of c.args.tokens.now) c.args.text.now) top (module_tree (words_of c.args.tokens.now) c.in-Some.unit.now)
     (sym (c.in-Some.ensures ∙ ap (λ (ms : List Module). top_of (map (module_tree (words_of c.args.tokens.now)) ms) top) c.deref-2.ensures.value)) c.design_of.ensures.err
 
 pub returns-in-Some-clause-none : goal.returns-in-Some-clause-none
 returns-in-Some-clause-none c =
     let top : Option (List ℕ) = option_map (λ (t : Bor (List ℕ)). t.now) c.args.top in
-    no_design c.design_of.result (source_tree (words_of c.args.tokens.now) c.args.text.now) top (module_tree (words_of c.args.tokens.now) c.in-Some.unit.now)
-    (sym (c.in-Some.ensures ∙ ap (λ (ms : List Module). top_of (map (module_tree (words_of c.args.tokens.now)) ms) top) c.deref-2.ensures.value)) c.design_of.ensures.err
+    no_design c.design_of.result (source_tree (words_of c.args.tokens.now) c.args.text.now) top
+    (top_reason c.design_of.result (source_tree (words_of c.args.tokens.now) c.args.text.now) top (module_tree (words_of c.args.tokens.now) c.in-Some.unit.now)
+    (sym (c.in-Some.ensures ∙ ap (λ (ms : List Module). top_of (map (module_tree (words_of c.args.tokens.now)) ms) top) c.deref-2.ensures.value)) c.design_of.ensures.err)

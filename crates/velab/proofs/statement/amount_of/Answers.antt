@@ -4,7 +4,7 @@ use Rattle.vast.specs.StatementTrees.{delay_tree}
 use Rattle.vast.specs.declared.statement.Delay.{Delay}
 use Rattle.vexpr_parse.specs.Texts.{words_of}
 use Rattle.vdesign.specs.declared.expression.Node.{Node}
-use Rattle.vdesign.specs.Expressions.{ExpressionTree, constant, variable}
+use Rattle.vdesign.specs.Expressions.{ExpressionTree, constant}
 use Rattle.vdesign.specs.Nodes.{nodes_of}
 use Rattle.velab.specs.declared.fault.ElabFault.{ElabFault}
 use Rattle.velab.specs.Elaborate.{amount_of}
@@ -21,19 +21,9 @@ is_alone (Err fault) node tree wanted ok same is = tt
 pub alone-requires : goal.alone-requires
 alone-requires c = (constant c.constant_of.result, refl)
 
-pub alone-requires-in-Name : goal.alone-requires-in-Name
-alone-requires-in-Name c = (variable c.in_ok-number_of-in-Name.field-0, refl)
-
 pub returns-in-Number-clause-ok : goal.returns-in-Number-clause-ok
 returns-in-Number-clause-ok c =
-    is_alone c.alone.result _ (constant c.constant_of.result) (amount_of c.args.names.now (delay_tree (words_of c.args.tokens.now) c.args.amount.now))
+    is_alone c.alone.result _ (constant c.constant_of.result) (amount_of c.args.scope.now (delay_tree (words_of c.args.tokens.now) c.args.amount.now))
     c.alone.ensures.ok refl
     (ap constant (c.constant_of.ensures ∙ ap spec.constant_of c.letters.ensures)
-    ∙ sym (ap (λ (d : Delay). amount_of c.args.names.now (delay_tree (words_of c.args.tokens.now) d)) c.in-Number.is))
-
-pub returns-in_ok-number_of-in-Name-clause-ok : goal.returns-in_ok-number_of-in-Name-clause-ok
-returns-in_ok-number_of-in-Name-clause-ok c =
-    is_alone c.alone-in-Name.result _ (variable c.in_ok-number_of-in-Name.field-0)
-    (amount_of c.args.names.now (delay_tree (words_of c.args.tokens.now) c.args.amount.now)) c.alone-in-Name.ensures.ok refl
-    (ap variable c.in_ok-number_of-in-Name.ensures.ok
-    ∙ sym (ap (λ (d : Delay). amount_of c.args.names.now (delay_tree (words_of c.args.tokens.now) d)) c.in-Name.is))
+    ∙ sym (ap (λ (d : Delay). amount_of c.args.scope.now (delay_tree (words_of c.args.tokens.now) d)) c.in-Number.is))

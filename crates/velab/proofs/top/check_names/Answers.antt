@@ -1,6 +1,8 @@
 use Rattle.std.proofs.Common.{arith, List, ℕ, subst}
 use Rattle.basis.specs.Reasons.{Because}
-use Rattle.velab.specs.Inner.{BreaksName}
+use Rattle.velab.specs.Rules.{broken_if, IsBroken}
+use Rattle.velab.specs.Scopes.{is_declared}
+use Rattle.velab.specs.declared.fault.Rule.TheVariants.{Doubled}
 use Rattle.vexpr_parse.specs.Texts.{words_of}
 use Rattle.velab.proofs.FaultLemmas.{handed_on}
 use Rattle.velab.proofs.TopLemmas.{modules_err}
@@ -10,4 +12,4 @@ pub returns-in_err-add-clause-err : goal.returns-in_err-add-clause-err
 returns-in_err-add-clause-err c =
     handed_on _ c.from_residual.result c.in_err-add.field-0.0 c.from_residual.ensures.1
     (modules_err (words_of c.args.tokens.now) c.args.modules.now c.loop-unit.unit-index c.unit-item.result c.loop-unit.names _ c.in_err-add.field-0.0 (omega arith) c.unit-item.is c.loop-unit.invariant.names
-    (subst (λ (name : List ℕ). Because (BreaksName c.loop-unit.names name) c.in_err-add.field-0.0) c.letters.ensures c.in_err-add.ensures.err))
+    (subst (λ (name : List ℕ). Because (IsBroken (broken_if (is_declared c.loop-unit.names name) Doubled)) c.in_err-add.field-0.0) c.letters.ensures c.in_err-add.ensures.err))

@@ -1,13 +1,10 @@
 use Rattle.std.proofs.Common.{◌≡◌, ◌++◌, drop}
 use Rattle.vast.specs.ExpressionTrees.{trees_of}
 use Rattle.vexpr_parse.specs.Texts.{words_of}
-use Rattle.velab.specs.Resolved.{knows_parts}
 use Rattle.velab.specs.Waits.{any_of, names_in_parts}
 use Rattle.velab.proofs.wait.+naming.Given as goal
 
 abbrev pub invariant-put_part_names-loop-one : goal.invariant-put_part_names-loop-one
-invariant-put_part_names-loop-one l = record {
-  ok : l.terms.items ++ any_of l.names (names_in_parts (trees_of (words_of l.tokens) (drop l.one-index l.parts)))
-      ≡ l.initial.terms.items ++ any_of l.names (names_in_parts (trees_of (words_of l.tokens) l.parts));
-  known : knows_parts l.names (trees_of (words_of l.tokens) (drop l.one-index l.parts)) ≡ knows_parts l.names (trees_of (words_of l.tokens) l.parts);
-}
+invariant-put_part_names-loop-one l =
+    l.terms.items ++ any_of l.scope (names_in_parts (trees_of (words_of l.tokens) (drop l.one-index l.parts)))
+      ≡ l.initial.terms.items ++ any_of l.scope (names_in_parts (trees_of (words_of l.tokens) l.parts))

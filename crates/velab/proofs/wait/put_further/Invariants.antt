@@ -1,14 +1,13 @@
 use Rattle.std.proofs.Common.{◌≡◌, ◌++◌, drop, map}
-use Rattle.std.specs.List.{list_all}
 use Rattle.vast.specs.StatementTrees.{further_term}
 use Rattle.vexpr_parse.specs.Texts.{words_of}
-use Rattle.velab.specs.Waits.{further_term_of, knows_further}
+use Rattle.velab.specs.Waits.{further_term_of, broken_further}
 use Rattle.velab.proofs.wait.put_further.Given as goal
 
 abbrev pub invariant-loop-one : goal.invariant-loop-one
 invariant-loop-one l = record {
-  ok : l.terms.items ++ map (further_term_of l.names) (map (further_term (words_of l.tokens)) (drop l.one-index l.further))
-      ≡ l.initial.terms.items ++ map (further_term_of l.names) (map (further_term (words_of l.tokens)) l.further);
-  known : list_all (knows_further l.names) (map (further_term (words_of l.tokens)) (drop l.one-index l.further))
-      ≡ list_all (knows_further l.names) (map (further_term (words_of l.tokens)) l.further);
+  ok : l.terms.items ++ map (further_term_of l.scope) (map (further_term (words_of l.tokens)) (drop l.one-index l.further))
+      ≡ l.initial.terms.items ++ map (further_term_of l.scope) (map (further_term (words_of l.tokens)) l.further);
+  right : broken_further l.scope (map (further_term (words_of l.tokens)) (drop l.one-index l.further))
+      ≡ broken_further l.scope (map (further_term (words_of l.tokens)) l.further);
 }

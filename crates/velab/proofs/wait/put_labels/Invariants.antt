@@ -1,13 +1,10 @@
 use Rattle.std.proofs.Common.{◌≡◌, ◌++◌, drop}
 use Rattle.vast.specs.ExpressionTrees.{trees_of}
 use Rattle.vexpr_parse.specs.Texts.{words_of}
-use Rattle.velab.specs.Elaborate.{knows_items}
 use Rattle.velab.specs.Waits.{any_of, read_by_items}
 use Rattle.velab.proofs.wait.put_labels.Given as goal
 
 abbrev pub invariant-loop-label : goal.invariant-loop-label
-invariant-loop-label l = record {
-  ok : l.terms.items ++ any_of l.names (read_by_items (trees_of (words_of l.tokens) (drop l.label-index l.labels)))
-      ≡ l.initial.terms.items ++ any_of l.names (read_by_items (trees_of (words_of l.tokens) l.labels));
-  known : knows_items l.names (trees_of (words_of l.tokens) (drop l.label-index l.labels)) ≡ knows_items l.names (trees_of (words_of l.tokens) l.labels);
-}
+invariant-loop-label l =
+    l.terms.items ++ any_of l.scope (read_by_items (trees_of (words_of l.tokens) (drop l.label-index l.labels)))
+      ≡ l.initial.terms.items ++ any_of l.scope (read_by_items (trees_of (words_of l.tokens) l.labels))

@@ -1,6 +1,6 @@
 use Rattle.std.proofs.Common.{◌∙◌, ap, position}
 use Rattle.std.specs.Str.{bytes_eq}
-use Rattle.velab.specs.Uses.{is_declared}
+use Rattle.velab.specs.Scopes.{is_declared}
 use Rattle.velab.proofs.NameLemmas.{any-texts, position-texts}
 use Rattle.velab.proofs.names.Names.place.Goals as goal
 

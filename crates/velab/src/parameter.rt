@@ -1,0 +1,287 @@
+// Parameters (IEEE 1364-2005, 4.10, 12.2): their values, each known to what stands behind it.
+
+ghost use Rattle.std.specs.Prelude.{◌≡◌, ◌≤◌, List, None, Some, map, option_map, length, IfOk, OnOk};
+ghost use Rattle.std.specs.Option.{option_or};
+ghost use Rattle.basis.specs.Reasons.{IfFault};
+ghost use Rattle.vast.specs.Words.{Text};
+ghost use Rattle.vast.specs.TokenTexts.{token_text};
+ghost use Rattle.vast.specs.ModuleTrees.{head_parameter, item_tree, parameter_type, setting_tree};
+ghost use Rattle.vexpr_parse.specs.Texts.{words_of};
+ghost use Rattle.velab.specs.Elaborate as spec;
+ghost use Rattle.velab.specs.Elaborate.{with_given, with_all, broken_given, broken_all, broken_type, given, given_by, given_behind};
+ghost use Rattle.velab.specs.Inner.{given_of, given_all, given_in, given_at_head, type_of, IsNarrow};
+ghost use Rattle.velab.specs.Rules.{IsBroken};
+
+use crate::constant::nothing;
+use crate::expression::constant_expression;
+use crate::fault::{ElabFault, Rule};
+use crate::letters::letters;
+use crate::names::Names;
+use crate::range::{range_bounds, span};
+use crate::scope::{Meaning, Scope};
+use basis::OrMemory;
+use std::alloc::Global;
+use std::marker::Model;
+use vast::module::{HeadParameter, ModuleItem, ParameterType, Setting};
+use vbits::Vec4;
+use vdesign::expression::{Bounds, Expression};
+use vlex::Tokens;
+use vvalue::asked::{by_itself, right_side};
+
+/// The names of a module so far: those of its variables, and its parameters as far as they are known.
+#[derive(Drop)]
+pub struct Growing<'t> {
+    pub names: Names<'t>,
+    pub variables: usize,
+    pub others: Vec<Meaning>,
+}
+
+impl<'t> Model for Growing<'t> {
+    ghost use Rattle.std.specs.Prelude.{length};
+    ghost use Rattle.velab.specs.Scopes as scopes;
+
+    ghost Value = { scopes.Scope };
+
+    ghost view = { λ g. record { names = g.names; variables = g.variables; others = g.others.items; known = length g.others.items } };
+}
+
+impl<'t> Growing<'t> {
+    /// What is known so far.
+    pub fn scope(&self) -> Scope<'_, 't>
+        ensures { result ≡ self.now }
+    {
+        Scope {
+            names: &self.names,
+            variables: self.variables,
+            others: &self.others,
+            known: self.others.len(),
+        }
+    }
+}
+
+// The bounds that a parameter is declared with, where it is. E303, E306 or E307 where they are none.
+fn bounds_of(
+    alloc: Global,
+    scope: &Scope<'_, '_>,
+    tokens: &Tokens<'_>,
+    kind: Option<&ParameterType>,
+) -> Result<Option<Bounds>, OrMemory<ElabFault>>
+    requires { scope.now.variables ≤ 1024 }
+    ensures ok { IfOk result (λ bounds.
+        bounds ≡ spec.parameter_bounds scope.now (type_of (words_of tokens.now) kind.entry)) }
+    ensures few { IfOk result IsNarrow }
+    ensures right { OnOk result
+        (broken_type scope.now (type_of (words_of tokens.now) kind.entry) ≡ None) }
+    ensures err { IfFault result
+        (IsBroken (broken_type scope.now (type_of (words_of tokens.now) kind.entry))) }
+{
+    match kind {
+        None => Ok(None),
+        Some(ParameterType::Integer) => Ok(None),
+        Some(ParameterType::Typed(kind)) => range_bounds(alloc, scope, tokens, &kind.range),
+    }
+}
+
+// The value of one with a sign and bounds, or without them.
+fn typed_value(signed: bool, bounds: Option<Bounds>, value: &Expression) -> Vec4
+    requires { IsNarrow bounds }
+    ensures { result ≡ spec.typed_value signed bounds value.now }
+{
+    match bounds {
+        Some(bounds) => right_side(value, span(bounds), &nothing()).with_sign(signed),
+        None => {
+            let value = by_itself(value, &nothing());
+            if signed { value.with_sign(true) } else { value }
+        }
+    }
+}
+
+// The value of a parameter of this type.
+fn parameter_by(kind: Option<&ParameterType>, bounds: Option<Bounds>, value: &Expression) -> Vec4
+    requires { IsNarrow bounds }
+    ensures { (words : List Text) → result ≡
+        spec.parameter_by (type_of words kind.entry) bounds value.now }
+{
+    match kind {
+        None => by_itself(value, &nothing()),
+        Some(ParameterType::Integer) => right_side(value, 32, &nothing()).with_sign(true),
+        Some(ParameterType::Typed(kind)) => typed_value(kind.signed, bounds, value),
+    }
+}
+
+// One parameter more. E302 where its name is declared, E303, E306 or E307 where its range or its value is wrong.
+fn add<'t>(
+    alloc: Global,
+    tokens: &Tokens<'t>,
+    kind: Option<&ParameterType>,
+    setting: &Setting,
+    into: &mut Growing<'t>,
+) -> Result<(), OrMemory<ElabFault>>
+    requires { into.old.variables ≤ 1024 }
+    ensures ok { OnOk result
+        (into.new ≡ with_given into.old (given_of (words_of tokens.now) kind.entry setting.now)) }
+    ensures variables { into.new.variables ≡ into.old.variables }
+    ensures right { OnOk result
+        (broken_given into.old (given_of (words_of tokens.now) kind.entry setting.now) ≡ None) }
+    ensures err { IfFault result
+        (IsBroken (broken_given into.old (given_of (words_of tokens.now) kind.entry setting.now))) }
+{
+    let scope = into.scope();
+    let bounds = bounds_of(alloc, &scope, tokens, kind)?;
+    let value = constant_expression(alloc, &scope, tokens, &setting.value)?;
+    let meaning = Meaning::Parameter {
+        value: parameter_by(kind, bounds, &value),
+        bounds,
+        before: scope.known,
+    };
+    let name = letters(tokens, setting.name);
+    into.names.add(name, setting.name.number)?;
+    into.others.push(meaning)?;
+    Ok(())
+}
+
+// Parameters of one type.
+fn add_all<'t>(
+    alloc: Global,
+    tokens: &Tokens<'t>,
+    kind: &ParameterType,
+    list: &[Setting],
+    into: &mut Growing<'t>,
+) -> Result<(), OrMemory<ElabFault>>
+    requires { into.old.variables ≤ 1024 }
+    ensures ok { OnOk result
+        (into.new ≡ with_all into.old (given_all (words_of tokens.now) kind.now list.now)) }
+    ensures variables { into.new.variables ≡ into.old.variables }
+    ensures right { OnOk result
+        (broken_all into.old (given_all (words_of tokens.now) kind.now list.now) ≡ None) }
+    ensures err { IfFault result
+        (IsBroken (broken_all into.old (given_all (words_of tokens.now) kind.now list.now))) }
+{
+    for one in list {
+        add(alloc, tokens, Some(kind), one, into)?;
+    }
+    Ok(())
+}
+
+// The parameters of an item.
+fn add_item<'t>(
+    alloc: Global,
+    tokens: &Tokens<'t>,
+    item: &ModuleItem,
+    into: &mut Growing<'t>,
+) -> Result<(), OrMemory<ElabFault>>
+    requires { into.old.variables ≤ 1024 }
+    ensures ok { OnOk result
+        (into.new ≡ with_all into.old (given_by (item_tree (words_of tokens.now) item.now))) }
+    ensures variables { into.new.variables ≡ into.old.variables }
+    ensures right { OnOk result
+        (broken_all into.old (given_by (item_tree (words_of tokens.now) item.now)) ≡ None) }
+    ensures err { IfFault result
+        (IsBroken (broken_all into.old (given_by (item_tree (words_of tokens.now) item.now)))) }
+{
+    match item {
+        ModuleItem::Parameters { kind, settings, .. } => {
+            add_all(alloc, tokens, kind, settings, into)
+        }
+        ModuleItem::Declaration { .. } => Ok(()),
+        ModuleItem::Events { .. } => Ok(()),
+        ModuleItem::Assignments { .. } => Ok(()),
+        ModuleItem::Initial { .. } => Ok(()),
+        ModuleItem::Always { .. } => Ok(()),
+        ModuleItem::Instances { .. } => Ok(()),
+    }
+}
+
+/// How many parameters an item has.
+pub fn given_count(item: &ModuleItem) -> usize
+    ensures { (words : List Text) → result ≡ length (given_by (item_tree words item.now)) }
+{
+    match item {
+        ModuleItem::Parameters { settings, .. } => settings.len(),
+        ModuleItem::Declaration { .. } => 0,
+        ModuleItem::Events { .. } => 0,
+        ModuleItem::Assignments { .. } => 0,
+        ModuleItem::Initial { .. } => 0,
+        ModuleItem::Always { .. } => 0,
+        ModuleItem::Instances { .. } => 0,
+    }
+}
+
+/// The parameters of items, in the order of the text.
+pub fn add_items<'t>(
+    alloc: Global,
+    tokens: &Tokens<'t>,
+    items: &[ModuleItem],
+    into: &mut Growing<'t>,
+) -> Result<(), OrMemory<ElabFault>>
+    requires { into.old.variables ≤ 1024 }
+    ensures ok { OnOk result
+        (into.new ≡ with_all into.old (given_in (words_of tokens.now) items.now)) }
+    ensures variables { into.new.variables ≡ into.old.variables }
+    ensures right { OnOk result
+        (broken_all into.old (given_in (words_of tokens.now) items.now) ≡ None) }
+    ensures err { IfFault result
+        (IsBroken (broken_all into.old (given_in (words_of tokens.now) items.now))) }
+{
+    for item in items {
+        add_item(alloc, tokens, item, into)?;
+    }
+    Ok(())
+}
+
+// The type of a parameter of a module's head: its own, or that of the one before it.
+fn kind_of<'a>(head: &'a HeadParameter, before: Option<&'a ParameterType>) -> Option<&'a ParameterType>
+    ensures { (words : List Text) → type_of words result ≡
+        option_or (head_parameter words head.now).kind (type_of words before.entry) }
+{
+    match &head.kind {
+        Some(kind) => Some(kind),
+        None => before,
+    }
+}
+
+// Parameters of a module's head.
+fn add_listed<'t>(
+    alloc: Global,
+    tokens: &Tokens<'t>,
+    list: &[HeadParameter],
+    into: &mut Growing<'t>,
+) -> Result<(), OrMemory<ElabFault>>
+    requires { into.old.variables ≤ 1024 }
+    ensures ok { OnOk result
+        (into.new ≡ with_all into.old (given_behind None (map (head_parameter (words_of tokens.now)) list.now))) }
+    ensures variables { into.new.variables ≡ into.old.variables }
+    ensures right { OnOk result
+        (broken_all into.old (given_behind None (map (head_parameter (words_of tokens.now)) list.now)) ≡ None) }
+    ensures err { IfFault result
+        (IsBroken (broken_all into.old (given_behind None (map (head_parameter (words_of tokens.now)) list.now)))) }
+{
+    let mut kind: Option<&ParameterType> = None;
+    for head in list {
+        kind = kind_of(head, kind);
+        add(alloc, tokens, kind, &head.setting, into)?;
+    }
+    Ok(())
+}
+
+/// The parameters of a module's head.
+pub fn add_head<'t>(
+    alloc: Global,
+    tokens: &Tokens<'t>,
+    list: &Option<Vec<HeadParameter>>,
+    into: &mut Growing<'t>,
+) -> Result<(), OrMemory<ElabFault>>
+    requires { into.old.variables ≤ 1024 }
+    ensures ok { OnOk result
+        (into.new ≡ with_all into.old (given_at_head (words_of tokens.now) list.now)) }
+    ensures variables { into.new.variables ≡ into.old.variables }
+    ensures right { OnOk result
+        (broken_all into.old (given_at_head (words_of tokens.now) list.now) ≡ None) }
+    ensures err { IfFault result
+        (IsBroken (broken_all into.old (given_at_head (words_of tokens.now) list.now))) }
+{
+    match list {
+        None => Ok(()),
+        Some(list) => add_listed(alloc, tokens, list, into),
+    }
+}

@@ -1,0 +1,177 @@
+// What a module's names stand for (IEEE 1364-2005, 4.10, 12.7).
+
+ghost use Rattle.std.specs.Prelude.{◌≡◌, ◌≤◌, Some, None, IfOk, OnOk};
+ghost use Rattle.basis.specs.Reasons.{IfFault};
+ghost use Rattle.vast.specs.TokenTexts.{token_text};
+ghost use Rattle.vexpr_parse.specs.Texts.{words_of};
+ghost use Rattle.velab.specs.Rules.{IsBroken};
+ghost use Rattle.velab.specs.Scopes as spec;
+ghost use Rattle.velab.specs.Scopes.{broken_variable};
+
+use crate::fault::{ElabFault, Rule};
+use crate::letters::letters;
+use crate::names::Names;
+use basis::OrMemory;
+use std::marker::Model;
+use vast::token::Token;
+use vbits::Vec4;
+use vdesign::expression::Bounds;
+use vlex::Tokens;
+
+/// What a name stands for.
+#[derive(Clone, Copy, Debug)]
+pub enum Meaning {
+    /// The variable of this number (4.2).
+    Variable(u32),
+    /// A parameter (4.10): its value, the bounds that it is declared with, and how many parameters stand before it.
+    Parameter {
+        value: Vec4,
+        bounds: Option<Bounds>,
+        before: usize,
+    },
+}
+
+/// What is known of names at a place of a module: its names, of which so many that stand first are those of its variables, what the
+/// others stand for, and how many of its parameters stand before the place.
+#[derive(Drop)]
+pub struct Scope<'s, 't> {
+    pub names: &'s Names<'t>,
+    pub variables: usize,
+    pub others: &'s [Meaning],
+    pub known: usize,
+}
+
+impl<'s, 't> Model for Scope<'s, 't> {
+    ghost use Rattle.velab.specs.Scopes as scopes;
+
+    ghost Value = { scopes.Scope };
+
+    ghost view = { λ s. record { names = s.names.now; variables = s.variables; others = s.others.now; known = s.known } };
+}
+
+impl<'s, 't> Scope<'s, 't> {
+    /// The same where so many parameters stand before.
+    pub fn at(&self, known: usize) -> Scope<'s, 't>
+        ensures { result ≡ spec.at self.now known }
+    {
+        Scope {
+            names: self.names,
+            variables: self.variables,
+            others: self.others,
+            known,
+        }
+    }
+}
+
+// What the name at this place stands for.
+fn meaning_at(scope: &Scope<'_, '_>, place: usize) -> Option<Meaning>
+    requires { scope.now.variables ≤ 1024 }
+    ensures { result ≡ spec.meaning_at scope.now place }
+{
+    if place < scope.variables {
+        Some(Meaning::Variable(place as u32))
+    } else {
+        scope.others.get(place - scope.variables).copied()
+    }
+}
+
+/// What a name stands for, where it is declared.
+pub fn meaning_of(scope: &Scope<'_, '_>, tokens: &Tokens<'_>, token: Token) -> Option<Meaning>
+    requires { scope.now.variables ≤ 1024 }
+    ensures { result ≡ spec.meaning_of scope.now (token_text (words_of tokens.now) token) }
+{
+    match scope.names.place(letters(tokens, token)) {
+        Some(place) => meaning_at(scope, place),
+        None => None,
+    }
+}
+
+// E303 where a name in an expression stands for nothing, E303 or E307 where it may not stand in a constant.
+fn check_name(
+    scope: &Scope<'_, '_>,
+    fixed: bool,
+    tokens: &Tokens<'_>,
+    token: Token,
+) -> Result<(), OrMemory<ElabFault>>
+    requires { scope.now.variables ≤ 1024 }
+    ensures right { OnOk result
+        (spec.broken_name fixed scope.now (token_text (words_of tokens.now) token) ≡ None) }
+    ensures err { IfFault result
+        (IsBroken (spec.broken_name fixed scope.now (token_text (words_of tokens.now) token))) }
+{
+    match meaning_of(scope, tokens, token) {
+        None => Err(OrMemory::Fault(ElabFault {
+            rule: Rule::Unknown,
+            at: Some(token.number),
+        })),
+        Some(Meaning::Variable(_)) => {
+            if fixed {
+                return Err(OrMemory::Fault(ElabFault {
+                    rule: Rule::Constant,
+                    at: Some(token.number),
+                }));
+            }
+            Ok(())
+        }
+        Some(Meaning::Parameter { before, .. }) => {
+            if fixed && before >= scope.known {
+                return Err(OrMemory::Fault(ElabFault {
+                    rule: Rule::Unknown,
+                    at: Some(token.number),
+                }));
+            }
+            Ok(())
+        }
+    }
+}
+
+/// What a name in an expression stands for. E303 where it stands for nothing, E303 or E307 where it may not stand in a constant.
+pub fn named(
+    scope: &Scope<'_, '_>,
+    fixed: bool,
+    tokens: &Tokens<'_>,
+    token: Token,
+) -> Result<Meaning, OrMemory<ElabFault>>
+    requires { scope.now.variables ≤ 1024 }
+    ensures ok { IfOk result (λ m.
+        spec.meaning_of scope.now (token_text (words_of tokens.now) token) ≡ Some m) }
+    ensures right { OnOk result
+        (spec.broken_name fixed scope.now (token_text (words_of tokens.now) token) ≡ None) }
+    ensures err { IfFault result
+        (IsBroken (spec.broken_name fixed scope.now (token_text (words_of tokens.now) token))) }
+{
+    check_name(scope, fixed, tokens, token)?;
+    match meaning_of(scope, tokens, token) {
+        Some(meaning) => Ok(meaning),
+        None => Err(OrMemory::Fault(ElabFault {
+            rule: Rule::Unknown,
+            at: Some(token.number),
+        })),
+    }
+}
+
+/// The number of a variable. E303 where there is nothing of that name, E310 where it is no variable.
+pub fn number_of(
+    scope: &Scope<'_, '_>,
+    tokens: &Tokens<'_>,
+    token: Token,
+) -> Result<u32, OrMemory<ElabFault>>
+    requires { scope.now.variables ≤ 1024 }
+    ensures ok { IfOk result (λ n. n ≡ spec.number_of scope.now (token_text (words_of tokens.now) token)) }
+    ensures right { OnOk result
+        (broken_variable scope.now (token_text (words_of tokens.now) token) ≡ None) }
+    ensures err { IfFault result
+        (IsBroken (broken_variable scope.now (token_text (words_of tokens.now) token))) }
+{
+    match meaning_of(scope, tokens, token) {
+        None => Err(OrMemory::Fault(ElabFault {
+            rule: Rule::Unknown,
+            at: Some(token.number),
+        })),
+        Some(Meaning::Variable(number)) => Ok(number),
+        Some(Meaning::Parameter { .. }) => Err(OrMemory::Fault(ElabFault {
+            rule: Rule::Kind,
+            at: Some(token.number),
+        })),
+    }
+}
