@@ -11,8 +11,8 @@ use crate::value::value_of;
 use vbits::Vec4;
 use vdesign::expression::Expression;
 
-// The value of an expression at its own size and sign.
-pub(crate) fn by_itself(expression: &Expression, moment: &Moment<'_>) -> Vec4
+/// The value of an expression at its own size and sign.
+pub fn by_itself(expression: &Expression, moment: &Moment<'_>) -> Vec4
     ensures { result ≡ spec.by_itself moment.now expression.now }
 {
     let nodes = expression.nodes();
