@@ -5,7 +5,7 @@ import re
 from dataclasses import dataclass
 from itertools import islice
 
-from second_reading import UNTIL, Run, dump
+from second_reading import UNTIL, Run, dump, is_slot
 
 MOST_RUNS = 1500
 MOST_STEPS = 300
@@ -36,7 +36,7 @@ def line_of(values):
 
 
 def slots(run):
-    return [item for item in run.items if item != "dump"]
+    return [item for item in run.items if is_slot(item)]
 
 
 @dataclass
@@ -202,9 +202,9 @@ def verdict(made, text):
         report = read(text)
     except IllFormed:
         return "vrace: E501"
-    if report.top != "tb":
+    if report.top != made.top:
         return "vrace: E301"
-    if report.variables != [(f"tb.{name}", length) for name, length in zip(made.names(), made.lengths)]:
+    if report.variables != list(zip(made.names(), made.lengths)):
         return "vrace: E504"
     for place, (end, log, content) in enumerate(report.ends):
         if len(log) > report.depart or not is_end(made, report, end, log, content):

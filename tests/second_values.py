@@ -8,6 +8,15 @@ from dataclasses import dataclass
 
 
 @dataclass
+class Number:
+    """A number of the text (3.5.1): its letters, whether it is signed, and whether its leftmost letter spreads."""
+    text: str
+    letters: str
+    signed: bool = False
+    spreads: bool = False
+
+
+@dataclass
 class World:
     values: list
     signs: list
@@ -117,7 +126,7 @@ class Unsigned(Node):
 
 @dataclass
 class Constant(Node):
-    number: object  # of second_reading: text, letters, signed, spreads
+    number: Number
 
     def text(self):
         return self.number.text
@@ -331,11 +340,22 @@ class Conditional(Node):
         return [self.condition, self.when_true, self.when_false]
 
 
-def letter_at(world, variable, number):
+def letter_at(letters, bounds, number):
     """The letter of the bit of this number; x where there is none."""
-    left, right = world.bounds[variable]
+    left, right = bounds
     inside = min(left, right) <= number <= max(left, right)
-    return world.values[variable][abs(number - right)] if inside else "x"
+    return letters[abs(number - right)] if inside else "x"
+
+
+def bit_of(letters, bounds, index, world):
+    """The letter that an index selects."""
+    own = index.own(world)
+    return letter_at(letters, bounds, integer(own, index.signed(world))) if is_known(own) else "x"
+
+
+def part_of(letters, bounds, left, right):
+    step = 1 if left >= right else -1
+    return "".join(letter_at(letters, bounds, number) for number in range(right, left + step, step))
 
 
 @dataclass
@@ -351,10 +371,7 @@ class Bit(Unsigned):
         return 1
 
     def letters(self, world):
-        index = self.index.own(world)
-        if not is_known(index):
-            return "x"
-        return letter_at(world, self.place, integer(index, self.index.signed(world)))
+        return bit_of(world.values[self.place], world.bounds[self.place], self.index, world)
 
     def operands(self):
         return [self.index]
@@ -377,11 +394,42 @@ class Part(Unsigned):
         return abs(self.left - self.right) + 1
 
     def letters(self, world):
-        step = 1 if self.left >= self.right else -1
-        return "".join(letter_at(world, self.place, number) for number in range(self.right, self.left + step, step))
+        return part_of(world.values[self.place], world.bounds[self.place], self.left, self.right)
 
     def reads(self):
         return {self.place}
+
+
+@dataclass
+class FixedBit(Unsigned):
+    """A bit of a parameter."""
+    fixed: str
+    bounds: tuple
+    index: Node
+
+    def size(self, world):
+        return 1
+
+    def letters(self, world):
+        return bit_of(self.fixed, self.bounds, self.index, world)
+
+    def operands(self):
+        return [self.index]
+
+
+@dataclass
+class FixedPart(Unsigned):
+    """A part of a parameter."""
+    fixed: str
+    bounds: tuple
+    left: int
+    right: int
+
+    def size(self, world):
+        return abs(self.left - self.right) + 1
+
+    def letters(self, world):
+        return part_of(self.fixed, self.bounds, self.left, self.right)
 
 
 @dataclass

@@ -11,7 +11,8 @@ use vbits::{Bit4, Vec4};
 use vcd_text::{DumpSink, Header, Metered, write_vcd};
 use vdesign::design::{Design, Kind, Scope, Variable};
 use vdesign::expression::Bounds;
-use vmodel::history::{Cause, DumpCommand, End, History, Item};
+use vdesign::dump::DumpCommand;
+use vmodel::history::{Cause, End, History, Item};
 use vmodel::sink::Sink;
 use vmodel::values::Values;
 

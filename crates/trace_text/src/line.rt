@@ -6,11 +6,13 @@ use std::alloc::Global;
 use vbits::Vec4;
 use vcd_text::put_digits;
 use vdesign::design::Design;
+use vdesign::dump::DumpCommand;
 use vmodel::SlowState;
 use vmodel::choice::Choice;
-use vmodel::deed::{Deed, Fate};
-use vmodel::history::{Cause, DumpCommand, End};
-use vmodel::part::Part;
+use vmodel::deed::{Deed, Fate, Shown};
+use vmodel::history::{Cause, End};
+use vmodel::part::{Kept, Part};
+use vmodel::values::value_after;
 use vsrc::Place;
 
 /// Where the statement of each action of a design begins, by its place in the design's table.
@@ -115,33 +117,103 @@ fn put_value(text: &mut Vec<u8>, value: Vec4) -> Result<(), NoMemory> {
     put_digits(text, value)
 }
 
-// A written part: the variable, its value before and its value from now on.
+// A written variable, its value before and its value after the parts are written.
 fn put_write(
     text: &mut Vec<u8>,
     design: &Design,
     old: &[Vec4],
-    part: Part,
+    parts: &[Part],
+    variable: u32,
 ) -> Result<(), NoMemory> {
-    let Part::Whole { variable, value } = part;
     text.extend_from_slice(b" write")?;
     put_name(text, design, variable)?;
     if let Some(before) = old.get(variable as usize) {
         put_value(text, *before)?;
     }
-    put_value(text, value)
+    put_value(text, value_after(old, parts, variable))
 }
 
-// An update that is posted: the variable, and the value that it will get.
-fn put_post(text: &mut Vec<u8>, design: &Design, part: Part) -> Result<(), NoMemory> {
-    let Part::Whole { variable, value } = part;
+// A variable of an update that is posted, and the value that it would get now.
+fn put_post(
+    text: &mut Vec<u8>,
+    design: &Design,
+    old: &[Vec4],
+    parts: &[Part],
+    variable: u32,
+) -> Result<(), NoMemory> {
     text.extend_from_slice(b" post")?;
     put_name(text, design, variable)?;
-    put_value(text, value)
+    put_value(text, value_after(old, parts, variable))
 }
 
-fn put_command(text: &mut Vec<u8>, command: DumpCommand) -> Result<(), NoMemory> {
+// Whether one of these parts is of the variable.
+fn is_named(parts: &[Part], variable: u32) -> bool {
+    for part in parts {
+        if part.variable() == variable {
+            return true;
+        }
+    }
+    false
+}
+
+// The variables that are written, each once.
+fn put_writes(
+    text: &mut Vec<u8>,
+    design: &Design,
+    old: &[Vec4],
+    parts: &[Part],
+) -> Result<(), NoMemory> {
+    for place in 0..parts.len() {
+        let variable = parts[place].variable();
+        if !is_named(parts.split_at(place).0, variable) {
+            put_write(text, design, old, parts, variable)?;
+        }
+    }
+    Ok(())
+}
+
+// The variables that are posted, each once.
+fn put_posts(
+    text: &mut Vec<u8>,
+    design: &Design,
+    old: &[Vec4],
+    parts: &[Part],
+) -> Result<(), NoMemory> {
+    for place in 0..parts.len() {
+        let variable = parts[place].variable();
+        if !is_named(parts.split_at(place).0, variable) {
+            put_post(text, design, old, parts, variable)?;
+        }
+    }
+    Ok(())
+}
+
+// The task that commanded the dump.
+fn command_word(command: DumpCommand) -> &'static [u8] {
     match command {
-        DumpCommand::Vars => text.extend_from_slice(b" dumpvars")?,
+        DumpCommand::Vars => b" dumpvars",
+        DumpCommand::Off => b" dumpoff",
+        DumpCommand::On => b" dumpon",
+        DumpCommand::All => b" dumpall",
+    }
+}
+
+// The task that showed something at once.
+fn shown_word(shown: Shown) -> &'static [u8] {
+    match shown {
+        Shown::Commands(command) => command_word(command),
+        Shown::Prints(_) => b" display",
+        Shown::Watches(_) => b" monitor",
+    }
+}
+
+// The task that shows something now, or at the end of the slot.
+fn put_shown(text: &mut Vec<u8>, deed: &Deed) -> Result<(), NoMemory> {
+    if let Some(shown) = deed.shown {
+        text.extend_from_slice(shown_word(shown))?;
+    }
+    if deed.strobed.is_some() {
+        text.extend_from_slice(b" strobe")?;
     }
     Ok(())
 }
@@ -171,18 +243,18 @@ fn put_deed(
     old: &[Vec4],
     deed: &Deed,
 ) -> Result<(), NoMemory> {
-    if let Some(part) = deed.wrote.first() {
-        put_write(text, design, old, part)?;
+    match deed.wrote.kept() {
+        Kept::One(part) => put_writes(text, design, old, &[part])?,
+        Kept::Many(parts) => put_writes(text, design, old, parts)?,
     }
-    if let Some(posted) = deed.posted {
-        if let Some(part) = posted.first() {
-            put_post(text, design, part)?;
+    if let Some(posted) = &deed.posted {
+        match posted.kept() {
+            Kept::One(part) => put_posts(text, design, old, &[part])?,
+            Kept::Many(parts) => put_posts(text, design, old, parts)?,
         }
     }
     put_fate(text, deed.fate)?;
-    if let Some(command) = deed.command {
-        put_command(text, command)?;
-    }
+    put_shown(text, deed)?;
     if let Some(cause) = deed.cause {
         text.extend_from_slice(cause_word(cause))?;
     }

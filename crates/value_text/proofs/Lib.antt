@@ -1,1 +1,2 @@
+pub mod BinaryLemmas
 pub mod LetterLemmas

@@ -1,6 +1,6 @@
 -- Values as printed lines show them (IEEE 1364-2005, 17.1.1.2 to 17.1.1.4). Letters of a vector stand lowest first, those of a text
 -- leftmost first.
-use Rattle.std.specs.Prelude.{ℕ, zero, suc, ◌+◌, ◌-◌, ◌*◌, ◌/◌, ◌^◌, nat_lt, Bool, true, false, cond, List, [], ◌∷◌, ◌++◌, length, take, drop, replicate, Option, Some, None, codes, decimal}
+use Rattle.std.specs.Prelude.{ℕ, zero, suc, ◌+◌, ◌-◌, ◌*◌, ◌/◌, ◌^◌, nat_lt, Bool, true, false, cond, List, [], ◌∷◌, ◌++◌, length, map, reverse, take, drop, replicate, Option, Some, None, codes, decimal}
 use Rattle.std.specs.List.{list_all, list_any}
 use Rattle.vbits.specs.declared.bit4.Bit4.{Bit4}
 use Rattle.vbits.specs.declared.bit4.Bit4.TheVariants.{Zero, One, X, Z}
@@ -27,6 +27,18 @@ is_z Z = true
 abbrev pub unknown_letter : List Bit4 → ℕ
 unknown_letter letters =
     cond (list_all is_x letters) 120 (cond (list_all is_z letters) 122 (cond (list_any is_x letters) 88 90))
+
+-- ---- binary
+
+abbrev pub binary_digit : Bit4 → ℕ
+binary_digit Zero = 48
+binary_digit One = 49
+binary_digit X = 120
+binary_digit Z = 122
+
+-- all digits
+abbrev pub binary : Vector → List ℕ
+binary v = map binary_digit (reverse v.letters)
 
 -- ---- hexadecimal: bits are taken by fours from the right, the leftmost digit has those that are left
 

@@ -2,6 +2,7 @@
 use Rattle.std.proofs.Common.{◌≡◌, ◌<◌, ◌≤◌, ◌+◌, ℕ, suc, List, [], ◌∷◌, length, drop, get_or, drop-cons, sym, ap, subst, ◌∙◌, add-one, refl}
 use Rattle.std.proofs.lemmas.List.{drop_all}
 use Rattle.vmodel.specs.declared.history.Item.{Item}
+use Rattle.vmodel.specs.declared.history.Item.TheVariants.{SlotEnd, Dump, Line, Monitor}
 use Rattle.basis.specs.declared.memory.OrMemory.{OrMemory}
 use Rattle.basis.specs.declared.memory.OrMemory.TheVariants.{Fault, Memory}
 use Rattle.vcd_text.specs.declared.progress.Progress.{Progress}
@@ -11,18 +12,24 @@ use Rattle.vcd_text.specs.Outlets.{IsOutlet}
 use Rattle.vcd_text.specs.Sinks.{Takes, Fails, IsOver, items_text, progress_over, text_of}
 use Rattle.vcd_text.specs.SinkLaws.{takes_none, takes_joins, fails_after, fails_before}
 
-left_items : (items : List Item) (i : ℕ) (item : Item) → item ≡ get_or items i item → i < length items →
+pub left_items : (items : List Item) (i : ℕ) (item : Item) → item ≡ get_or items i item → i < length items →
     item ∷ drop (i + 1) items ≡ drop i items
 left_items items i item is within =
     sym (drop-cons items i item within ∙ ap (λ (x : Item). x ∷ drop (suc i) items) (sym is) ∙ ap (λ (n : ℕ). item ∷ drop n items) (sym (add-one i)))
 
 failed_text : (head : List ℕ) (items : List Item) → items_text head Failed items ≡ []
 failed_text head [] = refl
-failed_text head (item ∷ items) = failed_text head items
+failed_text head (SlotEnd t values ∷ items) = failed_text head items
+failed_text head (Dump command ∷ items) = failed_text head items
+failed_text head (Line text ∷ items) = failed_text head items
+failed_text head (Monitor place ∷ items) = failed_text head items
 
 failed_over : (items : List Item) → progress_over Failed items ≡ Failed
 failed_over [] = refl
-failed_over (item ∷ items) = failed_over items
+failed_over (SlotEnd t values ∷ items) = failed_over items
+failed_over (Dump command ∷ items) = failed_over items
+failed_over (Line text ∷ items) = failed_over items
+failed_over (Monitor place ∷ items) = failed_over items
 
 -- a dump that failed is over, whatever the fault
 pub over : {F : Type 0} (fault : OrMemory F) → IsOver fault Failed

@@ -1,17 +1,19 @@
 -- A reader of a dump knows the values at each slot's end.
-use Rattle.std.proofs.Common.{◌≡◌, ℕ, zero, suc, ◌+◌, Bool, true, false, cond, ◌&&◌, ◌==◌, List, [], ◌∷◌, ◌++◌, None, Some, length, map, reverse, set, take, refl, sym, ap, ◌∙◌, append_assoc, length-append, add-one, arith}
-use Rattle.std.specs.Prelude.{slice_get, zip}
+use Rattle.std.proofs.Common.{◌≡◌, ℕ, zero, suc, ◌+◌, Bool, true, false, cond, ◌&&◌, ◌==◌, List, [], ◌∷◌, ◌++◌, None, Some, length, map, reverse, set, take, refl, sym, ap, subst, ◌∙◌, append_assoc, length-append, add-one, arith}
+use Rattle.std.specs.Prelude.{codes, slice_get, slice_set, zip}
 use Rattle.std.specs.List.{enumerate_from, list_all}
 use Rattle.std.proofs.Math.Seq.{set-append_seam}
 use Rattle.std.proofs.lemmas.Bool.Decides.{nat_tests}
-use Rattle.std.proofs.lemmas.List.{map-append}
+use Rattle.std.proofs.lemmas.List.{length-set, map-append}
 use Rattle.std.proofs.lemmas.List.Elements.{All-head, All-tail}
 use Rattle.vbits.specs.declared.bit4.Bit4.{Bit4}
 use Rattle.vbits.specs.declared.bit4.Bit4.TheVariants.{Zero, One, X, Z}
 use Rattle.vbits.specs.Letters.{is_same}
 use Rattle.vbits.specs.Vectors.{Vector, same_letters}
-use Rattle.vcd_text.specs.DumpText.{Piece, ToldSlot, change, changes, code, digit, framed, is_kept, is_nothing, later_pieces, line, piece_text, pieces, spoken, start, value_lines}
-use Rattle.vcd_text.specs.Readers.{AllHave, IsTold, known, letters_of, overlaid}
+use Rattle.vdesign.specs.declared.dump.DumpCommand.{DumpCommand}
+use Rattle.vdesign.specs.declared.dump.DumpCommand.TheVariants.{Vars, Off, On, All as AllValues}
+use Rattle.vcd_text.specs.DumpText.{Part, Piece, ToldSlot, all_at, change, changed_part, changes, code, command_part, command_parts, digit, framed, is_kept, is_nothing, later_parts, later_pieces, line, on_after, on_by, part_text, parts_text, piece_text, pieces, spoken, start, value_lines}
+use Rattle.vcd_text.specs.Readers.{AllHave, IsTold, known, known_parts, letters_of, on_over, overlaid}
 
 -- ---- values that are kept
 
@@ -122,18 +124,75 @@ told_nothing [] (entry ∷ told) e =
     line_says (change (map digit (reverse entry.1.letters)) (code entry.0)) (value_lines told) in
     cc
 
+nothing_parts : (xs ys : List ℕ) → is_nothing (xs ++ ys) ≡ true → (is_nothing xs ≡ true) × (is_nothing ys ≡ true)
+nothing_parts [] ys e = (refl, e)
+nothing_parts (x ∷ xs) ys e = cc
+
+parts_nothing : (parts : List Part) (values : List Vector) → is_nothing (parts_text parts) ≡ true → known_parts values parts ≡ values
+parts_nothing [] values e = refl
+parts_nothing (part ∷ parts) values e =
+    let both = nothing_parts (part_text part) (parts_text parts) e in
+    ap (λ (told : List (ℕ × Vector)). known_parts (overlaid values told) parts) (told_nothing part.word part.told both.0)
+    ∙ parts_nothing parts values both.1
+
 by_text : (b : Bool) (p : Piece) (ps : List Piece) (values : List Vector) → is_nothing (piece_text p) ≡ b →
     ((vs : List Vector) → known vs (spoken ps) ≡ known vs ps) → known values (spoken (p ∷ ps)) ≡ known values (p ∷ ps)
 by_text true p ps values e next =
     ap (λ (b : Bool). known values (cond b (spoken ps) (p ∷ spoken ps))) e
     ∙ next values
-    ∙ ap (λ (told : List (ℕ × Vector)). known (overlaid values told) ps) (sym (told_nothing p.word p.told e))
+    ∙ ap (λ (vs : List Vector). known vs ps) (sym (parts_nothing p.parts values e))
 by_text false p ps values e next =
-    ap (λ (b : Bool). known values (cond b (spoken ps) (p ∷ spoken ps))) e ∙ next (overlaid values p.told)
+    ap (λ (b : Bool). known values (cond b (spoken ps) (p ∷ spoken ps))) e ∙ next (known_parts values p.parts)
 
 spoken_known : (ps : List Piece) (values : List Vector) → known values (spoken ps) ≡ known values ps
 spoken_known [] values = refl
 spoken_known (p ∷ ps) values = by_text (is_nothing (piece_text p)) p ps values refl (λ vs. spoken_known ps vs)
+
+-- ---- parts
+
+-- no value more and none less
+overlaid_length : (values : List Vector) (told : List (ℕ × Vector)) → length (overlaid values told) ≡ length values
+overlaid_length values [] = refl
+overlaid_length values (entry ∷ told) = overlaid_length (slice_set values entry.0 entry.1) told ∙ length-set values entry.0 entry.1
+
+parts_length : (values : List Vector) (parts : List Part) → length (known_parts values parts) ≡ length values
+parts_length values [] = refl
+parts_length values (part ∷ parts) = parts_length (overlaid values part.told) parts ∙ overlaid_length values part.told
+
+known_append : (values : List Vector) (xs ys : List Part) → known_parts values (xs ++ ys) ≡ known_parts (known_parts values xs) ys
+known_append values [] ys = refl
+known_append values (x ∷ xs) ys = known_append (overlaid values x.told) xs ys
+
+-- what is known where the dump is on
+abbrev pub KnowsIf : Bool → List Vector → List Vector → Type 0
+KnowsIf on values vs = on ≡ true → letters_of values ≡ letters_of vs
+
+all_known : (word : List ℕ) (values vs : List Vector) → length values ≡ length vs → overlaid values (all_at word vs).told ≡ vs
+all_known word values vs long = over_all vs values [] 0 refl long
+
+by_command : (on : Bool) (command : DumpCommand) (values vs : List Vector) → length values ≡ length vs → KnowsIf on values vs →
+    KnowsIf (on_by on command) (known_parts values (command_part on command vs)) vs
+by_command on Vars values vs long knows = knows
+by_command true Off values vs long knows = λ e. cc
+by_command false Off values vs long knows = λ e. cc
+by_command true On values vs long knows = λ e. knows refl
+by_command false On values vs long knows = λ e. ap letters_of (all_known (codes "$dumpon") values vs long)
+by_command true AllValues values vs long knows = λ e. ap letters_of (all_known (codes "$dumpall") values vs long)
+by_command false AllValues values vs long knows = knows
+
+by_commands : (on : Bool) (commands : List DumpCommand) (values vs : List Vector) → length values ≡ length vs → KnowsIf on values vs →
+    KnowsIf (on_after on commands) (known_parts values (command_parts on commands vs)) vs
+by_commands on [] values vs long knows = knows
+by_commands on (command ∷ commands) values vs long knows =
+    subst (λ (known : List Vector). KnowsIf (on_after (on_by on command) commands) known vs)
+    (sym (known_append values (command_part on command vs) (command_parts (on_by on command) commands vs)))
+    (by_commands (on_by on command) commands (known_parts values (command_part on command vs)) vs
+    (parts_length values (command_part on command vs) ∙ long) (by_command on command values vs long knows))
+
+by_changes : (on : Bool) (values us vs : List Vector) → length us ≡ length vs → KnowsIf on values us →
+    KnowsIf on (known_parts values (changed_part on us vs)) vs
+by_changes true values us vs long knows = λ e. over_changes us vs values [] 0 refl long (knows refl)
+by_changes false values us vs long knows = λ e. cc
 
 -- ---- slots
 
@@ -147,34 +206,48 @@ module _ (count : ℕ) where
   abbrev pub HasCount : ToldSlot → Type 0
   HasCount slot = length slot.values ≡ count
 
-  start_told : (slot : ToldSlot) (values : List Vector) → length values ≡ count → HasCount slot → letters_of (overlaid values (start slot).told) ≡ letters_of slot.values
-  start_told slot values many has = ap letters_of (over_all slot.values values [] 0 refl (many ∙ sym has))
+  start_told : (slot : ToldSlot) (values : List Vector) → length values ≡ count → HasCount slot →
+      KnowsIf (on_after true slot.commands) (known_parts values (start slot).parts) slot.values
+  start_told slot values many has =
+      let all : List Vector = overlaid values (all_at (codes "$dumpvars") slot.values).told in
+      by_commands true slot.commands all slot.values (overlaid_length values (all_at (codes "$dumpvars") slot.values).told ∙ many ∙ sym has)
+      (λ e. ap letters_of (all_known (codes "$dumpvars") values slot.values (many ∙ sym has)))
 
-  later_told : (before slot : ToldSlot) (values : List Vector) → HasCount before → HasCount slot → letters_of values ≡ letters_of before.values →
-      letters_of (overlaid values (changes 0 before.values slot.values)) ≡ letters_of slot.values
-  later_told before slot values had has same = over_changes before.values slot.values values [] 0 refl (had ∙ sym has) same
+  later_told : (on : Bool) (before slot : ToldSlot) (values : List Vector) → length values ≡ count → HasCount before → HasCount slot →
+      KnowsIf on values before.values → KnowsIf (on_after on slot.commands) (known_parts values (later_parts on before.values slot)) slot.values
+  later_told on before slot values many had has knows =
+      let changed : List Part = changed_part on before.values slot.values in
+      subst (λ (known : List Vector). KnowsIf (on_after on slot.commands) known slot.values)
+      (sym (known_append values changed (command_parts on slot.commands slot.values)))
+      (by_commands on slot.commands (known_parts values changed) slot.values (parts_length values changed ∙ many ∙ sym has)
+      (by_changes on values before.values slot.values (had ∙ sym has) knows))
 
-  known_later : (later : List ToldSlot) (k : ℕ) (before slot : ToldSlot) (values : List Vector) → HasCount before → AllHave count later → slice_get later k ≡ Some slot →
-      letters_of values ≡ letters_of before.values → letters_of (known values (take (suc k) (later_pieces before later))) ≡ letters_of slot.values
-  known_later [] k before slot values had all is same = absurd (none_is slot is)
-  known_later (next ∷ later) zero before slot values had all is same =
-      later_told before next values had (All-head HasCount next later all) same ∙ ap (λ (s : ToldSlot). letters_of s.values) (some_is next slot is)
-  known_later (next ∷ later) (suc k) before slot values had all is same =
+  known_later : (later : List ToldSlot) (k : ℕ) (on : Bool) (before slot : ToldSlot) (values : List Vector) → length values ≡ count →
+      HasCount before → AllHave count later → slice_get later k ≡ Some slot → KnowsIf on values before.values →
+      KnowsIf (on_over on (take (suc k) later)) (known values (take (suc k) (later_pieces on before later))) slot.values
+  known_later [] k on before slot values many had all is knows = absurd (none_is slot is)
+  known_later (next ∷ later) zero on before slot values many had all is knows =
+      subst (λ (s : ToldSlot). KnowsIf (on_after on next.commands) (known_parts values (later_parts on before.values next)) s.values) (some_is next slot is)
+      (later_told on before next values many had (All-head HasCount next later all) knows)
+  known_later (next ∷ later) (suc k) on before slot values many had all is knows =
       let has : HasCount next = All-head HasCount next later all in
-      known_later later k next slot (overlaid values (changes 0 before.values next.values)) has (All-tail HasCount next later all) is
-      (later_told before next values had has same)
+      let parts : List Part = later_parts on before.values next in
+      known_later later k (on_after on next.commands) next slot (known_parts values parts) (parts_length values parts ∙ many) has
+      (All-tail HasCount next later all) is (later_told on before next values many had has knows)
 
   known_at : (slots : List ToldSlot) (k : ℕ) (slot : ToldSlot) (values : List Vector) → length values ≡ count → AllHave count slots → slice_get slots k ≡ Some slot →
-      letters_of (known values (take (suc k) (pieces slots))) ≡ letters_of slot.values
+      KnowsIf (on_over true (take (suc k) slots)) (known values (take (suc k) (pieces slots))) slot.values
   known_at [] k slot values many all is = absurd (none_is slot is)
   known_at (first ∷ later) zero slot values many all is =
-      start_told first values many (All-head HasCount first later all) ∙ ap (λ (s : ToldSlot). letters_of s.values) (some_is first slot is)
+      subst (λ (s : ToldSlot). KnowsIf (on_after true first.commands) (known_parts values (start first).parts) s.values) (some_is first slot is)
+      (start_told first values many (All-head HasCount first later all))
   known_at (first ∷ later) (suc k) slot values many all is =
       let has : HasCount first = All-head HasCount first later all in
-      known_later later k first slot (overlaid values (start first).told) has (All-tail HasCount first later all) is (start_told first values many has)
+      known_later later k (on_after true first.commands) first slot (known_parts values (start first).parts)
+      (parts_length values (start first).parts ∙ many) has (All-tail HasCount first later all) is (start_told first values many has)
 
 pub slots_told : (slots : List ToldSlot) → IsTold slots
-slots_told slots values k slot all is =
+slots_told slots values k slot all is on =
     ap (λ (n : ℕ). letters_of (known values (spoken (take n (pieces slots))))) (add-one k)
     ∙ ap letters_of (spoken_known (take (suc k) (pieces slots)) values)
-    ∙ known_at (length values) slots k slot values refl all is
+    ∙ known_at (length values) slots k slot values refl all is (ap (λ (n : ℕ). on_over true (take n slots)) (sym (add-one k)) ∙ on)

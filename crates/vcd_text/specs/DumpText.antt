@@ -3,18 +3,18 @@ use Rattle.std.specs.Prelude.{ℕ, zero, suc, ◌+◌, ◌-◌, ◌==◌, nat_lt
 use Rattle.std.specs.List.{after_last, enumerate_from, list_any}
 use Rattle.vbits.specs.declared.bit4.Bit4.{Bit4}
 use Rattle.vbits.specs.declared.bit4.Bit4.TheVariants.{Zero, One, X, Z}
-use Rattle.vbits.specs.Vectors.{Vector, same_letters}
+use Rattle.vbits.specs.Vectors.{Vector, filled, same_letters}
 use Rattle.basis.specs.declared.timescale.Span.{Span}
 use Rattle.basis.specs.Timescales.{count_number, unit_word}
 use Rattle.vdesign.specs.declared.expression.Bounds.{Bounds}
 use Rattle.vdesign.specs.declared.design.Kind.{Kind}
 use Rattle.vdesign.specs.declared.design.Kind.TheVariants.{Reg, Integer, Wire}
 use Rattle.vdesign.specs.Design.{Variable, Scope, Design}
-use Rattle.vmodel.specs.declared.history.DumpCommand.{DumpCommand}
-use Rattle.vmodel.specs.declared.history.DumpCommand.TheVariants.{Vars}
+use Rattle.vdesign.specs.declared.dump.DumpCommand.{DumpCommand}
+use Rattle.vdesign.specs.declared.dump.DumpCommand.TheVariants.{Vars, Off, On, All}
 use Rattle.vmodel.specs.History.{History}
 use Rattle.vmodel.specs.declared.history.Item.{Item}
-use Rattle.vmodel.specs.declared.history.Item.TheVariants.{SlotEnd, Dump}
+use Rattle.vmodel.specs.declared.history.Item.TheVariants.{SlotEnd, Dump, Line, Monitor}
 
 abbrev pub line : List ℕ → List ℕ
 line text = text ++ 10 ∷ []
@@ -152,45 +152,104 @@ pub record ToldSlot : Type 0 where
 abbrev pub slots_after : List DumpCommand → List Item → List ToldSlot
 slots_after commands [] = []
 slots_after commands (Dump command ∷ items) = slots_after (commands ++ command ∷ []) items
+slots_after commands (Line text ∷ items) = slots_after commands items
+slots_after commands (Monitor place ∷ items) = slots_after commands items
 slots_after commands (SlotEnd t values ∷ items) = record { commands = commands; time = t; values = values } ∷ slots_after [] items
 
 -- $dumpvars is one (18.1.2)
 abbrev pub is_start : DumpCommand → Bool
 is_start Vars = true
+is_start Off = false
+is_start On = false
+is_start All = false
+
+abbrev pub has_start : List DumpCommand → Bool
+has_start = list_any is_start
 
 -- the slots from the first one with a $dumpvars on: at its end the dump starts (18.1.2)
 abbrev pub dumped : List ToldSlot → List ToldSlot
 dumped [] = []
-dumped (slot ∷ slots) = cond (list_any is_start slot.commands) (slot ∷ slots) (dumped slots)
+dumped (slot ∷ slots) = cond (has_start slot.commands) (slot ∷ slots) (dumped slots)
 
 -- ---- the body (18.2.1)
 
--- what is told at a time, and the word of the command that asked for it; no command asks for changes
-pub record Piece : Type 0 where
-  pub time : ℕ
+-- values that are told, and the word of the command that asked for them; no command asks for changes
+pub record Part : Type 0 where
   pub word : List ℕ
   pub told : List (ℕ × Vector)
 
+-- what is told at a time
+pub record Piece : Type 0 where
+  pub time : ℕ
+  pub parts : List Part
+
+-- all values, behind a command's word
+abbrev pub all_at : List ℕ → List Vector → Part
+all_at word values = record { word = word; told = enumerate_from 0 values }
+
+-- each as x
+abbrev pub blanked : Vector → Vector
+blanked v = filled (length v.letters) X
+
+-- whether a dump is on after a command, and after several (18.1.3)
+abbrev pub on_by : Bool → DumpCommand → Bool
+on_by on Vars = on
+on_by on Off = false
+on_by on On = true
+on_by on All = on
+
+abbrev pub on_after : Bool → List DumpCommand → Bool
+on_after on [] = on
+on_after on (command ∷ commands) = on_after (on_by on command) commands
+
+-- 18.1.3, 18.1.4: a dump that is on lists all as x where it goes off, one that is off all values where it goes on; $dumpall lists all
+-- values where it is on
+abbrev pub command_part : Bool → DumpCommand → List Vector → List Part
+command_part on Vars values = []
+command_part on Off values = cond on (all_at (codes "$dumpoff") (map blanked values) ∷ []) []
+command_part on On values = cond on [] (all_at (codes "$dumpon") values ∷ [])
+command_part on All values = cond on (all_at (codes "$dumpall") values ∷ []) []
+
+-- what the commands of a slot list, in order, with the values at its end
+abbrev pub command_parts : Bool → List DumpCommand → List Vector → List Part
+command_parts on [] values = []
+command_parts on (command ∷ commands) values = command_part on command values ++ command_parts (on_by on command) commands values
+
+-- the values that differ from those at the end of the slot before, where the slots before left the dump on
+abbrev pub changed_part : Bool → List Vector → List Vector → List Part
+changed_part on before values = cond on (record { word = []; told = changes 0 before values } ∷ []) []
+
 -- at the first slot's end all values (18.1.2)
 abbrev pub start : ToldSlot → Piece
-start slot = record { time = slot.time; word = codes "$dumpvars"; told = enumerate_from 0 slot.values }
+start slot = record { time = slot.time; parts = all_at (codes "$dumpvars") slot.values ∷ command_parts true slot.commands slot.values }
 
--- at the end of each later one the values that differ from those at the end of the slot before
-abbrev pub later_pieces : ToldSlot → List ToldSlot → List Piece
-later_pieces before [] = []
-later_pieces before (slot ∷ slots) = record { time = slot.time; word = []; told = changes 0 before.values slot.values } ∷ later_pieces slot slots
+-- at the end of each later one what changed, and what its commands ask for
+abbrev pub later_parts : Bool → List Vector → ToldSlot → List Part
+later_parts on before slot = changed_part on before slot.values ++ command_parts on slot.commands slot.values
+
+abbrev pub later_pieces : Bool → ToldSlot → List ToldSlot → List Piece
+later_pieces on before [] = []
+later_pieces on before (slot ∷ slots) =
+    record { time = slot.time; parts = later_parts on before.values slot } ∷ later_pieces (on_after on slot.commands) slot slots
 
 abbrev pub pieces : List ToldSlot → List Piece
 pieces [] = []
-pieces (first ∷ later) = start first ∷ later_pieces first later
+pieces (first ∷ later) = start first ∷ later_pieces (on_after true first.commands) first later
 
 -- between the command's word and $end (18.2.3)
 abbrev pub framed : List ℕ → List ℕ → List ℕ
 framed [] text = text
 framed (c ∷ cs) text = line (c ∷ cs) ++ text ++ line (codes "$end")
 
+abbrev pub part_text : Part → List ℕ
+part_text part = framed part.word (value_lines part.told)
+
+abbrev pub parts_text : List Part → List ℕ
+parts_text [] = []
+parts_text (part ∷ parts) = part_text part ++ parts_text parts
+
 abbrev pub piece_text : Piece → List ℕ
-piece_text piece = framed piece.word (value_lines piece.told)
+piece_text piece = parts_text piece.parts
 
 abbrev pub is_nothing : List ℕ → Bool
 is_nothing [] = true

@@ -1,8 +1,8 @@
 -- What a reader of a dump knows.
-use Rattle.std.specs.Prelude.{◌≡◌, ℕ, ◌+◌, ◌-◌, ◌==◌, ◌||◌, cond, List, [], ◌∷◌, ◌++◌, Some, All, get_or, length, map, replicate, slice_get, slice_set, take}
+use Rattle.std.specs.Prelude.{◌≡◌, ℕ, ◌+◌, ◌-◌, ◌==◌, ◌||◌, Bool, true, cond, List, [], ◌∷◌, ◌++◌, Some, All, get_or, length, map, replicate, slice_get, slice_set, take}
 use Rattle.vbits.specs.declared.bit4.Bit4.{Bit4}
 use Rattle.vbits.specs.Vectors.{Vector}
-use Rattle.vcd_text.specs.DumpText.{Piece, ToldSlot, pieces, spoken}
+use Rattle.vcd_text.specs.DumpText.{Part, Piece, ToldSlot, on_after, pieces, spoken}
 
 -- what a reader puts to the left of the digits that stand written (18.2.2): 0 where the leftmost is 0 or 1, x or z where it is that
 abbrev pub left_fill : ℕ → ℕ
@@ -17,10 +17,14 @@ abbrev pub overlaid : List Vector → List (ℕ × Vector) → List Vector
 overlaid values [] = values
 overlaid values (entry ∷ told) = overlaid (slice_set values entry.0 entry.1) told
 
--- the values after these pieces
+-- the values after these parts, and after these pieces
+abbrev pub known_parts : List Vector → List Part → List Vector
+known_parts values [] = values
+known_parts values (part ∷ parts) = known_parts (overlaid values part.told) parts
+
 abbrev pub known : List Vector → List Piece → List Vector
 known values [] = values
-known values (p ∷ ps) = known (overlaid values p.told) ps
+known values (p ∷ ps) = known (known_parts values p.parts) ps
 
 -- no sign is told (18.2.2)
 abbrev pub letters_of : List Vector → List (List Bit4)
@@ -30,8 +34,15 @@ letters_of = map (λ v. v.letters)
 abbrev pub AllHave : ℕ → List ToldSlot → Type 0
 AllHave count = All (λ slot. length slot.values ≡ count)
 
--- what is written up to a slot's end and with it tells the values at it, whatever values a reader took up before
+-- whether the dump is on after these slots (18.1.3)
+abbrev pub on_over : Bool → List ToldSlot → Bool
+on_over on [] = on
+on_over on (slot ∷ slots) = on_over (on_after on slot.commands) slots
+
+-- where the dump is on after a slot, what is written up to its end and with it tells the values at it, whatever values a reader took up
+-- before
 abbrev pub IsTold : List ToldSlot → Type 0
 IsTold slots =
     (values : List Vector) (k : ℕ) (slot : ToldSlot) → AllHave (length values) slots → slice_get slots k ≡ Some slot →
+    on_over true (take (k + 1) slots) ≡ true →
     letters_of (known values (spoken (take (k + 1) (pieces slots)))) ≡ letters_of slot.values

@@ -1,16 +1,16 @@
 -- A sink that writes the dump: what it keeps from item to item, and what taking them makes of it.
-use Rattle.std.specs.Prelude.{◌≡◌, ℕ, ◌==◌, cond, List, [], ◌∷◌, ◌++◌, codes}
-use Rattle.std.specs.List.{enumerate_from}
+use Rattle.std.specs.Prelude.{◌≡◌, ℕ, ◌==◌, cond, List, [], ◌∷◌, ◌++◌, codes, true, Bool}
 use Rattle.vbits.specs.Vectors.{Vector}
 use Rattle.vmodel.specs.History.{History}
 use Rattle.vmodel.specs.declared.history.Item.{Item}
-use Rattle.vmodel.specs.declared.history.Item.TheVariants.{SlotEnd, Dump}
-use Rattle.vcd_text.specs.DumpText.{changes, dump_below, framed, time_line, value_lines}
+use Rattle.vmodel.specs.declared.history.Item.TheVariants.{SlotEnd, Dump, Line, Monitor}
+use Rattle.vdesign.specs.declared.dump.DumpCommand.{DumpCommand}
+use Rattle.vcd_text.specs.DumpText.{all_at, changed_part, command_parts, dump_below, has_start, on_after, parts_text, time_line}
 use Rattle.vcd_text.specs.Outlets.{Stopped}
 use Rattle.basis.specs.declared.memory.OrMemory.{OrMemory}
 use Rattle.basis.specs.declared.memory.OrMemory.TheVariants.{Fault, Memory}
 use Rattle.vcd_text.specs.declared.progress.Progress.{Progress}
-use Rattle.vcd_text.specs.declared.progress.Progress.TheVariants.{Idle, Asked, Started, Failed}
+use Rattle.vcd_text.specs.declared.progress.Progress.TheVariants.{Waiting, Started, Failed}
 use Rattle.vcd_text.specs.declared.sink.DumpSink.{DumpSink}
 
 -- ---- from item to item
@@ -26,42 +26,62 @@ last_line old t [] = old
 last_line old t (c ∷ cs) = t
 
 -- the header and the first slot's end
-abbrev pub start_text : List ℕ → ℕ → List Vector → List ℕ
-start_text head t values = head ++ time_line t ++ framed (codes "$dumpvars") (value_lines (enumerate_from 0 values))
+abbrev pub start_text : List ℕ → List DumpCommand → ℕ → List Vector → List ℕ
+start_text head commands t values =
+    head ++ time_line t ++ parts_text (all_at (codes "$dumpvars") values ∷ command_parts true commands values)
 
 -- below any header this is the text of the start
-abbrev pub IsStart : List ℕ → ℕ → List Vector → Type 0
-IsStart text t values = (head : List ℕ) → head ++ text ≡ start_text head t values
+abbrev pub IsStart : List ℕ → List DumpCommand → ℕ → List Vector → Type 0
+IsStart text commands t values = (head : List ℕ) → head ++ text ≡ start_text head commands t values
 
--- the lines of a later slot's end
-abbrev pub changed_lines : List Vector → List Vector → List ℕ
-changed_lines old new = value_lines (changes 0 old new)
+-- the lines of a later slot's end, of a dump that was on or off before it
+abbrev pub slot_lines : Bool → List Vector → List DumpCommand → List Vector → List ℕ
+slot_lines on old commands new = parts_text (changed_part on old new ++ command_parts on commands new)
 
 -- what a later slot's end adds
-abbrev pub slot_text : ℕ → List Vector → List Vector → List ℕ
-slot_text t old new = timed t (changed_lines old new)
+abbrev pub slot_text : ℕ → Bool → List Vector → List DumpCommand → List Vector → List ℕ
+slot_text t on old commands new = timed t (slot_lines on old commands new)
 
 -- the last time line after it
-abbrev pub line_after_slot : ℕ → ℕ → List Vector → List Vector → ℕ
-line_after_slot last t old new = last_line last t (changed_lines old new)
+abbrev pub line_after_slot : ℕ → ℕ → Bool → List Vector → List DumpCommand → List Vector → ℕ
+line_after_slot last t on old commands new = last_line last t (slot_lines on old commands new)
 
--- what an item adds to the dump, below this header; nothing is written once a text failed
+-- what the first slot ends add: nothing before a $dumpvars
+abbrev pub begun_text : List ℕ → List DumpCommand → ℕ → List Vector → List ℕ
+begun_text head commands t values = cond (has_start commands) (start_text head commands t values) []
+
+-- what a slot end adds to the dump, below this header; nothing is written once a text failed
+abbrev pub ended_text : List ℕ → Progress → ℕ → List Vector → List ℕ
+ended_text head (Waiting commands) t values = begun_text head commands t values
+ended_text head (Started last on old commands) t values = slot_text t on old commands values
+ended_text head Failed t values = []
+
+-- what an item adds; printed lines are no part of it
 abbrev pub item_text : List ℕ → Progress → Item → List ℕ
-item_text head Idle item = []
-item_text head Asked (Dump command) = []
-item_text head Asked (SlotEnd t values) = start_text head t values
-item_text head (Started last old) (Dump command) = []
-item_text head (Started last old) (SlotEnd t values) = slot_text t old values
-item_text head Failed item = []
+item_text head p (SlotEnd t values) = ended_text head p t values
+item_text head p (Dump command) = []
+item_text head p (Line text) = []
+item_text head p (Monitor place) = []
+
+-- the slot ended that asked for the dump, or one before it
+abbrev pub begun : List DumpCommand → ℕ → List Vector → Progress
+begun commands t values = cond (has_start commands) (Started t (on_after true commands) values []) (Waiting [])
+
+abbrev pub ended : Progress → ℕ → List Vector → Progress
+ended (Waiting commands) t values = begun commands t values
+ended (Started last on old commands) t values = Started (line_after_slot last t on old commands values) (on_after on commands) values []
+ended Failed t values = Failed
+
+abbrev pub asked : Progress → DumpCommand → Progress
+asked (Waiting commands) command = Waiting (commands ++ command ∷ [])
+asked (Started last on old commands) command = Started last on old (commands ++ command ∷ [])
+asked Failed command = Failed
 
 abbrev pub progress_after : Progress → Item → Progress
-progress_after Idle (Dump command) = Asked
-progress_after Idle (SlotEnd t values) = Idle
-progress_after Asked (Dump command) = Asked
-progress_after Asked (SlotEnd t values) = Started t values
-progress_after (Started last old) (Dump command) = Started last old
-progress_after (Started last old) (SlotEnd t values) = Started (line_after_slot last t old values) values
-progress_after Failed item = Failed
+progress_after p (SlotEnd t values) = ended p t values
+progress_after p (Dump command) = asked p command
+progress_after p (Line text) = p
+progress_after p (Monitor place) = p
 
 -- what items add, one after another
 abbrev pub items_text : List ℕ → Progress → List Item → List ℕ
@@ -78,20 +98,18 @@ end_line last t = cond (last == t) [] (time_line t)
 
 -- what the end adds
 abbrev pub end_text : Progress → ℕ → List ℕ
-end_text Idle t = []
-end_text Asked t = []
-end_text (Started last old) t = end_line last t
+end_text (Waiting commands) t = []
+end_text (Started last on old commands) t = end_line last t
 end_text Failed t = []
 
 -- what a history adds to a dump of which nothing has come yet
 abbrev pub history_text : List ℕ → History → List ℕ
-history_text head history = items_text head Idle history.items ++ end_text (progress_over Idle history.items) history.end.time
+history_text head history = items_text head (Waiting []) history.items ++ end_text (progress_over (Waiting []) history.items) history.end.time
 
 -- after it the last time line is that of the end, and the same end adds nothing more
 abbrev pub progress_at_end : Progress → ℕ → Progress
-progress_at_end Idle t = Idle
-progress_at_end Asked t = Asked
-progress_at_end (Started last old) t = Started t old
+progress_at_end (Waiting commands) t = Waiting commands
+progress_at_end (Started last on old commands) t = Started t on old commands
 progress_at_end Failed t = Failed
 
 -- ---- what the program keeps

@@ -4,6 +4,7 @@
 // The law: the bytes are those of specs/DumpText.antt, and after a fault a prefix of them.
 #![tactic(auto)]
 
+mod commands;
 mod counter;
 mod expected;
 mod fault;

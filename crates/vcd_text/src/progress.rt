@@ -1,39 +1,33 @@
 // How far a dump has come, and what a slot end adds to it (18.2.1).
 
-ghost use Rattle.std.specs.Prelude.{◌≡◌, ◌++◌, List, ℕ, IfOk};
-ghost use Rattle.vmodel.specs.declared.history.Item.TheVariants.{Dump};
-ghost use Rattle.vmodel.specs.declared.history.DumpCommand.{DumpCommand};
-ghost use Rattle.vcd_text.specs.DumpText.{time_line};
-ghost use Rattle.vcd_text.specs.Sinks.{last_line, progress_after, slot_text, IsStart};
+ghost use Rattle.std.specs.Prelude.{◌≡◌, ◌++◌, [], ◌∷◌, List, ℕ, IfOk, OnOk, codes, true, false};
+ghost use Rattle.vcd_text.specs.DumpText.{all_lines, changed_part, command_part, command_parts, line, parts_text, time_line};
+ghost use Rattle.vcd_text.specs.Sinks.{last_line, slot_text, IsStart};
 
-use crate::values::{put_changes, put_values};
+use crate::commands::{Commands, on_by};
+use crate::values::{put_blanks, put_changes, put_values};
 use basis::NoMemory;
 use itoa::Buffer;
 use std::alloc::Global;
 use vbits::Vec4;
+use vdesign::dump::DumpCommand;
 use vmodel::values::Values;
 
-/// How far a dump has come: no `$dumpvars` yet, one in the slot that runs, started, or failed.
+/// How far a dump has come.
 #[derive(Drop)]
 pub(crate) enum Progress {
-    Idle,
-    Asked,
-    /// The last time line, and the values at the last slot end.
-    Started { last: u64, values: Values },
+    /// No slot with a `$dumpvars` has ended; the commands of the slot that runs.
+    Waiting(Commands),
+    /// The last time line; whether the slots that ended left the dump on, and the values at the last one's end; the commands of the slot
+    /// that runs.
+    Started {
+        last: u64,
+        on: bool,
+        values: Values,
+        commands: Commands,
+    },
     /// A text failed: nothing more is written.
     Failed,
-}
-
-// After a dump command.
-pub(crate) fn ask(progress: &mut Progress)
-    ensures { (command : DumpCommand) → progress.new ≡ progress_after progress.old (Dump command) }
-{
-    match progress {
-        Progress::Idle => *progress = Progress::Asked,
-        Progress::Asked => {}
-        Progress::Started { last: _, values: _ } => {}
-        Progress::Failed => {}
-    }
 }
 
 // Room for the time and a few values, so that a slot's text seldom grows.
@@ -51,14 +45,134 @@ pub(crate) fn line_of(alloc: Global, time: u64) -> Result<Vec<u8>, NoMemory>
     Ok(text)
 }
 
+// All values, behind the line of a command.
+fn put_listed(
+    alloc: Global,
+    text: &mut Vec<u8>,
+    front: &[u8],
+    values: &[Vec4],
+) -> Result<(), NoMemory>
+    ensures { OnOk result (text.new.items
+        ≡ text.old.items ++ (front.now ++ all_lines values.now ++ line (codes "$end"))) }
+{
+    text.extend_from_slice(front)?;
+    put_values(alloc, text, values)?;
+    text.extend_from_slice(b"$end\n")?;
+    Ok(())
+}
+
+// All values as x: the dump goes off (18.1.3).
+fn put_off(alloc: Global, text: &mut Vec<u8>, values: &[Vec4]) -> Result<(), NoMemory>
+    ensures { OnOk result (text.new.items
+        ≡ text.old.items ++ parts_text (command_part true DumpCommand.Off values.now)) }
+{
+    text.extend_from_slice(b"$dumpoff\n")?;
+    put_blanks(alloc, text, values)?;
+    text.extend_from_slice(b"$end\n")?;
+    Ok(())
+}
+
+// All values: the dump goes on (18.1.3).
+fn put_on(alloc: Global, text: &mut Vec<u8>, values: &[Vec4]) -> Result<(), NoMemory>
+    ensures { OnOk result (text.new.items
+        ≡ text.old.items ++ parts_text (command_part false DumpCommand.On values.now)) }
+{
+    put_listed(alloc, text, b"$dumpon\n", values)
+}
+
+// All values of a dump that is on (18.1.4).
+fn put_all(alloc: Global, text: &mut Vec<u8>, values: &[Vec4]) -> Result<(), NoMemory>
+    ensures { OnOk result (text.new.items
+        ≡ text.old.items ++ parts_text (command_part true DumpCommand.All values.now)) }
+{
+    put_listed(alloc, text, b"$dumpall\n", values)
+}
+
+// What a command lists, of a dump that is on or off.
+fn put_command(
+    alloc: Global,
+    text: &mut Vec<u8>,
+    on: bool,
+    command: DumpCommand,
+    values: &[Vec4],
+) -> Result<(), NoMemory>
+    ensures { OnOk result (text.new.items
+        ≡ text.old.items ++ parts_text (command_part on command values.now)) }
+{
+    match command {
+        DumpCommand::Vars => Ok(()),
+        DumpCommand::Off => {
+            if on {
+                put_off(alloc, text, values)
+            } else {
+                Ok(())
+            }
+        }
+        DumpCommand::On => {
+            if on {
+                Ok(())
+            } else {
+                put_on(alloc, text, values)
+            }
+        }
+        DumpCommand::All => {
+            if on {
+                put_all(alloc, text, values)
+            } else {
+                Ok(())
+            }
+        }
+    }
+}
+
+// What the commands of a slot list, in order.
+fn put_commands(
+    alloc: Global,
+    text: &mut Vec<u8>,
+    on: bool,
+    commands: &[DumpCommand],
+    values: &[Vec4],
+) -> Result<(), NoMemory>
+    ensures { OnOk result (text.new.items
+        ≡ text.old.items ++ parts_text (command_parts on commands.now values.now)) }
+{
+    let mut is_on = on;
+    for command in commands {
+        put_command(alloc, text, is_on, *command, values)?;
+        is_on = on_by(is_on, *command);
+    }
+    Ok(())
+}
+
+// The values that changed, of a dump that is on.
+fn put_changed(
+    alloc: Global,
+    text: &mut Vec<u8>,
+    on: bool,
+    old: &[Vec4],
+    new: &[Vec4],
+) -> Result<(), NoMemory>
+    ensures { OnOk result (text.new.items
+        ≡ text.old.items ++ parts_text (changed_part on old.now new.now)) }
+{
+    if !on {
+        return Ok(());
+    }
+    put_changes(alloc, text, old, new)
+}
+
 // What the first slot end adds below the header.
-pub(crate) fn first_text(alloc: Global, time: u64, values: &[Vec4]) -> Result<Vec<u8>, NoMemory>
-    ensures { IfOk result (λ text. IsStart text.items time values.now) }
+pub(crate) fn first_text(
+    alloc: Global,
+    commands: &[DumpCommand],
+    time: u64,
+    values: &[Vec4],
+) -> Result<Vec<u8>, NoMemory>
+    ensures { IfOk result (λ text. IsStart text.items commands.now time values.now) }
 {
     let mut text = line_of(alloc, time)?;
-    text.extend_from_slice(b"$dumpvars\n")?;
-    put_values(alloc, &mut text, values)?;
-    text.extend_from_slice(b"$end\n")?;
+    put_listed(alloc, &mut text, b"$dumpvars\n", values)?;
+    put_commands(alloc, &mut text, true, commands, values)?;
     Ok(text)
 }
 
@@ -66,14 +180,18 @@ pub(crate) fn first_text(alloc: Global, time: u64, values: &[Vec4]) -> Result<Ve
 pub(crate) fn later_text(
     alloc: Global,
     time: u64,
+    on: bool,
     old: &[Vec4],
+    commands: &[DumpCommand],
     new: &[Vec4],
 ) -> Result<Vec<u8>, NoMemory>
-    ensures { IfOk result (λ text. text.items ≡ slot_text time old.now new.now) }
+    ensures { IfOk result (λ text.
+        text.items ≡ slot_text time on old.now commands.now new.now) }
 {
     let mut text = line_of(alloc, time)?;
     let start = text.len();
-    put_changes(alloc, &mut text, old, new)?;
+    put_changed(alloc, &mut text, on, old, new)?;
+    put_commands(alloc, &mut text, on, commands, new)?;
     if text.len() == start {
         text.clear();
     }

@@ -1,18 +1,19 @@
 // The dump of a run, written slot by slot as the run goes.
 
-ghost use Rattle.std.specs.Prelude.{◌≡◌, ◌≢◌, [], ◌∷◌, OnOk, OnErr, IfErr};
+ghost use Rattle.std.specs.Prelude.{◌≡◌, ◌≢◌, [], ◌∷◌, OnOk, OnErr, IfOk, IfErr};
 ghost use Rattle.vmodel.specs.declared.history.Item.TheVariants.{SlotEnd, Dump};
-ghost use Rattle.vmodel.specs.declared.history.DumpCommand.{DumpCommand};
-ghost use Rattle.vcd_text.specs.declared.progress.Progress.TheVariants.{Idle, Asked, Failed};
-ghost use Rattle.vcd_text.specs.Sinks.{end_line, line_after_slot, slot_text, start_text};
+ghost use Rattle.vcd_text.specs.declared.progress.Progress.TheVariants.{Waiting, Failed};
+ghost use Rattle.vcd_text.specs.Sinks.{begun, begun_text, end_line, line_after_slot, slot_text, start_text};
 ghost use Rattle.vcd_text.specs.Outlets.{Stopped};
 
+use crate::commands::{Commands, have_start, on_after};
 use crate::header::Header;
 use crate::outlet::{Outlet, put};
-use crate::progress::{Progress, ask, first_text, later_text, line_after, line_of};
+use crate::progress::{Progress, first_text, later_text, line_after, line_of};
 use basis::OrMemory;
 use std::alloc::Global;
 use vbits::Vec4;
+use vdesign::dump::DumpCommand;
 use vmodel::history::{End, Item};
 use vmodel::sink::Sink;
 use vmodel::values::Values;
@@ -34,36 +35,42 @@ fn put_start<O: Outlet>(
     alloc: Global,
     head: &[u8],
     outlet: &mut O,
+    commands: &[DumpCommand],
     time: u64,
     values: &[Vec4],
 ) -> Result<(), OrMemory<O::Fault>>
-    ensures ok { OnOk result (O.takes outlet.old (start_text head.now time values.now) outlet.new) }
-    ensures err { IfErr result (λ fault.
-        Stopped O.takes O.fails outlet.old (start_text head.now time values.now) fault outlet.new) }
+    ensures ok { OnOk result
+        (O.takes outlet.old (start_text head.now commands.now time values.now) outlet.new) }
+    ensures err { IfErr result (λ fault. Stopped O.takes O.fails outlet.old
+        (start_text head.now commands.now time values.now) fault outlet.new) }
 {
-    let text = first_text(alloc, time, values)?;
+    let text = first_text(alloc, commands, time, values)?;
     match put(outlet, head) {
         Ok(()) => put(outlet, &text),
         Err(fault) => Err(fault),
     }
 }
 
-// The changes of a later slot. What is kept moves on to its values, and to its time where it has a line.
+// What a later slot adds. What is kept moves on to its values, and to its time where it has a line.
 fn put_slot<O: Outlet>(
     alloc: Global,
     outlet: &mut O,
     last: &mut u64,
+    on: bool,
     kept: &mut Values,
+    commands: &[DumpCommand],
     time: u64,
     values: &[Vec4],
 ) -> Result<(), OrMemory<O::Fault>>
-    ensures last { OnOk result (last.new ≡ line_after_slot last.old time kept.old values.now) }
+    ensures last { OnOk result
+        (last.new ≡ line_after_slot last.old time on kept.old commands.now values.now) }
     ensures kept { OnOk result (kept.new ≡ values.now) }
-    ensures ok { OnOk result (O.takes outlet.old (slot_text time kept.old values.now) outlet.new) }
-    ensures err { IfErr result (λ fault.
-        Stopped O.takes O.fails outlet.old (slot_text time kept.old values.now) fault outlet.new) }
+    ensures ok { OnOk result (O.takes outlet.old
+        (slot_text time on kept.old commands.now values.now) outlet.new) }
+    ensures err { IfErr result (λ fault. Stopped O.takes O.fails outlet.old
+        (slot_text time on kept.old commands.now values.now) fault outlet.new) }
 {
-    let text = later_text(alloc, time, kept.as_slice(), values)?;
+    let text = later_text(alloc, time, on, kept.as_slice(), commands, values)?;
     kept.assign(values)?;
     match put(outlet, &text) {
         Ok(()) => {
@@ -72,6 +79,34 @@ fn put_slot<O: Outlet>(
         }
         Err(fault) => Err(fault),
     }
+}
+
+// A slot has ended, and no dump was started before it: how far the dump has come then.
+fn begin<O: Outlet>(
+    alloc: Global,
+    head: &[u8],
+    outlet: &mut O,
+    commands: &[DumpCommand],
+    time: u64,
+    values: &[Vec4],
+) -> Result<Progress, OrMemory<O::Fault>>
+    ensures progress { IfOk result (λ progress. progress ≡ begun commands.now time values.now) }
+    ensures ok { OnOk result
+        (O.takes outlet.old (begun_text head.now commands.now time values.now) outlet.new) }
+    ensures err { IfErr result (λ fault. Stopped O.takes O.fails outlet.old
+        (begun_text head.now commands.now time values.now) fault outlet.new) }
+{
+    if !have_start(commands) {
+        return Ok(Progress::Waiting(Commands::new(alloc)));
+    }
+    let kept = Values::from_slice(alloc, values)?;
+    put_start(alloc, head, outlet, commands, time, values)?;
+    Ok(Progress::Started {
+        last: time,
+        on: on_after(true, commands),
+        values: kept,
+        commands: Commands::new(alloc),
+    })
 }
 
 // The time of the end, unless the last time line is that.
@@ -100,39 +135,13 @@ impl<'a, O: Outlet> DumpSink<'a, O> {
         ensures same_outlet { result.outlet.ghost_name ≡ outlet.entry.ghost_name }
         ensures unwritten { result.outlet.now ≡ outlet.old }
         ensures header { result.header.now ≡ header.now }
-        ensures progress { result.progress ≡ Idle }
+        ensures progress { result.progress ≡ Waiting [] }
     {
         DumpSink {
             alloc,
             header,
             outlet,
-            progress: Progress::Idle,
-        }
-    }
-
-    // The slot that asked for the dump has ended.
-    fn start(&mut self, time: u64, values: &[Vec4]) -> Result<(), OrMemory<O::Fault>>
-        requires { self.old.progress ≡ Asked }
-        ensures ok { OnOk result (Takes O.takes self.old (SlotEnd time values.now ∷ []) self.new) }
-        ensures err { IfErr result (λ fault.
-            StopsIn O.takes O.fails self.old (SlotEnd time values.now ∷ []) fault self.new) }
-    {
-        let kept = Values::from_slice(self.alloc, values)?;
-        match put_start(
-            self.alloc,
-            self.header.as_bytes(),
-            self.outlet,
-            time,
-            values,
-        ) {
-            Ok(()) => {
-                self.progress = Progress::Started {
-                    last: time,
-                    values: kept,
-                };
-                Ok(())
-            }
-            Err(fault) => Err(fault),
+            progress: Progress::Waiting(Commands::new(alloc)),
         }
     }
 
@@ -143,20 +152,53 @@ impl<'a, O: Outlet> DumpSink<'a, O> {
             StopsIn O.takes O.fails self.old (SlotEnd time values.now ∷ []) fault self.new) }
     {
         match &mut self.progress {
-            Progress::Idle => Ok(()),
-            Progress::Asked => self.start(time, values),
-            Progress::Started { last, values: kept } => {
-                put_slot(self.alloc, self.outlet, last, kept, time, values)
+            Progress::Waiting(commands) => {
+                self.progress = begin(
+                    self.alloc,
+                    self.header.as_bytes(),
+                    self.outlet,
+                    commands.as_slice(),
+                    time,
+                    values,
+                )?;
+                Ok(())
+            }
+            Progress::Started {
+                last,
+                on,
+                values: kept,
+                commands,
+            } => {
+                put_slot(
+                    self.alloc,
+                    self.outlet,
+                    last,
+                    *on,
+                    kept,
+                    commands.as_slice(),
+                    time,
+                    values,
+                )?;
+                *on = on_after(*on, commands.as_slice());
+                commands.clear();
+                Ok(())
             }
             Progress::Failed => Ok(()),
         }
     }
 
     // A dump command.
-    fn ask(&mut self)
-        ensures { (command : DumpCommand) → Takes O.takes self.old (Dump command ∷ []) self.new }
+    fn ask(&mut self, command: DumpCommand) -> Result<(), OrMemory<O::Fault>>
+        ensures ok { OnOk result (Takes O.takes self.old (Dump command ∷ []) self.new) }
+        ensures err { IfErr result (λ fault.
+            StopsIn O.takes O.fails self.old (Dump command ∷ []) fault self.new) }
     {
-        ask(&mut self.progress);
+        match &mut self.progress {
+            Progress::Waiting(commands) => commands.push(command)?,
+            Progress::Started { commands, .. } => commands.push(command)?,
+            Progress::Failed => {}
+        }
+        Ok(())
     }
 
     // The next item.
@@ -167,10 +209,9 @@ impl<'a, O: Outlet> DumpSink<'a, O> {
     {
         match item {
             Item::SlotEnd { time, values } => self.end_slot(*time, values.as_slice()),
-            Item::Dump(_) => {
-                self.ask();
-                Ok(())
-            }
+            Item::Dump(command) => self.ask(*command),
+            Item::Line(_) => Ok(()),
+            Item::Monitor(_) => Ok(()),
         }
     }
 
@@ -187,9 +228,8 @@ impl<'a, O: Outlet> DumpSink<'a, O> {
         ensures once { OnErr result (self.old.progress ≢ Failed) }
     {
         match &mut self.progress {
-            Progress::Idle => Ok(()),
-            Progress::Asked => Ok(()),
-            Progress::Started { last, values: _ } => {
+            Progress::Waiting(_) => Ok(()),
+            Progress::Started { last, .. } => {
                 match put_end(self.alloc, self.outlet, *last, end.time) {
                     Ok(()) => {
                         *last = end.time;

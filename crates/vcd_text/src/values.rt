@@ -1,8 +1,7 @@
 // The lines that say what variables are worth (18.2.2).
 
-ghost use Rattle.std.specs.Prelude.{◌≡◌, ◌<◌, ◌++◌, OnOk, true, false, length, drop};
-ghost use Rattle.vcd_text.specs.DumpText.{all_lines, change, digit as digit_code, digits_of, extension as extension_code, following, is_kept as is_kept_vector, named_line, shortened};
-ghost use Rattle.vcd_text.specs.Sinks.{changed_lines};
+ghost use Rattle.std.specs.Prelude.{◌≡◌, ◌<◌, ◌++◌, OnOk, true, false, length, drop, map};
+ghost use Rattle.vcd_text.specs.DumpText.{all_lines, blanked, change, changes, digit as digit_code, digits_of, extension as extension_code, following, is_kept as is_kept_vector, named_line, shortened, value_lines};
 
 use basis::NoMemory;
 use std::alloc::Global;
@@ -117,6 +116,19 @@ pub(crate) fn put_values(alloc: Global, text: &mut Vec<u8>, values: &[Vec4]) -> 
     Ok(())
 }
 
+// The same of values as wide as these, all x.
+pub(crate) fn put_blanks(alloc: Global, text: &mut Vec<u8>, values: &[Vec4]) -> Result<(), NoMemory>
+    ensures { OnOk result (text.new.items ≡ text.old.items ++ all_lines (map blanked values.now)) }
+{
+    let mut scratch = Vec::new(alloc);
+    let mut name = Vec::from_slice(alloc, b"!")?;
+    for value in values {
+        put_value(text, &mut scratch, Vec4::all_x(value.len()), &name)?;
+        follow(&mut name)?;
+    }
+    Ok(())
+}
+
 // Whether two values have the same letters.
 fn is_kept(old: Vec4, new: Vec4) -> bool
     ensures { result ≡ is_kept_vector old new }
@@ -137,7 +149,7 @@ pub(crate) fn put_changes(
     old: &[Vec4],
     new: &[Vec4],
 ) -> Result<(), NoMemory>
-    ensures { OnOk result (text.new.items ≡ text.old.items ++ changed_lines old.now new.now) }
+    ensures { OnOk result (text.new.items ≡ text.old.items ++ value_lines (changes 0 old.now new.now)) }
 {
     let mut scratch = Vec::new(alloc);
     let mut name = Vec::from_slice(alloc, b"!")?;

@@ -1,9 +1,9 @@
 // The whole dump of a history.
 
-ghost use Rattle.std.specs.Prelude.{◌≡◌, OnOk, IfErr};
+ghost use Rattle.std.specs.Prelude.{◌≡◌, [], OnOk, IfErr};
 ghost use Rattle.vcd_text.specs.DumpText.{dump_below};
 ghost use Rattle.vcd_text.specs.Metered.{Grows, Stops};
-ghost use Rattle.vcd_text.specs.declared.progress.Progress.TheVariants.{Idle};
+ghost use Rattle.vcd_text.specs.declared.progress.Progress.TheVariants.{Waiting};
 ghost use Rattle.vcd_text.specs.Sinks.{IsSameDump, TakesDump, FailsDump};
 
 use crate::fault::WriteFault;
@@ -19,7 +19,7 @@ use vmodel::sink::Sink;
 
 // A whole history into a fresh sink.
 fn fill<O: Outlet>(sink: &mut DumpSink<'_, O>, history: &History) -> Result<(), OrMemory<O::Fault>>
-    requires { sink.old.progress ≡ Idle }
+    requires { sink.old.progress ≡ Waiting [] }
     ensures same { IsSameDump sink.old sink.new }
     ensures ok { OnOk result (TakesDump O.takes sink.old history.now sink.new) }
     ensures err { IfErr result (λ fault.

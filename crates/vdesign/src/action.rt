@@ -2,7 +2,9 @@
 
 ghost use Rattle.std.specs.Prelude.{◌≡◌};
 
-use crate::expression::Expression;
+use crate::dump::DumpCommand;
+use crate::expression::{Bounds, Expression};
+use crate::print::{Pieces, When};
 use std::marker::Model;
 use vast::statement::CaseKind;
 
@@ -128,24 +130,64 @@ impl Branches {
     }
 }
 
-/// What an assignment writes (clause 6, table 6-1).
-#[derive(Clone, Copy, Debug, PartialEq, Eq)]
+/// What an assignment writes: a variable, a bit of it, or a part (clause 6, table 6-1).
+#[derive(Drop)]
 pub enum Target {
     /// The whole variable of this number.
     Whole(u32),
+    /// `name[index]`, of the variable of this number (5.2.1)
+    Bit { variable: u32, index: Expression },
+    /// `name[left:right]`, of the variable of this number (5.2.1)
+    Part { variable: u32, bounds: Bounds },
+}
+
+/// The targets of an assignment: one, or those of a concatenation, the leftmost first (5.1.14). Concatenations within stand in the
+/// same row.
+#[derive(Drop)]
+pub struct Targets {
+    list: Vec<Target>,
+}
+
+impl Model for Targets {
+    ghost use Rattle.std.specs.Prelude.{List};
+    ghost use Rattle.std.specs.Coded.{codes};
+    ghost use Rattle.vdesign.specs.declared.action.Target.{Target};
+    ghost use Rattle.vdesign.specs.contracts.expression.Expression as expression;
+
+    ghost Value = { List Target };
+
+    ghost coded = { Prim.hlevel (codes, expression.the_row.coded) };
+
+    ghost view = { λ targets. targets.list.items };
+}
+
+impl Targets {
+    /// These targets.
+    pub fn new(list: Vec<Target>) -> Targets
+        ensures { result ≡ list.items }
+    {
+        Targets { list }
+    }
+
+    /// The targets, as a list.
+    pub fn as_slice(&self) -> &[Target]
+        ensures { result.now ≡ self.now }
+    {
+        &self.list
+    }
 }
 
 /// What a process does in a step (clause 9). What costs no step, `begin`, `end` and empty statements, is no action.
 #[derive(Drop)]
 pub enum Action {
-    /// `target = value;` (9.2.1)
+    /// `targets = value;` (9.2.1)
     Assign {
-        target: Target,
+        targets: Targets,
         value: Expression,
     },
-    /// `target <= value;` (9.2.2)
+    /// `targets <= value;` (9.2.2)
     Nonblocking {
-        target: Target,
+        targets: Targets,
         value: Expression,
     },
     /// `if (condition) .. else ..` (9.4)
@@ -191,14 +233,22 @@ pub enum Action {
         terms: Terms,
         body: Places,
     },
-    /// `assign target = value` (6.1), a process of its own: it writes, and then one of the terms is waited for, and it writes again.
+    /// `assign net = value` (6.1), a process of its own: it writes the net of this number, and then one of the terms is waited for,
+    /// and it writes again.
     Drive {
-        target: Target,
+        net: u32,
         value: Expression,
         terms: Terms,
     },
-    /// `$dumpvars;` (18.1.2)
-    DumpVars,
+    /// `$display(..);`, `$strobe(..);` or `$monitor(..);` (17.1)
+    Print {
+        when: When,
+        pieces: Pieces,
+    },
+    /// `$dumpvars;`, `$dumpoff;`, `$dumpon;` or `$dumpall;` (18.1)
+    Dump(DumpCommand),
+    /// `$dumpfile(..);` or `$dumpflush;`: a step that does nothing more (18.1.1, 18.1.6)
+    Pass,
     /// `$finish;` (17.4.1)
     Finish,
     /// `$stop;` (17.4.2)

@@ -4,4 +4,6 @@
 
 pub mod action;
 pub mod design;
+pub mod dump;
 pub mod expression;
+pub mod print;

@@ -5,10 +5,12 @@ use Rattle.vbits.specs.declared.bit4.Bit4.TheVariants.{X}
 use Rattle.vbits.specs.Vectors.{Vector, filled}
 use Rattle.vdesign.specs.Design.{Variable}
 use Rattle.vdesign.specs.declared.action.Action.{Action}
-use Rattle.vdesign.specs.declared.action.Action.TheVariants.{Assign, Nonblocking, Test, Case, Again, Repeat, Forever, Delay, On, Until, Drive, DumpVars, Finish, Stop}
+use Rattle.vdesign.specs.declared.print.Piece.{Piece}
+use Rattle.vdesign.specs.declared.print.Piece.TheVariants.{Text, Value}
+use Rattle.vdesign.specs.declared.action.Action.TheVariants.{Assign, Nonblocking, Test, Case, Again, Repeat, Forever, Delay, On, Until, Drive, Print, Dump, Pass, Finish, Stop}
 use Rattle.vdesign.specs.declared.action.Branch.{Branch}
 use Rattle.vvalue.specs.Value.{Moment}
-use Rattle.vvalue.specs.Flaws.{flaw_of}
+use Rattle.vvalue.specs.Flaws.{flaw_of, targets_flaw}
 use Rattle.vvalue.specs.declared.flaw.Flaw.{Flaw}
 
 -- each of its bits is x: a size never depends on a value
@@ -26,9 +28,13 @@ first_of flaw (one ∷ more) = option_or (flaw one) (first_of flaw more)
 abbrev pub branch_flaw : Moment → Branch → Option Flaw
 branch_flaw now branch = flaw_of now branch.item
 
+abbrev pub piece_flaw : Moment → Piece → Option Flaw
+piece_flaw now (Text bytes) = None
+piece_flaw now (Value form watched value) = flaw_of now value
+
 abbrev pub action_flaw : Moment → Action → Option Flaw
-action_flaw now (Assign target value) = flaw_of now value
-action_flaw now (Nonblocking target value) = flaw_of now value
+action_flaw now (Assign targets value) = option_or (targets_flaw now targets) (flaw_of now value)
+action_flaw now (Nonblocking targets value) = option_or (targets_flaw now targets) (flaw_of now value)
 action_flaw now (Test condition when_true otherwise) = flaw_of now condition
 action_flaw now (Case kind value branches otherwise) = option_or (flaw_of now value) (first_of (branch_flaw now) branches)
 action_flaw now (Again condition body) = flaw_of now condition
@@ -37,8 +43,10 @@ action_flaw now (Forever body) = None
 action_flaw now (Delay amount body) = flaw_of now amount
 action_flaw now (On terms body) = None
 action_flaw now (Until condition terms body) = flaw_of now condition
-action_flaw now (Drive target value terms) = flaw_of now value
-action_flaw now DumpVars = None
+action_flaw now (Drive net value terms) = flaw_of now value
+action_flaw now (Print when pieces) = first_of (piece_flaw now) pieces
+action_flaw now (Dump command) = None
+action_flaw now Pass = None
 action_flaw now Finish = None
 action_flaw now Stop = None
 

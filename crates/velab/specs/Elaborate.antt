@@ -16,8 +16,12 @@ use Rattle.vast.specs.declared.module.NetKind.{NetKind}
 use Rattle.vast.specs.declared.module.NetKind.TheVariants as net
 use Rattle.vdesign.specs.Design as design
 use Rattle.vdesign.specs.declared.action.Action.{Action}
-use Rattle.vdesign.specs.declared.action.Action.TheVariants.{Assign, Nonblocking, Test, Case, Again, Repeat, Forever, Delay, On, Until, Drive, DumpVars, Finish, Stop}
+use Rattle.vdesign.specs.declared.action.Action.TheVariants.{Assign, Nonblocking, Test, Case, Again, Repeat, Forever, Delay, On, Until, Drive, Dump, Pass, Finish, Stop}
 use Rattle.vdesign.specs.declared.action.Branch.{Branch}
+use Rattle.vdesign.specs.declared.dump.DumpCommand.TheVariants as commands
+use Rattle.vast.specs.declared.statement.Dumping.{Dumping}
+use Rattle.vast.specs.declared.statement.Dumping.TheVariants as dumps
+use Rattle.velab.specs.Runs.{is_whole}
 use Rattle.vdesign.specs.declared.action.Target.{Target}
 use Rattle.vdesign.specs.declared.action.Target.TheVariants.{Whole}
 use Rattle.basis.specs.declared.timescale.Timescale.{Timescale}
@@ -315,11 +319,11 @@ abbrev pub nothing_laid : List Action → Laid
 nothing_laid table = record { table = table; places = [] }
 
 -- an assignment of either kind (9.2): what isn't run yet lays nothing
-abbrev pub assigning : Bool → Target → ExpressionTree → Action
-assigning blocking target value = cond blocking (Assign target value) (Nonblocking target value)
+abbrev pub assigning : Bool → List Target → ExpressionTree → Action
+assigning blocking targets value = cond blocking (Assign targets value) (Nonblocking targets value)
 
 abbrev pub laid_assignment : Bool → Scope → List Action → TargetTree → Option DelayTree → text.ExpressionTree → Laid
-laid_assignment blocking scope table (written.whole letters) None value = placed table (assigning blocking (Whole (number_of scope letters)) (resolved scope value))
+laid_assignment blocking scope table (written.whole letters) None value = placed table (assigning blocking (Whole (number_of scope letters) ∷ []) (resolved scope value))
 laid_assignment blocking scope table (written.whole letters) (Some amount) value = nothing_laid table
 laid_assignment blocking scope table (written.bit letters index) amount value = nothing_laid table
 laid_assignment blocking scope table (written.part letters left right) amount value = nothing_laid table
@@ -331,8 +335,15 @@ amount_of scope (by_name letters) = resolved scope (text.name letters)
 amount_of scope (by_value amount) = resolved scope amount
 
 abbrev pub laid_dump : List Action → Option SelectionTree → Laid
-laid_dump table None = placed table DumpVars
-laid_dump table (Some selection) = nothing_laid table
+laid_dump table None = placed table (Dump commands.Vars)
+laid_dump table (Some selection) = cond (is_whole selection) (placed table (Dump commands.Vars)) (nothing_laid table)
+
+-- 18.1.3, 18.1.4, 18.1.6: `$dumpflush` does nothing more
+abbrev pub dumping_by : Dumping → Action
+dumping_by dumps.On = Dump commands.On
+dumping_by dumps.Off = Dump commands.Off
+dumping_by dumps.All = Dump commands.All
+dumping_by dumps.Flush = Pass
 
 -- 17.4
 abbrev pub ending : Bool → Action
@@ -340,9 +351,9 @@ ending stops = cond stops Stop Finish
 
 abbrev pub laid_task : List Action → TaskTree → Laid
 laid_task table (print kind arguments) = nothing_laid table
-laid_task table (dump_file letters) = nothing_laid table
+laid_task table (dump_file letters) = placed table Pass  -- 18.1.1
 laid_task table (dump_vars selection) = laid_dump table selection
-laid_task table (dump kind) = nothing_laid table
+laid_task table (dump kind) = placed table (dumping_by kind)
 laid_task table (end_run stops digits) = placed table (ending stops)
 
 -- the table of actions so far, with what the branches of a `case` add to it: the branches, and the places of the `default`
@@ -428,7 +439,7 @@ pub data ProcessTree : Type 0 where
 
 -- 6.1: it writes, and it writes again at any change of a name that is read
 abbrev pub driving : Scope → Text → text.ExpressionTree → Action
-driving scope letters value = Drive (Whole (number_of scope letters)) (resolved scope value) (any_of scope (names_in value))
+driving scope letters value = Drive (number_of scope letters) (resolved scope value) (any_of scope (names_in value))
 
 abbrev pub laid_process : Scope → List Action → ProcessTree → Laid
 laid_process scope table (does statement) = laid scope table statement

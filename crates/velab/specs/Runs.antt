@@ -1,8 +1,10 @@
 -- What runs of a text today: all else is refused (E299; docs/LANGUAGE.md, "What runs").
-use Rattle.std.specs.Prelude.{Bool, true, false, ◌&&◌, not, is_some, Option, Some, None}
+use Rattle.std.specs.Prelude.{ℕ, ◌==◌, Bool, true, false, ◌&&◌, not, length, is_some, Option, Some, None}
+use Rattle.vbits.specs.Numbers.{number}
+use Rattle.velab.specs.Literals.{constant_of}
 use Rattle.std.specs.List.{list_all}
 use Rattle.vast.specs.Expressions.{ExpressionTree}
-use Rattle.vast.specs.Statements.{TargetTree, DelayTree, by_number, by_name, by_value, TaskTree, print, dump_file, dump_vars, dump, end_run, StatementTree, StatementTrees, empty, block, assign, nonblocking, trigger, if_true, if_else, case_of, while_true, repeat_times, forever, for_loop, wait_for, delay, event, task, no_statement, first_statement, BranchTree, BranchTrees, labelled, default, no_branch, first_branch}
+use Rattle.vast.specs.Statements.{TargetTree, DelayTree, by_number, by_name, by_value, SelectionTree, TaskTree, print, dump_file, dump_vars, dump, end_run, StatementTree, StatementTrees, empty, block, assign, nonblocking, trigger, if_true, if_else, case_of, while_true, repeat_times, forever, for_loop, wait_for, delay, event, task, no_statement, first_statement, BranchTree, BranchTrees, labelled, default, no_branch, first_branch}
 use Rattle.vast.specs.Expressions as text
 use Rattle.vast.specs.Statements as written
 use Rattle.vast.specs.Modules.{RangeTree, DeclaredTree, DeclarationKind, variables, integers, ItemTree, parameters, declaration, events, assignments, initial, always, instances, ModuleTree, SourceTree, SettingTree}
@@ -18,11 +20,23 @@ runs_target (written.joined targets) = false
 abbrev pub runs_assignment : TargetTree → Option DelayTree → Bool
 runs_assignment target amount = runs_target target && not (is_some amount)
 
+abbrev pub is_zero : Option ℕ → Bool
+is_zero None = false
+is_zero (Some n) = n == 0
+
+-- 18.1.2: all levels below the top, where no scope is named
+abbrev pub is_whole : SelectionTree → Bool
+is_whole selection = is_zero (number (constant_of selection.levels).value.letters) && length selection.paths == 0
+
+abbrev pub runs_selection : Option SelectionTree → Bool
+runs_selection None = true
+runs_selection (Some selection) = is_whole selection
+
 abbrev pub runs_task : TaskTree → Bool
 runs_task (print kind arguments) = false
-runs_task (dump_file letters) = false
-runs_task (dump_vars selection) = not (is_some selection)
-runs_task (dump kind) = false
+runs_task (dump_file letters) = true
+runs_task (dump_vars selection) = runs_selection selection
+runs_task (dump kind) = true
 runs_task (end_run stops digits) = true
 
 abbrev mutual

@@ -6,11 +6,15 @@ ghost use Rattle.vast.specs.Words.{Text};
 ghost use Rattle.vast.specs.ModuleTrees.{source_tree};
 ghost use Rattle.vexpr_parse.specs.Texts.{words_of};
 ghost use Rattle.velab.specs.Runs.{runs};
+ghost use Rattle.velab.specs.Runs as running;
+ghost use Rattle.vast.specs.StatementTrees.{selection_tree};
 ghost use Rattle.velab.specs.FirstNotRun as place;
 
+use crate::letters::letters;
+use crate::number::constant_of;
 use vast::expression::Expression;
 use vast::module::{ModuleItem, ModuleTree, TextTree};
-use vast::statement::{Branch, Delay, Statement, Target, Task};
+use vast::statement::{Branch, Delay, Selection, Statement, Target, Task};
 use vlex::Tokens;
 
 // The number of the first token that an expression keeps.
@@ -55,15 +59,43 @@ fn in_target(target: &Target) -> Option<u32>
     }
 }
 
-fn in_task(at: u32, task: &Task) -> Option<u32>
-    ensures { (words : List Text) → result ≡ place.in_task words at task.now }
+/// Whether all levels are dumped, and no scope is named (18.1.2).
+pub fn is_whole(tokens: &Tokens<'_>, selection: &Selection) -> bool
+    ensures { result ≡ running.is_whole (selection_tree (words_of tokens.now) selection.now) }
+{
+    if selection.paths.len() > 0 {
+        return false;
+    }
+    match constant_of(letters(tokens, selection.levels))
+        .value
+        .to_u64()
+    {
+        None => false,
+        Some(levels) => levels == 0,
+    }
+}
+
+// A `$dumpvars` that isn't run.
+fn in_selection(tokens: &Tokens<'_>, at: u32, selection: &Selection) -> Option<u32>
+    ensures { result ≡ place.unless_run
+        (running.is_whole (selection_tree (words_of tokens.now) selection.now)) at }
+{
+    if is_whole(tokens, selection) {
+        None
+    } else {
+        Some(at)
+    }
+}
+
+fn in_task(tokens: &Tokens<'_>, at: u32, task: &Task) -> Option<u32>
+    ensures { result ≡ place.in_task (words_of tokens.now) at task.now }
 {
     match task {
         Task::Print { .. } => Some(at),
-        Task::DumpFile(_) => Some(at),
+        Task::DumpFile(_) => None,
         Task::DumpVars(None) => None,
-        Task::DumpVars(Some(_)) => Some(at),
-        Task::Dump(_) => Some(at),
+        Task::DumpVars(Some(selection)) => in_selection(tokens, at, selection),
+        Task::Dump(_) => None,
         Task::End { .. } => None,
     }
 }
@@ -91,7 +123,7 @@ fn in_statement(tokens: &Tokens<'_>, whole: &Statement) -> Option<u32>
         Statement::Assign { target, delay, .. } => in_assignment(target, delay),
         Statement::Nonblocking { target, delay, .. } => in_assignment(target, delay),
         Statement::Delayed { body, .. } => in_statement(tokens, body),
-        Statement::Task { at, task } => in_task(*at, task),
+        Statement::Task { at, task } => in_task(tokens, *at, task),
         Statement::Trigger { at, .. } => Some(*at),
         Statement::If { body, .. } => in_statement(tokens, body),
         Statement::IfElse { body, other, .. } => match in_statement(tokens, body) {

@@ -1,5 +1,5 @@
 // Whether processes write variables, and continuous assignments nets (6.1, 6.2).
-ghost use Rattle.std.specs.Prelude.{◌≡◌, true, OnOk};
+ghost use Rattle.std.specs.Prelude.{◌≡◌, true, OnOk, slice_get};
 ghost use Rattle.std.specs.List.{list_all};
 ghost use Rattle.basis.specs.Reasons.{IfFault};
 ghost use Rattle.velab.specs.Right as spec;
@@ -20,23 +20,43 @@ fn is_net(kind: Kind) -> bool
     }
 }
 
-fn writes_net(variables: &[Variable], target: Target) -> bool
-    ensures { result ≡ spec.writes_net variables.now target }
+fn is_some_net(variables: &[Variable], number: u32) -> bool
+    ensures { result ≡ spec.is_some_net (slice_get variables.now number) }
+{
+    match variables.get(number as usize) {
+        None => false,
+        Some(variable) => is_net(variable.kind),
+    }
+}
+
+fn writes_net(variables: &[Variable], target: &Target) -> bool
+    ensures { result ≡ spec.writes_net variables.now target.now }
 {
     match target {
-        Target::Whole(number) => match variables.get(number as usize) {
-            None => false,
-            Some(variable) => is_net(variable.kind),
-        },
+        Target::Whole(number) => is_some_net(variables, *number),
+        Target::Bit { variable, .. } => is_some_net(variables, *variable),
+        Target::Part { variable, .. } => is_some_net(variables, *variable),
     }
+}
+
+// Whether a process may write these.
+fn writes_variables(variables: &[Variable], targets: &[Target]) -> bool
+    ensures { result ≡ spec.writes_variables variables.now targets.now }
+{
+    for target in targets {
+        if writes_net(variables, target) {
+            return false;
+        }
+    }
+    true
 }
 
 fn writes_rightly(variables: &[Variable], action: &Action) -> bool
     ensures { result ≡ spec.writes_rightly variables.now action.now }
 {
     match action {
-        Action::Assign { target, .. } => !writes_net(variables, *target),
-        Action::Nonblocking { target, .. } => !writes_net(variables, *target),
+        Action::Assign { targets, .. } => writes_variables(variables, targets.as_slice()),
+        Action::Nonblocking { targets, .. } => writes_variables(variables, targets.as_slice()),
         Action::Test { .. } => true,
         Action::Case { .. } => true,
         Action::Again { .. } => true,
@@ -45,8 +65,10 @@ fn writes_rightly(variables: &[Variable], action: &Action) -> bool
         Action::Delay { .. } => true,
         Action::On { .. } => true,
         Action::Until { .. } => true,
-        Action::Drive { target, .. } => writes_net(variables, *target),
-        Action::DumpVars => true,
+        Action::Drive { net, .. } => is_some_net(variables, *net),
+        Action::Print { .. } => true,
+        Action::Dump(_) => true,
+        Action::Pass => true,
         Action::Finish => true,
         Action::Stop => true,
     }

@@ -7,6 +7,7 @@ ghost use Rattle.vast.specs.StatementTrees.{target_tree, delay_tree, task_tree, 
 ghost use Rattle.vast.specs.ModuleTrees.{item_tree};
 ghost use Rattle.vast.specs.TokenTexts.{token_text};
 ghost use Rattle.vexpr_parse.specs.Texts.{words_of};
+ghost use Rattle.vdesign.specs.declared.action.Target.{Target};
 ghost use Rattle.velab.specs.Elaborate as spec;
 ghost use Rattle.vast.specs.Statements.{forever, case_of, assign, whole};
 ghost use Rattle.vast.specs.TokenTexts.{token_text};
@@ -17,19 +18,21 @@ ghost use Rattle.velab.specs.Rules.{IsBroken};
 
 use crate::expression::{alone, expression_of, expression_of_name};
 use crate::fault::ElabFault;
+use crate::first::is_whole;
 use crate::letters::letters;
 use crate::number::constant_of;
 use crate::parameter::given_count;
 use crate::scope::{Scope, number_of};
 use crate::wait::{condition_terms, event_terms};
-use basis::OrMemory;
+use basis::{NoMemory, OrMemory};
 use std::alloc::Global;
 use std::marker::Model;
 use vast::expression::Expression as Value;
 use vast::module::{DeclarationKind, Declared, ModuleItem, NetKind, Setting};
-use vast::statement::{Branch, CaseKind, Delay, Statement, Target as Written, Task};
+use vast::statement::{Branch, CaseKind, Delay, Dumping, Statement, Target as Written, Task};
 use vast::token::Token;
-use vdesign::action::{Action, Branch as Choice, Branches, Places, Target, Terms};
+use vdesign::action::{Action, Branch as Choice, Branches, Places, Target, Targets, Terms};
+use vdesign::dump::DumpCommand;
 use vdesign::expression::{Expression, Node};
 use vlex::Tokens;
 
@@ -71,14 +74,23 @@ fn put(
     Ok(())
 }
 
-fn assigning(blocking: bool, target: Target, value: Expression) -> Action
-    ensures { result ≡ spec.assigning blocking target value }
+fn assigning(blocking: bool, targets: Targets, value: Expression) -> Action
+    ensures { result ≡ spec.assigning blocking targets value }
 {
     if blocking {
-        Action::Assign { target, value }
+        Action::Assign { targets, value }
     } else {
-        Action::Nonblocking { target, value }
+        Action::Nonblocking { targets, value }
     }
+}
+
+// The whole variable of this number.
+fn whole_of(alloc: Global, number: u32) -> Result<Targets, NoMemory>
+    ensures { IfOk result (λ targets. targets ≡ Target.Whole number ∷ []) }
+{
+    let mut list = Vec::new(alloc);
+    list.push(Target::Whole(number))?;
+    Ok(Targets::new(list))
 }
 
 // An assignment of either kind: what isn't run yet lays nothing.
@@ -112,7 +124,7 @@ fn lay_assignment(
             None => {
                 let number = number_of(scope, tokens, *name)?;
                 let value = expression_of(alloc, scope, tokens, value)?;
-                let action = assigning(blocking, Target::Whole(number), value);
+                let action = assigning(blocking, whole_of(alloc, number)?, value);
                 put(table, into, name.number, action)
             }
             Some(_) => Ok(()),
@@ -237,23 +249,43 @@ fn ending(stops: bool) -> Action
     if stops { Action::Stop } else { Action::Finish }
 }
 
+// What a command to a dump that was started does.
+fn dumping_by(dumping: Dumping) -> Action
+    ensures { result ≡ spec.dumping_by dumping }
+{
+    match dumping {
+        Dumping::On => Action::Dump(DumpCommand::On),
+        Dumping::Off => Action::Dump(DumpCommand::Off),
+        Dumping::All => Action::Dump(DumpCommand::All),
+        Dumping::Flush => Action::Pass,
+    }
+}
+
 // A system task: what isn't run yet lays nothing.
 fn lay_task(
+    tokens: &Tokens<'_>,
     at: u32,
     task: &Task,
     table: &mut Table,
     into: &mut Vec<usize>,
 ) -> Result<(), OrMemory<ElabFault>>
-    ensures ok { (words : List Text) → HasLaid result
-        (spec.laid_task table.old (task_tree words task.now)) into.old table.new into.new }
+    ensures ok { HasLaid result
+        (spec.laid_task table.old (task_tree (words_of tokens.now) task.now)) into.old table.new
+        into.new }
     ensures err { IfFault result (IsBroken None) }
 {
     match task {
         Task::Print { .. } => Ok(()),
-        Task::DumpFile(_) => Ok(()),
-        Task::DumpVars(None) => put(table, into, at, Action::DumpVars),
-        Task::DumpVars(Some(_)) => Ok(()),
-        Task::Dump(_) => Ok(()),
+        Task::DumpFile(_) => put(table, into, at, Action::Pass),
+        Task::DumpVars(None) => put(table, into, at, Action::Dump(DumpCommand::Vars)),
+        Task::DumpVars(Some(selection)) => {
+            if is_whole(tokens, selection) {
+                put(table, into, at, Action::Dump(DumpCommand::Vars))
+            } else {
+                Ok(())
+            }
+        }
+        Task::Dump(dumping) => put(table, into, at, dumping_by(*dumping)),
         Task::End { stops, .. } => put(table, into, at, ending(*stops)),
     }
 }
@@ -301,7 +333,7 @@ fn lay(
             let body = Places::new(inner);
             put(table, into, *at, Action::Delay { amount, body })
         }
-        Statement::Task { at, task } => lay_task(*at, task, table, into),
+        Statement::Task { at, task } => lay_task(tokens, *at, task, table, into),
         Statement::Trigger { .. } => Ok(()),
         Statement::If {
             at,
@@ -570,9 +602,8 @@ fn lay_drive(
     let number = number_of(scope, tokens, net)?;
     let terms = condition_terms(alloc, scope, tokens, value)?;
     let value = expression_of(alloc, scope, tokens, value)?;
-    let target = Target::Whole(number);
     let action = Action::Drive {
-        target,
+        net: number,
         value,
         terms,
     };

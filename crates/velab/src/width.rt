@@ -2,6 +2,8 @@
 
 ghost use Rattle.std.specs.Prelude.{◌≡◌, map, None, Some, IfOk, OnOk};
 ghost use Rattle.basis.specs.Reasons.{IfFault};
+ghost use Rattle.std.specs.Option.{option_or};
+ghost use Rattle.vvalue.specs.Flaws.{flaw_of as spec_flaw_of, targets_flaw as spec_targets_flaw};
 ghost use Rattle.velab.specs.ActionFlaws as spec;
 ghost use Rattle.velab.specs.Rules.{flaw_rule, IsBroken};
 
@@ -10,9 +12,11 @@ use crate::fault::ElabFault;
 use basis::{NoMemory, OrMemory};
 use std::alloc::Global;
 use vbits::Vec4;
-use vdesign::action::{Action, Branch};
+use vdesign::action::{Action, Branch, Targets};
 use vdesign::design::{Design, Variable};
-use vvalue::flaw::{Flaw, flaw_of};
+use vdesign::expression::Expression;
+use vdesign::print::Piece;
+use vvalue::flaw::{Flaw, flaw_of, targets_flaw};
 use vvalue::moment::Moment;
 
 // For each variable as many bits as it has.
@@ -37,12 +41,40 @@ fn branches_flaw(branches: &[Branch], moment: &Moment<'_>) -> Option<Flaw>
     None
 }
 
+fn piece_flaw(piece: &Piece, moment: &Moment<'_>) -> Option<Flaw>
+    ensures { result ≡ spec.piece_flaw moment.now piece.now }
+{
+    match piece {
+        Piece::Text(_) => None,
+        Piece::Value { value, .. } => flaw_of(value, moment),
+    }
+}
+
+fn pieces_flaw(pieces: &[Piece], moment: &Moment<'_>) -> Option<Flaw>
+    ensures { result ≡ spec.first_of (spec.piece_flaw moment.now) pieces.now }
+{
+    for piece in pieces {
+        if let Some(flaw) = piece_flaw(piece, moment) {
+            return Some(flaw);
+        }
+    }
+    None
+}
+
+// What is wrong with an assignment of either kind: with its targets, or else with its value.
+fn assignment_flaw(targets: &Targets, value: &Expression, moment: &Moment<'_>) -> Option<Flaw>
+    ensures { result
+        ≡ option_or (spec_targets_flaw moment.now targets.now) (spec_flaw_of moment.now value.now) }
+{
+    targets_flaw(targets, moment).or(flaw_of(value, moment))
+}
+
 fn action_flaw(action: &Action, moment: &Moment<'_>) -> Option<Flaw>
     ensures { result ≡ spec.action_flaw moment.now action.now }
 {
     match action {
-        Action::Assign { value, .. } => flaw_of(value, moment),
-        Action::Nonblocking { value, .. } => flaw_of(value, moment),
+        Action::Assign { targets, value } => assignment_flaw(targets, value, moment),
+        Action::Nonblocking { targets, value } => assignment_flaw(targets, value, moment),
         Action::Test { condition, .. } => flaw_of(condition, moment),
         Action::Case {
             value,
@@ -59,7 +91,9 @@ fn action_flaw(action: &Action, moment: &Moment<'_>) -> Option<Flaw>
         Action::On { .. } => None,
         Action::Until { condition, .. } => flaw_of(condition, moment),
         Action::Drive { value, .. } => flaw_of(value, moment),
-        Action::DumpVars => None,
+        Action::Print { pieces, .. } => pieces_flaw(pieces.as_slice(), moment),
+        Action::Dump(_) => None,
+        Action::Pass => None,
         Action::Finish => None,
         Action::Stop => None,
     }

@@ -1,7 +1,7 @@
 -- A run under a log on its way.
 use Rattle.std.proofs.Common.{◌≡◌, ◌≢◌, ℕ, ◌+◌, ◌<◌, ◌≤◌, ◌==◌, true, false, List, [], ◌∷◌, ◌++◌, length, take, Result, Ok, Err, IfErr, IsErrAnd, refl, inl, inr, le_refl, sym, ap, subst, ◌∙◌, add-one, arith}
 use Rattle.std.proofs.lemmas.Bool.Decides.{nat_tests}
-use Rattle.sched_core.specs.Rules.{stands, choice_at, IsRun, NamesBelow}
+use Rattle.sched_core.specs.Rules.{stands, choice_at, NamesBelow}
 use Rattle.sched_core.specs.Logs.{IsLogFrom}
 use Rattle.sched_core.specs.Replay.{IsNextChoice, IsMissing, TakesMore}
 use Rattle.sched_core.proofs.RunLemmas.{left_whole, left_next, run_more, ends_too_early}
@@ -9,7 +9,6 @@ use Rattle.vmodel.specs.State.{State}
 use Rattle.vmodel.specs.Choices.{choices}
 use Rattle.vmodel.specs.declared.history.Item.{Item}
 use Rattle.vmodel.specs.declared.history.End.{End}
-use Rattle.vmodel.specs.declared.deed.Deed.{Deed}
 use Rattle.vmodel.specs.Step.{Turn, next, items_of}
 use Rattle.vmodel.specs.Run.{Setting, rules_of, opening_of, state_after, given_by, end_of, is_mark}
 use Rattle.vmodel.specs.Played.{Finishes, IsOnItsWay, opening_is, width_is, after_is}
@@ -78,9 +77,9 @@ module _ (setting : Setting) (log rest : List (ℕ × ℕ)) (steps n : ℕ) (sta
           ∙ ap (stands (rules_of setting) log) (sym (add-one n));
     }
 
-    pub given_next : (turn : Turn) → next setting.design state choice ≡ turn → given_by setting log n ++ items_of turn ≡ given_by setting log (n + 1)
+    pub given_next : (turn : Turn) → next setting.design state choice ≡ turn → given_by setting log n ++ items_of setting.design turn ≡ given_by setting log (n + 1)
     given_next turn is =
-        ap (λ (t : Turn). given_by setting log n ++ items_of t) (sym is ∙ next_is)
+        ap (λ (t : Turn). given_by setting log n ++ items_of setting.design t) (sym is ∙ next_is)
         ∙ ap (given_by setting log) (sym (add-one n))
 
 pub underway : (setting : Setting) (log rest : List (ℕ × ℕ)) (steps n : ℕ) (state : State) → IsAt setting log rest steps n state → IsOnItsWay setting log steps n

@@ -1,6 +1,6 @@
 -- The rules of a machine, and when a state of it stands for a state of a run (docs/SCHEDULING.md). Who reads a machine's
 -- states rests on `machine_law` alone, as these words unfold nowhere else.
-use Rattle.std.specs.Prelude.{◌≡◌, ℕ, length, refl}
+use Rattle.std.specs.Prelude.{◌≡◌, refl}
 use Rattle.sched_core.specs.Rules.{Rules, IsLawful}
 use Rattle.vmodel.specs.State.{State}
 use Rattle.vmodel.specs.Same.{state_same}

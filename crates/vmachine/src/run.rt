@@ -1,6 +1,6 @@
 // The run of a machine under a log, handed on slot by slot.
 
-ghost use Rattle.std.specs.Prelude.{◌≡◌, ℕ, List, [], true, IfOk, IfErr, OnOk};
+ghost use Rattle.std.specs.Prelude.{◌≡◌, ◌++◌, ℕ, List, [], true, IfOk, IfErr, OnOk};
 ghost use Rattle.basis.specs.Reasons.{IfFault};
 ghost use Rattle.basis.specs.declared.memory.OrMemory.TheVariants.{Fault};
 ghost use Rattle.vmachine.specs.declared.run.RunFault.TheVariants.{Replay};
@@ -8,12 +8,16 @@ ghost use Rattle.vmachine.specs.Handed.{RunsInto, IsNoSuchRun, LeavesSink};
 ghost use Rattle.vmachine.specs.Inner.{IsOfSink, IsHandedOn, IsAt, IsChosen};
 ghost use Rattle.sched_core.specs.Logs.{IsLogFrom};
 ghost use Rattle.vmodel.specs.Run.{Setting};
+ghost use Rattle.vmodel.specs.Step.{items_of};
+ghost use Rattle.vmodel.specs.InnerStep.{turn_to};
 
 use crate::machine::Machine;
-use basis::OrMemory;
+use basis::{NoMemory, OrMemory};
 use sched_core::{Log, Member, ReplayFault, next_choice};
+use vmodel::deed::Deed;
 use vmodel::history::{End, Item};
 use vmodel::sink::Sink;
+use vdesign::design::Design;
 use vmodel::{SlowState, opening, put_items, put_slot_end};
 
 /// Why a run wasn't handed on to its end, but for want of memory.
@@ -94,6 +98,19 @@ fn choose<'l>(
     }
 }
 
+// Puts behind others what a step gave to the history. Nobody asks for what it did any more.
+fn note(
+    items: &mut Vec<Item>,
+    design: &Design,
+    state: &SlowState,
+    deed: Deed,
+) -> Result<(), NoMemory>
+    ensures { OnOk result (items.new.items
+        ≡ items.old.items ++ items_of design.now (turn_to state.now deed)) }
+{
+    put_items(items, design, state, &deed)
+}
+
 impl Machine {
     /// Runs the design under the log to its end, by at most `steps` steps, and hands all that it gives to its history on
     /// to the sink, in order: once for each slot, and once more for what a slot without an end left.
@@ -126,7 +143,7 @@ impl Machine {
                 Err(fault) => return Err(refused(fault)),
             };
             let deed = state.step(&self.design, chosen.choice)?;
-            put_items(&mut pending, &state, &deed)?;
+            note(&mut pending, &self.design, &state, deed)?;
             rest = chosen.later;
             n += 1;
         }

@@ -6,12 +6,14 @@ use Rattle.std.proofs.lemmas.List.Elements.{Contains-append_left, Contains-appen
 use Rattle.sched_core.specs.Rules.{choice_at}
 use Rattle.vbits.specs.Vectors.{Vector}
 use Rattle.vmodel.specs.declared.history.Cause.{Cause}
-use Rattle.vmodel.specs.declared.history.DumpCommand.{DumpCommand}
+use Rattle.vdesign.specs.Design.{Design}
 use Rattle.vmodel.specs.declared.history.Item.{Item}
-use Rattle.vmodel.specs.declared.history.Item.TheVariants.{SlotEnd, Dump}
+use Rattle.vmodel.specs.declared.history.Item.TheVariants.{SlotEnd, Dump, Monitor}
+use Rattle.vmodel.specs.declared.deed.Shown.{Shown}
+use Rattle.vmodel.specs.declared.deed.Shown.TheVariants.{Commands, Prints, Watches}
 use Rattle.vmodel.specs.declared.part.Part.{Part}
 use Rattle.vmodel.specs.State.{State}
-use Rattle.vmodel.specs.Step.{Turn, next, command_items, idle_items, slot_end_by, slot_end_of, items_of}
+use Rattle.vmodel.specs.Step.{Turn, next, line_item, shown_items, idle_items, slot_end_by, slot_end_of, strobe_items, before_end, end_items, items_of}
 use Rattle.vmodel.specs.Run.{Setting, opening_of, state_after, given_by}
 use Rattle.vmodel.specs.Played.{opening_is, after_is}
 use Rattle.vmodel.specs.Kept.{IsSlotEnd, HasSlotEnd}
@@ -50,15 +52,45 @@ items_of_end s time values end =
     given : slot_end_of s ≡ SlotEnd time values ∷ []
     given = rw (end.goes_on, end.idle.0, end.idle.1) (λ i. SlotEnd (end.time_is i) (end.values_are i) ∷ [])
 
-no_command : (command : Option DumpCommand) (time : ℕ) (values : List Vector) → Contains (command_items command) (SlotEnd time values) → ⊥
-no_command None time values h = no_item (SlotEnd time values) h
-no_command (Some command) time values h = let clash : Dump command ≡ SlotEnd time values = one_item (Dump command) (SlotEnd time values) h in cc
+no_shown : (design : Design) (s : State) (shown : Option Shown) (time : ℕ) (values : List Vector) →
+    Contains (shown_items design s shown) (SlotEnd time values) → ⊥
+no_shown design s None time values h = no_item (SlotEnd time values) h
+no_shown design s (Some (Commands command)) time values h =
+    let clash : Dump command ≡ SlotEnd time values = one_item (Dump command) (SlotEnd time values) h in cc
+no_shown design s (Some (Prints place)) time values h =
+    let clash : line_item design s place ≡ SlotEnd time values = one_item (line_item design s place) (SlotEnd time values) h in cc
+no_shown design s (Some (Watches place)) time values h =
+    let clash : Monitor place ≡ SlotEnd time values = one_item (Monitor place) (SlotEnd time values) h in cc
 
-end_of_turn : (turn : Turn) (time : ℕ) (values : List Vector) → Contains (items_of turn) (SlotEnd time values) → IsSlotEnd time values turn.state
-end_of_turn turn time values h =
-    elim (Contains-append_cases (command_items turn.deed.command) (slot_end_of turn.state) (SlotEnd time values) h) [
-      | inl front ↦ absurd (no_command turn.deed.command time values front)
-      | inr behind ↦ end_of_items turn.state time values behind
+no_strobe : (design : Design) (s : State) (places : List ℕ) (time : ℕ) (values : List Vector) →
+    Contains (strobe_items design s places) (SlotEnd time values) → ⊥
+no_strobe design s [] time values h = no_item (SlotEnd time values) h
+no_strobe design s (place ∷ places) time values (zero, lt, is) =
+    let clash : line_item design s place ≡ SlotEnd time values = is in cc
+no_strobe design s (place ∷ places) time values (suc k, lt, is) = no_strobe design s places time values (k, omega (arith, lt), is)
+
+before_cases : (strobes ends : List Item) (item : Item) → Contains (before_end strobes ends) item → Contains strobes item ⊎ Contains ends item
+before_cases strobes [] item h = inr h
+before_cases strobes (end ∷ ends) item h = Contains-append_cases strobes (end ∷ ends) item h
+
+before_right : (strobes ends : List Item) (item : Item) → Contains ends item → Contains (before_end strobes ends) item
+before_right strobes [] item h = h
+before_right strobes (end ∷ ends) item h = Contains-append_right strobes (end ∷ ends) item h
+
+end_of_end : (design : Design) (s : State) (time : ℕ) (values : List Vector) → Contains (end_items design s) (SlotEnd time values) →
+    IsSlotEnd time values s
+end_of_end design s time values h =
+    elim (before_cases (strobe_items design s s.queue.strobes) (slot_end_of s) (SlotEnd time values) h) [
+      | inl front ↦ absurd (no_strobe design s s.queue.strobes time values front)
+      | inr behind ↦ end_of_items s time values behind
+    ]
+
+end_of_turn : (design : Design) (turn : Turn) (time : ℕ) (values : List Vector) → Contains (items_of design turn) (SlotEnd time values) →
+    IsSlotEnd time values turn.state
+end_of_turn design turn time values h =
+    elim (Contains-append_cases (shown_items design turn.state turn.deed.shown) (end_items design turn.state) (SlotEnd time values) h) [
+      | inl front ↦ absurd (no_shown design turn.state turn.deed.shown time values front)
+      | inr behind ↦ end_of_end design turn.state time values behind
     ]
 
 -- ---- of a run
@@ -70,9 +102,9 @@ shown_end setting log zero time values h =
 shown_end setting log (suc n) time values h =
     let s = state_after setting log n in
     let turn = next setting.design s (choice_at log n) in
-    elim (Contains-append_cases (given_by setting log n) (items_of turn) (SlotEnd time values) h) [
+    elim (Contains-append_cases (given_by setting log n) (items_of setting.design turn) (SlotEnd time values) h) [
       | inl before ↦ (let there = shown_end setting log n time values before in (there.0, omega (arith, there.1), there.2))
-      | inr now ↦ (suc n, omega arith, subst (IsSlotEnd time values) (sym (after_is setting s (choice_at log n))) (end_of_turn turn time values now))
+      | inr now ↦ (suc n, omega arith, subst (IsSlotEnd time values) (sym (after_is setting s (choice_at log n))) (end_of_turn setting.design turn time values now))
     ]
 
 pub end_shown : (setting : Setting) (log : List (ℕ × ℕ)) (n time : ℕ) (values : List Vector) →
@@ -84,12 +116,13 @@ end_shown setting log (suc n) time values (k, le, end) =
     let s = state_after setting log n in
     let turn = next setting.design s (choice_at log n) in
     elim (last_or k n le) [
-      | inl before ↦ Contains-append_left (given_by setting log n) (items_of turn) (SlotEnd time values)
+      | inl before ↦ Contains-append_left (given_by setting log n) (items_of setting.design turn) (SlotEnd time values)
           (end_shown setting log n time values (k, before, end))
-      | inr now ↦ Contains-append_right (given_by setting log n) (items_of turn) (SlotEnd time values)
-          (Contains-append_right (command_items turn.deed.command) (slot_end_of turn.state) (SlotEnd time values)
+      | inr now ↦ Contains-append_right (given_by setting log n) (items_of setting.design turn) (SlotEnd time values)
+          (Contains-append_right (shown_items setting.design turn.state turn.deed.shown) (end_items setting.design turn.state) (SlotEnd time values)
+          (before_right (strobe_items setting.design turn.state turn.state.queue.strobes) (slot_end_of turn.state) (SlotEnd time values)
           (items_of_end turn.state time values
-          (subst (IsSlotEnd time values) (ap (state_after setting log) now ∙ after_is setting s (choice_at log n)) end)))
+          (subst (IsSlotEnd time values) (ap (state_after setting log) now ∙ after_is setting s (choice_at log n)) end))))
     ]
   where
     last_or : (k n : ℕ) → k ≤ suc n → (k ≤ n) ⊎ (k ≡ suc n)

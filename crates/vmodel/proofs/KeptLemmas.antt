@@ -14,7 +14,7 @@ use Rattle.vmodel.specs.declared.choice.Choice.TheVariants.{Run, Update, Advance
 use Rattle.vmodel.specs.Queue.{Slot, Queue, without_process}
 use Rattle.vmodel.specs.State.{State}
 use Rattle.vmodel.specs.Choices.{in_order, first_update, or_advance, active_choices, offered, queue_choices, choices}
-use Rattle.vmodel.specs.Step.{moment_of, Did, does_at, place_of, going, closed_by, woken, closed, acted, process_by, turned, takes, goes_from, without_update, updated, advanced_to, turn_of, turn_by, next}
+use Rattle.vmodel.specs.Step.{moment_of, Did, does_at, place_of, going, closed_by, woken, closed, acted, strobing, process_by, turned, takes, goes_from, without_update, updated, advanced_to, turn_of, turn_by, next}
 use Rattle.vmodel.specs.Run.{Setting, busy_from, opening_process, opening_of, state_after}
 use Rattle.vmodel.specs.Played.{opening_is, after_is}
 use Rattle.vmodel.specs.Kept.{RisesFrom, IsInOrder, count_in, asleep, IsInPlace, IsIdle, IsKept}
@@ -148,8 +148,12 @@ advanced-kept s (e ∷ es) is kept =
 turned-kept : (design : Design) (p : ℕ) (did : Did) (s : State) → IsKept s → 1 ≤ count_in p s.queue.active → p < length s.processes →
     IsKept (turned design p did s).state
 turned-kept design p did s kept active lt =
-    woken-kept design s.values (acted p did s) (order-moved p did.deed.fate did.deed.posted (going p did.left) s.queue kept.order)
-    (place-moved p did.deed.fate did.deed.posted (process_by did) s.queue s.processes kept.place refl active lt)
+    let q = strobing did.deed.strobed s.queue in
+    woken-kept design s.values (acted p did s)
+    (order-moved p did.deed.fate did.deed.posted (going p did.left) q
+    (record { active = kept.order.active; inactive = kept.order.inactive; future = kept.order.future }))
+    (place-moved p did.deed.fate did.deed.posted (process_by did) q s.processes
+    (record { once = kept.place.once; waiting = kept.place.waiting; last = kept.place.last }) refl active lt)
 
 takes-kept : (design : Design) (p : ℕ) (spot : Spot) (action : Option Action) (after : List Spot) (s : State) → IsKept s → 1 ≤ count_in p s.queue.active →
     p < length s.processes → IsKept (takes design p spot action after s).state

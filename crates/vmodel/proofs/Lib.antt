@@ -4,6 +4,7 @@ mod SpotLemmas
 mod LeftLemmas
 mod FutureLemmas
 mod OpeningLemmas
+mod PartLemmas
 mod PlaceLemmas
 mod MovedLemmas
 mod WakingLemmas

@@ -7,12 +7,12 @@ use Rattle.vdesign.specs.declared.action.Action.{Action}
 use Rattle.vmodel.specs.declared.deed.Deed.{Deed}
 use Rattle.vmodel.specs.declared.part.Part.{Part}
 use Rattle.vmodel.specs.declared.process.Spot.{Spot}
-use Rattle.vmodel.specs.declared.values.Change.{Change}
+use Rattle.vmodel.specs.declared.values.Changes.{Changes}
 use Rattle.vmodel.specs.Parts.{written}
 use Rattle.vmodel.specs.Queue.{Queue}
 use Rattle.vmodel.specs.State.{Process, State}
 use Rattle.vmodel.specs.Waking.{wakes, awake, with_awake}
-use Rattle.vmodel.specs.InnerWaking.{Differ, comes, with_active}
+use Rattle.vmodel.specs.InnerWaking.{AreChanges, comes, with_active}
 use Rattle.vmodel.specs.Inner.{first_action}
 use Rattle.vmodel.specs.InnerStep.{did_so, left_in, moved, moved_by, moved_on, ended, turn_to}
 use Rattle.vmodel.specs.Step.{Did, does_at, moment_of, woken, closed, turned, takes, goes_from, process_turn}
@@ -31,7 +31,7 @@ written_same design wrote s values is same =
     ∙ woken_none design (with_values s (written wrote s.values))
     ∙ ap (λ (before : List Vector). woken design before (with_values s (written wrote s.values))) (sym (same ∙ is))
 
-pub written_changed : (design : Design) (wrote : List Part) (s : State) (values : List Vector) (change : Change) → values ≡ written wrote s.values → Differ change s.values values →
+pub written_changed : (design : Design) (wrote : List Part) (s : State) (values : List Vector) (change : Changes) → values ≡ written wrote s.values → AreChanges change s.values values →
     record s {
       values = values;
       processes = map (awake (comes design.actions change)) s.processes;
@@ -47,8 +47,8 @@ written_changed design wrote s values change is differ =
     }
 
 -- the same, as the parts of the code tell it
-pub awoken_is : (design : Design) (wrote : List Part) (s : State) (values : List Vector) (processes : List Process) (queue : Queue) (actions : List Action) (change : Change) →
-    values ≡ written wrote s.values → Differ change s.values values → actions ≡ design.actions →
+pub awoken_is : (design : Design) (wrote : List Part) (s : State) (values : List Vector) (processes : List Process) (queue : Queue) (actions : List Action) (change : Changes) →
+    values ≡ written wrote s.values → AreChanges change s.values values → actions ≡ design.actions →
     processes ≡ map (awake (comes actions change)) s.processes →
     queue ≡ with_active (with_awake (comes actions change) 0 s.processes s.queue.active) s.queue →
     record s { values = values; processes = processes; queue = queue } ≡ woken design s.values (with_values s (written wrote s.values))

@@ -1,34 +1,39 @@
 -- Values keep the shape of their variables: what is written or waits to be written has its target's length and sign.
-use Rattle.std.proofs.Common.{◌≡◌, ℕ, zero, suc, ◌==◌, nat_lt, cond, Bool, true, false, List, [], ◌∷◌, ◌++◌, length, map, Option, Some, None, refl, sym, ap, subst, ◌∙◌}
+use Rattle.std.proofs.Common.{◌≡◌, ℕ, zero, suc, ◌+◌, ◌-◌, ◌≤◌, ◌==◌, nat_lt, nat_le, take, drop, arith, cond, Bool, true, false, List, [], ◌∷◌, ◌++◌, length, map, Option, Some, None, refl, sym, ap, subst, ◌∙◌}
 use Rattle.std.specs.Prelude.{slice_get, slice_set, unwrap_or}
 use Rattle.std.proofs.lemmas.List.{length-replicate}
 use Rattle.sched_core.specs.Rules.{choice_at}
+use Rattle.std.proofs.lemmas.Bool.Decides.{nat_tests}
+use Rattle.vbits.specs.declared.bit4.Bit4.{Bit4}
 use Rattle.vbits.specs.declared.bit4.Bit4.TheVariants.{X}
 use Rattle.vbits.specs.Vectors.{Vector, filled, with_sign}
 use Rattle.vdesign.specs.Design.{Variable, Design}
 use Rattle.vdesign.specs.declared.action.Action.{Action}
-use Rattle.vdesign.specs.declared.action.Action.TheVariants.{Assign, Nonblocking, Test, Case, Again, Repeat, Forever, Delay, On, Until, Drive, DumpVars, Finish, Stop}
+use Rattle.vdesign.specs.declared.print.When.TheVariants.{Now, AtSlotEnd, AtChange}
+use Rattle.vdesign.specs.declared.action.Action.TheVariants.{Assign, Nonblocking, Test, Case, Again, Repeat, Forever, Delay, On, Until, Drive, Print, Dump, Pass, Finish, Stop}
 use Rattle.vdesign.specs.Expressions.{ExpressionTree}
 use Rattle.vdesign.specs.declared.action.Target.{Target}
-use Rattle.vdesign.specs.declared.action.Target.TheVariants.{Whole as WholeTarget}
+use Rattle.vdesign.specs.declared.action.Target.TheVariants.{Whole as WholeTarget, Bit as BitTarget, Part as PartTarget}
 use Rattle.vmodel.specs.declared.history.Cause.{Cause}
 use Rattle.vmodel.specs.declared.deed.Fate.{Fate}
 use Rattle.vmodel.specs.declared.deed.Fate.TheVariants.{GoesOn, Sleeps, Waits}
 use Rattle.vmodel.specs.declared.part.Part.{Part}
-use Rattle.vmodel.specs.declared.part.Part.TheVariants.{Whole}
+use Rattle.vmodel.specs.declared.part.Part.TheVariants.{Whole, Bits}
 use Rattle.vmodel.specs.declared.process.Spot.{Spot}
 use Rattle.vmodel.specs.declared.process.Spot.TheVariants.{Doing, Turning}
 use Rattle.vmodel.specs.declared.choice.Choice.{Choice}
 use Rattle.vmodel.specs.declared.choice.Choice.TheVariants.{Run, Update, Advance}
-use Rattle.vvalue.specs.Value.{Moment, value_at, right_side, holds as holds_at}
+use Rattle.vvalue.specs.Value.{Moment, value_at, bounds_of, right_side, holds as holds_at}
 use Rattle.vmodel.specs.InnerStep.{awaits}
 use Rattle.vvalue.proofs.Lengths.{right_side_length}
-use Rattle.vmodel.specs.Value.{cut_to, assigned}
-use Rattle.vmodel.specs.Parts.{written}
+use Rattle.vvalue.specs.Targets.{target_size, targets_size, place_at, leftwards}
+use Rattle.vmodel.proofs.PartLemmas.{part_length, spliced_length}
+use Rattle.vmodel.specs.Value.{some_bits, bits_at, parts_of, shared, assigned}
+use Rattle.vmodel.specs.Parts.{value_in, with_bits, written}
 use Rattle.vmodel.specs.Queue.{Slot, Queue, waking, empty_slot, wake_at}
 use Rattle.vmodel.specs.State.{State}
 use Rattle.vmodel.specs.Choices.{choices}
-use Rattle.vmodel.specs.Step.{moment_of, Did, does, turns, does_at, place_of, going, leaves, fares, posts, regions, closed_by, woken, closed, acted, takes, goes_from, left_of, first_of, without_update, updated, advanced_to, turn_of, turn_by, next}
+use Rattle.vmodel.specs.Step.{moment_of, Did, does, turns, does_at, place_of, going, leaves, fares, posts, strobing, regions, closed_by, woken, closed, acted, takes, goes_from, left_of, first_of, without_update, updated, advanced_to, turn_of, turn_by, next}
 use Rattle.vmodel.specs.Run.{Setting, opening_value, state_after}
 use Rattle.vmodel.specs.Played.{opening_is, after_is}
 use Rattle.vmodel.specs.Kept.{HasShape, AreShaped}
@@ -36,9 +41,10 @@ use Rattle.vmodel.proofs.MovedLemmas.{sleeps_by}
 
 -- ---- what waits to be written
 
--- a part's value has the shape of the variable that it is written to, where there is one
+-- a whole variable's value has the shape of the variable that it is written to, where there is one
 abbrev Suits : List Variable → Part → Type 0
 Suits variables (Whole number value) = (x : Variable) → slice_get variables number ≡ Some x → HasShape x value
+Suits variables (Bits number low value) = Unit {0}
 
 abbrev AllSuit : List Variable → List Part → Type 0
 AllSuit variables [] = Unit {0}
@@ -78,36 +84,94 @@ shaped-set (x ∷ xs) [] number value h suits = absurd h
 shaped-set (x ∷ xs) (v ∷ vs) zero value h suits = (suits x refl, h.1)
 shaped-set (x ∷ xs) (v ∷ vs) (suc number) value h suits = (h.0, shaped-set xs vs number value h.1 suits)
 
+-- what gets some of its letters keeps its length and its sign
+bits-shape : (old : Vector) (low : ℕ) (value : Vector) → (length (with_bits old low value).letters ≡ length old.letters) × ((with_bits old low value).signed ≡ old.signed)
+bits-shape old low value = by (nat_le high (length old.letters)) refl
+  where
+    high : ℕ
+    high = low + length value.letters
+
+    new : Vector
+    new = record old { letters = take low old.letters ++ value.letters ++ drop high old.letters }
+
+    by : (b : Bool) → nat_le high (length old.letters) ≡ b → (length (cond b new old).letters ≡ length old.letters) × ((cond b new old).signed ≡ old.signed)
+    by false e = (refl, refl)
+    by true e = (spliced_length low old.letters value.letters (grind (arith, nat_tests)), refl)
+
+shaped-bits : (variables : List Variable) (values : List Vector) (number low : ℕ) (value : Vector) → AreShaped variables values →
+    AreShaped variables (slice_set values number (with_bits (value_in values number) low value))
+shaped-bits variables values number low value h = shaped-set variables values number (with_bits old low value) h suits
+  where
+    old : Vector
+    old = value_in values number
+
+    suits : (x : Variable) → slice_get variables number ≡ Some x → HasShape x (with_bits old low value)
+    suits x at =
+        let shape : HasShape x old = shape_at variables values number x (filled 1 X) h at in
+        let kept = bits-shape old low value in
+        (kept.0 ∙ shape.0, kept.1 ∙ shape.1)
+
 shaped-written : (variables : List Variable) (parts : List Part) (values : List Vector) → AreShaped variables values → AllSuit variables parts →
     AreShaped variables (written parts values)
 shaped-written variables [] values h suit = h
 shaped-written variables (Whole number value ∷ parts) values h suit =
     shaped-written variables parts (slice_set values number value) (shaped-set variables values number value h suit.0) suit.1
+shaped-written variables (Bits number low value ∷ parts) values h suit =
+    shaped-written variables parts (slice_set values number (with_bits (value_in values number) low value)) (shaped-bits variables values number low value h) suit.1
 
 marked : (v : Vector) (mark : Bool) → ((with_sign v mark).letters ≡ v.letters) × ((with_sign v mark).signed ≡ mark)
 unfolding with_sign
 marked v mark = (refl, refl)
 
--- 5.4.1, 6.2: the right side is cut or extended to the length of the target, and marked with the target's sign
-cut-shape : (now : Moment) (old : Vector) (e : ExpressionTree) → (length (cut_to now old e).letters ≡ length old.letters) × ((cut_to now old e).signed ≡ old.signed)
-cut-shape now old e =
-    let right : Vector = right_side now (length old.letters) e in (
-      ap length (marked right old.signed).0 ∙ right_side_length now (length old.letters) e,
-      (marked right old.signed).1,
-    )
+-- 5.4.1, 6.2: a whole variable gets as many letters as it has, and keeps its sign mark
 
-assigned-suits : (variables : List Variable) (target : Target) (e : ExpressionTree) (now : Moment) → AreShaped variables now.values →
-    AllSuit variables (assigned now target e)
-assigned-suits variables (WholeTarget number) e now h = (suits, tt)
+some-suit : (variables : List Variable) (n low : ℕ) (letters : List Bit4) → AllSuit variables (some_bits n low letters)
+some-suit variables n low [] = tt
+some-suit variables n low (b ∷ bs) = (tt, tt)
+
+at-suits : (variables : List Variable) (n : ℕ) (old : Vector) (place : Option ℕ) (letters : List Bit4) → AllSuit variables (bits_at n old place letters)
+at-suits variables n old None letters = tt
+at-suits variables n old (Some place) letters = some-suit variables n place (take (length old.letters - place) letters)
+
+whole-suits : (variables : List Variable) (now : Moment) (n : ℕ) (letters : List Bit4) → AreShaped variables now.values →
+    length letters ≡ length (value_at now n).letters →
+    (x : Variable) → slice_get variables n ≡ Some x → HasShape x (record { letters = letters; signed = (value_at now n).signed })
+whole-suits variables now n letters h len x at =
+    let shape : HasShape x (value_at now n) = shape_at variables now.values n x (filled 1 X) h at in
+    (len ∙ shape.0, shape.1)
+
+parts-suit : (variables : List Variable) (now : Moment) (target : Target) (letters : List Bit4) → AreShaped variables now.values →
+    length letters ≡ target_size now target → AllSuit variables (parts_of now target letters)
+parts-suit variables now (WholeTarget n) letters h len = (whole-suits variables now n letters h len, tt)
+parts-suit variables now (BitTarget n index) letters h len = at-suits variables n (value_at now n) (place_at now n index) letters
+parts-suit variables now (PartTarget n selected) letters h len =
+    let bounds = bounds_of now n in
+    let low = leftwards bounds selected.right bounds.right in
+    some-suit variables n low (take (length (value_at now n).letters - low) (drop (leftwards bounds bounds.right selected.right) letters))
+
+both-suit : (variables : List Variable) (ps qs : List Part) → AllSuit variables ps → AllSuit variables qs → AllSuit variables (ps ++ qs)
+both-suit variables [] qs h k = k
+both-suit variables (p ∷ ps) qs h k = (h.0, both-suit variables ps qs h.1 k)
+
+shared-suits : (variables : List Variable) (now : Moment) (targets : List Target) (letters : List Bit4) → AreShaped variables now.values →
+    targets_size now targets ≤ length letters → AllSuit variables (shared now targets letters)
+shared-suits variables now [] letters h le = tt
+shared-suits variables now (target ∷ more) letters h le =
+    both-suit variables (parts_of now target (take (target_size now target) (drop (targets_size now more) letters))) (shared now more letters)
+    (parts-suit variables now target (take (target_size now target) (drop (targets_size now more) letters)) h
+    (part_length (target_size now target) (targets_size now more) letters le))
+    (shared-suits variables now more letters h (omega (arith, le)))
+
+assigned-suits : (variables : List Variable) (targets : List Target) (e : ExpressionTree) (now : Moment) → AreShaped variables now.values →
+    AllSuit variables (assigned now targets e)
+assigned-suits variables targets e now h = by (nat_le size 64)
   where
-    old : Vector
-    old = value_at now number
+    size : ℕ
+    size = targets_size now targets
 
-    suits : (x : Variable) → slice_get variables number ≡ Some x → HasShape x (cut_to now old e)
-    suits x at =
-        let shape : HasShape x old = shape_at variables now.values number x (filled 1 X) h at in
-        let cut = cut-shape now old e in
-        (cut.0 ∙ shape.0, cut.1 ∙ shape.1)
+    by : (b : Bool) → AllSuit variables (cond b (shared now targets (right_side now size e).letters) [])
+    by false = tt
+    by true = shared-suits variables now targets (right_side now size e).letters h (omega (arith, right_side_length now size e))
 
 -- ---- what waits
 
@@ -190,20 +254,24 @@ awaits-suit variables place false body after = record { wrote = tt; posted = λ 
 
 does-suits : (variables : List Variable) (place : ℕ) (action : Action) (after : List Spot) (now : Moment) → AreShaped variables now.values →
     DeedSuits variables (does place action after now)
-does-suits variables place (Assign target value) after now h = record { wrote = assigned-suits variables target value now h; posted = λ u is. cc }
-does-suits variables place (Nonblocking target value) after now h = record {
+does-suits variables place (Assign targets value) after now h = record { wrote = assigned-suits variables targets value now h; posted = λ u is. cc }
+does-suits variables place (Nonblocking targets value) after now h = record {
   wrote = tt;
   posted = λ u is.
-      let same : assigned now target value ≡ u = cc in
-      subst (AllSuit variables) same (assigned-suits variables target value now h);
+      let same : assigned now targets value ≡ u = cc in
+      subst (AllSuit variables) same (assigned-suits variables targets value now h);
 }
 does-suits variables place (Delay amount body) after now h = record { wrote = tt; posted = λ u is. cc }
 does-suits variables place (On terms body) after now h = record { wrote = tt; posted = λ u is. cc }
 does-suits variables place (Until condition terms body) after now h = awaits-suit variables place (holds_at now condition) body after
 does-suits variables place (Case kind value branches otherwise) after now h = record { wrote = tt; posted = λ u is. cc }
 does-suits variables place (Repeat count body) after now h = record { wrote = tt; posted = λ u is. cc }
-does-suits variables place (Drive target value terms) after now h = record { wrote = assigned-suits variables target value now h; posted = λ u is. cc }
-does-suits variables place DumpVars after now h = record { wrote = tt; posted = λ u is. cc }
+does-suits variables place (Drive net value terms) after now h = record { wrote = assigned-suits variables (WholeTarget net ∷ []) value now h; posted = λ u is. cc }
+does-suits variables place (Print Now pieces) after now h = record { wrote = tt; posted = λ u is. cc }
+does-suits variables place (Print AtSlotEnd pieces) after now h = record { wrote = tt; posted = λ u is. cc }
+does-suits variables place (Print AtChange pieces) after now h = record { wrote = tt; posted = λ u is. cc }
+does-suits variables place (Dump command) after now h = record { wrote = tt; posted = λ u is. cc }
+does-suits variables place Pass after now h = record { wrote = tt; posted = λ u is. cc }
 does-suits variables place Finish after now h = record { wrote = tt; posted = λ u is. cc }
 does-suits variables place Stop after now h = record { wrote = tt; posted = λ u is. cc }
 does-suits variables place (Test condition when_true otherwise) after now h = record { wrote = tt; posted = λ u is. cc }
@@ -222,7 +290,9 @@ does_at-suits variables (Turning place n) action after now h = turns-suit variab
 acted-shaped : (variables : List Variable) (p : ℕ) (did : Did) (s : State) → IsShaped variables s → DeedSuits variables did → IsShaped variables (acted p did s)
 acted-shaped variables p did s h suits = record {
   values = shaped-written variables did.deed.wrote s.values h.values suits.wrote;
-  queue = fares-suit variables p did.deed.fate (going p did.left) (posts did.deed.posted s.queue) (posts-suit variables did.deed.posted s.queue h.queue suits.posted);
+  queue = let q = strobing did.deed.strobed s.queue in
+      fares-suit variables p did.deed.fate (going p did.left) (posts did.deed.posted q)
+      (posts-suit variables did.deed.posted q (record { activated = h.queue.activated; posted = h.queue.posted; future = h.queue.future }) suits.posted);
 }
 
 takes-shaped : (variables : List Variable) (design : Design) (p : ℕ) (spot : Spot) (action : Option Action) (after : List Spot) (s : State) → IsShaped variables s →

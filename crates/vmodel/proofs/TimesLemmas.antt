@@ -6,9 +6,10 @@ use Rattle.sched_core.specs.Rules.{choice_at, IsRun}
 use Rattle.vdesign.specs.Design.{Design}
 use Rattle.vdesign.specs.declared.action.Action.{Action}
 use Rattle.vmodel.specs.declared.history.Cause.{Cause}
-use Rattle.vmodel.specs.declared.history.DumpCommand.{DumpCommand}
 use Rattle.vmodel.specs.declared.history.Item.{Item}
-use Rattle.vmodel.specs.declared.history.Item.TheVariants.{SlotEnd, Dump}
+use Rattle.vmodel.specs.declared.history.Item.TheVariants.{SlotEnd, Dump, Line, Monitor}
+use Rattle.vmodel.specs.declared.deed.Shown.{Shown}
+use Rattle.vmodel.specs.declared.deed.Shown.TheVariants.{Commands, Prints, Watches}
 use Rattle.vmodel.specs.declared.part.Part.{Part}
 use Rattle.vmodel.specs.declared.deed.Fate.{Fate}
 use Rattle.vmodel.specs.declared.deed.Fate.TheVariants.{GoesOn, Sleeps, Waits}
@@ -18,7 +19,7 @@ use Rattle.vmodel.specs.declared.choice.Choice.TheVariants.{Run, Update, Advance
 use Rattle.vmodel.specs.Queue.{Slot, Queue}
 use Rattle.vmodel.specs.State.{State}
 use Rattle.vmodel.specs.Choices.{choices}
-use Rattle.vmodel.specs.Step.{moment_of, Turn, Did, does_at, place_of, going, goes_on, fares, posts, settled, closed_by, woken, closed, acted, turned, takes, goes_from, left_of, without_update, updated, advanced_to, turn_of, turn_by, next, command_items, idle_items, slot_end_by, slot_end_of, items_of}
+use Rattle.vmodel.specs.Step.{moment_of, Turn, Did, does_at, place_of, going, goes_on, fares, posts, strobing, settled, closed_by, woken, closed, acted, turned, takes, goes_from, left_of, without_update, updated, advanced_to, turn_of, turn_by, next, shown_items, idle_items, slot_end_by, slot_end_of, strobe_items, before_end, end_items, items_of}
 use Rattle.vmodel.specs.Run.{Setting, rules_of, opening_of, state_after, given_by}
 use Rattle.vmodel.specs.Played.{opening_is, after_is, width_is}
 use Rattle.vmodel.specs.Kept.{RisesFrom, IsIdle, IsKept, slot_times, count_in}
@@ -44,6 +45,8 @@ slot_times-append : (xs ys : List Item) → slot_times (xs ++ ys) ≡ slot_times
 slot_times-append [] ys = refl
 slot_times-append (SlotEnd time values ∷ xs) ys = ap (λ (ts : List ℕ). time ∷ ts) (slot_times-append xs ys)
 slot_times-append (Dump command ∷ xs) ys = slot_times-append xs ys
+slot_times-append (Line text ∷ xs) ys = slot_times-append xs ys
+slot_times-append (Monitor place ∷ xs) ys = slot_times-append xs ys
 
 append-none : (ts : List ℕ) → ts ++ [] ≡ ts
 append-none [] = refl
@@ -79,17 +82,29 @@ timed_end times s rises le = by_cause s.cause refl
     by_cause (Some cause) is = none_more
     by_cause None is = by_idle s.queue.active s.queue.activated refl refl
 
-no_slot_end : (command : Option DumpCommand) → slot_times (command_items command) ≡ []
-no_slot_end None = refl
-no_slot_end (Some command) = refl
+none_shown : (design : Design) (s : State) (shown : Option Shown) → slot_times (shown_items design s shown) ≡ []
+none_shown design s None = refl
+none_shown design s (Some (Commands command)) = refl
+none_shown design s (Some (Prints place)) = refl
+none_shown design s (Some (Watches place)) = refl
+
+none_strobed : (design : Design) (s : State) (places : List ℕ) → slot_times (strobe_items design s places) ≡ []
+none_strobed design s [] = refl
+none_strobed design s (place ∷ places) = none_strobed design s places
+
+times_before : (strobes ends : List Item) → slot_times strobes ≡ [] → slot_times (before_end strobes ends) ≡ slot_times ends
+times_before strobes [] none = refl
+times_before strobes (end ∷ ends) none = slot_times-append strobes (end ∷ ends) ∙ ap (λ (ts : List ℕ). ts ++ slot_times (end ∷ ends)) none
 
 -- the same after a turn, with all that it gives
-timed_turn : (times : List ℕ) (turn : Turn) → RisesFrom 0 times → free_from 0 times ≤ turn.state.queue.time →
-    IsTimed (times ++ slot_times (items_of turn)) turn.state
-timed_turn times turn rises le =
-    subst (λ (ts : List ℕ). IsTimed (times ++ ts) turn.state)
-    (sym (slot_times-append (command_items turn.deed.command) (slot_end_of turn.state)
-    ∙ ap (λ (ts : List ℕ). ts ++ slot_times (slot_end_of turn.state)) (no_slot_end turn.deed.command)))
+timed_turn : (design : Design) (times : List ℕ) (turn : Turn) → RisesFrom 0 times → free_from 0 times ≤ turn.state.queue.time →
+    IsTimed (times ++ slot_times (items_of design turn)) turn.state
+timed_turn design times turn rises le =
+    let s = turn.state in
+    subst (λ (ts : List ℕ). IsTimed (times ++ ts) s)
+    (sym (slot_times-append (shown_items design s turn.deed.shown) (end_items design s)
+    ∙ ap (λ (ts : List ℕ). ts ++ slot_times (end_items design s)) (none_shown design s turn.deed.shown)
+    ∙ times_before (strobe_items design s s.queue.strobes) (slot_end_of s) (none_strobed design s s.queue.strobes)))
     (timed_end times turn.state rises le)
 
 -- ---- the time after a step
@@ -120,8 +135,8 @@ time-posts (Some u) q = refl
 time-turned : (design : Design) (p : ℕ) (did : Did) (s : State) → (turned design p did s).state.queue.time ≡ s.queue.time
 time-turned design p did s =
     time-closed (woken design s.values (acted p did s))
-    ∙ time-fares p did.deed.fate (going p did.left) (posts did.deed.posted s.queue)
-    ∙ time-posts did.deed.posted s.queue
+    ∙ time-fares p did.deed.fate (going p did.left) (posts did.deed.posted (strobing did.deed.strobed s.queue))
+    ∙ time-posts did.deed.posted (strobing did.deed.strobed s.queue)
 
 time-takes : (design : Design) (p : ℕ) (spot : Spot) (action : Option Action) (after : List Spot) (s : State) → (takes design p spot action after s).state.queue.time ≡ s.queue.time
 time-takes design p spot None after s = refl
@@ -142,19 +157,19 @@ time-advanced times s (e ∷ es) is kept some le =
     let h = rw is at kept.order.future in omega (arith, h.0, le)
 
 turn-timed : (design : Design) (times : List ℕ) (c : Choice) (s : State) → IsKept s → s.cause ≡ None → IsOpen c s.queue → IsTimed times s →
-    IsTimed (times ++ slot_times (items_of (turn_of design c s))) (turn_of design c s).state
+    IsTimed (times ++ slot_times (items_of design (turn_of design c s))) (turn_of design c s).state
 turn-timed design times (Run p) s kept none active timed =
-    timed_turn times (turn_of design (Run p) s) timed.rises
+    timed_turn design times (turn_of design (Run p) s) timed.rises
     (omega (
       arith,
       timed.before none (λ idle. absurd (omega (arith, active, ap (count_in p) idle.0))),
       time-process design p (left_of (slice_get s.processes p)) s,
     ))
 turn-timed design times Update s kept none some timed =
-    timed_turn times (turn_of design Update s) timed.rises
+    timed_turn design times (turn_of design Update s) timed.rises
     (omega (arith, timed.before none (λ idle. some idle.1), time-closed (woken design s.values (updated s)), time-updated s.queue.activated s.queue))
 turn-timed design times Advance s kept none allowed timed =
-    timed_turn times (turn_of design Advance s) timed.rises
+    timed_turn design times (turn_of design Advance s) timed.rises
     (omega (
       arith,
       time-advanced times s s.queue.future refl kept allowed.1 timed.within,
@@ -162,11 +177,11 @@ turn-timed design times Advance s kept none allowed timed =
     ))
 
 next-timed : (design : Design) (times : List ℕ) (s : State) (i : ℕ) → IsKept s → IsTimed times s → i < length (choices s) →
-    IsTimed (times ++ slot_times (items_of (next design s i))) (next design s i).state
+    IsTimed (times ++ slot_times (items_of design (next design s i))) (next design s i).state
 next-timed design times s i kept timed lt =
     let there = listed_place (choices s) i lt in
     let allowed = open_choice s i there.0 kept.place.last there.1 in
-    subst (λ (o : Option Choice). IsTimed (times ++ slot_times (items_of (turn_by design o s))) (turn_by design o s).state) (sym there.1)
+    subst (λ (o : Option Choice). IsTimed (times ++ slot_times (items_of design (turn_by design o s))) (turn_by design o s).state) (sym there.1)
     (turn-timed design times there.0 s kept allowed.0 allowed.1 timed)
 
 -- ---- the run
@@ -181,8 +196,8 @@ timed setting log (suc n) run =
     let s = state_after setting log n in
     let i = choice_at log n in
     let turn = next setting.design s i in
-    subst (λ (ts : List ℕ). IsTimed ts (state_after setting log (suc n))) (sym (slot_times-append (given_by setting log n) (items_of turn)))
-    (subst (IsTimed (slot_times (given_by setting log n) ++ slot_times (items_of turn))) (sym (after_is setting s i))
+    subst (λ (ts : List ℕ). IsTimed ts (state_after setting log (suc n))) (sym (slot_times-append (given_by setting log n) (items_of setting.design turn)))
+    (subst (IsTimed (slot_times (given_by setting log n) ++ slot_times (items_of setting.design turn))) (sym (after_is setting s i))
     (next-timed setting.design (slot_times (given_by setting log n)) s i (kept setting log n) (timed setting log n (shorter setting log n run))
     (omega (arith, run n (omega arith), width_is setting s))))
 

@@ -8,17 +8,19 @@ use Rattle.vbits.specs.Vectors.{Vector}
 use Rattle.vdesign.specs.Design.{Design}
 use Rattle.vdesign.specs.declared.action.Action.{Action}
 use Rattle.vmodel.specs.declared.history.Cause.{Cause}
-use Rattle.vmodel.specs.declared.history.DumpCommand.{DumpCommand}
-use Rattle.vmodel.specs.declared.history.Item.TheVariants.{SlotEnd, Dump}
+use Rattle.vmodel.specs.declared.history.Item.{Item}
+use Rattle.vmodel.specs.declared.history.Item.TheVariants.{SlotEnd, Dump, Monitor}
+use Rattle.vmodel.specs.declared.deed.Shown.{Shown}
+use Rattle.vmodel.specs.declared.deed.Shown.TheVariants.{Commands, Prints, Watches}
 use Rattle.vmodel.specs.declared.part.Part.{Part}
-use Rattle.vmodel.specs.declared.part.Part.TheVariants.{Whole}
+use Rattle.vmodel.specs.declared.part.Part.TheVariants.{Whole, Bits}
 use Rattle.vmodel.specs.declared.process.Spot.{Spot}
 use Rattle.vmodel.specs.declared.choice.Choice.{Choice}
 use Rattle.vmodel.specs.declared.choice.Choice.TheVariants.{Run, Update, Advance}
 use Rattle.vmodel.specs.State.{State}
 use Rattle.vmodel.specs.Choices.{choices}
-use Rattle.vmodel.specs.Parts.{written}
-use Rattle.vmodel.specs.Step.{moment_of, Turn, does_at, place_of, closed_by, woken, closed, acted, takes, goes_from, left_of, first_of, updated, advanced_to, turn_of, turn_by, next, command_items, idle_items, slot_end_by, slot_end_of, items_of}
+use Rattle.vmodel.specs.Parts.{value_in, with_bits, written}
+use Rattle.vmodel.specs.Step.{moment_of, Turn, does_at, place_of, closed_by, woken, closed, acted, takes, goes_from, left_of, first_of, updated, advanced_to, turn_of, turn_by, next, line_item, shown_items, idle_items, slot_end_by, slot_end_of, strobe_items, before_end, end_items, items_of}
 use Rattle.vmodel.specs.Run.{Setting, opening_value, opening_of, state_after, given_by}
 use Rattle.vmodel.specs.Played.{opening_is, after_is}
 use Rattle.vmodel.specs.Kept.{HasValues}
@@ -29,6 +31,9 @@ length-written : (parts : List Part) (values : List Vector) → length (written 
 length-written [] values = refl
 length-written (Whole variable value ∷ parts) values =
     length-written parts (slice_set values variable value) ∙ length-set values variable value
+length-written (Bits variable low value ∷ parts) values =
+    let new = with_bits (value_in values variable) low value in
+    length-written parts (slice_set values variable new) ∙ length-set values variable new
 
 length-closed : (s : State) → length (closed s).values ≡ length s.values
 length-closed s = by_cause s.cause
@@ -74,14 +79,28 @@ shown-end count s full = by_cause s.cause
     by_cause (Some cause) = All-nil (HasValues count)
     by_cause None = shown-idle count s.queue.active s.queue.activated s.queue.time s.values full
 
-shown-command : (count : ℕ) (command : Option DumpCommand) → All (HasValues count) (command_items command)
-shown-command count None = All-nil (HasValues count)
-shown-command count (Some command) = All-cons (HasValues count) (Dump command) [] tt (All-nil (HasValues count))
+shown-at_once : (count : ℕ) (design : Design) (s : State) (shown : Option Shown) → All (HasValues count) (shown_items design s shown)
+shown-at_once count design s None = All-nil (HasValues count)
+shown-at_once count design s (Some (Commands command)) = All-cons (HasValues count) (Dump command) [] tt (All-nil (HasValues count))
+shown-at_once count design s (Some (Prints place)) = All-cons (HasValues count) (line_item design s place) [] tt (All-nil (HasValues count))
+shown-at_once count design s (Some (Watches place)) = All-cons (HasValues count) (Monitor place) [] tt (All-nil (HasValues count))
 
-shown-turn : (count : ℕ) (turn : Turn) → length turn.state.values ≡ count → All (HasValues count) (items_of turn)
-shown-turn count turn full =
-    All-append (HasValues count) (command_items turn.deed.command) (slot_end_of turn.state) (shown-command count turn.deed.command)
-    (shown-end count turn.state full)
+shown-strobes : (count : ℕ) (design : Design) (s : State) (places : List ℕ) → All (HasValues count) (strobe_items design s places)
+shown-strobes count design s [] = All-nil (HasValues count)
+shown-strobes count design s (place ∷ places) =
+    All-cons (HasValues count) (line_item design s place) (strobe_items design s places) tt (shown-strobes count design s places)
+
+shown-before : (count : ℕ) (strobes ends : List Item) → All (HasValues count) strobes → All (HasValues count) ends →
+    All (HasValues count) (before_end strobes ends)
+shown-before count strobes [] first then = then
+shown-before count strobes (end ∷ ends) first then = All-append (HasValues count) strobes (end ∷ ends) first then
+
+shown-turn : (count : ℕ) (design : Design) (turn : Turn) → length turn.state.values ≡ count → All (HasValues count) (items_of design turn)
+shown-turn count design turn full =
+    let s = turn.state in
+    All-append (HasValues count) (shown_items design s turn.deed.shown) (end_items design s) (shown-at_once count design s turn.deed.shown)
+    (shown-before count (strobe_items design s s.queue.strobes) (slot_end_of s) (shown-strobes count design s s.queue.strobes)
+    (shown-end count s full))
 
 -- ---- the run
 
@@ -103,5 +122,5 @@ as_many_shown setting log (suc n) =
     let i = choice_at log n in
     let count = length setting.design.variables in
     let turn = next setting.design s i in
-    All-append (HasValues count) (given_by setting log n) (items_of turn) (as_many_shown setting log n)
-    (shown-turn count turn (next-full setting.design s i ∙ as_many setting log n))
+    All-append (HasValues count) (given_by setting log n) (items_of setting.design turn) (as_many_shown setting log n)
+    (shown-turn count setting.design turn (next-full setting.design s i ∙ as_many setting log n))

@@ -10,13 +10,16 @@ use Rattle.vdesign.specs.declared.action.Edge.{Edge}
 use Rattle.vdesign.specs.declared.action.Edge.TheVariants.{Any, Rise, Fall}
 use Rattle.vdesign.specs.declared.action.Term.{Term}
 use Rattle.vdesign.specs.declared.action.Action.{Action}
-use Rattle.vdesign.specs.declared.action.Action.TheVariants.{Assign, Nonblocking, Test, Case, Again, Repeat, Forever, Delay, On, Until, Drive, DumpVars, Finish, Stop}
+use Rattle.vdesign.specs.declared.action.Action.TheVariants.{Assign, Nonblocking, Test, Case, Again, Repeat, Forever, Delay, On, Until, Drive, Print, Dump, Pass, Finish, Stop}
 use Rattle.vmodel.specs.declared.values.Change.{Change}
 use Rattle.vmodel.specs.Queue.{with_process}
 use Rattle.vmodel.specs.State.{Process, State}
 use Rattle.vmodel.specs.Step.{woken}
-use Rattle.vmodel.specs.Waking.{rank, last_bit, is_edge, value_in, hears, any_hears, has_come, wakes_at, wakes, awake, with_awake}
-use Rattle.vmodel.specs.InnerWaking.{Differ, hears_of, any_hears_of, comes_by, comes_at, comes}
+use Rattle.vmodel.specs.Parts.{value_in}
+use Rattle.vmodel.specs.Waking.{rank, last_bit, is_edge, hears, any_hears, has_come, wakes_at, wakes, awake, with_awake}
+use Rattle.vmodel.specs.declared.values.Changes.{Changes}
+use Rattle.vmodel.specs.declared.values.Changes.TheVariants.{One, Many}
+use Rattle.vmodel.specs.InnerWaking.{Differ, AreChanges, hears_of, any_hears_of, comes_by, comes_at, comes}
 use Rattle.vmodel.proofs.ProcessLemmas.{not_lt}
 
 -- ---- no change is heard
@@ -35,8 +38,8 @@ none_hears values (term ∷ terms) =
 none_comes : (values : List Vector) (action : Option Action) → has_come action values values ≡ false
 none_comes values None = refl
 none_comes values (Some (On terms body)) = none_hears values terms
-none_comes values (Some (Assign target value)) = refl
-none_comes values (Some (Nonblocking target value)) = refl
+none_comes values (Some (Assign targets value)) = refl
+none_comes values (Some (Nonblocking targets value)) = refl
 none_comes values (Some (Test condition when_true otherwise)) = refl
 none_comes values (Some (Again condition body)) = refl
 none_comes values (Some (Forever body)) = refl
@@ -44,8 +47,10 @@ none_comes values (Some (Delay amount body)) = refl
 none_comes values (Some (Until condition terms body)) = none_hears values terms
 none_comes values (Some (Case kind value branches otherwise)) = refl
 none_comes values (Some (Repeat count body)) = refl
-none_comes values (Some (Drive target value terms)) = none_hears values terms
-none_comes values (Some DumpVars) = refl
+none_comes values (Some (Drive net value terms)) = none_hears values terms
+none_comes values (Some (Print when pieces)) = refl
+none_comes values (Some (Dump command)) = refl
+none_comes values (Some Pass) = refl
 none_comes values (Some Finish) = refl
 none_comes values (Some Stop) = refl
 
@@ -86,20 +91,21 @@ hears_by change before after term d false isnt =
     let other : term.variable ≢ change.variable = grind (arith, nat_tests) in
     edge_none term.edge (value_in before term.variable) (value_in after term.variable) (d.others term.variable other)
 
-hears_is : (change : Change) (before after : List Vector) (term : Term) → Differ change before after → hears before after term ≡ hears_of change term
-hears_is change before after term d = hears_by change before after term d (term.variable == change.variable) refl
+hears_is : (change : Changes) (before after : List Vector) (term : Term) → AreChanges change before after → hears before after term ≡ hears_of change term
+hears_is (One change) before after term d = hears_by change before after term d (term.variable == change.variable) refl
+hears_is (Many values parts) before after term d = λ i. hears (d.0 i) (d.1 i) term
 
-any_is : (change : Change) (before after : List Vector) (terms : List Term) → Differ change before after → any_hears before after terms ≡ any_hears_of change terms
+any_is : (change : Changes) (before after : List Vector) (terms : List Term) → AreChanges change before after → any_hears before after terms ≡ any_hears_of change terms
 any_is change before after [] d = refl
 any_is change before after (term ∷ terms) d =
     ap (λ b. b || any_hears before after terms) (hears_is change before after term d)
     ∙ ap (λ b. hears_of change term || b) (any_is change before after terms d)
 
-comes_is_by : (change : Change) (before after : List Vector) (action : Option Action) → Differ change before after → has_come action before after ≡ comes_by change action
+comes_is_by : (change : Changes) (before after : List Vector) (action : Option Action) → AreChanges change before after → has_come action before after ≡ comes_by change action
 comes_is_by change before after None d = refl
 comes_is_by change before after (Some (On terms body)) d = any_is change before after terms d
-comes_is_by change before after (Some (Assign target value)) d = refl
-comes_is_by change before after (Some (Nonblocking target value)) d = refl
+comes_is_by change before after (Some (Assign targets value)) d = refl
+comes_is_by change before after (Some (Nonblocking targets value)) d = refl
 comes_is_by change before after (Some (Test condition when_true otherwise)) d = refl
 comes_is_by change before after (Some (Again condition body)) d = refl
 comes_is_by change before after (Some (Forever body)) d = refl
@@ -107,17 +113,19 @@ comes_is_by change before after (Some (Delay amount body)) d = refl
 comes_is_by change before after (Some (Until condition terms body)) d = any_is change before after terms d
 comes_is_by change before after (Some (Case kind value branches otherwise)) d = refl
 comes_is_by change before after (Some (Repeat count body)) d = refl
-comes_is_by change before after (Some (Drive target value terms)) d = any_is change before after terms d
-comes_is_by change before after (Some DumpVars) d = refl
+comes_is_by change before after (Some (Drive net value terms)) d = any_is change before after terms d
+comes_is_by change before after (Some (Print when pieces)) d = refl
+comes_is_by change before after (Some (Dump command)) d = refl
+comes_is_by change before after (Some Pass) d = refl
 comes_is_by change before after (Some Finish) d = refl
 comes_is_by change before after (Some Stop) d = refl
 
-comes_is_at : (actions : List Action) (change : Change) (before after : List Vector) (waits : Option ℕ) → Differ change before after →
+comes_is_at : (actions : List Action) (change : Changes) (before after : List Vector) (waits : Option ℕ) → AreChanges change before after →
     wakes_at actions before after waits ≡ comes_at actions change waits
 comes_is_at actions change before after None d = refl
 comes_is_at actions change before after (Some place) d = comes_is_by change before after (slice_get actions place) d
 
-pub comes_is : (actions : List Action) (change : Change) (before after : List Vector) → Differ change before after →
+pub comes_is : (actions : List Action) (change : Changes) (before after : List Vector) → AreChanges change before after →
     wakes actions before after ≡ comes actions change
 comes_is actions change before after d = λ i process. comes_is_at actions change before after process.waits d i
 
@@ -147,6 +155,9 @@ differ_set values n old new at = record {
   new = ap (λ (o : Option Vector). unwrap_or o (filled 1 X)) (get_set values n old new at);
   others = λ m ne. ap (λ (o : Option Vector). unwrap_or o (filled 1 X)) (get_other values n m new ne);
 }
+
+pub other_after : (values : List Vector) (n m : ℕ) (new : Vector) → m ≢ n → value_in values m ≡ value_in (slice_set values n new) m
+other_after values n m new ne = ap (λ (o : Option Vector). unwrap_or o (filled 1 X)) (get_other values n m new ne)
 
 pub got : (values : List Vector) (n : ℕ) (v d : Vector) → n < length values → v ≡ slice_index_or values n d → slice_get values n ≡ Some v
 got [] n v d lt e = absurd (omega (arith, lt))

@@ -1,6 +1,11 @@
 -- How the program keeps what the definitions see as lists: words for the contracts of parts within.
-use Rattle.std.specs.Prelude.{◌≡◌, ℕ, zero, suc, ◌-◌, cond, nat_lt, List, [], ◌∷◌, length, take, Option, Some, None, refl}
+use Rattle.std.specs.Prelude.{◌≡◌, ◌==◌, ℕ, zero, suc, ◌-◌, cond, nat_lt, List, [], ◌∷◌, length, take, Option, Some, None}
 use Rattle.vmodel.specs.declared.part.Part.{Part}
+use Rattle.vmodel.specs.declared.part.Part.TheVariants.{Whole, Bits}
+use Rattle.vbits.specs.Vectors.{Vector}
+use Rattle.vmodel.specs.Parts.{with_bits}
+use Rattle.vmodel.specs.declared.part.Kept.{Kept}
+use Rattle.vmodel.specs.declared.part.Kept.TheVariants.{One, Many}
 use Rattle.std.specs.Prelude.{slice_get}
 use Rattle.std.specs.Borrow.{Bor}
 use Rattle.vdesign.specs.declared.action.Action.{Action}
@@ -10,17 +15,33 @@ use Rattle.vmodel.specs.Step.{place_of}
 
 -- ---- parts
 
-abbrev pub listed_parts : Option Part → List Part
-listed_parts None = []
-listed_parts (Some part) = part ∷ []
+-- one is kept by itself, others in a list that is shared
+abbrev pub listed_parts : Option Part → Option (List Part) → List Part
+listed_parts (Some part) many = part ∷ []
+listed_parts None None = []
+listed_parts None (Some list) = list
 
-abbrev pub first_part : List Part → Option Part
-first_part [] = None
-first_part (part ∷ rest) = Some part
+abbrev pub variable_of : Part → ℕ
+variable_of (Whole variable value) = variable
+variable_of (Bits variable low value) = variable
 
-pub first_of_listed : (part : Option Part) → first_part (listed_parts part) ≡ part
-first_of_listed None = refl
-first_of_listed (Some part) = refl
+-- what a part makes of its variable's value
+abbrev pub value_over : Part → Vector → Vector
+value_over (Whole variable value) old = value
+value_over (Bits variable low value) old = with_bits old low value
+
+-- and of another variable's: nothing
+abbrev pub over_one : Part → ℕ → Vector → Vector
+over_one part n old = cond (variable_of part == n) (value_over part old) old
+
+-- what the parts make of a variable's value, from left to right
+abbrev pub over_all : List Part → ℕ → Vector → Vector
+over_all [] n old = old
+over_all (part ∷ parts) n old = over_all parts n (over_one part n old)
+
+abbrev pub kept_parts : Kept → List Part
+kept_parts (One part) = part ∷ []
+kept_parts (Many list) = list.now
 
 -- ---- the future
 
@@ -44,6 +65,10 @@ NoneIs P (Some e) = ¬ P e
 -- the last posted update is taken back
 abbrev pub unposted : Queue → Queue
 unposted q = record q { posted = take (length q.posted - 1) q.posted }
+
+-- the last monitor event is taken back
+abbrev pub unstrobed : Queue → Queue
+unstrobed q = record q { strobes = take (length q.strobes - 1) q.strobes }
 
 -- ---- what a process comes to
 

@@ -7,7 +7,7 @@ use Rattle.vmodel.specs.declared.deed.Fate.TheVariants.{Waits}
 use Rattle.vmodel.specs.Queue.{Queue}
 use Rattle.vmodel.specs.declared.history.Cause.{Cause}
 use Rattle.vmodel.specs.State.{Process, State}
-use Rattle.vmodel.specs.Step.{Did, Turn, spots, going, process_by, fares, posts, left_of, quiet}
+use Rattle.vmodel.specs.Step.{Did, Turn, spots, going, process_by, fares, posts, strobing, left_of, quiet}
 
 -- what a process has left, among all
 abbrev pub left_in : List Process → ℕ → List Spot
@@ -25,7 +25,7 @@ moved left then next deed = process_by (record { left = spots next (behind then 
 -- and the queue
 abbrev pub moved_by : ℕ → List Spot → Option Spot → List ℕ → Deed → Queue → Queue
 moved_by number left then next deed q =
-    fares number deed.fate (going number (spots next (behind then (drop 1 left)))) (posts deed.posted q)
+    fares number deed.fate (going number (spots next (behind then (drop 1 left)))) (posts deed.posted (strobing deed.strobed q))
 
 abbrev pub with_moved : ℕ → List Process → Option Spot → List ℕ → Deed → List Process
 with_moved number processes then next deed =

@@ -9,7 +9,7 @@ use Rattle.vmodel.specs.Run.{Setting, state_after}
 use Rattle.vbits.specs.Vectors.{Vector}
 use Rattle.vdesign.specs.Design.{Variable}
 use Rattle.vmodel.specs.declared.history.Item.{Item}
-use Rattle.vmodel.specs.declared.history.Item.TheVariants.{SlotEnd, Dump}
+use Rattle.vmodel.specs.declared.history.Item.TheVariants.{SlotEnd, Dump, Line, Monitor}
 
 -- the numbers rise, from low on
 abbrev pub RisesFrom : ℕ → List ℕ → Type 0
@@ -77,11 +77,15 @@ abbrev pub slot_times : List Item → List ℕ
 slot_times [] = []
 slot_times (SlotEnd time values ∷ items) = time ∷ slot_times items
 slot_times (Dump command ∷ items) = slot_times items
+slot_times (Line text ∷ items) = slot_times items
+slot_times (Monitor place ∷ items) = slot_times items
 
--- 4.2.2: each variable stores a value at all times, so that a slot end has so many values; a dump command has none
+-- 4.2.2: each variable stores a value at all times, so that a slot end has so many values; what else is shown has none
 abbrev pub HasValues : ℕ → Item → Type 0
 HasValues count (SlotEnd time values) = length values ≡ count
 HasValues count (Dump command) = Unit {0}
+HasValues count (Line text) = Unit {0}
+HasValues count (Monitor place) = Unit {0}
 
 -- 4.2.2: a value of the variable's length and sign
 abbrev pub HasShape : Variable → Vector → Type 0

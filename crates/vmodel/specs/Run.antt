@@ -40,6 +40,7 @@ opening_queue active until grain = record {
   inactive = [];
   activated = [];
   posted = [];
+  strobes = [];
   future = [];
   beyond = false;
 }
@@ -85,7 +86,7 @@ state_after setting log n = stands (rules_of setting) log n
 abbrev pub given_by : Setting → List (ℕ × ℕ) → ℕ → List Item
 given_by setting log zero = slot_end_of (opening_of setting)
 given_by setting log (suc n) =
-    given_by setting log n ++ items_of (next setting.design (state_after setting log n) (choice_at log n))
+    given_by setting log n ++ items_of setting.design (next setting.design (state_after setting log n) (choice_at log n))
 
 -- why a run ends where it has no choice: `$finish` or `$stop` (17.4), else something past the limit, else nothing is left
 -- (docs/SCHEDULING.md)

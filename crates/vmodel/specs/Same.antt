@@ -9,7 +9,7 @@ use Rattle.vmodel.specs.declared.history.Cause.TheVariants.{Finish, Stop, Quiet,
 use Rattle.vmodel.specs.declared.history.Grain.{Grain}
 use Rattle.vmodel.specs.declared.history.Grain.TheVariants.{Process as ByProcess, Statement}
 use Rattle.vmodel.specs.declared.part.Part.{Part}
-use Rattle.vmodel.specs.declared.part.Part.TheVariants.{Whole}
+use Rattle.vmodel.specs.declared.part.Part.TheVariants.{Whole, Bits}
 use Rattle.vmodel.specs.declared.process.Spot.{Spot}
 use Rattle.vmodel.specs.declared.process.Spot.TheVariants.{Doing, Turning}
 use Rattle.vmodel.specs.Queue.{Slot, Queue}
@@ -42,6 +42,8 @@ cause_same c d = nat_eq (cause_rank c) (cause_rank d)
 
 abbrev pub part_same : Part → Part → Bool
 part_same (Whole m v) (Whole n w) = nat_eq m n && vector_same v w
+part_same (Bits m k v) (Bits n l w) = (nat_eq m n && nat_eq k l) && vector_same v w
+part_same _ _ = false
 
 abbrev pub parts_same : List Part → List Part → Bool
 parts_same = pointwise part_same
@@ -58,8 +60,9 @@ stand_same q r =
 -- what its regions hold
 abbrev pub regions_same : Queue → Queue → Bool
 regions_same q r =
-    (((pointwise nat_eq q.active r.active && pointwise nat_eq q.inactive r.inactive) && pointwise parts_same q.activated r.activated)
+    ((((pointwise nat_eq q.active r.active && pointwise nat_eq q.inactive r.inactive) && pointwise parts_same q.activated r.activated)
     && pointwise parts_same q.posted r.posted)
+    && pointwise nat_eq q.strobes r.strobes)
     && pointwise slot_same q.future r.future
 
 abbrev pub queue_same : Queue → Queue → Bool

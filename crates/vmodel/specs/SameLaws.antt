@@ -10,7 +10,7 @@ use Rattle.vbits.specs.Vectors.{vector_same}
 use Rattle.vbits.specs.Equal.{vectors_tell}
 use Rattle.vmodel.specs.declared.history.Cause.TheVariants.{Finish, Stop, Quiet, Limit}
 use Rattle.vmodel.specs.declared.history.Grain.TheVariants.{Process as ByProcess, Statement}
-use Rattle.vmodel.specs.declared.part.Part.TheVariants.{Whole}
+use Rattle.vmodel.specs.declared.part.Part.TheVariants.{Whole, Bits}
 use Rattle.vmodel.specs.declared.process.Spot.TheVariants.{Doing, Turning}
 use Rattle.vmodel.specs.Queue.{Slot, Queue}
 use Rattle.vmodel.specs.State.{Process, State}
@@ -63,6 +63,11 @@ pub part_tells : Tells part_same
 part_tells (Whole m v) (Whole n u) =
     Decides-like (nat_eq m n && vector_same v u) (λ (h : (m ≡ n) × (v ≡ u)). λ i. Whole (h.0 i) (h.1 i)) (λ h. (cc, cc))
     (Decides-and _ _ (unsigned_Decides m n) (vectors_tell v u))
+part_tells (Bits m k v) (Bits n l u) =
+    Decides-like ((nat_eq m n && nat_eq k l) && vector_same v u)
+    (λ (h : ((m ≡ n) × (k ≡ l)) × (v ≡ u)). λ i. Bits (h.0.0 i) (h.0.1 i) (h.1 i)) (λ h. ((cc, cc), cc))
+    (Decides-and _ _ (Decides-and _ _ (unsigned_Decides m n) (unsigned_Decides k l)) (vectors_tell v u))
+part_tells _ _ = (λ h. cc, λ h. cc)
 
 pub parts_tell : Tells parts_same
 parts_tell = list_tells part_same part_tells
@@ -81,7 +86,8 @@ StandParts q r = ((((q.grain ≡ r.grain) × (q.until ≡ r.until)) × (q.time �
 
 abbrev RegionParts : Queue → Queue → Type 0
 RegionParts q r =
-    ((((q.active ≡ r.active) × (q.inactive ≡ r.inactive)) × (q.activated ≡ r.activated)) × (q.posted ≡ r.posted)) × (q.future ≡ r.future)
+    (((((q.active ≡ r.active) × (q.inactive ≡ r.inactive)) × (q.activated ≡ r.activated)) × (q.posted ≡ r.posted)) × (q.strobes ≡ r.strobes))
+    × (q.future ≡ r.future)
 
 pub queues_tell : Tells queue_same
 queues_tell q r = Decides-like (queue_same q r) whole parts
@@ -92,11 +98,12 @@ queues_tell q r = Decides-like (queue_same q r) whole parts
     (unsigned_Decides q.time r.time))
     (option_tells nat_eq unsigned_Decides q.last r.last))
     (booleans_Decides q.beyond r.beyond))
-    (Decides-and _ _ (Decides-and _ _ (Decides-and _ _ (Decides-and _ _
+    (Decides-and _ _ (Decides-and _ _ (Decides-and _ _ (Decides-and _ _ (Decides-and _ _
     (list_tells nat_eq unsigned_Decides q.active r.active)
     (list_tells nat_eq unsigned_Decides q.inactive r.inactive))
     (list_tells parts_same parts_tell q.activated r.activated))
     (list_tells parts_same parts_tell q.posted r.posted))
+    (list_tells nat_eq unsigned_Decides q.strobes r.strobes))
     (list_tells slot_same slots_tell q.future r.future)))
   where
     whole : StandParts q r × RegionParts q r → q ≡ r
@@ -105,10 +112,11 @@ queues_tell q r = Decides-like (queue_same q r) whole parts
       until = h.0.0.0.0.1 i;
       time = h.0.0.0.1 i;
       last = h.0.0.1 i;
-      active = h.1.0.0.0.0 i;
-      inactive = h.1.0.0.0.1 i;
-      activated = h.1.0.0.1 i;
-      posted = h.1.0.1 i;
+      active = h.1.0.0.0.0.0 i;
+      inactive = h.1.0.0.0.0.1 i;
+      activated = h.1.0.0.0.1 i;
+      posted = h.1.0.0.1 i;
+      strobes = h.1.0.1 i;
       future = h.1.1 i;
       beyond = h.0.1 i;
     }
@@ -121,8 +129,11 @@ queues_tell q r = Decides-like (queue_same q r) whole parts
       ),
       (
         (
-          ((ap (λ (p : Queue). p.active) h, ap (λ (p : Queue). p.inactive) h), ap (λ (p : Queue). p.activated) h),
-          ap (λ (p : Queue). p.posted) h,
+          (
+            ((ap (λ (p : Queue). p.active) h, ap (λ (p : Queue). p.inactive) h), ap (λ (p : Queue). p.activated) h),
+            ap (λ (p : Queue). p.posted) h,
+          ),
+          ap (λ (p : Queue). p.strobes) h,
         ),
         ap (λ (p : Queue). p.future) h,
       ),

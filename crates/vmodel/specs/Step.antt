@@ -1,24 +1,30 @@
 -- `Step` (IEEE 1364-2005, 11.3, 11.4, 11.6; docs/SCHEDULING.md): the one step of a choice, then the region moves.
 use Rattle.std.specs.Prelude.{ℕ, zero, suc, ◌-◌, List, [], ◌∷◌, ◌++◌, Option, Some, None, map, slice_get, slice_set, ◌/◌, cond}
+use Rattle.std.specs.Option.{option_to_list}
 use Rattle.vbits.specs.Vectors.{Vector}
 use Rattle.basis.specs.Timescales.{factor}
 use Rattle.vdesign.specs.Design.{Design}
 use Rattle.vdesign.specs.declared.action.Action.{Action}
-use Rattle.vdesign.specs.declared.action.Action.TheVariants.{Assign, Nonblocking, Test, Case, Again, Repeat, Forever, Delay, On, Until, Drive, DumpVars, Finish, Stop}
+use Rattle.vdesign.specs.declared.action.Action.TheVariants.{Assign, Nonblocking, Test, Case, Again, Repeat, Forever, Delay, On, Until, Drive, Print, Dump, Pass, Finish, Stop}
+use Rattle.vdesign.specs.declared.print.When.{When}
+use Rattle.vdesign.specs.declared.print.When.TheVariants.{Now, AtSlotEnd, AtChange}
+use Rattle.vdesign.specs.declared.print.Piece.{Piece}
+use Rattle.vdesign.specs.declared.action.Target.TheVariants.{Whole as WholeTarget}
 use Rattle.vmodel.specs.declared.history.Cause.{Cause}
 use Rattle.vmodel.specs.declared.history.Cause.TheVariants.{Finish as Finished, Stop as Stopped}
-use Rattle.vmodel.specs.declared.history.DumpCommand.{DumpCommand}
-use Rattle.vmodel.specs.declared.history.DumpCommand.TheVariants.{Vars}
 use Rattle.vmodel.specs.declared.history.Item.{Item}
-use Rattle.vmodel.specs.declared.history.Item.TheVariants.{SlotEnd, Dump}
+use Rattle.vmodel.specs.declared.history.Item.TheVariants.{SlotEnd, Dump as DumpItem, Line, Monitor}
 use Rattle.vmodel.specs.declared.process.Spot.{Spot}
 use Rattle.vmodel.specs.declared.process.Spot.TheVariants.{Doing, Turning}
 use Rattle.vmodel.specs.declared.deed.Fate.{Fate}
 use Rattle.vmodel.specs.declared.deed.Fate.TheVariants.{GoesOn, Sleeps, Waits}
 use Rattle.vmodel.specs.declared.deed.Deed.{Deed}
+use Rattle.vmodel.specs.declared.deed.Shown.{Shown}
+use Rattle.vmodel.specs.declared.deed.Shown.TheVariants.{Commands, Prints, Watches}
 use Rattle.vmodel.specs.declared.part.Part.{Part}
 use Rattle.vvalue.specs.Value.{Moment, holds, delay_of}
 use Rattle.vvalue.specs.Cases.{places_of_case, turns_of}
+use Rattle.line_text.specs.LineText.{line_of}
 use Rattle.vmodel.specs.Value.{assigned}
 use Rattle.vmodel.specs.Parts.{written}
 use Rattle.vmodel.specs.Queue.{Slot, Queue, with_process, without_process, wake_after}
@@ -38,7 +44,7 @@ pub record Did : Type 0 where
 
 -- a step that does nothing but go on
 abbrev pub quiet : Deed
-quiet = record { held = None; fate = GoesOn; wrote = []; posted = None; command = None; cause = None }
+quiet = record { held = None; fate = GoesOn; wrote = []; posted = None; shown = None; strobed = None; cause = None }
 
 -- at these places in turn, then at what stood behind
 abbrev pub spots : List ℕ → List Spot → List Spot
@@ -49,12 +55,19 @@ abbrev pub turning : ℕ → ℕ → List Spot → List Spot
 turning place zero after = after
 turning place (suc n) after = Turning place (suc n) ∷ after
 
+-- what a print action at a place shows: `$display` prints at once (17.1.1), `$strobe` makes a monitor event (17.1.2), and `$monitor`
+-- is in force from now on (17.1.3)
+abbrev pub printing : When → ℕ → Deed
+printing Now place = record quiet { shown = Some (Prints place) }
+printing AtSlotEnd place = record quiet { strobed = Some place }
+printing AtChange place = record quiet { shown = Some (Watches place) }
+
 -- what an action at a place does at a moment, of a process that has `after` left behind it
 abbrev pub does : ℕ → Action → List Spot → Moment → Did
--- 9.2.1: `target = value` writes
-does place (Assign target value) after now = record { left = after; deed = record quiet { wrote = assigned now target value } }
--- 9.2.2, 11.6.4: `target <= value` takes value and target, and posts the update
-does place (Nonblocking target value) after now = record { left = after; deed = record quiet { posted = Some (assigned now target value) } }
+-- 9.2.1: `targets = value` writes
+does place (Assign targets value) after now = record { left = after; deed = record quiet { wrote = assigned now targets value } }
+-- 9.2.2, 11.6.4: `targets <= value` takes value and targets, and posts the update
+does place (Nonblocking targets value) after now = record { left = after; deed = record quiet { posted = Some (assigned now targets value) } }
 -- 9.4: `if (condition) .. else ..`
 does place (Test condition when_true otherwise) after now =
     record { left = spots (cond (holds now condition) when_true otherwise) after; deed = quiet }
@@ -76,11 +89,15 @@ does place (On terms body) after now = record { left = spots body after; deed = 
 does place (Until condition terms body) after now =
     cond (holds now condition) (record { left = spots body after; deed = quiet })
     (record { left = Doing place ∷ after; deed = record quiet { fate = Waits place } })
--- 6.1: `assign target = value` writes, waits for a change, and writes again
-does place (Drive target value terms) after now =
-    record { left = Doing place ∷ after; deed = record quiet { wrote = assigned now target value; fate = Waits place } }
--- 18.1.2: `$dumpvars`
-does place DumpVars after now = record { left = after; deed = record quiet { command = Some Vars } }
+-- 6.1: `assign net = value` writes, waits for a change, and writes again
+does place (Drive net value terms) after now =
+    record { left = Doing place ∷ after; deed = record quiet { wrote = assigned now (WholeTarget net ∷ []) value; fate = Waits place } }
+-- 17.1: `$display(..)`, `$strobe(..)`, `$monitor(..)`
+does place (Print when pieces) after now = record { left = after; deed = printing when place }
+-- 18.1: `$dumpvars` and its kin
+does place (Dump command) after now = record { left = after; deed = record quiet { shown = Some (Commands command) } }
+-- 18.1.1, 18.1.6: `$dumpfile` and `$dumpflush` do nothing more
+does place Pass after now = record { left = after; deed = quiet }
 -- 17.4.1: `$finish`
 does place Finish after now = record { left = after; deed = record quiet { cause = Some Finished } }
 -- 17.4.2: `$stop`
@@ -137,6 +154,10 @@ abbrev pub posts : Option (List Part) → Queue → Queue
 posts None q = q
 posts (Some parts) q = record q { posted = q.posted ++ parts ∷ [] }
 
+-- 11.3, 17.1.2: a monitor event stands behind those created before
+abbrev pub strobing : Option ℕ → Queue → Queue
+strobing strobed q = record q { strobes = q.strobes ++ option_to_list strobed }
+
 -- ---- the region moves (11.4)
 
 -- while something is active it stays; else what is inactive becomes active; else what is posted is activated
@@ -181,7 +202,7 @@ abbrev pub acted : ℕ → Did → State → State
 acted p did s = record {
   values = written did.deed.wrote s.values;
   processes = slice_set s.processes p (process_by did);
-  queue = fares p did.deed.fate (going p did.left) (posts did.deed.posted s.queue);
+  queue = fares p did.deed.fate (going p did.left) (posts did.deed.posted (strobing did.deed.strobed s.queue));
   cause = did.deed.cause;
 }
 
@@ -206,11 +227,15 @@ abbrev pub written_time : ℕ → ℕ → ℕ
 written_time time zero = zero
 written_time time (suc n) = time / suc n
 
+-- what is known at a time, with these values
+abbrev pub moment_at : Design → List Vector → ℕ → Moment
+moment_at design values time =
+    let units = factor design.scale in
+    record { values = values; variables = design.variables; time = written_time time units; factor = units }
+
 -- what is known in a state
 abbrev pub moment_of : Design → State → Moment
-moment_of design s =
-    let units = factor design.scale in
-    record { values = s.values; variables = design.variables; time = written_time s.queue.time units; factor = units }
+moment_of design s = moment_at design s.values s.queue.time
 
 -- the process takes the action, if there is one
 abbrev pub takes : Design → ℕ → Spot → Option Action → List Spot → State → Turn
@@ -244,11 +269,12 @@ updated s = record s {
   queue = without_update s.queue.activated s.queue;
 }
 
--- the time goes on to the next future time, whose processes become active and whose updates are posted in their order
+-- the time goes on to the next future time, whose processes become active and whose updates are posted in their order; the monitor
+-- events ran at the end of the slot
 abbrev pub advanced_to : List (ℕ × Slot) → Queue → Queue
 advanced_to [] q = q
 advanced_to (e ∷ es) q =
-    record q { time = e.0; last = None; active = e.1.processes; posted = e.1.updates; future = es }
+    record q { time = e.0; last = None; active = e.1.processes; posted = e.1.updates; strobes = []; future = es }
 
 abbrev pub turn_of : Design → Choice → State → Turn
 turn_of design (Run p) s = process_turn design p s
@@ -267,9 +293,23 @@ next design s i = turn_by design (slice_get (choices s) i) s
 
 -- ---- what a step gives to the history
 
-abbrev pub command_items : Option DumpCommand → List Item
-command_items None = []
-command_items (Some command) = Dump command ∷ []
+-- what the action of a print task shows; no place of another action is asked for
+abbrev pub pieces_of : Option Action → List Piece
+pieces_of (Some (Print when pieces)) = pieces
+pieces_of _ = []
+
+abbrev pub pieces_at : Design → ℕ → List Piece
+pieces_at design place = pieces_of (slice_get design.actions place)
+
+-- 17.1: the line of the print task at a place, as it is printed in a state
+abbrev pub line_item : Design → State → ℕ → Item
+line_item design s place = Line (line_of (moment_of design s) (pieces_at design place))
+
+abbrev pub shown_items : Design → State → Option Shown → List Item
+shown_items design s None = []
+shown_items design s (Some (Commands command)) = DumpItem command ∷ []
+shown_items design s (Some (Prints place)) = line_item design s place ∷ []
+shown_items design s (Some (Watches place)) = Monitor place ∷ []
 
 -- where nothing is left at the current time the slot has ended
 abbrev pub idle_items : List ℕ → List (List Part) → ℕ → List Vector → List Item
@@ -285,6 +325,20 @@ slot_end_by None s = idle_items s.queue.active s.queue.activated s.queue.time s.
 abbrev pub slot_end_of : State → List Item
 slot_end_of s = slot_end_by s.cause s
 
--- what the step showed, and the slot end where the state after it is one
-abbrev pub items_of : Turn → List Item
-items_of turn = command_items turn.deed.command ++ slot_end_of turn.state
+-- the lines of the monitor events, in order of creation (11.4)
+abbrev pub strobe_items : Design → State → List ℕ → List Item
+strobe_items design s [] = []
+strobe_items design s (place ∷ places) = line_item design s place ∷ strobe_items design s places
+
+-- before a slot end, where there is one
+abbrev pub before_end : List Item → List Item → List Item
+before_end strobes [] = []
+before_end strobes (end ∷ rest) = strobes ++ end ∷ rest
+
+-- what the state after a step adds, where it is a slot end: the monitor events run, and the slot has ended (11.4, 17.1.2)
+abbrev pub end_items : Design → State → List Item
+end_items design s = before_end (strobe_items design s s.queue.strobes) (slot_end_of s)
+
+-- what the step showed at once, and the slot end where the state after it is one; a print task changes no value
+abbrev pub items_of : Design → Turn → List Item
+items_of design turn = shown_items design turn.state turn.deed.shown ++ end_items design turn.state

@@ -1,18 +1,46 @@
--- What assignments write (IEEE 1364-2005, 5.4.1, 6.2).
-use Rattle.std.specs.Prelude.{List, [], ◌∷◌, length}
-use Rattle.vbits.specs.Vectors.{Vector, with_sign}
+-- What assignments write (IEEE 1364-2005, 5.1.14, 5.2.1, 5.4.1, 6.2).
+use Rattle.std.specs.Prelude.{ℕ, ◌-◌, nat_le, false, cond, List, [], ◌∷◌, ◌++◌, length, take, drop, Option, None, Some}
+use Rattle.vbits.specs.declared.bit4.Bit4.{Bit4}
+use Rattle.vbits.specs.Vectors.{Vector}
 use Rattle.vdesign.specs.Expressions.{ExpressionTree}
 use Rattle.vdesign.specs.declared.action.Target.{Target}
-use Rattle.vdesign.specs.declared.action.Target.TheVariants.{Whole}
-use Rattle.vvalue.specs.Value.{Moment, value_at, right_side}
+use Rattle.vdesign.specs.declared.action.Target.TheVariants.{Whole, Bit, Part as PartTarget}
+use Rattle.vvalue.specs.Value.{Moment, value_at, bounds_of, right_side}
+use Rattle.vvalue.specs.Targets.{target_size, targets_size, place_at, leftwards}
 use Rattle.vmodel.specs.declared.part.Part.{Part}
-use Rattle.vmodel.specs.declared.part.Part.TheVariants.{Whole as WholePart}
+use Rattle.vmodel.specs.declared.part.Part.TheVariants.{Whole as WholePart, Bits}
 
--- 5.4.1, 5.5.3: what a variable that had the value `old` has after the expression was assigned to it: the right side, cut or
--- extended to the variable's length; the sign mark is the variable's
-abbrev pub cut_to : Moment → Vector → ExpressionTree → Vector
-cut_to now old e = with_sign (right_side now (length old.letters) e) old.signed
+-- the bits of a variable from a place on get these letters, if there are any
+abbrev pub some_bits : ℕ → ℕ → List Bit4 → List Part
+some_bits n low [] = []
+some_bits n low (b ∷ bs) = Bits n low (record { letters = b ∷ bs; signed = false }) ∷ []
 
--- the parts that an assignment writes (6.2)
-abbrev pub assigned : Moment → Target → ExpressionTree → List Part
-assigned now (Whole variable) e = WholePart variable (cut_to now (value_at now variable) e) ∷ []
+-- 5.2.1: of letters for the bits from a place on, as many are written as the variable has
+abbrev pub bits_from : ℕ → Vector → ℕ → List Bit4 → List Part
+bits_from n old low letters = some_bits n low (take (length old.letters - low) letters)
+
+abbrev pub bits_at : ℕ → Vector → Option ℕ → List Bit4 → List Part
+bits_at n old None letters = []
+bits_at n old (Some place) letters = bits_from n old place letters
+
+-- what a target gets of its letters: a whole variable keeps its sign mark; of a part, the letters right of the variable's rightmost
+-- bit are dropped
+abbrev pub parts_of : Moment → Target → List Bit4 → List Part
+parts_of now (Whole n) letters = WholePart n (record { letters = letters; signed = (value_at now n).signed }) ∷ []
+parts_of now (Bit n index) letters = bits_at n (value_at now n) (place_at now n index) letters
+parts_of now (PartTarget n selected) letters =
+    let bounds = bounds_of now n in
+    bits_from n (value_at now n) (leftwards bounds selected.right bounds.right) (drop (leftwards bounds bounds.right selected.right) letters)
+
+-- 5.1.14: each target gets as many letters as it has bits, the rightmost one the rightmost letters
+abbrev pub shared : Moment → List Target → List Bit4 → List Part
+shared now [] letters = []
+shared now (target ∷ more) letters =
+    parts_of now target (take (target_size now target) (drop (targets_size now more) letters)) ++ shared now more letters
+
+-- 5.4.1, 5.5.3, 6.2: the parts that an assignment writes: the right side, cut or extended to the bits of all targets together, is
+-- shared among them. More than 64 bits are no design's (E306), and are not written
+abbrev pub assigned : Moment → List Target → ExpressionTree → List Part
+assigned now targets e =
+    let size = targets_size now targets in
+    cond (nat_le size 64) (shared now targets (right_side now size e).letters) []

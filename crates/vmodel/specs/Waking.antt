@@ -3,12 +3,13 @@
 use Rattle.std.specs.Prelude.{ℕ, suc, Bool, false, not, ◌||◌, cond, nat_lt, List, [], ◌∷◌, Option, Some, None, slice_get, unwrap_or}
 use Rattle.vbits.specs.declared.bit4.Bit4.{Bit4}
 use Rattle.vbits.specs.declared.bit4.Bit4.TheVariants.{Zero, One, X, Z}
-use Rattle.vbits.specs.Vectors.{Vector, filled, vector_same}
+use Rattle.vbits.specs.Vectors.{Vector, vector_same}
 use Rattle.vdesign.specs.declared.action.Edge.{Edge}
 use Rattle.vdesign.specs.declared.action.Edge.TheVariants.{Any, Rise, Fall}
 use Rattle.vdesign.specs.declared.action.Term.{Term}
 use Rattle.vdesign.specs.declared.action.Action.{Action}
 use Rattle.vdesign.specs.declared.action.Action.TheVariants.{On, Until, Drive}
+use Rattle.vmodel.specs.Parts.{value_in}
 use Rattle.vmodel.specs.Queue.{with_process}
 use Rattle.vmodel.specs.State.{Process}
 
@@ -29,9 +30,6 @@ is_edge Any old new = not (vector_same old new)
 is_edge Rise old new = nat_lt (rank (last_bit old)) (rank (last_bit new))
 is_edge Fall old new = nat_lt (rank (last_bit new)) (rank (last_bit old))
 
-abbrev pub value_in : List Vector → ℕ → Vector
-value_in values variable = unwrap_or (slice_get values variable) (filled 1 X)
-
 abbrev pub hears : List Vector → List Vector → Term → Bool
 hears before after term = is_edge term.edge (value_in before term.variable) (value_in after term.variable)
 
@@ -43,7 +41,7 @@ any_hears before after (term ∷ terms) = hears before after term || any_hears b
 abbrev pub has_come : Option Action → List Vector → List Vector → Bool
 has_come (Some (On terms body)) before after = any_hears before after terms
 has_come (Some (Until condition terms body)) before after = any_hears before after terms
-has_come (Some (Drive target value terms)) before after = any_hears before after terms
+has_come (Some (Drive net value terms)) before after = any_hears before after terms
 has_come _ before after = false
 
 -- whether a process wakes that waits at this place of the table, or doesn't wait

@@ -1,19 +1,24 @@
 // What a step of a process does (IEEE 1364-2005, clause 9): its fate, what it writes, posts, shows, and whether it ends the run.
 
-ghost use Rattle.std.specs.Prelude.{◌≡◌, [], ℕ, List, cond};
+ghost use Rattle.std.specs.Prelude.{◌≡◌, [], ℕ, List, cond, IfOk};
 ghost use Rattle.vvalue.specs.Value.{holds as holds_at};
 ghost use Rattle.vmodel.specs.declared.process.Spot.{Spot};
 ghost use Rattle.vmodel.specs.Step as spec;
+ghost use Rattle.vmodel.specs.Value.{assigned as assigned_at};
 ghost use Rattle.vmodel.specs.Step.{does, does_at};
 ghost use Rattle.vmodel.specs.InnerStep.{awaits, behind, did_so, ending_by, loops};
 
-use crate::history::{Cause, DumpCommand};
+use crate::history::Cause;
 use crate::part::Parts;
 use crate::process::Spot;
-use crate::value::assigned;
+use crate::value::{assigned, assigned_one};
+use basis::NoMemory;
+use std::alloc::Global;
 use vbits::Vec4;
-use vdesign::action::{Action, Places};
+use vdesign::action::{Action, Places, Target, Targets};
+use vdesign::dump::DumpCommand;
 use vdesign::expression::Expression;
+use vdesign::print::When;
 use vvalue::asked::{delay_of, holds};
 use vvalue::cases::{places_of_case, turns_of};
 use vvalue::moment::Moment;
@@ -29,8 +34,19 @@ pub enum Fate {
     Waits(usize),
 }
 
+/// What a step shows at once.
+#[derive(Clone, Copy, Debug, PartialEq, Eq)]
+pub enum Shown {
+    /// A command to the dump (18.1).
+    Commands(DumpCommand),
+    /// The line of the print task at this place (17.1.1).
+    Prints(usize),
+    /// The monitor at this place is in force from now on (17.1.3).
+    Watches(usize),
+}
+
 /// What a step does, beside what its process has left.
-#[derive(Clone, Copy, Debug)]
+#[derive(Drop)]
 pub struct Deed {
     /// The value that a suspended assignment holds from now on (9.7.7).
     pub held: Option<Vec4>,
@@ -39,8 +55,10 @@ pub struct Deed {
     pub wrote: Parts,
     /// A nonblocking update that is posted (11.4).
     pub posted: Option<Parts>,
-    /// A command to the dump (18.1).
-    pub command: Option<DumpCommand>,
+    /// What it shows at once.
+    pub shown: Option<Shown>,
+    /// A monitor event that is created: the line of the print task at this place, at the end of the slot (11.3, 17.1.2).
+    pub strobed: Option<usize>,
     /// Why the run ends, if it does (17.4).
     pub cause: Option<Cause>,
 }
@@ -55,7 +73,8 @@ impl Deed {
             fate: Fate::GoesOn,
             wrote: Parts::none(),
             posted: None,
-            command: None,
+            shown: None,
+            strobed: None,
             cause: None,
         }
     }
@@ -101,18 +120,39 @@ fn suspending(fate: Fate) -> Deed
     }
 }
 
-// A step that commands the dump (18.1).
-fn dumping(command: DumpCommand) -> Deed
-    ensures { result ≡ record spec.quiet { command = Some command } }
+// A step that shows something at once.
+fn showing(shown: Shown) -> Deed
+    ensures { result ≡ record spec.quiet { shown = Some shown } }
 {
     Deed {
-        command: Some(command),
+        shown: Some(shown),
         ..Deed::quiet()
     }
 }
 
+// A step that creates a monitor event (17.1.2).
+fn strobing(place: usize) -> Deed
+    ensures { result ≡ record spec.quiet { strobed = Some place } }
+{
+    Deed {
+        strobed: Some(place),
+        ..Deed::quiet()
+    }
+}
+
+// What the print task of this place does (17.1).
+fn printing(when: When, place: usize) -> Deed
+    ensures { result ≡ spec.printing when place }
+{
+    match when {
+        When::Now => showing(Shown::Prints(place)),
+        When::AtSlotEnd => strobing(place),
+        When::AtChange => showing(Shown::Watches(place)),
+    }
+}
+
 /// What an action does: the places that come next, what comes behind them before the rest, and all else.
-#[derive(Clone, Copy)]
+#[derive(Drop)]
 pub struct Doing<'d> {
     pub next: &'d [usize],
     pub then: Option<Spot>,
@@ -256,47 +296,85 @@ fn drive_of<'d>(place: usize, parts: Parts) -> Doing<'d>
     }
 }
 
-/// What the action of this place does at this moment.
-pub fn deed_of<'d>(place: usize, action: &'d Action, moment: &Moment<'_>) -> Doing<'d>
-    ensures { (after : List Spot) →
+// What an assignment does (9.2.1).
+fn assign_of<'d>(
+    alloc: Global,
+    targets: &Targets,
+    value: &Expression,
+    moment: &Moment<'_>,
+) -> Result<Doing<'d>, NoMemory>
+    ensures next { IfOk result (λ doing. doing.next.now ≡ []) }
+    ensures then { IfOk result (λ doing. doing.then ≡ None) }
+    ensures deed { IfOk result (λ doing. doing.deed
+        ≡ record spec.quiet { wrote = assigned_at moment.now targets.now value.now }) }
+{
+    let parts = assigned(alloc, targets, value, moment)?;
+    Ok(goes_by(&[], writing(parts)))
+}
+
+// What a nonblocking assignment does (9.2.2).
+fn nonblocking_of<'d>(
+    alloc: Global,
+    targets: &Targets,
+    value: &Expression,
+    moment: &Moment<'_>,
+) -> Result<Doing<'d>, NoMemory>
+    ensures next { IfOk result (λ doing. doing.next.now ≡ []) }
+    ensures then { IfOk result (λ doing. doing.then ≡ None) }
+    ensures deed { IfOk result (λ doing. doing.deed
+        ≡ record spec.quiet { posted = Some (assigned_at moment.now targets.now value.now) }) }
+{
+    let parts = assigned(alloc, targets, value, moment)?;
+    Ok(goes_by(&[], posting(parts)))
+}
+
+/// What the action of this place does at this moment. E901 is the only refusal.
+pub fn deed_of<'d>(
+    alloc: Global,
+    place: usize,
+    action: &'d Action,
+    moment: &Moment<'_>,
+) -> Result<Doing<'d>, NoMemory>
+    ensures { IfOk result (λ doing. (after : List Spot) →
         does place action.now after moment.now
-        ≡ did_so result.then result.next.now after result.deed }
+        ≡ did_so doing.then doing.next.now after doing.deed) }
 {
     match action {
-        Action::Assign { target, value } => {
-            goes_by(&[], writing(assigned(target, value, moment)))
-        }
-        Action::Nonblocking { target, value } => {
-            goes_by(&[], posting(assigned(target, value, moment)))
-        }
+        Action::Assign { targets, value } => assign_of(alloc, targets, value, moment),
+        Action::Nonblocking { targets, value } => nonblocking_of(alloc, targets, value, moment),
         Action::Test {
             condition,
             when_true,
             otherwise,
-        } => goes_to(branch_of(condition, when_true, otherwise, moment)),
+        } => Ok(goes_to(branch_of(condition, when_true, otherwise, moment))),
         Action::Case {
             kind,
             value,
             branches,
             otherwise,
-        } => goes_to(places_of_case(*kind, value, branches, otherwise, moment)),
-        Action::Again { condition, body } => again_of(place, condition, body, moment),
-        Action::Repeat { count, .. } => turns_first(place, &[], turns_of(count, moment)),
-        Action::Forever { body } => comes_again(place, body.as_slice()),
+        } => Ok(goes_to(places_of_case(*kind, value, branches, otherwise, moment))),
+        Action::Again { condition, body } => Ok(again_of(place, condition, body, moment)),
+        Action::Repeat { count, .. } => Ok(turns_first(place, &[], turns_of(count, moment))),
+        Action::Forever { body } => Ok(comes_again(place, body.as_slice())),
         Action::Delay { amount, body } => {
             let fate = Fate::Sleeps(delay_of(amount, moment));
-            goes_by(body.as_slice(), suspending(fate))
+            Ok(goes_by(body.as_slice(), suspending(fate)))
         }
-        Action::On { body, .. } => goes_by(body.as_slice(), suspending(Fate::Waits(place))),
+        Action::On { body, .. } => { Ok(goes_by(body.as_slice(), suspending(Fate::Waits(place)))) }
         Action::Until {
             condition,
             body,
             ..
-        } => until_of(place, condition, body, moment),
-        Action::Drive { target, value, .. } => drive_of(place, assigned(target, value, moment)),
-        Action::DumpVars => goes_by(&[], dumping(DumpCommand::Vars)),
-        Action::Finish => goes_by(&[], ending(Cause::Finish)),
-        Action::Stop => goes_by(&[], ending(Cause::Stop)),
+        } => Ok(until_of(place, condition, body, moment)),
+        Action::Drive { net, value, .. } => {
+            let parts = assigned_one(&Target::Whole(*net), value, moment);
+            Ok(drive_of(place, parts))
+        }
+        Action::Print { when, .. } => Ok(goes_by(&[], printing(*when, place))),
+        Action::Dump(command) => Ok(goes_by(&[], showing(Shown::Commands(*command)))),
+        Action::Pass => Ok(goes_to(&[])),
+        Action::Finish => Ok(goes_by(&[], ending(Cause::Finish))),
+        Action::Stop => Ok(goes_by(&[], ending(Cause::Stop))),
     }
 }
 
@@ -318,14 +396,19 @@ fn turn_of<'d>(place: usize, turns: u64, action: &'d Action) -> Doing<'d>
     }
 }
 
-/// What the action that this spot is at does at this moment.
-pub fn deed_at<'d>(spot: Spot, action: &'d Action, moment: &Moment<'_>) -> Doing<'d>
-    ensures { (after : List Spot) →
+/// What the action that this spot is at does at this moment. E901 is the only refusal.
+pub fn deed_at<'d>(
+    alloc: Global,
+    spot: Spot,
+    action: &'d Action,
+    moment: &Moment<'_>,
+) -> Result<Doing<'d>, NoMemory>
+    ensures { IfOk result (λ doing. (after : List Spot) →
         does_at spot action.now after moment.now
-        ≡ did_so result.then result.next.now after result.deed }
+        ≡ did_so doing.then doing.next.now after doing.deed) }
 {
     match spot {
-        Spot::Doing(place) => deed_of(place, action, moment),
-        Spot::Turning(place, turns) => turn_of(place, turns, action),
+        Spot::Doing(place) => deed_of(alloc, place, action, moment),
+        Spot::Turning(place, turns) => Ok(turn_of(place, turns, action)),
     }
 }

@@ -1,10 +1,12 @@
-// What a run shows: slot ends, dump commands and its end (docs/SCHEDULING.md).
+// What a run shows: slot ends, printed lines, dump commands and its end (docs/SCHEDULING.md).
 
 ghost use Rattle.std.specs.Prelude.{◌≡◌};
 ghost use Rattle.vmodel.specs.Same.{cause_rank};
 
 use crate::values::Values;
 use std::marker::Model;
+use vdesign::dump::DumpCommand;
+use vdesign::print::Text;
 
 /// How finely processes take turns (11.4.2): in grain process one that can go on does so alone, in grain
 /// statement any other may come before it.
@@ -95,13 +97,6 @@ pub struct End {
     pub cause: Cause,
 }
 
-/// A task that commands the dump (18.1).
-#[derive(Clone, Copy, Debug, PartialEq, Eq)]
-pub enum DumpCommand {
-    /// `$dumpvars` without arguments.
-    Vars,
-}
-
 /// What a step gives to the history.
 #[derive(Drop)]
 pub enum Item {
@@ -109,6 +104,10 @@ pub enum Item {
     SlotEnd { time: u64, values: Values },
     /// A dump command, in its place among the steps.
     Dump(DumpCommand),
+    /// A line that `$display` printed in its step, or `$strobe` at the end of the slot (17.1.1, 17.1.2).
+    Line(Text),
+    /// From here on the monitor of this place is in force (17.1.3).
+    Monitor(usize),
 }
 
 /// A whole run that has ended. A clause sees it as the record `History` of specs/History.antt.

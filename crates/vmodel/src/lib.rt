@@ -17,6 +17,7 @@ pub mod process;
 pub mod process_set;
 pub mod queue;
 mod regions;
+mod shown;
 pub mod sink;
 pub mod state;
 mod step;
@@ -26,5 +27,6 @@ mod waking;
 
 pub use law::run_law;
 pub use open::opening;
+pub use shown::{pieces_at, put_items, put_slot_end};
 pub use state::SlowState;
-pub use step::{put_items, put_slot_end, slow_step, slow_width};
+pub use step::{moment_at, slow_step, slow_width};

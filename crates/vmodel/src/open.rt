@@ -54,6 +54,7 @@ fn opening_queue(active: ProcessSet, alloc: Global, until: u64, grain: Grain) ->
         inactive: ProcessSet::new(),
         activated: VecDeque::new(alloc),
         posted: VecDeque::new(alloc),
+        strobes: Vec::new(alloc),
         future: Vec::new(alloc),
         beyond: false,
     }

@@ -1,6 +1,6 @@
 // The stratified event queue (IEEE 1364-2005, 11.3): the regions of the current time, and the future.
 
-ghost use Rattle.std.specs.Prelude.{◌≡◌, ◌<◌, IfOk};
+ghost use Rattle.std.specs.Prelude.{◌≡◌, ◌<◌, ◌++◌, IfOk, OnOk};
 ghost use Rattle.std.specs.Option.{ForSome};
 ghost use Rattle.vmodel.specs.Same.{stand_same, regions_same};
 
@@ -63,6 +63,7 @@ pub struct Queue {
     pub(crate) inactive: ProcessSet,
     pub(crate) activated: VecDeque<Parts>,
     pub(crate) posted: VecDeque<Parts>,
+    pub(crate) strobes: Vec<usize>,
     pub(crate) future: Vec<Future>,
     pub(crate) beyond: bool,
 }
@@ -83,6 +84,7 @@ impl Model for Queue {
       inactive = q.inactive;
       activated = q.activated.items;
       posted = q.posted.items;
+      strobes = q.strobes.items;
       future = q.future.items;
       beyond = q.beyond;
     } };
@@ -144,6 +146,7 @@ impl Queue {
             &self.inactive,
             &self.activated,
             &self.posted,
+            &self.strobes,
             &self.future,
         );
         regions
@@ -152,6 +155,7 @@ impl Queue {
                 &other.inactive,
                 &other.activated,
                 &other.posted,
+                &other.strobes,
                 &other.future,
             )
     }
@@ -159,6 +163,16 @@ impl Queue {
 
 /// For how many more updates a copy has room, so that the next ones don't double it.
 const SPARE: usize = 4;
+
+// Puts the same updates behind others.
+fn put_copies(copied: &mut Vec<Parts>, updates: &[Parts]) -> Result<(), NoMemory>
+    ensures { OnOk result (copied.new.items ≡ copied.old.items ++ updates.now) }
+{
+    for update in updates {
+        copied.push(update.copy()?)?;
+    }
+    Ok(())
+}
 
 /// The same updates in the same order.
 pub(crate) fn copy_updates(
@@ -172,7 +186,7 @@ pub(crate) fn copy_updates(
     }
     let (front, back) = updates.as_slices();
     let mut copied = Vec::with_capacity(alloc, updates.len().saturating_add(SPARE))?;
-    copied.extend_from_slice(front)?;
-    copied.extend_from_slice(back)?;
+    put_copies(&mut copied, front)?;
+    put_copies(&mut copied, back)?;
     Ok(VecDeque::from_vec(copied))
 }

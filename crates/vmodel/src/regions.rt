@@ -3,10 +3,10 @@
 ghost use Rattle.std.specs.Prelude.{◌≡◌, ◌<◌, ◌==◌, ◌&&◌, OnOk, OnErr, IfOk, length, slice_get, Some};
 ghost use Rattle.std.specs.Option.{ForSome};
 ghost use Rattle.vmodel.specs.Queue.{wake_after as queue_wake_after};
-ghost use Rattle.vmodel.specs.Inner.{unposted};
-ghost use Rattle.vmodel.specs.Step.{leaves, goes_on, sleeps, fares, posts as posts_update, settled, without_update, advanced_to};
+ghost use Rattle.vmodel.specs.Inner.{unposted, unstrobed};
+ghost use Rattle.vmodel.specs.Step.{leaves, goes_on, sleeps, fares, posts as posts_update, strobing, settled, without_update, advanced_to};
 
-use crate::deed::Fate;
+use crate::deed::{Deed, Fate};
 use crate::future::{copy_future, wake_at};
 use crate::part::Parts;
 use crate::queue::{Future, Queue, copy_updates};
@@ -97,27 +97,67 @@ impl Queue {
     }
 
     /// What becomes of a process and of what its step posted. After want of memory the queue is as it was.
-    pub(crate) fn move_by(
+    fn post_and_fare(
         &mut self,
         process: u32,
         fate: Fate,
-        posted: Option<Parts>,
+        posted: &Option<Parts>,
         left: Option<u32>,
     ) -> Result<(), NoMemory>
         requires { ForSome left (λ p. p < 256) }
         ensures ok { OnOk result
-            (self.new ≡ fares process fate left (posts_update posted self.old)) }
+            (self.new ≡ fares process fate left (posts_update posted.now self.old)) }
         ensures err { OnErr result (self.new ≡ self.old) }
     {
         let Some(parts) = posted else {
             return self.fare(process, fate, left);
         };
-        self.post(parts)?;
+        self.post(parts.copy()?)?;
         let fared = self.fare(process, fate, left);
         if fared.is_err() {
             self.take_back();
         }
         fared
+    }
+
+    // A monitor event stands behind those created before. After want of memory the queue is as it was.
+    fn strobe(&mut self, place: usize) -> Result<(), NoMemory>
+        ensures ok { OnOk result (self.new ≡ strobing (Some place) self.old) }
+        ensures err { OnErr result (self.new ≡ self.old) }
+    {
+        self.strobes.push(place)?;
+        Ok(())
+    }
+
+    // The last monitor event is gone.
+    fn take_strobe_back(&mut self)
+        ensures { self.new ≡ unstrobed self.old }
+    {
+        self.strobes.pop();
+    }
+
+    /// What becomes of a process, of what its step posted and of the monitor event that it created. After want of memory the queue is
+    /// as it was.
+    pub(crate) fn move_by(
+        &mut self,
+        process: u32,
+        deed: &Deed,
+        left: Option<u32>,
+    ) -> Result<(), NoMemory>
+        requires { ForSome left (λ p. p < 256) }
+        ensures ok { OnOk result (self.new ≡ fares process deed.now.fate left
+            (posts_update deed.now.posted (strobing deed.now.strobed self.old))) }
+        ensures err { OnErr result (self.new ≡ self.old) }
+    {
+        let Some(place) = deed.strobed else {
+            return self.post_and_fare(process, deed.fate, &deed.posted, left);
+        };
+        self.strobe(place)?;
+        let moved = self.post_and_fare(process, deed.fate, &deed.posted, left);
+        if moved.is_err() {
+            self.take_strobe_back();
+        }
+        moved
     }
 
     /// The region moves (11.4): while something is active it stays, else what is inactive becomes active, else what is
@@ -165,6 +205,7 @@ impl Queue {
         self.last = None;
         self.active = processes;
         self.posted = updates;
+        self.strobes.clear();
     }
 
     /// Whether nothing is active: a slot end, where the run goes on.
@@ -187,6 +228,7 @@ impl Queue {
             inactive: self.inactive.copy(),
             activated: copy_updates(alloc, &self.activated)?,
             posted: copy_updates(alloc, &self.posted)?,
+            strobes: Vec::from_slice(alloc, &self.strobes)?,
             future: copy_future(alloc, &self.future)?,
             beyond: self.beyond,
         })

@@ -3,7 +3,7 @@
 ghost use Rattle.std.specs.Prelude.{◌≡◌, ℕ, List, ◌<◌, ◌++◌, [], IfOk, OnOk, OnErr, IfSome, IfNone, length, slice_get, slice_set, drop};
 ghost use Rattle.std.specs.Option.{option_to_list};
 ghost use Rattle.vmodel.specs.Step.{spots, going, process_by, fares, posts, woken, closed, left_of, moment_of, process_turn, turn_of, next, slot_end_of, items_of};
-ghost use Rattle.vmodel.specs.Parts.{written};
+ghost use Rattle.vmodel.specs.Parts.{write, written};
 ghost use Rattle.vmodel.specs.declared.process.Spot.{Spot};
 ghost use Rattle.vdesign.specs.Design.{Design};
 ghost use Rattle.vmodel.specs.Step as spec;
@@ -16,13 +16,16 @@ use crate::choice::Choice;
 use crate::deed::{Deed, Doing, Fate, deed_at};
 use crate::history::Item;
 use crate::left::Left;
-use crate::part::Parts;
+use crate::part::{Kept, Part, Parts};
 use crate::process::{Process, Spot};
 use crate::queue::Queue;
+use crate::shown::put_items;
 use crate::state::SlowState;
+use crate::values::Changes;
 use crate::waking::wake;
 use basis::NoMemory;
 use std::alloc::Global;
+use vbits::Vec4;
 use vdesign::action::Action;
 use vdesign::design::Design;
 use vvalue::moment::Moment;
@@ -73,7 +76,7 @@ fn move_process(
     let left = &mut process.left;
     left.own.reserve(next.len() + 1)?;
     let goes = goes_after(number, left, then, next);
-    queue.move_by(number, deed.fate, deed.posted, goes)?;
+    queue.move_by(number, deed, goes)?;
     left.turn(then, next);
     process.held = deed.held;
     process.waits = waits_by(deed.fate, goes);
@@ -128,6 +131,19 @@ fn written_time(time: u64, factor: u64) -> u64
     time / factor
 }
 
+/// What is known at a time, in units of the precision, where the variables have these values.
+pub fn moment_at<'m>(design: &'m Design, values: &'m [Vec4], time: u64) -> Moment<'m>
+    ensures { result ≡ spec.moment_at design.now values.now time }
+{
+    let factor = design.scale.factor();
+    Moment {
+        values,
+        variables: &design.variables,
+        time: written_time(time, factor),
+        factor,
+    }
+}
+
 impl SlowState {
     // The region moves; after `$finish` and `$stop` there are none.
     fn close(&mut self)
@@ -161,32 +177,55 @@ impl SlowState {
         Some((spot, action))
     }
 
-    // What a step wrote is written, and what waits for a change by it goes on.
-    fn write(&mut self, design: &Design, wrote: Parts)
+    // One part is written, and what waits for a change by it goes on.
+    fn write_one(&mut self, design: &Design, part: Part)
         ensures { self.new ≡ woken design.now self.old.values
-            (record self.old { values = written wrote self.old.values }) }
+            (record self.old { values = write part self.old.values }) }
     {
-        if let Some(change) = self.values.write_all(wrote) {
+        if let Some(change) = self.values.write(part) {
             wake(
                 &design.actions,
-                &change,
+                &Changes::One(change),
                 &mut self.processes,
                 &mut self.queue,
             );
         }
     }
 
+    // The same of several parts: a change is the difference of a variable before and after all of them.
+    fn write_many(&mut self, design: &Design, parts: &[Part])
+        ensures { self.new ≡ woken design.now self.old.values
+            (record self.old { values = written parts.now self.old.values }) }
+    {
+        let changes = Changes::Many {
+            values: self.values.as_slice(),
+            parts,
+        };
+        wake(
+            &design.actions,
+            &changes,
+            &mut self.processes,
+            &mut self.queue,
+        );
+        self.values.write_all(parts);
+    }
+
+    // What a step wrote is written, and what waits for a change by it goes on.
+    fn write(&mut self, design: &Design, wrote: &Parts)
+        ensures { self.new ≡ woken design.now self.old.values
+            (record self.old { values = written wrote.now self.old.values }) }
+    {
+        match wrote.kept() {
+            Kept::One(part) => self.write_one(design, part),
+            Kept::Many(parts) => self.write_many(design, parts),
+        }
+    }
+
     // What is known now.
-    fn moment<'m>(&'m self, design: &'m Design) -> Moment<'m>
+    pub(crate) fn moment<'m>(&'m self, design: &'m Design) -> Moment<'m>
         ensures { result ≡ moment_of design.now self.now }
     {
-        let factor = design.scale.factor();
-        Moment {
-            values: self.values.as_slice(),
-            variables: &design.variables,
-            time: written_time(self.queue.time, factor),
-            factor,
-        }
+        moment_at(design, self.values.as_slice(), self.queue.time)
     }
 
     // A process has done what it did, and the queue has what becomes of it.
@@ -217,7 +256,7 @@ impl SlowState {
         ensures { self.new ≡ closed (ended deed.now.cause (woken design.now self.old.values
             (record self.old { values = written deed.now.wrote self.old.values }))) }
     {
-        self.write(design, deed.wrote);
+        self.write(design, &deed.wrote);
         self.cause = deed.cause;
         self.close();
     }
@@ -232,7 +271,9 @@ impl SlowState {
         let Some((spot, action)) = self.action_of(design, number) else {
             return Ok(Deed::quiet());
         };
-        let Doing { next, then, deed } = deed_at(spot, action, &self.moment(design));
+        let alloc = *self.processes.allocator();
+        let doing = deed_at(alloc, spot, action, &self.moment(design))?;
+        let Doing { next, then, deed } = doing;
         self.place(number, then, next, &deed)?;
         self.finish(design, &deed);
         Ok(deed)
@@ -246,7 +287,7 @@ impl SlowState {
         if let Some(update) = self.queue.take_update() {
             deed.wrote = update;
         }
-        self.write(design, deed.wrote);
+        self.write(design, &deed.wrote);
         self.close();
         deed
     }
@@ -288,42 +329,6 @@ impl SlowState {
             Err(refused) => Err(refused),
         }
     }
-
-    /// The end of the slot, where nothing is active and the run goes on.
-    pub fn slot_end(&self, alloc: Global) -> Result<Option<Item>, NoMemory>
-        ensures { IfOk result (λ item. option_to_list item ≡ slot_end_of self.now) }
-    {
-        if self.cause.is_some() || !self.queue.is_idle() {
-            return Ok(None);
-        }
-        Ok(Some(Item::SlotEnd {
-            time: self.queue.time,
-            values: self.values.copy(alloc)?,
-        }))
-    }
-}
-
-/// Puts behind others what a step gives to the history, in order: what it showed, and the slot end where the state after
-/// it is one.
-pub fn put_items(items: &mut Vec<Item>, state: &SlowState, deed: &Deed) -> Result<(), NoMemory>
-    ensures { OnOk result
-        (items.new.items ≡ items.old.items ++ items_of (turn_to state.now deed.now)) }
-{
-    if let Some(command) = deed.command {
-        items.push(Item::Dump(command))?;
-    }
-    put_slot_end(items, state)
-}
-
-/// Puts behind others the slot end of a state, where it is one.
-pub fn put_slot_end(items: &mut Vec<Item>, state: &SlowState) -> Result<(), NoMemory>
-    ensures { OnOk result (items.new.items ≡ items.old.items ++ slot_end_of state.now) }
-{
-    let alloc = *items.allocator();
-    if let Some(item) = state.slot_end(alloc)? {
-        items.push(item)?;
-    }
-    Ok(())
 }
 
 /// How many choices the state has: 0 where the run has ended.
@@ -342,11 +347,11 @@ pub fn slow_step(
     i: u32,
 ) -> Result<(SlowState, Vec<Item>), NoMemory>
     ensures state { IfOk result (λ after. after.0 ≡ (next design.now state.now i).state) }
-    ensures items { IfOk result (λ after. after.1.items ≡ items_of (next design.now state.now i)) }
+    ensures items { IfOk result (λ after. after.1.items ≡ items_of design.now (next design.now state.now i)) }
 {
     let mut after = state.copy(alloc)?;
     let deed = after.step(design, i)?;
     let mut items = Vec::new(alloc);
-    put_items(&mut items, &after, &deed)?;
+    put_items(&mut items, design, &after, &deed)?;
     Ok((after, items))
 }

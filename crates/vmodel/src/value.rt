@@ -1,33 +1,159 @@
-// What assignments write (IEEE 1364-2005, 5.4.1, 6.2).
+// What assignments write (IEEE 1364-2005, 5.1.14, 5.2.1, 5.4.1, 6.2).
 
-ghost use Rattle.std.specs.Prelude.{◌≡◌, []};
+ghost use Rattle.std.specs.Prelude.{◌≡◌, ◌≤◌, [], ◌∷◌, ◌++◌, IfOk, OnOk, min, length};
+ghost use Rattle.std.specs.Option.{option_to_list};
+ghost use Rattle.vdesign.specs.declared.action.Target.{Target};
+ghost use Rattle.vvalue.specs.Targets.{target_size as size_of, targets_size as size_of_all};
 ghost use Rattle.vmodel.specs.Value as spec;
 
 use crate::part::{Part, Parts};
+use basis::NoMemory;
+use std::alloc::Global;
 use vbits::Vec4;
-use vdesign::action::Target;
-use vdesign::expression::Expression;
+use vdesign::action::{Target, Targets};
+use vdesign::expression::{Bounds, Expression};
 use vvalue::asked::right_side;
-use vvalue::moment::{Moment, value_at};
+use vvalue::moment::{Moment, bounds_of, value_at};
+use vvalue::target::{leftwards, place_at, target_size, targets_size};
 
-// What a variable that had the value `old` has after the expression was assigned to it (5.4.1, 5.5.3).
-fn cut_to(old: Vec4, expression: &Expression, moment: &Moment<'_>) -> Vec4
-    ensures { result ≡ spec.cut_to moment.now old expression.now }
+/// The most bits of a value.
+const WIDEST: u32 = 64;
+
+// Of letters for the bits from a place on, as many as the variable has.
+fn bits_from(variable: u32, old: Vec4, low: u32, value: Vec4) -> Option<Part>
+    ensures { option_to_list result ≡ spec.bits_from variable old low value.letters }
 {
-    right_side(expression, old.len(), moment).with_sign(old.signed())
+    if low >= old.len() {
+        return None;
+    }
+    let count = value.len().min(old.len() - low);
+    Some(Part::Bits {
+        variable,
+        low,
+        value: value.select(count - 1, 0),
+    })
 }
 
-/// The parts that an assignment of the expression writes (6.2).
-pub fn assigned(target: &Target, expression: &Expression, moment: &Moment<'_>) -> Parts
-    ensures { result ≡ spec.assigned moment.now target.now expression.now }
+// The same, where the place is known.
+fn bits_at(variable: u32, old: Vec4, place: Option<u64>, value: Vec4) -> Option<Part>
+    ensures { option_to_list result ≡ spec.bits_at variable old place value.letters }
+{
+    let place = place?;
+    if place >= u64::from(old.len()) {
+        return None;
+    }
+    bits_from(variable, old, place as u32, value)
+}
+
+// What a part of a variable gets of its letters.
+fn bits_of(variable: u32, selected: Bounds, value: Vec4, moment: &Moment<'_>) -> Option<Part>
+    ensures { option_to_list result
+        ≡ spec.parts_of moment.now (Target.Part variable selected) value.letters }
+{
+    let bounds = bounds_of(moment, variable);
+    let missing = leftwards(bounds, bounds.right, selected.right);
+    if missing >= value.len() {
+        return None;
+    }
+    let low = leftwards(bounds, selected.right, bounds.right);
+    let letters = value.select(value.len() - 1, missing);
+    bits_from(variable, value_at(moment, variable), low, letters)
+}
+
+// What a target gets of its letters.
+fn part_of(target: &Target, value: Vec4, moment: &Moment<'_>) -> Option<Part>
+    ensures { option_to_list result ≡ spec.parts_of moment.now target.now value.letters }
 {
     match target {
-        Target::Whole(variable) => {
-            let value = cut_to(value_at(moment, *variable), expression, moment);
-            Parts::one(Part::Whole {
-                variable: *variable,
-                value,
-            })
+        Target::Whole(variable) => Some(Part::Whole {
+            variable: *variable,
+            value: value.with_sign(value_at(moment, *variable).signed()),
+        }),
+        Target::Bit { variable, index } => {
+            let place = place_at(moment, *variable, index);
+            bits_at(*variable, value_at(moment, *variable), place, value)
         }
+        Target::Part { variable, bounds } => bits_of(*variable, *bounds, value, moment),
     }
+}
+
+/// The parts that an assignment to one target writes (6.2).
+pub fn assigned_one(target: &Target, expression: &Expression, moment: &Moment<'_>) -> Parts
+    ensures { result ≡ spec.assigned moment.now (target.now ∷ []) expression.now }
+{
+    let value = right_side(expression, target_size(target, moment), moment);
+    Parts::optional(part_of(target, value, moment))
+}
+
+// Puts a part behind others, where there is one.
+fn put_part(parts: &mut Vec<Part>, part: Option<Part>) -> Result<(), NoMemory>
+    ensures { OnOk result (parts.new.items ≡ parts.old.items ++ option_to_list part) }
+{
+    if let Some(part) = part {
+        parts.push(part)?;
+    }
+    Ok(())
+}
+
+// Each target gets as many letters as it has bits.
+fn shared(
+    alloc: Global,
+    targets: &[Target],
+    value: Vec4,
+    moment: &Moment<'_>,
+) -> Result<Vec<Part>, NoMemory>
+    requires { length value.letters ≡ size_of_all moment.now targets.now }
+    ensures { IfOk result (λ parts. parts.items ≡ spec.shared moment.now targets.now value.letters) }
+{
+    let mut parts = Vec::new(alloc);
+    let mut behind = value.len();
+    for target in targets {
+        let size = target_size(target, moment);
+        behind -= size;
+        let letters = value.select(behind + size - 1, behind);
+        put_part(&mut parts, part_of(target, letters, moment))?;
+    }
+    Ok(parts)
+}
+
+// The parts that an assignment to a concatenation of so many bits writes (5.1.14).
+#[tactic(auto, using(crate::proofs::PartLemmas::none_is, crate::proofs::PartLemmas::row_is, crate::proofs::PartLemmas::row_length))]
+fn assigned_all(
+    alloc: Global,
+    targets: &[Target],
+    size: u32,
+    expression: &Expression,
+    moment: &Moment<'_>,
+) -> Result<Parts, NoMemory>
+    requires some { 1 ≤ size }
+    requires exact { min 65 size ≡ min 65 (size_of_all moment.now targets.now) }
+    ensures { IfOk result
+        (λ parts. parts ≡ spec.assigned moment.now targets.now expression.now) }
+{
+    if size > WIDEST {
+        return Ok(Parts::none());
+    }
+    let value = right_side(expression, size, moment);
+    Parts::of_list(shared(alloc, targets, value, moment)?)
+}
+
+/// The parts that an assignment writes (6.2).
+pub fn assigned(
+    alloc: Global,
+    targets: &Targets,
+    expression: &Expression,
+    moment: &Moment<'_>,
+) -> Result<Parts, NoMemory>
+    ensures { IfOk result
+        (λ parts. parts ≡ spec.assigned moment.now targets.now expression.now) }
+{
+    let targets = targets.as_slice();
+    if let Some((target, more)) = targets.split_first() {
+        if more.is_empty() {
+            return Ok(assigned_one(target, expression, moment));
+        }
+        let size = target_size(target, moment) + targets_size(more, moment);
+        return assigned_all(alloc, targets, size, expression, moment);
+    }
+    Ok(Parts::none())
 }

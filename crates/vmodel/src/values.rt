@@ -6,8 +6,9 @@ ghost use Rattle.vbits.specs.Vectors.{Vector};
 ghost use Rattle.vmodel.specs.Parts as spec;
 ghost use Rattle.vmodel.specs.Run.{opening_value};
 ghost use Rattle.vmodel.specs.InnerWaking.{IsChange};
+ghost use Rattle.vmodel.specs.Inner.{value_over, over_one};
 
-use crate::part::{Part, Parts};
+use crate::part::Part;
 use basis::NoMemory;
 use std::alloc::Global;
 use std::marker::Model;
@@ -20,6 +21,74 @@ pub(crate) struct Change {
     pub(crate) variable: u32,
     pub(crate) old: Vec4,
     pub(crate) new: Vec4,
+}
+
+/// What a step changes.
+#[derive(Clone, Copy)]
+pub(crate) enum Changes<'c> {
+    /// One variable.
+    One(Change),
+    /// What these parts write over these values.
+    Many {
+        values: &'c [Vec4],
+        parts: &'c [Part],
+    },
+}
+
+// A vector with these letters from a place on; where it has not so many nothing is written.
+fn with_bits(old: Vec4, low: u32, value: Vec4) -> Vec4
+    ensures { result ≡ spec.with_bits old low value }
+{
+    if low >= old.len() || value.len() > old.len() - low {
+        return old;
+    }
+    old.put(low + value.len() - 1, low, value)
+}
+
+// What a part makes of its variable's value.
+fn written_over(old: Vec4, part: Part) -> Vec4
+    ensures { result ≡ value_over part old }
+{
+    match part {
+        Part::Whole { value, .. } => value,
+        Part::Bits { low, value, .. } => with_bits(old, low, value),
+    }
+}
+
+// What a part makes of a variable's value: nothing, where the variable is another.
+fn next_value(old: Vec4, part: Part, variable: u32) -> Vec4
+    ensures { result ≡ over_one part variable old }
+{
+    if part.variable() == variable {
+        written_over(old, part)
+    } else {
+        old
+    }
+}
+
+/// The value of the variable of this number; x, one bit wide, where there is none.
+pub(crate) fn value_in(values: &[Vec4], variable: u32) -> Vec4
+    ensures { result ≡ spec.value_in values.now variable }
+{
+    match values.get(variable as usize) {
+        Some(value) => *value,
+        None => Vec4::all_x(1),
+    }
+}
+
+/// The value that a variable has after the parts are written over these values.
+#[tactic(auto, using(crate::proofs::PartLemmas::followed_is, crate::proofs::PartLemmas::nowhere_after))]
+pub fn value_after(values: &[Vec4], parts: &[Part], variable: u32) -> Vec4
+    ensures { result ≡ spec.value_in (spec.written parts.now values.now) variable }
+{
+    let mut value = value_in(values, variable);
+    if variable as usize >= values.len() {
+        return value;
+    }
+    for part in parts {
+        value = next_value(value, *part, variable);
+    }
+    value
 }
 
 /// The values of all variables. A clause sees them as their list.
@@ -126,12 +195,13 @@ impl Values {
     }
 
     /// Writes one part; a part of no variable writes nothing. The answer is what changed.
-    fn write(&mut self, part: Part) -> Option<Change>
+    pub(crate) fn write(&mut self, part: Part) -> Option<Change>
         ensures values { self.new ≡ spec.write part self.old }
         ensures change { IsChange result self.old self.new }
     {
-        let Part::Whole { variable, value } = part;
-        self.set(variable, value)
+        let variable = part.variable();
+        let old = value_in(&self.list, variable);
+        self.set(variable, written_over(old, part))
     }
 
     // Writes a whole variable, if there is one.
@@ -150,12 +220,12 @@ impl Values {
         Some(Change { variable, old, new })
     }
 
-    /// Writes the parts from left to right. The answer is what changed.
-    pub(crate) fn write_all(&mut self, parts: Parts) -> Option<Change>
-        ensures values { self.new ≡ spec.written parts self.old }
-        ensures change { IsChange result self.old self.new }
+    /// Writes the parts from left to right.
+    pub(crate) fn write_all(&mut self, parts: &[Part])
+        ensures { self.new ≡ spec.written parts.now self.old }
     {
-        let part = parts.first()?;
-        self.write(part)
+        for part in parts {
+            self.write(*part);
+        }
     }
 }

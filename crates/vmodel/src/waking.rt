@@ -2,12 +2,14 @@
 
 ghost use Rattle.std.specs.Prelude.{◌≡◌, ◌≤◌, length, map};
 ghost use Rattle.vmodel.specs.Waking as spec;
-ghost use Rattle.vmodel.specs.InnerWaking.{with_active, hears_of, any_hears_of, comes as comes_of};
+ghost use Rattle.vmodel.specs.Parts.{written};
+ghost use Rattle.vmodel.specs.InnerWaking.{with_active, hears_one as hears_one_of, hears_of, any_hears_of, comes as comes_of};
 
+use crate::part::Part;
 use crate::process::Process;
 use crate::process_set::ProcessSet;
 use crate::queue::Queue;
-use crate::values::Change;
+use crate::values::{Change, Changes, value_after, value_in};
 use vbits::{Bit4, Vec4};
 use vdesign::action::{Action, Edge, Term};
 
@@ -39,13 +41,31 @@ fn is_edge(edge: Edge, old: Vec4, new: Vec4) -> bool
     }
 }
 
-fn hears(term: Term, change: &Change) -> bool
-    ensures { result ≡ hears_of change.now term }
+// Whether a term hears of the change of one variable.
+fn hears_one(term: Term, change: &Change) -> bool
+    ensures { result ≡ hears_one_of change.now term }
 {
     term.variable == change.variable && is_edge(term.edge, change.old, change.new)
 }
 
-fn any_hears(terms: &[Term], change: &Change) -> bool
+// Whether it hears of what the parts write over the values.
+fn hears_many(term: Term, values: &[Vec4], parts: &[Part]) -> bool
+    ensures { result ≡ spec.hears values.now (written parts.now values.now) term }
+{
+    let old = value_in(values, term.variable);
+    is_edge(term.edge, old, value_after(values, parts, term.variable))
+}
+
+fn hears(term: Term, change: &Changes<'_>) -> bool
+    ensures { result ≡ hears_of change.now term }
+{
+    match change {
+        Changes::One(change) => hears_one(term, change),
+        Changes::Many { values, parts } => hears_many(term, values, parts),
+    }
+}
+
+fn any_hears(terms: &[Term], change: &Changes<'_>) -> bool
     ensures { result ≡ any_hears_of change.now terms.now }
 {
     for term in terms {
@@ -57,7 +77,7 @@ fn any_hears(terms: &[Term], change: &Change) -> bool
 }
 
 // Whether a process waits for this change.
-fn comes(actions: &[Action], change: &Change, process: &Process) -> bool
+fn comes(actions: &[Action], change: &Changes<'_>, process: &Process) -> bool
     ensures { result ≡ comes_of actions.now change.now process.now }
 {
     let Some(place) = process.waits else {
@@ -72,7 +92,12 @@ fn comes(actions: &[Action], change: &Change, process: &Process) -> bool
 }
 
 // The active processes, with those that wait for this change.
-fn with_awake(actions: &[Action], change: &Change, processes: &[Process], active: &mut ProcessSet)
+fn with_awake(
+    actions: &[Action],
+    change: &Changes<'_>,
+    processes: &[Process],
+    active: &mut ProcessSet,
+)
     requires { length processes.now ≤ 256 }
     ensures { active.new
         ≡ spec.with_awake (comes_of actions.now change.now) 0 processes.now active.old }
@@ -86,7 +111,7 @@ fn with_awake(actions: &[Action], change: &Change, processes: &[Process], active
     }
 }
 
-fn wake_one(actions: &[Action], change: &Change, process: &mut Process)
+fn wake_one(actions: &[Action], change: &Changes<'_>, process: &mut Process)
     ensures { process.new ≡ spec.awake (comes_of actions.now change.now) process.old }
 {
     if comes(actions, change, process) {
@@ -95,7 +120,7 @@ fn wake_one(actions: &[Action], change: &Change, process: &mut Process)
 }
 
 // Those that wait for this change don't wait any more.
-fn wait_no_more(actions: &[Action], change: &Change, processes: &mut [Process])
+fn wait_no_more(actions: &[Action], change: &Changes<'_>, processes: &mut [Process])
     ensures { processes.new ≡ map (spec.awake (comes_of actions.now change.now)) processes.old }
 {
     for process in processes {
@@ -106,7 +131,7 @@ fn wait_no_more(actions: &[Action], change: &Change, processes: &mut [Process])
 /// Those that wait for this change wait no more, and are active.
 pub(crate) fn wake(
     actions: &[Action],
-    change: &Change,
+    change: &Changes<'_>,
     processes: &mut Vec<Process>,
     queue: &mut Queue,
 )

@@ -13,7 +13,7 @@ use Rattle.vcd_text.specs.MeteredLaws.{stops_of}
 use Rattle.vcd_text.specs.declared.metered.Metered.{Metered}
 use Rattle.vcd_text.specs.declared.fault.WriteFault.{WriteFault}
 use Rattle.vreport.specs.Dumps.{IsRunDump, StopsDump as StopsOutlet}
-use Rattle.vrace.specs.RunDumps.{IsRunFault, StopsDump, fault_of, replay_fault_of}
+use Rattle.vrace.specs.RunDumps.{IsRunFault, StopsText, fault_of, replay_fault_of}
 use Rattle.vrace.specs.declared.fault.Fault.{Fault}
 
 pub on_ok : {T E : Type 0} (r : Result T E) {P Q : Type 0} → (P → Q) → OnOk r P → OnOk r Q
@@ -31,9 +31,10 @@ the_dump head setting log limit n end finishes = record { steps = n; end = end; 
 
 -- the fault that came as the dump went out
 pub stops : {W : Type 0} (contents : W → Option (List ℕ)) (head : List ℕ) (setting : Setting) (log : List (ℕ × ℕ)) (limit : ℕ) (old new : Metered W) (cause : OrMemory WriteFault) (fault : Fault) →
-    fault ≡ fault_of cause → StopsOutlet (Written contents) (Broken contents) head setting log limit old cause new → StopsDump contents head setting log limit old new fault
+    fault ≡ fault_of cause → StopsOutlet (Written contents) (Broken contents) head setting log limit old cause new →
+    StopsText contents (IsRunDump head setting log limit) old new fault
 stops contents head setting log limit old new cause fault is (dump, known, stopped) =
-    record { cause = cause; is = is; dump = dump; is_dump = known; stops = stops_of contents old new dump cause stopped }
+    record { cause = cause; is = is; text = dump; holds = known; stops = stops_of contents old new dump cause stopped }
 
 -- why there is no such run
 pub run_fault : (setting : Setting) (log : List (ℕ × ℕ)) (limit : ℕ) (why : ReplayFault) → IsReplayReason (rules_of setting) log limit why →

@@ -1,5 +1,5 @@
 -- One text, one replay: from the laws of each layer.
-use Rattle.std.proofs.Common.{◌≡◌, ℕ, List, Option, Some, Ok, Err, inl, inr, sym, ap, subst, ◌∙◌, arith}
+use Rattle.std.proofs.Common.{◌≡◌, ℕ, List, Option, Ok, Err, inl, inr, sym, ap, subst, ◌∙◌, arith}
 use Rattle.vsrc.specs.Source.{Source}
 use Rattle.basis.specs.declared.timescale.Timescale.{Timescale}
 use Rattle.vsrc.specs.Expansion.{expansion, text_of, expanded_text, expanded_timescale}
@@ -14,9 +14,9 @@ use Rattle.velab.specs.Laws.{ElaboratesOneWay}
 use Rattle.sched_core.specs.LogText.{OneLogForText}
 use Rattle.sched_core.specs.Replay.{EndsAfter}
 use Rattle.vmodel.specs.Run.{Setting, rules_of, history_after}
-use Rattle.vcd_text.specs.DumpText.{vcd}
 use Rattle.vrace.specs.Asked.{Asked}
-use Rattle.vrace.specs.Replays.{AreRead, texts_of, IsTreeOf, IsDesignOf, IsDesignOfFiles, grain_under, Played, setting_of, IsDump}
+use Rattle.vrace.specs.Replays.{AreRead, texts_of, IsTreeOf, IsDesignOf, IsDesignOfFiles, grain_under, Played, setting_of, shown, IsShown}
+use Rattle.vrace.specs.declared.replay.Show.{Show}
 use Rattle.vrace.specs.Refusals.{IsDesignFault, IsFileReason, IsTextReason, IsRunReason, IsReason, IsOfMemory, IsOfWriting}
 use Rattle.vrace.specs.declared.fault.Fault.{Fault}
 use Rattle.vrace.specs.declared.fault.Fault.TheVariants.{NotEnded, BadToken, Directive, NoMacro, Growth, LeftOpen, Timescales, NoTree, Outside, TooDeep, NotYet, NoDesign, BadLog, NoSuchChoice, TooManySteps, OutOfLimit, BadReport, FalseEnd, FalseRace, FalseHead, Memory, Write, Read, TooLong}
@@ -149,15 +149,15 @@ module _ (laws : Laws) where
       moved : (n : ℕ) → EndsAfter (rules_of (setting_of files asked log p)) p.members n → EndsAfter (rules_of (setting_of files asked log q)) q.members n
       moved n = subst (λ (pair : Setting × List (ℕ × ℕ)). EndsAfter (rules_of pair.0) pair.1 n) (λ i. (settings i, logs.1 i))
 
-    pub one_dump : (dump other : List ℕ) → IsDump files asked log dump → IsDump files asked log other → dump ≡ other
-    one_dump dump other d e =
+    pub one_text : (show : Show) (text other : List ℕ) → IsShown show files asked log text → IsShown show files asked log other → text ≡ other
+    one_text show text other d e =
         let p = d.played in
         let q = e.played in
         let ends = moved p q d.steps d.finishes.ends in
         let steps : d.steps ≡ e.steps = same_end (rules_of (setting_of files asked log q)) q.members d.steps e.steps ends.run ends.end e.finishes.ends in
-        d.is_text ∙ (λ i. vcd (designs p q i) (history_after (settings p q i) ((logs p q).1 i) (steps i))) ∙ sym e.is_text
+        d.is_text ∙ (λ i. shown show (designs p q i) (history_after (settings p q i) ((logs p q).1 i) (steps i))) ∙ sym e.is_text
 
-    module _ (dump : List ℕ) (d : IsDump files asked log dump) where
+    module _ (show : Show) (text : List ℕ) (d : IsShown show files asked log text) where
       not_for_run : (fault : Fault) → IsRunReason files asked log fault → IsOfWriting fault
       not_for_run BadLog (read, design, none) = absurd (none d.played.head d.played.members d.played.is_log d.played.written)
       not_for_run NoSuchChoice (played, missing) =

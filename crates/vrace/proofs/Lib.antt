@@ -1,6 +1,7 @@
 mod DesignLemmas
 mod DumpLemmas
 mod ReplayLemmas
+mod LinesLemmas
 mod ExploreLemmas
 mod CheckLemmas
 mod ReadLemmas

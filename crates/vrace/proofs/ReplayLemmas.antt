@@ -12,11 +12,15 @@ use Rattle.basis.specs.declared.memory.OrMemory.{OrMemory}
 use Rattle.basis.specs.declared.memory.OrMemory.TheVariants as or
 use Rattle.vcd_text.specs.Metered.{count_after}
 use Rattle.vrace.specs.Asked.{Asked}
-use Rattle.vrace.specs.Replays.{Played, setting_of, IsDump}
+use Rattle.vrace.specs.Replays.{Played, setting_of, shown, IsShown, IsDump}
+use Rattle.vrace.specs.declared.replay.Show.{Show}
+use Rattle.vrace.specs.declared.replay.Show.TheVariants.{Dump, Lines}
+use Rattle.lines_text.specs.LinesText.{lines}
+use Rattle.vrace.specs.RunLines.{IsRunLines}
 use Rattle.vrace.specs.Refusals.{IsRunReason, IsReason, IsOfWriting, Leaves}
 use Rattle.vreport.specs.Dumps.{IsRunDump}
 use Rattle.vrace.proofs.DumpLemmas.{the_dump}
-use Rattle.vrace.specs.RunDumps.{IsRunFault, Ends, fault_of, failures_after}
+use Rattle.vrace.specs.RunDumps.{IsRunFault, IsRunShown, Ends, fault_of, failures_after}
 use Rattle.vrace.specs.declared.fault.Fault.{Fault}
 use Rattle.vrace.specs.declared.fault.Fault.TheVariants.{NotEnded, BadToken, Directive, NoMacro, Growth, LeftOpen, Timescales, NoTree, Outside, TooDeep, NotYet, NoDesign, BadLog, NoSuchChoice, TooManySteps, OutOfLimit, BadReport, FalseEnd, FalseRace, FalseHead, Memory, Write, Read, TooLong}
 
@@ -41,6 +45,20 @@ module _ (files : List (List ℕ)) (asked : Asked) (log : List ℕ) (played : Pl
     finishes = subst (λ (s : Setting). Finishes s played.members asked.steps d.steps d.end) same d.finishes;
     is_text = d.is_text ∙ ap (λ (s : Setting). vcd s.design (history_after s played.members d.steps)) same;
   }
+
+  printed : (text : List ℕ) → IsRunLines setting played.members asked.steps text → IsShown Lines files asked log text
+  printed text d = record {
+    played = played;
+    steps = d.steps;
+    end = d.end;
+    finishes = subst (λ (s : Setting). Finishes s played.members asked.steps d.steps d.end) same d.finishes;
+    is_text = d.is_text ∙ ap (λ (s : Setting). lines s.design (history_after s played.members d.steps).items) same;
+  }
+
+  -- what is shown of the run is what is shown of the files
+  pub shown_so : (show : Show) (text : List ℕ) → IsRunShown show setting played.members asked.steps text → IsShown show files asked log text
+  shown_so Dump text d = dumped text d
+  shown_so Lines text d = printed text d
 
   pub run_reason : (fault : Fault) → IsRunFault setting played.members asked.steps fault → IsRunReason files asked log fault
   run_reason NoSuchChoice p = (played, subst (λ (s : Setting). IsMissing (rules_of s) played.members asked.steps) same p)
@@ -68,21 +86,31 @@ module _ (files : List (List ℕ)) (asked : Asked) (log : List ℕ) (played : Pl
   run_reason Read p = absurd p
   run_reason TooLong p = absurd p
 
+  -- where something is shown there is a dump
+  dump_of : (show : Show) (text : List ℕ) → IsShown show files asked log text → (dump : List ℕ) × IsDump files asked log dump
+  dump_of show text d = (
+    shown Dump d.played.design (history_after (setting_of files asked log d.played) d.played.members d.steps),
+    record { played = d.played; steps = d.steps; end = d.end; finishes = d.finishes; is_text = refl },
+  )
+
   -- where the run ends there is a dump, so that a writer that fails has its reason
   pub writing_reason : (n : ℕ) (end : End) → Finishes setting played.members asked.steps n end → (cause : OrMemory WriteFault) → IsReason files asked log (fault_of cause)
   writing_reason n end finishes cause =
       let dump = the_dump (header setting.design) setting played.members asked.steps n end finishes in
       inr (reason_of_writing files asked log _ cause (dumped _ dump))
 
-  module _ {W : Type 0} (contents : W → Option (List ℕ)) (old new : Metered W) where
-    pub reason : (fault : Fault) → Ends contents (header setting.design) setting played.members asked.steps old new fault → IsReason files asked log fault
+  module _ {W : Type 0} (contents : W → Option (List ℕ)) (show : Show) (old new : Metered W) where
+    pub reason : (fault : Fault) → Ends contents (IsRunShown show setting played.members asked.steps) setting played.members asked.steps old new fault →
+        IsReason files asked log fault
     reason fault (inl (p, kept)) = inr (run_reason fault p)
-    reason fault (inr stops) = inr (subst (IsRunReason files asked log) (sym stops.is) (reason_of_writing files asked log stops.dump stops.cause (dumped stops.dump stops.is_dump)))
+    reason fault (inr stops) =
+        let dump = dump_of show stops.text (shown_so show stops.text stops.holds) in
+        inr (subst (IsRunReason files asked log) (sym stops.is) (reason_of_writing files asked log dump.0 stops.cause dump.1))
 
-    pub left : (fault : Fault) → Ends contents (header setting.design) setting played.members asked.steps old new fault →
-        Leaves contents files asked log fault old new
+    pub left : (fault : Fault) → Ends contents (IsRunShown show setting played.members asked.steps) setting played.members asked.steps old new fault →
+        Leaves contents show files asked log fault old new
     left fault (inl (p, kept)) = inl kept
     left fault (inr stops) = inr (
       subst IsOfWriting (sym stops.is) (of_writing stops.cause),
-      record { dump = stops.dump; is_dump = dumped stops.dump stops.is_dump; len = stops.stops.0.0; front = stops.stops.0.1 },
+      record { text = stops.text; is_text = shown_so show stops.text stops.holds; len = stops.stops.0.0; front = stops.stops.0.1 },
     )

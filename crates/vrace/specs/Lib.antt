@@ -2,6 +2,7 @@ pub mod Asked
 pub mod Refusals
 pub mod Replays
 pub mod Unique
+pub mod RunLines
 pub mod RunDumps
 pub mod Reads
 pub mod Places

@@ -23,7 +23,8 @@ use Rattle.sched_core.specs.Replay.{IsMissing, TakesMore}
 use Rattle.vmodel.specs.Run.{rules_of}
 use Rattle.vcd_text.specs.declared.metered.Metered.{Metered}
 use Rattle.vrace.specs.Asked.{Asked}
-use Rattle.vrace.specs.Replays.{limit, total, AreRead, AreTokens, IsTreeOf, IsDesignOf, IsDesignOfFiles, Played, setting_of, IsDump}
+use Rattle.vrace.specs.Replays.{limit, total, AreRead, AreTokens, IsTreeOf, IsDesignOf, IsDesignOfFiles, Played, setting_of, IsShown, IsDump}
+use Rattle.vrace.specs.declared.replay.Show.{Show}
 use Rattle.vrace.specs.declared.fault.At.{At}
 use Rattle.velab.specs.declared.fault.Rule.{Rule}
 use Rattle.vrace.specs.declared.fault.Fault.{Fault}
@@ -91,7 +92,7 @@ IsLogFault log BadLog = IsNoNamedLogText log
 IsLogFault log (Memory m) = Unit {0}
 IsLogFault log other = ⊥
 
--- what a fault of the log or of its run says; where a writer failed there was a dump to write
+-- what a fault of the log or of its run says; where a writer failed there was a run to show, which has a dump
 abbrev pub IsRunReason : List (List ℕ) → Asked → List ℕ → Fault → Type 0
 IsRunReason files asked log BadLog =
     AreRead files × ((design : Design) × IsDesignOfFiles files asked.top design) × IsNoNamedLogText log
@@ -120,17 +121,17 @@ IsOfWriting (Memory m) = Unit {0}
 IsOfWriting Write = Unit {0}
 IsOfWriting other = ⊥
 
--- a front of the dump stands written
-pub record IsBegun (files : List (List ℕ)) (asked : Asked) (log : List ℕ) (old new : Option (List ℕ)) : Type 0 where
-  pub dump : List ℕ
-  pub is_dump : IsDump files asked log dump
+-- a front of what is shown stands written
+pub record IsBegun (show : Show) (files : List (List ℕ)) (asked : Asked) (log : List ℕ) (old new : Option (List ℕ)) : Type 0 where
+  pub text : List ℕ
+  pub is_text : IsShown show files asked log text
   pub len : ℕ
-  pub front : Appends old new (take len dump)
+  pub front : Appends old new (take len text)
 
--- what a refusal leaves: the writer as it was, or a front of the dump in it, where memory or the writer failed as it went out
-abbrev pub Leaves : {W : Type 0} → (W → Option (List ℕ)) → List (List ℕ) → Asked → List ℕ → Fault → Metered W → Metered W → Type 0
-Leaves contents files asked log fault old new =
-    (new ≡ old) ⊎ (IsOfWriting fault × IsBegun files asked log (contents old.inner) (contents new.inner))
+-- what a refusal leaves: the writer as it was, or a front of what is shown in it, where memory or the writer failed as it went out
+abbrev pub Leaves : {W : Type 0} → (W → Option (List ℕ)) → Show → List (List ℕ) → Asked → List ℕ → Fault → Metered W → Metered W → Type 0
+Leaves contents show files asked log fault old new =
+    (new ≡ old) ⊎ (IsOfWriting fault × IsBegun show files asked log (contents old.inner) (contents new.inner))
 
 -- what a refused trace leaves: the writer as it was, unless memory or the writer failed as it went out
 abbrev pub LeavesTrace : {W : Type 0} → Fault → Metered W → Metered W → Type 0

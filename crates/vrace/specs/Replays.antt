@@ -1,4 +1,4 @@
--- What a replay writes, from the bytes of the files to the dump of the run.
+-- What a replay writes, from the bytes of the files to the dump or the lines of the run.
 use Rattle.std.specs.Prelude.{◌≡◌, ℕ, ◌≤◌, true, List, All, Option, Ok, length, map, sum_by}
 use Rattle.basis.specs.declared.timescale.Timescale.{Timescale}
 use Rattle.vsrc.specs.Source.{Source}
@@ -19,7 +19,11 @@ use Rattle.vmodel.specs.declared.history.Grain.{Grain}
 use Rattle.vmodel.specs.declared.history.Grain.TheVariants as grains
 use Rattle.vmodel.specs.Run.{Setting, history_after}
 use Rattle.vmodel.specs.Played.{Finishes}
+use Rattle.vmodel.specs.History.{History}
 use Rattle.vcd_text.specs.DumpText.{vcd}
+use Rattle.lines_text.specs.LinesText.{lines}
+use Rattle.vrace.specs.declared.replay.Show.{Show}
+use Rattle.vrace.specs.declared.replay.Show.TheVariants.{Dump, Lines}
 use Rattle.vrace.specs.Asked.{Asked}
 
 -- the most bytes that the files may have together
@@ -90,10 +94,19 @@ abbrev pub IsPlay : List (List ℕ) → Asked → List ℕ → Setting → List 
 IsPlay files asked log setting members =
     (played : Played files asked log) × (setting ≡ setting_of files asked log played) × (members ≡ played.members)
 
--- The dump of the files under the log: the value change dump of the run to its end.
-pub record IsDump (files : List (List ℕ)) (asked : Asked) (log : List ℕ) (dump : List ℕ) : Type 0 where
+-- what is shown of a run: its value change dump (clause 18), or its printed lines (17.1)
+abbrev pub shown : Show → Design → History → List ℕ
+shown Dump design history = vcd design history
+shown Lines design history = lines design history.items
+
+-- What is shown of the files under the log: the text of the run to its end.
+pub record IsShown (show : Show) (files : List (List ℕ)) (asked : Asked) (log : List ℕ) (text : List ℕ) : Type 0 where
   pub played : Played files asked log
   pub steps : ℕ
   pub end : End
   pub finishes : Finishes (setting_of files asked log played) played.members asked.steps steps end
-  pub is_text : dump ≡ vcd played.design (history_after (setting_of files asked log played) played.members steps)
+  pub is_text : text ≡ shown show played.design (history_after (setting_of files asked log played) played.members steps)
+
+-- their dump
+abbrev pub IsDump : List (List ℕ) → Asked → List ℕ → List ℕ → Type 0
+IsDump files asked log dump = IsShown Dump files asked log dump

@@ -1,4 +1,4 @@
--- The dump of one run, on its way to a writer.
+-- What is shown of one run, on its way to a writer.
 use Rattle.std.specs.Prelude.{◌≡◌, ◌⊎◌, ℕ, List, Option}
 use Rattle.sched_core.specs.Replay.{IsMissing, TakesMore}
 use Rattle.sched_core.specs.declared.run.ReplayFault.{ReplayFault}
@@ -10,7 +10,11 @@ use Rattle.vcd_text.specs.declared.fault.WriteFault.{WriteFault}
 use Rattle.vcd_text.specs.declared.fault.WriteFault.TheVariants as write
 use Rattle.basis.specs.declared.memory.OrMemory.{OrMemory}
 use Rattle.basis.specs.declared.memory.OrMemory.TheVariants as or
+use Rattle.vcd_text.specs.DumpText.{header}
 use Rattle.vreport.specs.Dumps.{IsRunDump}
+use Rattle.vrace.specs.RunLines.{IsRunLines}
+use Rattle.vrace.specs.declared.replay.Show.{Show}
+use Rattle.vrace.specs.declared.replay.Show.TheVariants.{Dump, Lines}
 use Rattle.vrace.specs.declared.fault.Fault.{Fault}
 use Rattle.vrace.specs.declared.fault.Fault.TheVariants.{NoSuchChoice, TooManySteps, Memory, Write}
 
@@ -25,13 +29,13 @@ abbrev pub fault_of : OrMemory WriteFault → Fault
 fault_of (or.Fault write.Write) = Write
 fault_of (or.Memory m) = Memory m
 
--- the fault came as the dump went out
-pub record StopsDump {W : Type 0} (contents : W → Option (List ℕ)) (head : List ℕ) (setting : Setting) (log : List (ℕ × ℕ)) (limit : ℕ) (old new : Metered W) (fault : Fault) : Type 0 where
+-- the fault came as a text went out of which this holds
+pub record StopsText {W : Type 0} (contents : W → Option (List ℕ)) (Holds : List ℕ → Type 0) (old new : Metered W) (fault : Fault) : Type 0 where
   pub cause : OrMemory WriteFault
   pub is : fault ≡ fault_of cause
-  pub dump : List ℕ
-  pub is_dump : IsRunDump head setting log limit dump
-  pub stops : Stops contents old new dump cause
+  pub text : List ℕ
+  pub holds : Holds text
+  pub stops : Stops contents old new text cause
 
 -- the count of a writer's failures after a fault
 abbrev pub failures_after : Fault → ℕ → ℕ
@@ -48,6 +52,11 @@ replay_fault_of replay.NoSuchChoice = NoSuchChoice
 replay_fault_of replay.TooManySteps = TooManySteps
 
 -- the run wasn't begun to be written, or the fault came as it went out
-abbrev pub Ends : {W : Type 0} → (W → Option (List ℕ)) → List ℕ → Setting → List (ℕ × ℕ) → ℕ → Metered W → Metered W → Fault → Type 0
-Ends contents head setting log limit old new fault =
-    (IsRunFault setting log limit fault × (new ≡ old)) ⊎ StopsDump contents head setting log limit old new fault
+abbrev pub Ends : {W : Type 0} → (W → Option (List ℕ)) → (List ℕ → Type 0) → Setting → List (ℕ × ℕ) → ℕ → Metered W → Metered W → Fault → Type 0
+Ends contents Holds setting log limit old new fault =
+    (IsRunFault setting log limit fault × (new ≡ old)) ⊎ StopsText contents Holds old new fault
+
+-- the run under the log ends within so many steps, and this is shown of it
+abbrev pub IsRunShown : Show → Setting → List (ℕ × ℕ) → ℕ → List ℕ → Type 0
+IsRunShown Dump setting log limit text = IsRunDump (header setting.design) setting log limit text
+IsRunShown Lines setting log limit text = IsRunLines setting log limit text

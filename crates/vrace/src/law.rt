@@ -5,9 +5,10 @@ ghost use Rattle.std.specs.Prelude.{◌≡◌, ℕ, ◌<◌, ◌^◌, List, leng
 ghost use Rattle.vrace.specs.Asked.{Asked};
 ghost use Rattle.vrace.specs.Checks.{IsCheckReason, IsTrueText};
 ghost use Rattle.vrace.specs.Explores.{ExploredFilesAgree};
-ghost use Rattle.vrace.specs.Replays.{IsDump};
+ghost use Rattle.vrace.specs.Replays.{IsShown};
 ghost use Rattle.vrace.specs.Refusals.{IsReason, IsOfMemory, IsOfWriting};
 ghost use Rattle.vrace.specs.declared.fault.Fault.{Fault};
+ghost use Rattle.vrace.specs.declared.replay.Show.{Show};
 
 use report_text::report_text_law;
 use sched_core::law::log_text_law;
@@ -16,13 +17,13 @@ use vgrammar::source_law::source_law;
 use vlex::law::lexing_law;
 use vreport::agreement_law;
 
-/// Files have at most one dump under a log, whatever is asked for, and where they have one no fault has its reason
-/// but want of memory and a failed writer. So a dump and each refusal but E901 and E902 rule each other out.
+/// Files have at most one dump under a log, whatever is asked for, and one text of lines, and where they have one no fault has its
+/// reason but want of memory and a failed writer. So such a text and each refusal but E901 and E902 rule each other out.
 pub fn replay_law()
-    ensures one { (files : List (List ℕ)) (asked : Asked) (log dump other : List ℕ) →
-        IsDump files asked log dump → IsDump files asked log other → dump ≡ other }
-    ensures refused { (files : List (List ℕ)) (asked : Asked) (log dump : List ℕ) (fault : Fault) →
-        IsDump files asked log dump → IsReason files asked log fault → IsOfWriting fault }
+    ensures one { (show : Show) (files : List (List ℕ)) (asked : Asked) (log text other : List ℕ) →
+        IsShown show files asked log text → IsShown show files asked log other → text ≡ other }
+    ensures refused { (show : Show) (files : List (List ℕ)) (asked : Asked) (log text : List ℕ) (fault : Fault) →
+        IsShown show files asked log text → IsReason files asked log fault → IsOfWriting fault }
 {
     lexing_law();
     source_law();

@@ -1,6 +1,6 @@
 // The calls of the program. In go the bytes of files and options; out comes the report of an exploration, the dump of one run
-// under a log, its steps, or whether a given report is true; or the number of a fault.
-// The law: what is written is `Explores` of specs/Explores.antt, or `IsDump` of specs/Replays.antt; a report passes where it is
+// under a log, its printed lines, its steps, or whether a given report is true; or the number of a fault.
+// The law: what is written is `Explores` of specs/Explores.antt, or `IsShown` of specs/Replays.antt; a report passes where it is
 // `IsTrueText` of specs/Checks.antt; and each fault has its reason (specs/Refusals.antt).
 #![tactic(auto)]
 
@@ -10,6 +10,7 @@ mod design;
 mod exploring;
 mod fault;
 pub mod law;
+mod lines;
 mod options;
 mod read;
 mod replay;

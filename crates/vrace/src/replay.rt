@@ -1,4 +1,4 @@
-// From files and a log to the dump of the run.
+// From files and a log to the dump or the lines of the run.
 
 ghost use Rattle.std.specs.Prelude.{◌≡◌, ◌⊎◌, ℕ, List, OnOk, IfOk, IfErr};
 ghost use Rattle.sched_core.specs.LogText.{IsNamedLogText};
@@ -8,13 +8,15 @@ ghost use Rattle.vmodel.specs.Played.{Finishes};
 ghost use Rattle.vcd_text.specs.DumpText.{header};
 ghost use Rattle.vcd_text.specs.Metered.{Grows};
 ghost use Rattle.vrace.specs.Asked.{asked};
-ghost use Rattle.vrace.specs.Replays.{IsDump, IsPlay, grain_under as grain_by};
+ghost use Rattle.vrace.specs.Replays.{IsShown, IsPlay, grain_under as grain_by};
 ghost use Rattle.vrace.specs.Refusals.{IsLogFault, IsReason, Leaves};
 ghost use Rattle.vreport.specs.Dumps.{HasDump, IsRunDump};
-ghost use Rattle.vrace.specs.RunDumps.{IsRunFault, IsUnwritten, StopsDump, Ends, fault_of, replay_fault_of, failures_after};
+ghost use Rattle.vrace.specs.RunLines.{HasEnd, IsRunLines};
+ghost use Rattle.vrace.specs.RunDumps.{IsRunFault, IsRunShown, IsUnwritten, StopsText, Ends, fault_of, replay_fault_of, failures_after};
 
 use crate::design::placed_design_of;
 use crate::fault::Fault;
+use crate::lines::write_lines;
 use crate::options::Options;
 use crate::unwatched::Unwatched;
 use basis::OrMemory;
@@ -32,6 +34,8 @@ use vreport::write_dump;
 pub enum Show {
     /// Its value change dump (clause 18; docs/FORMATS.md, "Dumps").
     Dump,
+    /// Its printed lines (17.1; docs/FORMATS.md, "Lines").
+    Lines,
 }
 
 // The grain that the log names, or else the one asked for.
@@ -90,7 +94,8 @@ fn write_run<W: Write>(
     ensures ok { OnOk result ((dump : List ℕ) × IsRunDump head.now machine.now log.now steps dump ×
         Grows W.contents writer.old writer.new dump) }
     ensures err { IfErr result (λ fault.
-        StopsDump W.contents head.now machine.now log.now steps writer.old writer.new fault) }
+        StopsText W.contents (IsRunDump head.now machine.now log.now steps) writer.old writer.new
+        fault) }
 {
     match write_dump(alloc, machine, log, steps, head, writer) {
         Ok(()) => Ok(()),
@@ -110,8 +115,8 @@ fn dump_run<W: Write>(
         IsRunDump (header machine.now.design) machine.now log.now steps dump ×
         Grows W.contents writer.old writer.new dump) }
     ensures err { IfErr result (λ fault.
-        Ends W.contents (header machine.now.design) machine.now log.now steps writer.old writer.new
-        fault) }
+        Ends W.contents (IsRunDump (header machine.now.design) machine.now log.now steps)
+        machine.now log.now steps writer.old writer.new fault) }
 {
     match see_end(machine, log, steps) {
         Ok(()) => {}
@@ -120,6 +125,68 @@ fn dump_run<W: Write>(
     match Header::new(alloc, machine.design()) {
         Ok(head) => write_run(alloc, machine, log, steps, &head, writer),
         Err(refused) => Err(Fault::Memory(refused)),
+    }
+}
+
+// Writes the lines of the run, which ends.
+fn write_run_lines<W: Write>(
+    alloc: Global,
+    machine: &Machine,
+    log: &Log,
+    steps: u32,
+    writer: &mut Metered<W>,
+) -> Result<(), Fault>
+    requires ends { HasEnd machine.now log.now steps }
+    ensures ok { OnOk result ((text : List ℕ) × IsRunLines machine.now log.now steps text ×
+        Grows W.contents writer.old writer.new text) }
+    ensures err { IfErr result (λ fault.
+        StopsText W.contents (IsRunLines machine.now log.now steps) writer.old writer.new fault) }
+{
+    match write_lines(alloc, machine, log, steps, writer) {
+        Ok(()) => Ok(()),
+        Err(fault) => Err(of_writing(fault)),
+    }
+}
+
+// Writes the lines of the run, once it is known to end.
+fn print_run<W: Write>(
+    alloc: Global,
+    machine: &Machine,
+    log: &Log,
+    steps: u32,
+    writer: &mut Metered<W>,
+) -> Result<(), Fault>
+    ensures ok { OnOk result ((text : List ℕ) × IsRunLines machine.now log.now steps text ×
+        Grows W.contents writer.old writer.new text) }
+    ensures err { IfErr result (λ fault.
+        Ends W.contents (IsRunLines machine.now log.now steps) machine.now log.now steps writer.old
+        writer.new fault) }
+{
+    match see_end(machine, log, steps) {
+        Ok(()) => {}
+        Err(fault) => return Err(fault),
+    }
+    write_run_lines(alloc, machine, log, steps, writer)
+}
+
+// Writes what is to be shown of the run, once it is known to end.
+fn show_run<W: Write>(
+    alloc: Global,
+    machine: &Machine,
+    log: &Log,
+    steps: u32,
+    show: Show,
+    writer: &mut Metered<W>,
+) -> Result<(), Fault>
+    ensures ok { OnOk result ((text : List ℕ) × IsRunShown show machine.now log.now steps text ×
+        Grows W.contents writer.old writer.new text) }
+    ensures err { IfErr result (λ fault.
+        Ends W.contents (IsRunShown show machine.now log.now steps) machine.now log.now steps
+        writer.old writer.new fault) }
+{
+    match show {
+        Show::Dump => dump_run(alloc, machine, log, steps, writer),
+        Show::Lines => print_run(alloc, machine, log, steps, writer),
     }
 }
 
@@ -175,14 +242,14 @@ pub(crate) fn play_of(
     }
 }
 
-/// Writes the value change dump of the run of the files under the log to the writer, slot by slot. The log's text may
-/// name a grain, as `statement/5:1`; else the grain is that of the options.
+/// Writes what is to be shown of the run of the files under the log to the writer, slot by slot: its value change dump, or its
+/// printed lines. The log's text may name a grain, as `statement/5:1`; else the grain is that of the options.
 ///
 /// Refusals, in the order in which they are looked for: E904 where the files together are longer than 16,777,216 bytes;
 /// E1xx to E3xx where their text has no tokens, no tree or no design; E401 where the log's text is none; E403 where the
 /// run takes more steps than allowed; E402 where a step that the log names isn't reached or hasn't that choice. Then
 /// nothing is written, as the run is seen to end before its first byte goes out. E902 where the writer failed, and E901
-/// where memory was refused: then a prefix of the dump may stand written.
+/// where memory was refused: then a prefix of the text may stand written.
 pub fn replay_text<W: Write>(
     alloc: Global,
     files: &[Vec<u8>],
@@ -191,13 +258,13 @@ pub fn replay_text<W: Write>(
     show: Show,
     writer: &mut Metered<W>,
 ) -> Result<(), Fault>
-    ensures dump { OnOk result ((dump : List ℕ) ×
-        IsDump (file_bytes files.now) (asked options.now) log.now dump ×
-        Grows W.contents writer.old writer.new dump) }
+    ensures shown { OnOk result ((text : List ℕ) ×
+        IsShown show (file_bytes files.now) (asked options.now) log.now text ×
+        Grows W.contents writer.old writer.new text) }
     ensures reason { IfErr result (λ fault.
         IsReason (file_bytes files.now) (asked options.now) log.now fault) }
     ensures left { IfErr result (λ fault.
-        Leaves W.contents (file_bytes files.now) (asked options.now) log.now fault writer.old
+        Leaves W.contents show (file_bytes files.now) (asked options.now) log.now fault writer.old
         writer.new) }
     ensures failures { IfErr result (λ fault.
         writer.new.failures ≡ failures_after fault writer.old.failures) }
@@ -207,7 +274,5 @@ pub fn replay_text<W: Write>(
         Err(fault) => return Err(fault),
     };
     let steps = options.limits.steps;
-    match show {
-        Show::Dump => dump_run(alloc, &play.machine, &play.members, steps, writer),
-    }
+    show_run(alloc, &play.machine, &play.members, steps, show, writer)
 }

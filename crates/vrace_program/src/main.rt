@@ -1,4 +1,4 @@
-//! The program `vrace`. In go words and Verilog; out comes a report or a value change dump on standard output, or one line
+//! The program `vrace`. In go words and Verilog; out comes a report, a value change dump or printed lines on standard output, or one line
 //! with the number of a fault on standard error. What an exploration writes is the contract of `vrace::explore_text_alone`,
 //! with several workers of `vrace::explore_text`; what a replay writes that of `vrace::replay_text`.
 #![tactic(auto)]
@@ -19,12 +19,12 @@ use std::thread::Threads;
 use std::{env, io};
 use vcd_text::Metered;
 use vrace::{
-    Fault, Options, Show, Status, check_text, explore_text, explore_text_alone, read_text,
-    replay_text, trace_text,
+    Fault, Options, Status, check_text, explore_text, explore_text_alone, read_text, replay_text,
+    trace_text,
 };
 use words::{
-    Request, commands, depart_of, entries_of, files_of, has_dashed_log, has_dashed_report,
-    has_dashed_top, is_traced, log_of, report_of, request_of, workers_of,
+    Request, Wanted, commands, depart_of, entries_of, files_of, has_dashed_log, has_dashed_report,
+    has_dashed_top, log_of, report_of, request_of, wanted_of, workers_of,
 };
 use workpool::OpenGate;
 
@@ -87,19 +87,18 @@ fn finish<W: Write>(writer: &mut Metered<W>) -> Result<(), Stop> {
     }
 }
 
-// Writes the steps of the run, or its dump.
+// Writes the steps of the run, or its dump or its lines.
 fn write_run<W: Write>(
     alloc: Global,
     texts: &[Vec<u8>],
     options: &Options<'_>,
     log: &[u8],
-    traced: bool,
+    wanted: Wanted,
     writer: &mut Metered<W>,
 ) -> Result<(), Fault> {
-    if traced {
-        trace_text(alloc, texts, options, log, writer)
-    } else {
-        replay_text(alloc, texts, options, log, Show::Dump, writer)
+    match wanted {
+        Wanted::Shown(show) => replay_text(alloc, texts, options, log, show, writer),
+        Wanted::Steps => trace_text(alloc, texts, options, log, writer),
     }
 }
 
@@ -108,7 +107,7 @@ fn replay(
     rt: &HostRuntime,
     request: &Request<'_>,
     log: &str,
-    traced: bool,
+    wanted: Wanted,
 ) -> Result<ExitCode, Stop> {
     let options = Options::new(
         request.top.map(|name| name.as_bytes()),
@@ -128,7 +127,7 @@ fn replay(
         &texts,
         &options,
         log.as_bytes(),
-        traced,
+        wanted,
         &mut writer,
     )?;
     finish(&mut writer)?;
@@ -257,10 +256,13 @@ fn replay_by<'a>(rt: &HostRuntime, matches: &ArgMatches<'a>) -> Result<ExitCode,
     if has_dashed_top(matches) || has_dashed_log(matches) {
         return Err(Stop::Usage);
     }
+    let Some(wanted) = wanted_of(matches) else {
+        return Err(Stop::Usage);
+    };
     let Ok(request) = request_of(rt.alloc(), matches) else {
         return Err(Stop::NoMemory);
     };
-    replay(rt, &request, log_of(matches), is_traced(matches))
+    replay(rt, &request, log_of(matches), wanted)
 }
 
 // Explores what the words ask for.

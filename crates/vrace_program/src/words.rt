@@ -4,9 +4,10 @@ use basis::NoMemory;
 use clap::{Arg, ArgAction, ArgMatches, Command, value_parser};
 use std::alloc::Global;
 use vmodel::history::Grain;
+use vrace::Show;
 
 const PAGES: &str =
-    "Pages, in the folder docs: LANGUAGE.md (what is read, commands, limits), SCHEDULING.md (steps, choices, logs), RACES.md (reports), FORMATS.md (dumps, logs, reports), FAULTS.md (numbers)
+    "Pages, in the folder docs: LANGUAGE.md (what is read, commands, limits), SCHEDULING.md (steps, choices, logs), RACES.md (reports), FORMATS.md (dumps, lines, logs, reports), FAULTS.md (numbers)
 
 Exit status: 0 where all was done; 1 where something in a report isn't true; 2 where the call was refused, with one line on standard error (vrace explain NUMBER says what it means)";
 
@@ -74,13 +75,20 @@ fn replay_command<'a>(alloc: Global) -> Result<Command<'a>, NoMemory> {
         .long("trace")
         .action(ArgAction::SetTrue)
         .help("Prints the steps of the run, a line each, in place of the dump");
+    let lines = Arg::new(alloc, "lines")
+        .long("lines")
+        .action(ArgAction::SetTrue)
+        .help("Prints the lines of $display, $strobe and $monitor, in place of the dump");
     let command = Command::new(alloc, "replay")
-        .about("Writes the value change dump of the run under a log, or its steps")
+        .about(
+            "Writes the value change dump of the run under a log, or its printed lines, or its steps",
+        )
         .arg(top(alloc))?
         .arg(until(alloc))?
         .arg(number(alloc, "steps", "The most steps of the run", "100000"))?
         .arg(grain(alloc))?
         .arg(log)?
+        .arg(lines)?
         .arg(trace)?
         .arg(files(alloc))?;
     Ok(command)
@@ -181,9 +189,23 @@ pub fn has_dashed_report(matches: &ArgMatches<'_>) -> bool {
     is_dashed(matches, "report")
 }
 
-/// Whether the steps are asked for in place of the dump.
-pub fn is_traced(matches: &ArgMatches<'_>) -> bool {
-    matches.get_flag("trace")
+/// What of a run is asked for.
+#[derive(Clone, Copy, Debug, PartialEq, Eq)]
+pub enum Wanted {
+    /// The dump, or the printed lines.
+    Shown(Show),
+    /// The steps.
+    Steps,
+}
+
+/// What of the run is asked for in place of the dump, if one thing is; none where two are.
+pub fn wanted_of(matches: &ArgMatches<'_>) -> Option<Wanted> {
+    match (matches.get_flag("lines"), matches.get_flag("trace")) {
+        (false, false) => Some(Wanted::Shown(Show::Dump)),
+        (true, false) => Some(Wanted::Shown(Show::Lines)),
+        (false, true) => Some(Wanted::Steps),
+        (true, true) => None,
+    }
 }
 
 /// The file of the report that is to be checked.

@@ -1,5 +1,5 @@
 -- What is taken when a run that ends is handed to a fresh sink.
-use Rattle.std.proofs.Common.{◌≡◌, ℕ, List, take, drop, refl, sym, ap, subst, ◌∙◌}
+use Rattle.std.proofs.Common.{◌≡◌, ℕ, List, [], take, drop, refl, sym, ap, subst, ◌∙◌}
 use Rattle.std.proofs.lemmas.List.{take-append-drop}
 use Rattle.sched_core.specs.Replay.{IsReplayReason}
 use Rattle.sched_core.specs.declared.run.ReplayFault.{ReplayFault}
@@ -17,7 +17,7 @@ use Rattle.basis.specs.declared.memory.OrMemory.{OrMemory}
 use Rattle.basis.specs.declared.memory.OrMemory.TheVariants as or
 use Rattle.vcd_text.specs.DumpText.{dump_below}
 use Rattle.vcd_text.specs.Outlets.{IsOutlet, Stopped}
-use Rattle.vcd_text.specs.declared.progress.Progress.TheVariants.{Idle}
+use Rattle.vcd_text.specs.declared.progress.Progress.TheVariants.{Waiting}
 use Rattle.vcd_text.specs.Sinks.{end_text, Takes, Fails}
 use Rattle.vcd_text.specs.SinkLaws.{fails_after, fails_before}
 use Rattle.vcd_text.specs.DumpLaws.{completes, stops_taking, stops_completing}
@@ -39,7 +39,7 @@ never_by_replay head setting log limit replay.TooManySteps (dump, known) more =
     never_more (rules_of setting) log limit known.steps known.finishes.ends known.finishes.within more
 
 module _ {O F : Type 0} (takes : O → List ℕ → O → Type 0) (fails : O → List ℕ → F → O → Type 0) (laws : IsOutlet takes fails)
-    (setting : Setting) (log : List (ℕ × ℕ)) (limit : ℕ) (s : DumpSink O) (fresh : s.progress ≡ Idle) where
+    (setting : Setting) (log : List (ℕ × ℕ)) (limit : ℕ) (s : DumpSink O) (fresh : s.progress ≡ Waiting []) where
   -- all of it was taken
   pub takes_whole : (t : DumpSink O) (m : O) (end : End) → ((n : ℕ) × Finishes setting log limit n end × Takes takes s (given_by setting log n) t) →
       takes t.outlet.now (end_text t.progress end.time) m → TakesDump takes s.header.now setting log limit s.outlet.now m

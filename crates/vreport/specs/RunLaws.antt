@@ -61,5 +61,5 @@ given_front setting log n (suc end) within =
     last : ((more : List Item) × (given_by setting log end ≡ given_by setting log n ++ more)) →
         (more : List Item) × (given_by setting log (suc end) ≡ given_by setting log n ++ more)
     last (more, same) =
-        let items : List Item = items_of (next setting.design (state_after setting log end) (choice_at log end)) in
+        let items : List Item = items_of setting.design (next setting.design (state_after setting log end) (choice_at log end)) in
         (more ++ items, ap (λ (xs : List Item). xs ++ items) same ∙ append_assoc (given_by setting log n) more items)

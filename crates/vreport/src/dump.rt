@@ -1,7 +1,7 @@
 // The dump of a run, to a writer, a count or a text that is expected.
 
-ghost use Rattle.std.specs.Prelude.{◌≡◌, OnOk, IfErr};
-ghost use Rattle.vcd_text.specs.declared.progress.Progress.TheVariants.{Idle};
+ghost use Rattle.std.specs.Prelude.{◌≡◌, [], OnOk, IfErr};
+ghost use Rattle.vcd_text.specs.declared.progress.Progress.TheVariants.{Waiting};
 ghost use Rattle.vcd_text.specs.Sinks.{IsSameDump};
 ghost use Rattle.vreport.specs.Dumps.{HasDump, StopsDump, TakesDump};
 
@@ -18,7 +18,7 @@ fn fill<O: Outlet>(
     steps: u32,
     sink: &mut DumpSink<'_, O>,
 ) -> Result<(), OrMemory<O::Fault>>
-    requires fresh { sink.old.progress ≡ Idle }
+    requires fresh { sink.old.progress ≡ Waiting [] }
     requires ends { HasDump sink.old.header.now machine.now log.now steps }
     ensures same { IsSameDump sink.old sink.new }
     ensures ok { OnOk result

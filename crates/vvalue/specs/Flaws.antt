@@ -1,15 +1,18 @@
 -- What is wrong with the sizes of an expression, or with the bits that it asks for (IEEE 1364-2005, 4.2, 5.1.14, 5.2.1). The first
 -- that is wrong counts, in the order of the text.
-use Rattle.std.specs.Prelude.{ℕ, ◌+◌, ◌-◌, ◌*◌, max, min, nat_le, nat_lt, Bool, true, false, ◌&&◌, ◌||◌, slice_get, Option, None, Some, is_some}
+use Rattle.std.specs.Prelude.{ℕ, ◌+◌, ◌-◌, ◌*◌, max, min, nat_le, nat_lt, Bool, true, false, ◌&&◌, ◌||◌, List, [], ◌∷◌, slice_get, Option, None, Some, is_some}
 use Rattle.std.specs.Option.{option_or}
 use Rattle.vdesign.specs.Design.{Variable}
 use Rattle.vdesign.specs.declared.design.Kind.{Kind}
 use Rattle.vdesign.specs.declared.design.Kind.TheVariants.{Reg, Integer, Wire}
 use Rattle.vdesign.specs.declared.expression.Bounds.{Bounds}
+use Rattle.vdesign.specs.declared.action.Target.{Target}
+use Rattle.vdesign.specs.declared.action.Target.TheVariants as target
 use Rattle.vdesign.specs.Expressions.{ExpressionTree, constant, variable, bit, part, time, conversion, apply, combine, conditional, joined, repeated}
 use Rattle.vvalue.specs.declared.flaw.Flaw.{Flaw}
 use Rattle.vvalue.specs.declared.flaw.Flaw.TheVariants.{NoBits, Size}
 use Rattle.vvalue.specs.Value.{Moment, size_of, bounds_of}
+use Rattle.vvalue.specs.Targets.{targets_size}
 
 abbrev pub unless : Bool → Flaw → Option Flaw
 unless true flaw = None
@@ -59,3 +62,18 @@ flaw_of now (joined left right) =  -- 5.1.14: at most 64 bits
     option_or (flaw_of now left) (option_or (flaw_of now right) (unless (nat_le (size_of now left + size_of now right) 64) Size))
 flaw_of now (repeated count o) =  -- 5.1.14: at least once
     option_or (flaw_of now o) (unless (nat_le 1 count && nat_le (count * size_of now o) 64) Size)
+
+-- ---- targets
+
+abbrev pub target_flaw : Moment → Target → Option Flaw
+target_flaw now (target.Whole n) = None
+target_flaw now (target.Bit n index) = option_or (unless (has_bits (slice_get now.variables n)) NoBits) (flaw_of now index)
+target_flaw now (target.Part n selected) = part_flaw now n selected
+
+abbrev pub first_target_flaw : Moment → List Target → Option Flaw
+first_target_flaw now [] = None
+first_target_flaw now (one ∷ more) = option_or (target_flaw now one) (first_target_flaw now more)
+
+abbrev pub targets_flaw : Moment → List Target → Option Flaw
+targets_flaw now targets =  -- 5.1.14: at most 64 bits
+    option_or (first_target_flaw now targets) (unless (nat_le (targets_size now targets) 64) Size)

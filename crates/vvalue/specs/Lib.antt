@@ -3,4 +3,5 @@ pub mod Value
 pub mod Cases
 pub mod Fits
 pub mod Reads
+pub mod Targets
 pub mod Flaws

@@ -9,6 +9,8 @@ ghost use Rattle.vvalue.specs.Reads.{IsOfFirst, AreBehindFirst};
 use crate::context::Context;
 use crate::moment::{Moment, bounds_of};
 use crate::size::own;
+use crate::target::targets_size;
+use vdesign::action::{Target, Targets};
 use vdesign::design::Kind;
 use vdesign::expression::{Bounds, Expression, Node};
 
@@ -158,4 +160,37 @@ pub fn flaw_of(expression: &Expression, moment: &Moment<'_>) -> Option<Flaw>
     ensures { result ≡ spec.flaw_of moment.now expression.now }
 {
     flaw_at(expression.nodes(), moment).0
+}
+
+fn target_flaw(target: &Target, moment: &Moment<'_>) -> Option<Flaw>
+    ensures { result ≡ spec.target_flaw moment.now target.now }
+{
+    match target {
+        Target::Whole(_) => None,
+        Target::Bit { variable, index } => {
+            bit_flaw(moment, *variable).or(flaw_of(index, moment))
+        }
+        Target::Part { variable, bounds } => part_flaw(moment, *variable, *bounds),
+    }
+}
+
+// Of the first target that is wrong.
+fn first_target_flaw(targets: &[Target], moment: &Moment<'_>) -> Option<Flaw>
+    ensures { result ≡ spec.first_target_flaw moment.now targets.now }
+{
+    for target in targets {
+        if let Some(flaw) = target_flaw(target, moment) {
+            return Some(flaw);
+        }
+    }
+    None
+}
+
+/// What is wrong with the targets of an assignment, where something is.
+pub fn targets_flaw(targets: &Targets, moment: &Moment<'_>) -> Option<Flaw>
+    ensures { result ≡ spec.targets_flaw moment.now targets.now }
+{
+    let targets = targets.as_slice();
+    let fits = targets_size(targets, moment) <= WIDEST;
+    first_target_flaw(targets, moment).or(unless(fits, Flaw::Size))
 }

@@ -11,4 +11,5 @@ pub mod moment;
 mod operators;
 pub mod select;
 mod size;
+pub mod target;
 mod value;

@@ -25,7 +25,7 @@ pub fn is_one(letter: Bit4) -> bool
 }
 
 // How far the bit of this number stands from the rightmost, where there is one.
-fn place_in(bounds: Bounds, number: u64) -> Option<u64>
+pub(crate) fn place_in(bounds: Bounds, number: u64) -> Option<u64>
     ensures { result ≡ spec.place_in bounds number }
 {
     let (left, right) = (u64::from(bounds.left), u64::from(bounds.right));
@@ -76,7 +76,7 @@ pub fn is_negative(value: Vec4) -> bool
 }
 
 // The number that an index is; none where it is unknown or negative.
-fn index_in(value: Vec4) -> Option<u64>
+pub(crate) fn index_in(value: Vec4) -> Option<u64>
     ensures { result ≡ spec.index_in value }
 {
     if is_negative(value) {

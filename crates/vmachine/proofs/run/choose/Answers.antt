@@ -1,4 +1,4 @@
-use Rattle.std.proofs.Common.{◌≡◌, ◌≤◌, ℕ, length, sym, ap, subst, ◌∙◌, arith}
+use Rattle.std.proofs.Common.{◌≤◌, ℕ, sym, subst, ◌∙◌}
 use Rattle.vmodel.specs.Run.{end_of}
 use Rattle.vmachine.proofs.PlayedLemmas.{finishes, too_early, takes_more, no_choice}
 use Rattle.vmachine.proofs.run.choose.Goals as goal

@@ -3,7 +3,7 @@ use Rattle.vmodel.specs.Run.{history_after}
 use Rattle.vcd_text.specs.DumpText.{dump_below, header}
 use Rattle.vcd_text.specs.Metered.{Grows}
 use Rattle.vreport.specs.Dumps.{IsRunDump}
-use Rattle.vrace.specs.RunDumps.{StopsDump}
+use Rattle.vrace.specs.RunDumps.{StopsText}
 use Rattle.vrace.proofs.DumpLemmas.{if_err, the_dump}
 use Rattle.vrace.proofs.replay.dump_run.Goals as goal
 
@@ -27,5 +27,5 @@ pub returns-in-Ok-new-clause-err : goal.returns-in-Ok-new-clause-err
 returns-in-Ok-new-clause-err g c =
     let head = c.in-Ok-new.ensures ∙ ap header c.design.ensures in
     if_err c.write_run.result (λ fault stops. inr stops)
-    (subst (λ (text : List ℕ). IfErr c.write_run.result (λ fault. StopsDump g.W.Write.contents text c.args.machine.now c.args.log.now c.args.steps
+    (subst (λ (text : List ℕ). IfErr c.write_run.result (λ fault. StopsText g.W.Write.contents (IsRunDump text c.args.machine.now c.args.log.now c.args.steps)
     c.args.writer.now c.write_run.new.writer fault)) head c.write_run.ensures.err)

@@ -1,45 +1,43 @@
 use Rattle.std.proofs.Common.{IfErr, subst}
 use Rattle.vsrc.specs.Source.{file_bytes}
-use Rattle.vcd_text.specs.DumpText.{header}
 use Rattle.vrace.specs.Asked.{asked}
-use Rattle.vrace.specs.RunDumps.{Ends}
-use Rattle.vreport.specs.Dumps.{IsRunDump}
+use Rattle.vrace.specs.RunDumps.{Ends, IsRunShown}
 use Rattle.vrace.proofs.DumpLemmas.{on_ok, if_err}
-use Rattle.vrace.proofs.ReplayLemmas.{dumped, reason, left}
+use Rattle.vrace.proofs.ReplayLemmas.{shown_so, reason, left}
 use Rattle.vrace.proofs.replay.replay_text.Goals as goal
 
 pub returns-in-Err-clause-failures : goal.returns-in-Err-clause-failures
 returns-in-Err-clause-failures g c = c.in-Err.ensures.unwritten c.args.writer.now.failures
 
-pub returns-clause-dump : goal.returns-clause-dump
-returns-clause-dump g c =
+pub returns-clause-shown : goal.returns-clause-shown
+returns-clause-shown g c =
     let machine = c.in-Ok.play.machine in
     let (played, same, members) = c.in-Ok.ensures.ok in
-    on_ok c.dump_run.result
+    on_ok c.show_run.result
     (λ done. (
       done.0,
-      dumped (file_bytes c.args.files.now) (asked c.args.options.now) c.args.log.now played machine same done.0
-          (subst (λ log. IsRunDump (header machine.design) machine log c.args.options.now.limits.steps done.0) members done.1),
+      shown_so (file_bytes c.args.files.now) (asked c.args.options.now) c.args.log.now played machine same c.args.show done.0
+          (subst (λ log. IsRunShown c.args.show machine log c.args.options.now.limits.steps done.0) members done.1),
       done.2,
     ))
-    c.dump_run.ensures.ok
+    c.show_run.ensures.ok
 
 pub returns-clause-reason : goal.returns-clause-reason
 returns-clause-reason g c =
     let machine = c.in-Ok.play.machine in
     let (played, same, members) = c.in-Ok.ensures.ok in
-    if_err c.dump_run.result
-    (reason (file_bytes c.args.files.now) (asked c.args.options.now) c.args.log.now played machine same g.W.Write.contents
-    c.args.writer.now c.dump_run.new.writer)
-    (subst (λ log. IfErr c.dump_run.result (Ends g.W.Write.contents (header machine.design) machine log c.args.options.now.limits.steps c.args.writer.now c.dump_run.new.writer))
-    members c.dump_run.ensures.err)
+    if_err c.show_run.result
+    (reason (file_bytes c.args.files.now) (asked c.args.options.now) c.args.log.now played machine same g.W.Write.contents c.args.show
+    c.args.writer.now c.show_run.new.writer)
+    (subst (λ log. IfErr c.show_run.result (Ends g.W.Write.contents (IsRunShown c.args.show machine log c.args.options.now.limits.steps) machine log
+    c.args.options.now.limits.steps c.args.writer.now c.show_run.new.writer)) members c.show_run.ensures.err)
 
 pub returns-clause-left : goal.returns-clause-left
 returns-clause-left g c =
     let machine = c.in-Ok.play.machine in
     let (played, same, members) = c.in-Ok.ensures.ok in
-    if_err c.dump_run.result
-    (left (file_bytes c.args.files.now) (asked c.args.options.now) c.args.log.now played machine same g.W.Write.contents
-    c.args.writer.now c.dump_run.new.writer)
-    (subst (λ log. IfErr c.dump_run.result (Ends g.W.Write.contents (header machine.design) machine log c.args.options.now.limits.steps c.args.writer.now c.dump_run.new.writer))
-    members c.dump_run.ensures.err)
+    if_err c.show_run.result
+    (left (file_bytes c.args.files.now) (asked c.args.options.now) c.args.log.now played machine same g.W.Write.contents c.args.show
+    c.args.writer.now c.show_run.new.writer)
+    (subst (λ log. IfErr c.show_run.result (Ends g.W.Write.contents (IsRunShown c.args.show machine log c.args.options.now.limits.steps) machine log
+    c.args.options.now.limits.steps c.args.writer.now c.show_run.new.writer)) members c.show_run.ensures.err)

@@ -1,7 +1,6 @@
-use Rattle.std.proofs.Common.{◌≡◌, ℕ, ◌+◌, List, [], ◌++◌, Option, Some, None, Result, Ok, Err, refl, sym, ap, subst, ◌∙◌, append_assoc, append-nil, arith}
+use Rattle.std.proofs.Common.{◌≡◌, ℕ, List, [], ◌++◌, Option, Some, None, Ok, sym, ap, subst, ◌∙◌, append_assoc, append-nil}
 use Rattle.basis.specs.declared.memory.OrMemory.{OrMemory}
 use Rattle.basis.specs.declared.memory.OrMemory.TheVariants.{Memory}
-use Rattle.sched_core.specs.declared.run.ReplayFault.{ReplayFault}
 use Rattle.vmodel.specs.declared.history.Item.{Item}
 use Rattle.vmodel.specs.Step.{Turn, slot_end_of, next, items_of}
 use Rattle.vdesign.specs.Design.{Design}
@@ -90,8 +89,8 @@ returns-in_err-deed-clause-left g c =
     c.from_residual-in_err-deed.ensures.1
     (handed_first g.S.Sink.takes setting log c.turns.rest.now c.args.steps c.turns.n c.turns.state c.args.sink.now c.hand.new.sink (handed ++ front) c.hand.new.pending.items here took all)
 
-pub returns-in_err-put_items-clause-left : goal.returns-in_err-put_items-clause-left
-returns-in_err-put_items-clause-left g c =
+pub returns-in_err-note-clause-left : goal.returns-in_err-note-clause-left
+returns-in_err-note-clause-left g c =
     let setting = c.args.self.now in
     let log = c.args.log.now in
     let here = c.turns.invariant.0 in
@@ -100,8 +99,8 @@ returns-in_err-put_items-clause-left g c =
     let took = g.met.S.Sink.joins c.args.sink.now c.turns.sink c.hand.new.sink handed front c.turns.invariant.2 c.in_ok-hand.ensures.ok.1 in
     let all : (handed ++ front) ++ c.hand.new.pending.items ≡ given_by setting log c.turns.n =
     append_assoc handed front c.hand.new.pending.items ∙ ap (λ (xs : List Item). handed ++ xs) c.in_ok-hand.ensures.ok.2 ∙ c.turns.invariant.3 in
-    left_by g.S.Sink.takes g.S.Sink.fails setting log c.args.steps c.args.sink.now c.hand.new.sink c.from_residual-in_err-put_items.result (Memory c.in_err-put_items.field-0.0)
-    c.from_residual-in_err-put_items.ensures.1
+    left_by g.S.Sink.takes g.S.Sink.fails setting log c.args.steps c.args.sink.now c.hand.new.sink c.from_residual-in_err-note.result (Memory c.in_err-note.field-0.0)
+    c.from_residual-in_err-note.ensures.1
     (handed_first g.S.Sink.takes setting log c.turns.rest.now c.args.steps c.turns.n c.turns.state c.args.sink.now c.hand.new.sink (handed ++ front) c.hand.new.pending.items here took all)
 
 pub turns-preserved : goal.turns-preserved
@@ -117,16 +116,18 @@ turns-preserved g c =
     let chosen : IsChosen setting log c.args.steps c.turns.n c.turns.state c.turns.rest.now (Ok (Some c.in-Ok-Some.chosen)) =
     subst (IsChosen setting log c.args.steps c.turns.n c.turns.state c.turns.rest.now) (c.in-Ok-Some.is ∙ ap (λ (o : Option Chosen). Ok o) c.in-Ok-Some.field-0-is) (c.choose.ensures setting log here) in
     let design = ap (λ (s : Setting). s.design) c.self.view_is in
-    let turn : next setting.design c.turns.state c.in-Ok-Some.chosen.choice ≡ record { state = c.step.new.self; deed = c.in_ok-deed.deed } =
+    let turn_is : Turn = record { state = c.step.new.self; deed = c.in_ok-deed.deed } in
+    let turn : next setting.design c.turns.state c.in-Ok-Some.chosen.choice ≡ turn_is =
     ap (λ (d : Design). next d c.turns.state c.in-Ok-Some.chosen.choice) (sym design) ∙ c.in_ok-deed.ensures.ok in
     let given = given_next setting log c.turns.rest.now c.args.steps c.turns.n c.turns.state here c.in-Ok-Some.chosen.choice c.in-Ok-Some.chosen.later.now chosen.2
-    (record { state = c.step.new.self; deed = c.in_ok-deed.deed }) turn in (
+    turn_is turn in (
       at_next setting log c.turns.rest.now c.args.steps c.turns.n c.turns.state here c.in-Ok-Some.chosen.choice c.in-Ok-Some.chosen.later.now chosen.2
           c.step.new.self (less_differs c.turns.n c.args.steps chosen.0) chosen.1 chosen.3 (ap (λ (t : Turn). t.state) turn),
       handed ++ front,
       took,
-      ap (λ (xs : List Item). (handed ++ front) ++ xs) c.in_ok-put_items.ensures
-          ∙ sym (append_assoc (handed ++ front) c.hand.new.pending.items (items_of (record { state = c.step.new.self; deed = c.in_ok-deed.deed })))
-          ∙ ap (λ (xs : List Item). xs ++ items_of (record { state = c.step.new.self; deed = c.in_ok-deed.deed })) all
+      ap (λ (xs : List Item). (handed ++ front) ++ xs) c.in_ok-note.ensures
+          ∙ ap (λ (d : Design). (handed ++ front) ++ (c.hand.new.pending.items ++ items_of d turn_is)) design
+          ∙ sym (append_assoc (handed ++ front) c.hand.new.pending.items (items_of setting.design turn_is))
+          ∙ ap (λ (xs : List Item). xs ++ items_of setting.design turn_is) all
           ∙ given,
     )

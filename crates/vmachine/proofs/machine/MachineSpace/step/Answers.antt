@@ -1,4 +1,4 @@
-use Rattle.std.proofs.Common.{◌≡◌, ◌∙◌, ap}
+use Rattle.std.proofs.Common.{◌∙◌}
 use Rattle.basis.proofs.Results.{on_ok}
 use Rattle.vmodel.specs.Step.{next}
 use Rattle.vmachine.proofs.StandLemmas.{steps}

@@ -1,0 +1,7 @@
+use Rattle.std.proofs.Common.{◌≡◌, ◌++◌, drop}
+use Rattle.line_text.specs.LineText.{watched}
+use Rattle.line_text.proofs.line.put_watched.Given as goal
+
+abbrev pub invariant-loop-piece : goal.invariant-loop-piece
+invariant-loop-piece l =
+    l.values.items ++ watched l.moment (drop l.piece-index l.pieces) ≡ l.initial.values.items ++ watched l.moment l.pieces

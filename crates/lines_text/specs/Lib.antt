@@ -1,0 +1,3 @@
+pub mod LinesText
+pub mod Sinks
+pub mod SinkLaws

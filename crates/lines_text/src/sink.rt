@@ -1,0 +1,148 @@
+// The lines of a run, written slot by slot as the run goes.
+
+ghost use Rattle.std.specs.Prelude.{◌≡◌, [], ◌∷◌, OnOk, IfErr};
+ghost use Rattle.vmodel.specs.declared.history.Item.TheVariants.{SlotEnd, Line};
+ghost use Rattle.vcd_text.specs.Outlets.{Stopped};
+ghost use Rattle.lines_text.specs.declared.in_force.InForce.TheVariants.{Nobody};
+ghost use Rattle.lines_text.specs.LinesText.{line_at as line_text_at};
+
+use crate::in_force::{InForce, due, line_at, seen_at};
+use basis::OrMemory;
+use std::alloc::Global;
+use vbits::Vec4;
+use vcd_text::{Outlet, put};
+use vdesign::design::Design;
+use vmodel::history::Item;
+use vmodel::sink::Sink;
+
+/// Writes the printed lines of a run as its items come: each line of `$display` and `$strobe` where it stands, and the line of the
+/// monitor in force at the end of its own slot and of each later one in which an argument changed (17.1; docs/FORMATS.md, "Lines").
+/// After a fault no more may be handed to it. `into_outlet` gives back what the lines are written to.
+#[derive(Drop)]
+pub struct LinesSink<'a, O> {
+    alloc: Global,
+    design: &'a Design,
+    outlet: &'a mut O,
+    in_force: InForce,
+}
+
+impl<'a, O: Outlet> LinesSink<'a, O> {
+    ghost use Rattle.lines_text.specs.Sinks.{Takes, Fails, IsSameSink, Tells};
+
+    /// Lines of which none has come yet.
+    pub fn new(alloc: Global, design: &'a Design, outlet: &'a mut O) -> LinesSink<'a, O>
+        ensures same_outlet { result.outlet.ghost_name ≡ outlet.entry.ghost_name }
+        ensures unwritten { result.outlet.now ≡ outlet.old }
+        ensures design { result.design.now ≡ design.now }
+        ensures in_force { result.in_force ≡ Nobody }
+    {
+        LinesSink {
+            alloc,
+            design,
+            outlet,
+            in_force: InForce::Nobody,
+        }
+    }
+
+    // The monitor of this place prints.
+    fn tell(&mut self, place: usize, time: u64, values: &[Vec4]) -> Result<(), OrMemory<O::Fault>>
+        ensures ok { OnOk result (Tells O.takes self.old place time values.now self.new) }
+        ensures same { IsSameSink self.old self.new }
+        ensures err { IfErr result (λ fault.
+            Stopped O.takes O.fails self.old.outlet.now
+            (line_text_at self.old.design.now place time values.now) fault self.new.outlet.now) }
+    {
+        let text = line_at(self.alloc, self.design, place, time, values)?;
+        let values = seen_at(self.alloc, self.design, place, time, values)?;
+        match put(self.outlet, &text) {
+            Ok(()) => {
+                self.in_force = InForce::Told { place, values };
+                Ok(())
+            }
+            Err(fault) => Err(fault),
+        }
+    }
+
+    // A slot has ended.
+    fn end_slot(&mut self, time: u64, values: &[Vec4]) -> Result<(), OrMemory<O::Fault>>
+        ensures ok { OnOk result (Takes O.takes self.old (SlotEnd time values.now ∷ []) self.new) }
+        ensures err { IfErr result (λ fault.
+            Fails O.takes O.fails self.old (SlotEnd time values.now ∷ []) fault self.new) }
+    {
+        match due(self.alloc, self.design, &self.in_force, time, values)? {
+            None => Ok(()),
+            Some(place) => self.tell(place, time, values),
+        }
+    }
+
+    // A line has come.
+    fn print(&mut self, bytes: &[u8]) -> Result<(), OrMemory<O::Fault>>
+        ensures ok { OnOk result (Takes O.takes self.old (Line bytes.now ∷ []) self.new) }
+        ensures err { IfErr result (λ fault.
+            Fails O.takes O.fails self.old (Line bytes.now ∷ []) fault self.new) }
+    {
+        put(self.outlet, bytes)
+    }
+
+    // The next item.
+    fn take_item(&mut self, item: &Item) -> Result<(), OrMemory<O::Fault>>
+        ensures ok { OnOk result (Takes O.takes self.old (item.now ∷ []) self.new) }
+        ensures err { IfErr result (λ fault.
+            Fails O.takes O.fails self.old (item.now ∷ []) fault self.new) }
+    {
+        match item {
+            Item::SlotEnd { time, values } => self.end_slot(*time, values.as_slice()),
+            Item::Dump(_) => Ok(()),
+            Item::Line(text) => self.print(text.as_bytes()),
+            Item::Monitor(place) => {
+                self.in_force = InForce::Called(*place);
+                Ok(())
+            }
+        }
+    }
+
+    /// What the lines are written to, with all that it took.
+    pub fn into_outlet(self) -> &'a mut O
+        ensures same_outlet { result.ghost_name ≡ self.entry.outlet.ghost_name }
+        ensures written { result.now ≡ self.entry.outlet.now }
+    {
+        let LinesSink {
+            alloc: _,
+            design: _,
+            outlet,
+            in_force: _,
+        } = self;
+        outlet
+    }
+}
+
+impl<'a, O: Outlet> Sink for LinesSink<'a, O> {
+    ghost use Rattle.lines_text.specs.Sinks.{Takes, Fails};
+    ghost use Rattle.lines_text.specs.SinkLaws.{takes_none, takes_joins, fails_after};
+
+    type Fault = OrMemory<O::Fault>;
+
+    ghost takes = { Takes O.takes };
+
+    ghost fails = { Fails O.takes O.fails };
+
+    fn take(&mut self, items: &[Item]) -> Result<(), OrMemory<O::Fault>>
+        ensures ok { OnOk result (Takes O.takes self.old items.now self.new) }
+        ensures err { IfErr result (λ fault.
+            Fails O.takes O.fails self.old items.now fault self.new) }
+    {
+        for item in items {
+            match self.take_item(item) {
+                Ok(()) => {}
+                Err(fault) => return Err(fault),
+            }
+        }
+        Ok(())
+    }
+
+    ghost none = { takes_none O.takes O.fails O.lawful };
+
+    ghost joins = { takes_joins O.takes O.fails O.lawful };
+
+    ghost fails_later = { fails_after O.takes O.fails O.lawful };
+}

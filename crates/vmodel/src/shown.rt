@@ -1,0 +1,146 @@
+// What a step gives to the history (IEEE 1364-2005, 11.4, 17.1, 18.1).
+
+ghost use Rattle.std.specs.Prelude.{◌≡◌, ◌++◌, IfOk, OnOk, slice_get};
+ghost use Rattle.std.specs.Option.{option_to_list};
+ghost use Rattle.vdesign.specs.declared.action.Action.{Action};
+ghost use Rattle.vmodel.specs.InnerStep.{turn_to};
+ghost use Rattle.vmodel.specs.Step as spec;
+ghost use Rattle.vmodel.specs.Step.{slot_end_of, items_of};
+
+use crate::deed::{Deed, Shown};
+use crate::history::Item;
+use crate::state::SlowState;
+use basis::NoMemory;
+use line_text::put_line;
+use std::alloc::Global;
+use vdesign::action::Action;
+use vdesign::design::Design;
+use vdesign::print::{Piece, Text};
+
+// What the action of a print task shows.
+fn pieces_of<'d>(action: &'d Action) -> &'d [Piece]
+    ensures { result.now ≡ spec.pieces_of (Some action.now) }
+{
+    match action {
+        Action::Print { pieces, .. } => pieces.as_slice(),
+        _ => &[],
+    }
+}
+
+/// What the print task of this place shows; nothing where another action stands there.
+pub fn pieces_at<'d>(design: &'d Design, place: usize) -> &'d [Piece]
+    ensures { result.now ≡ spec.pieces_at design.now place }
+{
+    match design.actions.get(place) {
+        None => &[],
+        Some(action) => pieces_of(action),
+    }
+}
+
+impl SlowState {
+    // The line of the print task of this place, as it is printed now (17.1).
+    fn line(&self, alloc: Global, design: &Design, place: usize) -> Result<Item, NoMemory>
+        ensures { IfOk result (λ item. item ≡ spec.line_item design.now self.now place) }
+    {
+        let mut bytes = Vec::new(alloc);
+        put_line(&mut bytes, pieces_at(design, place), &self.moment(design))?;
+        Ok(Item::Line(Text::new(bytes)))
+    }
+
+    /// The end of the slot, where nothing is active and the run goes on.
+    pub fn slot_end(&self, alloc: Global) -> Result<Option<Item>, NoMemory>
+        ensures { IfOk result (λ item. option_to_list item ≡ slot_end_of self.now) }
+    {
+        if self.cause.is_some() || !self.queue.is_idle() {
+            return Ok(None);
+        }
+        Ok(Some(Item::SlotEnd {
+            time: self.queue.time,
+            values: self.values.copy(alloc)?,
+        }))
+    }
+
+    /// The places of the print tasks whose lines come at the end of the slot, in order (17.1.2).
+    fn strobes(&self) -> &[usize]
+        ensures { result.now ≡ self.now.queue.strobes }
+    {
+        &self.queue.strobes
+    }
+}
+
+// Puts behind others what a step showed at once.
+fn put_shown(
+    items: &mut Vec<Item>,
+    design: &Design,
+    state: &SlowState,
+    shown: Shown,
+) -> Result<(), NoMemory>
+    ensures { OnOk result (items.new.items
+        ≡ items.old.items ++ spec.shown_items design.now state.now (Some shown)) }
+{
+    let alloc = *items.allocator();
+    let item = match shown {
+        Shown::Commands(command) => Item::Dump(command),
+        Shown::Prints(place) => state.line(alloc, design, place)?,
+        Shown::Watches(place) => Item::Monitor(place),
+    };
+    items.push(item)?;
+    Ok(())
+}
+
+// Puts behind others the lines of monitor events, in order (17.1.2).
+fn put_strobes(
+    items: &mut Vec<Item>,
+    design: &Design,
+    state: &SlowState,
+    places: &[usize],
+) -> Result<(), NoMemory>
+    ensures { OnOk result (items.new.items
+        ≡ items.old.items ++ spec.strobe_items design.now state.now places.now) }
+{
+    let alloc = *items.allocator();
+    for place in places {
+        items.push(state.line(alloc, design, *place)?)?;
+    }
+    Ok(())
+}
+
+// Puts behind others what the state after a step adds, where it is a slot end (11.4).
+fn put_end(items: &mut Vec<Item>, design: &Design, state: &SlowState) -> Result<(), NoMemory>
+    ensures { OnOk result (items.new.items ≡ items.old.items ++ spec.end_items design.now state.now) }
+{
+    let alloc = *items.allocator();
+    if let Some(end) = state.slot_end(alloc)? {
+        put_strobes(items, design, state, state.strobes())?;
+        items.push(end)?;
+    }
+    Ok(())
+}
+
+/// Puts behind others what a step gives to the history, in order: what it showed at once, and where the state after it is a slot end
+/// the lines of the monitor events and the slot end.
+pub fn put_items(
+    items: &mut Vec<Item>,
+    design: &Design,
+    state: &SlowState,
+    deed: &Deed,
+) -> Result<(), NoMemory>
+    ensures { OnOk result (items.new.items
+        ≡ items.old.items ++ items_of design.now (turn_to state.now deed.now)) }
+{
+    if let Some(shown) = deed.shown {
+        put_shown(items, design, state, shown)?;
+    }
+    put_end(items, design, state)
+}
+
+/// Puts behind others the slot end of a state, where it is one.
+pub fn put_slot_end(items: &mut Vec<Item>, state: &SlowState) -> Result<(), NoMemory>
+    ensures { OnOk result (items.new.items ≡ items.old.items ++ slot_end_of state.now) }
+{
+    let alloc = *items.allocator();
+    if let Some(item) = state.slot_end(alloc)? {
+        items.push(item)?;
+    }
+    Ok(())
+}

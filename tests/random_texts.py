@@ -1,0 +1,420 @@
+"""Texts of designs made at random, by docs/LANGUAGE.md: a module tb, with others below it where it is asked for. What they mean is left to
+second_design.py: here stands only how they are spelled. What each function makes is text.
+"""
+from dataclasses import dataclass, field
+
+from second_design import Object
+from second_values import Bit, Constant, Number, Part, Variable, World, digits, expression
+
+# statements, and how often each is made; those of the second line only where one may stand inside
+LEAVES = {"assign": 6, "post": 5, "delay": 4, "empty": 1, "dump": 1, "finish": 0.2, "stop": 0.1, "held": 1, "later": 1, "trigger": 1, "print": 1.5, "command": 0.4}
+NESTED = {"block": 4, "test": 3, "again": 1, "for": 1, "forever": 0.5, "on": 2, "any": 1, "until": 1, "repeat": 1, "case": 2}
+DEPTH = 3
+# timescales, as a text spells them
+TIMESCALES = ["`timescale 1ns/1ns", "`timescale 1ns/100ps", "`timescale 10 us / 10us", "`timescale 100ms /1 ms // slow", "`timescale 100 s/1fs"]
+
+
+# ---- numbers (3.5.1)
+
+def plain(rng):
+    value = rng.choice([0, 1, 2, 5, 9, 255, 4294967295, 4294967296])
+    return Number(str(value), digits(value, 32), signed=True)
+
+
+def spelled(rng, base, width):
+    """Digits of a base of so many bits each, and their letters, lowest first."""
+    known = {1: "01", 3: "01267", 4: "019aBcF"}[width]
+    chosen = "".join(rng.choice(known + "xXzZ?") for _ in range(rng.randrange(1, 6)))
+    unknown = {"x": "x", "X": "x", "z": "z", "Z": "z", "?": "z"}
+    letters = "".join(unknown[d] * width if d in unknown else digits(int(d, 16), width) for d in reversed(chosen))
+    return "_".join(chosen) if rng.random() < 0.3 else chosen, letters, unknown.get(chosen[0], "0")
+
+
+def decimal(rng):
+    """The same of base d, in which x and z stand alone."""
+    if rng.random() < 0.2:
+        digit = rng.choice("xz?")
+        letter = "z" if digit == "?" else digit
+        return digit, letter, letter
+    value = rng.choice([0, 1, 7, 255, 4294967296, 18446744073709551615])
+    return str(value), digits(value, 64), "0"
+
+
+def based(rng):
+    size = rng.choice([None, 1, 2, 4, 8, 33, 64])
+    base, width = rng.choice([("b", 1), ("o", 3), ("h", 4), ("H", 4), ("d", 0)])
+    sign = rng.choice(["", "s", "S"])
+    shown, letters, fill = spelled(rng, base, width) if width else decimal(rng)
+    letters = (letters + fill * 64)[: size or 32]
+    return Number(f"{'' if size is None else size}'{sign}{base}{shown}", letters, bool(sign), size is None and not sign)
+
+
+def integer_of(n):
+    return Constant(Number(str(n), digits(n, 32), True))
+
+
+# ---- modules
+
+@dataclass
+class Names:
+    """What a module's statements may name."""
+    objects: list
+    events: list = field(default_factory=list)
+    parameters: list = field(default_factory=list)  # objects of kind `parameter`
+
+    def bounds(self):
+        return [one.bounds or (one.length - 1, 0) for one in self.everything()]
+
+    def everything(self):
+        return self.objects + self.parameters
+
+    def world(self):
+        everything = self.everything()
+        return World(["x" * one.length for one in everything], [one.signed for one in everything], 0, self.bounds())
+
+
+class Texts:
+    """Statements of a module, made at random."""
+
+    def __init__(self, rng, names, asked=frozenset()):
+        self.rng, self.names, self.asked = rng, names, asked
+        self.written = [one for one in names.objects if one.kind != "wire"]
+        self.leaves = {kind: weight for kind, weight in LEAVES.items() if self.is_made(kind)}
+
+    def is_made(self, kind):
+        wanted = {"held": "delays", "later": "delays", "trigger": "events", "print": "lines", "command": "dumps"}
+        return (kind not in wanted or wanted[kind] in self.asked) and (kind != "trigger" or self.names.events)
+
+    # expressions
+
+    def leaf(self):
+        everything = self.names.everything()
+        if everything and self.rng.random() < 0.6:
+            place = self.rng.randrange(len(everything))
+            one = everything[place]
+            if (one.bounds or one.kind in ("integer", "parameter")) and self.rng.random() < 0.4:
+                return self.rng.choice([self.bit, self.part])(one.name, place)
+            return Variable(one.name, place)
+        return Constant((based if self.rng.random() < 0.6 else plain)(self.rng))
+
+    def bit(self, name, place):
+        low, high = sorted(self.names.bounds()[place])
+        if self.rng.random() < 0.6:
+            return Bit(name, place, integer_of(self.rng.choice([low, high, self.rng.randrange(low, high + 1), high + 1, 0])))
+        return Bit(name, place, expression(self.rng, self.leaf, self.rng.choice([0, 1])))
+
+    def part(self, name, place):
+        left, right = self.names.bounds()[place]
+        low, high = sorted((left, right))
+        one, other = sorted(self.rng.randrange(max(0, low - 2), high + 3) for _ in range(2))
+        other = min(other, one + 63)
+        return Part(name, place, *((other, one) if left >= right else (one, other)))
+
+    def made(self, leaf):
+        world = self.names.world()
+        while True:
+            made = expression(self.rng, leaf, min(DEPTH, self.rng.choice([0, 0, 1, 2, 3])))
+            if made.fits(world):
+                return made
+
+    def value(self):
+        return self.made(self.leaf).text()
+
+    def target(self, room=64):
+        """What is written, of so many bits at most."""
+        one = self.rng.choice(self.written)
+        if "targets" not in self.asked or self.rng.random() < 0.6:
+            return one.name if one.length <= room else self.selected(one, room)
+        if self.rng.random() < 0.4 and room == 64:
+            return "{" + ", ".join(self.target(64 // 4) for _ in range(self.rng.choice([1, 2, 3, 4]))) + "}"
+        return self.selected(one, room)
+
+    def selected(self, one, room):
+        place = self.names.objects.index(one)
+        if one.bounds is None and one.kind != "integer":
+            return one.name
+        while True:
+            made = self.rng.choice([self.bit, self.part])(one.name, place)
+            if made.fits(self.names.world()) and made.size(self.names.world()) <= room:
+                return made.text()
+
+    def amount(self):
+        if self.names.parameters and self.rng.random() < 0.1:
+            return self.rng.choice(self.names.parameters).name
+        if self.rng.random() < 0.7:
+            return self.rng.choice(["0", "1", "2", "5", "30"] * 4 + ["64'hFFFFFFFFFFFFFFFF", "4'sb1111", "1'bx", "'bz"])
+        return f"({self.value()})"
+
+    # statements
+
+    def statement(self, depth):
+        kinds = self.leaves | NESTED if depth else self.leaves
+        kind = self.rng.choices(list(kinds), list(kinds.values()))[0]
+        return getattr(self, "make_" + kind)(depth - 1 if depth else 0)
+
+    def setting(self):
+        return f"{self.target()} = {self.value()}"
+
+    def make_assign(self, depth):
+        return f"{self.setting()};"
+
+    def make_post(self, depth):
+        return f"{self.target()} <= {self.value()};"
+
+    def make_held(self, depth):
+        return f"{self.target()} = #{self.amount()} {self.value()};"
+
+    def make_later(self, depth):
+        return f"{self.target()} <= #{self.amount()} {self.value()};"
+
+    def make_trigger(self, depth):
+        return f"-> {self.rng.choice(self.names.events)};"
+
+    def make_empty(self, depth):
+        return ";"
+
+    def make_dump(self, depth):
+        return "$dumpvars;"
+
+    def make_command(self, depth):
+        words = ["$dumpon", "$dumpoff", "$dumpoff", "$dumpall", "$dumpflush", '$dumpfile("a.vcd")', "$dumpvars(0)"]
+        return f"{self.rng.choice(words)};"
+
+    def make_print(self, depth):
+        word = self.rng.choice(["$display", "$display", "$strobe", "$monitor"])
+        if word != "$monitor" and self.rng.random() < 0.1:
+            return f"{word};"
+        return f"{word}({', '.join(self.argument() for _ in range(self.rng.choice([1, 1, 2, 3])))});"
+
+    def argument(self):
+        """An argument of a printing task, or a format with the arguments that it takes."""
+        shown = lambda: self.rng.choice(["$time", "($time)", self.value()])
+        if self.rng.random() < 0.3:
+            return shown()
+        pieces, taken = [], []
+        for _ in range(self.rng.choice([0, 1, 2, 3])):
+            pieces.append(self.rng.choice(["", "a=", " ", "%%", "\\n", "\\t", '\\"', "\\\\", ";"]))
+            pieces.append(self.rng.choice("%b %h %d %t %0d %0t %B %H %D %0T".split()))
+            taken.append(shown())
+        pieces.append(self.rng.choice(["", ".", "%%"]))
+        return ", ".join([f'"{"".join(pieces)}"', *taken])
+
+    def make_finish(self, depth):
+        return self.rng.choice(["$finish;", "$finish(1);"])
+
+    def make_stop(self, depth):
+        return self.rng.choice(["$stop;", "$stop(0);"])
+
+    def make_delay(self, depth):
+        return f"#{self.amount()} {self.statement(depth)}"
+
+    def make_block(self, depth):
+        return " ".join(["begin", *(self.statement(depth) for _ in range(self.rng.randrange(0, 5))), "end"])
+
+    def make_test(self, depth):
+        front = f"if ({self.value()}) begin {self.statement(depth)} end"
+        return front if self.rng.random() < 0.5 else f"{front} else {self.statement(depth)}"
+
+    def make_again(self, depth):
+        return f"while ({self.value()}) begin #1; {self.statement(depth)} end"
+
+    def make_repeat(self, depth):
+        count = self.rng.choice([self.value(), self.rng.choice(["0", "1", "2", "5", "1'bx", "4'sb1111"])])
+        return f"repeat ({count}) {self.statement(depth)}"
+
+    def make_case(self, depth):
+        value, count = self.value(), self.rng.choice([1, 2, 2, 3])
+        default, branches = self.rng.randrange(2 * count), []
+        for turn in range(count):
+            items = [value if self.rng.random() < 0.1 else self.value() for _ in range(self.rng.choice([1, 1, 2, 3]))]
+            label = f"default{self.rng.choice(['', ':'])}" if turn == default else f"{', '.join(items)}:"
+            branches.append(f"{label} {self.statement(depth)}")
+        return f"{self.rng.choice(['case', 'casez', 'casex'])} ({value}) {' '.join(branches)} endcase"
+
+    def with_delay(self, depth, how_often):
+        text = self.statement(depth)
+        return f"begin #1; {text} end" if self.rng.random() < how_often else text
+
+    def make_forever(self, depth):
+        return f"forever {self.with_delay(depth, 0.8)}"
+
+    def make_until(self, depth):
+        return f"wait ({self.value()}) {self.statement(depth)}"
+
+    def make_any(self, depth):
+        return f"@{self.rng.choice(['*', '(*)', '( * )'])} {self.statement(depth)}"
+
+    def term(self):
+        if self.names.events and self.rng.random() < 0.3:
+            return self.rng.choice(self.names.events)
+        return f"{self.rng.choice(['', 'posedge ', 'negedge '])}{self.rng.choice(self.names.objects).name}"
+
+    def make_on(self, depth):
+        terms, text = [self.term() for _ in range(self.rng.choice([1, 1, 2, 3]))], self.statement(depth)
+        if len(terms) == 1 and " " not in terms[0] and self.rng.random() < 0.5:
+            return f"@{terms[0]} {text}"
+        return f"@({self.rng.choice([' or ', ', ']).join(terms)}) {text}"
+
+    def make_for(self, depth):
+        return f"for ({self.setting()}; {self.value()}; {self.setting()}) {self.with_delay(depth, 0.7)}"
+
+
+def ranged(signed, bounds):
+    return f"{' signed' if signed else ''}{'' if bounds is None else f' [{bounds[0]}:{bounds[1]}]'}"
+
+
+def declaration(one):
+    return f"{one.kind}{ranged(one.signed and one.kind != 'integer', one.bounds)} {one.name}"
+
+
+def some_object(rng, name, can_be_net):
+    """An object, declared in one way or another."""
+    if rng.random() < 0.2:
+        return Object(name, "integer", 32, True, None)
+    kind = "wire" if can_be_net and rng.random() < 0.3 else "reg"
+    length, low, signed = rng.choice([1, 1, 2, 8, 64]), rng.randrange(0, 9), rng.random() < 0.3
+    bounds = (low + length - 1, low) if rng.random() < 0.5 else (low, low + length - 1)
+    return Object(name, kind, length, signed, None if length == 1 and rng.random() < 0.7 else bounds)
+
+
+class Body:
+    """The items of a module, a line each; the line of each process."""
+
+    def __init__(self, rng, lines, names, asked):
+        self.rng, self.lines, self.names, self.asked = rng, lines, names, asked
+        self.texts, self.process_lines = Texts(rng, names, asked), []
+
+    def item(self, text, is_process=False):
+        self.lines.append(f"  {text}")
+        if is_process:
+            self.process_lines.append(len(self.lines))
+
+    def declare(self, objects):
+        """Declarations; nets are driven here, by an `assign` behind, or not at all."""
+        later = []
+        for one in objects:
+            is_net = one.kind == "wire"
+            is_driven = is_net and self.rng.random() < 0.7
+            has_value = is_driven and self.rng.random() < 0.4 or not is_net and self.rng.random() < 0.1
+            self.item(f"{declaration(one)}{f' = {self.texts.value()}' if has_value else ''};", has_value)
+            later += [one] if is_driven and not has_value else []
+        for one in later:
+            self.item(f"assign {one.name} = {self.texts.value()};", True)
+
+    def processes(self, count, dumps):
+        for n in range(count):
+            if n and self.rng.random() < 0.2:
+                self.item(f"always {self.rng.choice([self.texts.make_on, self.texts.make_any])(3)}", True)
+            elif n and self.rng.random() < 0.3:
+                self.item(f"always begin #1; {self.texts.statement(3)} end", True)
+            else:
+                text = self.texts.statement(3)
+                self.item(f"initial {f'begin $dumpvars; {text} end' if n == 0 and dumps else text}", True)
+
+
+def module(rng, asked=frozenset()):
+    """A text of one module tb, and the line of each of its processes."""
+    lines = [rng.choice(TIMESCALES)] if rng.random() < 0.3 else []
+    lines.append("module tb;")
+    objects = [some_object(rng, f"v{n}", n > 0) for n in range(rng.choice([1, 2, 2, 3, 3, 100]))]
+    if all(one.kind == "wire" for one in objects):
+        objects[0].kind = "reg"
+    names = Names(objects)
+    if "events" in asked and rng.random() < 0.5:
+        names.events = ["e0", "e1"]
+        lines.append("  event e0, e1;")
+    body = Body(rng, lines, names, asked)
+    if "parameters" in asked and rng.random() < 0.5:
+        parameters(rng, body)
+    body.declare(objects)
+    body.processes(rng.randrange(1, 5), rng.random() < 0.9)
+    return "\n".join([*lines, "endmodule", ""]), body.process_lines
+
+
+def parameters(rng, body):
+    """Parameters of a module, each of those before it and of numbers."""
+    for n in range(rng.choice([1, 2, 3])):
+        length, signed = rng.choice([4, 8, 32]), rng.random() < 0.5
+        texts = Texts(rng, Names([], [], list(body.names.parameters)))
+        word, value = rng.choice(["parameter", "localparam"]), texts.value()
+        while "$time" in value:
+            value = texts.value()
+        body.item(f"{word}{ranged(signed, (length - 1, 0))} p{n} = {value};")
+        body.names.parameters.append(Object(f"p{n}", "parameter", length, signed, (length - 1, 0)))
+
+
+# ---- designs of several modules
+
+def child(rng, name, below, asked):
+    """A module with ports and parameters, and instances of the modules below it. Its text, ports and parameters."""
+    ports = [(rng.choice(["input", "output", "output"]), some_object(rng, f"q{n}", True)) for n in range(rng.randrange(0, 4))]
+    for word, one in ports:
+        one.kind = "wire" if word == "input" else rng.choice(["wire", "reg"])
+        one.length, one.bounds = (one.length, one.bounds) if one.length < 64 else (3, (0, 2))
+    count, in_head = rng.randrange(0, 3), rng.random() < 0.5
+    heads = [Object(f"p{n}", "parameter", 8, False, (7, 0)) for n in range(count)]
+    shown = ", ".join(f"{word}{' reg' if one.kind == 'reg' else ''}{ranged(one.signed and one.bounds is not None, one.bounds)} {one.name}" for word, one in ports)
+    for _, one in ports:
+        one.signed = one.signed and one.bounds is not None
+        one.length = one.length if one.bounds else 1
+    head = f" #({', '.join(f'parameter [7:0] {one.name} = {n + 3}' for n, one in enumerate(heads))})" if heads and in_head else ""
+    lines = [f"module {name}{head}{f'({shown})' if ports or rng.random() < 0.5 else ''};"]
+    names = Names([one for _, one in ports] + [some_object(rng, f"v{n}", False) for n in range(rng.choice([1, 1, 2]))], [], heads)
+    body = Body(rng, lines, names, asked)
+    for n, one in enumerate([] if in_head else heads):
+        body.item(f"parameter [7:0] {one.name} = {n + 3};")
+    body.declare(names.objects[len(ports):])
+    for word, one in ports:
+        if word == "output" and one.kind == "wire" and rng.random() < 0.8:
+            body.item(f"assign {one.name} = {body.texts.value()};")
+    body.processes(rng.randrange(0, 3), False)
+    instances(rng, body, below)
+    return "\n".join([*lines, "endmodule", ""]), ports, heads
+
+
+def instances(rng, body, below):
+    """Instances of some of the modules below; nets for what comes out of them."""
+    for n in range(rng.choice([0, 1, 1, 2]) if below else 0):
+        name, ports, heads = rng.choice(below)
+        given = [f"{one.name}({n + 1}8'd{rng.randrange(9)})".replace(f"({n + 1}8", "(8") for one in heads if rng.random() < 0.5]
+        by_name = rng.random() < 0.6
+        wires, pairs = [], []
+        for m, (word, one) in enumerate(ports):
+            if word == "output":
+                net = f"n{n}_{m}"
+                wires.append(f"wire{ranged(one.signed, one.bounds)} {net};")
+                pairs.append((one.name, net))
+            else:
+                pairs.append((one.name, body.texts.value()))
+        for wire in wires:
+            body.item(wire)
+        if by_name:
+            rng.shuffle(pairs)
+            pairs = [pair for pair in pairs if rng.random() < 0.85]
+            wiring = ", ".join(f".{port}({value})" for port, value in pairs)
+        else:
+            wiring = ", ".join(value for _, value in pairs)
+        numbers = ", ".join(f".{text}" for text in given)
+        body.item(f"{name}{f' #({numbers})' if given else ''} u{n}({wiring});")
+
+
+def design(rng, asked):
+    """A text of a module tb and of modules below it."""
+    below, texts = [], []
+    for n in range(rng.choice([1, 2, 3])):
+        text, ports, heads = child(rng, f"m{n}", list(below), asked - {"events"})
+        texts.append(text)
+        below.append((f"m{n}", ports, heads))
+    lines = ["module tb;"]
+    objects = [some_object(rng, f"v{n}", n > 0) for n in range(rng.choice([1, 2, 3]))]
+    if all(one.kind == "wire" for one in objects):
+        objects[0].kind = "reg"
+    body = Body(rng, lines, Names(objects), asked)
+    body.declare(objects)
+    body.processes(rng.randrange(1, 4), True)
+    instances(rng, body, below)
+    instances_text = "\n".join([*lines, "endmodule", ""])
+    texts.append(instances_text)
+    rng.shuffle(texts)
+    front = f"{rng.choice(TIMESCALES)}\n" if rng.random() < 0.3 else ""
+    return front + "".join(texts)
