@@ -16,3 +16,5 @@ mod NamedLemmas
 mod NotRunLemmas
 pub mod ConstantLemmas
 pub mod ParameterLemmas
+pub mod PrintLemmas
+pub mod TargetLemmas

@@ -22,8 +22,8 @@ use Rattle.vast.specs.declared.module.ModuleItem.{ModuleItem}
 use Rattle.vast.specs.declared.module.ModuleItem.TheVariants as items
 use Rattle.vast.specs.declared.module.ModuleTree.{ModuleTree}
 use Rattle.vast.specs.declared.module.TextTree.{TextTree}
-use Rattle.velab.specs.Runs.{runs_target, runs_assignment, runs_task, runs_statement, runs_statements, runs_branch, runs_branches, runs_item, runs_module, runs}
-use Rattle.velab.specs.FirstNotRun.{unless_run, delay_token, first_among, in_target, in_assignment, in_statement, in_row, in_branch, in_branch_row, in_statements, in_branches, in_item, in_items, in_head, in_module, first_not_run}
+use Rattle.velab.specs.Runs.{runs_assignment, runs_task, runs_statement, runs_statements, runs_branch, runs_branches, runs_item, runs_module, runs}
+use Rattle.velab.specs.FirstNotRun.{unless_run, delay_token, first_among, in_assignment, in_statement, in_row, in_branch, in_branch_row, in_statements, in_branches, in_item, in_items, in_head, in_module, first_not_run}
 
 -- ---- a list is looked through from its start
 
@@ -79,19 +79,16 @@ among place view good each (a ∷ more) =
     either (place a) (first_among place more) (good (view a)) (list_all good (map view more)) (each a) (among place view good each more)
 
 module _ (words : List Text) where
-  assignment : (target : Target) (amount : Option Delay) →
-      is_some (in_assignment words target amount) ≡ not (runs_assignment (target_tree words target) (option_map (delay_tree words) amount))
-  assignment target None =
-      either (in_target words target) None (runs_target (target_tree words target)) true (unless _ _) refl
-  assignment target (Some amount) =
-      either (in_target words target) (Some (delay_token amount)) (runs_target (target_tree words target)) false (unless _ _) refl
+  assignment : (amount : Option Delay) → is_some (in_assignment amount) ≡ not (runs_assignment (option_map (delay_tree words) amount))
+  assignment None = refl
+  assignment (Some amount) = refl
 
   mutual
     statement : (s : Statement) → is_some (in_statement words s) ≡ not (runs_statement (statement_tree words s))
     statement Empty = refl
     statement (Block' shape row) = row_runs row
-    statement (Assign at target amount value) = assignment target amount
-    statement (Nonblocking at target amount value) = assignment target amount
+    statement (Assign at target amount value) = assignment amount
+    statement (Nonblocking at target amount value) = assignment amount
     statement (Trigger at name) = refl
     statement (If' at condition place body) = statement body
     statement (IfElse' at condition place body place_too other) =
@@ -101,15 +98,7 @@ module _ (words : List Text) where
     statement (While' at condition place body) = statement body
     statement (Repeat' at count place body) = statement body
     statement (Forever' at place body) = statement body
-    statement (For' at target value condition next_target next_value place body) =
-        let first = in_assignment words target None in
-        let first_runs = runs_assignment (target_tree words target) None in
-        let next = in_assignment words next_target None in
-        let next_runs = runs_assignment (target_tree words next_target) None in
-        let inner = in_statement words body in
-        let inner_runs = runs_statement (statement_tree words body) in
-        either first (option_or next inner) first_runs (next_runs && inner_runs) (assignment target None)
-        (either next inner next_runs inner_runs (assignment next_target None) (statement body))
+    statement (For' at target value condition next_target next_value place body) = statement body
     statement (Wait' at condition place body) = statement body
     statement (Delayed' at amount place body) = statement body
     statement (OnEvent' at control place body) = statement body

@@ -16,14 +16,13 @@ use Rattle.vast.specs.declared.module.NetKind.{NetKind}
 use Rattle.vast.specs.declared.module.NetKind.TheVariants as net
 use Rattle.vdesign.specs.Design as design
 use Rattle.vdesign.specs.declared.action.Action.{Action}
-use Rattle.vdesign.specs.declared.action.Action.TheVariants.{Assign, Nonblocking, Test, Case, Again, Repeat, Forever, Delay, On, Until, Drive, Dump, Pass, Finish, Stop}
+use Rattle.vdesign.specs.declared.action.Action.TheVariants.{Assign, Nonblocking, Test, Case, Again, Repeat, Forever, Delay, On, Until, Drive, Print, Dump, Pass, Finish, Stop}
 use Rattle.vdesign.specs.declared.action.Branch.{Branch}
 use Rattle.vdesign.specs.declared.dump.DumpCommand.TheVariants as commands
 use Rattle.vast.specs.declared.statement.Dumping.{Dumping}
 use Rattle.vast.specs.declared.statement.Dumping.TheVariants as dumps
 use Rattle.velab.specs.Runs.{is_whole}
 use Rattle.vdesign.specs.declared.action.Target.{Target}
-use Rattle.vdesign.specs.declared.action.Target.TheVariants.{Whole}
 use Rattle.basis.specs.declared.timescale.Timescale.{Timescale}
 use Rattle.vdesign.specs.declared.design.Kind.{Kind}
 use Rattle.vdesign.specs.declared.design.Kind.TheVariants.{Reg, Integer, Wire}
@@ -39,6 +38,8 @@ use Rattle.velab.specs.Rules.{unless, broken_if, flaw_rule, rules_in}
 use Rattle.velab.specs.Scopes.{Scope, at, is_declared, number_of, broken_name, broken_variable}
 use Rattle.velab.specs.Constants.{nothing, worth, bound_in}
 use Rattle.velab.specs.Resolved.{resolved, broken_expression, broken_constant}
+use Rattle.velab.specs.Written.{row_of, broken_target}
+use Rattle.velab.specs.Prints.{when_of, pieces_in, broken_line}
 use Rattle.velab.specs.Right.{writes_rightly}
 use Rattle.velab.specs.ActionFlaws.{blank_moment, table_flaw}
 use Rattle.velab.specs.Waits.{any_of, names_in, terms_of, broken_control}
@@ -318,16 +319,13 @@ placed table action = record { table = table ++ action ∷ []; places = length t
 abbrev pub nothing_laid : List Action → Laid
 nothing_laid table = record { table = table; places = [] }
 
--- an assignment of either kind (9.2): what isn't run yet lays nothing
+-- an assignment of either kind (9.2): one with a delay of its own isn't run yet, and lays nothing
 abbrev pub assigning : Bool → List Target → ExpressionTree → Action
 assigning blocking targets value = cond blocking (Assign targets value) (Nonblocking targets value)
 
 abbrev pub laid_assignment : Bool → Scope → List Action → TargetTree → Option DelayTree → text.ExpressionTree → Laid
-laid_assignment blocking scope table (written.whole letters) None value = placed table (assigning blocking (Whole (number_of scope letters) ∷ []) (resolved scope value))
-laid_assignment blocking scope table (written.whole letters) (Some amount) value = nothing_laid table
-laid_assignment blocking scope table (written.bit letters index) amount value = nothing_laid table
-laid_assignment blocking scope table (written.part letters left right) amount value = nothing_laid table
-laid_assignment blocking scope table (written.joined targets) amount value = nothing_laid table
+laid_assignment blocking scope table target None value = placed table (assigning blocking (row_of scope target) (resolved scope value))
+laid_assignment blocking scope table target (Some amount) value = nothing_laid table
 
 abbrev pub amount_of : Scope → DelayTree → ExpressionTree
 amount_of scope (by_number digits) = resolved scope (text.number digits)
@@ -349,12 +347,12 @@ dumping_by dumps.Flush = Pass
 abbrev pub ending : Bool → Action
 ending stops = cond stops Stop Finish
 
-abbrev pub laid_task : List Action → TaskTree → Laid
-laid_task table (print kind arguments) = nothing_laid table
-laid_task table (dump_file letters) = placed table Pass  -- 18.1.1
-laid_task table (dump_vars selection) = laid_dump table selection
-laid_task table (dump kind) = placed table (dumping_by kind)
-laid_task table (end_run stops digits) = placed table (ending stops)
+abbrev pub laid_task : Scope → List Action → TaskTree → Laid
+laid_task scope table (print kind arguments) = placed table (Print (when_of kind) (pieces_in scope arguments))  -- 17.1
+laid_task scope table (dump_file letters) = placed table Pass  -- 18.1.1
+laid_task scope table (dump_vars selection) = laid_dump table selection
+laid_task scope table (dump kind) = placed table (dumping_by kind)
+laid_task scope table (end_run stops digits) = placed table (ending stops)
 
 -- the table of actions so far, with what the branches of a `case` add to it: the branches, and the places of the `default`
 pub record LaidBranches : Type 0 where
@@ -404,7 +402,7 @@ abbrev mutual
       let inner = laid scope table body in placed inner.table (Delay (amount_of scope amount) inner.places)
   laid scope table (event control body) =  -- 9.7.2
       let inner = laid scope table body in placed inner.table (On (terms_of scope control body) inner.places)
-  laid scope table (task call) = laid_task table call
+  laid scope table (task call) = laid_task scope table call
 
   pub all_laid : Scope → List Action → StatementTrees → Laid
   all_laid scope table no_statement = nothing_laid table
@@ -458,16 +456,20 @@ laid_processes scope table (process ∷ rest) =
     record { table = behind.table; begins = front.places ∷ behind.begins }
 
 abbrev pub broken_assignment : Scope → TargetTree → Option DelayTree → text.ExpressionTree → Option Rule
-broken_assignment scope (written.whole letters) None value = option_or (broken_variable scope letters) (broken_expression scope value)
-broken_assignment scope (written.whole letters) (Some amount) value = None
-broken_assignment scope (written.bit letters index) amount value = None
-broken_assignment scope (written.part letters left right) amount value = None
-broken_assignment scope (written.joined targets) amount value = None
+broken_assignment scope target None value = option_or (broken_target scope target) (broken_expression scope value)
+broken_assignment scope target (Some amount) value = None
 
 abbrev pub broken_amount : Scope → DelayTree → Option Rule
 broken_amount scope (by_number digits) = None
 broken_amount scope (by_name letters) = broken_name false scope letters
 broken_amount scope (by_value amount) = broken_expression scope amount
+
+abbrev pub broken_task : Scope → TaskTree → Option Rule
+broken_task scope (print kind arguments) = broken_line scope arguments
+broken_task scope (dump_file letters) = None
+broken_task scope (dump_vars selection) = None
+broken_task scope (dump kind) = None
+broken_task scope (end_run stops digits) = None
 
 -- the items in front of one statement of a `case`
 abbrev pub broken_items : Scope → text.ExpressionTrees → Option Rule
@@ -496,7 +498,7 @@ abbrev mutual
   broken_in scope (wait_for condition body) = option_or (broken_expression scope condition) (broken_in scope body)
   broken_in scope (delay amount body) = option_or (broken_amount scope amount) (broken_in scope body)
   broken_in scope (event control body) = option_or (broken_control scope control) (broken_in scope body)
-  broken_in scope (task call) = None
+  broken_in scope (task call) = broken_task scope call
 
   pub broken_in_all : Scope → StatementTrees → Option Rule
   broken_in_all scope no_statement = None

@@ -3,9 +3,8 @@
 use Rattle.std.specs.Prelude.{ℕ, Bool, if◌then◌else◌, List, [], ◌∷◌, Option, Some, None, option_map, option_and_then}
 use Rattle.std.specs.Option.{option_or}
 use Rattle.vast.specs.Words.{Text}
-use Rattle.vast.specs.StatementTrees.{target_tree, task_tree}
+use Rattle.vast.specs.StatementTrees.{task_tree}
 use Rattle.vast.specs.declared.expression.Expression.{Expression, Number, Name, Time, Bit', Part', Parentheses', Concatenation', Replication', Conversion', Unary', Binary', Conditional'}
-use Rattle.vast.specs.declared.statement.Target.{Target, Whole, Bit, Part, Joined'}
 use Rattle.vast.specs.declared.statement.Delay.{Delay}
 use Rattle.vast.specs.declared.statement.Delay.TheVariants as delays
 use Rattle.vast.specs.declared.statement.Task.{Task}
@@ -20,7 +19,7 @@ use Rattle.vast.specs.declared.module.ModuleItem.{ModuleItem}
 use Rattle.vast.specs.declared.module.ModuleItem.TheVariants as items
 use Rattle.vast.specs.declared.module.ModuleTree.{ModuleTree}
 use Rattle.vast.specs.declared.module.TextTree.{TextTree}
-use Rattle.velab.specs.Runs.{runs_target, runs_task}
+use Rattle.velab.specs.Runs.{runs_task}
 
 -- The tokens that constructs begin with
 
@@ -38,12 +37,6 @@ first_token (Unary' operator place operand) = first_token operand
 first_token (Binary' operator place left place_too right) = first_token left
 first_token (Conditional' place condition place_too when_true place_last when_false) = first_token condition
 
-abbrev pub target_token : Target → ℕ
-target_token (Whole name) = name.number
-target_token (Bit name index) = name.number
-target_token (Part name left right) = name.number
-target_token (Joined' at shape row) = at
-
 abbrev pub delay_token : Delay → ℕ
 delay_token (delays.Number word) = word.number
 delay_token (delays.Name word) = word.number
@@ -59,23 +52,20 @@ abbrev pub first_among : {A : Type 0} → (A → Option ℕ) → List A → Opti
 first_among place [] = None
 first_among place (one ∷ more) = option_or (place one) (first_among place more)
 
-module _ (words : List Text) where
-  abbrev pub in_target : Target → Option ℕ
-  in_target target = unless_run (runs_target (target_tree words target)) (target_token target)
+-- no delay of an assignment's own is run
+abbrev pub in_assignment : Option Delay → Option ℕ
+in_assignment amount = option_map delay_token amount
 
+module _ (words : List Text) where
   abbrev pub in_task : ℕ → Task → Option ℕ
   in_task at call = unless_run (runs_task (task_tree words call)) at
-
-  -- no delay of an assignment's own is run
-  abbrev pub in_assignment : Target → Option Delay → Option ℕ
-  in_assignment target amount = option_or (in_target target) (option_map delay_token amount)
 
   abbrev mutual
     pub in_statement : Statement → Option ℕ
     in_statement Empty = None
     in_statement (Block' shape row) = in_row row
-    in_statement (Assign at target amount value) = in_assignment target amount
-    in_statement (Nonblocking at target amount value) = in_assignment target amount
+    in_statement (Assign at target amount value) = in_assignment amount
+    in_statement (Nonblocking at target amount value) = in_assignment amount
     in_statement (Trigger at name) = Some at
     in_statement (If' at condition place body) = in_statement body
     in_statement (IfElse' at condition place body place_too other) = option_or (in_statement body) (in_statement other)
@@ -83,8 +73,7 @@ module _ (words : List Text) where
     in_statement (While' at condition place body) = in_statement body
     in_statement (Repeat' at count place body) = in_statement body
     in_statement (Forever' at place body) = in_statement body
-    in_statement (For' at target value condition next_target next_value place body) =
-        option_or (in_assignment target None) (option_or (in_assignment next_target None) (in_statement body))
+    in_statement (For' at target value condition next_target next_value place body) = in_statement body
     in_statement (Wait' at condition place body) = in_statement body
     in_statement (Delayed' at amount place body) = in_statement body
     in_statement (OnEvent' at control place body) = in_statement body

@@ -32,6 +32,7 @@ use Rattle.velab.specs.Rules.{IsBroken, Breaks, broken_if}
 use Rattle.velab.specs.Scopes.{Scope}
 use Rattle.velab.specs.Literals.{digit_letters}
 use Rattle.velab.specs.declared.variable.Form.{Form}
+use Rattle.format_text.specs.Pieces.{Argument, Printed, pieces_with}
 use Rattle.vdesign.specs.declared.action.Action.{Action}
 use Rattle.velab.specs.Elaborate.{Laid, Processes, has_double, declarations_of, laid, all_laid, laid_processes, laid_items, bounds_of, span, variable_by, variable_of, LaidBranches, laid_branch, laid_branches, process_trees_by, ProcessTree, process_of, driven_by, broken_processes, Home, driver_of, drivers_by, Given, given, given_by, given_in_head}
 use Rattle.vdesign.specs.declared.action.Branch.{Branch}
@@ -187,3 +188,10 @@ set_drivers words list = map (λ setting. setting.name) (map (setting_tree words
 
 abbrev pub item_drivers : List Text → List ModuleItem → List Text
 item_drivers words items = flat_map drivers_by (map (item_tree words) items)
+
+-- ---- lines
+
+-- a line takes these arguments, or has no pieces by them
+abbrev pub Prints : Printed → List Argument → Bool → Printed → Type 0
+Prints old arguments true new = pieces_with new [] ≡ pieces_with old arguments
+Prints old arguments false new = pieces_with old arguments ≡ None

@@ -3,6 +3,8 @@ pub mod Rules
 pub mod Scopes
 pub mod Constants
 pub mod Resolved
+pub mod Written
+pub mod Prints
 pub mod Waits
 pub mod Right
 pub mod ActionFlaws

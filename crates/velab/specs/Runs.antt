@@ -9,16 +9,9 @@ use Rattle.vast.specs.Expressions as text
 use Rattle.vast.specs.Statements as written
 use Rattle.vast.specs.Modules.{RangeTree, DeclaredTree, DeclarationKind, variables, integers, ItemTree, parameters, declaration, events, assignments, initial, always, instances, ModuleTree, SourceTree, SettingTree}
 
--- a whole variable is written
-abbrev pub runs_target : TargetTree → Bool
-runs_target (written.whole letters) = true
-runs_target (written.bit letters index) = false
-runs_target (written.part letters left right) = false
-runs_target (written.joined targets) = false
-
 -- an assignment of either kind, without a delay of its own
-abbrev pub runs_assignment : TargetTree → Option DelayTree → Bool
-runs_assignment target amount = runs_target target && not (is_some amount)
+abbrev pub runs_assignment : Option DelayTree → Bool
+runs_assignment amount = not (is_some amount)
 
 abbrev pub is_zero : Option ℕ → Bool
 is_zero None = false
@@ -33,7 +26,7 @@ runs_selection None = true
 runs_selection (Some selection) = is_whole selection
 
 abbrev pub runs_task : TaskTree → Bool
-runs_task (print kind arguments) = false
+runs_task (print kind arguments) = true
 runs_task (dump_file letters) = true
 runs_task (dump_vars selection) = runs_selection selection
 runs_task (dump kind) = true
@@ -43,8 +36,8 @@ abbrev mutual
   pub runs_statement : StatementTree → Bool
   runs_statement empty = true
   runs_statement (block statements) = runs_statements statements
-  runs_statement (assign target amount value) = runs_assignment target amount
-  runs_statement (nonblocking target amount value) = runs_assignment target amount
+  runs_statement (assign target amount value) = runs_assignment amount
+  runs_statement (nonblocking target amount value) = runs_assignment amount
   runs_statement (trigger letters) = false
   runs_statement (if_true condition body) = runs_statement body
   runs_statement (if_else condition body other) = runs_statement body && runs_statement other
@@ -52,8 +45,7 @@ abbrev mutual
   runs_statement (while_true condition body) = runs_statement body
   runs_statement (repeat_times count body) = runs_statement body
   runs_statement (forever body) = runs_statement body
-  runs_statement (for_loop target value condition next_target next_value body) =
-      runs_assignment target None && (runs_assignment next_target None && runs_statement body)
+  runs_statement (for_loop target value condition next_target next_value body) = runs_statement body
   runs_statement (wait_for condition body) = runs_statement body
   runs_statement (delay amount body) = runs_statement body
   runs_statement (event control body) = runs_statement body

@@ -4,7 +4,7 @@ use Rattle.std.specs.List.{flat_map}
 use Rattle.std.specs.Option.{option_or}
 use Rattle.vast.specs.Words.{Text}
 use Rattle.vast.specs.Expressions as text
-use Rattle.vast.specs.Statements.{TargetTree, DelayTree, by_number, by_name, by_value, TermTree, FurtherTerm, EventTree, by_event, by_any, by_any_enclosed, by_terms, StatementTree, StatementTrees, empty, block, assign, nonblocking, trigger, if_true, if_else, case_of, while_true, repeat_times, forever, for_loop, wait_for, delay, event, task, no_statement, first_statement, BranchTree, BranchTrees, labelled, default, no_branch, first_branch}
+use Rattle.vast.specs.Statements.{TargetTree, TargetTrees, ArgumentTree, quoted, printed, TaskTree, print, dump_file, dump_vars, dump, end_run, DelayTree, by_number, by_name, by_value, TermTree, FurtherTerm, EventTree, by_event, by_any, by_any_enclosed, by_terms, StatementTree, StatementTrees, empty, block, assign, nonblocking, trigger, if_true, if_else, case_of, while_true, repeat_times, forever, for_loop, wait_for, delay, event, task, no_statement, first_statement, BranchTree, BranchTrees, labelled, default, no_branch, first_branch}
 use Rattle.vast.specs.Statements as written
 use Rattle.vast.specs.declared.statement.Edge.{Edge as WrittenEdge}
 use Rattle.vast.specs.declared.statement.Edge.TheVariants.{Rising, Falling}
@@ -69,18 +69,45 @@ abbrev mutual
   names_in_parts text.none = []
   names_in_parts (text.first one more) = names_in one ++ names_in_parts more
 
--- an assignment of either kind reads its right side, and what isn't run yet reads nothing
-abbrev pub read_by_assignment : TargetTree → Option DelayTree → text.ExpressionTree → List Text
-read_by_assignment (written.whole letters) None value = names_in value
-read_by_assignment (written.whole letters) (Some amount) value = []
-read_by_assignment (written.bit letters index) amount value = []
-read_by_assignment (written.part letters left right) amount value = []
-read_by_assignment (written.joined targets) amount value = []
+-- the indices of what is written
+abbrev mutual
+  pub read_by_target : TargetTree → List Text
+  read_by_target (written.whole letters) = []
+  read_by_target (written.bit letters index) = names_in index
+  read_by_target (written.part letters left right) = []
+  read_by_target (written.joined targets) = read_by_targets targets
+
+  pub read_by_targets : TargetTrees → List Text
+  read_by_targets written.none = []
+  read_by_targets (written.first one more) = read_by_target one ++ read_by_targets more
 
 abbrev pub read_by_delay : DelayTree → List Text
 read_by_delay (by_number digits) = []
 read_by_delay (by_name letters) = letters ∷ []
 read_by_delay (by_value amount) = names_in amount
+
+abbrev pub read_by_own : Option DelayTree → List Text
+read_by_own None = []
+read_by_own (Some amount) = read_by_delay amount
+
+-- an assignment of either kind reads indices, its own delay, and its right side
+abbrev pub read_by_assignment : TargetTree → Option DelayTree → text.ExpressionTree → List Text
+read_by_assignment target amount value = read_by_target target ++ (read_by_own amount ++ names_in value)
+
+abbrev pub read_by_argument : ArgumentTree → List Text
+read_by_argument (quoted letters) = []
+read_by_argument (printed tree) = names_in tree
+
+abbrev pub read_by_arguments : List ArgumentTree → List Text
+read_by_arguments [] = []
+read_by_arguments (one ∷ more) = read_by_argument one ++ read_by_arguments more
+
+abbrev pub read_by_task : TaskTree → List Text
+read_by_task (print kind arguments) = read_by_arguments arguments
+read_by_task (dump_file letters) = []
+read_by_task (dump_vars selection) = []
+read_by_task (dump kind) = []
+read_by_task (end_run stops digits) = []
 
 -- the items in front of one statement of a `case`
 abbrev pub read_by_items : text.ExpressionTrees → List Text
@@ -88,7 +115,7 @@ read_by_items text.none = []
 read_by_items (text.first item more) = names_in item ++ read_by_items more
 
 -- The names that a statement reads, in the order of the text. The terms of an event control and the condition of a `wait` in it
--- aren't read; the statements behind them are. What isn't run yet reads nothing.
+-- aren't read; the statements behind them are.
 abbrev mutual
   pub read_by : StatementTree → List Text
   read_by empty = []
@@ -107,7 +134,7 @@ abbrev mutual
   read_by (wait_for condition body) = read_by body
   read_by (delay amount body) = read_by_delay amount ++ read_by body
   read_by (event control body) = read_by body
-  read_by (task call) = []
+  read_by (task call) = read_by_task call
 
   pub read_by_all : StatementTrees → List Text
   read_by_all no_statement = []

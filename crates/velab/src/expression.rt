@@ -147,9 +147,9 @@ fn put_parts(
     Ok(())
 }
 
-// What a constant expression is worth, which stands behind this token.
+/// What a constant expression is worth, which stands behind this token. E303, E306 or E307 where it is none.
 #[cycle(expressions)]
-fn worth(
+pub fn worth(
     alloc: Global,
     scope: &Scope<'_, '_>,
     tokens: &Tokens<'_>,

@@ -14,7 +14,7 @@ use crate::letters::letters;
 use crate::number::constant_of;
 use vast::expression::Expression;
 use vast::module::{ModuleItem, ModuleTree, TextTree};
-use vast::statement::{Branch, Delay, Selection, Statement, Target, Task};
+use vast::statement::{Branch, Delay, Selection, Statement, Task};
 use vlex::Tokens;
 
 // The number of the first token that an expression keeps.
@@ -45,17 +45,6 @@ fn delay_token(delay: &Delay) -> u32
         Delay::Number(word) => word.number,
         Delay::Name(word) => word.number,
         Delay::Value(value) => first_token(value),
-    }
-}
-
-fn in_target(target: &Target) -> Option<u32>
-    ensures { (words : List Text) → result ≡ place.in_target words target.now }
-{
-    match target {
-        Target::Whole(_) => None,
-        Target::Bit { name, .. } => Some(name.number),
-        Target::Part { name, .. } => Some(name.number),
-        Target::Joined { at, .. } => Some(*at),
     }
 }
 
@@ -91,7 +80,7 @@ fn in_task(tokens: &Tokens<'_>, at: u32, task: &Task) -> Option<u32>
     ensures { result ≡ place.in_task (words_of tokens.now) at task.now }
 {
     match task {
-        Task::Print { .. } => Some(at),
+        Task::Print { .. } => None,
         Task::DumpFile(_) => None,
         Task::DumpVars(None) => None,
         Task::DumpVars(Some(selection)) => in_selection(tokens, at, selection),
@@ -101,12 +90,9 @@ fn in_task(tokens: &Tokens<'_>, at: u32, task: &Task) -> Option<u32>
 }
 
 // An assignment of either kind.
-fn in_assignment(target: &Target, amount: &Option<Delay>) -> Option<u32>
-    ensures { (words : List Text) → result ≡ place.in_assignment words target.now amount.now }
+fn in_assignment(amount: &Option<Delay>) -> Option<u32>
+    ensures { result ≡ place.in_assignment amount.now }
 {
-    if let Some(at) = in_target(target) {
-        return Some(at);
-    }
     match amount {
         None => None,
         Some(amount) => Some(delay_token(amount)),
@@ -120,8 +106,8 @@ fn in_statement(tokens: &Tokens<'_>, whole: &Statement) -> Option<u32>
     match whole {
         Statement::Empty => None,
         Statement::Block(list) => in_statements(tokens, list),
-        Statement::Assign { target, delay, .. } => in_assignment(target, delay),
-        Statement::Nonblocking { target, delay, .. } => in_assignment(target, delay),
+        Statement::Assign { delay, .. } => in_assignment(delay),
+        Statement::Nonblocking { delay, .. } => in_assignment(delay),
         Statement::Delayed { body, .. } => in_statement(tokens, body),
         Statement::Task { at, task } => in_task(tokens, *at, task),
         Statement::Trigger { at, .. } => Some(*at),
@@ -134,20 +120,7 @@ fn in_statement(tokens: &Tokens<'_>, whole: &Statement) -> Option<u32>
         Statement::While { body, .. } => in_statement(tokens, body),
         Statement::Repeat { body, .. } => in_statement(tokens, body),
         Statement::Forever { body, .. } => in_statement(tokens, body),
-        Statement::For {
-            target,
-            next_target,
-            body,
-            ..
-        } => {
-            if let Some(at) = in_assignment(target, &None) {
-                return Some(at);
-            }
-            if let Some(at) = in_assignment(next_target, &None) {
-                return Some(at);
-            }
-            in_statement(tokens, body)
-        }
+        Statement::For { body, .. } => in_statement(tokens, body),
         Statement::Wait { body, .. } => in_statement(tokens, body),
         Statement::OnEvent { body, .. } => in_statement(tokens, body),
     }

@@ -3,12 +3,12 @@ ghost use Rattle.std.specs.Prelude.{None, ◌≡◌, ◌<◌, ◌≤◌, ◌+◌
 ghost use Rattle.basis.specs.Reasons.{IfFault};
 ghost use Rattle.vast.specs.Words.{Text};
 ghost use Rattle.vast.specs.ExpressionTrees.{tree_of as text_tree, trees_of};
-ghost use Rattle.vast.specs.StatementTrees.{target_tree, delay_tree, task_tree, statement_tree, statement_trees, branch_tree, branch_trees};
+ghost use Rattle.vast.specs.StatementTrees.{target_tree, delay_tree, selection_tree, task_tree, statement_tree, statement_trees, branch_tree, branch_trees};
 ghost use Rattle.vast.specs.ModuleTrees.{item_tree};
 ghost use Rattle.vast.specs.TokenTexts.{token_text};
 ghost use Rattle.vexpr_parse.specs.Texts.{words_of};
-ghost use Rattle.vdesign.specs.declared.action.Target.{Target};
 ghost use Rattle.velab.specs.Elaborate as spec;
+ghost use Rattle.velab.specs.Prints.{when_of};
 ghost use Rattle.vast.specs.Statements.{forever, case_of, assign, whole};
 ghost use Rattle.vast.specs.TokenTexts.{token_text};
 ghost use Rattle.velab.specs.Elaborate.{does, drives, laid, laid_process, laid_processes, broken_process, broken_processes, broken_items_from, branches_by, broken_in, broken_in_all, broken_items, broken_branch, broken_branches, process_trees_by};
@@ -21,19 +21,24 @@ use crate::fault::ElabFault;
 use crate::first::is_whole;
 use crate::letters::letters;
 use crate::number::constant_of;
+use crate::print::{pieces_in, when_of};
 use crate::parameter::given_count;
 use crate::scope::{Scope, number_of};
+use crate::target::{first_token, targets_of};
 use crate::wait::{condition_terms, event_terms};
 use basis::{NoMemory, OrMemory};
 use std::alloc::Global;
 use std::marker::Model;
 use vast::expression::Expression as Value;
 use vast::module::{DeclarationKind, Declared, ModuleItem, NetKind, Setting};
-use vast::statement::{Branch, CaseKind, Delay, Dumping, Statement, Target as Written, Task};
+use vast::statement::{
+    Branch, CaseKind, Delay, Dumping, Printing, Selection, Statement, Target as Written, Task,
+};
 use vast::token::Token;
-use vdesign::action::{Action, Branch as Choice, Branches, Places, Target, Targets, Terms};
+use vdesign::action::{Action, Branch as Choice, Branches, Places, Targets, Terms};
 use vdesign::dump::DumpCommand;
 use vdesign::expression::{Expression, Node};
+use vdesign::print::Pieces;
 use vlex::Tokens;
 
 /// Actions in the order in which they are come to, and for each the number of the token that its statement begins with. A
@@ -84,16 +89,7 @@ fn assigning(blocking: bool, targets: Targets, value: Expression) -> Action
     }
 }
 
-// The whole variable of this number.
-fn whole_of(alloc: Global, number: u32) -> Result<Targets, NoMemory>
-    ensures { IfOk result (λ targets. targets ≡ Target.Whole number ∷ []) }
-{
-    let mut list = Vec::new(alloc);
-    list.push(Target::Whole(number))?;
-    Ok(Targets::new(list))
-}
-
-// An assignment of either kind: what isn't run yet lays nothing.
+// An assignment of either kind: one with a delay of its own isn't run yet, and lays nothing.
 fn lay_assignment(
     alloc: Global,
     scope: &Scope<'_, '_>,
@@ -119,19 +115,13 @@ fn lay_assignment(
         (option_map (delay_tree (words_of tokens.now)) amount.now)
         (text_tree (words_of tokens.now) value.now))) }
 {
-    match target {
-        Written::Whole(name) => match amount {
-            None => {
-                let number = number_of(scope, tokens, *name)?;
-                let value = expression_of(alloc, scope, tokens, value)?;
-                let action = assigning(blocking, whole_of(alloc, number)?, value);
-                put(table, into, name.number, action)
-            }
-            Some(_) => Ok(()),
-        },
-        Written::Bit { .. } => Ok(()),
-        Written::Part { .. } => Ok(()),
-        Written::Joined { .. } => Ok(()),
+    match amount {
+        None => {
+            let targets = targets_of(alloc, scope, tokens, target)?;
+            let value = expression_of(alloc, scope, tokens, value)?;
+            put(table, into, first_token(target), assigning(blocking, targets, value))
+        }
+        Some(_) => Ok(()),
     }
 }
 
@@ -261,30 +251,62 @@ fn dumping_by(dumping: Dumping) -> Action
     }
 }
 
+// What a print task does.
+fn printing(kind: Printing, pieces: Pieces) -> Action
+    ensures { result ≡ Action.Print (when_of kind) pieces }
+{
+    Action::Print {
+        when: when_of(kind),
+        pieces,
+    }
+}
+
+// A `$dumpvars`: what isn't run yet lays nothing.
+fn lay_dump(
+    tokens: &Tokens<'_>,
+    at: u32,
+    selection: &Selection,
+    table: &mut Table,
+    into: &mut Vec<usize>,
+) -> Result<(), OrMemory<ElabFault>>
+    ensures ok { HasLaid result (spec.laid_dump table.old
+        (Some (selection_tree (words_of tokens.now) selection.now))) into.old table.new into.new }
+    ensures err { IfFault result (IsBroken None) }
+{
+    if is_whole(tokens, selection) {
+        put(table, into, at, Action::Dump(DumpCommand::Vars))
+    } else {
+        Ok(())
+    }
+}
+
 // A system task: what isn't run yet lays nothing.
 fn lay_task(
+    alloc: Global,
+    scope: &Scope<'_, '_>,
     tokens: &Tokens<'_>,
     at: u32,
     task: &Task,
     table: &mut Table,
     into: &mut Vec<usize>,
 ) -> Result<(), OrMemory<ElabFault>>
+    requires { scope.now.variables ≤ 1024 }
     ensures ok { HasLaid result
-        (spec.laid_task table.old (task_tree (words_of tokens.now) task.now)) into.old table.new
-        into.new }
-    ensures err { IfFault result (IsBroken None) }
+        (spec.laid_task scope.now table.old (task_tree (words_of tokens.now) task.now))
+        into.old table.new into.new }
+    ensures right { OnOk result
+        (spec.broken_task scope.now (task_tree (words_of tokens.now) task.now) ≡ None) }
+    ensures err { IfFault result
+        (IsBroken (spec.broken_task scope.now (task_tree (words_of tokens.now) task.now))) }
 {
     match task {
-        Task::Print { .. } => Ok(()),
+        Task::Print { kind, arguments } => {
+            let pieces = pieces_in(alloc, scope, tokens, at, arguments)?;
+            put(table, into, at, printing(*kind, pieces))
+        }
         Task::DumpFile(_) => put(table, into, at, Action::Pass),
         Task::DumpVars(None) => put(table, into, at, Action::Dump(DumpCommand::Vars)),
-        Task::DumpVars(Some(selection)) => {
-            if is_whole(tokens, selection) {
-                put(table, into, at, Action::Dump(DumpCommand::Vars))
-            } else {
-                Ok(())
-            }
-        }
+        Task::DumpVars(Some(selection)) => lay_dump(tokens, at, selection, table, into),
         Task::Dump(dumping) => put(table, into, at, dumping_by(*dumping)),
         Task::End { stops, .. } => put(table, into, at, ending(*stops)),
     }
@@ -333,7 +355,9 @@ fn lay(
             let body = Places::new(inner);
             put(table, into, *at, Action::Delay { amount, body })
         }
-        Statement::Task { at, task } => lay_task(tokens, *at, task, table, into),
+        Statement::Task { at, task } => {
+            lay_task(alloc, scope, tokens, *at, task, table, into)
+        },
         Statement::Trigger { .. } => Ok(()),
         Statement::If {
             at,

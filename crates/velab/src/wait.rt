@@ -4,13 +4,13 @@ ghost use Rattle.std.specs.Prelude.{◌≡◌, ◌≤◌, None, [], ◌∷◌, �
 ghost use Rattle.basis.specs.Reasons.{IfFault};
 ghost use Rattle.vast.specs.ExpressionTrees.{tree_of as text_tree, trees_of as text_trees};
 ghost use Rattle.vast.specs.TokenTexts.{token_text};
-ghost use Rattle.vast.specs.StatementTrees.{target_tree, delay_tree, further_term, event_tree, statement_tree, statement_trees, branch_tree, branch_trees};
+ghost use Rattle.vast.specs.StatementTrees.{target_tree, target_trees, argument_tree, task_tree, delay_tree, further_term, event_tree, statement_tree, statement_trees, branch_tree, branch_trees};
 ghost use Rattle.vexpr_parse.specs.Texts.{words_of};
 ghost use Rattle.vast.specs.Statements.{case_of};
 ghost use Rattle.velab.specs.Rules.{IsBroken};
 ghost use Rattle.velab.specs.Scopes.{meaning_of as spec_meaning, broken_variable};
 ghost use Rattle.velab.specs.Waits as spec;
-ghost use Rattle.velab.specs.Waits.{any_of, names_in, names_in_parts, read_by, read_by_all, read_by_assignment, read_by_delay, broken_control, broken_further, heard, read_by_items, read_by_branch, read_by_branches};
+ghost use Rattle.velab.specs.Waits.{any_of, names_in, names_in_parts, read_by, read_by_all, read_by_target, read_by_targets, read_by_own, read_by_assignment, read_by_argument, read_by_arguments, read_by_task, read_by_delay, broken_control, broken_further, heard, read_by_items, read_by_branch, read_by_branches};
 
 use crate::fault::ElabFault;
 use crate::scope::{Meaning, Scope, meaning_of, number_of};
@@ -18,7 +18,7 @@ use basis::{NoMemory, OrMemory};
 use std::alloc::Global;
 use vast::expression::Expression as Value;
 use vast::statement::{
-    Branch, CaseKind, Delay, Edge as Side, Event, FurtherTerm, Statement, Target,
+    Argument, Branch, CaseKind, Delay, Edge as Side, Event, FurtherTerm, Statement, Target, Task,
 };
 use vast::token::Token;
 use vdesign::action::{Edge, Term, Terms};
@@ -139,29 +139,42 @@ fn put_names(
     }
 }
 
-fn put_assignment(
+// Any change of each name in the indices of what is written.
+#[cycle(indexing)]
+fn put_target(
     scope: &Scope<'_, '_>,
     tokens: &Tokens<'_>,
     target: &Target,
-    amount: &Option<Delay>,
-    value: &Value,
     terms: &mut Vec<Term>,
 ) -> Result<(), NoMemory>
     requires { scope.now.variables ≤ 1024 }
     ensures { OnOk result (terms.new.items ≡ terms.old.items ++ any_of scope.now
-        (read_by_assignment (target_tree (words_of tokens.now) target.now)
-        (option_map (delay_tree (words_of tokens.now)) amount.now)
-        (text_tree (words_of tokens.now) value.now))) }
+        (read_by_target (target_tree (words_of tokens.now) target.now))) }
 {
     match target {
-        Target::Whole(_) => match amount {
-            None => put_names(scope, tokens, value, terms),
-            Some(_) => Ok(()),
-        },
-        Target::Bit { .. } => Ok(()),
+        Target::Whole(_) => Ok(()),
+        Target::Bit { index, .. } => put_names(scope, tokens, index, terms),
         Target::Part { .. } => Ok(()),
-        Target::Joined { .. } => Ok(()),
+        Target::Joined { targets, .. } => put_targets(scope, tokens, targets, terms),
     }
+}
+
+// The same of the targets of a concatenation.
+#[cycle(indexing)]
+fn put_targets(
+    scope: &Scope<'_, '_>,
+    tokens: &Tokens<'_>,
+    targets: &[Target],
+    terms: &mut Vec<Term>,
+) -> Result<(), NoMemory>
+    requires { scope.now.variables ≤ 1024 }
+    ensures { OnOk result (terms.new.items ≡ terms.old.items ++ any_of scope.now
+        (read_by_targets (target_trees (words_of tokens.now) targets.now))) }
+{
+    for one in targets {
+        put_target(scope, tokens, one, terms)?;
+    }
+    Ok(())
 }
 
 fn put_delay(
@@ -178,6 +191,97 @@ fn put_delay(
         Delay::Number(_) => Ok(()),
         Delay::Name(word) => put_name(scope, tokens, *word, terms),
         Delay::Value(value) => put_names(scope, tokens, value, terms),
+    }
+}
+
+// Any change of each name in the delay of an assignment, if it has one.
+fn put_own(
+    scope: &Scope<'_, '_>,
+    tokens: &Tokens<'_>,
+    amount: &Option<Delay>,
+    terms: &mut Vec<Term>,
+) -> Result<(), NoMemory>
+    requires { scope.now.variables ≤ 1024 }
+    ensures { OnOk result (terms.new.items ≡ terms.old.items ++ any_of scope.now
+        (read_by_own (option_map (delay_tree (words_of tokens.now)) amount.now))) }
+{
+    match amount {
+        None => Ok(()),
+        Some(amount) => put_delay(scope, tokens, amount, terms),
+    }
+}
+
+// Any change of each name that an assignment reads.
+fn put_assignment(
+    scope: &Scope<'_, '_>,
+    tokens: &Tokens<'_>,
+    target: &Target,
+    amount: &Option<Delay>,
+    value: &Value,
+    terms: &mut Vec<Term>,
+) -> Result<(), NoMemory>
+    requires { scope.now.variables ≤ 1024 }
+    ensures { OnOk result (terms.new.items ≡ terms.old.items ++ any_of scope.now
+        (read_by_assignment (target_tree (words_of tokens.now) target.now)
+        (option_map (delay_tree (words_of tokens.now)) amount.now)
+        (text_tree (words_of tokens.now) value.now))) }
+{
+    put_target(scope, tokens, target, terms)?;
+    put_own(scope, tokens, amount, terms)?;
+    put_names(scope, tokens, value, terms)
+}
+
+// Any change of each name in an argument of a print task.
+fn put_argument(
+    scope: &Scope<'_, '_>,
+    tokens: &Tokens<'_>,
+    argument: &Argument,
+    terms: &mut Vec<Term>,
+) -> Result<(), NoMemory>
+    requires { scope.now.variables ≤ 1024 }
+    ensures { OnOk result (terms.new.items ≡ terms.old.items ++ any_of scope.now
+        (read_by_argument (argument_tree (words_of tokens.now) argument.now))) }
+{
+    match argument {
+        Argument::Text(_) => Ok(()),
+        Argument::Value(value) => put_names(scope, tokens, value, terms),
+    }
+}
+
+// The same of all arguments.
+fn put_arguments(
+    scope: &Scope<'_, '_>,
+    tokens: &Tokens<'_>,
+    arguments: &[Argument],
+    terms: &mut Vec<Term>,
+) -> Result<(), NoMemory>
+    requires { scope.now.variables ≤ 1024 }
+    ensures { OnOk result (terms.new.items ≡ terms.old.items ++ any_of scope.now
+        (read_by_arguments (map (argument_tree (words_of tokens.now)) arguments.now))) }
+{
+    for one in arguments {
+        put_argument(scope, tokens, one, terms)?;
+    }
+    Ok(())
+}
+
+// Any change of each name that a system task reads.
+fn put_task(
+    scope: &Scope<'_, '_>,
+    tokens: &Tokens<'_>,
+    task: &Task,
+    terms: &mut Vec<Term>,
+) -> Result<(), NoMemory>
+    requires { scope.now.variables ≤ 1024 }
+    ensures { OnOk result (terms.new.items ≡ terms.old.items
+        ++ any_of scope.now (read_by_task (task_tree (words_of tokens.now) task.now))) }
+{
+    match task {
+        Task::Print { arguments, .. } => put_arguments(scope, tokens, arguments, terms),
+        Task::DumpFile(_) => Ok(()),
+        Task::DumpVars(_) => Ok(()),
+        Task::Dump(_) => Ok(()),
+        Task::End { .. } => Ok(()),
     }
 }
 
@@ -229,7 +333,7 @@ fn put_read(
             put_delay(scope, tokens, delay, terms)?;
             put_read(scope, tokens, body, terms)
         }
-        Statement::Task { .. } => Ok(()),
+        Statement::Task { task, .. } => put_task(scope, tokens, task, terms),
         Statement::Trigger { .. } => Ok(()),
         Statement::If {
             condition,

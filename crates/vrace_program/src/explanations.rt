@@ -10,7 +10,7 @@ pub struct Explanation {
     advice: &'static str,
 }
 
-const EXPLANATIONS: [Explanation; 30] = [
+const EXPLANATIONS: [Explanation; 31] = [
     Explanation {
         number: 101,
         meaning: "a comment or a string that begins here isn't ended",
@@ -74,7 +74,7 @@ const EXPLANATIONS: [Explanation; 30] = [
     Explanation {
         number: 299,
         meaning: "the text is read, and what begins here isn't run yet",
-        example: "a[0] = 1;, -> e;, a = #5 b;, $display(a);",
+        example: "event e;, -> e;, a = #5 b;, module tb();, an instance",
         advice: "write it with what docs/LANGUAGE.md lists under What runs",
     },
     Explanation {
@@ -85,15 +85,15 @@ const EXPLANATIONS: [Explanation; 30] = [
     },
     Explanation {
         number: 302,
-        meaning: "a name declared twice: two modules, or two variables of the top",
+        meaning: "a name declared twice: two modules, or two variables or parameters of the top",
         example: "reg a, a;",
         advice: "rename one",
     },
     Explanation {
         number: 303,
-        meaning: "a name that isn't declared in its module",
+        meaning: "a name that isn't declared in its module, or a parameter in a constant that stands before it",
         example: "initial b = 1; without a reg b;",
-        advice: "declare it; a declaration may stand behind its use",
+        advice: "declare it; only what a constant uses has to stand before it",
     },
     Explanation {
         number: 304,
@@ -108,6 +108,12 @@ const EXPLANATIONS: [Explanation; 30] = [
         advice: "split the vector, turn the part round, or write a count from 1 to 64",
     },
     Explanation {
+        number: 307,
+        meaning: "a constant that isn't one: a variable or $time in a bound, in the count of a replication or in the value of a parameter",
+        example: "reg a; reg [a:0] b;",
+        advice: "write it with numbers and parameters",
+    },
+    Explanation {
         number: 309,
         meaning: "over 256 processes or 1,024 variables",
         example: "257 initials; reg v0, v1, .. up to v1024",
@@ -115,9 +121,9 @@ const EXPLANATIONS: [Explanation; 30] = [
     },
     Explanation {
         number: 310,
-        meaning: "a name of another kind than its use asks for: a net that a statement writes, a variable that an assign writes, a bit of what has no range",
-        example: "reg r; assign r = 1;, wire w; initial w = 1;",
-        advice: "declare it as what it is used as",
+        meaning: "a name of another kind than its use asks for: a net that a statement writes, a variable that an assign writes, a parameter that is written or waited for, a bit of what has no range; or a format that isn't known or has no expression",
+        example: "reg r; assign r = 1;, wire w; initial w = 1;, $display(\"%d\");",
+        advice: "declare it as what it is used as; docs/LANGUAGE.md lists the formats under Printed lines",
     },
     Explanation {
         number: 401,
