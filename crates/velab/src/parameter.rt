@@ -1,6 +1,6 @@
 // Parameters (IEEE 1364-2005, 4.10, 12.2): their values, each known to what stands behind it.
 
-ghost use Rattle.std.specs.Prelude.{◌≡◌, ◌≤◌, List, None, Some, map, option_map, length, IfOk, OnOk};
+ghost use Rattle.std.specs.Prelude.{◌≡◌, ◌<◌, ◌≤◌, ◌^◌, List, None, Some, map, option_map, length, IfOk, OnOk};
 ghost use Rattle.std.specs.Option.{option_or};
 ghost use Rattle.basis.specs.Reasons.{IfFault};
 ghost use Rattle.vast.specs.Words.{Text};
@@ -48,7 +48,8 @@ impl<'t> Model for Growing<'t> {
 impl<'t> Growing<'t> {
     /// What is known so far.
     pub fn scope(&self) -> Scope<'_, 't>
-        ensures { result ≡ self.now }
+        ensures same { result ≡ self.now }
+        ensures small { result.known < 2 ^ 64 }
     {
         Scope {
             names: &self.names,
