@@ -1,5 +1,5 @@
 -- What the parts of a module say of the whole.
-use Rattle.std.proofs.Common.{◌≡◌, ◌<◌, ◌≤◌, ℕ, ◌+◌, ◌^◌, Bool, true, false, None, Some, Option, List, [], ◌∷◌, ◌++◌, length, map, refl, sym, ap, subst, ◌∙◌, arith}
+use Rattle.std.proofs.Common.{◌≡◌, ◌<◌, ℕ, ◌+◌, ◌^◌, true, false, None, Option, List, [], ◌∷◌, ◌++◌, length, map, refl, sym, ap, subst, ◌∙◌, arith}
 use Rattle.std.specs.List.{list_all, flat_map}
 use Rattle.basis.specs.Reasons.{Because}
 use Rattle.basis.specs.declared.memory.OrMemory.{OrMemory}
@@ -16,7 +16,7 @@ use Rattle.velab.specs.declared.fault.Rule.TheVariants.{Kind, Drivers}
 use Rattle.velab.specs.declared.fault.ElabFault.{ElabFault}
 use Rattle.velab.specs.Right.{writes_rightly}
 use Rattle.velab.specs.ActionFlaws.{blank_moment, table_flaw}
-use Rattle.velab.specs.Rules.{unless, broken_if, flaw_rule, IsBroken, Breaks, rules_in}
+use Rattle.velab.specs.Rules.{unless, broken_if, flaw_rule, IsBroken, rules_in}
 use Rattle.velab.specs.Scopes.{Scope, at}
 use Rattle.velab.specs.Elaborate.{has_double, design_of, driven_names, has_right_kinds, module_flaw, name_rules, item_rules, design_rules, broken_rules_of, Given, given_by, given_in_head, with_given, with_all, Home, home_of, declared_names, first_scope, head_scope, whole_scope, item_scope, scope_by, variables_from, variables_in, laid_items, processes_in}
 use Rattle.velab.specs.Inner.{BreaksOf, given_in, processes_of}

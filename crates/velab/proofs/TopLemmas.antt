@@ -17,7 +17,7 @@ use Rattle.velab.specs.Rules.{broken_if, IsBroken, Breaks, rules_in}
 use Rattle.velab.specs.Scopes.{is_declared}
 use Rattle.velab.specs.Reasons.{IsDesignReason}
 use Rattle.velab.specs.Inner.{DoublesIn, BreaksOf}
-use Rattle.velab.proofs.FaultLemmas.{still, if_more, breaks_here, front_breaks, back_breaks, none_first}
+use Rattle.velab.proofs.FaultLemmas.{still, if_more, breaks_here, front_breaks, back_breaks}
 use Rattle.velab.proofs.ListLemmas.{drop_at}
 use Rattle.velab.proofs.VariableLemmas.{name_stops}
 

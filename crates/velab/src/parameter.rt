@@ -231,7 +231,10 @@ pub fn add_items<'t>(
 }
 
 // The type of a parameter of a module's head: its own, or that of the one before it.
-fn kind_of<'a>(head: &'a HeadParameter, before: Option<&'a ParameterType>) -> Option<&'a ParameterType>
+fn kind_of<'a>(
+    head: &'a HeadParameter,
+    before: Option<&'a ParameterType>,
+) -> Option<&'a ParameterType>
     ensures { (words : List Text) → type_of words result ≡
         option_or (head_parameter words head.now).kind (type_of words before.entry) }
 {

@@ -21,9 +21,9 @@ returns-clause-ok c =
     let words = words_of c.args.tokens.now in
     let whole = c.scope.ensures.same ∙ c.requires.whole in
     let count = ap (λ (s : Scope). s.variables) c.scope-2.view_is
-        ∙ count_is words c.args.unit.now c.scope.result c.at-scope.result c.args.known.now.head whole c.requires.head c.at-scope.ensures in
+    ∙ count_is words c.args.unit.now c.scope.result c.at-scope.result c.args.known.now.head whole c.requires.head c.at-scope.ensures in
     let all = processes_are words c.args.unit.now c.scope.result c.at-scope.result c.args.known.now.head whole c.requires.head c.at-scope.ensures
-        c.deref-2.result.now c.deref-2.ensures.value in
+    c.deref-2.result.now c.deref-2.ensures.value in
     design_is c.args.scale (module_tree words c.args.unit.now) _
     (c.in_ok-from_slice.ensures.items ∙ c.letters-name.ensures)
     refl
