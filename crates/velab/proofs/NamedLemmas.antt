@@ -14,7 +14,7 @@ use Rattle.vdesign.specs.Named.{AreNamed}
 use Rattle.vast.specs.Modules.{ItemTree, parameters, declaration, variables, integers, events, assignments, initial, always, instances, DeclarationKind, ModuleTree, SourceTree, DerivesText, DeclaredTree, fits, fits_module, fits_item, fits_declared, fits_optional, fits_optional_parameters, fits_optional_ports, fits_declaration_kind, are_some}
 use Rattle.vdesign.specs.Design.{Variable, Design}
 use Rattle.vdesign.specs.declared.design.Kind.TheVariants.{Integer}
-use Rattle.velab.specs.Elaborate.{Home, home_of, Declaration, all_declared, kind_of, declared_as, declarations_of, declarations, declared_names, variable_of, variables_from, variables_in, item_scope, behind_item, has_double, top_of, module_names, design_of, name_rules, broken_rules, broken_rules_of, broken_top, Elaborates}
+use Rattle.velab.specs.Elaborate.{Home, home_of, Declaration, all_declared, kind_of, declared_as, declarations_of, declared_names, variable_of, variables_from, variables_in, item_scope, behind_item, has_double, top_of, module_names, design_of, name_rules, broken_rules, broken_rules_of, broken_top, Elaborates}
 use Rattle.velab.specs.declared.fault.Rule.{Rule}
 use Rattle.velab.specs.declared.fault.Rule.TheVariants.{Doubled}
 use Rattle.velab.specs.Rules.{broken_if, rules_in}

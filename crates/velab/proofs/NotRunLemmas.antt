@@ -1,23 +1,18 @@
 -- What isn't run begins somewhere exactly where not all runs.
 use Rattle.std.specs.Option.{option_or}
 use mathlib.Core.Former.{Count}
-use Rattle.std.proofs.Common.{◌≡◌, ℕ, Bool, true, false, ◌&&◌, not, List, [], ◌∷◌, Option, Some, None, is_some, option_map, option_and_then, drop, map, Vec, Global, refl, ap, ◌∙◌}
+use Rattle.std.proofs.Common.{◌≡◌, ℕ, Bool, true, false, ◌&&◌, not, List, [], ◌∷◌, Option, Some, None, is_some, option_map, drop, map, Vec, Global, refl, ap, ◌∙◌}
 use Rattle.std.specs.Prelude.{Box}
 use Rattle.std.specs.List.{list_all}
 use Rattle.vast.specs.Words.{Text}
-use Rattle.vast.specs.ExpressionTrees.{tree_of, trees_of, boxed_tree}
 use Rattle.vast.specs.StatementTrees.{target_tree, delay_tree, task_tree, statement_tree, statement_row, branch_tree, branch_row}
-use Rattle.vast.specs.ModuleTrees.{range_tree, declaration_kind, declared_tree, setting_tree, item_tree, module_tree, source_tree}
+use Rattle.vast.specs.ModuleTrees.{item_tree, module_tree, source_tree}
 use Rattle.vast.specs.declared.expression.Expression.{Expression}
 use Rattle.vast.specs.declared.statement.Target.{Target}
 use Rattle.vast.specs.declared.statement.Delay.{Delay}
 use Rattle.vast.specs.declared.statement.Statement.{Statement, Block, Case, Empty, Block', Assign, Nonblocking, Trigger, If', IfElse', Case', While', Repeat', Forever', For', Wait', Delayed', OnEvent', Task as Call, Row_of-Statement, end_of-Statement, more_of-Statement, items-the_row-Statement, items_hidden-the_row-Statement-0, Row_of-Branch, end_of-Branch, more_of-Branch, items-the_row-Branch, items_hidden-the_row-Branch-1}
 use Rattle.vast.specs.declared.statement.Branch.{Branch, Labelled, Default}
 use Rattle.vast.specs.declared.statement.CaseKind.{CaseKind}
-use Rattle.vast.specs.declared.module.Bounds.{Bounds}
-use Rattle.vast.specs.declared.module.DeclarationKind.{DeclarationKind}
-use Rattle.vast.specs.declared.module.DeclarationKind.TheVariants as declaring
-use Rattle.vast.specs.declared.module.Declared.{Declared}
 use Rattle.vast.specs.declared.module.ModuleItem.{ModuleItem}
 use Rattle.vast.specs.declared.module.ModuleItem.TheVariants as items
 use Rattle.vast.specs.declared.module.ModuleTree.{ModuleTree}

@@ -1,11 +1,10 @@
 -- Parameters one after another, each known to those behind it.
 use Rattle.std.proofs.Common.{◌≡◌, ◌<◌, ℕ, ◌+◌, map, List, [], ◌∷◌, ◌++◌, length, drop, get_or, Option, Some, None, refl, sym, ap, ◌∙◌}
 use Rattle.std.specs.Option.{option_or}
-use Rattle.std.specs.List.{flat_map}
 use Rattle.basis.specs.Reasons.{Because}
 use Rattle.basis.specs.declared.memory.OrMemory.{OrMemory}
 use Rattle.vast.specs.Words.{Text}
-use Rattle.vast.specs.Modules.{ParameterType, HeadParameter}
+use Rattle.vast.specs.Modules.{ParameterType}
 use Rattle.vast.specs.ModuleTrees.{head_parameter, item_tree, parameter_type, setting_tree}
 use Rattle.vast.specs.declared.module.HeadParameter.{HeadParameter as HeadWords}
 use Rattle.vast.specs.declared.module.ParameterType.{ParameterType as ParameterWords}

@@ -1,5 +1,5 @@
 -- What processes lay on the table, one after another.
-use Rattle.std.proofs.Common.{◌≡◌, ◌<◌, ◌≤◌, ℕ, ◌+◌, map, List, [], ◌∷◌, ◌++◌, length, drop, get_or, refl, sym, ap, subst, ◌∙◌, append_assoc, append-nil, length-append, ◌^◌, arith}
+use Rattle.std.proofs.Common.{◌≡◌, ◌<◌, ℕ, ◌+◌, map, List, [], ◌∷◌, ◌++◌, length, drop, get_or, refl, sym, ap, subst, ◌∙◌, append_assoc, append-nil, length-append, ◌^◌, arith}
 use Rattle.std.specs.Prelude.{Option, Some, None}
 use Rattle.std.specs.Option.{option_or}
 use Rattle.std.specs.List.{cons_option, flat_map}
@@ -21,7 +21,7 @@ use Rattle.velab.specs.Inner.{starts_in, drives_in}
 use Rattle.velab.proofs.FaultLemmas.{goes_on, stops_at}
 use Rattle.velab.proofs.ListLemmas.{drop_at}
 use Rattle.vdesign.specs.declared.action.Action.{Action}
-use Rattle.velab.specs.Elaborate.{Laid, Processes, laid_process, laid_processes, laid_items, behind_item, broken_process, broken_items_from, given_by}
+use Rattle.velab.specs.Elaborate.{Laid, Processes, laid_process, laid_processes, laid_items, broken_process, broken_items_from, given_by}
 use Rattle.velab.specs.Inner.{IsLaid, AreLaid}
 
 -- so many are laid: what is left leads to the same as all of them from the start

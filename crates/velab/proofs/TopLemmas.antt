@@ -1,5 +1,5 @@
 -- Faults of the modules' names and of the top.
-use Rattle.std.proofs.Common.{◌≡◌, ◌<◌, ℕ, ◌+◌, List, [], ◌∷◌, ◌++◌, length, map, drop, get_or, inl, Option, Some, None, Result, Ok, Err, false, refl, sym, ap, subst, ◌∙◌}
+use Rattle.std.proofs.Common.{◌≡◌, ◌<◌, ℕ, ◌+◌, List, [], ◌∷◌, ◌++◌, length, map, drop, get_or, inl, Option, Some, None, Result, Ok, Err, IfOk, OnOk, false, refl, sym, ap, subst, ◌∙◌}
 use Rattle.vast.specs.Words.{Text}
 use Rattle.vast.specs.TokenTexts.{token_text}
 use Rattle.vast.specs.Modules.{ModuleTree, SourceTree}
@@ -7,15 +7,17 @@ use Rattle.vast.specs.ModuleTrees.{module_tree}
 use Rattle.vast.specs.declared.module.ModuleTree.{ModuleTree as Module}
 use Rattle.basis.specs.declared.memory.OrMemory.{OrMemory}
 use Rattle.basis.specs.declared.memory.OrMemory.TheVariants.{Fault, Memory}
+use Rattle.basis.specs.declared.timescale.Timescale.{Timescale}
 use Rattle.basis.specs.Reasons.{Because, IfFault}
+use Rattle.vdesign.specs.Design.{Design}
 use Rattle.velab.specs.declared.fault.Rule.TheVariants.{Doubled, Top}
 use Rattle.velab.specs.declared.fault.ElabFault.{ElabFault}
-use Rattle.velab.specs.Elaborate.{top_of, has_double, module_names, broken_rules, broken_rules_of, broken_top}
+use Rattle.velab.specs.Elaborate.{top_of, has_double, module_names, broken_rules, broken_rules_of, broken_top, design_of, Elaborates}
 use Rattle.velab.specs.Rules.{broken_if, IsBroken, Breaks, rules_in}
 use Rattle.velab.specs.Scopes.{is_declared}
 use Rattle.velab.specs.Reasons.{IsDesignReason}
 use Rattle.velab.specs.Inner.{DoublesIn, BreaksOf}
-use Rattle.velab.proofs.FaultLemmas.{still, if_more, breaks_here, front_breaks, back_breaks, none_first}
+use Rattle.velab.proofs.FaultLemmas.{still, if_more, breaks_here, front_breaks, back_breaks}
 use Rattle.velab.proofs.ListLemmas.{drop_at}
 use Rattle.velab.proofs.VariableLemmas.{name_stops}
 
@@ -52,3 +54,10 @@ pub missing : (tree : SourceTree) (top : Option Text) → top_of tree top ≡ No
 missing tree top is =
     back_breaks (rules_in (broken_if (has_double (module_names tree)) Doubled ∷ [])) (broken_top (top_of tree top)) Top
     (subst (λ o. Breaks (broken_top o) Top) (sym is) (inl refl))
+
+pub top_elaborates : (result : Result Design (OrMemory ElabFault)) (tree : SourceTree) (top : Option Text) (scale : Timescale) (m : ModuleTree) →
+    top_of tree top ≡ Some m → has_double (module_names tree) ≡ false → IfOk result (λ design. design ≡ design_of scale m) →
+    OnOk result (broken_rules_of m ≡ []) → IfOk result (Elaborates tree top scale)
+top_elaborates (Ok design) tree top scale m is differ describes right =
+    record { right = nothing_broken tree top m is differ right; unit = m; is_top = is; describes = describes }
+top_elaborates (Err e) tree top scale m is differ describes right = tt

@@ -1,5 +1,5 @@
 -- Bounds and the lists of declared names.
-use Rattle.std.proofs.Common.{◌≡◌, ◌<◌, ℕ, ◌+◌, drop, Bool, true, false, ◌||◌, List, [], ◌∷◌, ◌++◌, length, map, get_or, Vec, Global, Option, Some, None, refl, sym, ap, ◌∙◌, true≢false, append_assoc}
+use Rattle.std.proofs.Common.{◌≡◌, ◌<◌, ℕ, ◌+◌, drop, Bool, true, false, ◌||◌, List, [], ◌∷◌, ◌++◌, length, map, get_or, Vec, Global, Option, None, refl, sym, ap, ◌∙◌, true≢false, append_assoc}
 use Rattle.std.proofs.lemmas.List.Folds.{list_any-append}
 use Rattle.std.specs.Prelude.{option_map}
 use Rattle.std.proofs.lemmas.List.{map-append}

@@ -1,5 +1,5 @@
 -- `Elaborates tree top scale design`: the design that a text stands for (IEEE 1364-2005, clause 12).
-use Rattle.std.specs.Prelude.{◌≡◌, ◌≤◌, ℕ, ◌+◌, ◌-◌, max, min, nat_le, Bool, true, false, ◌&&◌, ◌||◌, not, nat_lt, cond, suc, List, [], ◌∷◌, ◌++◌, map, length, Option, None, Some, is_some, unwrap_or, option_map, slice_get}
+use Rattle.std.specs.Prelude.{◌≡◌, ℕ, ◌+◌, ◌-◌, max, min, nat_le, Bool, true, false, ◌||◌, cond, List, [], ◌∷◌, ◌++◌, map, length, Option, None, Some, is_some, unwrap_or, option_map}
 use Rattle.std.specs.List.{list_any, list_all, flat_map, filter_map, find}
 use Rattle.std.specs.Option.{option_or}
 use Rattle.std.specs.Borrow.{Bor}
@@ -11,7 +11,7 @@ use Rattle.vast.specs.Expressions as text
 use Rattle.vast.specs.Statements.{TargetTree, DelayTree, by_number, by_name, by_value, TaskTree, print, dump_file, dump_vars, dump, end_run, SelectionTree, StatementTree, StatementTrees, empty, block, assign, nonblocking, trigger, if_true, if_else, case_of, while_true, repeat_times, forever, for_loop, wait_for, delay, event, task, no_statement, first_statement, BranchTree, BranchTrees, labelled, default, no_branch, first_branch}
 use Rattle.vast.specs.Statements as written
 use Rattle.vbits.specs.Vectors.{Vector, with_sign}
-use Rattle.vast.specs.Modules.{RangeTree, TypeTree, ParameterType, integer, typed, HeadParameter, DeclarationKind, variables, integers, SettingTree, DeclaredTree, ItemTree, parameters, declaration, events, assignments, initial, always, instances, ModuleTree, SourceTree}
+use Rattle.vast.specs.Modules.{RangeTree, ParameterType, integer, typed, HeadParameter, DeclarationKind, variables, integers, SettingTree, DeclaredTree, ItemTree, parameters, declaration, events, assignments, initial, always, instances, ModuleTree, SourceTree}
 use Rattle.vast.specs.declared.module.NetKind.{NetKind}
 use Rattle.vast.specs.declared.module.NetKind.TheVariants as net
 use Rattle.vdesign.specs.Design as design
@@ -28,7 +28,7 @@ use Rattle.vdesign.specs.declared.design.Kind.{Kind}
 use Rattle.vdesign.specs.declared.design.Kind.TheVariants.{Reg, Integer, Wire}
 use Rattle.vdesign.specs.declared.expression.Bounds.{Bounds}
 use Rattle.vdesign.specs.Expressions.{ExpressionTree}
-use Rattle.vvalue.specs.Value.{by_itself, right_side}
+use Rattle.vvalue.specs.Value.{right_side}
 use Rattle.vvalue.specs.declared.flaw.Flaw.{Flaw}
 use Rattle.velab.specs.declared.fault.Rule.{Rule}
 use Rattle.velab.specs.declared.fault.Rule.TheVariants as rule

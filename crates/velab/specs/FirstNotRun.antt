@@ -1,6 +1,6 @@
 -- Where what isn't run yet begins (E299): the token at which the first construct of a text begins that
 -- doesn't run (`Runs`). A construct begins with the first token that its tree keeps: of `-a`, `(a)` and `$signed(a)` that is `a`.
-use Rattle.std.specs.Prelude.{ℕ, Bool, if◌then◌else◌, List, [], ◌∷◌, Option, Some, None, option_map, option_and_then}
+use Rattle.std.specs.Prelude.{ℕ, Bool, if◌then◌else◌, List, [], ◌∷◌, Option, Some, None, option_map}
 use Rattle.std.specs.Option.{option_or}
 use Rattle.vast.specs.Words.{Text}
 use Rattle.vast.specs.StatementTrees.{task_tree}
@@ -10,11 +10,6 @@ use Rattle.vast.specs.declared.statement.Delay.TheVariants as delays
 use Rattle.vast.specs.declared.statement.Task.{Task}
 use Rattle.vast.specs.declared.statement.Statement.{Statement, Empty, Block', Assign, Nonblocking, Trigger, If', IfElse', Case', While', Repeat', Forever', For', Wait', Delayed', OnEvent', Task as Call, Row_of-Statement, end_of-Statement, more_of-Statement, Row_of-Branch, end_of-Branch, more_of-Branch}
 use Rattle.vast.specs.declared.statement.Branch.{Branch, Labelled, Default}
-use Rattle.vast.specs.declared.module.Bounds.{Bounds}
-use Rattle.vast.specs.declared.module.DeclarationKind.{DeclarationKind}
-use Rattle.vast.specs.declared.module.DeclarationKind.TheVariants as declaring
-use Rattle.vast.specs.declared.module.Declared.{Declared}
-use Rattle.vast.specs.declared.module.Setting.{Setting}
 use Rattle.vast.specs.declared.module.ModuleItem.{ModuleItem}
 use Rattle.vast.specs.declared.module.ModuleItem.TheVariants as items
 use Rattle.vast.specs.declared.module.ModuleTree.{ModuleTree}

@@ -1,17 +1,15 @@
 -- What the steps of elaboration are told by and answer; nothing here has to be believed.
-use Rattle.std.specs.Prelude.{◌≡◌, ◌<◌, ◌≤◌, ◌⊎◌, ℕ, ◌+◌, ◌-◌, Bool, true, false, cond, List, [], ◌++◌, Vec, map, length, take, Option, None, Some, option_map, Result, OnOk}
+use Rattle.std.specs.Prelude.{◌≡◌, ◌≤◌, ℕ, ◌-◌, cond, List, [], ◌++◌, Vec, map, take, Option, None, Some, option_map, Result, OnOk}
 use Rattle.std.specs.Borrow.{Bor}
-use Rattle.std.specs.List.{list_all, flat_map, filter_map}
+use Rattle.std.specs.List.{flat_map, filter_map}
 use Rattle.vbits.specs.declared.bit4.Bit4.{Bit4}
 use Rattle.vdesign.specs.declared.expression.Bounds.{Bounds}
 use Rattle.vdesign.specs.Design as design
 use Rattle.vlex.specs.Bytes.{is_underscore}
 use Rattle.vast.specs.Words.{Text}
 use Rattle.vast.specs.TokenTexts.{token_text}
-use Rattle.vast.specs.Expressions.{ExpressionTree, ExpressionTrees}
-use Rattle.vast.specs.Statements.{StatementTree, StatementTrees, BranchTree, BranchTrees}
 use Rattle.vast.specs.StatementTrees.{statement_tree, statement_trees, branch_tree, branch_trees}
-use Rattle.vast.specs.Modules.{RangeTree, ParameterType, ItemTree, declaration, variables, integers, ModuleTree, SourceTree}
+use Rattle.vast.specs.Modules.{ParameterType, ItemTree, declaration, variables, integers, ModuleTree}
 use Rattle.vast.specs.ModuleTrees.{module_tree, range_tree, parameter_type, head_parameter, type_tree, declaration_kind, declared_tree, setting_tree, item_tree}
 use Rattle.vast.specs.declared.module.DeclarationKind.{DeclarationKind as DeclarationWords}
 use Rattle.vast.specs.declared.module.NetKind.{NetKind}

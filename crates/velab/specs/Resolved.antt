@@ -1,5 +1,5 @@
 -- `resolved scope tree`: the expression of a design that an expression of a text stands for (IEEE 1364-2005, clause 5, 12.7).
-use Rattle.std.specs.Prelude.{Bool, true, false, not, Option, None, Some, unwrap_or}
+use Rattle.std.specs.Prelude.{Bool, true, false, not, Option, None, Some}
 use Rattle.std.specs.Option.{option_or}
 use Rattle.vbits.specs.declared.bit4.Bit4.TheVariants.{X}
 use Rattle.vbits.specs.Vectors.{Vector, filled}

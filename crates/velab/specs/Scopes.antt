@@ -1,5 +1,5 @@
 -- What a module's names stand for (IEEE 1364-2005, 4.10, 12.7).
-use Rattle.std.specs.Prelude.{ℕ, ◌-◌, nat_lt, Bool, true, false, cond, not, ◌||◌, List, slice_get, position, Option, None, Some, unwrap_or, option_and_then}
+use Rattle.std.specs.Prelude.{ℕ, ◌-◌, nat_lt, Bool, cond, not, ◌||◌, List, slice_get, position, Option, None, Some, unwrap_or, option_and_then}
 use Rattle.std.specs.List.{list_any}
 use Rattle.std.specs.Str.{bytes_eq}
 use Rattle.vbits.specs.Vectors.{Vector}

@@ -28,7 +28,8 @@ use vdesign::design::{Design, Scope};
 use vlex::Tokens;
 
 // The only scope: the top's.
-fn scopes(alloc: Global, name: &[u8], variables: u32) -> Result<Vec<Scope>, NoMemory>
+fn scopes(alloc: Global, name: &[u8], variables: usize) -> Result<Vec<Scope>, NoMemory>
+    requires { variables ≤ 1024 }
     ensures { IfOk result (λ scopes. scopes.items ≡ spec.scope_by name.now variables ∷ []) }
 {
     let name = Vec::from_slice(alloc, name)?;
@@ -36,7 +37,7 @@ fn scopes(alloc: Global, name: &[u8], variables: u32) -> Result<Vec<Scope>, NoMe
     scopes.push(Scope {
         name,
         depth: 0,
-        variables,
+        variables: variables as u32,
     })?;
     Ok(scopes)
 }
@@ -121,7 +122,7 @@ fn described(
         top: Vec::from_slice(alloc, name)?,
         scale,
         variables,
-        scopes: scopes(alloc, name, scope.variables as u32)?,
+        scopes: scopes(alloc, name, scope.variables)?,
         actions: table.actions,
         origins: table.origins,
         processes: begins,

@@ -88,11 +88,7 @@ fn bounds_for(value: Vec4, bounds: Option<Bounds>) -> Bounds
 }
 
 // `name[left:right]`, where both bounds are known. E306 where they are no part of a parameter.
-fn part_node(
-    meaning: Meaning,
-    selected: Bounds,
-    at: Token,
-) -> Result<Node, OrMemory<ElabFault>>
+fn part_node(meaning: Meaning, selected: Bounds, at: Token) -> Result<Node, OrMemory<ElabFault>>
     ensures ok { IfOk result (λ node.
         node ∷ [] ≡ nodes_of (spec.resolved_part (Some meaning) selected)) }
     ensures right { OnOk result (spec.part_rule (Some meaning) selected ≡ None) }

@@ -1,6 +1,6 @@
 // Parameters (IEEE 1364-2005, 4.10, 12.2): their values, each known to what stands behind it.
 
-ghost use Rattle.std.specs.Prelude.{◌≡◌, ◌≤◌, List, None, Some, map, option_map, length, IfOk, OnOk};
+ghost use Rattle.std.specs.Prelude.{◌≡◌, ◌<◌, ◌≤◌, ◌^◌, List, None, Some, map, option_map, length, IfOk, OnOk};
 ghost use Rattle.std.specs.Option.{option_or};
 ghost use Rattle.basis.specs.Reasons.{IfFault};
 ghost use Rattle.vast.specs.Words.{Text};
@@ -48,7 +48,8 @@ impl<'t> Model for Growing<'t> {
 impl<'t> Growing<'t> {
     /// What is known so far.
     pub fn scope(&self) -> Scope<'_, 't>
-        ensures { result ≡ self.now }
+        ensures same { result ≡ self.now }
+        ensures small { result.known < 2 ^ 64 }
     {
         Scope {
             names: &self.names,
@@ -230,7 +231,10 @@ pub fn add_items<'t>(
 }
 
 // The type of a parameter of a module's head: its own, or that of the one before it.
-fn kind_of<'a>(head: &'a HeadParameter, before: Option<&'a ParameterType>) -> Option<&'a ParameterType>
+fn kind_of<'a>(
+    head: &'a HeadParameter,
+    before: Option<&'a ParameterType>,
+) -> Option<&'a ParameterType>
     ensures { (words : List Text) → type_of words result ≡
         option_or (head_parameter words head.now).kind (type_of words before.entry) }
 {

@@ -72,7 +72,7 @@ module _ (laws : Laws) (files : List (List ℕ)) (read : AreRead files) where
       not_for_text (Outside at) r = absurd (r.0 here.tree here.is_tree)
       not_for_text (TooDeep at) r = absurd (r.0 here.tree here.is_tree)
       not_for_text (NotYet at) (none, more) = absurd (none (expanded_timescale files) design here)
-      not_for_text (NoDesign rule at) (token, (none, broken)) = absurd (none (expanded_timescale files) design here)
+      not_for_text (NoDesign rule at) (none, broken) = absurd (none (expanded_timescale files) design here)
       not_for_text (Memory m) r = tt
       not_for_text (Directive at) r = absurd r
       not_for_text (NoMacro at) r = absurd r

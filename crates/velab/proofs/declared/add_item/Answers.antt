@@ -1,9 +1,8 @@
-use Rattle.std.proofs.Common.{◌≡◌, ◌++◌, List, ◌∙◌, ap, subst, OnOk}
+use Rattle.std.proofs.Common.{◌≡◌, ◌++◌, List, subst, OnOk}
 use Rattle.basis.specs.Reasons.{IfFault}
-use Rattle.vast.specs.ModuleTrees.{item_tree}
 use Rattle.vast.specs.Words.{Text}
 use Rattle.vexpr_parse.specs.Texts.{words_of}
-use Rattle.velab.specs.Inner.{names_of, texts_of, DoublesIn}
+use Rattle.velab.specs.Inner.{DoublesIn}
 use Rattle.velab.proofs.VariableLemmas.{item_of_names}
 use Rattle.velab.proofs.declared.add_item.Goals as goal
 

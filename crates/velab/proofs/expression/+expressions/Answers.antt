@@ -1,7 +1,7 @@
 use Rattle.std.proofs.Common.{◌≡◌, ◌-◌, ◌++◌, ◌∷◌, [], ℕ, Option, None, OnOk, subst, sym, ap, ◌∙◌, arith}
 use Rattle.basis.specs.Reasons.{IfFault}
 use Rattle.vast.specs.Expressions.{ExpressionTree}
-use Rattle.vast.specs.ExpressionTrees.{tree_of, trees_of}
+use Rattle.vast.specs.ExpressionTrees.{trees_of}
 use Rattle.vexpr_parse.specs.Texts.{words_of}
 use Rattle.vdesign.specs.Nodes.{nodes_of}
 use Rattle.vdesign.specs.declared.expression.Node.{Node}

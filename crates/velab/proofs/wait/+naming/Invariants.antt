@@ -7,4 +7,4 @@ use Rattle.velab.proofs.wait.+naming.Given as goal
 abbrev pub invariant-put_part_names-loop-one : goal.invariant-put_part_names-loop-one
 invariant-put_part_names-loop-one l =
     l.terms.items ++ any_of l.scope (names_in_parts (trees_of (words_of l.tokens) (drop l.one-index l.parts)))
-      ≡ l.initial.terms.items ++ any_of l.scope (names_in_parts (trees_of (words_of l.tokens) l.parts))
+    ≡ l.initial.terms.items ++ any_of l.scope (names_in_parts (trees_of (words_of l.tokens) l.parts))

@@ -7,4 +7,4 @@ use Rattle.velab.proofs.wait.put_labels.Given as goal
 abbrev pub invariant-loop-label : goal.invariant-loop-label
 invariant-loop-label l =
     l.terms.items ++ any_of l.scope (read_by_items (trees_of (words_of l.tokens) (drop l.label-index l.labels)))
-      ≡ l.initial.terms.items ++ any_of l.scope (read_by_items (trees_of (words_of l.tokens) l.labels))
+    ≡ l.initial.terms.items ++ any_of l.scope (read_by_items (trees_of (words_of l.tokens) l.labels))
