@@ -1,8 +1,7 @@
 -- Arguments, taken one by one: a line has the pieces of all of them (17.1.1).
 use Rattle.std.proofs.Common.{◌≡◌, List, [], ◌∷◌, true, false, Option, Some, None, refl, sym, ◌∙◌}
 use Rattle.vdesign.specs.declared.print.Piece.{Piece}
-use Rattle.format_text.specs.Pieces.{Argument, Printed, behind, pieces_by, pieces_of, pieces_with}
-use Rattle.format_text.specs.Reading.{TakesArgument, HasTakenAllBut}
+use Rattle.format_text.specs.Pieces.{Argument, Printed, TakesArgument, HasTakenAllBut, behind, pieces_by, pieces_of, pieces_with}
 
 behind_none : (pieces : Option (List Piece)) → behind [] pieces ≡ pieces
 behind_none None = refl

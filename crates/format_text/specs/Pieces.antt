@@ -1,5 +1,5 @@
 -- The pieces of a line (IEEE 1364-2005, 17.1.1): strings are formats that take the expressions behind them.
-use Rattle.std.specs.Prelude.{ℕ, Bool, false, List, [], ◌∷◌, ◌++◌, Option, Some, None, unwrap_or}
+use Rattle.std.specs.Prelude.{◌≡◌, ℕ, Bool, true, false, List, [], ◌∷◌, ◌++◌, Option, Some, None, unwrap_or}
 use Rattle.vdesign.specs.Expressions.{ExpressionTree}
 use Rattle.vdesign.specs.declared.print.Form.{Form}
 use Rattle.vdesign.specs.declared.print.Form.TheVariants.{Decimal}
@@ -64,3 +64,12 @@ pub record Printed : Type 0 where
 -- its pieces, where these arguments are all that is still to come
 abbrev pub pieces_with : Printed → List Argument → Option (List Piece)
 pieces_with printed arguments = behind printed.pieces (pieces_by printed.format arguments)
+
+-- with whatever arguments behind it, a line has the pieces that it would have had; or, with this argument, none
+abbrev pub TakesArgument : Printed → Argument → Bool → Printed → Type 0
+TakesArgument old argument true new = (arguments : List Argument) → pieces_with new arguments ≡ pieces_with old (argument ∷ arguments)
+TakesArgument old argument false new = (arguments : List Argument) → pieces_with old (argument ∷ arguments) ≡ None
+
+-- all arguments but those that are left were taken: with them behind it, a line has the pieces of all
+abbrev pub HasTakenAllBut : Printed → List Argument → List Argument → Type 0
+HasTakenAllBut printed left arguments = pieces_with printed left ≡ pieces_of arguments

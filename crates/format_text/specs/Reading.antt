@@ -3,7 +3,7 @@ use Rattle.std.specs.Prelude.{◌≡◌, ℕ, Bool, true, false, List, ◌∷◌
 use Rattle.vdesign.specs.declared.print.Piece.{Piece}
 use Rattle.format_text.specs.declared.run.Standing.{Standing}
 use Rattle.format_text.specs.Formats.{ended, form_at, run_by}
-use Rattle.format_text.specs.Pieces.{Argument, Printed, behind, pieces_of, pieces_with}
+use Rattle.format_text.specs.Pieces.{behind}
 
 -- behind a letter a reading goes on from where it stands now, or the letter ends it
 abbrev pub GoesOn : Standing → List ℕ → ℕ → List ℕ → Option Standing → Type 0
@@ -15,15 +15,6 @@ abbrev pub Adds : List Piece → Option (List Piece) → Bool → List Piece →
 Adds old added true new = behind old added ≡ Some new
 Adds old added false new = added ≡ None
 
--- with whatever arguments behind it, a line has the pieces that it would have had; or, with this argument, none
-abbrev pub TakesArgument : Printed → Argument → Bool → Printed → Type 0
-TakesArgument old argument true new = (arguments : List Argument) → pieces_with new arguments ≡ pieces_with old (argument ∷ arguments)
-TakesArgument old argument false new = (arguments : List Argument) → pieces_with old (argument ∷ arguments) ≡ None
-
 -- what a format ends in
 abbrev pub IsEndOf : List ℕ → List ℕ → Type 0
 IsEndOf left format = (n : ℕ) × (drop n format ≡ left)
-
--- all arguments but those that are left were taken: with them behind it, a line has the pieces of all
-abbrev pub HasTakenAllBut : Printed → List Argument → List Argument → Type 0
-HasTakenAllBut printed left arguments = pieces_with printed left ≡ pieces_of arguments

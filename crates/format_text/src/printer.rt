@@ -2,8 +2,8 @@
 
 ghost use Rattle.std.specs.Prelude.{◌≡◌, ◌++◌, [], ◌∷◌, unwrap_or, drop, OnOk, IfOk};
 ghost use Rattle.format_text.specs.Pieces as spec;
-ghost use Rattle.format_text.specs.Pieces.{string as string_argument, value as value_argument};
-ghost use Rattle.format_text.specs.Reading.{Adds, IsEndOf, TakesArgument};
+ghost use Rattle.format_text.specs.Pieces.{TakesArgument, string as string_argument, value as value_argument};
+ghost use Rattle.format_text.specs.Reading.{Adds, IsEndOf};
 
 use crate::letters::letters_of;
 use crate::run::{Run, run_of};

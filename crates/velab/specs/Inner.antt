@@ -1,5 +1,5 @@
 -- What the steps of elaboration are told by and answer; nothing here has to be believed.
-use Rattle.std.specs.Prelude.{◌≡◌, ◌≤◌, ℕ, ◌-◌, cond, List, [], ◌++◌, Vec, map, take, Option, None, Some, option_map, Result, OnOk}
+use Rattle.std.specs.Prelude.{◌≡◌, ◌≤◌, ℕ, ◌-◌, cond, List, [], ◌++◌, Vec, map, take, Option, None, Some, option_map, Result, OnOk, Bool, true, false}
 use Rattle.std.specs.Borrow.{Bor}
 use Rattle.std.specs.List.{flat_map, filter_map}
 use Rattle.vbits.specs.declared.bit4.Bit4.{Bit4}

@@ -6,7 +6,7 @@ ghost use Rattle.vast.specs.ExpressionTrees.{tree_of as text_tree};
 ghost use Rattle.vast.specs.StatementTrees.{argument_tree};
 ghost use Rattle.vast.specs.Words.{Text};
 ghost use Rattle.vexpr_parse.specs.Texts.{words_of};
-ghost use Rattle.format_text.specs.Reading.{TakesArgument};
+ghost use Rattle.format_text.specs.Pieces.{TakesArgument};
 ghost use Rattle.velab.specs.Inner.{Prints};
 ghost use Rattle.velab.specs.Rules.{IsBroken};
 ghost use Rattle.velab.specs.Prints as spec;
