@@ -49,11 +49,13 @@ pub enum Edge {
     Fall,
 }
 
-/// A term of an event control: the variable of this number, and which change of it is heard (9.7.2).
+/// A term of an event control: what is heard (9.7.2, 9.7.3).
 #[derive(Clone, Copy, Debug, PartialEq, Eq)]
-pub struct Term {
-    pub edge: Edge,
-    pub variable: u32,
+pub enum Term {
+    /// This change of the variable of this number (9.7.2).
+    Change { edge: Edge, variable: u32 },
+    /// That the named event of this number is triggered (9.7.3). Events of a design go by numbers of their own, from 0.
+    Event(u32),
 }
 
 /// What is waited for: terms, of which one is enough (9.7.4).
@@ -190,6 +192,20 @@ pub enum Action {
         targets: Targets,
         value: Expression,
     },
+    /// `targets = #amount value;` (9.7.7): it takes the value, sleeps so long, and then writes it.
+    Held {
+        amount: Expression,
+        targets: Targets,
+        value: Expression,
+    },
+    /// `targets <= #amount value;` (9.2.2, 9.7.7): it takes value and targets, and posts the update for so much later.
+    Posted {
+        amount: Expression,
+        targets: Targets,
+        value: Expression,
+    },
+    /// `-> event;`, of the named event of this number (9.7.3)
+    Trigger(u32),
     /// `if (condition) .. else ..` (9.4)
     Test {
         condition: Expression,

@@ -131,20 +131,21 @@ place-awake comes q ps only h = record {
   last = λ p e. omega (arith, h.last p e, awake_keeps comes p 0 ps q.active);
 }
 
-waiting_only : (actions : List Action) (before after : List Vector) → OnlyWaiting (wakes actions before after)
-waiting_only actions before after process is none =
-    let no : wakes_at actions before after None ≡ true = ap (wakes_at actions before after) (sym none) ∙ is in cc
+waiting_only : (actions : List Action) (before after : List Vector) (triggered : Option ℕ) → OnlyWaiting (wakes actions before after triggered)
+waiting_only actions before after triggered process is none =
+    let no : wakes_at actions before after triggered None ≡ true = ap (wakes_at actions before after triggered) (sym none) ∙ is in cc
 
 -- ---- a state in which processes wake
 
-pub order-woken : (design : Design) (before : List Vector) (s : State) → IsInOrder s.queue → IsInOrder (woken design before s).queue
-order-woken design before s h = record {
-  active = awake_rises (wakes design.actions before s.values) 0 s.processes s.queue.active h.active;
+pub order-woken : (design : Design) (before : List Vector) (triggered : Option ℕ) (s : State) → IsInOrder s.queue →
+    IsInOrder (woken design before triggered s).queue
+order-woken design before triggered s h = record {
+  active = awake_rises (wakes design.actions before s.values triggered) 0 s.processes s.queue.active h.active;
   inactive = h.inactive;
   future = h.future;
 }
 
-pub place-woken : (design : Design) (before : List Vector) (s : State) → IsInPlace s.queue s.processes →
-    IsInPlace (woken design before s).queue (woken design before s).processes
-place-woken design before s h =
-    place-awake (wakes design.actions before s.values) s.queue s.processes (waiting_only design.actions before s.values) h
+pub place-woken : (design : Design) (before : List Vector) (triggered : Option ℕ) (s : State) → IsInPlace s.queue s.processes →
+    IsInPlace (woken design before triggered s).queue (woken design before triggered s).processes
+place-woken design before triggered s h =
+    place-awake (wakes design.actions before s.values triggered) s.queue s.processes (waiting_only design.actions before s.values triggered) h

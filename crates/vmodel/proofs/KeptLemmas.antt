@@ -14,7 +14,7 @@ use Rattle.vmodel.specs.declared.choice.Choice.TheVariants.{Run, Update, Advance
 use Rattle.vmodel.specs.Queue.{Slot, Queue, without_process}
 use Rattle.vmodel.specs.State.{State}
 use Rattle.vmodel.specs.Choices.{in_order, first_update, or_advance, active_choices, offered, queue_choices, choices}
-use Rattle.vmodel.specs.Step.{moment_of, Did, does_at, place_of, going, closed_by, woken, closed, acted, strobing, process_by, turned, takes, goes_from, without_update, updated, advanced_to, turn_of, turn_by, next}
+use Rattle.vmodel.specs.Step.{moment_of, Did, does_at, held_of, place_of, going, closed_by, woken, closed, acted, strobing, process_by, turned, takes, goes_from, without_update, updated, advanced_to, turn_of, turn_by, next}
 use Rattle.vmodel.specs.Run.{Setting, busy_from, opening_process, opening_of, state_after}
 use Rattle.vmodel.specs.Played.{opening_is, after_is}
 use Rattle.vmodel.specs.Kept.{RisesFrom, IsInOrder, count_in, asleep, IsInPlace, IsIdle, IsKept}
@@ -119,8 +119,10 @@ open_choice s i c active e = by_cause s.cause refl e
           (open_offered s.queue s.queue.grain s.queue.last refl active) (idle_when s.queue) i c e,
     )
 
-woken-kept : (design : Design) (before : List Vector) (s : State) → IsInOrder s.queue → IsInPlace s.queue s.processes → IsKept (closed (woken design before s))
-woken-kept design before s order place = closed-kept (woken design before s) (order-woken design before s order) (place-woken design before s place)
+woken-kept : (design : Design) (before : List Vector) (triggered : Option ℕ) (s : State) → IsInOrder s.queue → IsInPlace s.queue s.processes →
+    IsKept (closed (woken design before triggered s))
+woken-kept design before triggered s order place =
+    closed-kept (woken design before triggered s) (order-woken design before triggered s order) (place-woken design before triggered s place)
 
 -- ---- the steps
 
@@ -149,7 +151,7 @@ turned-kept : (design : Design) (p : ℕ) (did : Did) (s : State) → IsKept s �
     IsKept (turned design p did s).state
 turned-kept design p did s kept active lt =
     let q = strobing did.deed.strobed s.queue in
-    woken-kept design s.values (acted p did s)
+    woken-kept design s.values did.deed.triggered (acted p did s)
     (order-moved p did.deed.fate did.deed.posted (going p did.left) q
     (record { active = kept.order.active; inactive = kept.order.inactive; future = kept.order.future }))
     (place-moved p did.deed.fate did.deed.posted (process_by did) q s.processes
@@ -158,7 +160,7 @@ turned-kept design p did s kept active lt =
 takes-kept : (design : Design) (p : ℕ) (spot : Spot) (action : Option Action) (after : List Spot) (s : State) → IsKept s → 1 ≤ count_in p s.queue.active →
     p < length s.processes → IsKept (takes design p spot action after s).state
 takes-kept design p spot None after s kept active lt = kept
-takes-kept design p spot (Some action) after s kept active lt = turned-kept design p (does_at spot action after (moment_of design s)) s kept active lt
+takes-kept design p spot (Some action) after s kept active lt = turned-kept design p (does_at spot action after (held_of (slice_get s.processes p)) (moment_of design s)) s kept active lt
 
 process-kept : (design : Design) (p : ℕ) (left : List Spot) (s : State) → IsKept s → left_at s.processes p ≡ left →
     1 ≤ count_in p s.queue.active → IsKept (goes_from design p left s).state
@@ -169,7 +171,7 @@ process-kept design p (spot ∷ after) s kept is active =
 turn-kept : (design : Design) (c : Choice) (s : State) → IsKept s → IsOpen c s.queue → IsKept (turn_of design c s).state
 turn-kept design (Run p) s kept active = process-kept design p (left_at s.processes p) s kept refl active
 turn-kept design Update s kept allowed =
-    let h = updated-kept s s.queue.activated kept in woken-kept design s.values (updated s) h.0 h.1
+    let h = updated-kept s s.queue.activated kept in woken-kept design s.values None (updated s) h.0 h.1
 turn-kept design Advance s kept allowed =
     let h = advanced-kept s s.queue.future refl kept in
     closed-kept (record s { queue = advanced_to s.queue.future s.queue }) h.0 h.1

@@ -1,33 +1,55 @@
 -- What becomes of the queue where a process takes a step: the order, and the places of processes.
-use Rattle.std.proofs.Common.{◌≡◌, ◌≢◌, inl, inr, ℕ, zero, suc, ◌+◌, ◌<◌, ◌≤◌, Bool, true, false, cond, nat_lt, List, [], ◌∷◌, length, Option, Some, None, option_to_list, refl, sym, ap, subst, ◌∙◌, arith}
+use Rattle.std.proofs.Common.{◌≡◌, ◌≢◌, inl, inr, ℕ, zero, suc, ◌+◌, ◌<◌, ◌≤◌, Bool, true, false, cond, nat_lt, List, [], ◌∷◌, ◌++◌, length, Option, Some, None, option_to_list, refl, sym, ap, subst, ◌∙◌, arith}
 use Rattle.std.specs.Prelude.{slice_get, slice_set}
 use Rattle.std.specs.Option.{ForSome}
 use Rattle.std.proofs.lemmas.Bool.Decides.{nat_tests}
+use Rattle.vmodel.specs.declared.deed.Post.{Post}
 use Rattle.vmodel.specs.declared.deed.Fate.{Fate}
 use Rattle.vmodel.specs.declared.deed.Fate.TheVariants.{GoesOn, Sleeps, Waits}
 use Rattle.vmodel.specs.declared.part.Part.{Part}
 use Rattle.vmodel.specs.declared.process.Spot.{Spot}
 use Rattle.vmodel.specs.State.{Process}
-use Rattle.vmodel.specs.Queue.{Queue, with_process, wake_at}
-use Rattle.vmodel.specs.Step.{leaves, going, goes_on, sleeps, fares, posts, regions, settled, left_of, waits_by}
+use Rattle.vmodel.specs.Queue.{Slot, Queue, with_process, waking, updating, later_at, later}
+use Rattle.vmodel.specs.Step.{leaves, going, goes_on, sleeps, fares, posts_after, posts, regions, settled, left_of, waits_by}
 use Rattle.vmodel.specs.Kept.{IsInOrder, count_in, places, most_places, HasRest, waits_of, IsInPlace, IsIdle}
-use Rattle.vmodel.proofs.PlaceLemmas.{alike, count-other, count-self, count-without_self, count-without, count-with, asleep-wake, without_rises, with_rises, wake_rises}
+use Rattle.vmodel.proofs.PlaceLemmas.{alike, count-other, count-self, count-without_self, count-without, count-with, asleep-wake, asleep-update, without_rises, with_rises, wake_rises, update_rises}
 
 -- ---- what holds of a queue after a move, by the cases of the move
+
+later_by : (P : Queue → Type 0) (d : ℕ) (put : Slot → Slot) (q : Queue) → 0 < d → P (record q { beyond = true }) →
+    ((t : ℕ) → q.time < t → t ≤ q.until → P (record q { future = later_at t put q.future })) →
+    P (later d put q)
+later_by P d put q some past puts = by_limit (nat_lt q.until (q.time + d)) refl
+  where
+    by_limit : (b : Bool) → nat_lt q.until (q.time + d) ≡ b →
+        P (cond b (record q { beyond = true }) (record q { future = later_at (q.time + d) put q.future }))
+    by_limit true e = past
+    by_limit false e = puts (q.time + d) (omega (arith, some)) (grind (arith, nat_tests))
 
 pub sleeps_by : (P : Queue → Type 0) (d : ℕ) (sleeper : Option ℕ) (q : Queue) → P q →
     ((p : ℕ) → sleeper ≡ Some p → P (record q { inactive = with_process p q.inactive })) →
     P (record q { beyond = true }) →
-    ((t : ℕ) → q.time < t → t ≤ q.until → P (record q { future = wake_at t sleeper q.future })) →
+    ((t : ℕ) → q.time < t → t ≤ q.until → P (record q { future = later_at t (waking sleeper) q.future })) →
     P (sleeps d sleeper q)
 sleeps_by P zero None q stays lies past wakes = stays
 sleeps_by P zero (Some p) q stays lies past wakes = lies p refl
-sleeps_by P (suc d) sleeper q stays lies past wakes = by_limit (nat_lt q.until (q.time + suc d)) refl
-  where
-    by_limit : (b : Bool) → nat_lt q.until (q.time + suc d) ≡ b →
-        P (cond b (record q { beyond = true }) (record q { future = wake_at (q.time + suc d) sleeper q.future }))
-    by_limit true e = past
-    by_limit false e = wakes (q.time + suc d) (omega arith) (grind (arith, nat_tests))
+sleeps_by P (suc d) sleeper q stays lies past wakes = later_by P (suc d) (waking sleeper) q (omega arith) past wakes
+
+posts_after_by : (P : Queue → Type 0) (d : ℕ) (u : List Part) (q : Queue) → P (record q { posted = q.posted ++ u ∷ [] }) →
+    P (record q { beyond = true }) →
+    ((t : ℕ) → q.time < t → t ≤ q.until → P (record q { future = later_at t (updating u) q.future })) →
+    P (posts_after d u q)
+posts_after_by P zero u q behind past puts = behind
+posts_after_by P (suc d) u q behind past puts = later_by P (suc d) (updating u) q (omega arith) past puts
+
+pub posts_by : (P : Queue → Type 0) (posted : Option Post) (q : Queue) → P q →
+    ((post : Post) → posted ≡ Some post → P (record q { posted = q.posted ++ post.parts ∷ [] })) →
+    P (record q { beyond = true }) →
+    ((post : Post) (t : ℕ) → posted ≡ Some post → q.time < t → t ≤ q.until → P (record q { future = later_at t (updating post.parts) q.future })) →
+    P (posts posted q)
+posts_by P None q stays behind past puts = stays
+posts_by P (Some post) q stays behind past puts =
+    posts_after_by P post.after post.parts q (behind post refl) past (λ t lt within. puts post t refl lt within)
 
 pub settled_by : (P : Queue → Type 0) (q : Queue) → ((IsIdle q → (q.inactive ≡ []) × (q.posted ≡ [])) → P q) →
     ((i : ℕ) (is : List ℕ) → q.active ≡ [] → q.inactive ≡ i ∷ is → P (record q { active = i ∷ is; inactive = [] })) →
@@ -62,16 +84,22 @@ order-goes_on : (p : ℕ) (left : Option ℕ) (q : Queue) → IsInOrder q → Is
 order-goes_on p None q h = order-leaves p q h
 order-goes_on p (Some same) q h = record { active = h.active; inactive = h.inactive; future = h.future }
 
-order-posts : (posted : Option (List Part)) (q : Queue) → IsInOrder q → IsInOrder (posts posted q)
-order-posts None q h = h
-order-posts (Some u) q h = record { active = h.active; inactive = h.inactive; future = h.future }
+order-posts : (posted : Option Post) (q : Queue) → IsInOrder q → IsInOrder (posts posted q)
+order-posts posted q h = posts_by IsInOrder posted q h
+    (λ post is. record { active = h.active; inactive = h.inactive; future = h.future })
+    (record { active = h.active; inactive = h.inactive; future = h.future })
+    (λ post t is lt within. record {
+      active = h.active;
+      inactive = h.inactive;
+      future = update_rises t (suc q.time) q.until post.parts q.future h.future lt within;
+    })
 
 order-fares : (p : ℕ) (fate : Fate) (left : Option ℕ) (q : Queue) → IsInOrder q → IsInOrder (fares p fate left q)
 order-fares p GoesOn left q h = order-goes_on p left q h
 order-fares p (Sleeps d) left q h = order-leaves p (sleeps d left q) (order-sleeps d left q h)
 order-fares p (Waits place) left q h = order-leaves p q h
 
-pub order-moved : (p : ℕ) (fate : Fate) (posted : Option (List Part)) (left : Option ℕ) (q : Queue) → IsInOrder q → IsInOrder (fares p fate left (posts posted q))
+pub order-moved : (p : ℕ) (fate : Fate) (posted : Option Post) (left : Option ℕ) (q : Queue) → IsInOrder q → IsInOrder (fares p fate left (posts posted q))
 order-moved p fate posted left q h = order-fares p fate left (posts posted q) (order-posts posted q h)
 
 -- ---- places
@@ -96,9 +124,12 @@ places-goes_on : (r p : ℕ) (left : Option ℕ) (q : Queue) → places r (goes_
 places-goes_on r p None q = places-leaves p r q
 places-goes_on r p (Some same) q = omega arith
 
-places-posts : (r : ℕ) (posted : Option (List Part)) (q : Queue) → places r (posts posted q) ≡ places r q
-places-posts r None q = refl
-places-posts r (Some u) q = refl
+places-posts : (r : ℕ) (posted : Option Post) (q : Queue) → places r (posts posted q) ≤ places r q
+places-posts r posted q = posts_by (λ (after : Queue). places r after ≤ places r q) posted q
+    (omega arith)
+    (λ post is. omega arith)
+    (omega arith)
+    (λ post t is lt within. omega (arith, asleep-update r t post.parts q.future))
 
 places-fares : (r p : ℕ) (fate : Fate) (left : List Spot) (q : Queue) → r ≢ p → places r (fares p fate (going p left) q) ≤ places r q
 places-fares r p GoesOn left q ne = places-goes_on r p (going p left) q
@@ -106,7 +137,7 @@ places-fares r p (Sleeps d) left q ne =
     omega (arith, places-leaves p r (sleeps d (going p left) q), places-sleeps r d (going p left) q, count-going r p left ne)
 places-fares r p (Waits place) left q ne = places-leaves p r q
 
-places-others : (r p : ℕ) (fate : Fate) (posted : Option (List Part)) (left : List Spot) (q : Queue) → r ≢ p →
+places-others : (r p : ℕ) (fate : Fate) (posted : Option Post) (left : List Spot) (q : Queue) → r ≢ p →
     places r (fares p fate (going p left) (posts posted q)) ≤ places r q
 places-others r p fate posted left q ne = omega (arith, places-fares r p fate left (posts posted q) ne, places-posts r posted q)
 
@@ -139,11 +170,10 @@ own-fares p GoesOn left q once active = own-goes_on p left q once active
 own-fares p (Sleeps d) left q once active = omega (arith, own-sleeps p d (going p left) q once active, own-going p left)
 own-fares p (Waits place) left q once active = omega (arith, left_all p q once active)
 
-active-posts : (posted : Option (List Part)) (q : Queue) → (posts posted q).active ≡ q.active
-active-posts None q = refl
-active-posts (Some u) q = refl
+active-posts : (posted : Option Post) (q : Queue) → (posts posted q).active ≡ q.active
+active-posts posted q = posts_by (λ (after : Queue). after.active ≡ q.active) posted q refl (λ post is. refl) refl (λ post t is lt within. refl)
 
-places-own : (p : ℕ) (fate : Fate) (posted : Option (List Part)) (left : List Spot) (q : Queue) → places p q ≤ 1 → 1 ≤ count_in p q.active →
+places-own : (p : ℕ) (fate : Fate) (posted : Option Post) (left : List Spot) (q : Queue) → places p q ≤ 1 → 1 ≤ count_in p q.active →
     places p (fares p fate (going p left) (posts posted q)) ≤ most_places (waits_by fate left) left
 places-own p fate posted left q once active =
     own-fares p fate left (posts posted q) (omega (arith, once, places-posts p posted q)) (omega (arith, active, ap (count_in p) (active-posts posted q)))
@@ -164,7 +194,7 @@ last-fares p GoesOn left q active = last-goes_on p left q active
 last-fares p (Sleeps d) left q active = nobody_last (leaves p (sleeps d (going p left) q)) refl
 last-fares p (Waits place) left q active = nobody_last (leaves p q) refl
 
-last-moved : (p : ℕ) (fate : Fate) (posted : Option (List Part)) (left : List Spot) (q : Queue) → 1 ≤ count_in p q.active →
+last-moved : (p : ℕ) (fate : Fate) (posted : Option Post) (left : List Spot) (q : Queue) → 1 ≤ count_in p q.active →
     LastIsActive (fares p fate (going p left) (posts posted q))
 last-moved p fate posted left q active = last-fares p fate left (posts posted q) (omega (arith, active, ap (count_in p) (active-posts posted q)))
 
@@ -211,7 +241,7 @@ rest-by (Waits place) (spot ∷ rest) = tt
 abbrev pub IsWaiting : Option Process → Type 0
 IsWaiting o = HasRest (waits_of o) (left_of o)
 
-pub place-moved : (p : ℕ) (fate : Fate) (posted : Option (List Part)) (after : Process) (q : Queue) (processes : List Process) → IsInPlace q processes →
+pub place-moved : (p : ℕ) (fate : Fate) (posted : Option Post) (after : Process) (q : Queue) (processes : List Process) → IsInPlace q processes →
     after.waits ≡ waits_by fate after.left → 1 ≤ count_in p q.active → p < length processes →
     IsInPlace (fares p fate (going p after.left) (posts posted q)) (slice_set processes p after)
 place-moved p fate posted after q processes h waits active lt = record {

@@ -5,17 +5,17 @@ use Rattle.std.proofs.lemmas.Bool.Decides.{nat_tests}
 use Rattle.std.proofs.lemmas.List.{append-nil, append_assoc, length-set}
 use Rattle.vbits.specs.declared.bit4.Bit4.{Bit4}
 use Rattle.vbits.specs.declared.bit4.Bit4.TheVariants.{X}
-use Rattle.vbits.specs.Vectors.{Vector, filled, with_sign, select, put}
+use Rattle.vbits.specs.Vectors.{Vector, filled, with_sign, resize, select, put}
 use Rattle.vdesign.specs.Expressions.{ExpressionTree}
 use Rattle.vdesign.specs.declared.action.Target.{Target}
 use Rattle.vdesign.specs.declared.action.Target.TheVariants.{Whole as WholeTarget}
 use Rattle.vvalue.specs.Value.{Moment, value_at, right_side}
 use Rattle.vvalue.specs.Targets.{target_size, targets_size}
-use Rattle.vvalue.proofs.Lengths.{right_side_length}
+use Rattle.vvalue.proofs.Lengths.{right_side_length, resized_length}
 use Rattle.vmodel.specs.declared.part.Part.{Part}
 use Rattle.vmodel.specs.declared.part.Part.TheVariants.{Whole, Bits}
 use Rattle.vmodel.specs.Parts.{value_in, with_bits, write, written}
-use Rattle.vmodel.specs.Value.{some_bits, bits_from, parts_of, shared, assigned}
+use Rattle.vmodel.specs.Value.{some_bits, bits_from, parts_of, shared, assigned, resumed}
 use Rattle.vmodel.specs.Inner.{variable_of, value_over, over_one, over_all}
 use Rattle.vmodel.proofs.WakingLemmas.{differ_set, other_after}
 
@@ -138,6 +138,35 @@ row_is now targets e size value parts is le right are =
     chosen : (b : Bool) → b ≡ true → all ≡ cond b all []
     chosen true is_true = refl
     chosen false is_true = cc
+
+-- the same of a value that is held
+pub held_is : (now : Moment) (targets : List Target) (size : ℕ) (held value : Vector) (parts : List Part) → size ≡ targets_size now targets → size ≤ 64 →
+    value ≡ resize held size → parts ≡ shared now targets value.letters → parts ≡ resumed now targets (Some held)
+held_is now targets size held value parts is le resized are =
+    are
+    ∙ ap (λ (v : Vector). shared now targets v.letters) (resized ∙ ap (resize held) is)
+    ∙ chosen (nat_le (targets_size now targets) 64) (grind (arith, nat_tests))
+  where
+    all : List Part
+    all = shared now targets (resize held (targets_size now targets)).letters
+
+    chosen : (b : Bool) → b ≡ true → all ≡ cond b all []
+    chosen true is_true = refl
+    chosen false is_true = cc
+
+pub none_held : (now : Moment) (targets : List Target) (held : Vector) → 64 < targets_size now targets → [] ≡ resumed now targets (Some held)
+none_held now targets held lt = chosen (nat_le (targets_size now targets) 64) (grind (arith, nat_tests))
+  where
+    all : List Part
+    all = shared now targets (resize held (targets_size now targets)).letters
+
+    chosen : (b : Bool) → b ≡ false → [] ≡ cond b all []
+    chosen false is_false = refl
+    chosen true is_false = cc
+
+pub held_length : (now : Moment) (targets : List Target) (size : ℕ) (held value : Vector) → size ≡ targets_size now targets →
+    value ≡ resize held size → length value.letters ≡ targets_size now targets
+held_length now targets size held value is resized = ap (λ (v : Vector). length v.letters) resized ∙ resized_length held size ∙ is
 
 pub none_is : (now : Moment) (targets : List Target) (e : ExpressionTree) → 64 < targets_size now targets → [] ≡ assigned now targets e
 none_is now targets e lt = chosen (nat_le (targets_size now targets) 64) (grind (arith, nat_tests))

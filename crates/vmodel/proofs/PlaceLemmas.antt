@@ -1,10 +1,11 @@
 -- In how many places a process stands, and which lists rise.
 use Rattle.std.proofs.Common.{◌≡◌, ◌≢◌, ◌⊎◌, inl, inr, ℕ, suc, ◌+◌, ◌≤◌, List, [], ◌∷◌, Option, Some, None, option_to_list, refl, sym, ap, subst, ◌∙◌, arith}
 use Rattle.std.proofs.lemmas.Bool.Decides.{eqb_tells}
-use Rattle.vmodel.specs.Queue.{Slot, with_process, without_process, empty_slot, waking, wake_at}
+use Rattle.vmodel.specs.declared.part.Part.{Part}
+use Rattle.vmodel.specs.Queue.{Slot, with_process, without_process, empty_slot, waking, updating, later_at}
 use Rattle.vmodel.specs.Kept.{RisesFrom, FutureFrom, count_in, asleep}
 use Rattle.vmodel.proofs.ProcessLemmas.{less, equal, more, compared, same, differs, with_less, with_same, with_more, without_other, without_same}
-use Rattle.vmodel.proofs.FutureLemmas.{earlier, here, later}
+use Rattle.vmodel.proofs.FutureLemmas.{earlier, here, sooner}
 
 pub alike : (p q : ℕ) → (p ≡ q) ⊎ (p ≢ q)
 alike p q = elim (eqb_tells p q) [ inl h ↦ inl h.1 | inr h ↦ inr h.1 ]
@@ -63,14 +64,23 @@ pub count-waking : (r : ℕ) (sleeper : Option ℕ) (slot : Slot) →
 count-waking r None slot = omega arith
 count-waking r (Some p) slot = count-with p r slot.processes
 
-pub asleep-wake : (r t : ℕ) (sleeper : Option ℕ) (es : List (ℕ × Slot)) →
-    asleep r (wake_at t sleeper es) ≤ asleep r es + count_in r (option_to_list sleeper)
-asleep-wake r t sleeper [] = omega (arith, count-waking r sleeper empty_slot)
-asleep-wake r t sleeper (e ∷ es) = elim (compared t e.0) [
-  | less lt ↦ omega (arith, count-waking r sleeper empty_slot, ap (asleep r) (later t sleeper e es lt))
-  | equal is ↦ omega (arith, count-waking r sleeper e.1, ap (asleep r) (here t sleeper e es is))
-  | more gt ↦ omega (arith, asleep-wake r t sleeper es, ap (asleep r) (earlier t sleeper e es gt))
+-- where no more than so much is put to what a time holds
+asleep-later : (r t most : ℕ) (put : Slot → Slot) (es : List (ℕ × Slot)) →
+    ((slot : Slot) → count_in r (put slot).processes ≤ count_in r slot.processes + most) →
+    asleep r (later_at t put es) ≤ asleep r es + most
+asleep-later r t most put [] few = omega (arith, few empty_slot)
+asleep-later r t most put (e ∷ es) few = elim (compared t e.0) [
+  | less lt ↦ omega (arith, few empty_slot, ap (asleep r) (sooner t put e es lt))
+  | equal is ↦ omega (arith, few e.1, ap (asleep r) (here t put e es is))
+  | more gt ↦ omega (arith, asleep-later r t most put es few, ap (asleep r) (earlier t put e es gt))
 ]
+
+pub asleep-wake : (r t : ℕ) (sleeper : Option ℕ) (es : List (ℕ × Slot)) →
+    asleep r (later_at t (waking sleeper) es) ≤ asleep r es + count_in r (option_to_list sleeper)
+asleep-wake r t sleeper es = asleep-later r t (count_in r (option_to_list sleeper)) (waking sleeper) es (count-waking r sleeper)
+
+pub asleep-update : (r t : ℕ) (u : List Part) (es : List (ℕ × Slot)) → asleep r (later_at t (updating u) es) ≤ asleep r es
+asleep-update r t u es = omega (arith, asleep-later r t 0 (updating u) es (λ slot. omega arith))
 
 -- ---- rising lists
 
@@ -99,13 +109,22 @@ waking_rises : (sleeper : Option ℕ) (slot : Slot) → RisesFrom 0 slot.process
 waking_rises None slot h = h
 waking_rises (Some p) slot h = with_rises p 0 slot.processes h (omega arith)
 
-pub wake_rises : (t low until : ℕ) (sleeper : Option ℕ) (es : List (ℕ × Slot)) → FutureFrom low until es → low ≤ t → t ≤ until →
-    FutureFrom low until (wake_at t sleeper es)
-wake_rises t low until sleeper [] h le within = (le, within, waking_rises sleeper empty_slot tt, tt)
-wake_rises t low until sleeper (e ∷ es) h le within = elim (compared t e.0) [
-  | less lt ↦ subst (FutureFrom low until) (sym (later t sleeper e es lt))
-      (le, within, waking_rises sleeper empty_slot tt, (lt, h.1, h.2, h.3))
-  | equal is ↦ subst (FutureFrom low until) (sym (here t sleeper e es is)) (h.0, h.1, waking_rises sleeper e.1 h.2, h.3)
-  | more gt ↦ subst (FutureFrom low until) (sym (earlier t sleeper e es gt))
-      (h.0, h.1, h.2, wake_rises t (suc e.0) until sleeper es h.3 gt within)
+later_rises : (t low until : ℕ) (put : Slot → Slot) (es : List (ℕ × Slot)) → FutureFrom low until es → low ≤ t → t ≤ until →
+    ((slot : Slot) → RisesFrom 0 slot.processes → RisesFrom 0 (put slot).processes) →
+    FutureFrom low until (later_at t put es)
+later_rises t low until put [] h le within keeps = (le, within, keeps empty_slot tt, tt)
+later_rises t low until put (e ∷ es) h le within keeps = elim (compared t e.0) [
+  | less lt ↦ subst (FutureFrom low until) (sym (sooner t put e es lt))
+      (le, within, keeps empty_slot tt, (lt, h.1, h.2, h.3))
+  | equal is ↦ subst (FutureFrom low until) (sym (here t put e es is)) (h.0, h.1, keeps e.1 h.2, h.3)
+  | more gt ↦ subst (FutureFrom low until) (sym (earlier t put e es gt))
+      (h.0, h.1, h.2, later_rises t (suc e.0) until put es h.3 gt within keeps)
 ]
+
+pub wake_rises : (t low until : ℕ) (sleeper : Option ℕ) (es : List (ℕ × Slot)) → FutureFrom low until es → low ≤ t → t ≤ until →
+    FutureFrom low until (later_at t (waking sleeper) es)
+wake_rises t low until sleeper es h le within = later_rises t low until (waking sleeper) es h le within (waking_rises sleeper)
+
+pub update_rises : (t low until : ℕ) (u : List Part) (es : List (ℕ × Slot)) → FutureFrom low until es → low ≤ t → t ≤ until →
+    FutureFrom low until (later_at t (updating u) es)
+update_rises t low until u es h le within = later_rises t low until (updating u) es h le within (λ slot rises. rises)

@@ -1,20 +1,21 @@
 -- A step of a process, from its parts.
-use Rattle.std.proofs.Common.{◌≡◌, ℕ, List, [], ◌∷◌, map, Option, Some, refl, sym, ap, ◌∙◌}
+use Rattle.std.proofs.Common.{◌≡◌, ℕ, List, [], ◌∷◌, map, Option, Some, None, refl, sym, ap, ◌∙◌}
 use Rattle.std.specs.Prelude.{slice_get, slice_set}
 use Rattle.vbits.specs.Vectors.{Vector}
 use Rattle.vdesign.specs.Design.{Design}
 use Rattle.vdesign.specs.declared.action.Action.{Action}
+use Rattle.vvalue.specs.Value.{Moment}
 use Rattle.vmodel.specs.declared.deed.Deed.{Deed}
 use Rattle.vmodel.specs.declared.part.Part.{Part}
 use Rattle.vmodel.specs.declared.process.Spot.{Spot}
-use Rattle.vmodel.specs.declared.values.Changes.{Changes}
+use Rattle.vmodel.specs.declared.waking.News.{News}
 use Rattle.vmodel.specs.Parts.{written}
 use Rattle.vmodel.specs.Queue.{Queue}
 use Rattle.vmodel.specs.State.{Process, State}
 use Rattle.vmodel.specs.Waking.{wakes, awake, with_awake}
 use Rattle.vmodel.specs.InnerWaking.{AreChanges, comes, with_active}
 use Rattle.vmodel.specs.Inner.{first_action}
-use Rattle.vmodel.specs.InnerStep.{did_so, left_in, moved, moved_by, moved_on, ended, turn_to}
+use Rattle.vmodel.specs.InnerStep.{did_so, left_in, held_in, moved, moved_by, moved_on, ended, turn_to}
 use Rattle.vmodel.specs.Step.{Did, does_at, moment_of, woken, closed, turned, takes, goes_from, process_turn}
 use Rattle.vmodel.proofs.WakingLemmas.{woken_none, comes_is}
 
@@ -25,21 +26,21 @@ abbrev with_values : State → List Vector → State
 with_values s values = record s { values = values }
 
 pub written_same : (design : Design) (wrote : List Part) (s : State) (values : List Vector) → values ≡ written wrote s.values → s.values ≡ values →
-    with_values s values ≡ woken design s.values (with_values s (written wrote s.values))
+    with_values s values ≡ woken design s.values None (with_values s (written wrote s.values))
 written_same design wrote s values is same =
     ap (with_values s) is
     ∙ woken_none design (with_values s (written wrote s.values))
-    ∙ ap (λ (before : List Vector). woken design before (with_values s (written wrote s.values))) (sym (same ∙ is))
+    ∙ ap (λ (before : List Vector). woken design before None (with_values s (written wrote s.values))) (sym (same ∙ is))
 
-pub written_changed : (design : Design) (wrote : List Part) (s : State) (values : List Vector) (change : Changes) → values ≡ written wrote s.values → AreChanges change s.values values →
+pub written_changed : (design : Design) (wrote : List Part) (s : State) (values : List Vector) (news : News) → values ≡ written wrote s.values → AreChanges news.changes s.values values →
     record s {
       values = values;
-      processes = map (awake (comes design.actions change)) s.processes;
-      queue = with_active (with_awake (comes design.actions change) 0 s.processes s.queue.active) s.queue;
-    } ≡ woken design s.values (with_values s (written wrote s.values))
-written_changed design wrote s values change is differ =
-    let hears : comes design.actions change ≡ wakes design.actions s.values (written wrote s.values) =
-    sym (comes_is design.actions change s.values values differ) ∙ ap (wakes design.actions s.values) is in
+      processes = map (awake (comes design.actions news)) s.processes;
+      queue = with_active (with_awake (comes design.actions news) 0 s.processes s.queue.active) s.queue;
+    } ≡ woken design s.values news.triggered (with_values s (written wrote s.values))
+written_changed design wrote s values news is differ =
+    let hears : comes design.actions news ≡ wakes design.actions s.values (written wrote s.values) news.triggered =
+    sym (comes_is design.actions news s.values values differ) ∙ ap (λ (after : List Vector). wakes design.actions s.values after news.triggered) is in
     λ i. record s {
       values = is i;
       processes = map (awake (hears i)) s.processes;
@@ -47,43 +48,46 @@ written_changed design wrote s values change is differ =
     }
 
 -- the same, as the parts of the code tell it
-pub awoken_is : (design : Design) (wrote : List Part) (s : State) (values : List Vector) (processes : List Process) (queue : Queue) (actions : List Action) (change : Changes) →
-    values ≡ written wrote s.values → AreChanges change s.values values → actions ≡ design.actions →
-    processes ≡ map (awake (comes actions change)) s.processes →
-    queue ≡ with_active (with_awake (comes actions change) 0 s.processes s.queue.active) s.queue →
-    record s { values = values; processes = processes; queue = queue } ≡ woken design s.values (with_values s (written wrote s.values))
-awoken_is design wrote s values processes queue actions change is differ acts ps q =
+pub awoken_is : (design : Design) (wrote : List Part) (s : State) (values : List Vector) (processes : List Process) (queue : Queue) (actions : List Action) (news : News) →
+    values ≡ written wrote s.values → AreChanges news.changes s.values values → actions ≡ design.actions →
+    processes ≡ map (awake (comes actions news)) s.processes →
+    queue ≡ with_active (with_awake (comes actions news) 0 s.processes s.queue.active) s.queue →
+    record s { values = values; processes = processes; queue = queue } ≡ woken design s.values news.triggered (with_values s (written wrote s.values))
+awoken_is design wrote s values processes queue actions news is differ acts ps q =
     (λ i. record s { values = values; processes = ps i; queue = q i })
     ∙ ap (λ (list : List Action). record s {
       values = values;
-      processes = map (awake (comes list change)) s.processes;
-      queue = with_active (with_awake (comes list change) 0 s.processes s.queue.active) s.queue;
+      processes = map (awake (comes list news)) s.processes;
+      queue = with_active (with_awake (comes list news) 0 s.processes s.queue.active) s.queue;
     }) acts
-    ∙ written_changed design wrote s values change is differ
+    ∙ written_changed design wrote s values news is differ
 
 -- ---- the step
 
 -- a state with what the step wrote, and what becomes of the run
 abbrev finished : Design → Deed → State → State → State
-finished design deed before s = closed (ended deed.cause (woken design before.values (with_values s (written deed.wrote before.values))))
+finished design deed before s = closed (ended deed.cause (woken design before.values deed.triggered (with_values s (written deed.wrote before.values))))
 
 ran_from : (design : Design) (p : ℕ) (spot : Spot) (action : Action) (then : Option Spot) (next : List ℕ) (deed : Deed) (s : State) (left : List Spot) →
     left_in s.processes p ≡ left → slice_get left 0 ≡ Some spot → first_action design.actions left ≡ Some action →
-    ((after : List Spot) → does_at spot action after (moment_of design s) ≡ did_so then next after deed) →
+    ((after : List Spot) → does_at spot action after (held_in s.processes p) (moment_of design s) ≡ did_so then next after deed) →
     goes_from design p left s ≡ turn_to (finished design deed s (moved_on p then next deed s)) deed
 ran_from design p spot action then next deed s [] is at act h = cc
 ran_from design p spot action then next deed s (other ∷ after) is at act h =
     let same : other ≡ spot = cc in
     ap (λ (o : Option Action). takes design p other o after s) act
-    ∙ ap (λ (first : Spot). turned design p (does_at first action after (moment_of design s)) s) same
+    ∙ ap (λ (first : Spot). turned design p (does_at first action after (held_in s.processes p) (moment_of design s)) s) same
     ∙ ap (λ (did : Did). turned design p did s) (h after)
     ∙ ap (λ (l : List Spot). turn_to (finished design deed s (record s {
       processes = slice_set s.processes p (moved l then next deed);
       queue = moved_by p l then next deed s.queue;
     })) deed) (sym is)
 
-pub ran : (design : Design) (p : ℕ) (spot : Spot) (action : Action) (then : Option Spot) (next : List ℕ) (deed : Deed) (s : State) →
+pub ran : (design : Design) (p : ℕ) (spot : Spot) (action : Action) (held : Option Vector) (now : Moment) (then : Option Spot) (next : List ℕ) (deed : Deed) (s : State) →
     slice_get (left_in s.processes p) 0 ≡ Some spot → first_action design.actions (left_in s.processes p) ≡ Some action →
-    ((after : List Spot) → does_at spot action after (moment_of design s) ≡ did_so then next after deed) →
-    process_turn design p s ≡ turn_to (closed (ended deed.cause (woken design s.values (with_values (moved_on p then next deed s) (written deed.wrote s.values))))) deed
-ran design p spot action then next deed s at act h = ran_from design p spot action then next deed s (left_in s.processes p) refl at act h
+    held ≡ held_in s.processes p → now ≡ moment_of design s →
+    ((after : List Spot) → does_at spot action after held now ≡ did_so then next after deed) →
+    process_turn design p s ≡ turn_to (closed (ended deed.cause (woken design s.values deed.triggered (with_values (moved_on p then next deed s) (written deed.wrote s.values))))) deed
+ran design p spot action held now then next deed s at act holds is h =
+    ran_from design p spot action then next deed s (left_in s.processes p) refl at act
+    (λ after. (λ i. does_at spot action after (sym holds i) (sym is i)) ∙ h after)

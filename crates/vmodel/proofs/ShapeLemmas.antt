@@ -6,38 +6,39 @@ use Rattle.sched_core.specs.Rules.{choice_at}
 use Rattle.std.proofs.lemmas.Bool.Decides.{nat_tests}
 use Rattle.vbits.specs.declared.bit4.Bit4.{Bit4}
 use Rattle.vbits.specs.declared.bit4.Bit4.TheVariants.{X}
-use Rattle.vbits.specs.Vectors.{Vector, filled, with_sign}
+use Rattle.vbits.specs.Vectors.{Vector, filled, with_sign, resize}
 use Rattle.vdesign.specs.Design.{Variable, Design}
 use Rattle.vdesign.specs.declared.action.Action.{Action}
 use Rattle.vdesign.specs.declared.print.When.TheVariants.{Now, AtSlotEnd, AtChange}
-use Rattle.vdesign.specs.declared.action.Action.TheVariants.{Assign, Nonblocking, Test, Case, Again, Repeat, Forever, Delay, On, Until, Drive, Print, Dump, Pass, Finish, Stop}
+use Rattle.vdesign.specs.declared.action.Action.TheVariants.{Assign, Nonblocking, Held, Posted, Trigger, Test, Case, Again, Repeat, Forever, Delay, On, Until, Drive, Print, Dump, Pass, Finish, Stop}
 use Rattle.vdesign.specs.Expressions.{ExpressionTree}
 use Rattle.vdesign.specs.declared.action.Target.{Target}
 use Rattle.vdesign.specs.declared.action.Target.TheVariants.{Whole as WholeTarget, Bit as BitTarget, Part as PartTarget}
 use Rattle.vmodel.specs.declared.history.Cause.{Cause}
+use Rattle.vmodel.specs.declared.deed.Post.{Post}
 use Rattle.vmodel.specs.declared.deed.Fate.{Fate}
 use Rattle.vmodel.specs.declared.deed.Fate.TheVariants.{GoesOn, Sleeps, Waits}
 use Rattle.vmodel.specs.declared.part.Part.{Part}
 use Rattle.vmodel.specs.declared.part.Part.TheVariants.{Whole, Bits}
 use Rattle.vmodel.specs.declared.process.Spot.{Spot}
-use Rattle.vmodel.specs.declared.process.Spot.TheVariants.{Doing, Turning}
+use Rattle.vmodel.specs.declared.process.Spot.TheVariants.{Doing, Turning, Writing}
 use Rattle.vmodel.specs.declared.choice.Choice.{Choice}
 use Rattle.vmodel.specs.declared.choice.Choice.TheVariants.{Run, Update, Advance}
-use Rattle.vvalue.specs.Value.{Moment, value_at, bounds_of, right_side, holds as holds_at}
+use Rattle.vvalue.specs.Value.{Moment, value_at, bounds_of, right_side, holds as holds_at, delay_of}
 use Rattle.vmodel.specs.InnerStep.{awaits}
-use Rattle.vvalue.proofs.Lengths.{right_side_length}
+use Rattle.vvalue.proofs.Lengths.{right_side_length, resized_length}
 use Rattle.vvalue.specs.Targets.{target_size, targets_size, place_at, leftwards}
 use Rattle.vmodel.proofs.PartLemmas.{part_length, spliced_length}
-use Rattle.vmodel.specs.Value.{some_bits, bits_at, parts_of, shared, assigned}
+use Rattle.vmodel.specs.Value.{some_bits, bits_at, parts_of, shared, given, assigned, resumed}
 use Rattle.vmodel.specs.Parts.{value_in, with_bits, written}
-use Rattle.vmodel.specs.Queue.{Slot, Queue, waking, empty_slot, wake_at}
+use Rattle.vmodel.specs.Queue.{Slot, Queue, waking, updating, empty_slot, later_at}
 use Rattle.vmodel.specs.State.{State}
 use Rattle.vmodel.specs.Choices.{choices}
-use Rattle.vmodel.specs.Step.{moment_of, Did, does, turns, does_at, place_of, going, leaves, fares, posts, strobing, regions, closed_by, woken, closed, acted, takes, goes_from, left_of, first_of, without_update, updated, advanced_to, turn_of, turn_by, next}
+use Rattle.vmodel.specs.Step.{moment_of, Did, post_after, does, turns, resumes, does_at, place_of, going, leaves, fares, posts, strobing, regions, closed_by, woken, closed, acted, takes, goes_from, left_of, held_of, first_of, without_update, updated, advanced_to, turn_of, turn_by, next}
 use Rattle.vmodel.specs.Run.{Setting, opening_value, state_after}
 use Rattle.vmodel.specs.Played.{opening_is, after_is}
 use Rattle.vmodel.specs.Kept.{HasShape, AreShaped}
-use Rattle.vmodel.proofs.MovedLemmas.{sleeps_by}
+use Rattle.vmodel.proofs.MovedLemmas.{sleeps_by, posts_by}
 
 -- ---- what waits to be written
 
@@ -162,16 +163,27 @@ shared-suits variables now (target ∷ more) letters h le =
     (part_length (target_size now target) (targets_size now more) letters le))
     (shared-suits variables now more letters h (omega (arith, le)))
 
+given-suits : (variables : List Variable) (targets : List Target) (value : Vector) (now : Moment) → AreShaped variables now.values →
+    length value.letters ≡ targets_size now targets → AllSuit variables (given now targets value)
+given-suits variables targets value now h len = by (nat_le (targets_size now targets) 64)
+  where
+    by : (b : Bool) → AllSuit variables (cond b (shared now targets value.letters) [])
+    by false = tt
+    by true = shared-suits variables now targets value.letters h (omega (arith, len))
+
 assigned-suits : (variables : List Variable) (targets : List Target) (e : ExpressionTree) (now : Moment) → AreShaped variables now.values →
     AllSuit variables (assigned now targets e)
-assigned-suits variables targets e now h = by (nat_le size 64)
-  where
-    size : ℕ
-    size = targets_size now targets
+assigned-suits variables targets e now h =
+    let size = targets_size now targets in
+    given-suits variables targets (right_side now size e) now h (right_side_length now size e)
 
-    by : (b : Bool) → AllSuit variables (cond b (shared now targets (right_side now size e).letters) [])
-    by false = tt
-    by true = shared-suits variables now targets (right_side now size e).letters h (omega (arith, right_side_length now size e))
+-- 9.7.7: what is held is cut or extended once more, to the bits that the targets have then
+resumed-suits : (variables : List Variable) (targets : List Target) (held : Option Vector) (now : Moment) → AreShaped variables now.values →
+    AllSuit variables (resumed now targets held)
+resumed-suits variables targets None now h = tt
+resumed-suits variables targets (Some value) now h =
+    let size = targets_size now targets in
+    given-suits variables targets (resize value size) now h (resized_length value size)
 
 -- ---- what waits
 
@@ -185,28 +197,43 @@ waking-suits : (variables : List Variable) (sleeper : Option ℕ) (slot : Slot) 
 waking-suits variables None slot h = h
 waking-suits variables (Some p) slot h = h
 
-wake-suits : (variables : List Variable) (t : ℕ) (sleeper : Option ℕ) (es : List (ℕ × Slot)) → FutureSuits variables es →
-    FutureSuits variables (wake_at t sleeper es)
-wake-suits variables t sleeper [] h = (waking-suits variables sleeper empty_slot tt, tt)
-wake-suits variables t sleeper (e ∷ es) h = by (nat_lt t e.0) (t == e.0) (wake-suits variables t sleeper es h.1)
+later-suits : (variables : List Variable) (t : ℕ) (put : Slot → Slot) (es : List (ℕ × Slot)) → FutureSuits variables es →
+    ((slot : Slot) → UpdatesSuit variables slot.updates → UpdatesSuit variables (put slot).updates) →
+    FutureSuits variables (later_at t put es)
+later-suits variables t put [] h suits = (suits empty_slot tt, tt)
+later-suits variables t put (e ∷ es) h suits = by (nat_lt t e.0) (t == e.0) (later-suits variables t put es h.1 suits)
   where
-    by : (before at : Bool) → FutureSuits variables (wake_at t sleeper es) →
+    by : (before at : Bool) → FutureSuits variables (later_at t put es) →
         FutureSuits variables
         (
-        cond before ((t, waking sleeper empty_slot) ∷ e ∷ es)
-        (cond at ((e.0, waking sleeper e.1) ∷ es) (e ∷ wake_at t sleeper es))
+        cond before ((t, put empty_slot) ∷ e ∷ es)
+        (cond at ((e.0, put e.1) ∷ es) (e ∷ later_at t put es))
         )
-    by true at rest = (waking-suits variables sleeper empty_slot tt, h)
-    by false true rest = (waking-suits variables sleeper e.1 h.0, h.1)
+    by true at rest = (suits empty_slot tt, h)
+    by false true rest = (suits e.1 h.0, h.1)
     by false false rest = (h.0, rest)
+
+wake-suits : (variables : List Variable) (t : ℕ) (sleeper : Option ℕ) (es : List (ℕ × Slot)) → FutureSuits variables es →
+    FutureSuits variables (later_at t (waking sleeper) es)
+wake-suits variables t sleeper es h = later-suits variables t (waking sleeper) es h (waking-suits variables sleeper)
+
+update-suits : (variables : List Variable) (t : ℕ) (u : List Part) (es : List (ℕ × Slot)) → FutureSuits variables es → AllSuit variables u →
+    FutureSuits variables (later_at t (updating u) es)
+update-suits variables t u es h suit =
+    later-suits variables t (updating u) es h (λ slot updates. suits-behind variables slot.updates u updates suit)
 
 -- ---- a step
 
-posts-suit : (variables : List Variable) (posted : Option (List Part)) (q : Queue) → QueueSuits variables q →
-    ((u : List Part) → posted ≡ Some u → AllSuit variables u) → QueueSuits variables (posts posted q)
-posts-suit variables None q h suit = h
-posts-suit variables (Some u) q h suit =
-    record { activated = h.activated; posted = suits-behind variables q.posted u h.posted (suit u refl); future = h.future }
+posts-suit : (variables : List Variable) (posted : Option Post) (q : Queue) → QueueSuits variables q →
+    ((post : Post) → posted ≡ Some post → AllSuit variables post.parts) → QueueSuits variables (posts posted q)
+posts-suit variables posted q h suit = posts_by (QueueSuits variables) posted q h
+    (λ post is. record { activated = h.activated; posted = suits-behind variables q.posted post.parts h.posted (suit post is); future = h.future })
+    (record { activated = h.activated; posted = h.posted; future = h.future })
+    (λ post t is lt within. record {
+      activated = h.activated;
+      posted = h.posted;
+      future = update-suits variables t post.parts q.future h.future (suit post is);
+    })
 
 fares-suit : (variables : List Variable) (p : ℕ) (fate : Fate) (left : Option ℕ) (q : Queue) → QueueSuits variables q →
     QueueSuits variables (fares p fate left q)
@@ -238,54 +265,73 @@ closed-shaped variables s h = by_cause s.cause
       queue = regions-suit variables s.queue.active s.queue.activated s.queue.inactive s.queue.posted s.queue h.queue h.queue.posted;
     }
 
-woken-shaped : (variables : List Variable) (design : Design) (before : List Vector) (s : State) → IsShaped variables s → IsShaped variables (closed (woken design before s))
-woken-shaped variables design before s h =
-    closed-shaped variables (woken design before s)
+woken-shaped : (variables : List Variable) (design : Design) (before : List Vector) (triggered : Option ℕ) (s : State) → IsShaped variables s →
+    IsShaped variables (closed (woken design before triggered s))
+woken-shaped variables design before triggered s h =
+    closed-shaped variables (woken design before triggered s)
     (record { values = h.values; queue = record { activated = h.queue.activated; posted = h.queue.posted; future = h.queue.future } })
 
 -- what a step writes and posts
 record DeedSuits (variables : List Variable) (did : Did) : Type 0 where
   pub wrote : AllSuit variables did.deed.wrote
-  pub posted : (u : List Part) → did.deed.posted ≡ Some u → AllSuit variables u
+  pub posted : (post : Post) → did.deed.posted ≡ Some post → AllSuit variables post.parts
 
 awaits-suit : (variables : List Variable) (place : ℕ) (holds : Bool) (body : List ℕ) (after : List Spot) → DeedSuits variables (awaits place holds body after)
-awaits-suit variables place true body after = record { wrote = tt; posted = λ u is. cc }
-awaits-suit variables place false body after = record { wrote = tt; posted = λ u is. cc }
+awaits-suit variables place true body after = record { wrote = tt; posted = λ post is. cc }
+awaits-suit variables place false body after = record { wrote = tt; posted = λ post is. cc }
+
+posted-suits : (variables : List Variable) (delay : ℕ) (u : List Part) (post : Post) → Some (post_after delay u) ≡ Some post → AllSuit variables u →
+    AllSuit variables post.parts
+posted-suits variables delay u post is suit =
+    let same : post_after delay u ≡ post = cc in
+    subst (λ (one : Post). AllSuit variables one.parts) same suit
 
 does-suits : (variables : List Variable) (place : ℕ) (action : Action) (after : List Spot) (now : Moment) → AreShaped variables now.values →
     DeedSuits variables (does place action after now)
-does-suits variables place (Assign targets value) after now h = record { wrote = assigned-suits variables targets value now h; posted = λ u is. cc }
+does-suits variables place (Assign targets value) after now h = record { wrote = assigned-suits variables targets value now h; posted = λ post is. cc }
 does-suits variables place (Nonblocking targets value) after now h = record {
   wrote = tt;
-  posted = λ u is.
-      let same : assigned now targets value ≡ u = cc in
-      subst (AllSuit variables) same (assigned-suits variables targets value now h);
+  posted = λ post is. posted-suits variables 0 (assigned now targets value) post is (assigned-suits variables targets value now h);
 }
-does-suits variables place (Delay amount body) after now h = record { wrote = tt; posted = λ u is. cc }
-does-suits variables place (On terms body) after now h = record { wrote = tt; posted = λ u is. cc }
+does-suits variables place (Held amount targets value) after now h = record { wrote = tt; posted = λ post is. cc }
+does-suits variables place (Posted amount targets value) after now h = record {
+  wrote = tt;
+  posted = λ post is.
+      posted-suits variables (delay_of now amount) (assigned now targets value) post is (assigned-suits variables targets value now h);
+}
+does-suits variables place (Trigger event) after now h = record { wrote = tt; posted = λ post is. cc }
+does-suits variables place (Delay amount body) after now h = record { wrote = tt; posted = λ post is. cc }
+does-suits variables place (On terms body) after now h = record { wrote = tt; posted = λ post is. cc }
 does-suits variables place (Until condition terms body) after now h = awaits-suit variables place (holds_at now condition) body after
-does-suits variables place (Case kind value branches otherwise) after now h = record { wrote = tt; posted = λ u is. cc }
-does-suits variables place (Repeat count body) after now h = record { wrote = tt; posted = λ u is. cc }
-does-suits variables place (Drive net value terms) after now h = record { wrote = assigned-suits variables (WholeTarget net ∷ []) value now h; posted = λ u is. cc }
-does-suits variables place (Print Now pieces) after now h = record { wrote = tt; posted = λ u is. cc }
-does-suits variables place (Print AtSlotEnd pieces) after now h = record { wrote = tt; posted = λ u is. cc }
-does-suits variables place (Print AtChange pieces) after now h = record { wrote = tt; posted = λ u is. cc }
-does-suits variables place (Dump command) after now h = record { wrote = tt; posted = λ u is. cc }
-does-suits variables place Pass after now h = record { wrote = tt; posted = λ u is. cc }
-does-suits variables place Finish after now h = record { wrote = tt; posted = λ u is. cc }
-does-suits variables place Stop after now h = record { wrote = tt; posted = λ u is. cc }
-does-suits variables place (Test condition when_true otherwise) after now h = record { wrote = tt; posted = λ u is. cc }
-does-suits variables place (Again condition body) after now h = record { wrote = tt; posted = λ u is. cc }
-does-suits variables place (Forever body) after now h = record { wrote = tt; posted = λ u is. cc }
+does-suits variables place (Case kind value branches otherwise) after now h = record { wrote = tt; posted = λ post is. cc }
+does-suits variables place (Repeat count body) after now h = record { wrote = tt; posted = λ post is. cc }
+does-suits variables place (Drive net value terms) after now h = record { wrote = assigned-suits variables (WholeTarget net ∷ []) value now h; posted = λ post is. cc }
+does-suits variables place (Print Now pieces) after now h = record { wrote = tt; posted = λ post is. cc }
+does-suits variables place (Print AtSlotEnd pieces) after now h = record { wrote = tt; posted = λ post is. cc }
+does-suits variables place (Print AtChange pieces) after now h = record { wrote = tt; posted = λ post is. cc }
+does-suits variables place (Dump command) after now h = record { wrote = tt; posted = λ post is. cc }
+does-suits variables place Pass after now h = record { wrote = tt; posted = λ post is. cc }
+does-suits variables place Finish after now h = record { wrote = tt; posted = λ post is. cc }
+does-suits variables place Stop after now h = record { wrote = tt; posted = λ post is. cc }
+does-suits variables place (Test condition when_true otherwise) after now h = record { wrote = tt; posted = λ post is. cc }
+does-suits variables place (Again condition body) after now h = record { wrote = tt; posted = λ post is. cc }
+does-suits variables place (Forever body) after now h = record { wrote = tt; posted = λ post is. cc }
 
 turns-suit : (variables : List Variable) (place n : ℕ) (action : Action) (after : List Spot) → DeedSuits variables (turns place n action after)
-turns-suit variables place n (Repeat count body) after = record { wrote = tt; posted = λ u is. cc }
-turns-suit variables place n _ after = record { wrote = tt; posted = λ u is. cc }
+turns-suit variables place n (Repeat count body) after = record { wrote = tt; posted = λ post is. cc }
+turns-suit variables place n _ after = record { wrote = tt; posted = λ post is. cc }
 
-does_at-suits : (variables : List Variable) (spot : Spot) (action : Action) (after : List Spot) (now : Moment) → AreShaped variables now.values →
-    DeedSuits variables (does_at spot action after now)
-does_at-suits variables (Doing place) action after now h = does-suits variables place action after now h
-does_at-suits variables (Turning place n) action after now h = turns-suit variables place n action after
+resumes-suit : (variables : List Variable) (place : ℕ) (action : Action) (after : List Spot) (held : Option Vector) (now : Moment) → AreShaped variables now.values →
+    DeedSuits variables (resumes place action after held now)
+resumes-suit variables place (Held amount targets value) after held now h =
+    record { wrote = resumed-suits variables targets held now h; posted = λ post is. cc }
+resumes-suit variables place _ after held now h = record { wrote = tt; posted = λ post is. cc }
+
+does_at-suits : (variables : List Variable) (spot : Spot) (action : Action) (after : List Spot) (held : Option Vector) (now : Moment) → AreShaped variables now.values →
+    DeedSuits variables (does_at spot action after held now)
+does_at-suits variables (Doing place) action after held now h = does-suits variables place action after now h
+does_at-suits variables (Turning place n) action after held now h = turns-suit variables place n action after
+does_at-suits variables (Writing place) action after held now h = resumes-suit variables place action after held now h
 
 acted-shaped : (variables : List Variable) (p : ℕ) (did : Did) (s : State) → IsShaped variables s → DeedSuits variables did → IsShaped variables (acted p did s)
 acted-shaped variables p did s h suits = record {
@@ -299,8 +345,8 @@ takes-shaped : (variables : List Variable) (design : Design) (p : ℕ) (spot : S
     IsShaped variables (takes design p spot action after s).state
 takes-shaped variables design p spot None after s h = h
 takes-shaped variables design p spot (Some action) after s h =
-    let did = does_at spot action after (moment_of design s) in
-    woken-shaped variables design s.values (acted p did s) (acted-shaped variables p did s h (does_at-suits variables spot action after (moment_of design s) h.values))
+    let did = does_at spot action after (held_of (slice_get s.processes p)) (moment_of design s) in
+    woken-shaped variables design s.values did.deed.triggered (acted p did s) (acted-shaped variables p did s h (does_at-suits variables spot action after (held_of (slice_get s.processes p)) (moment_of design s) h.values))
 
 process-shaped : (variables : List Variable) (design : Design) (p : ℕ) (left : List Spot) (s : State) → IsShaped variables s →
     IsShaped variables (goes_from design p left s).state
@@ -322,7 +368,7 @@ advanced-suits variables (e ∷ es) q suit h = record { activated = h.activated;
 
 turn-shaped : (variables : List Variable) (design : Design) (c : Choice) (s : State) → IsShaped variables s → IsShaped variables (turn_of design c s).state
 turn-shaped variables design (Run p) s h = process-shaped variables design p (left_of (slice_get s.processes p)) s h
-turn-shaped variables design Update s h = woken-shaped variables design s.values (updated s) (updated-shaped variables s.queue.activated s h.queue.activated h)
+turn-shaped variables design Update s h = woken-shaped variables design s.values None (updated s) (updated-shaped variables s.queue.activated s h.queue.activated h)
 turn-shaped variables design Advance s h =
     closed-shaped variables (record s { queue = advanced_to s.queue.future s.queue })
     (record { values = h.values; queue = advanced-suits variables s.queue.future s.queue h.queue.future h.queue })

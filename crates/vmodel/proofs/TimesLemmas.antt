@@ -11,6 +11,7 @@ use Rattle.vmodel.specs.declared.history.Item.TheVariants.{SlotEnd, Dump, Line, 
 use Rattle.vmodel.specs.declared.deed.Shown.{Shown}
 use Rattle.vmodel.specs.declared.deed.Shown.TheVariants.{Commands, Prints, Watches}
 use Rattle.vmodel.specs.declared.part.Part.{Part}
+use Rattle.vmodel.specs.declared.deed.Post.{Post}
 use Rattle.vmodel.specs.declared.deed.Fate.{Fate}
 use Rattle.vmodel.specs.declared.deed.Fate.TheVariants.{GoesOn, Sleeps, Waits}
 use Rattle.vmodel.specs.declared.process.Spot.{Spot}
@@ -19,11 +20,11 @@ use Rattle.vmodel.specs.declared.choice.Choice.TheVariants.{Run, Update, Advance
 use Rattle.vmodel.specs.Queue.{Slot, Queue}
 use Rattle.vmodel.specs.State.{State}
 use Rattle.vmodel.specs.Choices.{choices}
-use Rattle.vmodel.specs.Step.{moment_of, Turn, Did, does_at, place_of, going, goes_on, fares, posts, strobing, settled, closed_by, woken, closed, acted, turned, takes, goes_from, left_of, without_update, updated, advanced_to, turn_of, turn_by, next, shown_items, idle_items, slot_end_by, slot_end_of, strobe_items, before_end, end_items, items_of}
+use Rattle.vmodel.specs.Step.{moment_of, Turn, Did, does_at, place_of, going, goes_on, fares, posts, strobing, settled, closed_by, woken, closed, acted, turned, takes, goes_from, left_of, held_of, without_update, updated, advanced_to, turn_of, turn_by, next, shown_items, idle_items, slot_end_by, slot_end_of, strobe_items, before_end, end_items, items_of}
 use Rattle.vmodel.specs.Run.{Setting, rules_of, opening_of, state_after, given_by}
 use Rattle.vmodel.specs.Played.{opening_is, after_is, width_is}
 use Rattle.vmodel.specs.Kept.{RisesFrom, IsIdle, IsKept, slot_times, count_in}
-use Rattle.vmodel.proofs.MovedLemmas.{sleeps_by, settled_by}
+use Rattle.vmodel.proofs.MovedLemmas.{sleeps_by, posts_by, settled_by}
 use Rattle.vmodel.proofs.KeptLemmas.{IsOpen, open_choice, kept}
 
 -- ---- times one after another
@@ -128,19 +129,18 @@ time-fares p GoesOn left q = time-goes_on p left q
 time-fares p (Sleeps d) left q = sleeps_by (λ (r : Queue). r.time ≡ q.time) d left q refl (λ r is. refl) refl (λ t lt within. refl)
 time-fares p (Waits place) left q = refl
 
-time-posts : (posted : Option (List Part)) (q : Queue) → (posts posted q).time ≡ q.time
-time-posts None q = refl
-time-posts (Some u) q = refl
+time-posts : (posted : Option Post) (q : Queue) → (posts posted q).time ≡ q.time
+time-posts posted q = posts_by (λ (r : Queue). r.time ≡ q.time) posted q refl (λ post is. refl) refl (λ post t is lt within. refl)
 
 time-turned : (design : Design) (p : ℕ) (did : Did) (s : State) → (turned design p did s).state.queue.time ≡ s.queue.time
 time-turned design p did s =
-    time-closed (woken design s.values (acted p did s))
+    time-closed (woken design s.values did.deed.triggered (acted p did s))
     ∙ time-fares p did.deed.fate (going p did.left) (posts did.deed.posted (strobing did.deed.strobed s.queue))
     ∙ time-posts did.deed.posted (strobing did.deed.strobed s.queue)
 
 time-takes : (design : Design) (p : ℕ) (spot : Spot) (action : Option Action) (after : List Spot) (s : State) → (takes design p spot action after s).state.queue.time ≡ s.queue.time
 time-takes design p spot None after s = refl
-time-takes design p spot (Some action) after s = time-turned design p (does_at spot action after (moment_of design s)) s
+time-takes design p spot (Some action) after s = time-turned design p (does_at spot action after (held_of (slice_get s.processes p)) (moment_of design s)) s
 
 time-process : (design : Design) (p : ℕ) (left : List Spot) (s : State) → (goes_from design p left s).state.queue.time ≡ s.queue.time
 time-process design p [] s = refl
@@ -167,7 +167,7 @@ turn-timed design times (Run p) s kept none active timed =
     ))
 turn-timed design times Update s kept none some timed =
     timed_turn design times (turn_of design Update s) timed.rises
-    (omega (arith, timed.before none (λ idle. some idle.1), time-closed (woken design s.values (updated s)), time-updated s.queue.activated s.queue))
+    (omega (arith, timed.before none (λ idle. some idle.1), time-closed (woken design s.values None (updated s)), time-updated s.queue.activated s.queue))
 turn-timed design times Advance s kept none allowed timed =
     timed_turn design times (turn_of design Advance s) timed.rises
     (omega (

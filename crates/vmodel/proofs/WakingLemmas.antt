@@ -1,4 +1,4 @@
--- What wakes by a change: the tests of a change are those of the values before and after it.
+-- What wakes by a step: the tests of what is told of it are those of the values before and after it.
 use Rattle.std.proofs.Common.{◌≡◌, ◌≢◌, ℕ, zero, suc, ◌<◌, ◌≤◌, Bool, true, false, not, ◌==◌, ◌&&◌, ◌||◌, cond, List, [], ◌∷◌, map, length, Option, Some, None, refl, sym, ap, ◌∙◌, arith}
 use Rattle.std.specs.Prelude.{slice_get, slice_set, slice_index_or, unwrap_or}
 use Rattle.std.proofs.lemmas.Bool.Decides.{nat_tests}
@@ -9,8 +9,9 @@ use Rattle.vdesign.specs.Design.{Design}
 use Rattle.vdesign.specs.declared.action.Edge.{Edge}
 use Rattle.vdesign.specs.declared.action.Edge.TheVariants.{Any, Rise, Fall}
 use Rattle.vdesign.specs.declared.action.Term.{Term}
+use Rattle.vdesign.specs.declared.action.Term.TheVariants.{Change as ChangeTerm, Event}
 use Rattle.vdesign.specs.declared.action.Action.{Action}
-use Rattle.vdesign.specs.declared.action.Action.TheVariants.{Assign, Nonblocking, Test, Case, Again, Repeat, Forever, Delay, On, Until, Drive, Print, Dump, Pass, Finish, Stop}
+use Rattle.vdesign.specs.declared.action.Action.TheVariants.{Assign, Nonblocking, Held, Posted, Trigger, Test, Case, Again, Repeat, Forever, Delay, On, Until, Drive, Print, Dump, Pass, Finish, Stop}
 use Rattle.vmodel.specs.declared.values.Change.{Change}
 use Rattle.vmodel.specs.Queue.{with_process}
 use Rattle.vmodel.specs.State.{Process, State}
@@ -19,7 +20,8 @@ use Rattle.vmodel.specs.Parts.{value_in}
 use Rattle.vmodel.specs.Waking.{rank, last_bit, is_edge, hears, any_hears, has_come, wakes_at, wakes, awake, with_awake}
 use Rattle.vmodel.specs.declared.values.Changes.{Changes}
 use Rattle.vmodel.specs.declared.values.Changes.TheVariants.{One, Many}
-use Rattle.vmodel.specs.InnerWaking.{Differ, AreChanges, hears_of, any_hears_of, comes_by, comes_at, comes}
+use Rattle.vmodel.specs.declared.waking.News.{News}
+use Rattle.vmodel.specs.InnerWaking.{Differ, AreChanges, changes_so, hears_of, any_hears_of, comes_by, comes_at, comes}
 use Rattle.vmodel.proofs.ProcessLemmas.{not_lt}
 
 -- ---- no change is heard
@@ -29,17 +31,23 @@ edge_none Any v w e = ap not ((vectors_tell v w).1 e)
 edge_none Rise v w e = not_lt (rank (last_bit v)) (rank (last_bit w)) (omega (arith, ap (λ (u : Vector). rank (last_bit u)) e))
 edge_none Fall v w e = not_lt (rank (last_bit w)) (rank (last_bit v)) (omega (arith, ap (λ (u : Vector). rank (last_bit u)) e))
 
-none_hears : (values : List Vector) (terms : List Term) → any_hears values values terms ≡ false
+none_hears_one : (values : List Vector) (term : Term) → hears values values None term ≡ false
+none_hears_one values (ChangeTerm edge variable) = let v = value_in values variable in edge_none edge v v refl
+none_hears_one values (Event event) = refl
+
+none_hears : (values : List Vector) (terms : List Term) → any_hears values values None terms ≡ false
 none_hears values [] = refl
 none_hears values (term ∷ terms) =
-    let v = value_in values term.variable in
-    ap (λ b. b || any_hears values values terms) (edge_none term.edge v v refl) ∙ none_hears values terms
+    ap (λ b. b || any_hears values values None terms) (none_hears_one values term) ∙ none_hears values terms
 
-none_comes : (values : List Vector) (action : Option Action) → has_come action values values ≡ false
+none_comes : (values : List Vector) (action : Option Action) → has_come action values values None ≡ false
 none_comes values None = refl
 none_comes values (Some (On terms body)) = none_hears values terms
 none_comes values (Some (Assign targets value)) = refl
 none_comes values (Some (Nonblocking targets value)) = refl
+none_comes values (Some (Held amount targets value)) = refl
+none_comes values (Some (Posted amount targets value)) = refl
+none_comes values (Some (Trigger event)) = refl
 none_comes values (Some (Test condition when_true otherwise)) = refl
 none_comes values (Some (Again condition body)) = refl
 none_comes values (Some (Forever body)) = refl
@@ -54,7 +62,7 @@ none_comes values (Some Pass) = refl
 none_comes values (Some Finish) = refl
 none_comes values (Some Stop) = refl
 
-none_wakes_at : (actions : List Action) (values : List Vector) (waits : Option ℕ) → wakes_at actions values values waits ≡ false
+none_wakes_at : (actions : List Action) (values : List Vector) (waits : Option ℕ) → wakes_at actions values values None waits ≡ false
 none_wakes_at actions values None = refl
 none_wakes_at actions values (Some place) = none_comes values (slice_get actions place)
 
@@ -69,9 +77,9 @@ with_awake_none comes n [] active h = refl
 with_awake_none comes n (process ∷ rest) active h =
     ap (λ b. with_awake comes (suc n) rest (cond b (with_process n active) active)) (h process) ∙ with_awake_none comes (suc n) rest active h
 
-pub woken_none : (design : Design) (s : State) → s ≡ woken design s.values s
+pub woken_none : (design : Design) (s : State) → s ≡ woken design s.values None s
 woken_none design s =
-    let comes = wakes design.actions s.values s.values in
+    let comes = wakes design.actions s.values s.values None in
     let no : (process : Process) → comes process ≡ false = λ process. none_wakes_at design.actions s.values process.waits in
     λ i. record s {
       processes = sym (awake_none comes s.processes no) i;
@@ -80,54 +88,64 @@ woken_none design s =
 
 -- ---- a change of one variable
 
-hears_by : (change : Change) (before after : List Vector) (term : Term) → Differ change before after → (b : Bool) → (term.variable == change.variable) ≡ b →
-    hears before after term ≡ (b && is_edge term.edge change.old change.new)
-hears_by change before after term d true is =
-    let same : term.variable ≡ change.variable = grind (arith, nat_tests) in
-    ap (λ n. is_edge term.edge (value_in before n) (value_in after n)) same
-    ∙ ap (λ v. is_edge term.edge v (value_in after change.variable)) d.old
-    ∙ ap (is_edge term.edge change.old) d.new
-hears_by change before after term d false isnt =
-    let other : term.variable ≢ change.variable = grind (arith, nat_tests) in
-    edge_none term.edge (value_in before term.variable) (value_in after term.variable) (d.others term.variable other)
+changes_by : (change : Change) (before after : List Vector) (edge : Edge) (variable : ℕ) → Differ change before after → (b : Bool) → (variable == change.variable) ≡ b →
+    is_edge edge (value_in before variable) (value_in after variable) ≡ (b && is_edge edge change.old change.new)
+changes_by change before after edge variable d true is =
+    let same : variable ≡ change.variable = grind (arith, nat_tests) in
+    ap (λ n. is_edge edge (value_in before n) (value_in after n)) same
+    ∙ ap (λ v. is_edge edge v (value_in after change.variable)) d.old
+    ∙ ap (is_edge edge change.old) d.new
+changes_by change before after edge variable d false isnt =
+    let other : variable ≢ change.variable = grind (arith, nat_tests) in
+    edge_none edge (value_in before variable) (value_in after variable) (d.others variable other)
 
-hears_is : (change : Changes) (before after : List Vector) (term : Term) → AreChanges change before after → hears before after term ≡ hears_of change term
-hears_is (One change) before after term d = hears_by change before after term d (term.variable == change.variable) refl
-hears_is (Many values parts) before after term d = λ i. hears (d.0 i) (d.1 i) term
+changes_are : (change : Changes) (before after : List Vector) (edge : Edge) (variable : ℕ) → AreChanges change before after →
+    is_edge edge (value_in before variable) (value_in after variable) ≡ changes_so change edge variable
+changes_are (One change) before after edge variable d = changes_by change before after edge variable d (variable == change.variable) refl
+changes_are (Many values parts) before after edge variable d = λ i. is_edge edge (value_in (d.0 i) variable) (value_in (d.1 i) variable)
 
-any_is : (change : Changes) (before after : List Vector) (terms : List Term) → AreChanges change before after → any_hears before after terms ≡ any_hears_of change terms
-any_is change before after [] d = refl
-any_is change before after (term ∷ terms) d =
-    ap (λ b. b || any_hears before after terms) (hears_is change before after term d)
-    ∙ ap (λ b. hears_of change term || b) (any_is change before after terms d)
+-- ---- what a step tells
 
-comes_is_by : (change : Changes) (before after : List Vector) (action : Option Action) → AreChanges change before after → has_come action before after ≡ comes_by change action
-comes_is_by change before after None d = refl
-comes_is_by change before after (Some (On terms body)) d = any_is change before after terms d
-comes_is_by change before after (Some (Assign targets value)) d = refl
-comes_is_by change before after (Some (Nonblocking targets value)) d = refl
-comes_is_by change before after (Some (Test condition when_true otherwise)) d = refl
-comes_is_by change before after (Some (Again condition body)) d = refl
-comes_is_by change before after (Some (Forever body)) d = refl
-comes_is_by change before after (Some (Delay amount body)) d = refl
-comes_is_by change before after (Some (Until condition terms body)) d = any_is change before after terms d
-comes_is_by change before after (Some (Case kind value branches otherwise)) d = refl
-comes_is_by change before after (Some (Repeat count body)) d = refl
-comes_is_by change before after (Some (Drive net value terms)) d = any_is change before after terms d
-comes_is_by change before after (Some (Print when pieces)) d = refl
-comes_is_by change before after (Some (Dump command)) d = refl
-comes_is_by change before after (Some Pass) d = refl
-comes_is_by change before after (Some Finish) d = refl
-comes_is_by change before after (Some Stop) d = refl
+module _ (news : News) (before after : List Vector) (d : AreChanges news.changes before after) where
+  hears_is : (term : Term) → hears before after news.triggered term ≡ hears_of news term
+  hears_is (ChangeTerm edge variable) = changes_are news.changes before after edge variable d
+  hears_is (Event event) = refl
 
-comes_is_at : (actions : List Action) (change : Changes) (before after : List Vector) (waits : Option ℕ) → AreChanges change before after →
-    wakes_at actions before after waits ≡ comes_at actions change waits
-comes_is_at actions change before after None d = refl
-comes_is_at actions change before after (Some place) d = comes_is_by change before after (slice_get actions place) d
+  any_is : (terms : List Term) → any_hears before after news.triggered terms ≡ any_hears_of news terms
+  any_is [] = refl
+  any_is (term ∷ terms) =
+      ap (λ b. b || any_hears before after news.triggered terms) (hears_is term)
+      ∙ ap (λ b. hears_of news term || b) (any_is terms)
 
-pub comes_is : (actions : List Action) (change : Changes) (before after : List Vector) → AreChanges change before after →
-    wakes actions before after ≡ comes actions change
-comes_is actions change before after d = λ i process. comes_is_at actions change before after process.waits d i
+  comes_is_by : (action : Option Action) → has_come action before after news.triggered ≡ comes_by news action
+  comes_is_by None = refl
+  comes_is_by (Some (On terms body)) = any_is terms
+  comes_is_by (Some (Assign targets value)) = refl
+  comes_is_by (Some (Nonblocking targets value)) = refl
+  comes_is_by (Some (Held amount targets value)) = refl
+  comes_is_by (Some (Posted amount targets value)) = refl
+  comes_is_by (Some (Trigger event)) = refl
+  comes_is_by (Some (Test condition when_true otherwise)) = refl
+  comes_is_by (Some (Again condition body)) = refl
+  comes_is_by (Some (Forever body)) = refl
+  comes_is_by (Some (Delay amount body)) = refl
+  comes_is_by (Some (Until condition terms body)) = any_is terms
+  comes_is_by (Some (Case kind value branches otherwise)) = refl
+  comes_is_by (Some (Repeat count body)) = refl
+  comes_is_by (Some (Drive net value terms)) = any_is terms
+  comes_is_by (Some (Print when pieces)) = refl
+  comes_is_by (Some (Dump command)) = refl
+  comes_is_by (Some Pass) = refl
+  comes_is_by (Some Finish) = refl
+  comes_is_by (Some Stop) = refl
+
+  comes_is_at : (actions : List Action) (waits : Option ℕ) → wakes_at actions before after news.triggered waits ≡ comes_at actions news waits
+  comes_is_at actions None = refl
+  comes_is_at actions (Some place) = comes_is_by (slice_get actions place)
+
+pub comes_is : (actions : List Action) (news : News) (before after : List Vector) → AreChanges news.changes before after →
+    wakes actions before after news.triggered ≡ comes actions news
+comes_is actions news before after d = λ i process. comes_is_at news before after d actions process.waits i
 
 -- ---- what a write changes
 

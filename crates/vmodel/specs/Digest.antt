@@ -6,7 +6,7 @@ use Rattle.std.proofs.Common.{ap}
 use Rattle.vbits.specs.Vectors.{Vector}
 use Rattle.vbits.specs.Planes.{values_of, unknowns_of}
 use Rattle.vmodel.specs.declared.process.Spot.{Spot}
-use Rattle.vmodel.specs.declared.process.Spot.TheVariants.{Doing, Turning}
+use Rattle.vmodel.specs.declared.process.Spot.TheVariants.{Doing, Turning, Writing}
 use Rattle.vmodel.specs.State.{Process, State}
 use Rattle.vmodel.specs.Same.{state_same}
 use Rattle.vmodel.specs.SameLaws.{states_tell}
@@ -19,11 +19,12 @@ abbrev pub values_mixed : ℕ → List Vector → ℕ
 values_mixed digest [] = digest
 values_mixed digest (v ∷ values) = values_mixed (mixed (mixed digest (values_of v.letters)) (unknowns_of v.letters)) values
 
--- where a process stands, and how many turns are left there
+-- where a process stands, and how many turns are left there; none, where it is to write what it holds
 abbrev pub stand_of : Option Spot → ℕ
 stand_of None = 0
 stand_of (Some (Doing place)) = (place + 1) % 2 ^ 64
 stand_of (Some (Turning place turns)) = mixed ((place + 1) % 2 ^ 64) turns
+stand_of (Some (Writing place)) = mixed ((place + 1) % 2 ^ 64) 0
 
 abbrev pub processes_mixed : ℕ → List Process → ℕ
 processes_mixed digest [] = digest

@@ -1,5 +1,5 @@
 -- How the program keeps what the definitions see as lists: words for the contracts of parts within.
-use Rattle.std.specs.Prelude.{◌≡◌, ◌==◌, ℕ, zero, suc, ◌-◌, cond, nat_lt, List, [], ◌∷◌, length, take, Option, Some, None}
+use Rattle.std.specs.Prelude.{◌≡◌, ◌==◌, ℕ, zero, suc, ◌+◌, ◌-◌, cond, nat_lt, List, [], ◌∷◌, length, take, Option, Some, None}
 use Rattle.vmodel.specs.declared.part.Part.{Part}
 use Rattle.vmodel.specs.declared.part.Part.TheVariants.{Whole, Bits}
 use Rattle.vbits.specs.Vectors.{Vector}
@@ -50,6 +50,10 @@ abbrev pub place_of_time : ℕ → List (ℕ × Slot) → ℕ
 place_of_time t [] = zero
 place_of_time t (e ∷ es) = cond (nat_lt e.0 t) (suc (place_of_time t es)) zero
 
+-- the time after a delay, within the limit
+abbrev pub time_after : ℕ → Queue → Option ℕ
+time_after d q = cond (nat_lt q.until (q.time + d)) None (Some (q.time + d))
+
 -- there is an entry, and the fact holds of it
 abbrev pub SomeIs : (ℕ × Slot → Type 0) → Option (ℕ × Slot) → Type 0
 SomeIs P None = ⊥
@@ -61,10 +65,6 @@ NoneIs P None = Unit {0}
 NoneIs P (Some e) = ¬ P e
 
 -- ---- the queue
-
--- the last posted update is taken back
-abbrev pub unposted : Queue → Queue
-unposted q = record q { posted = take (length q.posted - 1) q.posted }
 
 -- the last monitor event is taken back
 abbrev pub unstrobed : Queue → Queue

@@ -1,5 +1,6 @@
 -- How the parts of a step are told: words for the contracts of parts within.
 use Rattle.std.specs.Prelude.{ℕ, Bool, cond, ◌∷◌, List, Option, Some, None, drop, slice_get, slice_set}
+use Rattle.vbits.specs.Vectors.{Vector}
 use Rattle.vmodel.specs.declared.process.Spot.{Spot}
 use Rattle.vmodel.specs.declared.process.Spot.TheVariants.{Doing}
 use Rattle.vmodel.specs.declared.deed.Deed.{Deed}
@@ -7,7 +8,11 @@ use Rattle.vmodel.specs.declared.deed.Fate.TheVariants.{Waits}
 use Rattle.vmodel.specs.Queue.{Queue}
 use Rattle.vmodel.specs.declared.history.Cause.{Cause}
 use Rattle.vmodel.specs.State.{Process, State}
-use Rattle.vmodel.specs.Step.{Did, Turn, spots, going, process_by, fares, posts, strobing, left_of, quiet}
+use Rattle.vmodel.specs.Step.{Did, Turn, spots, going, process_by, fares, posts, strobing, left_of, held_of, quiet}
+
+-- what a process holds, among all
+abbrev pub held_in : List Process → ℕ → Option Vector
+held_in processes number = held_of (slice_get processes number)
 
 -- what a process has left, among all
 abbrev pub left_in : List Process → ℕ → List Spot

@@ -1,7 +1,7 @@
 -- The stratified event queue (IEEE 1364-2005, 11.3; docs/SCHEDULING.md): what stands in which region, and what
 -- comes later. Processes go by number and stand in the order of their numbers (specs/Kept.antt); updates stand in the
 -- order in which they were posted.
-use Rattle.std.specs.Prelude.{ℕ, ◌+◌, ◌==◌, nat_lt, Bool, true, cond, not, List, [], ◌∷◌, Option, Some, None, filter}
+use Rattle.std.specs.Prelude.{ℕ, ◌+◌, ◌==◌, nat_lt, Bool, true, cond, not, List, [], ◌∷◌, ◌++◌, Option, Some, None, filter}
 use Rattle.vmodel.specs.declared.history.Grain.{Grain}
 use Rattle.vmodel.specs.declared.part.Part.{Part}
 
@@ -40,15 +40,19 @@ abbrev pub waking : Option ℕ → Slot → Slot
 waking None slot = slot
 waking (Some p) slot = record slot { processes = with_process p slot.processes }
 
--- the future with one more process to wake at a time, which becomes a future time also where there is none
-abbrev pub wake_at : ℕ → Option ℕ → List (ℕ × Slot) → List (ℕ × Slot)
-wake_at t sleeper [] = (t, waking sleeper empty_slot) ∷ []
-wake_at t sleeper (e ∷ es) =
-    cond (nat_lt t e.0) ((t, waking sleeper empty_slot) ∷ e ∷ es)
-    (cond (t == e.0) ((e.0, waking sleeper e.1) ∷ es) (e ∷ wake_at t sleeper es))
+-- 11.4: the same with one more update, behind the others
+abbrev pub updating : List Part → Slot → Slot
+updating parts slot = record slot { updates = slot.updates ++ parts ∷ [] }
+
+-- the future where more is put to what a time holds, which becomes a future time also where nothing is there
+abbrev pub later_at : ℕ → (Slot → Slot) → List (ℕ × Slot) → List (ℕ × Slot)
+later_at t put [] = (t, put empty_slot) ∷ []
+later_at t put (e ∷ es) =
+    cond (nat_lt t e.0) ((t, put empty_slot) ∷ e ∷ es)
+    (cond (t == e.0) ((e.0, put e.1) ∷ es) (e ∷ later_at t put es))
 
 -- the same for the time after a delay. Past the limit nothing is kept but that something is there
-abbrev pub wake_after : ℕ → Option ℕ → Queue → Queue
-wake_after d sleeper q =
+abbrev pub later : ℕ → (Slot → Slot) → Queue → Queue
+later d put q =
     cond (nat_lt q.until (q.time + d)) (record q { beyond = true })
-    (record q { future = wake_at (q.time + d) sleeper q.future })
+    (record q { future = later_at (q.time + d) put q.future })

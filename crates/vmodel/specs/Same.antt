@@ -11,7 +11,7 @@ use Rattle.vmodel.specs.declared.history.Grain.TheVariants.{Process as ByProcess
 use Rattle.vmodel.specs.declared.part.Part.{Part}
 use Rattle.vmodel.specs.declared.part.Part.TheVariants.{Whole, Bits}
 use Rattle.vmodel.specs.declared.process.Spot.{Spot}
-use Rattle.vmodel.specs.declared.process.Spot.TheVariants.{Doing, Turning}
+use Rattle.vmodel.specs.declared.process.Spot.TheVariants.{Doing, Turning, Writing}
 use Rattle.vmodel.specs.Queue.{Slot, Queue}
 use Rattle.vmodel.specs.State.{Process, State}
 
@@ -21,6 +21,7 @@ values_same = pointwise vector_same
 abbrev pub spot_same : Spot → Spot → Bool
 spot_same (Doing p) (Doing q) = nat_eq p q
 spot_same (Turning p m) (Turning q n) = nat_eq p q && nat_eq m n
+spot_same (Writing p) (Writing q) = nat_eq p q
 spot_same _ _ = false
 
 abbrev pub process_same : Process → Process → Bool

@@ -11,7 +11,7 @@ use Rattle.vbits.specs.Equal.{vectors_tell}
 use Rattle.vmodel.specs.declared.history.Cause.TheVariants.{Finish, Stop, Quiet, Limit}
 use Rattle.vmodel.specs.declared.history.Grain.TheVariants.{Process as ByProcess, Statement}
 use Rattle.vmodel.specs.declared.part.Part.TheVariants.{Whole, Bits}
-use Rattle.vmodel.specs.declared.process.Spot.TheVariants.{Doing, Turning}
+use Rattle.vmodel.specs.declared.process.Spot.TheVariants.{Doing, Turning, Writing}
 use Rattle.vmodel.specs.Queue.{Slot, Queue}
 use Rattle.vmodel.specs.State.{Process, State}
 use Rattle.vmodel.specs.Same.{values_same, spot_same, process_same, grain_same, cause_same, part_same, parts_same, slot_same, stand_same, regions_same, queue_same, state_same}
@@ -36,6 +36,7 @@ spots_tell (Doing p) (Doing q) = Decides-like (nat_eq p q) (λ (h : p ≡ q). ap
 spots_tell (Turning p m) (Turning q n) =
     Decides-like (nat_eq p q && nat_eq m n) (λ (h : (p ≡ q) × (m ≡ n)). λ i. Turning (h.0 i) (h.1 i)) (λ h. (cc, cc))
     (Decides-and _ _ (unsigned_Decides p q) (unsigned_Decides m n))
+spots_tell (Writing p) (Writing q) = Decides-like (nat_eq p q) (λ (h : p ≡ q). ap Writing h) (λ h. cc) (unsigned_Decides p q)
 spots_tell _ _ = (λ h. cc, λ h. cc)
 
 pub processes_tell : Tells process_same

@@ -5,7 +5,7 @@ use Rattle.vbits.specs.Vectors.{Vector}
 use Rattle.basis.specs.Timescales.{factor}
 use Rattle.vdesign.specs.Design.{Design}
 use Rattle.vdesign.specs.declared.action.Action.{Action}
-use Rattle.vdesign.specs.declared.action.Action.TheVariants.{Assign, Nonblocking, Test, Case, Again, Repeat, Forever, Delay, On, Until, Drive, Print, Dump, Pass, Finish, Stop}
+use Rattle.vdesign.specs.declared.action.Action.TheVariants.{Assign, Nonblocking, Held, Posted, Trigger, Test, Case, Again, Repeat, Forever, Delay, On, Until, Drive, Print, Dump, Pass, Finish, Stop}
 use Rattle.vdesign.specs.declared.print.When.{When}
 use Rattle.vdesign.specs.declared.print.When.TheVariants.{Now, AtSlotEnd, AtChange}
 use Rattle.vdesign.specs.declared.print.Piece.{Piece}
@@ -15,19 +15,20 @@ use Rattle.vmodel.specs.declared.history.Cause.TheVariants.{Finish as Finished, 
 use Rattle.vmodel.specs.declared.history.Item.{Item}
 use Rattle.vmodel.specs.declared.history.Item.TheVariants.{SlotEnd, Dump as DumpItem, Line, Monitor}
 use Rattle.vmodel.specs.declared.process.Spot.{Spot}
-use Rattle.vmodel.specs.declared.process.Spot.TheVariants.{Doing, Turning}
+use Rattle.vmodel.specs.declared.process.Spot.TheVariants.{Doing, Turning, Writing}
 use Rattle.vmodel.specs.declared.deed.Fate.{Fate}
 use Rattle.vmodel.specs.declared.deed.Fate.TheVariants.{GoesOn, Sleeps, Waits}
 use Rattle.vmodel.specs.declared.deed.Deed.{Deed}
+use Rattle.vmodel.specs.declared.deed.Post.{Post}
 use Rattle.vmodel.specs.declared.deed.Shown.{Shown}
 use Rattle.vmodel.specs.declared.deed.Shown.TheVariants.{Commands, Prints, Watches}
 use Rattle.vmodel.specs.declared.part.Part.{Part}
 use Rattle.vvalue.specs.Value.{Moment, holds, delay_of}
 use Rattle.vvalue.specs.Cases.{places_of_case, turns_of}
 use Rattle.line_text.specs.LineText.{line_of}
-use Rattle.vmodel.specs.Value.{assigned}
+use Rattle.vmodel.specs.Value.{assigned, held_value, resumed}
 use Rattle.vmodel.specs.Parts.{written}
-use Rattle.vmodel.specs.Queue.{Slot, Queue, with_process, without_process, wake_after}
+use Rattle.vmodel.specs.Queue.{Slot, Queue, with_process, without_process, waking, updating, later}
 use Rattle.vmodel.specs.State.{Process, State}
 use Rattle.vmodel.specs.Waking.{wakes, awake, with_awake}
 use Rattle.vmodel.specs.declared.choice.Choice.{Choice}
@@ -44,7 +45,20 @@ pub record Did : Type 0 where
 
 -- a step that does nothing but go on
 abbrev pub quiet : Deed
-quiet = record { held = None; fate = GoesOn; wrote = []; posted = None; shown = None; strobed = None; cause = None }
+quiet = record {
+  held = None;
+  fate = GoesOn;
+  wrote = [];
+  posted = None;
+  triggered = None;
+  shown = None;
+  strobed = None;
+  cause = None;
+}
+
+-- an update that is posted for so much later
+abbrev pub post_after : ℕ → List Part → Post
+post_after delay parts = record { after = delay; parts = parts }
 
 -- at these places in turn, then at what stood behind
 abbrev pub spots : List ℕ → List Spot → List Spot
@@ -67,7 +81,15 @@ abbrev pub does : ℕ → Action → List Spot → Moment → Did
 -- 9.2.1: `targets = value` writes
 does place (Assign targets value) after now = record { left = after; deed = record quiet { wrote = assigned now targets value } }
 -- 9.2.2, 11.6.4: `targets <= value` takes value and targets, and posts the update
-does place (Nonblocking targets value) after now = record { left = after; deed = record quiet { posted = Some (assigned now targets value) } }
+does place (Nonblocking targets value) after now = record { left = after; deed = record quiet { posted = Some (post_after 0 (assigned now targets value)) } }
+-- 9.7.7: `targets = #amount value` takes value and delay, and sleeps until it writes
+does place (Held amount targets value) after now =
+    record { left = Writing place ∷ after; deed = record quiet { held = Some (held_value now targets value); fate = Sleeps (delay_of now amount) } }
+-- 9.2.2, 9.7.7: `targets <= #amount value` takes value, targets and delay, and posts the update for then
+does place (Posted amount targets value) after now =
+    record { left = after; deed = record quiet { posted = Some (post_after (delay_of now amount) (assigned now targets value)) } }
+-- 9.7.3: `-> event` wakes what waits for the event; where nothing does, it is lost
+does place (Trigger event) after now = record { left = after; deed = record quiet { triggered = Some event } }
 -- 9.4: `if (condition) .. else ..`
 does place (Test condition when_true otherwise) after now =
     record { left = spots (cond (holds now condition) when_true otherwise) after; deed = quiet }
@@ -109,14 +131,22 @@ abbrev pub turns : ℕ → ℕ → Action → List Spot → Did
 turns place n (Repeat count body) after = record { left = spots body (turning place (n - 1) after); deed = quiet }
 turns place n _ after = record { left = Turning place n ∷ after; deed = quiet }
 
--- what the first of what is left does by the action at its place
-abbrev pub does_at : Spot → Action → List Spot → Moment → Did
-does_at (Doing place) action after now = does place action after now
-does_at (Turning place n) action after now = turns place n action after
+-- 9.7.7: what the second step of the suspended assignment at a place does, with the value that its process holds: the targets are
+-- found now, and written. No other action than `targets = #amount value` has such a step
+abbrev pub resumes : ℕ → Action → List Spot → Option Vector → Moment → Did
+resumes place (Held amount targets value) after held now = record { left = after; deed = record quiet { wrote = resumed now targets held } }
+resumes place _ after held now = record { left = Writing place ∷ after; deed = quiet }
+
+-- what the first of what is left does by the action at its place, with the value that the process holds
+abbrev pub does_at : Spot → Action → List Spot → Option Vector → Moment → Did
+does_at (Doing place) action after held now = does place action after now
+does_at (Turning place n) action after held now = turns place n action after
+does_at (Writing place) action after held now = resumes place action after held now
 
 abbrev pub place_of : Spot → ℕ
 place_of (Doing place) = place
 place_of (Turning place n) = place
+place_of (Writing place) = place
 
 -- ---- what becomes of the process in the queue
 
@@ -142,17 +172,21 @@ becomes_inactive (Some p) q = record q { inactive = with_process p q.inactive }
 -- its delay still stands as a future time
 abbrev pub sleeps : ℕ → Option ℕ → Queue → Queue
 sleeps zero sleeper q = becomes_inactive sleeper q
-sleeps (suc d) sleeper q = wake_after (suc d) sleeper q
+sleeps (suc d) sleeper q = later (suc d) (waking sleeper) q
 
 abbrev pub fares : ℕ → Fate → Option ℕ → Queue → Queue
 fares p GoesOn left q = goes_on p left q
 fares p (Sleeps d) left q = leaves p (sleeps d left q)
 fares p (Waits place) left q = leaves p q
 
--- 11.4: an update stands behind those posted before
-abbrev pub posts : Option (List Part) → Queue → Queue
+-- 11.4: an update stands behind those posted before for its time, which is the current time, or later after a delay
+abbrev pub posts_after : ℕ → List Part → Queue → Queue
+posts_after zero parts q = record q { posted = q.posted ++ parts ∷ [] }
+posts_after (suc d) parts q = later (suc d) (updating parts) q
+
+abbrev pub posts : Option Post → Queue → Queue
 posts None q = q
-posts (Some parts) q = record q { posted = q.posted ++ parts ∷ [] }
+posts (Some post) q = posts_after post.after post.parts q
 
 -- 11.3, 17.1.2: a monitor event stands behind those created before
 abbrev pub strobing : Option ℕ → Queue → Queue
@@ -206,17 +240,18 @@ acted p did s = record {
   cause = did.deed.cause;
 }
 
--- 9.7.2: what waits for a change of the values from what they were goes on, in the same step
-abbrev pub woken : Design → List Vector → State → State
-woken design before s =
-    let comes = wakes design.actions before s.values in
+-- 9.7.2, 9.7.3: what waits for a change of the values from what they were goes on, in the same step, and so does what waits for the
+-- event that the step triggers
+abbrev pub woken : Design → List Vector → Option ℕ → State → State
+woken design before triggered s =
+    let comes = wakes design.actions before s.values triggered in
     record s {
       processes = map (awake comes) s.processes;
       queue = record s.queue { active = with_awake comes 0 s.processes s.queue.active };
     }
 
 abbrev pub turned : Design → ℕ → Did → State → Turn
-turned design p did s = record { state = closed (woken design s.values (acted p did s)); deed = did.deed }
+turned design p did s = record { state = closed (woken design s.values did.deed.triggered (acted p did s)); deed = did.deed }
 
 -- nothing happens
 abbrev pub unmoved : State → Turn
@@ -237,19 +272,24 @@ moment_at design values time =
 abbrev pub moment_of : Design → State → Moment
 moment_of design s = moment_at design s.values s.queue.time
 
+abbrev pub left_of : Option Process → List Spot
+left_of None = []
+left_of (Some process) = process.left
+
+abbrev pub held_of : Option Process → Option Vector
+held_of None = None
+held_of (Some process) = process.held
+
 -- the process takes the action, if there is one
 abbrev pub takes : Design → ℕ → Spot → Option Action → List Spot → State → Turn
 takes design p spot None after s = unmoved s
-takes design p spot (Some action) after s = turned design p (does_at spot action after (moment_of design s)) s
+takes design p spot (Some action) after s =
+    turned design p (does_at spot action after (held_of (slice_get s.processes p)) (moment_of design s)) s
 
 -- it takes the action at the first of what it has left. One with nothing left is never active (specs/Kept.antt)
 abbrev pub goes_from : Design → ℕ → List Spot → State → Turn
 goes_from design p [] s = unmoved s
 goes_from design p (spot ∷ after) s = takes design p spot (slice_get design.actions (place_of spot)) after s
-
-abbrev pub left_of : Option Process → List Spot
-left_of None = []
-left_of (Some process) = process.left
 
 abbrev pub process_turn : Design → ℕ → State → Turn
 process_turn design p s = goes_from design p (left_of (slice_get s.processes p)) s
@@ -279,7 +319,7 @@ advanced_to (e ∷ es) q =
 abbrev pub turn_of : Design → Choice → State → Turn
 turn_of design (Run p) s = process_turn design p s
 turn_of design Update s =
-    record { state = closed (woken design s.values (updated s)); deed = record quiet { wrote = first_of s.queue.activated } }
+    record { state = closed (woken design s.values None (updated s)); deed = record quiet { wrote = first_of s.queue.activated } }
 turn_of design Advance s =
     record { state = closed (record s { queue = advanced_to s.queue.future s.queue }); deed = quiet }
 

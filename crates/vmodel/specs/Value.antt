@@ -1,7 +1,7 @@
 -- What assignments write (IEEE 1364-2005, 5.1.14, 5.2.1, 5.4.1, 6.2).
-use Rattle.std.specs.Prelude.{ℕ, ◌-◌, nat_le, false, cond, List, [], ◌∷◌, ◌++◌, length, take, drop, Option, None, Some}
+use Rattle.std.specs.Prelude.{ℕ, ◌-◌, nat_le, min, max, false, cond, List, [], ◌∷◌, ◌++◌, length, take, drop, Option, None, Some}
 use Rattle.vbits.specs.declared.bit4.Bit4.{Bit4}
-use Rattle.vbits.specs.Vectors.{Vector}
+use Rattle.vbits.specs.Vectors.{Vector, resize}
 use Rattle.vdesign.specs.Expressions.{ExpressionTree}
 use Rattle.vdesign.specs.declared.action.Target.{Target}
 use Rattle.vdesign.specs.declared.action.Target.TheVariants.{Whole, Bit, Part as PartTarget}
@@ -38,9 +38,21 @@ shared now [] letters = []
 shared now (target ∷ more) letters =
     parts_of now target (take (target_size now target) (drop (targets_size now more) letters)) ++ shared now more letters
 
+-- what the targets get of a value of as many bits as they have together. More than 64 bits are no design's (E306), and are not
+-- written
+abbrev pub given : Moment → List Target → Vector → List Part
+given now targets value = cond (nat_le (targets_size now targets) 64) (shared now targets value.letters) []
+
 -- 5.4.1, 5.5.3, 6.2: the parts that an assignment writes: the right side, cut or extended to the bits of all targets together, is
--- shared among them. More than 64 bits are no design's (E306), and are not written
+-- shared among them
 abbrev pub assigned : Moment → List Target → ExpressionTree → List Part
-assigned now targets e =
-    let size = targets_size now targets in
-    cond (nat_le size 64) (shared now targets (right_side now size e).letters) []
+assigned now targets e = given now targets (right_side now (targets_size now targets) e)
+
+-- 9.7.7: the value that a suspended assignment holds: its right side, at the bits of all targets together; 1 to 64, as values have
+abbrev pub held_value : Moment → List Target → ExpressionTree → Vector
+held_value now targets e = right_side now (max 1 (min 64 (targets_size now targets))) e
+
+-- 9.7.7: the parts that it writes when its time has come, to the targets as they are then; nothing, where none is held
+abbrev pub resumed : Moment → List Target → Option Vector → List Part
+resumed now targets None = []
+resumed now targets (Some value) = given now targets (resize value (targets_size now targets))

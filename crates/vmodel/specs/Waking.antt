@@ -1,12 +1,13 @@
--- What wakes a process that waits for a change (IEEE 1364-2005, 9.7.2): a change is the difference of a variable before and
--- after a step.
-use Rattle.std.specs.Prelude.{ℕ, suc, Bool, false, not, ◌||◌, cond, nat_lt, List, [], ◌∷◌, Option, Some, None, slice_get, unwrap_or}
+-- What wakes a process that waits (IEEE 1364-2005, 9.7.2, 9.7.3): a change, which is the difference of a variable before and after
+-- a step, or that the step triggers a named event.
+use Rattle.std.specs.Prelude.{ℕ, suc, Bool, false, not, ◌||◌, cond, ◌==◌, nat_lt, List, [], ◌∷◌, Option, Some, None, slice_get, unwrap_or}
 use Rattle.vbits.specs.declared.bit4.Bit4.{Bit4}
 use Rattle.vbits.specs.declared.bit4.Bit4.TheVariants.{Zero, One, X, Z}
 use Rattle.vbits.specs.Vectors.{Vector, vector_same}
 use Rattle.vdesign.specs.declared.action.Edge.{Edge}
 use Rattle.vdesign.specs.declared.action.Edge.TheVariants.{Any, Rise, Fall}
 use Rattle.vdesign.specs.declared.action.Term.{Term}
+use Rattle.vdesign.specs.declared.action.Term.TheVariants.{Change, Event}
 use Rattle.vdesign.specs.declared.action.Action.{Action}
 use Rattle.vdesign.specs.declared.action.Action.TheVariants.{On, Until, Drive}
 use Rattle.vmodel.specs.Parts.{value_in}
@@ -30,27 +31,33 @@ is_edge Any old new = not (vector_same old new)
 is_edge Rise old new = nat_lt (rank (last_bit old)) (rank (last_bit new))
 is_edge Fall old new = nat_lt (rank (last_bit new)) (rank (last_bit old))
 
-abbrev pub hears : List Vector → List Vector → Term → Bool
-hears before after term = is_edge term.edge (value_in before term.variable) (value_in after term.variable)
+-- 9.7.3: whether the event that a step triggers, if it does, is this one
+abbrev pub is_triggered : Option ℕ → ℕ → Bool
+is_triggered None event = false
+is_triggered (Some one) event = one == event
 
-abbrev pub any_hears : List Vector → List Vector → List Term → Bool
-any_hears before after [] = false
-any_hears before after (term ∷ terms) = hears before after term || any_hears before after terms
+abbrev pub hears : List Vector → List Vector → Option ℕ → Term → Bool
+hears before after triggered (Change edge variable) = is_edge edge (value_in before variable) (value_in after variable)
+hears before after triggered (Event event) = is_triggered triggered event
+
+abbrev pub any_hears : List Vector → List Vector → Option ℕ → List Term → Bool
+any_hears before after triggered [] = false
+any_hears before after triggered (term ∷ terms) = hears before after triggered term || any_hears before after triggered terms
 
 -- whether what a process waits for at an action has come: one of its terms is enough (9.7.4)
-abbrev pub has_come : Option Action → List Vector → List Vector → Bool
-has_come (Some (On terms body)) before after = any_hears before after terms
-has_come (Some (Until condition terms body)) before after = any_hears before after terms
-has_come (Some (Drive net value terms)) before after = any_hears before after terms
-has_come _ before after = false
+abbrev pub has_come : Option Action → List Vector → List Vector → Option ℕ → Bool
+has_come (Some (On terms body)) before after triggered = any_hears before after triggered terms
+has_come (Some (Until condition terms body)) before after triggered = any_hears before after triggered terms
+has_come (Some (Drive net value terms)) before after triggered = any_hears before after triggered terms
+has_come _ before after triggered = false
 
 -- whether a process wakes that waits at this place of the table, or doesn't wait
-abbrev pub wakes_at : List Action → List Vector → List Vector → Option ℕ → Bool
-wakes_at actions before after None = false
-wakes_at actions before after (Some place) = has_come (slice_get actions place) before after
+abbrev pub wakes_at : List Action → List Vector → List Vector → Option ℕ → Option ℕ → Bool
+wakes_at actions before after triggered None = false
+wakes_at actions before after triggered (Some place) = has_come (slice_get actions place) before after triggered
 
-abbrev pub wakes : List Action → List Vector → List Vector → Process → Bool
-wakes actions before after process = wakes_at actions before after process.waits
+abbrev pub wakes : List Action → List Vector → List Vector → Option ℕ → Process → Bool
+wakes actions before after triggered process = wakes_at actions before after triggered process.waits
 
 -- one that wakes doesn't wait any more
 abbrev pub awake : (Process → Bool) → Process → Process

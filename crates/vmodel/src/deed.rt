@@ -1,17 +1,17 @@
 // What a step of a process does (IEEE 1364-2005, clause 9): its fate, what it writes, posts, shows, and whether it ends the run.
 
 ghost use Rattle.std.specs.Prelude.{◌≡◌, [], ℕ, List, cond, IfOk};
-ghost use Rattle.vvalue.specs.Value.{holds as holds_at};
+ghost use Rattle.vvalue.specs.Value.{holds as holds_at, delay_of as delay_at};
 ghost use Rattle.vmodel.specs.declared.process.Spot.{Spot};
 ghost use Rattle.vmodel.specs.Step as spec;
-ghost use Rattle.vmodel.specs.Value.{assigned as assigned_at};
+ghost use Rattle.vmodel.specs.Value.{assigned as assigned_at, held_value as held_at, resumed as resumed_at};
 ghost use Rattle.vmodel.specs.Step.{does, does_at};
 ghost use Rattle.vmodel.specs.InnerStep.{awaits, behind, did_so, ending_by, loops};
 
 use crate::history::Cause;
 use crate::part::Parts;
 use crate::process::Spot;
-use crate::value::{assigned, assigned_one};
+use crate::value::{assigned, assigned_one, held_value, resumed};
 use basis::NoMemory;
 use std::alloc::Global;
 use vbits::Vec4;
@@ -34,6 +34,13 @@ pub enum Fate {
     Waits(usize),
 }
 
+/// An update that a step posts, for so much later, in units of the precision (9.7.7, 11.4).
+#[derive(Drop)]
+pub struct Post {
+    pub after: u128,
+    pub parts: Parts,
+}
+
 /// What a step shows at once.
 #[derive(Clone, Copy, Debug, PartialEq, Eq)]
 pub enum Shown {
@@ -54,7 +61,9 @@ pub struct Deed {
     /// What is written, from left to right.
     pub wrote: Parts,
     /// A nonblocking update that is posted (11.4).
-    pub posted: Option<Parts>,
+    pub posted: Option<Post>,
+    /// The named event that is triggered (9.7.3).
+    pub triggered: Option<u32>,
     /// What it shows at once.
     pub shown: Option<Shown>,
     /// A monitor event that is created: the line of the print task at this place, at the end of the slot (11.3, 17.1.2).
@@ -73,6 +82,7 @@ impl Deed {
             fate: Fate::GoesOn,
             wrote: Parts::none(),
             posted: None,
+            triggered: None,
             shown: None,
             strobed: None,
             cause: None,
@@ -100,12 +110,22 @@ fn writing(parts: Parts) -> Deed
     }
 }
 
-// A step that posts an update (11.4).
-fn posting(parts: Parts) -> Deed
-    ensures { result ≡ record spec.quiet { posted = Some parts } }
+// A step that posts an update for so much later (11.4).
+fn posting(after: u128, parts: Parts) -> Deed
+    ensures { result ≡ record spec.quiet { posted = Some (spec.post_after after parts) } }
 {
     Deed {
-        posted: Some(parts),
+        posted: Some(Post { after, parts }),
+        ..Deed::quiet()
+    }
+}
+
+// A step that triggers a named event (9.7.3).
+fn triggering(event: u32) -> Deed
+    ensures { result ≡ record spec.quiet { triggered = Some event } }
+{
+    Deed {
+        triggered: Some(event),
         ..Deed::quiet()
     }
 }
@@ -312,20 +332,48 @@ fn assign_of<'d>(
     Ok(goes_by(&[], writing(parts)))
 }
 
-// What a nonblocking assignment does (9.2.2).
+// What a nonblocking assignment does that is written so much later (9.2.2, 9.7.7).
 fn nonblocking_of<'d>(
     alloc: Global,
+    delay: u128,
     targets: &Targets,
     value: &Expression,
     moment: &Moment<'_>,
 ) -> Result<Doing<'d>, NoMemory>
     ensures next { IfOk result (λ doing. doing.next.now ≡ []) }
     ensures then { IfOk result (λ doing. doing.then ≡ None) }
-    ensures deed { IfOk result (λ doing. doing.deed
-        ≡ record spec.quiet { posted = Some (assigned_at moment.now targets.now value.now) }) }
+    ensures deed { IfOk result (λ doing. doing.deed ≡ record spec.quiet {
+      posted = Some (spec.post_after delay (assigned_at moment.now targets.now value.now));
+    }) }
 {
     let parts = assigned(alloc, targets, value, moment)?;
-    Ok(goes_by(&[], posting(parts)))
+    Ok(goes_by(&[], posting(delay, parts)))
+}
+
+// What a suspended assignment does first (9.7.7): it takes its value, and sleeps before it writes.
+fn suspended_of<'d>(
+    place: usize,
+    amount: &Expression,
+    targets: &Targets,
+    value: &Expression,
+    moment: &Moment<'_>,
+) -> Doing<'d>
+    ensures next { result.next.now ≡ [] }
+    ensures then { result.then ≡ Some (Spot.Writing place) }
+    ensures deed { result.deed ≡ record spec.quiet {
+      held = Some (held_at moment.now targets.now value.now);
+      fate = Fate.Sleeps (delay_at moment.now amount.now);
+    } }
+{
+    Doing {
+        next: &[],
+        then: Some(Spot::Writing(place)),
+        deed: Deed {
+            held: Some(held_value(targets, value, moment)),
+            fate: Fate::Sleeps(delay_of(amount, moment)),
+            ..Deed::quiet()
+        },
+    }
 }
 
 /// What the action of this place does at this moment. E901 is the only refusal.
@@ -341,7 +389,18 @@ pub fn deed_of<'d>(
 {
     match action {
         Action::Assign { targets, value } => assign_of(alloc, targets, value, moment),
-        Action::Nonblocking { targets, value } => nonblocking_of(alloc, targets, value, moment),
+        Action::Nonblocking { targets, value } => nonblocking_of(alloc, 0, targets, value, moment),
+        Action::Held {
+            amount,
+            targets,
+            value,
+        } => Ok(suspended_of(place, amount, targets, value, moment)),
+        Action::Posted {
+            amount,
+            targets,
+            value,
+        } => nonblocking_of(alloc, delay_of(amount, moment), targets, value, moment),
+        Action::Trigger(event) => Ok(goes_by(&[], triggering(*event))),
         Action::Test {
             condition,
             when_true,
@@ -396,19 +455,59 @@ fn turn_of<'d>(place: usize, turns: u64, action: &'d Action) -> Doing<'d>
     }
 }
 
-/// What the action that this spot is at does at this moment. E901 is the only refusal.
+// What a suspended assignment writes of the value that its process holds (9.7.7).
+fn written_of<'d>(
+    alloc: Global,
+    targets: &Targets,
+    held: Option<Vec4>,
+    moment: &Moment<'_>,
+) -> Result<Doing<'d>, NoMemory>
+    ensures next { IfOk result (λ doing. doing.next.now ≡ []) }
+    ensures then { IfOk result (λ doing. doing.then ≡ None) }
+    ensures deed { IfOk result (λ doing. doing.deed
+        ≡ record spec.quiet { wrote = resumed_at moment.now targets.now held }) }
+{
+    let parts = resumed(alloc, targets, held, moment)?;
+    Ok(goes_by(&[], writing(parts)))
+}
+
+// What the second step of the suspended assignment at this place does, with the value that its process holds (9.7.7).
+fn resume_of<'d>(
+    alloc: Global,
+    place: usize,
+    action: &'d Action,
+    held: Option<Vec4>,
+    moment: &Moment<'_>,
+) -> Result<Doing<'d>, NoMemory>
+    ensures { IfOk result (λ doing. (after : List Spot) →
+        spec.resumes place action.now after held moment.now
+        ≡ did_so doing.then doing.next.now after doing.deed) }
+{
+    match action {
+        Action::Held { targets, .. } => written_of(alloc, targets, held, moment),
+        _ => Ok(Doing {
+            next: &[],
+            then: Some(Spot::Writing(place)),
+            deed: Deed::quiet(),
+        }),
+    }
+}
+
+/// What the action that this spot is at does at this moment, with the value that the process holds. E901 is the only refusal.
 pub fn deed_at<'d>(
     alloc: Global,
     spot: Spot,
     action: &'d Action,
+    held: Option<Vec4>,
     moment: &Moment<'_>,
 ) -> Result<Doing<'d>, NoMemory>
     ensures { IfOk result (λ doing. (after : List Spot) →
-        does_at spot action.now after moment.now
+        does_at spot action.now after held moment.now
         ≡ did_so doing.then doing.next.now after doing.deed) }
 {
     match spot {
         Spot::Doing(place) => deed_of(alloc, place, action, moment),
         Spot::Turning(place, turns) => Ok(turn_of(place, turns, action)),
+        Spot::Writing(place) => resume_of(alloc, place, action, held, moment),
     }
 }

@@ -29,7 +29,7 @@ fn mix_values(first: u64, values: &[Vec4]) -> u64
     digest
 }
 
-// Where a process stands, and how many turns are left there.
+// Where a process stands, and how many turns are left there; none, where it is to write what it holds.
 fn stand_of(process: &Process) -> u64
     ensures { result ≡ stand_of_spot (slice_get process.now.left 0) }
 {
@@ -37,6 +37,7 @@ fn stand_of(process: &Process) -> u64
         None => 0,
         Some(Spot::Doing(place)) => (place as u64).wrapping_add(1),
         Some(Spot::Turning(place, turns)) => mix((place as u64).wrapping_add(1), turns),
+        Some(Spot::Writing(place)) => mix((place as u64).wrapping_add(1), 0),
     }
 }
 

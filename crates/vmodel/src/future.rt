@@ -2,9 +2,10 @@
 
 ghost use Rattle.std.specs.Prelude.{◌≡◌, ◌<◌, ◌≤◌, true, length, OnOk, OnErr, IfOk, false, slice_get};
 ghost use Rattle.std.specs.Option.{ForSome};
-ghost use Rattle.vmodel.specs.Queue.{waking, empty_slot, wake_at as wake_at_time};
+ghost use Rattle.vmodel.specs.Queue.{waking, updating, empty_slot, later_at};
 ghost use Rattle.vmodel.specs.Inner.{place_of_time, SomeIs, NoneIs};
 
+use crate::part::Parts;
 use crate::process_set::ProcessSet;
 use crate::queue::{Future, copy_updates};
 use basis::NoMemory;
@@ -71,7 +72,7 @@ pub(crate) fn wake_at(
     sleeper: Option<u32>,
 ) -> Result<(), NoMemory>
     requires { ForSome sleeper (λ p. p < 256) }
-    ensures ok { OnOk result (future.new.items ≡ wake_at_time time sleeper future.old.items) }
+    ensures ok { OnOk result (future.new.items ≡ later_at time (waking sleeper) future.old.items) }
     ensures err { OnErr result (future.new.items ≡ future.old.items) }
 {
     let place = place_among(future, time);
@@ -81,6 +82,44 @@ pub(crate) fn wake_at(
     }
     let alloc = *future.allocator();
     let entry = new_future(alloc, time, sleeper);
+    future.insert(place, entry)?;
+    Ok(())
+}
+
+// A future time that holds one update.
+fn updating_future(alloc: Global, time: u64, parts: Parts) -> Result<Future, NoMemory>
+    ensures { IfOk result (λ entry. entry ≡ (time, updating parts empty_slot)) }
+{
+    let mut updates = VecDeque::new(alloc);
+    updates.push_back(parts)?;
+    Ok(Future {
+        time,
+        processes: ProcessSet::new(),
+        updates,
+    })
+}
+
+// One more update at the future time of this place, behind the others.
+fn update_with(entry: &mut Future, parts: Parts) -> Result<(), NoMemory>
+    ensures ok { OnOk result (entry.new ≡ (entry.old.0, updating parts entry.old.1)) }
+    ensures err { OnErr result (entry.new ≡ entry.old) }
+{
+    entry.updates.push_back(parts)?;
+    Ok(())
+}
+
+/// One more update at a time, which becomes a future time also where there is none. After want of memory the future is as it was.
+pub(crate) fn post_at(future: &mut Vec<Future>, time: u64, parts: Parts) -> Result<(), NoMemory>
+    ensures ok { OnOk result (future.new.items ≡ later_at time (updating parts) future.old.items) }
+    ensures err { OnErr result (future.new.items ≡ future.old.items) }
+{
+    let place = place_among(future, time);
+    if stands_at(future, place, time) {
+        update_with(&mut future[place], parts)?;
+        return Ok(());
+    }
+    let alloc = *future.allocator();
+    let entry = updating_future(alloc, time, parts)?;
     future.insert(place, entry)?;
     Ok(())
 }

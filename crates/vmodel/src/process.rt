@@ -17,6 +17,8 @@ pub enum Spot {
     Doing(usize),
     /// The `repeat` at this place, with so many turns left: 1 at least (9.6).
     Turning(usize, u64),
+    /// What the suspended assignment at this place does with the value that its process holds (9.7.7).
+    Writing(usize),
 }
 
 /// Two are equal where they hold the same.
@@ -35,6 +37,7 @@ impl PartialEq for Spot {
             (Spot::Turning(place, turns), Spot::Turning(same, like)) => {
                 place == same && turns == like
             }
+            (Spot::Writing(place), Spot::Writing(same)) => place == same,
             _ => false,
         }
     }
@@ -95,6 +98,7 @@ impl Spot {
         match self {
             Spot::Doing(place) => place,
             Spot::Turning(place, _) => place,
+            Spot::Writing(place) => place,
         }
     }
 }

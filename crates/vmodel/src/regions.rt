@@ -2,12 +2,12 @@
 
 ghost use Rattle.std.specs.Prelude.{◌≡◌, ◌<◌, ◌==◌, ◌&&◌, OnOk, OnErr, IfOk, length, slice_get, Some};
 ghost use Rattle.std.specs.Option.{ForSome};
-ghost use Rattle.vmodel.specs.Queue.{wake_after as queue_wake_after};
-ghost use Rattle.vmodel.specs.Inner.{unposted, unstrobed};
+ghost use Rattle.vmodel.specs.Queue.{waking, updating, later};
+ghost use Rattle.vmodel.specs.Inner.{time_after as time_after_of, unstrobed};
 ghost use Rattle.vmodel.specs.Step.{leaves, goes_on, sleeps, fares, posts as posts_update, strobing, settled, without_update, advanced_to};
 
-use crate::deed::{Deed, Fate};
-use crate::future::{copy_future, wake_at};
+use crate::deed::{Deed, Fate, Post};
+use crate::future::{copy_future, post_at, wake_at};
 use crate::part::Parts;
 use crate::queue::{Future, Queue, copy_updates};
 use basis::NoMemory;
@@ -15,18 +15,39 @@ use std::alloc::Global;
 use std::mem;
 
 impl Queue {
+    // The time after a delay, within the limit.
+    fn time_after(&self, delay: u128) -> Option<u64>
+        ensures { result ≡ time_after_of delay self.now }
+    {
+        if self.until < self.time || delay > u128::from(self.until - self.time) {
+            return None;
+        }
+        Some(self.time + delay as u64)
+    }
+
     /// One more process to wake after a delay above 0; past the limit nothing is kept but that something is there.
     fn wake_after(&mut self, delay: u128, sleeper: Option<u32>) -> Result<(), NoMemory>
         requires { ForSome sleeper (λ p. p < 256) }
-        ensures ok { OnOk result (self.new ≡ queue_wake_after delay sleeper self.old) }
+        ensures ok { OnOk result (self.new ≡ later delay (waking sleeper) self.old) }
         ensures err { OnErr result (self.new ≡ self.old) }
     {
-        if self.until < self.time || delay > u128::from(self.until - self.time) {
+        let Some(time) = self.time_after(delay) else {
             self.beyond = true;
             return Ok(());
-        }
-        let time = self.time + delay as u64;
+        };
         wake_at(&mut self.future, time, sleeper)
+    }
+
+    /// One more update after a delay above 0; past the limit nothing is kept but that something is there.
+    fn post_after(&mut self, delay: u128, parts: Parts) -> Result<(), NoMemory>
+        ensures ok { OnOk result (self.new ≡ later delay (updating parts) self.old) }
+        ensures err { OnErr result (self.new ≡ self.old) }
+    {
+        let Some(time) = self.time_after(delay) else {
+            self.beyond = true;
+            return Ok(());
+        };
+        post_at(&mut self.future, time, parts)
     }
 
     /// The process isn't active any more.
@@ -80,20 +101,37 @@ impl Queue {
         Ok(())
     }
 
-    /// The update is posted behind the others. After want of memory the queue is as it was.
-    fn post(&mut self, parts: Parts) -> Result<(), NoMemory>
-        ensures ok { OnOk result (self.new ≡ posts_update (Some parts) self.old) }
+    /// The update is posted behind the others of its time. After want of memory the queue is as it was.
+    fn post(&mut self, post: &Post) -> Result<(), NoMemory>
+        ensures ok { OnOk result (self.new ≡ posts_update (Some post.now) self.old) }
         ensures err { OnErr result (self.new ≡ self.old) }
     {
+        let parts = post.parts.copy()?;
+        if post.after > 0 {
+            return self.post_after(post.after, parts);
+        }
         self.posted.push_back(parts)?;
         Ok(())
     }
 
-    // The last posted update isn't posted any more.
-    fn take_back(&mut self)
-        ensures { self.new ≡ unposted self.old }
+    // The update is posted and the process sleeps, both or neither: no action does both.
+    fn post_and_sleep(
+        &mut self,
+        process: u32,
+        delay: u128,
+        post: &Post,
+        left: Option<u32>,
+    ) -> Result<(), NoMemory>
+        requires { ForSome left (λ p. p < 256) }
+        ensures ok { OnOk result (self.new
+            ≡ fares process (Fate.Sleeps delay) left (posts_update (Some post.now) self.old)) }
+        ensures err { OnErr result (self.new ≡ self.old) }
     {
-        self.posted.pop_back();
+        let mut after = self.copy(*self.future.allocator())?;
+        after.post(post)?;
+        after.fare(process, Fate::Sleeps(delay), left)?;
+        mem::swap(self, &mut after);
+        Ok(())
     }
 
     /// What becomes of a process and of what its step posted. After want of memory the queue is as it was.
@@ -101,7 +139,7 @@ impl Queue {
         &mut self,
         process: u32,
         fate: Fate,
-        posted: &Option<Parts>,
+        posted: &Option<Post>,
         left: Option<u32>,
     ) -> Result<(), NoMemory>
         requires { ForSome left (λ p. p < 256) }
@@ -109,15 +147,21 @@ impl Queue {
             (self.new ≡ fares process fate left (posts_update posted.now self.old)) }
         ensures err { OnErr result (self.new ≡ self.old) }
     {
-        let Some(parts) = posted else {
+        let Some(post) = posted else {
             return self.fare(process, fate, left);
         };
-        self.post(parts.copy()?)?;
-        let fared = self.fare(process, fate, left);
-        if fared.is_err() {
-            self.take_back();
+        match fate {
+            Fate::GoesOn => {
+                self.post(post)?;
+                self.go_on(process, left);
+            }
+            Fate::Sleeps(delay) => self.post_and_sleep(process, delay, post, left)?,
+            Fate::Waits(_) => {
+                self.post(post)?;
+                self.leave(process);
+            }
         }
-        fared
+        Ok(())
     }
 
     // A monitor event stands behind those created before. After want of memory the queue is as it was.

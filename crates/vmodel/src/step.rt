@@ -10,7 +10,7 @@ ghost use Rattle.vmodel.specs.Step as spec;
 ghost use Rattle.vmodel.specs.Choices.{choices as choices_of};
 ghost use Rattle.vmodel.specs.Inner.{IsFirstAction, first_place};
 ghost use Rattle.vmodel.specs.InnerLeft.{IsWhole, left_spots};
-ghost use Rattle.vmodel.specs.InnerStep.{moved_on, ended, behind, left_in, moved, moved_by, turn_to, with_moved};
+ghost use Rattle.vmodel.specs.InnerStep.{moved_on, ended, behind, left_in, held_in, moved, moved_by, turn_to, with_moved};
 
 use crate::choice::Choice;
 use crate::deed::{Deed, Doing, Fate, deed_at};
@@ -22,7 +22,7 @@ use crate::queue::Queue;
 use crate::shown::put_items;
 use crate::state::SlowState;
 use crate::values::Changes;
-use crate::waking::wake;
+use crate::waking::{News, wake};
 use basis::NoMemory;
 use std::alloc::Global;
 use vbits::Vec4;
@@ -161,6 +161,13 @@ impl SlowState {
         self.processes.get(number as usize)?.first()
     }
 
+    // The value that a process holds, if it holds one (9.7.7).
+    fn held_by(&self, number: u32) -> Option<Vec4>
+        ensures { result ≡ held_in self.now.processes number }
+    {
+        self.processes.get(number as usize)?.held
+    }
+
     /// The place in the design's table of the action that a process comes to first, if there is one.
     pub fn place_of(&self, number: u32) -> Option<usize>
         ensures { result ≡ first_place (left_in self.now.processes number) }
@@ -179,22 +186,22 @@ impl SlowState {
 
     // One part is written, and what waits for a change by it goes on.
     fn write_one(&mut self, design: &Design, part: Part)
-        ensures { self.new ≡ woken design.now self.old.values
+        ensures { self.new ≡ woken design.now self.old.values None
             (record self.old { values = write part self.old.values }) }
     {
         if let Some(change) = self.values.write(part) {
-            wake(
-                &design.actions,
-                &Changes::One(change),
-                &mut self.processes,
-                &mut self.queue,
-            );
+            let news = News {
+                changes: Changes::One(change),
+                triggered: None,
+            };
+            wake(&design.actions, &news, &mut self.processes, &mut self.queue);
         }
     }
 
-    // The same of several parts: a change is the difference of a variable before and after all of them.
-    fn write_many(&mut self, design: &Design, parts: &[Part])
-        ensures { self.new ≡ woken design.now self.old.values
+    // Several parts are written, and what waits for a change by them, or for the event that is triggered, goes on. A change is the
+    // difference of a variable before and after all of them.
+    fn write_many(&mut self, design: &Design, parts: &[Part], triggered: Option<u32>)
+        ensures { self.new ≡ woken design.now self.old.values triggered
             (record self.old { values = written parts.now self.old.values }) }
     {
         let changes = Changes::Many {
@@ -203,21 +210,24 @@ impl SlowState {
         };
         wake(
             &design.actions,
-            &changes,
+            &News { changes, triggered },
             &mut self.processes,
             &mut self.queue,
         );
         self.values.write_all(parts);
     }
 
-    // What a step wrote is written, and what waits for a change by it goes on.
-    fn write(&mut self, design: &Design, wrote: &Parts)
-        ensures { self.new ≡ woken design.now self.old.values
+    // What a step wrote is written, and what waits for a change by it, or for the event that it triggers, goes on.
+    fn write(&mut self, design: &Design, wrote: &Parts, triggered: Option<u32>)
+        ensures { self.new ≡ woken design.now self.old.values triggered
             (record self.old { values = written wrote.now self.old.values }) }
     {
         match wrote.kept() {
-            Kept::One(part) => self.write_one(design, part),
-            Kept::Many(parts) => self.write_many(design, parts),
+            Kept::One(part) => match triggered {
+                None => self.write_one(design, part),
+                Some(_) => self.write_many(design, &[part], triggered),
+            },
+            Kept::Many(parts) => self.write_many(design, parts, triggered),
         }
     }
 
@@ -253,10 +263,11 @@ impl SlowState {
 
     // What the step wrote is written, it may end the run, and the regions move.
     fn finish(&mut self, design: &Design, deed: &Deed)
-        ensures { self.new ≡ closed (ended deed.now.cause (woken design.now self.old.values
+        ensures { self.new ≡ closed (ended deed.now.cause
+            (woken design.now self.old.values deed.now.triggered
             (record self.old { values = written deed.now.wrote self.old.values }))) }
     {
-        self.write(design, &deed.wrote);
+        self.write(design, &deed.wrote, deed.triggered);
         self.cause = deed.cause;
         self.close();
     }
@@ -272,7 +283,8 @@ impl SlowState {
             return Ok(Deed::quiet());
         };
         let alloc = *self.processes.allocator();
-        let doing = deed_at(alloc, spot, action, &self.moment(design))?;
+        let held = self.held_by(number);
+        let doing = deed_at(alloc, spot, action, held, &self.moment(design))?;
         let Doing { next, then, deed } = doing;
         self.place(number, then, next, &deed)?;
         self.finish(design, &deed);
@@ -287,7 +299,7 @@ impl SlowState {
         if let Some(update) = self.queue.take_update() {
             deed.wrote = update;
         }
-        self.write(design, &deed.wrote);
+        self.write(design, &deed.wrote, None);
         self.close();
         deed
     }

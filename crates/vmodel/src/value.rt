@@ -137,6 +137,53 @@ fn assigned_all(
     Parts::of_list(shared(alloc, targets, value, moment)?)
 }
 
+/// The value that a suspended assignment holds (9.7.7).
+pub fn held_value(targets: &Targets, expression: &Expression, moment: &Moment<'_>) -> Vec4
+    ensures { result ≡ spec.held_value moment.now targets.now expression.now }
+{
+    let size = targets_size(targets.as_slice(), moment).min(WIDEST).max(1);
+    right_side(expression, size, moment)
+}
+
+// The parts that it writes of the value that it holds, to targets of so many bits.
+#[tactic(auto, using(crate::proofs::PartLemmas::none_held, crate::proofs::PartLemmas::held_is, crate::proofs::PartLemmas::held_length))]
+fn resumed_all(
+    alloc: Global,
+    targets: &[Target],
+    size: u32,
+    held: Vec4,
+    moment: &Moment<'_>,
+) -> Result<Parts, NoMemory>
+    requires some { 1 ≤ size }
+    requires exact { min 65 size ≡ min 65 (size_of_all moment.now targets.now) }
+    ensures { IfOk result (λ parts. parts ≡ spec.resumed moment.now targets.now (Some held)) }
+{
+    if size > WIDEST {
+        return Ok(Parts::none());
+    }
+    Parts::of_list(shared(alloc, targets, held.resize(size), moment)?)
+}
+
+/// The parts that a suspended assignment writes of the value that it holds, if it holds one, to its targets as they are now (9.7.7).
+pub fn resumed(
+    alloc: Global,
+    targets: &Targets,
+    held: Option<Vec4>,
+    moment: &Moment<'_>,
+) -> Result<Parts, NoMemory>
+    ensures { IfOk result (λ parts. parts ≡ spec.resumed moment.now targets.now held) }
+{
+    let targets = targets.as_slice();
+    let Some(held) = held else {
+        return Ok(Parts::none());
+    };
+    let Some((target, more)) = targets.split_first() else {
+        return Ok(Parts::none());
+    };
+    let size = target_size(target, moment) + targets_size(more, moment);
+    resumed_all(alloc, targets, size, held, moment)
+}
+
 /// The parts that an assignment writes (6.2).
 pub fn assigned(
     alloc: Global,

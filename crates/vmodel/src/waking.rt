@@ -1,9 +1,8 @@
-// What wakes by a change (IEEE 1364-2005, 9.7.2): processes that wait for it.
+// What wakes by a step (IEEE 1364-2005, 9.7.2, 9.7.3): processes that wait for a change, or for a named event.
 
 ghost use Rattle.std.specs.Prelude.{◌≡◌, ◌≤◌, length, map};
 ghost use Rattle.vmodel.specs.Waking as spec;
-ghost use Rattle.vmodel.specs.Parts.{written};
-ghost use Rattle.vmodel.specs.InnerWaking.{with_active, hears_one as hears_one_of, hears_of, any_hears_of, comes as comes_of};
+ghost use Rattle.vmodel.specs.InnerWaking.{with_active, changes_one as changes_one_of, changes_many as changes_many_of, changes_so as changes_so_of, hears_of, any_hears_of, comes as comes_of};
 
 use crate::part::Part;
 use crate::process::Process;
@@ -12,6 +11,13 @@ use crate::queue::Queue;
 use crate::values::{Change, Changes, value_after, value_in};
 use vbits::{Bit4, Vec4};
 use vdesign::action::{Action, Edge, Term};
+
+/// What is told of a step to those that wait: what it changes, and the named event that it triggers.
+#[derive(Clone, Copy)]
+pub(crate) struct News<'c> {
+    pub(crate) changes: Changes<'c>,
+    pub(crate) triggered: Option<u32>,
+}
 
 // From 0 over x and z to 1 (table 9-2).
 fn rank(letter: Bit4) -> u8
@@ -41,107 +47,121 @@ fn is_edge(edge: Edge, old: Vec4, new: Vec4) -> bool
     }
 }
 
-// Whether a term hears of the change of one variable.
-fn hears_one(term: Term, change: &Change) -> bool
-    ensures { result ≡ hears_one_of change.now term }
+// Whether the change of one variable is such a change of a variable.
+fn changes_one(edge: Edge, variable: u32, change: &Change) -> bool
+    ensures { result ≡ changes_one_of change.now edge variable }
 {
-    term.variable == change.variable && is_edge(term.edge, change.old, change.new)
+    variable == change.variable && is_edge(edge, change.old, change.new)
 }
 
-// Whether it hears of what the parts write over the values.
-fn hears_many(term: Term, values: &[Vec4], parts: &[Part]) -> bool
-    ensures { result ≡ spec.hears values.now (written parts.now values.now) term }
+// Whether what the parts write over the values is such a change of a variable.
+fn changes_many(edge: Edge, variable: u32, values: &[Vec4], parts: &[Part]) -> bool
+    ensures { result ≡ changes_many_of values.now parts.now edge variable }
 {
-    let old = value_in(values, term.variable);
-    is_edge(term.edge, old, value_after(values, parts, term.variable))
+    let old = value_in(values, variable);
+    is_edge(edge, old, value_after(values, parts, variable))
 }
 
-fn hears(term: Term, change: &Changes<'_>) -> bool
-    ensures { result ≡ hears_of change.now term }
+fn changes_so(edge: Edge, variable: u32, changes: &Changes<'_>) -> bool
+    ensures { result ≡ changes_so_of changes.now edge variable }
 {
-    match change {
-        Changes::One(change) => hears_one(term, change),
-        Changes::Many { values, parts } => hears_many(term, values, parts),
+    match changes {
+        Changes::One(change) => changes_one(edge, variable, change),
+        Changes::Many { values, parts } => changes_many(edge, variable, values, parts),
     }
 }
 
-fn any_hears(terms: &[Term], change: &Changes<'_>) -> bool
-    ensures { result ≡ any_hears_of change.now terms.now }
+// Whether the event that a step triggers, if it does, is this one (9.7.3).
+fn is_triggered(triggered: Option<u32>, event: u32) -> bool
+    ensures { result ≡ spec.is_triggered triggered event }
+{
+    match triggered {
+        None => false,
+        Some(one) => one == event,
+    }
+}
+
+fn hears(term: Term, news: &News<'_>) -> bool
+    ensures { result ≡ hears_of news.now term }
+{
+    match term {
+        Term::Change { edge, variable } => changes_so(edge, variable, &news.changes),
+        Term::Event(event) => is_triggered(news.triggered, event),
+    }
+}
+
+fn any_hears(terms: &[Term], news: &News<'_>) -> bool
+    ensures { result ≡ any_hears_of news.now terms.now }
 {
     for term in terms {
-        if hears(*term, change) {
+        if hears(*term, news) {
             return true;
         }
     }
     false
 }
 
-// Whether a process waits for this change.
-fn comes(actions: &[Action], change: &Changes<'_>, process: &Process) -> bool
-    ensures { result ≡ comes_of actions.now change.now process.now }
+// Whether a process waits for this.
+fn comes(actions: &[Action], news: &News<'_>, process: &Process) -> bool
+    ensures { result ≡ comes_of actions.now news.now process.now }
 {
     let Some(place) = process.waits else {
         return false;
     };
     match actions.get(place) {
-        Some(Action::On { terms, .. }) => any_hears(terms.as_slice(), change),
-        Some(Action::Until { terms, .. }) => any_hears(terms.as_slice(), change),
-        Some(Action::Drive { terms, .. }) => any_hears(terms.as_slice(), change),
+        Some(Action::On { terms, .. }) => any_hears(terms.as_slice(), news),
+        Some(Action::Until { terms, .. }) => any_hears(terms.as_slice(), news),
+        Some(Action::Drive { terms, .. }) => any_hears(terms.as_slice(), news),
         _ => false,
     }
 }
 
-// The active processes, with those that wait for this change.
-fn with_awake(
-    actions: &[Action],
-    change: &Changes<'_>,
-    processes: &[Process],
-    active: &mut ProcessSet,
-)
+// The active processes, with those that wait for this.
+fn with_awake(actions: &[Action], news: &News<'_>, processes: &[Process], active: &mut ProcessSet)
     requires { length processes.now ≤ 256 }
     ensures { active.new
-        ≡ spec.with_awake (comes_of actions.now change.now) 0 processes.now active.old }
+        ≡ spec.with_awake (comes_of actions.now news.now) 0 processes.now active.old }
 {
     let mut number = 0;
     for process in processes {
-        if comes(actions, change, process) {
+        if comes(actions, news, process) {
             active.insert(number);
         }
         number += 1;
     }
 }
 
-fn wake_one(actions: &[Action], change: &Changes<'_>, process: &mut Process)
-    ensures { process.new ≡ spec.awake (comes_of actions.now change.now) process.old }
+fn wake_one(actions: &[Action], news: &News<'_>, process: &mut Process)
+    ensures { process.new ≡ spec.awake (comes_of actions.now news.now) process.old }
 {
-    if comes(actions, change, process) {
+    if comes(actions, news, process) {
         process.waits = None;
     }
 }
 
-// Those that wait for this change don't wait any more.
-fn wait_no_more(actions: &[Action], change: &Changes<'_>, processes: &mut [Process])
-    ensures { processes.new ≡ map (spec.awake (comes_of actions.now change.now)) processes.old }
+// Those that wait for this don't wait any more.
+fn wait_no_more(actions: &[Action], news: &News<'_>, processes: &mut [Process])
+    ensures { processes.new ≡ map (spec.awake (comes_of actions.now news.now)) processes.old }
 {
     for process in processes {
-        wake_one(actions, change, process);
+        wake_one(actions, news, process);
     }
 }
 
-/// Those that wait for this change wait no more, and are active.
+/// Those that wait for this wait no more, and are active.
 pub(crate) fn wake(
     actions: &[Action],
-    change: &Changes<'_>,
+    news: &News<'_>,
     processes: &mut Vec<Process>,
     queue: &mut Queue,
 )
     requires { length processes.old.items ≤ 256 }
     ensures processes { processes.new.items
-        ≡ map (spec.awake (comes_of actions.now change.now)) processes.old.items }
+        ≡ map (spec.awake (comes_of actions.now news.now)) processes.old.items }
     ensures queue { queue.new ≡ with_active
-        (spec.with_awake (comes_of actions.now change.now) 0 processes.old.items queue.old.active)
+        (spec.with_awake (comes_of actions.now news.now) 0 processes.old.items queue.old.active)
         queue.old }
 {
-    with_awake(actions, change, processes, &mut queue.active);
-    wait_no_more(actions, change, processes);
+    with_awake(actions, news, processes, &mut queue.active);
+    wait_no_more(actions, news, processes);
 }

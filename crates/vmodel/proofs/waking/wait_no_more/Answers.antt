@@ -5,10 +5,10 @@ use Rattle.vmodel.proofs.waking.wait_no_more.Goals as goal
 
 pub loop-process-preserved : goal.loop-process-preserved
 loop-process-preserved c =
-    awake_turn (comes c.args.actions.now c.args.change.now) c.loop-process.process-items c.args.processes.now c.loop-process.process-index _ c.process-item.result
+    awake_turn (comes c.args.actions.now c.args.news.now) c.loop-process.process-items c.args.processes.now c.loop-process.process-index _ c.process-item.result
     c.wake_one.new.process c.loop-process-test.true c.loop-process.auto.process-items (omega arith) c.loop-process.invariant c.wake_one.ensures
 
 pub returns : goal.returns
 returns c =
     c.loop-process.invariant
-    ∙ awake_all (comes c.args.actions.now c.args.change.now) c.loop-process.process-index c.args.processes.now c.loop-process-test.false
+    ∙ awake_all (comes c.args.actions.now c.args.news.now) c.loop-process.process-index c.args.processes.now c.loop-process-test.false
