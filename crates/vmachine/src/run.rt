@@ -14,10 +14,10 @@ ghost use Rattle.vmodel.specs.InnerStep.{turn_to};
 use crate::machine::Machine;
 use basis::{NoMemory, OrMemory};
 use sched_core::{Log, Member, ReplayFault, next_choice};
+use vdesign::design::Design;
 use vmodel::deed::Deed;
 use vmodel::history::{End, Item};
 use vmodel::sink::Sink;
-use vdesign::design::Design;
 use vmodel::{SlowState, opening, put_items, put_slot_end};
 
 /// Why a run wasn't handed on to its end, but for want of memory.
