@@ -218,6 +218,14 @@ fn put_shown(text: &mut Vec<u8>, deed: &Deed) -> Result<(), NoMemory> {
     Ok(())
 }
 
+// ` trigger`, where a named event is triggered.
+fn put_trigger(text: &mut Vec<u8>, triggered: Option<usize>) -> Result<(), NoMemory> {
+    if triggered.is_some() {
+        text.extend_from_slice(b" trigger")?;
+    }
+    Ok(())
+}
+
 fn put_fate(text: &mut Vec<u8>, fate: Fate) -> Result<(), NoMemory> {
     match fate {
         Fate::GoesOn => {}
@@ -247,12 +255,13 @@ fn put_deed(
         Kept::One(part) => put_writes(text, design, old, &[part])?,
         Kept::Many(parts) => put_writes(text, design, old, parts)?,
     }
-    if let Some(posted) = &deed.posted {
-        match posted.kept() {
+    if let Some(post) = &deed.posted {
+        match post.parts.kept() {
             Kept::One(part) => put_posts(text, design, old, &[part])?,
             Kept::Many(parts) => put_posts(text, design, old, parts)?,
         }
     }
+    put_trigger(text, deed.triggered)?;
     put_fate(text, deed.fate)?;
     put_shown(text, deed)?;
     if let Some(cause) = deed.cause {

@@ -55,7 +55,7 @@ pub enum Term {
     /// This change of the variable of this number (9.7.2).
     Change { edge: Edge, variable: u32 },
     /// That the named event of this number is triggered (9.7.3). Events of a design go by numbers of their own, from 0.
-    Event(u32),
+    Event(usize),
 }
 
 /// What is waited for: terms, of which one is enough (9.7.4).
@@ -205,7 +205,7 @@ pub enum Action {
         value: Expression,
     },
     /// `-> event;`, of the named event of this number (9.7.3)
-    Trigger(u32),
+    Trigger(usize),
     /// `if (condition) .. else ..` (9.4)
     Test {
         condition: Expression,

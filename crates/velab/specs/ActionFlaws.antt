@@ -7,8 +7,10 @@ use Rattle.vdesign.specs.Design.{Variable}
 use Rattle.vdesign.specs.declared.action.Action.{Action}
 use Rattle.vdesign.specs.declared.print.Piece.{Piece}
 use Rattle.vdesign.specs.declared.print.Piece.TheVariants.{Text, Value}
-use Rattle.vdesign.specs.declared.action.Action.TheVariants.{Assign, Nonblocking, Test, Case, Again, Repeat, Forever, Delay, On, Until, Drive, Print, Dump, Pass, Finish, Stop}
+use Rattle.vdesign.specs.declared.action.Action.TheVariants.{Assign, Nonblocking, Held, Posted, Trigger, Test, Case, Again, Repeat, Forever, Delay, On, Until, Drive, Print, Dump, Pass, Finish, Stop}
 use Rattle.vdesign.specs.declared.action.Branch.{Branch}
+use Rattle.vdesign.specs.declared.action.Target.{Target}
+use Rattle.vdesign.specs.Expressions.{ExpressionTree}
 use Rattle.vvalue.specs.Value.{Moment}
 use Rattle.vvalue.specs.Flaws.{flaw_of, targets_flaw}
 use Rattle.vvalue.specs.declared.flaw.Flaw.{Flaw}
@@ -32,9 +34,16 @@ abbrev pub piece_flaw : Moment → Piece → Option Flaw
 piece_flaw now (Text bytes) = None
 piece_flaw now (Value form watched value) = flaw_of now value
 
+-- of an assignment: its targets, or else its value
+abbrev pub assignment_flaw : Moment → List Target → ExpressionTree → Option Flaw
+assignment_flaw now targets value = option_or (targets_flaw now targets) (flaw_of now value)
+
 abbrev pub action_flaw : Moment → Action → Option Flaw
-action_flaw now (Assign targets value) = option_or (targets_flaw now targets) (flaw_of now value)
-action_flaw now (Nonblocking targets value) = option_or (targets_flaw now targets) (flaw_of now value)
+action_flaw now (Assign targets value) = assignment_flaw now targets value
+action_flaw now (Nonblocking targets value) = assignment_flaw now targets value
+action_flaw now (Held amount targets value) = option_or (flaw_of now amount) (assignment_flaw now targets value)
+action_flaw now (Posted amount targets value) = option_or (flaw_of now amount) (assignment_flaw now targets value)
+action_flaw now (Trigger event) = None
 action_flaw now (Test condition when_true otherwise) = flaw_of now condition
 action_flaw now (Case kind value branches otherwise) = option_or (flaw_of now value) (first_of (branch_flaw now) branches)
 action_flaw now (Again condition body) = flaw_of now condition

@@ -7,7 +7,7 @@ use Rattle.vdesign.specs.declared.design.Kind.TheVariants.{Reg, Integer, Wire}
 use Rattle.vdesign.specs.declared.action.Target.{Target}
 use Rattle.vdesign.specs.declared.action.Target.TheVariants.{Whole, Bit, Part}
 use Rattle.vdesign.specs.declared.action.Action.{Action}
-use Rattle.vdesign.specs.declared.action.Action.TheVariants.{Assign, Nonblocking, Test, Case, Again, Repeat, Forever, Delay, On, Until, Drive, Print, Dump, Pass, Finish, Stop}
+use Rattle.vdesign.specs.declared.action.Action.TheVariants.{Assign, Nonblocking, Held, Posted, Trigger, Test, Case, Again, Repeat, Forever, Delay, On, Until, Drive, Print, Dump, Pass, Finish, Stop}
 
 -- 4.2.1
 abbrev pub is_net : Kind → Bool
@@ -33,6 +33,9 @@ writes_variables variables targets = list_all (λ target. not (writes_net variab
 abbrev pub writes_rightly : List Variable → Action → Bool
 writes_rightly variables (Assign targets value) = writes_variables variables targets
 writes_rightly variables (Nonblocking targets value) = writes_variables variables targets
+writes_rightly variables (Held amount targets value) = writes_variables variables targets
+writes_rightly variables (Posted amount targets value) = writes_variables variables targets
+writes_rightly variables (Trigger event) = true
 writes_rightly variables (Test condition when_true otherwise) = true
 writes_rightly variables (Case kind value branches otherwise) = true
 writes_rightly variables (Again condition body) = true

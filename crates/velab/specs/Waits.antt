@@ -11,6 +11,7 @@ use Rattle.vast.specs.declared.statement.Edge.TheVariants.{Rising, Falling}
 use Rattle.vdesign.specs.declared.action.Edge.{Edge}
 use Rattle.vdesign.specs.declared.action.Edge.TheVariants.{Any, Rise, Fall}
 use Rattle.vdesign.specs.declared.action.Term.{Term}
+use Rattle.vdesign.specs.declared.action.Term.TheVariants.{Change}
 use Rattle.velab.specs.declared.fault.Rule.{Rule}
 use Rattle.velab.specs.declared.scope.Meaning.{Meaning}
 use Rattle.velab.specs.declared.scope.Meaning.TheVariants.{Variable, Parameter}
@@ -25,7 +26,7 @@ edge_of (Some Rising) = Rise
 edge_of (Some Falling) = Fall
 
 abbrev pub term_by : Scope → Edge → Text → Term
-term_by scope edge name = record { edge = edge; variable = number_of scope name }
+term_by scope edge name = Change edge (number_of scope name)
 
 abbrev pub term_of : Scope → TermTree → Term
 term_of scope term = term_by scope (edge_of term.edge) term.name
@@ -37,7 +38,7 @@ further_term_of scope further = term_of scope further.term
 -- any change of a variable is heard; a parameter never changes
 abbrev pub heard : Option Meaning → List Term
 heard None = []
-heard (Some (Variable number)) = record { edge = Any; variable = number } ∷ []
+heard (Some (Variable number)) = Change Any number ∷ []
 heard (Some (Parameter value bounds before)) = []
 
 -- any change of each of these

@@ -57,6 +57,9 @@ fn writes_rightly(variables: &[Variable], action: &Action) -> bool
     match action {
         Action::Assign { targets, .. } => writes_variables(variables, targets.as_slice()),
         Action::Nonblocking { targets, .. } => writes_variables(variables, targets.as_slice()),
+        Action::Held { targets, .. } => writes_variables(variables, targets.as_slice()),
+        Action::Posted { targets, .. } => writes_variables(variables, targets.as_slice()),
+        Action::Trigger(_) => true,
         Action::Test { .. } => true,
         Action::Case { .. } => true,
         Action::Again { .. } => true,

@@ -51,7 +51,7 @@ fn put_term(
         (IsBroken (broken_variable scope.now (token_text (words_of tokens.now) name))) }
 {
     let variable = number_of(scope, tokens, name)?;
-    terms.push(Term { edge, variable })?;
+    terms.push(Term::Change { edge, variable })?;
     Ok(())
 }
 
@@ -68,7 +68,7 @@ fn put_name(
 {
     match meaning_of(scope, tokens, name) {
         Some(Meaning::Variable(variable)) => {
-            terms.push(Term {
+            terms.push(Term::Change {
                 edge: Edge::Any,
                 variable,
             })?;

@@ -3,7 +3,7 @@
 ghost use Rattle.std.specs.Prelude.{◌≡◌, map, None, Some, IfOk, OnOk};
 ghost use Rattle.basis.specs.Reasons.{IfFault};
 ghost use Rattle.std.specs.Option.{option_or};
-ghost use Rattle.vvalue.specs.Flaws.{flaw_of as spec_flaw_of, targets_flaw as spec_targets_flaw};
+ghost use Rattle.vvalue.specs.Flaws.{flaw_of as spec_flaw_of};
 ghost use Rattle.velab.specs.ActionFlaws as spec;
 ghost use Rattle.velab.specs.Rules.{flaw_rule, IsBroken};
 
@@ -63,10 +63,22 @@ fn pieces_flaw(pieces: &[Piece], moment: &Moment<'_>) -> Option<Flaw>
 
 // What is wrong with an assignment of either kind: with its targets, or else with its value.
 fn assignment_flaw(targets: &Targets, value: &Expression, moment: &Moment<'_>) -> Option<Flaw>
-    ensures { result
-        ≡ option_or (spec_targets_flaw moment.now targets.now) (spec_flaw_of moment.now value.now) }
+    ensures { result ≡ spec.assignment_flaw moment.now targets.now value.now }
 {
     targets_flaw(targets, moment).or(flaw_of(value, moment))
+}
+
+// The same of one with a delay: with its amount first.
+fn delayed_flaw(
+    amount: &Expression,
+    targets: &Targets,
+    value: &Expression,
+    moment: &Moment<'_>,
+) -> Option<Flaw>
+    ensures { result ≡ option_or (spec_flaw_of moment.now amount.now)
+        (spec.assignment_flaw moment.now targets.now value.now) }
+{
+    flaw_of(amount, moment).or(assignment_flaw(targets, value, moment))
 }
 
 fn action_flaw(action: &Action, moment: &Moment<'_>) -> Option<Flaw>
@@ -75,6 +87,17 @@ fn action_flaw(action: &Action, moment: &Moment<'_>) -> Option<Flaw>
     match action {
         Action::Assign { targets, value } => assignment_flaw(targets, value, moment),
         Action::Nonblocking { targets, value } => assignment_flaw(targets, value, moment),
+        Action::Held {
+            amount,
+            targets,
+            value,
+        } => delayed_flaw(amount, targets, value, moment),
+        Action::Posted {
+            amount,
+            targets,
+            value,
+        } => delayed_flaw(amount, targets, value, moment),
+        Action::Trigger(_) => None,
         Action::Test { condition, .. } => flaw_of(condition, moment),
         Action::Case {
             value,

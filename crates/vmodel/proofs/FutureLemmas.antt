@@ -1,5 +1,5 @@
 -- The future in order of time: more is put to what a time holds.
-use Rattle.std.proofs.Common.{◌≡◌, ℕ, zero, suc, length, ◌<◌, ◌≤◌, List, [], ◌∷◌, insert, get_or, refl, sym, ap, subst, ◌∙◌, arith}
+use Rattle.std.proofs.Common.{◌≡◌, ℕ, suc, ◌<◌, ◌≤◌, List, [], ◌∷◌, insert, get_or, refl, sym, ap, subst, ◌∙◌, arith}
 use Rattle.std.specs.Prelude.{slice_get, slice_set}
 use Rattle.vmodel.specs.Queue.{Slot, empty_slot, later_at}
 use Rattle.vmodel.specs.Inner.{place_of_time, SomeIs, NoneIs}
@@ -74,9 +74,3 @@ module _ (t : ℕ) (put : Slot → Slot) where
       ap (insert es k) becomes
       ∙ ap (λ (j : ℕ). insert es j (t, put empty_slot)) place
       ∙ absent_at es (subst (λ (j : ℕ). NoneIs (λ e. e.0 ≡ t) (slice_get es j)) place is)
-
--- an entry that is put back as it was
-pub put_back : (es : List (ℕ × Slot)) (k : ℕ) (v w : ℕ × Slot) → k < length es → v ≡ get_or es k v → w ≡ v → slice_set es k w ≡ es
-put_back [] k v w lt read same = refl
-put_back (e ∷ es) zero v w lt read same = ap (λ (x : ℕ × Slot). x ∷ es) (same ∙ read)
-put_back (e ∷ es) (suc k) v w lt read same = ap (λ (rest : List (ℕ × Slot)). e ∷ rest) (put_back es k v w (omega (arith, lt)) read same)

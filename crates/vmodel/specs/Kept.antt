@@ -56,7 +56,7 @@ abbrev pub waits_of : Option Process → Option ℕ
 waits_of None = None
 waits_of (Some process) = process.waits
 
--- 9.9.1, 9.7.2: a process with something left stands in one place at most, one that waits for a change or has nothing left in
+-- 9.9.1, 9.7.2: a process with something left stands in one place at most, one that waits or has nothing left in
 -- none; the process that made the last step is active
 pub record IsInPlace (q : Queue) (processes : List Process) : Type 0 where
   pub once : (p : ℕ) → places p q ≤ most_places (waits_of (slice_get processes p)) (left_of (slice_get processes p))

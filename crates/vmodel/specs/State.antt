@@ -11,7 +11,7 @@ use Rattle.vmodel.specs.declared.process.Spot.{Spot}
 pub record Process : Type 0 where
   pub left : List Spot  -- what it has left, the first of it first
   pub held : Option Vector  -- the value that a suspended assignment holds (9.7.7)
-  pub waits : Option ℕ  -- the place of the action at which it waits for a change (9.7.2)
+  pub waits : Option ℕ  -- the place of the action at which it waits for a change or a named event (9.7.2, 9.7.3)
 
 pub record State : Type 0 where
   pub values : List Vector  -- by number of variable

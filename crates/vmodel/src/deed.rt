@@ -30,7 +30,7 @@ pub enum Fate {
     GoesOn,
     /// It sleeps so long, in units of the precision (9.7.1).
     Sleeps(u128),
-    /// It waits for a change, at the action of this place (9.7.2).
+    /// It waits for a change or a named event, at the action of this place (9.7.2, 9.7.3).
     Waits(usize),
 }
 
@@ -63,7 +63,7 @@ pub struct Deed {
     /// A nonblocking update that is posted (11.4).
     pub posted: Option<Post>,
     /// The named event that is triggered (9.7.3).
-    pub triggered: Option<u32>,
+    pub triggered: Option<usize>,
     /// What it shows at once.
     pub shown: Option<Shown>,
     /// A monitor event that is created: the line of the print task at this place, at the end of the slot (11.3, 17.1.2).
@@ -121,7 +121,7 @@ fn posting(after: u128, parts: Parts) -> Deed
 }
 
 // A step that triggers a named event (9.7.3).
-fn triggering(event: u32) -> Deed
+fn triggering(event: usize) -> Deed
     ensures { result ≡ record spec.quiet { triggered = Some event } }
 {
     Deed {

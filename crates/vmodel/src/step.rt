@@ -200,7 +200,7 @@ impl SlowState {
 
     // Several parts are written, and what waits for a change by them, or for the event that is triggered, goes on. A change is the
     // difference of a variable before and after all of them.
-    fn write_many(&mut self, design: &Design, parts: &[Part], triggered: Option<u32>)
+    fn write_many(&mut self, design: &Design, parts: &[Part], triggered: Option<usize>)
         ensures { self.new ≡ woken design.now self.old.values triggered
             (record self.old { values = written parts.now self.old.values }) }
     {
@@ -218,7 +218,7 @@ impl SlowState {
     }
 
     // What a step wrote is written, and what waits for a change by it, or for the event that it triggers, goes on.
-    fn write(&mut self, design: &Design, wrote: &Parts, triggered: Option<u32>)
+    fn write(&mut self, design: &Design, wrote: &Parts, triggered: Option<usize>)
         ensures { self.new ≡ woken design.now self.old.values triggered
             (record self.old { values = written wrote.now self.old.values }) }
     {

@@ -16,7 +16,7 @@ use vdesign::action::{Action, Edge, Term};
 #[derive(Clone, Copy)]
 pub(crate) struct News<'c> {
     pub(crate) changes: Changes<'c>,
-    pub(crate) triggered: Option<u32>,
+    pub(crate) triggered: Option<usize>,
 }
 
 // From 0 over x and z to 1 (table 9-2).
@@ -72,7 +72,7 @@ fn changes_so(edge: Edge, variable: u32, changes: &Changes<'_>) -> bool
 }
 
 // Whether the event that a step triggers, if it does, is this one (9.7.3).
-fn is_triggered(triggered: Option<u32>, event: u32) -> bool
+fn is_triggered(triggered: Option<usize>, event: usize) -> bool
     ensures { result ≡ spec.is_triggered triggered event }
 {
     match triggered {
