@@ -17,8 +17,8 @@ use Rattle.vast.specs.declared.module.ModuleItem.{ModuleItem}
 use Rattle.vast.specs.declared.module.ModuleItem.TheVariants as items
 use Rattle.vast.specs.declared.module.ModuleTree.{ModuleTree}
 use Rattle.vast.specs.declared.module.TextTree.{TextTree}
-use Rattle.velab.specs.Runs.{runs_assignment, runs_task, runs_statement, runs_statements, runs_branch, runs_branches, runs_item, runs_module, runs}
-use Rattle.velab.specs.FirstNotRun.{unless_run, delay_token, first_among, in_assignment, in_statement, in_row, in_branch, in_branch_row, in_statements, in_branches, in_item, in_items, in_head, in_module, first_not_run}
+use Rattle.velab.specs.Runs.{has_ports, runs_task, runs_statement, runs_statements, runs_branch, runs_branches, runs_item, runs_module, runs}
+use Rattle.velab.specs.FirstNotRun.{unless_run, listed, first_among, in_statement, in_row, in_branch, in_branch_row, in_statements, in_branches, in_item, in_items, in_head, in_module, first_not_run}
 
 -- ---- a list is looked through from its start
 
@@ -74,16 +74,12 @@ among place view good each (a ∷ more) =
     either (place a) (first_among place more) (good (view a)) (list_all good (map view more)) (each a) (among place view good each more)
 
 module _ (words : List Text) where
-  assignment : (amount : Option Delay) → is_some (in_assignment amount) ≡ not (runs_assignment (option_map (delay_tree words) amount))
-  assignment None = refl
-  assignment (Some amount) = refl
-
   mutual
     statement : (s : Statement) → is_some (in_statement words s) ≡ not (runs_statement (statement_tree words s))
     statement Empty = refl
     statement (Block' shape row) = row_runs row
-    statement (Assign at target amount value) = assignment amount
-    statement (Nonblocking at target amount value) = assignment amount
+    statement (Assign at target amount value) = refl
+    statement (Nonblocking at target amount value) = refl
     statement (Trigger at name) = refl
     statement (If' at condition place body) = statement body
     statement (IfElse' at condition place body place_too other) =
@@ -126,12 +122,15 @@ module _ (words : List Text) where
 
   module_ : (m : ModuleTree) → is_some (in_module words m) ≡ not (runs_module (module_tree words m))
   module_ m =
-      either (in_head words m.name.number m.ports) (in_items words m.items.items) _ _ (head _ m.ports)
+      either (in_head words m) (in_items words m.items.items) _ _ (unless _ _ ∙ ap (λ b. not (not b)) (head m.ports))
       (among (in_item words) (item_tree words) runs_item item m.items.items)
     where
-      head : {Q S : Type 0} (g : Q → S) (q : Option Q) → is_some (in_head words m.name.number q) ≡ not (not (is_some (option_map g q)))
-      head g None = refl
-      head g (Some q) = refl
+      head : {Q S X : Type 0} {g : Q → S} (q : Option (Vec Q X)) → has_ports (listed q) ≡ has_ports (option_map (λ (v : Vec Q X). map g v.items) q)
+      head None = refl
+      head {g = g} (Some q) = some q.items where
+        some : (xs : List _) → has_ports (Some xs) ≡ has_ports (Some (map g xs))
+        some [] = refl
+        some (x ∷ xs) = refl
 
   pub text_runs : (text : TextTree) → is_some (first_not_run words text) ≡ not (runs (source_tree words text))
   text_runs text = among (in_module words) (module_tree words) runs_module module_ text.modules.items

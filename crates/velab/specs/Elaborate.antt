@@ -16,7 +16,7 @@ use Rattle.vast.specs.declared.module.NetKind.{NetKind}
 use Rattle.vast.specs.declared.module.NetKind.TheVariants as net
 use Rattle.vdesign.specs.Design as design
 use Rattle.vdesign.specs.declared.action.Action.{Action}
-use Rattle.vdesign.specs.declared.action.Action.TheVariants.{Assign, Nonblocking, Test, Case, Again, Repeat, Forever, Delay, On, Until, Drive, Print, Dump, Pass, Finish, Stop}
+use Rattle.vdesign.specs.declared.action.Action.TheVariants.{Assign, Nonblocking, Held, Posted, Test, Case, Again, Repeat, Forever, Delay, On, Until, Drive, Print, Dump, Pass, Finish, Stop}
 use Rattle.vdesign.specs.declared.action.Branch.{Branch}
 use Rattle.vdesign.specs.declared.dump.DumpCommand.TheVariants as commands
 use Rattle.vast.specs.declared.statement.Dumping.{Dumping}
@@ -319,18 +319,21 @@ placed table action = record { table = table ++ action ∷ []; places = length t
 abbrev pub nothing_laid : List Action → Laid
 nothing_laid table = record { table = table; places = [] }
 
--- an assignment of either kind (9.2): one with a delay of its own isn't run yet, and lays nothing
-abbrev pub assigning : Bool → List Target → ExpressionTree → Action
-assigning blocking targets value = cond blocking (Assign targets value) (Nonblocking targets value)
-
-abbrev pub laid_assignment : Bool → Scope → List Action → TargetTree → Option DelayTree → text.ExpressionTree → Laid
-laid_assignment blocking scope table target None value = placed table (assigning blocking (row_of scope target) (resolved scope value))
-laid_assignment blocking scope table target (Some amount) value = nothing_laid table
+-- an assignment of either kind (9.2), by the amount of its own delay, if it has one (9.7.7)
+abbrev pub assigning : Bool → Option ExpressionTree → List Target → ExpressionTree → Action
+assigning true None targets value = Assign targets value
+assigning true (Some amount) targets value = Held amount targets value
+assigning false None targets value = Nonblocking targets value
+assigning false (Some amount) targets value = Posted amount targets value
 
 abbrev pub amount_of : Scope → DelayTree → ExpressionTree
 amount_of scope (by_number digits) = resolved scope (text.number digits)
 amount_of scope (by_name letters) = resolved scope (text.name letters)
 amount_of scope (by_value amount) = resolved scope amount
+
+abbrev pub laid_assignment : Bool → Scope → List Action → TargetTree → Option DelayTree → text.ExpressionTree → Laid
+laid_assignment blocking scope table target amount value =
+    placed table (assigning blocking (option_map (amount_of scope) amount) (row_of scope target) (resolved scope value))
 
 abbrev pub laid_dump : List Action → Option SelectionTree → Laid
 laid_dump table None = placed table (Dump commands.Vars)
@@ -455,14 +458,18 @@ laid_processes scope table (process ∷ rest) =
     let behind = laid_processes scope front.table rest in
     record { table = behind.table; begins = front.places ∷ behind.begins }
 
-abbrev pub broken_assignment : Scope → TargetTree → Option DelayTree → text.ExpressionTree → Option Rule
-broken_assignment scope target None value = option_or (broken_target scope target) (broken_expression scope value)
-broken_assignment scope target (Some amount) value = None
-
 abbrev pub broken_amount : Scope → DelayTree → Option Rule
 broken_amount scope (by_number digits) = None
 broken_amount scope (by_name letters) = broken_name false scope letters
 broken_amount scope (by_value amount) = broken_expression scope amount
+
+abbrev pub broken_own : Scope → Option DelayTree → Option Rule
+broken_own scope None = None
+broken_own scope (Some amount) = broken_amount scope amount
+
+abbrev pub broken_assignment : Scope → TargetTree → Option DelayTree → text.ExpressionTree → Option Rule
+broken_assignment scope target amount value =
+    option_or (broken_target scope target) (option_or (broken_own scope amount) (broken_expression scope value))
 
 abbrev pub broken_task : Scope → TaskTree → Option Rule
 broken_task scope (print kind arguments) = broken_line scope arguments

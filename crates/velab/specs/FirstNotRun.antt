@@ -1,6 +1,6 @@
 -- Where what isn't run yet begins (E299): the token at which the first construct of a text begins that
 -- doesn't run (`Runs`). A construct begins with the first token that its tree keeps: of `-a`, `(a)` and `$signed(a)` that is `a`.
-use Rattle.std.specs.Prelude.{ℕ, Bool, if◌then◌else◌, List, [], ◌∷◌, Option, Some, None, option_map}
+use Rattle.std.specs.Prelude.{ℕ, Bool, not, Vec, if◌then◌else◌, List, [], ◌∷◌, Option, Some, None, option_map}
 use Rattle.std.specs.Option.{option_or}
 use Rattle.vast.specs.Words.{Text}
 use Rattle.vast.specs.StatementTrees.{task_tree}
@@ -14,28 +14,7 @@ use Rattle.vast.specs.declared.module.ModuleItem.{ModuleItem}
 use Rattle.vast.specs.declared.module.ModuleItem.TheVariants as items
 use Rattle.vast.specs.declared.module.ModuleTree.{ModuleTree}
 use Rattle.vast.specs.declared.module.TextTree.{TextTree}
-use Rattle.velab.specs.Runs.{runs_task}
-
--- The tokens that constructs begin with
-
-abbrev pub first_token : Expression → ℕ
-first_token (Number word) = word.number
-first_token (Name word) = word.number
-first_token (Time at) = at
-first_token (Bit' name place index) = name.number
-first_token (Part' name place left place_too right) = name.number
-first_token (Parentheses' place inner) = first_token inner
-first_token (Concatenation' at shape row) = at
-first_token (Replication' at place count shape row) = at
-first_token (Conversion' signed place operand) = first_token operand
-first_token (Unary' operator place operand) = first_token operand
-first_token (Binary' operator place left place_too right) = first_token left
-first_token (Conditional' place condition place_too when_true place_last when_false) = first_token condition
-
-abbrev pub delay_token : Delay → ℕ
-delay_token (delays.Number word) = word.number
-delay_token (delays.Name word) = word.number
-delay_token (delays.Value value) = first_token value.value
+use Rattle.velab.specs.Runs.{has_ports, runs_task}
 
 -- Where the first of several constructs begins that isn't run: each is looked at in turn
 
@@ -47,9 +26,8 @@ abbrev pub first_among : {A : Type 0} → (A → Option ℕ) → List A → Opti
 first_among place [] = None
 first_among place (one ∷ more) = option_or (place one) (first_among place more)
 
--- no delay of an assignment's own is run
-abbrev pub in_assignment : Option Delay → Option ℕ
-in_assignment amount = option_map delay_token amount
+abbrev pub listed : {Q X : Type 0} → Option (Vec Q X) → Option (List Q)
+listed {Q = Q} {X = X} ports = option_map (λ (list : Vec Q X). list.items) ports
 
 module _ (words : List Text) where
   abbrev pub in_task : ℕ → Task → Option ℕ
@@ -59,8 +37,8 @@ module _ (words : List Text) where
     pub in_statement : Statement → Option ℕ
     in_statement Empty = None
     in_statement (Block' shape row) = in_row row
-    in_statement (Assign at target amount value) = in_assignment amount
-    in_statement (Nonblocking at target amount value) = in_assignment amount
+    in_statement (Assign at target amount value) = None
+    in_statement (Nonblocking at target amount value) = None
     in_statement (Trigger at name) = Some at
     in_statement (If' at condition place body) = in_statement body
     in_statement (IfElse' at condition place body place_too other) = option_or (in_statement body) (in_statement other)
@@ -105,11 +83,11 @@ module _ (words : List Text) where
   in_items list = first_among in_item list
 
   -- ports of a module's head aren't run: they are told of at the module's name
-  abbrev pub in_head : {Q : Type 0} → ℕ → Option Q → Option ℕ
-  in_head at ports = option_map (λ _. at) ports
+  abbrev pub in_head : ModuleTree → Option ℕ
+  in_head m = unless_run (not (has_ports (listed m.ports))) m.name.number
 
   abbrev pub in_module : ModuleTree → Option ℕ
-  in_module m = option_or (in_head m.name.number m.ports) (in_items m.items.items)
+  in_module m = option_or (in_head m) (in_items m.items.items)
 
   -- the whole text
   abbrev pub first_not_run : TextTree → Option ℕ

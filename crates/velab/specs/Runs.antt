@@ -7,10 +7,6 @@ use Rattle.vast.specs.Statements.{TargetTree, DelayTree, by_number, by_name, by_
 use Rattle.vast.specs.Statements as written
 use Rattle.vast.specs.Modules.{ItemTree, parameters, declaration, events, assignments, initial, always, instances, ModuleTree, SourceTree}
 
--- an assignment of either kind, without a delay of its own
-abbrev pub runs_assignment : Option DelayTree → Bool
-runs_assignment amount = not (is_some amount)
-
 abbrev pub is_zero : Option ℕ → Bool
 is_zero None = false
 is_zero (Some n) = n == 0
@@ -34,8 +30,8 @@ abbrev mutual
   pub runs_statement : StatementTree → Bool
   runs_statement empty = true
   runs_statement (block statements) = runs_statements statements
-  runs_statement (assign target amount value) = runs_assignment amount
-  runs_statement (nonblocking target amount value) = runs_assignment amount
+  runs_statement (assign target amount value) = true
+  runs_statement (nonblocking target amount value) = true
   runs_statement (trigger letters) = false
   runs_statement (if_true condition body) = runs_statement body
   runs_statement (if_else condition body other) = runs_statement body && runs_statement other
@@ -71,8 +67,13 @@ runs_item (always statement) = runs_statement statement
 runs_item (instances letters overrides list) = false
 
 -- without ports
+abbrev pub has_ports : {Q : Type 0} → Option (List Q) → Bool
+has_ports None = false
+has_ports (Some []) = false
+has_ports (Some (port ∷ ports)) = true
+
 abbrev pub runs_module : ModuleTree → Bool
-runs_module m = not (is_some m.ports) && list_all runs_item m.items
+runs_module m = not (has_ports m.ports) && list_all runs_item m.items
 
 abbrev pub runs : SourceTree → Bool
 runs modules = list_all runs_module modules

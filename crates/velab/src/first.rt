@@ -12,41 +12,9 @@ ghost use Rattle.velab.specs.FirstNotRun as place;
 
 use crate::letters::letters;
 use crate::number::constant_of;
-use vast::expression::Expression;
-use vast::module::{ModuleItem, ModuleTree, TextTree};
-use vast::statement::{Branch, Delay, Selection, Statement, Task};
+use vast::module::{ModuleItem, ModuleTree, Port, TextTree};
+use vast::statement::{Branch, Selection, Statement, Task};
 use vlex::Tokens;
-
-// The number of the first token that an expression keeps.
-fn first_token(expression: &Expression) -> u32
-    ensures { result ≡ place.first_token expression.now }
-{
-    match expression {
-        Expression::Number(word) => word.number,
-        Expression::Name(word) => word.number,
-        Expression::Time { at } => *at,
-        Expression::Bit { name, .. } => name.number,
-        Expression::Part { name, .. } => name.number,
-        Expression::Parentheses(inner) => first_token(inner),
-        Expression::Concatenation { at, .. } => *at,
-        Expression::Replication { at, .. } => *at,
-        Expression::Conversion { operand, .. } => first_token(operand),
-        Expression::Unary { operand, .. } => first_token(operand),
-        Expression::Binary { left, .. } => first_token(left),
-        Expression::Conditional { condition, .. } => first_token(condition),
-    }
-}
-
-// The number of the first token of a delay's amount.
-fn delay_token(delay: &Delay) -> u32
-    ensures { result ≡ place.delay_token delay.now }
-{
-    match delay {
-        Delay::Number(word) => word.number,
-        Delay::Name(word) => word.number,
-        Delay::Value(value) => first_token(value),
-    }
-}
 
 /// Whether all levels are dumped, and no scope is named (18.1.2).
 pub fn is_whole(tokens: &Tokens<'_>, selection: &Selection) -> bool
@@ -89,16 +57,6 @@ fn in_task(tokens: &Tokens<'_>, at: u32, task: &Task) -> Option<u32>
     }
 }
 
-// An assignment of either kind.
-fn in_assignment(amount: &Option<Delay>) -> Option<u32>
-    ensures { result ≡ place.in_assignment amount.now }
-{
-    match amount {
-        None => None,
-        Some(amount) => Some(delay_token(amount)),
-    }
-}
-
 #[cycle(looking)]
 fn in_statement(tokens: &Tokens<'_>, whole: &Statement) -> Option<u32>
     ensures { result ≡ place.in_statement (words_of tokens.now) whole.now }
@@ -106,8 +64,8 @@ fn in_statement(tokens: &Tokens<'_>, whole: &Statement) -> Option<u32>
     match whole {
         Statement::Empty => None,
         Statement::Block(list) => in_statements(tokens, list),
-        Statement::Assign { delay, .. } => in_assignment(delay),
-        Statement::Nonblocking { delay, .. } => in_assignment(delay),
+        Statement::Assign { .. } => None,
+        Statement::Nonblocking { .. } => None,
         Statement::Delayed { body, .. } => in_statement(tokens, body),
         Statement::Task { at, task } => in_task(tokens, *at, task),
         Statement::Trigger { at, .. } => Some(*at),
@@ -185,10 +143,20 @@ fn in_items(tokens: &Tokens<'_>, list: &[ModuleItem]) -> Option<u32>
     None
 }
 
+// Whether a module has ports: `( )` is none.
+fn has_ports(ports: &Option<Vec<Port>>) -> bool
+    ensures { result ≡ running.has_ports (place.listed ports.now) }
+{
+    match ports {
+        None => false,
+        Some(list) => list.len() > 0,
+    }
+}
+
 fn in_module(tokens: &Tokens<'_>, whole: &ModuleTree) -> Option<u32>
     ensures { result ≡ place.in_module (words_of tokens.now) whole.now }
 {
-    if whole.ports.is_some() {
+    if has_ports(&whole.ports) {
         return Some(whole.name.number);
     }
     in_items(tokens, &whole.items)

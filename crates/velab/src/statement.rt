@@ -79,8 +79,9 @@ fn put(
     Ok(())
 }
 
-fn assigning(blocking: bool, targets: Targets, value: Expression) -> Action
-    ensures { result ≡ spec.assigning blocking targets value }
+// What an assignment without a delay of its own does.
+fn undelayed(blocking: bool, targets: Targets, value: Expression) -> Action
+    ensures { result ≡ spec.assigning blocking None targets value }
 {
     if blocking {
         Action::Assign { targets, value }
@@ -89,7 +90,87 @@ fn assigning(blocking: bool, targets: Targets, value: Expression) -> Action
     }
 }
 
-// An assignment of either kind: one with a delay of its own isn't run yet, and lays nothing.
+// What an assignment with a delay of its own does.
+fn delayed(blocking: bool, amount: Expression, targets: Targets, value: Expression) -> Action
+    ensures { result ≡ spec.assigning blocking (Some amount) targets value }
+{
+    if blocking {
+        Action::Held {
+            amount,
+            targets,
+            value,
+        }
+    } else {
+        Action::Posted {
+            amount,
+            targets,
+            value,
+        }
+    }
+}
+
+// What an assignment of either kind does.
+fn assigning(
+    blocking: bool,
+    amount: Option<Expression>,
+    targets: Targets,
+    value: Expression,
+) -> Action
+    ensures { result ≡ spec.assigning blocking amount targets value }
+{
+    match amount {
+        None => undelayed(blocking, targets, value),
+        Some(amount) => delayed(blocking, amount, targets, value),
+    }
+}
+
+// For how long a delay waits.
+fn amount_of(
+    alloc: Global,
+    scope: &Scope<'_, '_>,
+    tokens: &Tokens<'_>,
+    amount: &Delay,
+) -> Result<Expression, OrMemory<ElabFault>>
+    requires { scope.now.variables ≤ 1024 }
+    ensures ok { IfOk result (λ e.
+        e ≡ spec.amount_of scope.now (delay_tree (words_of tokens.now) amount.now)) }
+    ensures right { OnOk result
+        (spec.broken_amount scope.now (delay_tree (words_of tokens.now) amount.now) ≡ None) }
+    ensures err { IfFault result (IsBroken
+        (spec.broken_amount scope.now (delay_tree (words_of tokens.now) amount.now))) }
+{
+    match amount {
+        Delay::Number(word) => alone(alloc, Node::Constant(constant_of(letters(tokens, *word)))),
+        Delay::Name(word) => expression_of_name(alloc, scope, tokens, *word),
+        Delay::Value(value) => expression_of(alloc, scope, tokens, value),
+    }
+}
+
+// The amount of an assignment's own delay, if it has one.
+fn own_amount(
+    alloc: Global,
+    scope: &Scope<'_, '_>,
+    tokens: &Tokens<'_>,
+    amount: &Option<Delay>,
+) -> Result<Option<Expression>, OrMemory<ElabFault>>
+    requires { scope.now.variables ≤ 1024 }
+    ensures ok { IfOk result (λ e. e ≡ option_map (spec.amount_of scope.now)
+        (option_map (delay_tree (words_of tokens.now)) amount.now)) }
+    ensures right { OnOk result (spec.broken_own scope.now
+        (option_map (delay_tree (words_of tokens.now)) amount.now) ≡ None) }
+    ensures err { IfFault result (IsBroken (spec.broken_own scope.now
+        (option_map (delay_tree (words_of tokens.now)) amount.now))) }
+{
+    match amount {
+        None => Ok(None),
+        Some(amount) => {
+            let amount = amount_of(alloc, scope, tokens, amount)?;
+            Ok(Some(amount))
+        }
+    }
+}
+
+// An assignment of either kind.
 fn lay_assignment(
     alloc: Global,
     scope: &Scope<'_, '_>,
@@ -115,36 +196,11 @@ fn lay_assignment(
         (option_map (delay_tree (words_of tokens.now)) amount.now)
         (text_tree (words_of tokens.now) value.now))) }
 {
-    match amount {
-        None => {
-            let targets = targets_of(alloc, scope, tokens, target)?;
-            let value = expression_of(alloc, scope, tokens, value)?;
-            put(table, into, first_token(target), assigning(blocking, targets, value))
-        }
-        Some(_) => Ok(()),
-    }
-}
-
-// For how long a delay waits.
-fn amount_of(
-    alloc: Global,
-    scope: &Scope<'_, '_>,
-    tokens: &Tokens<'_>,
-    amount: &Delay,
-) -> Result<Expression, OrMemory<ElabFault>>
-    requires { scope.now.variables ≤ 1024 }
-    ensures ok { IfOk result (λ e.
-        e ≡ spec.amount_of scope.now (delay_tree (words_of tokens.now) amount.now)) }
-    ensures right { OnOk result
-        (spec.broken_amount scope.now (delay_tree (words_of tokens.now) amount.now) ≡ None) }
-    ensures err { IfFault result (IsBroken
-        (spec.broken_amount scope.now (delay_tree (words_of tokens.now) amount.now))) }
-{
-    match amount {
-        Delay::Number(word) => alone(alloc, Node::Constant(constant_of(letters(tokens, *word)))),
-        Delay::Name(word) => expression_of_name(alloc, scope, tokens, *word),
-        Delay::Value(value) => expression_of(alloc, scope, tokens, value),
-    }
+    let targets = targets_of(alloc, scope, tokens, target)?;
+    let amount = own_amount(alloc, scope, tokens, amount)?;
+    let value = expression_of(alloc, scope, tokens, value)?;
+    let action = assigning(blocking, amount, targets, value);
+    put(table, into, first_token(target), action)
 }
 
 // What an `if` does.
