@@ -16,7 +16,7 @@ use Rattle.vast.specs.declared.module.NetKind.{NetKind}
 use Rattle.vast.specs.declared.module.NetKind.TheVariants as net
 use Rattle.vdesign.specs.Design as design
 use Rattle.vdesign.specs.declared.action.Action.{Action}
-use Rattle.vdesign.specs.declared.action.Action.TheVariants.{Assign, Nonblocking, Held, Posted, Test, Case, Again, Repeat, Forever, Delay, On, Until, Drive, Print, Dump, Pass, Finish, Stop}
+use Rattle.vdesign.specs.declared.action.Action.TheVariants.{Assign, Nonblocking, Held, Posted, Trigger, Test, Case, Again, Repeat, Forever, Delay, On, Until, Drive, Print, Dump, Pass, Finish, Stop}
 use Rattle.vdesign.specs.declared.action.Branch.{Branch}
 use Rattle.vdesign.specs.declared.dump.DumpCommand.TheVariants as commands
 use Rattle.vast.specs.declared.statement.Dumping.{Dumping}
@@ -33,9 +33,9 @@ use Rattle.vvalue.specs.declared.flaw.Flaw.{Flaw}
 use Rattle.velab.specs.declared.fault.Rule.{Rule}
 use Rattle.velab.specs.declared.fault.Rule.TheVariants as rule
 use Rattle.velab.specs.declared.scope.Meaning.{Meaning}
-use Rattle.velab.specs.declared.scope.Meaning.TheVariants.{Parameter}
+use Rattle.velab.specs.declared.scope.Meaning.TheVariants.{Parameter, Event}
 use Rattle.velab.specs.Rules.{unless, broken_if, flaw_rule, rules_in}
-use Rattle.velab.specs.Scopes.{Scope, at, is_declared, number_of, broken_name, broken_variable}
+use Rattle.velab.specs.Scopes.{Scope, at, is_declared, number_of, event_of, broken_name, broken_variable, broken_event}
 use Rattle.velab.specs.Constants.{nothing, worth, bound_in}
 use Rattle.velab.specs.Resolved.{resolved, broken_expression, broken_constant}
 use Rattle.velab.specs.Written.{row_of, broken_target}
@@ -199,15 +199,12 @@ driven_names m = flat_map drivers_by m.items
 abbrev pub home_of : ModuleTree → Home
 home_of m = record { name = m.name; driven = driven_names m }
 
--- ---- parameters (4.10, 12.2)
+-- ---- parameters (4.10, 12.2) and named events (9.7.3)
 
--- a parameter as it is written, with its type where one is
-pub record Given : Type 0 where
-  pub type : Option ParameterType
-  pub setting : SettingTree
-
-abbrev pub given : Option ParameterType → SettingTree → Given
-given type setting = record { type = type; setting = setting }
+-- a parameter as it is written, with its type where one is, or a named event
+pub data Given : Type 0 where
+  given : Option ParameterType → SettingTree → Given
+  event_given : Text → Given
 
 -- in the head of a module one without a type has that of the one before it
 abbrev pub given_behind : Option ParameterType → List HeadParameter → List Given
@@ -221,7 +218,7 @@ given_in_head (Some list) = given_behind None list
 abbrev pub given_by : ItemTree → List Given
 given_by (parameters local type settings) = map (given (Some type)) settings
 given_by (declaration kind list) = []
-given_by (events names) = []
+given_by (events names) = map event_given names
 given_by (assignments settings) = []
 given_by (initial statement) = []
 given_by (always statement) = []
@@ -248,17 +245,26 @@ broken_type scope None = None
 broken_type scope (Some integer) = None
 broken_type scope (Some (typed type)) = broken_range scope type.range
 
-abbrev pub parameter_of : Scope → Given → Meaning
-parameter_of scope one =
-    let bounds = parameter_bounds scope one.type in
-    Parameter (parameter_by one.type bounds (resolved scope one.setting.value)) bounds scope.known
+abbrev pub parameter_of : Scope → Option ParameterType → SettingTree → Meaning
+parameter_of scope type setting =
+    let bounds = parameter_bounds scope type in
+    Parameter (parameter_by type bounds (resolved scope setting.value)) bounds scope.known
+
+-- an event goes by its place among the others
+abbrev pub meaning_in : Scope → Given → Meaning
+meaning_in scope (given type setting) = parameter_of scope type setting
+meaning_in scope (event_given name) = Event scope.known
+
+abbrev pub name_in : Given → Text
+name_in (given type setting) = setting.name
+name_in (event_given name) = name
 
 -- a parameter is known from its place on, to what stands behind it
 abbrev pub with_given : Scope → Given → Scope
 with_given scope one = record {
-  names = scope.names ++ one.setting.name ∷ [];
+  names = scope.names ++ name_in one ∷ [];
   variables = scope.variables;
-  others = scope.others ++ parameter_of scope one ∷ [];
+  others = scope.others ++ meaning_in scope one ∷ [];
   known = scope.known + 1;
 }
 
@@ -266,21 +272,24 @@ abbrev pub with_all : Scope → List Given → Scope
 with_all scope [] = scope
 with_all scope (one ∷ more) = with_all (with_given scope one) more
 
--- its name is new, its range is right, and its value constant
+-- the range of a parameter is right, and its value constant
+abbrev pub broken_setting : Scope → Given → Option Rule
+broken_setting scope (given type setting) = option_or (broken_type scope type) (broken_constant scope setting.value)
+broken_setting scope (event_given name) = None
+
+-- and its name is new
 abbrev pub broken_given : Scope → Given → Option Rule
-broken_given scope one =
-    option_or (broken_type scope one.type)
-    (option_or (broken_constant scope one.setting.value) (broken_if (is_declared scope.names one.setting.name) rule.Doubled))
+broken_given scope one = option_or (broken_setting scope one) (broken_if (is_declared scope.names (name_in one)) rule.Doubled)
 
 abbrev pub broken_all : Scope → List Given → Option Rule
 broken_all scope [] = None
 broken_all scope (one ∷ more) = option_or (broken_given scope one) (broken_all (with_given scope one) more)
 
--- what is known behind an item: its parameters too
+-- what is known behind an item: its parameters and events too
 abbrev pub behind_item : Scope → ItemTree → Scope
 behind_item scope item = at scope (scope.known + length (given_by item))
 
--- the names of variables, and no parameters
+-- the names of variables, and no others
 abbrev pub first_scope : ModuleTree → Scope
 first_scope m = record { names = declared_names m; variables = length (declared_names m); others = []; known = 0 }
 
@@ -376,7 +385,7 @@ abbrev mutual
   laid scope table (block statements) = all_laid scope table statements
   laid scope table (assign target amount value) = laid_assignment true scope table target amount value
   laid scope table (nonblocking target amount value) = laid_assignment false scope table target amount value
-  laid scope table (trigger letters) = nothing_laid table
+  laid scope table (trigger letters) = placed table (Trigger (event_of scope letters))  -- 9.7.3
   laid scope table (if_true condition body) =
       let inner = laid scope table body in placed inner.table (Test (resolved scope condition) inner.places [])
   laid scope table (if_else condition body other) =
@@ -490,7 +499,7 @@ abbrev mutual
   broken_in scope (block statements) = broken_in_all scope statements
   broken_in scope (assign target amount value) = broken_assignment scope target amount value
   broken_in scope (nonblocking target amount value) = broken_assignment scope target amount value
-  broken_in scope (trigger letters) = None
+  broken_in scope (trigger letters) = broken_event scope letters
   broken_in scope (if_true condition body) = option_or (broken_expression scope condition) (broken_in scope body)
   broken_in scope (if_else condition body other) =
       option_or (broken_expression scope condition) (option_or (broken_in scope body) (broken_in scope other))

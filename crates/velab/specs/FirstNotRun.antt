@@ -39,7 +39,7 @@ module _ (words : List Text) where
     in_statement (Block' shape row) = in_row row
     in_statement (Assign at target amount value) = None
     in_statement (Nonblocking at target amount value) = None
-    in_statement (Trigger at name) = Some at
+    in_statement (Trigger at name) = None
     in_statement (If' at condition place body) = in_statement body
     in_statement (IfElse' at condition place body place_too other) = option_or (in_statement body) (in_statement other)
     in_statement (Case' at kind value shape row) = in_branch_row row
@@ -73,7 +73,7 @@ module _ (words : List Text) where
   abbrev pub in_item : ModuleItem → Option ℕ
   in_item (items.Parameters at local type settings) = None
   in_item (items.Declaration at kind declared) = None
-  in_item (items.Events at names) = Some at
+  in_item (items.Events at names) = None
   in_item (items.Assignments at settings) = None
   in_item (items.Initial at statement) = in_statement statement
   in_item (items.Always at statement) = in_statement statement

@@ -20,6 +20,7 @@ use Rattle.vast.specs.declared.module.ModuleTree.{ModuleTree as Parsed}
 use Rattle.vast.specs.declared.module.ModuleItem.{ModuleItem}
 use Rattle.vast.specs.declared.module.Declared.{Declared}
 use Rattle.vast.specs.declared.module.Setting.{Setting}
+use Rattle.vast.specs.declared.token.Token.{Token}
 use Rattle.vast.specs.declared.module.Bounds.{Bounds as Written}
 use Rattle.vast.specs.declared.module.HeadParameter.{HeadParameter as HeadWords}
 use Rattle.vast.specs.declared.module.ParameterType.{ParameterType as ParameterWords}
@@ -32,7 +33,7 @@ use Rattle.velab.specs.Literals.{digit_letters}
 use Rattle.velab.specs.declared.variable.Form.{Form}
 use Rattle.format_text.specs.Pieces.{Argument, Printed, pieces_with}
 use Rattle.vdesign.specs.declared.action.Action.{Action}
-use Rattle.velab.specs.Elaborate.{Laid, Processes, has_double, declarations_of, laid, all_laid, laid_processes, laid_items, bounds_of, span, variable_by, variable_of, LaidBranches, laid_branch, laid_branches, process_trees_by, ProcessTree, process_of, driven_by, broken_processes, Home, driver_of, drivers_by, Given, given, given_by, given_in_head}
+use Rattle.velab.specs.Elaborate.{Laid, Processes, has_double, declarations_of, laid, all_laid, laid_processes, laid_items, bounds_of, span, variable_by, variable_of, LaidBranches, laid_branch, laid_branches, process_trees_by, ProcessTree, process_of, driven_by, broken_processes, Home, driver_of, drivers_by, Given, given, event_given, given_by, given_in_head}
 use Rattle.vdesign.specs.declared.action.Branch.{Branch}
 
 -- ---- parts of a module
@@ -104,6 +105,9 @@ given_of words kind setting = given (type_of words kind) (setting_tree words set
 
 abbrev pub given_all : List Text → ParameterWords → List Setting → List Given
 given_all words kind list = map (given (Some (parameter_type words kind))) (map (setting_tree words) list)
+
+abbrev pub events_given : List Text → List Token → List Given
+events_given words names = map event_given (map (token_text words) names)
 
 abbrev pub given_in : List Text → List ModuleItem → List Given
 given_in words items = flat_map given_by (map (item_tree words) items)

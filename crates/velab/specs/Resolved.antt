@@ -15,13 +15,13 @@ use Rattle.velab.specs.Constants.{worth, also_flawed, part_bounds, count_in}
 use Rattle.velab.specs.declared.fault.Rule.{Rule}
 use Rattle.velab.specs.declared.fault.Rule.TheVariants.{Width, Constant}
 use Rattle.velab.specs.declared.scope.Meaning.{Meaning}
-use Rattle.velab.specs.declared.scope.Meaning.TheVariants.{Variable, Parameter}
+use Rattle.velab.specs.declared.scope.Meaning.TheVariants.{Variable, Parameter, Event}
 
 -- a value as it is: it isn't extended by its leftmost letter
 abbrev pub plain : Vector → ExpressionTree
 plain value = constant (record { value = value; spreads = false })
 
--- a concatenation of nothing, or a name that isn't declared: no text of a design has one
+-- a concatenation of nothing, a name that isn't declared, or that of an event: no text of a design has one
 abbrev pub no_parts : ExpressionTree
 no_parts = plain (filled 1 X)
 
@@ -35,18 +35,21 @@ abbrev pub resolved_name : Option Meaning → ExpressionTree
 resolved_name None = no_parts
 resolved_name (Some (Variable number)) = variable number
 resolved_name (Some (Parameter value bounds before)) = plain value
+resolved_name (Some (Event number)) = no_parts
 
 -- name [ index ]
 abbrev pub resolved_bit : Option Meaning → ExpressionTree → ExpressionTree
 resolved_bit None index = no_parts
 resolved_bit (Some (Variable number)) index = bit number index
 resolved_bit (Some (Parameter value bounds before)) index = plain (bit_of value (bounds_for value bounds) (worth index))
+resolved_bit (Some (Event number)) index = no_parts
 
 -- name [ left : right ]
 abbrev pub resolved_part : Option Meaning → Bounds → ExpressionTree
 resolved_part None selected = no_parts
 resolved_part (Some (Variable number)) selected = part number selected
 resolved_part (Some (Parameter value bounds before)) selected = plain (part_of value (bounds_for value bounds) selected (part_size selected))
+resolved_part (Some (Event number)) selected = no_parts
 
 -- a variable goes by its number; parentheses have done their work
 abbrev mutual
@@ -76,12 +79,14 @@ abbrev pub index_rule : Option Meaning → Option Rule → Option Rule → Optio
 index_rule None of_variable of_parameter = None
 index_rule (Some (Variable number)) of_variable of_parameter = of_variable
 index_rule (Some (Parameter value bounds before)) of_variable of_parameter = of_parameter
+index_rule (Some (Event number)) of_variable of_parameter = None
 
 -- the part of a variable is looked at in the finished design
 abbrev pub part_rule : Option Meaning → Bounds → Option Rule
 part_rule None selected = None
 part_rule (Some (Variable number)) selected = None
 part_rule (Some (Parameter value bounds before)) selected = unless (is_part (bounds_for value bounds) selected) Width
+part_rule (Some (Event number)) selected = None
 
 -- The first rule that a name in an expression breaks, or a constant in it. An expression may itself have to be constant.
 abbrev mutual

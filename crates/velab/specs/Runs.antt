@@ -1,5 +1,5 @@
 -- What runs of a text today: all else is refused (E299; docs/LANGUAGE.md, "What runs").
-use Rattle.std.specs.Prelude.{ℕ, ◌==◌, Bool, true, false, ◌&&◌, not, length, is_some, Option, Some, None}
+use Rattle.std.specs.Prelude.{ℕ, ◌==◌, Bool, true, false, ◌&&◌, not, List, [], ◌∷◌, length, Option, Some, None}
 use Rattle.vbits.specs.Numbers.{number}
 use Rattle.velab.specs.Literals.{constant_of}
 use Rattle.std.specs.List.{list_all}
@@ -32,7 +32,7 @@ abbrev mutual
   runs_statement (block statements) = runs_statements statements
   runs_statement (assign target amount value) = true
   runs_statement (nonblocking target amount value) = true
-  runs_statement (trigger letters) = false
+  runs_statement (trigger letters) = true
   runs_statement (if_true condition body) = runs_statement body
   runs_statement (if_else condition body other) = runs_statement body && runs_statement other
   runs_statement (case_of kind value branches) = runs_branches branches
@@ -60,7 +60,7 @@ abbrev mutual
 abbrev pub runs_item : ItemTree → Bool
 runs_item (parameters local type settings) = true
 runs_item (declaration kind list) = true
-runs_item (events names) = false
+runs_item (events names) = true
 runs_item (assignments settings) = true
 runs_item (initial statement) = runs_statement statement
 runs_item (always statement) = runs_statement statement

@@ -1,4 +1,4 @@
--- What a module's names stand for (IEEE 1364-2005, 4.10, 12.7).
+-- What a module's names stand for (IEEE 1364-2005, 4.10, 9.7.3, 12.7).
 use Rattle.std.specs.Prelude.{ℕ, ◌-◌, nat_lt, Bool, cond, not, ◌||◌, List, slice_get, position, Option, None, Some, unwrap_or, option_and_then}
 use Rattle.std.specs.List.{list_any}
 use Rattle.std.specs.Str.{bytes_eq}
@@ -10,17 +10,17 @@ use Rattle.velab.specs.Rules.{unless}
 use Rattle.velab.specs.declared.fault.Rule.{Rule}
 use Rattle.velab.specs.declared.fault.Rule.TheVariants.{Unknown, Constant, Kind}
 use Rattle.velab.specs.declared.scope.Meaning.{Meaning}
-use Rattle.velab.specs.declared.scope.Meaning.TheVariants.{Variable, Parameter}
+use Rattle.velab.specs.declared.scope.Meaning.TheVariants.{Variable, Parameter, Event}
 
--- The names of a module: those of its variables, so many, and behind them others, with what they stand for. So many of its
--- parameters stand before the place that is looked at.
+-- The names of a module: those of its variables, so many, and behind them others, parameters and named events, with what they stand
+-- for. So many of the others stand before the place that is looked at.
 pub record Scope : Type 0 where
   pub names : List Text
   pub variables : ℕ
   pub others : List Meaning
   pub known : ℕ
 
--- the same where so many parameters stand before
+-- the same where so many others stand before
 abbrev pub at : Scope → ℕ → Scope
 at scope count = record { names = scope.names; variables = scope.variables; others = scope.others; known = count }
 
@@ -44,15 +44,17 @@ abbrev pub broken_meaning : Bool → ℕ → Option Meaning → Option Rule
 broken_meaning constant known None = Some Unknown
 broken_meaning constant known (Some (Variable number)) = unless (not constant) Constant
 broken_meaning constant known (Some (Parameter value bounds before)) = unless (not constant || nat_lt before known) Unknown
+broken_meaning constant known (Some (Event number)) = Some Kind  -- an event has no value
 
 abbrev pub broken_name : Bool → Scope → Text → Option Rule
 broken_name constant scope letters = broken_meaning constant scope.known (meaning_of scope letters)
 
--- what is written or waited for is a variable
+-- what is written is a variable
 abbrev pub not_variable : Option Meaning → Option Rule
 not_variable None = Some Unknown
 not_variable (Some (Variable number)) = None
 not_variable (Some (Parameter value bounds before)) = Some Kind
+not_variable (Some (Event number)) = Some Kind
 
 abbrev pub broken_variable : Scope → Text → Option Rule
 broken_variable scope letters = not_variable (meaning_of scope letters)
@@ -62,6 +64,27 @@ abbrev pub number_by : Option Meaning → ℕ
 number_by None = 0
 number_by (Some (Variable number)) = number
 number_by (Some (Parameter value bounds before)) = 0
+number_by (Some (Event number)) = 0
 
 abbrev pub number_of : Scope → Text → ℕ
 number_of scope letters = number_by (meaning_of scope letters)
+
+-- what is triggered is a named event (9.7.3)
+abbrev pub not_event : Option Meaning → Option Rule
+not_event None = Some Unknown
+not_event (Some (Variable number)) = Some Kind
+not_event (Some (Parameter value bounds before)) = Some Kind
+not_event (Some (Event number)) = None
+
+abbrev pub broken_event : Scope → Text → Option Rule
+broken_event scope letters = not_event (meaning_of scope letters)
+
+-- the number of a named event; 0, which stands nowhere, of what is none
+abbrev pub event_by : Option Meaning → ℕ
+event_by None = 0
+event_by (Some (Variable number)) = 0
+event_by (Some (Parameter value bounds before)) = 0
+event_by (Some (Event number)) = number
+
+abbrev pub event_of : Scope → Text → ℕ
+event_of scope letters = event_by (meaning_of scope letters)

@@ -11,11 +11,12 @@ use Rattle.vast.specs.declared.statement.Edge.TheVariants.{Rising, Falling}
 use Rattle.vdesign.specs.declared.action.Edge.{Edge}
 use Rattle.vdesign.specs.declared.action.Edge.TheVariants.{Any, Rise, Fall}
 use Rattle.vdesign.specs.declared.action.Term.{Term}
-use Rattle.vdesign.specs.declared.action.Term.TheVariants.{Change}
+use Rattle.vdesign.specs.declared.action.Term.TheVariants.{Change, Event as Triggered}
 use Rattle.velab.specs.declared.fault.Rule.{Rule}
+use Rattle.velab.specs.declared.fault.Rule.TheVariants.{Unknown, Kind}
 use Rattle.velab.specs.declared.scope.Meaning.{Meaning}
-use Rattle.velab.specs.declared.scope.Meaning.TheVariants.{Variable, Parameter}
-use Rattle.velab.specs.Scopes.{Scope, meaning_of, number_of, broken_variable}
+use Rattle.velab.specs.declared.scope.Meaning.TheVariants.{Variable, Parameter, Event}
+use Rattle.velab.specs.Scopes.{Scope, meaning_of}
 
 -- ---- terms (9.7.2)
 
@@ -25,8 +26,15 @@ edge_of None = Any
 edge_of (Some Rising) = Rise
 edge_of (Some Falling) = Fall
 
+-- a change of a variable, or a named event (9.7.3)
+abbrev pub term_for : Edge → Option Meaning → Term
+term_for edge None = Change edge 0
+term_for edge (Some (Variable number)) = Change edge number
+term_for edge (Some (Parameter value bounds before)) = Change edge 0
+term_for edge (Some (Event number)) = Triggered number
+
 abbrev pub term_by : Scope → Edge → Text → Term
-term_by scope edge name = Change edge (number_of scope name)
+term_by scope edge name = term_for edge (meaning_of scope name)
 
 abbrev pub term_of : Scope → TermTree → Term
 term_of scope term = term_by scope (edge_of term.edge) term.name
@@ -35,11 +43,12 @@ term_of scope term = term_by scope (edge_of term.edge) term.name
 abbrev pub further_term_of : Scope → FurtherTerm → Term
 further_term_of scope further = term_of scope further.term
 
--- any change of a variable is heard; a parameter never changes
+-- any change of a variable is heard; a parameter never changes, and an event has no value
 abbrev pub heard : Option Meaning → List Term
 heard None = []
 heard (Some (Variable number)) = Change Any number ∷ []
 heard (Some (Parameter value bounds before)) = []
+heard (Some (Event number)) = []
 
 -- any change of each of these
 abbrev pub heard_by : Scope → Text → List Term
@@ -158,13 +167,32 @@ terms_of scope by_any body = any_of scope (read_by body)
 terms_of scope by_any_enclosed body = any_of scope (read_by body)
 terms_of scope (by_terms term further) body = term_of scope term ∷ map (further_term_of scope) further
 
+-- an event has no edges
+abbrev pub edge_rule : Edge → Option Rule
+edge_rule Any = None
+edge_rule Rise = Some Kind
+edge_rule Fall = Some Kind
+
+-- what is waited for is a variable or a named event
+abbrev pub not_heard : Edge → Option Meaning → Option Rule
+not_heard edge None = Some Unknown
+not_heard edge (Some (Variable number)) = None
+not_heard edge (Some (Parameter value bounds before)) = Some Kind
+not_heard edge (Some (Event number)) = edge_rule edge
+
+abbrev pub broken_by : Scope → Edge → Text → Option Rule
+broken_by scope edge name = not_heard edge (meaning_of scope name)
+
+abbrev pub broken_term : Scope → TermTree → Option Rule
+broken_term scope term = broken_by scope (edge_of term.edge) term.name
+
 abbrev pub broken_further : Scope → List FurtherTerm → Option Rule
 broken_further scope [] = None
-broken_further scope (further ∷ more) = option_or (broken_variable scope further.term.name) (broken_further scope more)
+broken_further scope (further ∷ more) = option_or (broken_term scope further.term) (broken_further scope more)
 
--- each name that stands in the control is a variable's
+-- each name that stands in the control is a variable's or a named event's
 abbrev pub broken_control : Scope → EventTree → Option Rule
-broken_control scope (by_event letters) = broken_variable scope letters
+broken_control scope (by_event letters) = broken_by scope Any letters
 broken_control scope by_any = None
 broken_control scope by_any_enclosed = None
-broken_control scope (by_terms term further) = option_or (broken_variable scope term.name) (broken_further scope further)
+broken_control scope (by_terms term further) = option_or (broken_term scope term) (broken_further scope further)

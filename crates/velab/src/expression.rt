@@ -74,6 +74,7 @@ fn name_node(meaning: Meaning) -> Node
     match meaning {
         Meaning::Variable(number) => Node::Variable(number),
         Meaning::Parameter { value, .. } => plain(value),
+        Meaning::Event(_) => no_parts(),
     }
 }
 
@@ -110,6 +111,7 @@ fn part_node(meaning: Meaning, selected: Bounds, at: Token) -> Result<Node, OrMe
                 }))
             }
         }
+        Meaning::Event(_) => Ok(no_parts()),
     }
 }
 
@@ -195,6 +197,7 @@ fn put_bit(
             let letter = bit_of(value, bounds_for(value, bounds), index);
             put(nodes, plain(letter))
         }
+        Meaning::Event(_) => put(nodes, no_parts()),
     }
 }
 

@@ -68,7 +68,7 @@ fn in_statement(tokens: &Tokens<'_>, whole: &Statement) -> Option<u32>
         Statement::Nonblocking { .. } => None,
         Statement::Delayed { body, .. } => in_statement(tokens, body),
         Statement::Task { at, task } => in_task(tokens, *at, task),
-        Statement::Trigger { at, .. } => Some(*at),
+        Statement::Trigger { .. } => None,
         Statement::If { body, .. } => in_statement(tokens, body),
         Statement::IfElse { body, other, .. } => match in_statement(tokens, body) {
             Some(at) => Some(at),
@@ -124,7 +124,7 @@ fn in_item(tokens: &Tokens<'_>, whole: &ModuleItem) -> Option<u32>
     match whole {
         ModuleItem::Parameters { .. } => None,
         ModuleItem::Declaration { .. } => None,
-        ModuleItem::Events { at, .. } => Some(*at),
+        ModuleItem::Events { .. } => None,
         ModuleItem::Assignments { .. } => None,
         ModuleItem::Initial { statement, .. } => in_statement(tokens, statement),
         ModuleItem::Always { statement, .. } => in_statement(tokens, statement),

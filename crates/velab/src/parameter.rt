@@ -1,4 +1,4 @@
-// Parameters (IEEE 1364-2005, 4.10, 12.2): their values, each known to what stands behind it.
+// Parameters (IEEE 1364-2005, 4.10, 12.2), their values known to what stands behind them, and named events (9.7.3).
 
 ghost use Rattle.std.specs.Prelude.{◌≡◌, ◌<◌, ◌≤◌, ◌^◌, List, None, Some, map, option_map, length, IfOk, OnOk};
 ghost use Rattle.std.specs.Option.{option_or};
@@ -8,8 +8,8 @@ ghost use Rattle.vast.specs.TokenTexts.{token_text};
 ghost use Rattle.vast.specs.ModuleTrees.{head_parameter, item_tree, parameter_type, setting_tree};
 ghost use Rattle.vexpr_parse.specs.Texts.{words_of};
 ghost use Rattle.velab.specs.Elaborate as spec;
-ghost use Rattle.velab.specs.Elaborate.{with_given, with_all, broken_given, broken_all, broken_type, given, given_by, given_behind};
-ghost use Rattle.velab.specs.Inner.{given_of, given_all, given_in, given_at_head, type_of, IsNarrow};
+ghost use Rattle.velab.specs.Elaborate.{with_given, with_all, broken_given, broken_all, broken_type, given, given_by, given_behind, event_given};
+ghost use Rattle.velab.specs.Inner.{given_of, given_all, events_given, given_in, given_at_head, type_of, IsNarrow};
 ghost use Rattle.velab.specs.Rules.{IsBroken};
 
 use crate::constant::nothing;
@@ -23,12 +23,13 @@ use basis::OrMemory;
 use std::alloc::Global;
 use std::marker::Model;
 use vast::module::{HeadParameter, ModuleItem, ParameterType, Setting};
+use vast::token::Token;
 use vbits::Vec4;
 use vdesign::expression::{Bounds, Expression};
 use vlex::Tokens;
 use vvalue::asked::{by_itself, right_side};
 
-/// The names of a module so far: those of its variables, and its parameters as far as they are known.
+/// The names of a module so far: those of its variables, and its parameters and named events as far as they are known.
 #[derive(Drop)]
 pub struct Growing<'t> {
     pub names: Names<'t>,
@@ -164,7 +165,46 @@ fn add_all<'t>(
     Ok(())
 }
 
-// The parameters of an item.
+// A named event. E302 where its name is declared.
+fn add_event<'t>(
+    tokens: &Tokens<'t>,
+    name: Token,
+    into: &mut Growing<'t>,
+) -> Result<(), OrMemory<ElabFault>>
+    ensures ok { OnOk result
+        (into.new ≡ with_given into.old (event_given (token_text (words_of tokens.now) name))) }
+    ensures variables { into.new.variables ≡ into.old.variables }
+    ensures right { OnOk result
+        (broken_given into.old (event_given (token_text (words_of tokens.now) name)) ≡ None) }
+    ensures err { IfFault result
+        (IsBroken (broken_given into.old (event_given (token_text (words_of tokens.now) name)))) }
+{
+    let number = into.others.len();
+    into.names.add(letters(tokens, name), name.number)?;
+    into.others.push(Meaning::Event(number))?;
+    Ok(())
+}
+
+// Named events of one item.
+fn add_events<'t>(
+    tokens: &Tokens<'t>,
+    names: &[Token],
+    into: &mut Growing<'t>,
+) -> Result<(), OrMemory<ElabFault>>
+    ensures ok { OnOk result (into.new ≡ with_all into.old (events_given (words_of tokens.now) names.now)) }
+    ensures variables { into.new.variables ≡ into.old.variables }
+    ensures right { OnOk result
+        (broken_all into.old (events_given (words_of tokens.now) names.now) ≡ None) }
+    ensures err { IfFault result
+        (IsBroken (broken_all into.old (events_given (words_of tokens.now) names.now))) }
+{
+    for name in names {
+        add_event(tokens, *name, into)?;
+    }
+    Ok(())
+}
+
+// The parameters of an item, or its named events.
 fn add_item<'t>(
     alloc: Global,
     tokens: &Tokens<'t>,
@@ -185,7 +225,7 @@ fn add_item<'t>(
             add_all(alloc, tokens, kind, settings, into)
         }
         ModuleItem::Declaration { .. } => Ok(()),
-        ModuleItem::Events { .. } => Ok(()),
+        ModuleItem::Events { names, .. } => add_events(tokens, names, into),
         ModuleItem::Assignments { .. } => Ok(()),
         ModuleItem::Initial { .. } => Ok(()),
         ModuleItem::Always { .. } => Ok(()),
@@ -193,14 +233,14 @@ fn add_item<'t>(
     }
 }
 
-/// How many parameters an item has.
+/// How many parameters and named events an item has.
 pub fn given_count(item: &ModuleItem) -> usize
     ensures { (words : List Text) → result ≡ length (given_by (item_tree words item.now)) }
 {
     match item {
         ModuleItem::Parameters { settings, .. } => settings.len(),
         ModuleItem::Declaration { .. } => 0,
-        ModuleItem::Events { .. } => 0,
+        ModuleItem::Events { names, .. } => names.len(),
         ModuleItem::Assignments { .. } => 0,
         ModuleItem::Initial { .. } => 0,
         ModuleItem::Always { .. } => 0,
@@ -208,7 +248,7 @@ pub fn given_count(item: &ModuleItem) -> usize
     }
 }
 
-/// The parameters of items, in the order of the text.
+/// The parameters and the named events of items, in the order of the text.
 pub fn add_items<'t>(
     alloc: Global,
     tokens: &Tokens<'t>,

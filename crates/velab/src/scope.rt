@@ -6,7 +6,7 @@ ghost use Rattle.vast.specs.TokenTexts.{token_text};
 ghost use Rattle.vexpr_parse.specs.Texts.{words_of};
 ghost use Rattle.velab.specs.Rules.{IsBroken};
 ghost use Rattle.velab.specs.Scopes as spec;
-ghost use Rattle.velab.specs.Scopes.{broken_variable};
+ghost use Rattle.velab.specs.Scopes.{broken_variable, broken_event};
 
 use crate::fault::{ElabFault, Rule};
 use crate::letters::letters;
@@ -29,10 +29,12 @@ pub enum Meaning {
         bounds: Option<Bounds>,
         before: usize,
     },
+    /// The named event of this number (9.7.3).
+    Event(usize),
 }
 
 /// What is known of names at a place of a module: its names, of which so many that stand first are those of its variables, what the
-/// others stand for, and how many of its parameters stand before the place.
+/// others stand for, and how many of the others stand before the place.
 #[derive(Drop)]
 pub struct Scope<'s, 't> {
     pub names: &'s Names<'t>,
@@ -50,7 +52,7 @@ impl<'s, 't> Model for Scope<'s, 't> {
 }
 
 impl<'s, 't> Scope<'s, 't> {
-    /// The same where so many parameters stand before.
+    /// The same where so many others stand before.
     pub fn at(&self, known: usize) -> Scope<'s, 't>
         ensures { result ≡ spec.at self.now known }
     {
@@ -86,7 +88,8 @@ pub fn meaning_of(scope: &Scope<'_, '_>, tokens: &Tokens<'_>, token: Token) -> O
     }
 }
 
-// E303 where a name in an expression stands for nothing, E303 or E307 where it may not stand in a constant.
+// E303 where a name in an expression stands for nothing, E310 where it stands for an event, E303 or E307 where it may not stand in a
+// constant.
 fn check_name(
     scope: &Scope<'_, '_>,
     fixed: bool,
@@ -122,10 +125,15 @@ fn check_name(
             }
             Ok(())
         }
+        Some(Meaning::Event(_)) => Err(OrMemory::Fault(ElabFault {
+            rule: Rule::Kind,
+            at: Some(token.number),
+        })),
     }
 }
 
-/// What a name in an expression stands for. E303 where it stands for nothing, E303 or E307 where it may not stand in a constant.
+/// What a name in an expression stands for. E303 where it stands for nothing, E310 where it stands for an event, E303 or E307 where it
+/// may not stand in a constant.
 pub fn named(
     scope: &Scope<'_, '_>,
     fixed: bool,
@@ -169,6 +177,40 @@ pub fn number_of(
             at: Some(token.number),
         })),
         Some(Meaning::Variable(number)) => Ok(number),
+        Some(Meaning::Parameter { .. }) => Err(OrMemory::Fault(ElabFault {
+            rule: Rule::Kind,
+            at: Some(token.number),
+        })),
+        Some(Meaning::Event(_)) => Err(OrMemory::Fault(ElabFault {
+            rule: Rule::Kind,
+            at: Some(token.number),
+        })),
+    }
+}
+
+/// The number of a named event. E303 where there is nothing of that name, E310 where it is no event (9.7.3).
+pub fn event_of(
+    scope: &Scope<'_, '_>,
+    tokens: &Tokens<'_>,
+    token: Token,
+) -> Result<usize, OrMemory<ElabFault>>
+    requires { scope.now.variables ≤ 1024 }
+    ensures ok { IfOk result (λ n. n ≡ spec.event_of scope.now (token_text (words_of tokens.now) token)) }
+    ensures right { OnOk result
+        (broken_event scope.now (token_text (words_of tokens.now) token) ≡ None) }
+    ensures err { IfFault result
+        (IsBroken (broken_event scope.now (token_text (words_of tokens.now) token))) }
+{
+    match meaning_of(scope, tokens, token) {
+        None => Err(OrMemory::Fault(ElabFault {
+            rule: Rule::Unknown,
+            at: Some(token.number),
+        })),
+        Some(Meaning::Event(number)) => Ok(number),
+        Some(Meaning::Variable(_)) => Err(OrMemory::Fault(ElabFault {
+            rule: Rule::Kind,
+            at: Some(token.number),
+        })),
         Some(Meaning::Parameter { .. }) => Err(OrMemory::Fault(ElabFault {
             rule: Rule::Kind,
             at: Some(token.number),

@@ -23,7 +23,7 @@ use crate::letters::letters;
 use crate::number::constant_of;
 use crate::print::{pieces_in, when_of};
 use crate::parameter::given_count;
-use crate::scope::{Scope, number_of};
+use crate::scope::{Scope, event_of, number_of};
 use crate::target::{first_token, targets_of};
 use crate::wait::{condition_terms, event_terms};
 use basis::{NoMemory, OrMemory};
@@ -414,7 +414,10 @@ fn lay(
         Statement::Task { at, task } => {
             lay_task(alloc, scope, tokens, *at, task, table, into)
         },
-        Statement::Trigger { .. } => Ok(()),
+        Statement::Trigger { at, name } => {
+            let event = event_of(scope, tokens, *name)?;
+            put(table, into, *at, Action::Trigger(event))
+        }
         Statement::If {
             at,
             condition,

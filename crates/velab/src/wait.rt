@@ -1,6 +1,6 @@
 // What event controls and `wait` listen to (IEEE 1364-2005, clause 9.7).
 
-ghost use Rattle.std.specs.Prelude.{◌≡◌, ◌≤◌, None, [], ◌∷◌, ◌++◌, length, map, option_map, IfOk, OnOk};
+ghost use Rattle.std.specs.Prelude.{◌≡◌, ◌≤◌, None, Some, [], ◌∷◌, ◌++◌, length, map, option_map, IfOk, OnOk};
 ghost use Rattle.basis.specs.Reasons.{IfFault};
 ghost use Rattle.vast.specs.ExpressionTrees.{tree_of as text_tree, trees_of as text_trees};
 ghost use Rattle.vast.specs.TokenTexts.{token_text};
@@ -8,12 +8,13 @@ ghost use Rattle.vast.specs.StatementTrees.{target_tree, target_trees, argument_
 ghost use Rattle.vexpr_parse.specs.Texts.{words_of};
 ghost use Rattle.vast.specs.Statements.{case_of};
 ghost use Rattle.velab.specs.Rules.{IsBroken};
-ghost use Rattle.velab.specs.Scopes.{meaning_of as spec_meaning, broken_variable};
+ghost use Rattle.velab.specs.declared.scope.Meaning.{Meaning};
+ghost use Rattle.velab.specs.Scopes.{meaning_of as spec_meaning};
 ghost use Rattle.velab.specs.Waits as spec;
-ghost use Rattle.velab.specs.Waits.{any_of, names_in, names_in_parts, read_by, read_by_all, read_by_target, read_by_targets, read_by_own, read_by_assignment, read_by_argument, read_by_arguments, read_by_task, read_by_delay, broken_control, broken_further, heard, read_by_items, read_by_branch, read_by_branches};
+ghost use Rattle.velab.specs.Waits.{any_of, names_in, names_in_parts, read_by, read_by_all, read_by_target, read_by_targets, read_by_own, read_by_assignment, read_by_argument, read_by_arguments, read_by_task, read_by_delay, broken_by, broken_term, broken_control, broken_further, heard, read_by_items, read_by_branch, read_by_branches};
 
-use crate::fault::ElabFault;
-use crate::scope::{Meaning, Scope, meaning_of, number_of};
+use crate::fault::{ElabFault, Rule};
+use crate::scope::{Meaning, Scope, meaning_of};
 use basis::{NoMemory, OrMemory};
 use std::alloc::Global;
 use vast::expression::Expression as Value;
@@ -34,7 +35,51 @@ fn edge_of(side: Option<Side>) -> Edge
     }
 }
 
-// One term more. E303 where the name is no variable's.
+// What a named event is heard by. E310 where it has an edge.
+fn event_term(edge: Edge, number: usize, at: u32) -> Result<Term, OrMemory<ElabFault>>
+    ensures ok { IfOk result (λ term. term ≡ spec.term_for edge (Some (Meaning.Event number))) }
+    ensures right { OnOk result (spec.edge_rule edge ≡ None) }
+    ensures err { IfFault result (IsBroken (spec.edge_rule edge)) }
+{
+    if edge == Edge::Any {
+        return Ok(Term::Event(number));
+    }
+    Err(OrMemory::Fault(ElabFault {
+        rule: Rule::Kind,
+        at: Some(at),
+    }))
+}
+
+// A term. E303 where the name stands for nothing, E310 where it is no variable's and no event's, or an event's with an edge.
+fn term_of(
+    scope: &Scope<'_, '_>,
+    tokens: &Tokens<'_>,
+    edge: Edge,
+    name: Token,
+) -> Result<Term, OrMemory<ElabFault>>
+    requires { scope.now.variables ≤ 1024 }
+    ensures ok { IfOk result (λ term.
+        term ≡ spec.term_by scope.now edge (token_text (words_of tokens.now) name)) }
+    ensures right { OnOk result
+        (broken_by scope.now edge (token_text (words_of tokens.now) name) ≡ None) }
+    ensures err { IfFault result
+        (IsBroken (broken_by scope.now edge (token_text (words_of tokens.now) name))) }
+{
+    match meaning_of(scope, tokens, name) {
+        None => Err(OrMemory::Fault(ElabFault {
+            rule: Rule::Unknown,
+            at: Some(name.number),
+        })),
+        Some(Meaning::Variable(variable)) => Ok(Term::Change { edge, variable }),
+        Some(Meaning::Parameter { .. }) => Err(OrMemory::Fault(ElabFault {
+            rule: Rule::Kind,
+            at: Some(name.number),
+        })),
+        Some(Meaning::Event(number)) => event_term(edge, number, name.number),
+    }
+}
+
+// One term more. E303 and E310 as above.
 fn put_term(
     scope: &Scope<'_, '_>,
     tokens: &Tokens<'_>,
@@ -46,12 +91,12 @@ fn put_term(
     ensures ok { OnOk result (terms.new.items ≡ terms.old.items
         ++ spec.term_by scope.now edge (token_text (words_of tokens.now) name) ∷ []) }
     ensures right { OnOk result
-        (broken_variable scope.now (token_text (words_of tokens.now) name) ≡ None) }
+        (broken_by scope.now edge (token_text (words_of tokens.now) name) ≡ None) }
     ensures err { IfFault result
-        (IsBroken (broken_variable scope.now (token_text (words_of tokens.now) name))) }
+        (IsBroken (broken_by scope.now edge (token_text (words_of tokens.now) name))) }
 {
-    let variable = number_of(scope, tokens, name)?;
-    terms.push(Term::Change { edge, variable })?;
+    let term = term_of(scope, tokens, edge, name)?;
+    terms.push(term)?;
     Ok(())
 }
 
@@ -75,6 +120,7 @@ fn put_name(
             Ok(())
         }
         Some(Meaning::Parameter { .. }) => Ok(()),
+        Some(Meaning::Event(_)) => Ok(()),
         None => Ok(()),
     }
 }
@@ -463,7 +509,7 @@ fn put_branch(
     }
 }
 
-// A further term of an event control. E303 where its name is no variable's.
+// A further term of an event control. E303 and E310 as `term_of`.
 fn put_further_term(
     scope: &Scope<'_, '_>,
     tokens: &Tokens<'_>,
@@ -474,9 +520,9 @@ fn put_further_term(
     ensures ok { OnOk result (terms.new.items ≡ terms.old.items
         ++ spec.further_term_of scope.now (further_term (words_of tokens.now) one.now) ∷ []) }
     ensures right { OnOk result
-        (broken_variable scope.now (further_term (words_of tokens.now) one.now).term.name ≡ None) }
+        (broken_term scope.now (further_term (words_of tokens.now) one.now).term ≡ None) }
     ensures err { IfFault result
-        (IsBroken (broken_variable scope.now (further_term (words_of tokens.now) one.now).term.name)) }
+        (IsBroken (broken_term scope.now (further_term (words_of tokens.now) one.now).term)) }
 {
     let edge = edge_of(one.term.edge);
     put_term(scope, tokens, edge, one.term.name, terms)
@@ -504,7 +550,7 @@ fn put_further(
     Ok(())
 }
 
-// What `@event body` listens to. E303 where a name that it uses is no variable's.
+// What `@event body` listens to. E303 and E310 where a name in it is no variable's and no event's.
 fn put_event(
     scope: &Scope<'_, '_>,
     tokens: &Tokens<'_>,
@@ -539,7 +585,7 @@ fn put_event(
     }
 }
 
-/// What `@event body` listens to. E303 where a name that it uses is no variable's.
+/// What `@event body` listens to. E303 and E310 where a name in it is no variable's and no event's.
 pub fn event_terms(
     alloc: Global,
     scope: &Scope<'_, '_>,
