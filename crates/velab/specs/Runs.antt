@@ -1,5 +1,5 @@
 -- What runs of a text today: all else is refused (E299; docs/LANGUAGE.md, "What runs").
-use Rattle.std.specs.Prelude.{ℕ, ◌==◌, Bool, true, false, ◌&&◌, not, length, is_some, Option, Some, None}
+use Rattle.std.specs.Prelude.{ℕ, ◌==◌, Bool, true, false, ◌&&◌, not, List, [], ◌∷◌, length, Option, Some, None}
 use Rattle.vbits.specs.Numbers.{number}
 use Rattle.velab.specs.Literals.{constant_of}
 use Rattle.std.specs.List.{list_all}
