@@ -99,7 +99,7 @@ class Texts:
 
     def bit(self, name, place):
         low, high = sorted(self.names.bounds()[place])
-        if self.rng.random() < 0.6:
+        if self.rng.random() < 0.6 or self.names.everything()[place].kind == "parameter":
             return Bit(name, place, integer_of(self.rng.choice([low, high, self.rng.randrange(low, high + 1), high + 1, 0])))
         return Bit(name, place, expression(self.rng, self.leaf, self.rng.choice([0, 1])))
 

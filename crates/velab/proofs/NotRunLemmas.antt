@@ -5,11 +5,9 @@ use Rattle.std.proofs.Common.{◌≡◌, ℕ, Bool, true, false, ◌&&◌, not, 
 use Rattle.std.specs.Prelude.{Box}
 use Rattle.std.specs.List.{list_all}
 use Rattle.vast.specs.Words.{Text}
-use Rattle.vast.specs.StatementTrees.{target_tree, delay_tree, task_tree, statement_tree, statement_row, branch_tree, branch_row}
+use Rattle.vast.specs.StatementTrees.{task_tree, statement_tree, statement_row, branch_tree, branch_row}
 use Rattle.vast.specs.ModuleTrees.{port_tree, item_tree, module_tree, source_tree}
 use Rattle.vast.specs.declared.expression.Expression.{Expression}
-use Rattle.vast.specs.declared.statement.Target.{Target}
-use Rattle.vast.specs.declared.statement.Delay.{Delay}
 use Rattle.vast.specs.declared.statement.Statement.{Statement, Block, Case, Empty, Block', Assign, Nonblocking, Trigger, If', IfElse', Case', While', Repeat', Forever', For', Wait', Delayed', OnEvent', Task as Call, Row_of-Statement, end_of-Statement, more_of-Statement, items-the_row-Statement, items_hidden-the_row-Statement-0, Row_of-Branch, end_of-Branch, more_of-Branch, items-the_row-Branch, items_hidden-the_row-Branch-1}
 use Rattle.vast.specs.declared.statement.Branch.{Branch, Labelled, Default}
 use Rattle.vast.specs.declared.statement.CaseKind.{CaseKind}

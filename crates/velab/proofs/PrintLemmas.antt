@@ -1,5 +1,5 @@
 -- Lines on their way: what is left of their arguments.
-use Rattle.std.proofs.Common.{◌≡◌, Bool, true, false, List, Option, None}
+use Rattle.std.proofs.Common.{◌≡◌, Bool, true, false, List, None}
 use Rattle.format_text.specs.Pieces.{Argument, Printed, pieces_with}
 
 -- with what is left behind it, a line has the pieces of all; or all have none

@@ -4,9 +4,6 @@ use Rattle.std.specs.Prelude.{ℕ, Bool, not, Vec, if◌then◌else◌, List, []
 use Rattle.std.specs.Option.{option_or}
 use Rattle.vast.specs.Words.{Text}
 use Rattle.vast.specs.StatementTrees.{task_tree}
-use Rattle.vast.specs.declared.expression.Expression.{Expression, Number, Name, Time, Bit', Part', Parentheses', Concatenation', Replication', Conversion', Unary', Binary', Conditional'}
-use Rattle.vast.specs.declared.statement.Delay.{Delay}
-use Rattle.vast.specs.declared.statement.Delay.TheVariants as delays
 use Rattle.vast.specs.declared.statement.Task.{Task}
 use Rattle.vast.specs.declared.statement.Statement.{Statement, Empty, Block', Assign, Nonblocking, Trigger, If', IfElse', Case', While', Repeat', Forever', For', Wait', Delayed', OnEvent', Task as Call, Row_of-Statement, end_of-Statement, more_of-Statement, Row_of-Branch, end_of-Branch, more_of-Branch}
 use Rattle.vast.specs.declared.statement.Branch.{Branch, Labelled, Default}

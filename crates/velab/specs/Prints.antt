@@ -1,5 +1,5 @@
 -- Print tasks of the text, their names resolved and their formats read (IEEE 1364-2005, 17.1).
-use Rattle.std.specs.Prelude.{ℕ, ◌-◌, Bool, true, false, not, List, [], ◌∷◌, map, length, take, drop, is_some, Option, None, unwrap_or}
+use Rattle.std.specs.Prelude.{◌-◌, Bool, true, false, List, [], ◌∷◌, map, length, take, drop, is_some, Option, None, unwrap_or}
 use Rattle.std.specs.Option.{option_or}
 use Rattle.vast.specs.Words.{Text}
 use Rattle.vast.specs.Expressions as text

@@ -1,7 +1,6 @@
 -- What assignments write to (IEEE 1364-2005, 5.1.14, 5.2.1, 6.2): targets of the text, their names resolved.
 use Rattle.std.specs.Prelude.{ℕ, List, [], ◌∷◌, ◌++◌, Option, None}
 use Rattle.std.specs.Option.{option_or}
-use Rattle.vast.specs.Words.{Text}
 use Rattle.vast.specs.Expressions as text
 use Rattle.vast.specs.Statements.{TargetTree, TargetTrees, whole, bit, part, joined, none, first}
 use Rattle.vast.specs.declared.statement.Target.{Target as Written, Joined'}

@@ -21,8 +21,8 @@ use crate::fault::ElabFault;
 use crate::first::is_whole;
 use crate::letters::letters;
 use crate::number::constant_of;
-use crate::print::{pieces_in, when_of};
 use crate::parameter::given_count;
+use crate::print::{pieces_in, when_of};
 use crate::scope::{Scope, event_of, number_of};
 use crate::target::{first_token, targets_of};
 use crate::wait::{condition_terms, event_terms};
@@ -411,9 +411,7 @@ fn lay(
             let body = Places::new(inner);
             put(table, into, *at, Action::Delay { amount, body })
         }
-        Statement::Task { at, task } => {
-            lay_task(alloc, scope, tokens, *at, task, table, into)
-        },
+        Statement::Task { at, task } => { lay_task(alloc, scope, tokens, *at, task, table, into) },
         Statement::Trigger { at, name } => {
             let event = event_of(scope, tokens, *name)?;
             put(table, into, *at, Action::Trigger(event))

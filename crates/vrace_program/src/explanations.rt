@@ -74,7 +74,7 @@ const EXPLANATIONS: [Explanation; 31] = [
     Explanation {
         number: 299,
         meaning: "the text is read, and what begins here isn't run yet",
-        example: "event e;, -> e;, a = #5 b;, module tb();, an instance",
+        example: "event e;, -> e;, module tb(input a);, an instance",
         advice: "write it with what docs/LANGUAGE.md lists under What runs",
     },
     Explanation {

@@ -1,7 +1,6 @@
-use Rattle.std.proofs.Common.{◌≡◌, Bool, true, false, List, drop, map, Option, None}
+use Rattle.std.proofs.Common.{◌≡◌, drop, map}
 use Rattle.vast.specs.StatementTrees.{argument_tree}
 use Rattle.vexpr_parse.specs.Texts.{words_of}
-use Rattle.format_text.specs.Pieces.{pieces_with}
 use Rattle.velab.specs.Prints.{argument_of, broken_arguments}
 use Rattle.velab.proofs.PrintLemmas.{GoesOn}
 use Rattle.velab.proofs.print.put_arguments.Given as goal

@@ -7,4 +7,4 @@ use Rattle.velab.proofs.wait.+indexing.Given as goal
 abbrev pub invariant-put_targets-loop-one : goal.invariant-put_targets-loop-one
 invariant-put_targets-loop-one l =
     l.terms.items ++ any_of l.scope (read_by_targets (target_trees (words_of l.tokens) (drop l.one-index l.targets)))
-      ≡ l.initial.terms.items ++ any_of l.scope (read_by_targets (target_trees (words_of l.tokens) l.targets))
+    ≡ l.initial.terms.items ++ any_of l.scope (read_by_targets (target_trees (words_of l.tokens) l.targets))

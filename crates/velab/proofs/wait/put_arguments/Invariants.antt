@@ -7,4 +7,4 @@ use Rattle.velab.proofs.wait.put_arguments.Given as goal
 abbrev pub invariant-loop-one : goal.invariant-loop-one
 invariant-loop-one l =
     l.terms.items ++ any_of l.scope (read_by_arguments (map (argument_tree (words_of l.tokens)) (drop l.one-index l.arguments)))
-      ≡ l.initial.terms.items ++ any_of l.scope (read_by_arguments (map (argument_tree (words_of l.tokens)) l.arguments))
+    ≡ l.initial.terms.items ++ any_of l.scope (read_by_arguments (map (argument_tree (words_of l.tokens)) l.arguments))
