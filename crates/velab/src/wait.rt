@@ -544,8 +544,10 @@ fn put_further(
     ensures err { IfFault result (IsBroken (broken_further scope.now
         (map (further_term (words_of tokens.now)) further.now))) }
 {
-    for one in further {
+    let mut rest = further;
+    while let Some((one, behind)) = rest.split_first() {
         put_further_term(scope, tokens, one, terms)?;
+        rest = behind;
     }
     Ok(())
 }

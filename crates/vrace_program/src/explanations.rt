@@ -74,7 +74,7 @@ const EXPLANATIONS: [Explanation; 31] = [
     Explanation {
         number: 299,
         meaning: "the text is read, and what begins here isn't run yet",
-        example: "event e;, -> e;, module tb(input a);, an instance",
+        example: "module tb(input a);, an instance, $dumpvars(1);",
         advice: "write it with what docs/LANGUAGE.md lists under What runs",
     },
     Explanation {
@@ -85,7 +85,7 @@ const EXPLANATIONS: [Explanation; 31] = [
     },
     Explanation {
         number: 302,
-        meaning: "a name declared twice: two modules, or two variables or parameters of the top",
+        meaning: "a name declared twice: two modules, or two variables, parameters or named events of the top",
         example: "reg a, a;",
         advice: "rename one",
     },
@@ -121,7 +121,7 @@ const EXPLANATIONS: [Explanation; 31] = [
     },
     Explanation {
         number: 310,
-        meaning: "a name of another kind than its use asks for: a net that a statement writes, a variable that an assign writes, a parameter that is written or waited for, a bit of what has no range; or a format that isn't known or has no expression",
+        meaning: "a name of another kind than its use asks for: a net that a statement writes, a variable that an assign writes, a parameter that is written or waited for, a named event in an expression, a bit of what has no range; or a format that isn't known or has no expression",
         example: "reg r; assign r = 1;, wire w; initial w = 1;, $display(\"%d\");",
         advice: "declare it as what it is used as; docs/LANGUAGE.md lists the formats under Printed lines",
     },
