@@ -417,14 +417,25 @@ def shown(letters):
     return letters[::-1]
 
 
-TOLD = {kind: f" {kind}" for kind in ("finish", "stop", "strobe", "monitor", "dumpvars", "dumpon", "dumpoff", "dumpall")} | {"on": " wait", "line": " display"}
+TOLD = {kind: f" {kind}" for kind in ("finish", "stop", "strobe", "monitor", "trigger", "dumpvars", "dumpon", "dumpoff", "dumpall")} | {"on": " wait", "line": " display"}
+
+
+def places_after(run, parts):
+    """The objects that are written, each once, and a run in which they are."""
+    after = run.copied()
+    after.write(parts)
+    return list(dict.fromkeys(place for place, new in parts if new)), after
+
+
+def posted(run, parts):
+    """What a trace tells of an update that is posted: of each object, what it would be if it were written now."""
+    places, after = places_after(run, parts)
+    return "".join(f" post {run.made.names()[place]} {shown(after.values[place])}" for place in places)
 
 
 def written(run, parts):
     """What a trace tells of what is written: of each object that is, its value before and after the step."""
-    after = run.copied()
-    after.write(parts)
-    places = list(dict.fromkeys(place for place, _ in parts))
+    places, after = places_after(run, parts)
     return "".join(f" write {run.made.names()[place]} {shown(run.values[place])} {shown(after.values[place])}" for place in places)
 
 
@@ -441,9 +452,12 @@ def deed(run, choice):
         return "" if run.holds(what[0]) else " wait"
     if kind in ("assign", "drive"):
         return written(run, run.parts(what[0], run.value(what[1], run.size(what[0])))) + " wait" * (kind == "drive")
-    if kind == "post":
-        (_, place, *_), = what[0][:1]
-        return f" post {run.made.names()[place]} {shown(run.value(what[1], run.size(what[0])))}"
+    if kind in ("post", "later"):
+        return posted(run, run.parts(what[0], run.value(what[1], run.size(what[0]))))
+    if kind == "held":
+        return f" delay {run.amount(what[2])}"
+    if kind == "write":
+        return written(run, run.parts(*what))
     return ""
 
 
