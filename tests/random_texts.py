@@ -61,6 +61,7 @@ class Names:
     objects: list
     events: list = field(default_factory=list)
     parameters: list = field(default_factory=list)  # objects of kind `parameter`
+    paths: list = field(default_factory=list)  # of instances, for `$dumpvars`
 
     def bounds(self):
         return [one.bounds or (one.length - 1, 0) for one in self.everything()]
@@ -99,7 +100,7 @@ class Texts:
 
     def bit(self, name, place):
         low, high = sorted(self.names.bounds()[place])
-        if self.rng.random() < 0.6 or self.names.everything()[place].kind == "parameter":
+        if self.rng.random() < 0.6:
             return Bit(name, place, integer_of(self.rng.choice([low, high, self.rng.randrange(low, high + 1), high + 1, 0])))
         return Bit(name, place, expression(self.rng, self.leaf, self.rng.choice([0, 1])))
 
@@ -174,7 +175,10 @@ class Texts:
         return ";"
 
     def make_dump(self, depth):
-        return "$dumpvars;"
+        if not self.names.paths or self.rng.random() < 0.3:
+            return "$dumpvars;"
+        paths = [self.rng.choice(self.names.paths) for _ in range(self.rng.choice([0, 1, 1, 2]))]
+        return f"$dumpvars({', '.join([self.rng.choice(['0', '1', '1', '2', '3', '70000', chr(39) + 'h2', '4' + chr(39) + 'sb1111']), *paths])});"
 
     def make_command(self, depth):
         words = ["$dumpon", "$dumpoff", "$dumpoff", "$dumpall", "$dumpflush", '$dumpfile("a.vcd")', "$dumpvars(0)"]
@@ -309,7 +313,7 @@ class Body:
                 self.item(f"always begin #1; {self.texts.statement(3)} end", True)
             else:
                 text = self.texts.statement(3)
-                self.item(f"initial {f'begin $dumpvars; {text} end' if n == 0 and dumps else text}", True)
+                self.item(f"initial {f'begin {self.texts.make_dump(0)} {text} end' if n == 0 and dumps else text}", True)
 
 
 def module(rng, asked=frozenset()):
@@ -335,28 +339,43 @@ def parameters(rng, body):
     """Parameters of a module, each of those before it and of numbers."""
     for n in range(rng.choice([1, 2, 3])):
         length, signed = rng.choice([4, 8, 32]), rng.random() < 0.5
-        texts = Texts(rng, Names([], [], list(body.names.parameters)))
-        word, value = rng.choice(["parameter", "localparam"]), texts.value()
-        while "$time" in value:
-            value = texts.value()
+        word, value = rng.choice(["parameter", "localparam"]), constant(rng, body.names.parameters)
         body.item(f"{word}{ranged(signed, (length - 1, 0))} p{n} = {value};")
         body.names.parameters.append(Object(f"p{n}", "parameter", length, signed, (length - 1, 0)))
 
 
 # ---- designs of several modules
 
+@dataclass
+class Child:
+    """A module with its name, its text, its ports, the parameters that can be given, and the paths of instances in it."""
+    name: str
+    text: str
+    ports: list
+    heads: list
+    paths: list
+
+
+def port(rng, name):
+    """The direction of a port, and its object: an output may be a variable."""
+    word, one = rng.choice(["input", "output", "output"]), some_object(rng, name, True)
+    one.kind = "wire" if word == "input" else rng.choice(["wire", "reg"])
+    if one.bounds is None or one.length == 64:
+        one.length, one.bounds = (1, None) if one.bounds is None else (3, (0, 2))
+    one.signed = one.signed and one.bounds is not None
+    return word, one
+
+
+def shown_port(word, one):
+    return f"{word}{' reg' if one.kind == 'reg' else ''}{ranged(one.signed, one.bounds)} {one.name}"
+
+
 def child(rng, name, below, asked):
-    """A module with ports and parameters, and instances of the modules below it. Its text, ports and parameters."""
-    ports = [(rng.choice(["input", "output", "output"]), some_object(rng, f"q{n}", True)) for n in range(rng.randrange(0, 4))]
-    for word, one in ports:
-        one.kind = "wire" if word == "input" else rng.choice(["wire", "reg"])
-        one.length, one.bounds = (one.length, one.bounds) if one.length < 64 else (3, (0, 2))
-    count, in_head = rng.randrange(0, 3), rng.random() < 0.5
-    heads = [Object(f"p{n}", "parameter", 8, False, (7, 0)) for n in range(count)]
-    shown = ", ".join(f"{word}{' reg' if one.kind == 'reg' else ''}{ranged(one.signed and one.bounds is not None, one.bounds)} {one.name}" for word, one in ports)
-    for _, one in ports:
-        one.signed = one.signed and one.bounds is not None
-        one.length = one.length if one.bounds else 1
+    """A module with ports and parameters, and instances of the modules below it."""
+    ports = [port(rng, f"q{n}") for n in range(rng.randrange(0, 4))]
+    heads = [Object(f"p{n}", "parameter", 8, False, (7, 0)) for n in range(rng.randrange(0, 3))]
+    in_head = rng.random() < 0.5
+    shown = ", ".join(shown_port(*one) for one in ports)
     head = f" #({', '.join(f'parameter [7:0] {one.name} = {n + 3}' for n, one in enumerate(heads))})" if heads and in_head else ""
     lines = [f"module {name}{head}{f'({shown})' if ports or rng.random() < 0.5 else ''};"]
     names = Names([one for _, one in ports] + [some_object(rng, f"v{n}", False) for n in range(rng.choice([1, 1, 2]))], [], heads)
@@ -368,53 +387,66 @@ def child(rng, name, below, asked):
         if word == "output" and one.kind == "wire" and rng.random() < 0.8:
             body.item(f"assign {one.name} = {body.texts.value()};")
     body.processes(rng.randrange(0, 3), False)
-    instances(rng, body, below)
-    return "\n".join([*lines, "endmodule", ""]), ports, heads
+    paths = instances(rng, body, below)
+    return Child(name, "\n".join([*lines, "endmodule", ""]), ports, heads, paths)
+
+
+def constant(rng, parameters):
+    """An expression of numbers and of these parameters."""
+    value = "$time"
+    while "$time" in value:
+        value = Texts(rng, Names([], [], list(parameters))).value()
+    return value
+
+
+def given(rng, one, outside):
+    """What an instantiation says of the parameters of a module: by order or by name, or nothing."""
+    chosen = [head for head in one.heads if rng.random() < 0.5]
+    if not chosen:
+        return ""
+    if rng.random() < 0.4:
+        return f" #({', '.join(constant(rng, outside) for _ in chosen)})"
+    rng.shuffle(chosen)
+    return f" #({', '.join(f'.{head.name}({constant(rng, outside) if rng.random() < 0.9 else str()})' for head in chosen)})"
 
 
 def instances(rng, body, below):
-    """Instances of some of the modules below; nets for what comes out of them."""
+    """Instances of some of the modules below, and nets for what comes out of them; the paths of those, and of what stands in them."""
+    paths = []
     for n in range(rng.choice([0, 1, 1, 2]) if below else 0):
-        name, ports, heads = rng.choice(below)
-        given = [f"{one.name}({n + 1}8'd{rng.randrange(9)})".replace(f"({n + 1}8", "(8") for one in heads if rng.random() < 0.5]
-        by_name = rng.random() < 0.6
-        wires, pairs = [], []
-        for m, (word, one) in enumerate(ports):
+        one, pairs = rng.choice(below), []
+        for m, (word, inner) in enumerate(one.ports):
             if word == "output":
-                net = f"n{n}_{m}"
-                wires.append(f"wire{ranged(one.signed, one.bounds)} {net};")
-                pairs.append((one.name, net))
-            else:
-                pairs.append((one.name, body.texts.value()))
-        for wire in wires:
-            body.item(wire)
-        if by_name:
+                body.item(f"wire{ranged(inner.signed, inner.bounds)} n{n}_{m};")
+            pairs.append((inner.name, f"n{n}_{m}" if word == "output" else body.texts.value()))
+        if rng.random() < 0.6:
             rng.shuffle(pairs)
-            pairs = [pair for pair in pairs if rng.random() < 0.85]
-            wiring = ", ".join(f".{port}({value})" for port, value in pairs)
+            wiring = ", ".join(f".{inner}({value if rng.random() < 0.9 else ''})" for inner, value in pairs if rng.random() < 0.85)
         else:
-            wiring = ", ".join(value for _, value in pairs)
-        numbers = ", ".join(f".{text}" for text in given)
-        body.item(f"{name}{f' #({numbers})' if given else ''} u{n}({wiring});")
+            wiring = ", ".join(value for _, value in pairs[: rng.choice([len(pairs), len(pairs), rng.randrange(len(pairs) + 1)])])
+        body.item(f"{one.name}{given(rng, one, body.names.parameters)} u{n}({wiring});")
+        paths += [f"u{n}", *(f"u{n}.{path}" for path in one.paths)]
+    return paths
 
 
 def design(rng, asked):
-    """A text of a module tb and of modules below it."""
-    below, texts = [], []
+    """A text of a module tb and of modules below it, in any order."""
+    below = []
     for n in range(rng.choice([1, 2, 3])):
-        text, ports, heads = child(rng, f"m{n}", list(below), asked - {"events"})
-        texts.append(text)
-        below.append((f"m{n}", ports, heads))
-    lines = ["module tb;"]
+        below.append(child(rng, f"m{n}", list(below), asked))
+    lines, inside = ["module tb;"], []
     objects = [some_object(rng, f"v{n}", n > 0) for n in range(rng.choice([1, 2, 3]))]
     if all(one.kind == "wire" for one in objects):
         objects[0].kind = "reg"
-    body = Body(rng, lines, Names(objects), asked)
+    names = Names(objects)
+    body = Body(rng, lines, names, asked)
+    if "parameters" in asked and rng.random() < 0.5:
+        parameters(rng, body)
+    names.paths = ["tb", *(f"tb.{path}" for path in instances(rng, Body(rng, inside, names, asked), below))]
+    lines += inside if rng.random() < 0.5 else []
     body.declare(objects)
     body.processes(rng.randrange(1, 4), True)
-    instances(rng, body, below)
-    instances_text = "\n".join([*lines, "endmodule", ""])
-    texts.append(instances_text)
+    lines += [] if inside and inside[-1] in lines else inside
+    texts = [*(one.text for one in below), "\n".join([*lines, "endmodule", ""])]
     rng.shuffle(texts)
-    front = f"{rng.choice(TIMESCALES)}\n" if rng.random() < 0.3 else ""
-    return front + "".join(texts)
+    return f"{rng.choice(TIMESCALES)}\n" * (rng.random() < 0.3) + "".join(texts)

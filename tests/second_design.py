@@ -294,17 +294,14 @@ class Unit:
         return len(objects) - 1
 
     def set_parameter(self, kind, name, value):
-        """A parameter more, of this expression or of a number that was given."""
+        """A parameter more, of this tree or of an expression that was given from outside."""
         signed, bounds, length = False, None, None
         if kind[0] == "integer":
             signed, length = True, 32
         else:
             signed, bounds = kind[1] == "signed", self.range(kind[2], self.parameters)
             length = abs(bounds[0] - bounds[1]) + 1 if bounds else None
-        if isinstance(value, Number):
-            node = Constant(value)
-        else:
-            node = self.constant(value, self.parameters)
+        node = self.constant(value, self.parameters) if isinstance(value, tuple) else value
         letters, own_sign = self.own(node) if node else ("x", False)
         if node and length:
             world = World([], [], 0, [])
@@ -329,7 +326,7 @@ class Unit:
                     yield item[1], setting[1], setting[2]
 
     def overrides(self, tree, outside, before):
-        """The values that an instantiation gives to parameters, by name."""
+        """The expressions that an instantiation gives to parameters, by name: their names are those of the unit outside (12.2.2)."""
         if tree == "-":
             return {}
         names, found = [name for _, name, _ in self.settings()], {}
@@ -343,8 +340,7 @@ class Unit:
                 self.refuse(305)
         for name, value in pairs:
             if value != "-" and (node := outside.constant(value, before)):
-                letters, signed = outside.own(node)
-                found[name] = Number("", letters, signed)
+                found[name] = node
         return found
 
     def declare_all(self, given):
@@ -531,16 +527,16 @@ class Unit:
         return pieces
 
     def selection(self, parts):
-        """Which objects a `$dumpvars` selects: all (None), or levels and the path of an instance."""
+        """What a `$dumpvars` selects (18.1.2): levels and the path of an instance, for each of its paths; all is the top and all below it."""
         if not parts:
-            return None
+            return [(0, self.whole.top)]
         letters = number_of(parts[0]).letters
         if not is_known(letters):
             self.refuse(310)
-            return None
-        path = parts[1][1:] if len(parts) > 1 else [self.whole.top]
-        self.whole.paths.append(path)
-        return integer(letters, False), ".".join(path)
+            return []
+        paths = [path[1:] for path in parts[1:]] or [[self.whole.top]]
+        self.whole.paths += paths
+        return [(integer(letters, False), ".".join(path)) for path in paths]
 
     # processes and what stands inside
 

@@ -343,11 +343,8 @@ def change(n, letters):
 
 
 def is_selected(scope, selections):
-    """18.1.2: whether one of the selections takes the scope: all, or so many levels from a path on."""
-    for selection in selections:
-        if selection is None:
-            return True
-        levels, path = selection
+    """18.1.2: whether one of the selections takes the scope: so many levels from a path on, or with 0 all of them."""
+    for levels, path in selections:
         below = (scope.path + ".").startswith(path + ".")
         if below and (levels == 0 or scope.path.count(".") - path.count(".") < levels):
             return True
@@ -388,7 +385,7 @@ def dump(run):
             commands.append(item)
             continue
         time, values = item
-        body, selections = [], [command[1] for command in commands if command[0] == "dumpvars"]
+        body, selections = [], [one for command in commands if command[0] == "dumpvars" for one in command[1]]
         if old is None and not selections:
             commands = []
             continue

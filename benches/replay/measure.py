@@ -4,8 +4,8 @@
 Usage: benches/replay/measure.py [PATH_OF_vrace_program]
 
 Reading: ordinary text of many modules, of which the top does nothing, so that text, tokens and tree are all that costs; the
-difference between a long text and a short one. The same of modules with constructs of the whole grammar, which are read and then
-refused as not run yet (E299), and with a string left open at their end, so that they are cut into tokens alone (E101). Refusals: texts
+difference between a long text and a short one. The same of modules with constructs of the whole grammar, which the top
+doesn't reach, and with a string left open at their end, so that they are cut into tokens alone (E101). Refusals: texts
 of one piece repeated, which is as bad as a text can be. Steps: one process of many assignments, blocking or all posted at one time, and
 no dump. Dumps: one process that waits 1 and changes a bit, and the same without `$dumpvars`; the difference is the dump. Status 1 where a
 byte read costs more than 400 instructions, a byte cut into tokens more than 150, twice the steps more than 2.2 times, a byte written
@@ -25,7 +25,7 @@ endmodule
 """
 
 
-# A unit with constructs of the whole grammar: read to the end, and then E299 for the first of them.
+# A unit with constructs of the whole grammar: read to the end, and not reached from the top.
 WHOLE = """module counter_%d #(parameter WIDTH = 8) (input wire clock, input wire reset, output reg [WIDTH - 1:0] count);
   reg [7:0] shadow; // a copy that is one step behind
   wire wraps = count == {WIDTH{1'b1}} && !reset;

@@ -6,7 +6,7 @@ use vrace::{At, Fault, Rule};
 use vsrc::Place;
 
 // Each refusal but want of memory, which nobody here can make, with the number that docs/FAULTS.md gives it.
-const NUMBERS: [(Fault, &str); 28] = [
+const NUMBERS: [(Fault, &str); 27] = [
     (Fault::NotEnded(At(None)), "E101"),
     (Fault::BadToken(At(None)), "E102"),
     (Fault::Directive(At(None)), "E110"),
@@ -17,7 +17,6 @@ const NUMBERS: [(Fault, &str); 28] = [
     (Fault::NoTree(At(None)), "E201"),
     (Fault::Outside(At(None)), "E202"),
     (Fault::TooDeep(At(None)), "E203"),
-    (Fault::NotYet(At(None)), "E299"),
     (Fault::NoDesign(Rule::Top, At(None)), "E301"),
     (Fault::NoDesign(Rule::Doubled, At(None)), "E302"),
     (Fault::NoDesign(Rule::Unknown, At(None)), "E303"),

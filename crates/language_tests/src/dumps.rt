@@ -8,10 +8,12 @@ use std::io;
 use std::io::{Read, Write};
 use std::test::Fail;
 use vbits::{Bit4, Vec4};
-use vcd_text::{DumpSink, Header, Metered, write_vcd};
+use vcd_text::{DumpSink, Metered, write_vcd};
+use vdesign::action::Action;
 use vdesign::design::{Design, Kind, Scope, Variable};
-use vdesign::dump::DumpCommand;
+use vdesign::dump::{Chosen, DumpCommand, Selection};
 use vdesign::expression::Bounds;
+use vdesign::print::Text;
 use vmodel::history::{Cause, End, History, Item};
 use vmodel::sink::Sink;
 use vmodel::values::Values;
@@ -75,15 +77,32 @@ fn variable(
     })
 }
 
-fn scope(alloc: Global, name: &[u8], depth: u32, variables: u32) -> Result<Scope, Fail> {
+fn scope(
+    alloc: Global,
+    name: &[u8],
+    path: &[u8],
+    depth: u32,
+    variables: u32,
+) -> Result<Scope, Fail> {
     Ok(Scope {
         name: Vec::from_slice(alloc, name)?,
+        path: Vec::from_slice(alloc, path)?,
         depth,
         variables,
     })
 }
 
-// Two modules, one in the other, and a third beside it.
+// What `$dumpvars(levels, path);` does.
+fn dump_of(alloc: Global, levels: u64, path: &[u8]) -> Result<Action, Fail> {
+    let mut list = Vec::new(alloc);
+    list.push(Chosen {
+        path: Text::new(Vec::from_slice(alloc, path)?),
+        levels,
+    })?;
+    Ok(Action::DumpVars(Selection::new(list)))
+}
+
+// Two modules, one in the other, and a third beside it. Its actions are dumps: of all, of the first module alone, of the second.
 fn design(alloc: Global) -> Result<Design, Fail> {
     let byte = Some(Bounds { left: 7, right: 0 });
     let mut variables = Vec::new(alloc);
@@ -91,9 +110,13 @@ fn design(alloc: Global) -> Result<Design, Fail> {
     variables.push(variable(alloc, b"top.sum", byte, 8)?)?;
     variables.push(variable(alloc, b"top.left.n", None, 4)?)?;
     let mut scopes = Vec::new(alloc);
-    scopes.push(scope(alloc, b"top", 0, 2)?)?;
-    scopes.push(scope(alloc, b"left", 1, 1)?)?;
-    scopes.push(scope(alloc, b"right", 1, 0)?)?;
+    scopes.push(scope(alloc, b"top", b"top", 0, 2)?)?;
+    scopes.push(scope(alloc, b"left", b"top.left", 1, 1)?)?;
+    scopes.push(scope(alloc, b"right", b"top.right", 1, 0)?)?;
+    let mut actions = Vec::new(alloc);
+    actions.push(Action::DumpVars(Selection::everything(alloc)))?;
+    actions.push(dump_of(alloc, 1, b"top")?)?;
+    actions.push(dump_of(alloc, 0, b"top.left")?)?;
     Ok(Design {
         top: Vec::from_slice(alloc, b"top")?,
         scale: Timescale {
@@ -108,7 +131,7 @@ fn design(alloc: Global) -> Result<Design, Fail> {
         },
         variables,
         scopes,
-        actions: Vec::new(alloc),
+        actions,
         origins: Vec::new(alloc),
         processes: Vec::new(alloc),
     })
@@ -119,11 +142,13 @@ fn slot(alloc: Global, time: u64, go: u64, n: Vec4) -> Result<Item, Fail> {
     Ok(Item::SlotEnd { time, values })
 }
 
-// The dump is asked for in the second slot. In the third nothing changes.
-fn history(alloc: Global, end: u64) -> Result<History, Fail> {
+// The dumps of the actions at these places are asked for in the second slot. In the third nothing changes.
+fn history(alloc: Global, places: &[usize], end: u64) -> Result<History, Fail> {
     let mut items = Vec::new(alloc);
     items.push(slot(alloc, 0, 1, Vec4::all_z(4))?)?;
-    items.push(Item::Dump(DumpCommand::Vars))?;
+    for place in places {
+        items.push(Item::Dump(DumpCommand::Vars(*place)))?;
+    }
     items.push(slot(alloc, 3, 0, Vec4::all_x(4))?)?;
     items.push(slot(alloc, 4, 0, Vec4::all_x(4))?)?;
     items.push(slot(alloc, 7, 1, Vec4::all_z(4))?)?;
@@ -149,11 +174,11 @@ $scope module right $end\n$upscope $end\n$upscope $end\n$enddefinitions $end\n\
 #[test]
 fn dump_on_slow_writers(rt: HostRuntime) -> Result<(), Fail> {
     let alloc = rt.alloc();
-    let header = Header::new(alloc, &design(alloc)?)?;
-    let history = history(alloc, 7)?;
+    let design = design(alloc)?;
+    let history = history(alloc, &[0], 7)?;
     for (most, failing, held) in [(3, 0, TEXT.len()), (10, 5, 40), (0, 0, 0)] {
         let mut writer = slow_writer(alloc, most, failing);
-        let is_whole = write_vcd(alloc, &header, &history, &mut writer).is_ok();
+        let is_whole = write_vcd(alloc, &design, &history, &mut writer).is_ok();
         assert!(rt; is_whole == (held == TEXT.len()), "{most} bytes a call");
         assert!(rt;
             writer.failures() == !is_whole as u64,
@@ -171,10 +196,10 @@ fn dump_on_slow_writers(rt: HostRuntime) -> Result<(), Fail> {
 #[test]
 fn dump_slot_by_slot(rt: HostRuntime) -> Result<(), Fail> {
     let alloc = rt.alloc();
-    let header = Header::new(alloc, &design(alloc)?)?;
-    let history = history(alloc, 9)?;
+    let design = design(alloc)?;
+    let history = history(alloc, &[0], 9)?;
     let mut writer = slow_writer(alloc, 1000, 0);
-    let mut sink = DumpSink::new(alloc, &header, &mut writer);
+    let mut sink = DumpSink::new(alloc, &design, &mut writer);
     for item in &history.items {
         assert_eq!(rt; sink.take(std::slice::from_ref(item)), Ok(()));
     }
@@ -185,6 +210,43 @@ fn dump_slot_by_slot(rt: HostRuntime) -> Result<(), Fail> {
     let mut text = Vec::from_slice(alloc, TEXT.as_bytes())?;
     text.extend_from_slice(b"#9\n")?;
     assert_eq!(rt; writer.into_inner().held.as_slice(), text.as_slice());
+    Ok(())
+}
+
+// By hand, after 18.1.2: of the second module, in the first one, and of the first one alone.
+const CHOSEN: [(&[usize], &str); 3] = [
+    (
+        &[2],
+        "$version vrace $end\n$timescale 10 ps $end\n$scope module top $end\n$scope module left $end\n\
+$var reg 4 # n $end\n$upscope $end\n$upscope $end\n$enddefinitions $end\n\
+#3\n$dumpvars\nbx #\n$end\n#7\nbz #\n",
+    ),
+    (
+        &[1],
+        "$version vrace $end\n$timescale 10 ps $end\n$scope module top $end\n$var reg 1 ! go $end\n\
+$var reg 8 \" sum [7:0] $end\n$upscope $end\n$enddefinitions $end\n\
+#3\n$dumpvars\n0!\nb101 \"\n$end\n#7\n1!\n",
+    ),
+    (
+        &[2, 1],
+        "$version vrace $end\n$timescale 10 ps $end\n$scope module top $end\n$var reg 1 ! go $end\n\
+$var reg 8 \" sum [7:0] $end\n$scope module left $end\n$var reg 4 # n $end\n$upscope $end\n\
+$upscope $end\n$enddefinitions $end\n\
+#3\n$dumpvars\n0!\nb101 \"\nbx #\n$end\n#7\n1!\nbz #\n",
+    ),
+];
+
+// A dump of chosen scopes has these, with the codes that a dump of all has, and the scopes round them; several are joined.
+#[test]
+fn dump_of_chosen_scopes(rt: HostRuntime) -> Result<(), Fail> {
+    let alloc = rt.alloc();
+    let design = design(alloc)?;
+    for (places, text) in CHOSEN {
+        let history = history(alloc, places, 7)?;
+        let mut writer = slow_writer(alloc, 1000, 0);
+        assert!(rt; write_vcd(alloc, &design, &history, &mut writer).is_ok());
+        assert_eq!(rt; writer.into_inner().held.as_slice(), text.as_bytes());
+    }
     Ok(())
 }
 

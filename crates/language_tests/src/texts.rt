@@ -9,7 +9,7 @@ use vast::token::Token;
 use vast::{fits, spell};
 use vbits::Vec4;
 use vdesign::design::Design;
-use velab::elaborate;
+use vhierarchy::elaborate;
 use vlex::{TokenKind, Tokens, tokens};
 use vmodel::history::{Grain, Item};
 use vmodel::{opening, slow_step, slow_width};

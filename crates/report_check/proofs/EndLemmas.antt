@@ -8,7 +8,7 @@ use Rattle.vmodel.specs.Played.{width_is}
 use Rattle.vmachine.specs.declared.standing.Standing.{Standing}
 use Rattle.vmachine.specs.Machines.{Stands, machine_rules}
 use Rattle.report_text.specs.Report.{End as Told}
-use Rattle.vcd_text.specs.DumpText.{dump_below}
+use Rattle.vcd_text.specs.DumpText.{vcd}
 use Rattle.vreport.specs.Dumps.{HasDump}
 use Rattle.vreport.specs.Ends.{IsEndAfter}
 use Rattle.vreport.specs.RunLaws.{same_end}
@@ -21,10 +21,10 @@ abbrev pub WidthAlike : Setting → Type 0
 WidthAlike setting = (s : Standing) (t : State) → Stands setting s t → (machine_rules setting).width s ≡ (rules_of setting).width t
 
 -- the run has a dump
-pub so_has_dump : (setting : Setting) (limit : ℕ) (end : Told) (log : List (ℕ × ℕ)) (head : List ℕ) → log ≡ end.log → EndsSo setting limit end → HasDump head setting log limit
-so_has_dump setting limit end log head is so = subst (λ (l : List (ℕ × ℕ)). HasDump head setting l limit) (sym is) (
-  dump_below head (history_after setting end.log so.steps),
-  the_dump head setting end.log limit so.steps (end_of (state_after setting end.log so.steps)) (record { within = so.within; ends = so.after.ends; end_is = refl }),
+pub so_has_dump : (setting : Setting) (limit : ℕ) (end : Told) (log : List (ℕ × ℕ)) → log ≡ end.log → EndsSo setting limit end → HasDump setting log limit
+so_has_dump setting limit end log is so = subst (λ (l : List (ℕ × ℕ)). HasDump setting l limit) (sym is) (
+  vcd setting.design (history_after setting end.log so.steps),
+  the_dump setting end.log limit so.steps (end_of (state_after setting end.log so.steps)) (record { within = so.within; ends = so.after.ends; end_is = refl }),
 )
 
 module _ (setting : Setting) (alike : Alike setting) (all : AllStand setting) (there : RunThere setting) (here : RunHere setting) (wide : WidthAlike setting) (limit : ℕ) (end : Told) where

@@ -2,7 +2,6 @@
 
 ghost use Rattle.std.specs.Prelude.{◌≡◌, length, OnOk, IfOk};
 ghost use Rattle.basis.specs.Reasons.{IfFault};
-ghost use Rattle.vcd_text.specs.DumpText.{header};
 ghost use Rattle.vreport.specs.Truth.{IsTrueReport};
 ghost use Rattle.report_check.specs.FirstBad.{IsFirstBad, texts_of};
 ghost use Rattle.report_check.specs.Inner.{TellsEnds, TellsRaces};
@@ -13,7 +12,6 @@ use crate::race::is_true_race;
 use basis::{NoMemory, OrMemory};
 use report_text::Report;
 use std::alloc::Global;
-use vcd_text::Header;
 use vmachine::Machine;
 
 /// The first item of a report that isn't true, in the order of the report's own items, counted from 0.
@@ -37,16 +35,8 @@ fn first_false_end(
     requires { length dumps.now ≡ length report.now.ends }
     ensures { IfOk result (TellsEnds machine.now report.now (texts_of dumps.now)) }
 {
-    let head = Header::new(alloc, machine.design())?;
     for place in 0..report.ends.len() {
-        if !is_true_end(
-            alloc,
-            machine,
-            report,
-            &head,
-            &report.ends[place],
-            dumps[place],
-        )? {
+        if !is_true_end(alloc, machine, report, &report.ends[place], dumps[place])? {
             return Ok(Some(place));
         }
     }

@@ -1,7 +1,6 @@
 // Whether an end of a report is true.
 
 ghost use Rattle.std.specs.Prelude.{◌≡◌, IfOk, Decides};
-ghost use Rattle.vcd_text.specs.DumpText.{header};
 ghost use Rattle.vreport.specs.Dumps.{HasDump, IsRunDump};
 ghost use Rattle.vreport.specs.Truth.{IsTrueEndOf};
 ghost use Rattle.report_check.specs.Inner.{EndsSo, TellsStanding};
@@ -10,7 +9,7 @@ use basis::{NoMemory, OrMemory};
 use report_text::{End, Report};
 use sched_core::{Log, replay};
 use std::alloc::Global;
-use vcd_text::{Expected, Header, expected_is_whole};
+use vcd_text::{Expected, expected_is_whole};
 use vmachine::{Machine, Standing, machine_law};
 use vreport::{line_of_values, write_dump};
 
@@ -20,16 +19,15 @@ fn is_dump(
     machine: &Machine,
     log: &Log,
     steps: u32,
-    head: &Header,
     dump: &[u8],
 ) -> Result<bool, NoMemory>
-    requires ends { HasDump head.now machine.now log.now steps }
+    requires ends { HasDump machine.now log.now steps }
     ensures { IfOk result (λ is.
-        Decides is (IsRunDump head.now machine.now log.now steps dump.now)) }
+        Decides is (IsRunDump machine.now log.now steps dump.now)) }
 {
     expected_is_whole();
     let mut expected = Expected::new(dump);
-    match write_dump(alloc, machine, log, steps, head, &mut expected) {
+    match write_dump(alloc, machine, log, steps, &mut expected) {
         Ok(()) => Ok(expected.is_whole()),
         Err(OrMemory::Memory(refused)) => Err(refused),
         Err(OrMemory::Fault(_)) => unreachable!(),
@@ -76,11 +74,9 @@ pub fn is_true_end(
     alloc: Global,
     machine: &Machine,
     report: &Report,
-    head: &Header,
     end: &End,
     dump: &[u8],
 ) -> Result<bool, NoMemory>
-    requires head { head.now ≡ header machine.now.design }
     ensures { IfOk result (λ is. Decides is (IsTrueEndOf machine.now report.now end.now dump.now)) }
 {
     if end.log.members().len() > report.depart as usize {
@@ -89,5 +85,5 @@ pub fn is_true_end(
     if !ends_so(alloc, machine, report.steps, end)? {
         return Ok(false);
     }
-    is_dump(alloc, machine, &end.log, report.steps, head, dump)
+    is_dump(alloc, machine, &end.log, report.steps, dump)
 }

@@ -191,7 +191,7 @@ fn put_posts(
 // The task that commanded the dump.
 fn command_word(command: DumpCommand) -> &'static [u8] {
     match command {
-        DumpCommand::Vars => b" dumpvars",
+        DumpCommand::Vars(_) => b" dumpvars",
         DumpCommand::Off => b" dumpoff",
         DumpCommand::On => b" dumpon",
         DumpCommand::All => b" dumpall",

@@ -1,49 +1,48 @@
 -- Names without their scopes, and the lines of variables and scopes.
-use Rattle.std.proofs.Common.{◌≡◌, ◌<◌, ◌≤◌, ◌+◌, ◌-◌, ℕ, suc, Bool, ◌==◌, List, [], ◌∷◌, ◌++◌, length, take, drop, drop-cons, get_or, min, refl, sym, ap, ◌∙◌, add-one, append_assoc, inl, inr, arith}
+use Rattle.std.proofs.Common.{◌≡◌, ◌<◌, ◌≤◌, ◌+◌, ◌-◌, ℕ, suc, Bool, cond, ◌==◌, List, [], ◌∷◌, ◌++◌, length, take, drop, drop-cons, get_or, min, refl, sym, ap, ◌∙◌, add-one, append_assoc, inl, inr, arith}
 use Rattle.std.specs.Prelude.{not, codes, decimal}
 use Rattle.std.specs.List.{after_last}
-use Rattle.std.proofs.lemmas.List.{take_min, drop_all, append-nil}
+use Rattle.std.proofs.lemmas.List.{take_min, drop_all}
 use Rattle.std.proofs.lemmas.Bool.{cases_lt}
 use Rattle.std.proofs.Math.Seq.{take-nil, drop-nil}
 use Rattle.vdesign.specs.Design.{Variable, Scope}
 use Rattle.basis.specs.declared.timescale.Span.{Span}
 use Rattle.basis.specs.Timescales.{count_number, unit_word}
-use Rattle.vcd_text.specs.DumpText.{timescale_line, bounds_text, closings, code, kind_word, line, following, named_variable_line, scope_line, scope_lines, variable_lines}
+use Rattle.vcd_text.specs.DumpText.{timescale_line, bounds_text, closings, code, is_written, kind_word, line, following, named_variable_line, scope_line, scope_lines, scope_text, variable_lines}
 
 -- what stands in a name's last part
 abbrev pub is_no_dot : ℕ → Bool
 is_no_dot c = not (c == 46)
 
 -- where no variable is left, their numbers don't matter
-lines_of_none : (before : List ℕ) (around n k : ℕ) (scopes : List Scope) →
-    before ++ variable_lines n (take k []) ++ scope_lines around (n + k) scopes (drop k []) ≡ before ++ scope_lines around (n + k) scopes []
-lines_of_none before around n k scopes =
-    ap (λ (vs : List Variable). before ++ variable_lines n vs ++ scope_lines around (n + k) scopes (drop k [])) (take-nil k)
-    ∙ ap (λ (text : List ℕ). text ++ scope_lines around (n + k) scopes (drop k [])) (append-nil before)
-    ∙ ap (λ (vs : List Variable). before ++ scope_lines around (n + k) scopes vs) (drop-nil k)
+module _ (around n k : ℕ) (written mark : Bool) (s : Scope) (after : ℕ) (marks : List Bool) (scopes : List Scope) where
+  text_of_none : cond written (scope_text around n mark s (take k [])) [] ++ scope_lines after (n + k) marks scopes (drop k [])
+      ≡ cond written (closings (around - s.depth) ++ scope_line s.name ++ cond mark [] []) [] ++ scope_lines after (n + k) marks scopes []
+  text_of_none =
+      ap (λ (vs : List Variable). cond written (scope_text around n mark s vs) [] ++ scope_lines after (n + k) marks scopes (drop k [])) (take-nil k)
+      ∙ ap (λ (vs : List Variable). cond written (scope_text around n mark s []) [] ++ scope_lines after (n + k) marks scopes vs) (drop-nil k)
 
-no_variables : (around n m : ℕ) (scopes : List Scope) → scope_lines around n scopes [] ≡ scope_lines around m scopes []
-no_variables around n m [] = refl
-no_variables around n m (s ∷ scopes) =
-    let before : List ℕ = closings (around - s.depth) ++ scope_line s.name in
-    lines_of_none before (suc s.depth) n s.variables scopes
-    ∙ ap (λ (text : List ℕ). before ++ text) (no_variables (suc s.depth) (n + s.variables) (m + s.variables) scopes)
-    ∙ sym (lines_of_none before (suc s.depth) m s.variables scopes)
+no_variables : (around n m : ℕ) (marks : List Bool) (scopes : List Scope) → scope_lines around n marks scopes [] ≡ scope_lines around m marks scopes []
+no_variables around n m marks [] = refl
+no_variables around n m [] (s ∷ scopes) = refl
+no_variables around n m (mark ∷ marks) (s ∷ scopes) =
+    let written : Bool = is_written mark s marks scopes in
+    let after : ℕ = cond written (suc s.depth) around in
+    let piece : List ℕ = cond written (closings (around - s.depth) ++ scope_line s.name ++ cond mark [] []) [] in
+    text_of_none around n s.variables written mark s after marks scopes
+    ∙ ap (λ (text : List ℕ). piece ++ text) (no_variables after (n + s.variables) (m + s.variables) marks scopes)
+    ∙ sym (text_of_none around m s.variables written mark s after marks scopes)
 
 -- a scope that says of more variables than there are has those that there are
-same_lines : (around n k j : ℕ) (scopes : List Scope) (vs : List Variable) → j ≡ min k (length vs) →
-    scope_lines around (n + j) scopes (drop j vs) ≡ scope_lines around (n + k) scopes (drop k vs)
-same_lines around n k j scopes vs is = elim (cases_lt (length vs) k) [
+same_lines : (around n k j : ℕ) (marks : List Bool) (scopes : List Scope) (vs : List Variable) → j ≡ min k (length vs) →
+    scope_lines around (n + j) marks scopes (drop j vs) ≡ scope_lines around (n + k) marks scopes (drop k vs)
+same_lines around n k j marks scopes vs is = elim (cases_lt (length vs) k) [
   | inl lt ↦ (let e : length vs ≤ j = omega (arith, is, lt) in
-      ap (scope_lines around (n + j) scopes) (drop_all j vs e)
-      ∙ no_variables around (n + j) (n + k) scopes
-      ∙ sym (ap (scope_lines around (n + k) scopes) (drop_all k vs (omega (arith, lt)))))
-  | inr le ↦ (let e : j ≡ k = omega (arith, is, le) in ap (λ (m : ℕ). scope_lines around (n + m) scopes (drop m vs)) e)
+      ap (scope_lines around (n + j) marks scopes) (drop_all j vs e)
+      ∙ no_variables around (n + j) (n + k) marks scopes
+      ∙ sym (ap (scope_lines around (n + k) marks scopes) (drop_all k vs (omega (arith, lt)))))
+  | inr le ↦ (let e : j ≡ k = omega (arith, is, le) in ap (λ (m : ℕ). scope_lines around (n + m) marks scopes (drop m vs)) e)
 ]
-
-regrouped : (text a b c d : List ℕ) → text ++ a ++ b ++ c ++ d ≡ text ++ (a ++ b ++ c ++ d)
-regrouped text a b c d =
-    ap (λ (x : List ℕ). x ++ d) (ap (λ (x : List ℕ). x ++ c) (append_assoc text a b) ∙ append_assoc text (a ++ b) c) ∙ append_assoc text (a ++ b ++ c) d
 
 -- one piece more
 piece_more : (text so_far now next piece : List ℕ) → now ≡ text ++ so_far → next ≡ now ++ piece → next ≡ text ++ (so_far ++ piece)
@@ -110,26 +109,37 @@ closing_more text more whole count i lt step so_far =
     ∙ sym (ap (λ (m : ℕ). text ++ closings m) e)
     ∙ so_far
 
--- one scope's lines, and then the others'
-pub scope_more : (text closed named listed whole : List ℕ) (around n : ℕ) (s : Scope) (scopes : List Scope) (vs own rest : List Variable) (j m : ℕ) →
-    j ≡ min s.variables (length vs) → m ≡ j → own ≡ take j vs → rest ≡ drop j vs → closed ≡ text ++ closings (around - s.depth) → named ≡ closed ++ scope_line s.name →
-    listed ≡ named ++ variable_lines n own → text ++ scope_lines around n (s ∷ scopes) vs ≡ whole →
-    listed ++ scope_lines (s.depth + 1) (n + m) scopes rest ≡ whole
-scope_more text closed named listed whole around n s scopes vs own rest j m is long own_is rest_is closed_is named_is listed_is so_far =
+-- the pieces of a scope that is written
+pub written_put : (text closed named listed : List ℕ) (around n : ℕ) (mark : Bool) (s : Scope) (own : List Variable) →
+    closed ≡ text ++ closings (around - s.depth) → named ≡ closed ++ scope_line s.name →
+    listed ≡ named ++ cond mark (variable_lines n own) [] → listed ≡ text ++ scope_text around n mark s own
+written_put text closed named listed around n mark s own s1 s2 s3 =
+    let p2 = piece_more text (closings (around - s.depth)) closed named (scope_line s.name) s1 s2 in
+    piece_more text (closings (around - s.depth) ++ scope_line s.name) named listed (cond mark (variable_lines n own) []) p2 s3
+
+-- one scope's text, and then the others'
+pub scope_more : (text listed whole : List ℕ) (around after n : ℕ) (written mark : Bool) (marks : List Bool) (s : Scope) (scopes : List Scope)
+    (vs own rest : List Variable) (j m : ℕ) → j ≡ min s.variables (length vs) → m ≡ j → own ≡ take j vs → rest ≡ drop j vs →
+    written ≡ is_written mark s marks scopes → after ≡ cond written (suc s.depth) around →
+    listed ≡ text ++ cond written (scope_text around n mark s own) [] → text ++ scope_lines around n (mark ∷ marks) (s ∷ scopes) vs ≡ whole →
+    listed ++ scope_lines after (n + m) marks scopes rest ≡ whole
+scope_more text listed whole around after n written mark marks s scopes vs own rest j m is long own_is rest_is written_is after_is listed_is so_far =
     let own_same : own ≡ take s.variables vs = own_is ∙ ap (λ (i : ℕ). take i vs) is ∙ take_min s.variables vs in
-    let after : List ℕ = scope_lines (s.depth + 1) (n + m) scopes rest in
-    let after_same : after ≡ scope_lines (suc s.depth) (n + s.variables) scopes (drop s.variables vs) =
-    ap (λ (i : ℕ). scope_lines i (n + m) scopes rest) (add-one s.depth)
-    ∙ ap (λ (i : ℕ). scope_lines (suc s.depth) (n + i) scopes rest) long
-    ∙ ap (scope_lines (suc s.depth) (n + j) scopes) rest_is
-    ∙ same_lines (suc s.depth) n s.variables j scopes vs is in
-    let listed_all : listed ≡ ((text ++ closings (around - s.depth)) ++ scope_line s.name) ++ variable_lines n own =
-    listed_is ∙ ap (λ (x : List ℕ). x ++ variable_lines n own) (named_is ∙ ap (λ (x : List ℕ). x ++ scope_line s.name) closed_is) in
-    let before : List ℕ = closings (around - s.depth) ++ scope_line s.name in
-    ap (λ (x : List ℕ). x ++ after) listed_all
-    ∙ regrouped text (closings (around - s.depth)) (scope_line s.name) (variable_lines n own) after
-    ∙ ap (λ (x : List ℕ). text ++ (before ++ variable_lines n own ++ x)) after_same
-    ∙ ap (λ (x : List Variable). text ++ (before ++ variable_lines n x ++ scope_lines (suc s.depth) (n + s.variables) scopes (drop s.variables vs))) own_same
+    let by : Bool → List ℕ = λ b. cond b (scope_text around n mark s (take s.variables vs)) []
+    ++ scope_lines (cond b (suc s.depth) around) (n + s.variables) marks scopes (drop s.variables vs) in
+    let here : List ℕ = cond written (scope_text around n mark s own) [] in
+    let later : List ℕ = scope_lines after (n + m) marks scopes rest in
+    let later_same : later ≡ scope_lines (cond written (suc s.depth) around) (n + s.variables) marks scopes (drop s.variables vs) =
+    ap (λ (i : ℕ). scope_lines i (n + m) marks scopes rest) after_is
+    ∙ ap (λ (i : ℕ). scope_lines (cond written (suc s.depth) around) (n + i) marks scopes rest) long
+    ∙ ap (scope_lines (cond written (suc s.depth) around) (n + j) marks scopes) rest_is
+    ∙ same_lines (cond written (suc s.depth) around) n s.variables j marks scopes vs is in
+    ap (λ (x : List ℕ). x ++ later) listed_is
+    ∙ append_assoc text here later
+    ∙ ap (λ (x : List ℕ). text ++ (here ++ x)) later_same
+    ∙ ap (λ (x : List Variable). text ++ (cond written (scope_text around n mark s x) []
+    ++ scope_lines (cond written (suc s.depth) around) (n + s.variables) marks scopes (drop s.variables vs))) own_same
+    ∙ ap (λ (b : Bool). text ++ by b) written_is
     ∙ so_far
 
 -- one variable's line, and then the others'

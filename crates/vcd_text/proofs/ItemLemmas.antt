@@ -1,6 +1,7 @@
 -- Items that are left to take.
 use Rattle.std.proofs.Common.{◌≡◌, ◌<◌, ◌≤◌, ◌+◌, ℕ, suc, List, [], ◌∷◌, length, drop, get_or, drop-cons, sym, ap, subst, ◌∙◌, add-one, refl}
 use Rattle.std.proofs.lemmas.List.{drop_all}
+use Rattle.vdesign.specs.Design.{Design}
 use Rattle.vmodel.specs.declared.history.Item.{Item}
 use Rattle.vmodel.specs.declared.history.Item.TheVariants.{SlotEnd, Dump, Line, Monitor}
 use Rattle.basis.specs.declared.memory.OrMemory.{OrMemory}
@@ -17,19 +18,19 @@ pub left_items : (items : List Item) (i : ℕ) (item : Item) → item ≡ get_or
 left_items items i item is within =
     sym (drop-cons items i item within ∙ ap (λ (x : Item). x ∷ drop (suc i) items) (sym is) ∙ ap (λ (n : ℕ). item ∷ drop n items) (sym (add-one i)))
 
-failed_text : (head : List ℕ) (items : List Item) → items_text head Failed items ≡ []
-failed_text head [] = refl
-failed_text head (SlotEnd t values ∷ items) = failed_text head items
-failed_text head (Dump command ∷ items) = failed_text head items
-failed_text head (Line text ∷ items) = failed_text head items
-failed_text head (Monitor place ∷ items) = failed_text head items
+failed_text : (design : Design) (items : List Item) → items_text design Failed items ≡ []
+failed_text design [] = refl
+failed_text design (SlotEnd t values ∷ items) = failed_text design items
+failed_text design (Dump command ∷ items) = failed_text design items
+failed_text design (Line text ∷ items) = failed_text design items
+failed_text design (Monitor place ∷ items) = failed_text design items
 
-failed_over : (items : List Item) → progress_over Failed items ≡ Failed
-failed_over [] = refl
-failed_over (SlotEnd t values ∷ items) = failed_over items
-failed_over (Dump command ∷ items) = failed_over items
-failed_over (Line text ∷ items) = failed_over items
-failed_over (Monitor place ∷ items) = failed_over items
+failed_over : (design : Design) (items : List Item) → progress_over design Failed items ≡ Failed
+failed_over design [] = refl
+failed_over design (SlotEnd t values ∷ items) = failed_over design items
+failed_over design (Dump command ∷ items) = failed_over design items
+failed_over design (Line text ∷ items) = failed_over design items
+failed_over design (Monitor place ∷ items) = failed_over design items
 
 -- a dump that failed is over, whatever the fault
 pub over : {F : Type 0} (fault : OrMemory F) → IsOver fault Failed
@@ -62,8 +63,9 @@ module _ {O F : Type 0} (takes : O → List ℕ → O → Type 0) (fails : O →
   -- a dump that failed passes items over
   pub takes_nothing : (s : DumpSink O) (items : List Item) → s.progress ≡ Failed → Takes takes s items s
   takes_nothing s items failed =
-      let over : progress_over s.progress items ≡ s.progress = ap (λ (p : Progress). progress_over p items) failed ∙ failed_over items ∙ sym failed in
-      let text : text_of s items ≡ [] = ap (λ (p : Progress). items_text s.header.now p items) failed ∙ failed_text s.header.now items in
+      let over : progress_over s.design.now s.progress items ≡ s.progress =
+      ap (λ (p : Progress). progress_over s.design.now p items) failed ∙ failed_over s.design.now items ∙ sym failed in
+      let text : text_of s items ≡ [] = ap (λ (p : Progress). items_text s.design.now p items) failed ∙ failed_text s.design.now items in
       ((refl, refl), sym over, subst (λ (xs : List ℕ). takes s.outlet.now xs s.outlet.now) (sym text) (laws.none s.outlet.now))
 
   -- nothing is left

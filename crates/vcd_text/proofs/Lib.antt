@@ -6,3 +6,4 @@ pub mod PutLemmas
 pub mod ReaderLemmas
 pub mod ValueLemmas
 pub mod ShortLemmas
+pub mod SelectedLemmas

@@ -1,10 +1,10 @@
 -- A reader of a dump knows the values at each slot's end.
 use Rattle.std.proofs.Common.{◌≡◌, ℕ, zero, suc, ◌+◌, Bool, true, false, cond, ◌&&◌, ◌==◌, List, [], ◌∷◌, ◌++◌, None, Some, length, map, reverse, set, take, refl, sym, ap, subst, ◌∙◌, append_assoc, length-append, add-one, arith}
-use Rattle.std.specs.Prelude.{codes, slice_get, slice_set, zip}
-use Rattle.std.specs.List.{enumerate_from, list_all}
+use Rattle.std.specs.Prelude.{codes, not, slice_get, slice_set, zip}
+use Rattle.std.specs.List.{list_all}
 use Rattle.std.proofs.Math.Seq.{set-append_seam}
 use Rattle.std.proofs.lemmas.Bool.Decides.{nat_tests}
-use Rattle.std.proofs.lemmas.List.{length-set, map-append}
+use Rattle.std.proofs.lemmas.List.{length-set}
 use Rattle.std.proofs.lemmas.List.Elements.{All-head, All-tail}
 use Rattle.vbits.specs.declared.bit4.Bit4.{Bit4}
 use Rattle.vbits.specs.declared.bit4.Bit4.TheVariants.{Zero, One, X, Z}
@@ -12,8 +12,8 @@ use Rattle.vbits.specs.Letters.{is_same}
 use Rattle.vbits.specs.Vectors.{Vector, same_letters}
 use Rattle.vdesign.specs.declared.dump.DumpCommand.{DumpCommand}
 use Rattle.vdesign.specs.declared.dump.DumpCommand.TheVariants.{Vars, Off, On, All as AllValues}
-use Rattle.vcd_text.specs.DumpText.{Part, Piece, ToldSlot, all_at, change, changed_part, changes, code, command_part, command_parts, digit, framed, is_kept, is_nothing, later_parts, later_pieces, line, on_after, on_by, part_text, parts_text, piece_text, pieces, spoken, start, value_lines}
-use Rattle.vcd_text.specs.Readers.{AllHave, IsTold, known, known_parts, letters_of, on_over, overlaid}
+use Rattle.vcd_text.specs.DumpText.{Part, Piece, ToldSlot, all_at, change, changed_part, changes, listed, code, command_part, command_parts, digit, framed, is_kept, is_news, is_nothing, later_parts, later_pieces, line, on_after, on_by, part_text, parts_text, piece_text, pieces, spoken, start, value_lines}
+use Rattle.vcd_text.specs.Readers.{AllHave, IsTold, known, known_parts, letters_of, on_over, overlaid, picked}
 
 -- ---- values that are kept
 
@@ -55,9 +55,6 @@ cons_head x y xs ys e = cc
 cons_tail : {A : Type 0} (x y : A) (xs ys : List A) → x ∷ xs ≡ y ∷ ys → xs ≡ ys
 cons_tail x y xs ys e = cc
 
-not_empty : {A : Type 0} (x : A) (xs : List A) → [] ≡ x ∷ xs → ⊥
-not_empty x xs e = cc
-
 length_more : (ps : List Vector) (w : Vector) (n : ℕ) → length ps ≡ n → length (ps ++ w ∷ []) ≡ suc n
 length_more ps w n is = let more : length (ps ++ w ∷ []) ≡ length ps + length (w ∷ []) = length-append ps (w ∷ []) in omega arith
 
@@ -65,50 +62,85 @@ seam : (ps cs : List Vector) (c v : Vector) (n : ℕ) → length ps ≡ n → se
 seam ps cs c v n is =
     ap (λ (i : ℕ). set (ps ++ c ∷ cs) i v) (sym is) ∙ set-append_seam ps c cs v ∙ sym (append_assoc ps (v ∷ []) cs)
 
--- all values
-over_all : (vs cs ps : List Vector) (n : ℕ) → length ps ≡ n → length cs ≡ length vs → overlaid (ps ++ cs) (enumerate_from n vs) ≡ ps ++ vs
-over_all [] [] ps n is long = refl
-over_all [] (c ∷ cs) ps n is long = absurd (omega arith)
-over_all (v ∷ vs) [] ps n is long = absurd (omega arith)
-over_all (v ∷ vs) (c ∷ cs) ps n is long =
-    ap (λ (xs : List Vector). overlaid xs (enumerate_from (n + 1) vs)) (seam ps cs c v n is)
-    ∙ over_all vs cs (ps ++ v ∷ []) (n + 1) (length_more ps v n is ∙ sym (add-one n)) (omega arith)
-    ∙ append_assoc ps (v ∷ []) vs
+-- values of which those that are marked are replaced
+abbrev pub merged : List Bool → List Vector → List Vector → List Vector
+merged marks cs [] = cs
+merged [] cs (v ∷ vs) = cs
+merged (mark ∷ marks) [] (v ∷ vs) = []
+merged (mark ∷ marks) (c ∷ cs) (v ∷ vs) = cond mark v c ∷ merged marks cs vs
 
-middle : (ps : List Vector) (w v : Vector) (rest : List (List Bit4)) → w.letters ≡ v.letters →
-    letters_of (ps ++ w ∷ []) ++ rest ≡ letters_of ps ++ v.letters ∷ rest
-middle ps w v rest same =
-    ap (λ (ls : List (List Bit4)). ls ++ rest) (map-append (λ (x : Vector). x.letters) ps (w ∷ []))
-    ∙ append_assoc (letters_of ps) (w.letters ∷ []) rest
-    ∙ ap (λ (l : List Bit4). letters_of ps ++ l ∷ rest) same
+-- all values that are marked
+over_listed : (marks : List Bool) (vs cs ps : List Vector) (n : ℕ) → length ps ≡ n → length cs ≡ length vs →
+    overlaid (ps ++ cs) (listed n marks vs) ≡ ps ++ merged marks cs vs
+over_listed marks [] cs ps n is long = refl
+over_listed [] (v ∷ vs) cs ps n is long = refl
+over_listed (mark ∷ marks) (v ∷ vs) [] ps n is long = absurd (omega arith)
+over_listed (true ∷ marks) (v ∷ vs) (c ∷ cs) ps n is long =
+    ap (λ (xs : List Vector). overlaid xs (listed (suc n) marks vs)) (seam ps cs c v n is)
+    ∙ over_listed marks vs cs (ps ++ v ∷ []) (suc n) (length_more ps v n is) (omega arith)
+    ∙ append_assoc ps (v ∷ []) (merged marks cs vs)
+over_listed (false ∷ marks) (v ∷ vs) (c ∷ cs) ps n is long =
+    ap (λ (xs : List Vector). overlaid xs (listed (suc n) marks vs)) (sym (append_assoc ps (c ∷ []) cs))
+    ∙ over_listed marks vs cs (ps ++ c ∷ []) (suc n) (length_more ps c n is) (omega arith)
+    ∙ append_assoc ps (c ∷ []) (merged marks cs vs)
 
--- one value that changed or not, where the later ones are known
-one_change : (b : Bool) (u v c : Vector) (us vs cs ps : List Vector) (n : ℕ) → is_kept u v ≡ b → length ps ≡ n → c.letters ≡ u.letters →
-    ((w : Vector) → letters_of (overlaid (ps ++ w ∷ [] ++ cs) (changes (suc n) us vs)) ≡ letters_of (ps ++ w ∷ []) ++ letters_of vs) →
-    letters_of (overlaid (ps ++ c ∷ cs) (changes n (u ∷ us) (v ∷ vs))) ≡ letters_of ps ++ letters_of (v ∷ vs)
-one_change true u v c us vs cs ps n kept is same next =
-    let later : List (ℕ × Vector) = changes (suc n) us vs in
-    ap (λ (b : Bool). letters_of (overlaid (ps ++ c ∷ cs) (cond b later ((n, v) ∷ later)))) kept
-    ∙ ap (λ (xs : List Vector). letters_of (overlaid xs later)) (sym (append_assoc ps (c ∷ []) cs))
-    ∙ next c ∙ middle ps c v (letters_of vs) (same ∙ kept_letters u v kept)
-one_change false u v c us vs cs ps n kept is same next =
-    let later : List (ℕ × Vector) = changes (suc n) us vs in
-    ap (λ (b : Bool). letters_of (overlaid (ps ++ c ∷ cs) (cond b later ((n, v) ∷ later)))) kept
-    ∙ ap (λ (xs : List Vector). letters_of (overlaid xs later)) (seam ps cs c v n is)
-    ∙ next v ∙ middle ps v v (letters_of vs) refl
+picked_merged : (marks : List Bool) (cs vs : List Vector) → length cs ≡ length vs →
+    picked marks (letters_of (merged marks cs vs)) ≡ picked marks (letters_of vs)
+picked_merged marks [] [] long = refl
+picked_merged marks (c ∷ cs) [] long = absurd (omega arith)
+picked_merged [] [] (v ∷ vs) long = absurd (omega arith)
+picked_merged [] (c ∷ cs) (v ∷ vs) long = refl
+picked_merged (mark ∷ marks) [] (v ∷ vs) long = absurd (omega arith)
+picked_merged (true ∷ marks) (c ∷ cs) (v ∷ vs) long = ap (λ (ls : List (List Bit4)). v.letters ∷ ls) (picked_merged marks cs vs (omega arith))
+picked_merged (false ∷ marks) (c ∷ cs) (v ∷ vs) long = picked_merged marks cs vs (omega arith)
 
--- the values that differ from those that are known
-over_changes : (us vs cs ps : List Vector) (n : ℕ) → length ps ≡ n → length us ≡ length vs → letters_of cs ≡ letters_of us →
-    letters_of (overlaid (ps ++ cs) (changes n us vs)) ≡ letters_of ps ++ letters_of vs
-over_changes [] [] cs ps n is long same =
-    map-append (λ (x : Vector). x.letters) ps cs ∙ ap (λ (ls : List (List Bit4)). letters_of ps ++ ls) same
-over_changes [] (v ∷ vs) cs ps n is long same = absurd (omega arith)
-over_changes (u ∷ us) [] cs ps n is long same = absurd (omega arith)
-over_changes (u ∷ us) (v ∷ vs) [] ps n is long same = absurd (not_empty u.letters (letters_of us) same)
-over_changes (u ∷ us) (v ∷ vs) (c ∷ cs) ps n is long same =
-    one_change (is_kept u v) u v c us vs cs ps n refl is (cons_head c.letters u.letters (letters_of cs) (letters_of us) same)
-    (λ w. over_changes us vs cs (ps ++ w ∷ []) (suc n) (length_more ps w n is) (omega arith)
-    (cons_tail c.letters u.letters (letters_of cs) (letters_of us) same))
+-- values of which those are replaced that are marked and have changed
+abbrev pub renewed : List Bool → List Vector → List Vector → List Vector → List Vector
+renewed marks cs us [] = cs
+renewed [] cs us (v ∷ vs) = cs
+renewed (mark ∷ marks) cs [] (v ∷ vs) = cs
+renewed (mark ∷ marks) [] (u ∷ us) (v ∷ vs) = []
+renewed (mark ∷ marks) (c ∷ cs) (u ∷ us) (v ∷ vs) = cond (is_news mark u v) v c ∷ renewed marks cs us vs
+
+-- one value that is told or not, where the later ones are
+one_change : (b : Bool) (told : List (ℕ × Vector)) (c v : Vector) (cs ps rest : List Vector) (n : ℕ) → length ps ≡ n →
+    ((w : Vector) → overlaid (ps ++ w ∷ [] ++ cs) told ≡ ps ++ w ∷ [] ++ rest) →
+    overlaid (ps ++ c ∷ cs) (cond b ((n, v) ∷ told) told) ≡ ps ++ cond b v c ∷ rest
+one_change true told c v cs ps rest n is next =
+    ap (λ (xs : List Vector). overlaid xs told) (seam ps cs c v n is) ∙ next v ∙ append_assoc ps (v ∷ []) rest
+one_change false told c v cs ps rest n is next =
+    ap (λ (xs : List Vector). overlaid xs told) (sym (append_assoc ps (c ∷ []) cs)) ∙ next c ∙ append_assoc ps (c ∷ []) rest
+
+-- the values that are marked and differ from those that are known
+over_changes : (marks : List Bool) (us vs cs ps : List Vector) (n : ℕ) → length ps ≡ n → length us ≡ length vs → length cs ≡ length vs →
+    overlaid (ps ++ cs) (changes n marks us vs) ≡ ps ++ renewed marks cs us vs
+over_changes marks us [] cs ps n is long same = refl
+over_changes [] us (v ∷ vs) cs ps n is long same = refl
+over_changes (mark ∷ marks) [] (v ∷ vs) cs ps n is long same = absurd (omega arith)
+over_changes (mark ∷ marks) (u ∷ us) (v ∷ vs) [] ps n is long same = absurd (omega arith)
+over_changes (mark ∷ marks) (u ∷ us) (v ∷ vs) (c ∷ cs) ps n is long same =
+    one_change (is_news mark u v) (changes (suc n) marks us vs) c v cs ps (renewed marks cs us vs) n is
+    (λ w. over_changes marks us vs cs (ps ++ w ∷ []) (suc n) (length_more ps w n is) (omega arith) (omega arith))
+
+-- a value that is marked, where the one before it was known
+one_news : (kept : Bool) (u v c : Vector) → is_kept u v ≡ kept → c.letters ≡ u.letters → (cond (not kept) v c).letters ≡ v.letters
+one_news true u v c is same = same ∙ kept_letters u v is
+one_news false u v c is same = refl
+
+picked_renewed : (marks : List Bool) (cs us vs : List Vector) → length us ≡ length vs → length cs ≡ length vs →
+    picked marks (letters_of cs) ≡ picked marks (letters_of us) → picked marks (letters_of (renewed marks cs us vs)) ≡ picked marks (letters_of vs)
+picked_renewed marks [] us [] many long same = refl
+picked_renewed marks (c ∷ cs) us [] many long same = absurd (omega arith)
+picked_renewed [] [] us (v ∷ vs) many long same = absurd (omega arith)
+picked_renewed [] (c ∷ cs) us (v ∷ vs) many long same = refl
+picked_renewed (mark ∷ marks) cs [] (v ∷ vs) many long same = absurd (omega arith)
+picked_renewed (mark ∷ marks) [] (u ∷ us) (v ∷ vs) many long same = absurd (omega arith)
+picked_renewed (true ∷ marks) (c ∷ cs) (u ∷ us) (v ∷ vs) many long same =
+    let first = cons_head c.letters u.letters (picked marks (letters_of cs)) (picked marks (letters_of us)) same in
+    let rest = cons_tail c.letters u.letters (picked marks (letters_of cs)) (picked marks (letters_of us)) same in
+    ap (λ (l : List Bit4). l ∷ picked marks (letters_of (renewed marks cs us vs))) (one_news (is_kept u v) u v c refl first)
+    ∙ ap (λ (ls : List (List Bit4)). v.letters ∷ ls) (picked_renewed marks cs us vs (omega arith) (omega arith) rest)
+picked_renewed (false ∷ marks) (c ∷ cs) (u ∷ us) (v ∷ vs) many long same = picked_renewed marks cs us vs (omega arith) (omega arith) same
 
 -- ---- pieces that say nothing
 
@@ -163,36 +195,41 @@ known_append : (values : List Vector) (xs ys : List Part) → known_parts values
 known_append values [] ys = refl
 known_append values (x ∷ xs) ys = known_append (overlaid values x.told) xs ys
 
--- what is known where the dump is on
-abbrev pub KnowsIf : Bool → List Vector → List Vector → Type 0
-KnowsIf on values vs = on ≡ true → letters_of values ≡ letters_of vs
+module _ (marks : List Bool) where
+  -- what is known where the dump is on
+  abbrev pub KnowsIf : Bool → List Vector → List Vector → Type 0
+  KnowsIf on values vs = on ≡ true → picked marks (letters_of values) ≡ picked marks (letters_of vs)
 
-all_known : (word : List ℕ) (values vs : List Vector) → length values ≡ length vs → overlaid values (all_at word vs).told ≡ vs
-all_known word values vs long = over_all vs values [] 0 refl long
+  all_known : (word : List ℕ) (values vs : List Vector) → length values ≡ length vs →
+      picked marks (letters_of (overlaid values (all_at word marks vs).told)) ≡ picked marks (letters_of vs)
+  all_known word values vs long =
+      ap (λ (xs : List Vector). picked marks (letters_of xs)) (over_listed marks vs values [] 0 refl long) ∙ picked_merged marks values vs long
 
-by_command : (on : Bool) (command : DumpCommand) (values vs : List Vector) → length values ≡ length vs → KnowsIf on values vs →
-    KnowsIf (on_by on command) (known_parts values (command_part on command vs)) vs
-by_command on Vars values vs long knows = knows
-by_command true Off values vs long knows = λ e. cc
-by_command false Off values vs long knows = λ e. cc
-by_command true On values vs long knows = λ e. knows refl
-by_command false On values vs long knows = λ e. ap letters_of (all_known (codes "$dumpon") values vs long)
-by_command true AllValues values vs long knows = λ e. ap letters_of (all_known (codes "$dumpall") values vs long)
-by_command false AllValues values vs long knows = knows
+  by_command : (on : Bool) (command : DumpCommand) (values vs : List Vector) → length values ≡ length vs → KnowsIf on values vs →
+      KnowsIf (on_by on command) (known_parts values (command_part marks on command vs)) vs
+  by_command on (Vars place) values vs long knows = knows
+  by_command true Off values vs long knows = λ e. cc
+  by_command false Off values vs long knows = λ e. cc
+  by_command true On values vs long knows = λ e. knows refl
+  by_command false On values vs long knows = λ e. all_known (codes "$dumpon") values vs long
+  by_command true AllValues values vs long knows = λ e. all_known (codes "$dumpall") values vs long
+  by_command false AllValues values vs long knows = knows
 
-by_commands : (on : Bool) (commands : List DumpCommand) (values vs : List Vector) → length values ≡ length vs → KnowsIf on values vs →
-    KnowsIf (on_after on commands) (known_parts values (command_parts on commands vs)) vs
-by_commands on [] values vs long knows = knows
-by_commands on (command ∷ commands) values vs long knows =
-    subst (λ (known : List Vector). KnowsIf (on_after (on_by on command) commands) known vs)
-    (sym (known_append values (command_part on command vs) (command_parts (on_by on command) commands vs)))
-    (by_commands (on_by on command) commands (known_parts values (command_part on command vs)) vs
-    (parts_length values (command_part on command vs) ∙ long) (by_command on command values vs long knows))
+  by_commands : (on : Bool) (commands : List DumpCommand) (values vs : List Vector) → length values ≡ length vs → KnowsIf on values vs →
+      KnowsIf (on_after on commands) (known_parts values (command_parts marks on commands vs)) vs
+  by_commands on [] values vs long knows = knows
+  by_commands on (command ∷ commands) values vs long knows =
+      subst (λ (known : List Vector). KnowsIf (on_after (on_by on command) commands) known vs)
+      (sym (known_append values (command_part marks on command vs) (command_parts marks (on_by on command) commands vs)))
+      (by_commands (on_by on command) commands (known_parts values (command_part marks on command vs)) vs
+      (parts_length values (command_part marks on command vs) ∙ long) (by_command on command values vs long knows))
 
-by_changes : (on : Bool) (values us vs : List Vector) → length us ≡ length vs → KnowsIf on values us →
-    KnowsIf on (known_parts values (changed_part on us vs)) vs
-by_changes true values us vs long knows = λ e. over_changes us vs values [] 0 refl long (knows refl)
-by_changes false values us vs long knows = λ e. cc
+  by_changes : (on : Bool) (values us vs : List Vector) → length us ≡ length vs → length values ≡ length vs → KnowsIf on values us →
+      KnowsIf on (known_parts values (changed_part marks on us vs)) vs
+  by_changes true values us vs long same knows = λ e.
+      ap (λ (xs : List Vector). picked marks (letters_of xs)) (over_changes marks us vs values [] 0 refl long same)
+      ∙ picked_renewed marks values us vs long same (knows refl)
+  by_changes false values us vs long same knows = λ e. cc
 
 -- ---- slots
 
@@ -202,52 +239,52 @@ some_is x y e = cc
 none_is : {A : Type 0} (x : A) → None ≡ Some x → ⊥
 none_is x e = cc
 
-module _ (count : ℕ) where
+module _ (marks : List Bool) (count : ℕ) where
   abbrev pub HasCount : ToldSlot → Type 0
   HasCount slot = length slot.values ≡ count
 
   start_told : (slot : ToldSlot) (values : List Vector) → length values ≡ count → HasCount slot →
-      KnowsIf (on_after true slot.commands) (known_parts values (start slot).parts) slot.values
+      KnowsIf marks (on_after true slot.commands) (known_parts values (start marks slot).parts) slot.values
   start_told slot values many has =
-      let all : List Vector = overlaid values (all_at (codes "$dumpvars") slot.values).told in
-      by_commands true slot.commands all slot.values (overlaid_length values (all_at (codes "$dumpvars") slot.values).told ∙ many ∙ sym has)
-      (λ e. ap letters_of (all_known (codes "$dumpvars") values slot.values (many ∙ sym has)))
+      let all : List Vector = overlaid values (all_at (codes "$dumpvars") marks slot.values).told in
+      by_commands marks true slot.commands all slot.values (overlaid_length values (all_at (codes "$dumpvars") marks slot.values).told ∙ many ∙ sym has)
+      (λ e. all_known marks (codes "$dumpvars") values slot.values (many ∙ sym has))
 
   later_told : (on : Bool) (before slot : ToldSlot) (values : List Vector) → length values ≡ count → HasCount before → HasCount slot →
-      KnowsIf on values before.values → KnowsIf (on_after on slot.commands) (known_parts values (later_parts on before.values slot)) slot.values
+      KnowsIf marks on values before.values → KnowsIf marks (on_after on slot.commands) (known_parts values (later_parts marks on before.values slot)) slot.values
   later_told on before slot values many had has knows =
-      let changed : List Part = changed_part on before.values slot.values in
-      subst (λ (known : List Vector). KnowsIf (on_after on slot.commands) known slot.values)
-      (sym (known_append values changed (command_parts on slot.commands slot.values)))
-      (by_commands on slot.commands (known_parts values changed) slot.values (parts_length values changed ∙ many ∙ sym has)
-      (by_changes on values before.values slot.values (had ∙ sym has) knows))
+      let changed : List Part = changed_part marks on before.values slot.values in
+      subst (λ (known : List Vector). KnowsIf marks (on_after on slot.commands) known slot.values)
+      (sym (known_append values changed (command_parts marks on slot.commands slot.values)))
+      (by_commands marks on slot.commands (known_parts values changed) slot.values (parts_length values changed ∙ many ∙ sym has)
+      (by_changes marks on values before.values slot.values (had ∙ sym has) (many ∙ sym has) knows))
 
   known_later : (later : List ToldSlot) (k : ℕ) (on : Bool) (before slot : ToldSlot) (values : List Vector) → length values ≡ count →
-      HasCount before → AllHave count later → slice_get later k ≡ Some slot → KnowsIf on values before.values →
-      KnowsIf (on_over on (take (suc k) later)) (known values (take (suc k) (later_pieces on before later))) slot.values
+      HasCount before → AllHave count later → slice_get later k ≡ Some slot → KnowsIf marks on values before.values →
+      KnowsIf marks (on_over on (take (suc k) later)) (known values (take (suc k) (later_pieces marks on before later))) slot.values
   known_later [] k on before slot values many had all is knows = absurd (none_is slot is)
   known_later (next ∷ later) zero on before slot values many had all is knows =
-      subst (λ (s : ToldSlot). KnowsIf (on_after on next.commands) (known_parts values (later_parts on before.values next)) s.values) (some_is next slot is)
+      subst (λ (s : ToldSlot). KnowsIf marks (on_after on next.commands) (known_parts values (later_parts marks on before.values next)) s.values) (some_is next slot is)
       (later_told on before next values many had (All-head HasCount next later all) knows)
   known_later (next ∷ later) (suc k) on before slot values many had all is knows =
       let has : HasCount next = All-head HasCount next later all in
-      let parts : List Part = later_parts on before.values next in
+      let parts : List Part = later_parts marks on before.values next in
       known_later later k (on_after on next.commands) next slot (known_parts values parts) (parts_length values parts ∙ many) has
       (All-tail HasCount next later all) is (later_told on before next values many had has knows)
 
   known_at : (slots : List ToldSlot) (k : ℕ) (slot : ToldSlot) (values : List Vector) → length values ≡ count → AllHave count slots → slice_get slots k ≡ Some slot →
-      KnowsIf (on_over true (take (suc k) slots)) (known values (take (suc k) (pieces slots))) slot.values
+      KnowsIf marks (on_over true (take (suc k) slots)) (known values (take (suc k) (pieces marks slots))) slot.values
   known_at [] k slot values many all is = absurd (none_is slot is)
   known_at (first ∷ later) zero slot values many all is =
-      subst (λ (s : ToldSlot). KnowsIf (on_after true first.commands) (known_parts values (start first).parts) s.values) (some_is first slot is)
+      subst (λ (s : ToldSlot). KnowsIf marks (on_after true first.commands) (known_parts values (start marks first).parts) s.values) (some_is first slot is)
       (start_told first values many (All-head HasCount first later all))
   known_at (first ∷ later) (suc k) slot values many all is =
       let has : HasCount first = All-head HasCount first later all in
-      known_later later k (on_after true first.commands) first slot (known_parts values (start first).parts)
-      (parts_length values (start first).parts ∙ many) has (All-tail HasCount first later all) is (start_told first values many has)
+      known_later later k (on_after true first.commands) first slot (known_parts values (start marks first).parts)
+      (parts_length values (start marks first).parts ∙ many) has (All-tail HasCount first later all) is (start_told first values many has)
 
-pub slots_told : (slots : List ToldSlot) → IsTold slots
-slots_told slots values k slot all is on =
-    ap (λ (n : ℕ). letters_of (known values (spoken (take n (pieces slots))))) (add-one k)
-    ∙ ap letters_of (spoken_known (take (suc k) (pieces slots)) values)
-    ∙ known_at (length values) slots k slot values refl all is (ap (λ (n : ℕ). on_over true (take n slots)) (sym (add-one k)) ∙ on)
+pub slots_told : (marks : List Bool) (slots : List ToldSlot) → IsTold marks slots
+slots_told marks slots values k slot all is on =
+    ap (λ (n : ℕ). picked marks (letters_of (known values (spoken (take n (pieces marks slots)))))) (add-one k)
+    ∙ ap (λ (xs : List Vector). picked marks (letters_of xs)) (spoken_known (take (suc k) (pieces marks slots)) values)
+    ∙ known_at marks (length values) slots k slot values refl all is (ap (λ (n : ℕ). on_over true (take n slots)) (sym (add-one k)) ∙ on)

@@ -1,6 +1,6 @@
 -- `DumpText` (IEEE 1364-2005, clause 18; docs/FORMATS.md): the value change dump of a design and a history.
-use Rattle.std.specs.Prelude.{ℕ, zero, suc, ◌+◌, ◌-◌, ◌==◌, nat_lt, ◌&&◌, length, Bool, true, false, cond, List, [], ◌∷◌, ◌++◌, Option, Some, None, map, reverse, take, drop, codes, decimal}
-use Rattle.std.specs.List.{after_last, enumerate_from, list_any}
+use Rattle.std.specs.Prelude.{ℕ, zero, suc, ◌+◌, ◌-◌, ◌==◌, nat_lt, ◌&&◌, ◌||◌, not, length, Bool, true, false, cond, List, [], ◌∷◌, ◌++◌, Option, Some, None, map, replicate, reverse, take, drop, slice_get, codes, decimal}
+use Rattle.std.specs.List.{after_last, list_any}
 use Rattle.vbits.specs.declared.bit4.Bit4.{Bit4}
 use Rattle.vbits.specs.declared.bit4.Bit4.TheVariants.{Zero, One, X, Z}
 use Rattle.vbits.specs.Vectors.{Vector, filled, same_letters}
@@ -10,11 +10,15 @@ use Rattle.vdesign.specs.declared.expression.Bounds.{Bounds}
 use Rattle.vdesign.specs.declared.design.Kind.{Kind}
 use Rattle.vdesign.specs.declared.design.Kind.TheVariants.{Reg, Integer, Wire}
 use Rattle.vdesign.specs.Design.{Variable, Scope, Design}
+use Rattle.vdesign.specs.declared.action.Action.{Action}
+use Rattle.vdesign.specs.declared.action.Action.TheVariants.{DumpVars}
+use Rattle.vdesign.specs.declared.dump.Chosen.{Chosen}
 use Rattle.vdesign.specs.declared.dump.DumpCommand.{DumpCommand}
 use Rattle.vdesign.specs.declared.dump.DumpCommand.TheVariants.{Vars, Off, On, All}
 use Rattle.vmodel.specs.History.{History}
 use Rattle.vmodel.specs.declared.history.Item.{Item}
 use Rattle.vmodel.specs.declared.history.Item.TheVariants.{SlotEnd, Dump, Line, Monitor}
+use Rattle.vcd_text.specs.Comparing.{stripped}
 
 abbrev pub line : List ℕ → List ℕ
 line text = text ++ 10 ∷ []
@@ -64,25 +68,89 @@ named_line name v = line (change (digits_of v) name)
 abbrev pub value_line : ℕ → Vector → List ℕ
 value_line n = named_line (code n)
 
+-- ---- what is selected (18.1.2)
+
+abbrev pub dots : List ℕ → ℕ
+dots [] = 0
+dots (c ∷ cs) = cond (c == 46) (suc (dots cs)) (dots cs)
+
+-- what stands in a scope's path behind that of another one, where it begins with that: with as many dots the scope stands so many
+-- levels below it. Of n levels are the scope itself and those up to n - 1 levels below it, of 0 levels all below it
+abbrev pub is_near : ℕ → Option (List ℕ) → Bool
+is_near levels None = false
+is_near levels (Some []) = true
+is_near levels (Some (c ∷ cs)) = c == 46 && (levels == 0 || nat_lt (dots (c ∷ cs)) levels)
+
+-- the scope of this path is of the levels of a chosen one: `top.a` of `top` with 0 levels, or with 2
+abbrev pub is_chosen : List ℕ → Chosen → Bool
+is_chosen path chosen = is_near chosen.levels (stripped chosen.path (Some path))
+
+-- a selection has the scope; the empty one is everything
+abbrev pub has_scope : List Chosen → List ℕ → Bool
+has_scope [] path = true
+has_scope (chosen ∷ more) path = list_any (is_chosen path) (chosen ∷ more)
+
+abbrev pub is_asked_by : Option Action → List ℕ → Bool
+is_asked_by (Some (DumpVars selection)) path = has_scope selection path
+is_asked_by other path = false
+
+-- a $dumpvars asks for the scope
+abbrev pub asks_for : List Action → List ℕ → DumpCommand → Bool
+asks_for actions path (Vars place) = is_asked_by (slice_get actions place) path
+asks_for actions path Off = false
+asks_for actions path On = false
+asks_for actions path All = false
+
+-- one of them does: several $dumpvars are joined
+abbrev pub is_selected : List Action → List DumpCommand → List ℕ → Bool
+is_selected actions commands path = list_any (asks_for actions path) commands
+
+-- for each scope whether it is selected by these commands
+abbrev pub marks_in : List Action → List DumpCommand → List Scope → List Bool
+marks_in actions commands scopes = map (λ scope. is_selected actions commands scope.path) scopes
+
+abbrev pub scope_marks : Design → List DumpCommand → List Bool
+scope_marks design commands = marks_in design.actions commands design.scopes
+
+-- for each variable whether its scope is selected: those of the first scope come first, then those of the second, and so on
+abbrev pub spread : List Bool → List Scope → List Bool
+spread marks [] = []
+spread [] (scope ∷ scopes) = []
+spread (mark ∷ marks) (scope ∷ scopes) = replicate scope.variables mark ++ spread marks scopes
+
+abbrev pub variable_marks : Design → List DumpCommand → List Bool
+variable_marks design commands = spread (scope_marks design commands) design.scopes
+
 -- ---- what is told (18.2.1): values with the numbers of their variables
 
 abbrev pub value_lines : List (ℕ × Vector) → List ℕ
 value_lines [] = []
 value_lines (entry ∷ told) = value_line entry.0 entry.1 ++ value_lines told
 
--- all values, from variable 0 on
-abbrev pub all_lines : List Vector → List ℕ
-all_lines values = value_lines (enumerate_from 0 values)
+-- the values of the selected variables, the first of which has number n
+abbrev pub listed : ℕ → List Bool → List Vector → List (ℕ × Vector)
+listed n marks [] = []
+listed n [] (v ∷ vs) = []
+listed n (mark ∷ marks) (v ∷ vs) = cond mark ((n, v) ∷ listed (suc n) marks vs) (listed (suc n) marks vs)
+
+-- those from variable 0 on
+abbrev pub all_lines : List Bool → List Vector → List ℕ
+all_lines marks values = value_lines (listed 0 marks values)
 
 -- the letters are the same
 abbrev pub is_kept : Vector → Vector → Bool
 is_kept u v = length u.letters == length v.letters && same_letters u.letters v.letters
 
--- those values from number n on that differ from earlier ones
-abbrev pub changes : ℕ → List Vector → List Vector → List (ℕ × Vector)
-changes n us [] = []
-changes n [] (v ∷ vs) = []
-changes n (u ∷ us) (v ∷ vs) = cond (is_kept u v) (changes (suc n) us vs) ((n, v) ∷ changes (suc n) us vs)
+-- a variable is selected, and its value has changed
+abbrev pub is_news : Bool → Vector → Vector → Bool
+is_news mark u v = mark && not (is_kept u v)
+
+-- those values of selected variables, the first of which has number n, that differ from earlier ones
+abbrev pub changes : ℕ → List Bool → List Vector → List Vector → List (ℕ × Vector)
+changes n marks us [] = []
+changes n [] us (v ∷ vs) = []
+changes n (mark ∷ marks) [] (v ∷ vs) = []
+changes n (mark ∷ marks) (u ∷ us) (v ∷ vs) = cond (is_news mark u v) ((n, v) ∷ changes (suc n) marks us vs) (changes (suc n) marks us vs)
 
 abbrev pub time_line : ℕ → List ℕ
 time_line t = line (35 ∷ decimal t)
@@ -119,25 +187,40 @@ abbrev pub closings : ℕ → List ℕ
 closings zero = []
 closings (suc n) = line (codes "$upscope $end") ++ closings n
 
+-- of the scopes behind one of this depth, those that are deeper stand below it: whether one of them is selected
+abbrev pub is_any_below : ℕ → List Bool → List Scope → Bool
+is_any_below depth marks [] = false
+is_any_below depth [] (s ∷ scopes) = false
+is_any_below depth (mark ∷ marks) (s ∷ scopes) = nat_lt depth s.depth && (mark || is_any_below depth marks scopes)
+
+-- a scope, before those behind it, is written where it or one below it is selected
+abbrev pub is_written : Bool → Scope → List Bool → List Scope → Bool
+is_written mark s marks scopes = mark || is_any_below s.depth marks scopes
+
+-- a scope that is written, with its variables, of which the first is n, where it is selected; so many scopes are open before it
+abbrev pub scope_text : ℕ → ℕ → Bool → Scope → List Variable → List ℕ
+scope_text around n mark s variables =
+    closings (around - s.depth) ++ scope_line s.name ++ cond mark (variable_lines n variables) []
+
 -- scopes depth first: so many are open, the next variable is n, and these are left
-abbrev pub scope_lines : ℕ → ℕ → List Scope → List Variable → List ℕ
-scope_lines around n [] variables = closings around
-scope_lines around n (s ∷ scopes) variables =
-    closings (around - s.depth)
-    ++ scope_line s.name
-    ++ variable_lines n (take s.variables variables)
-    ++ scope_lines (suc s.depth) (n + s.variables) scopes (drop s.variables variables)
+abbrev pub scope_lines : ℕ → ℕ → List Bool → List Scope → List Variable → List ℕ
+scope_lines around n marks [] variables = closings around
+scope_lines around n [] (s ∷ scopes) variables = closings around
+scope_lines around n (mark ∷ marks) (s ∷ scopes) variables =
+    cond (is_written mark s marks scopes) (scope_text around n mark s (take s.variables variables)) []
+    ++ scope_lines (cond (is_written mark s marks scopes) (suc s.depth) around) (n + s.variables) marks scopes (drop s.variables variables)
 
 -- the unit in which times are counted (19.8)
 abbrev pub timescale_line : Span → List ℕ
 timescale_line precision =
     line (codes "$timescale " ++ decimal (count_number precision.count) ++ codes " " ++ unit_word precision.unit ++ codes " $end")
 
-abbrev pub header : Design → List ℕ
-header design =
+-- of a dump of the scopes that are marked
+abbrev pub header : Design → List Bool → List ℕ
+header design marks =
     line (codes "$version vrace $end")
     ++ timescale_line design.scale.precision
-    ++ scope_lines 0 0 design.scopes design.variables
+    ++ scope_lines 0 0 marks design.scopes design.variables
     ++ line (codes "$enddefinitions $end")
 
 -- ---- slots
@@ -158,7 +241,7 @@ slots_after commands (SlotEnd t values ∷ items) = record { commands = commands
 
 -- $dumpvars is one (18.1.2)
 abbrev pub is_start : DumpCommand → Bool
-is_start Vars = true
+is_start (Vars place) = true
 is_start Off = false
 is_start On = false
 is_start All = false
@@ -183,9 +266,9 @@ pub record Piece : Type 0 where
   pub time : ℕ
   pub parts : List Part
 
--- all values, behind a command's word
-abbrev pub all_at : List ℕ → List Vector → Part
-all_at word values = record { word = word; told = enumerate_from 0 values }
+-- all values of the variables that are marked, behind a command's word
+abbrev pub all_at : List ℕ → List Bool → List Vector → Part
+all_at word marks values = record { word = word; told = listed 0 marks values }
 
 -- each as x
 abbrev pub blanked : Vector → Vector
@@ -193,7 +276,7 @@ blanked v = filled (length v.letters) X
 
 -- whether a dump is on after a command, and after several (18.1.3)
 abbrev pub on_by : Bool → DumpCommand → Bool
-on_by on Vars = on
+on_by on (Vars place) = on
 on_by on Off = false
 on_by on On = true
 on_by on All = on
@@ -204,37 +287,39 @@ on_after on (command ∷ commands) = on_after (on_by on command) commands
 
 -- 18.1.3, 18.1.4: a dump that is on lists all as x where it goes off, one that is off all values where it goes on; $dumpall lists all
 -- values where it is on
-abbrev pub command_part : Bool → DumpCommand → List Vector → List Part
-command_part on Vars values = []
-command_part on Off values = cond on (all_at (codes "$dumpoff") (map blanked values) ∷ []) []
-command_part on On values = cond on [] (all_at (codes "$dumpon") values ∷ [])
-command_part on All values = cond on (all_at (codes "$dumpall") values ∷ []) []
+abbrev pub command_part : List Bool → Bool → DumpCommand → List Vector → List Part
+command_part marks on (Vars place) values = []
+command_part marks on Off values = cond on (all_at (codes "$dumpoff") marks (map blanked values) ∷ []) []
+command_part marks on On values = cond on [] (all_at (codes "$dumpon") marks values ∷ [])
+command_part marks on All values = cond on (all_at (codes "$dumpall") marks values ∷ []) []
 
 -- what the commands of a slot list, in order, with the values at its end
-abbrev pub command_parts : Bool → List DumpCommand → List Vector → List Part
-command_parts on [] values = []
-command_parts on (command ∷ commands) values = command_part on command values ++ command_parts (on_by on command) commands values
+abbrev pub command_parts : List Bool → Bool → List DumpCommand → List Vector → List Part
+command_parts marks on [] values = []
+command_parts marks on (command ∷ commands) values = command_part marks on command values ++ command_parts marks (on_by on command) commands values
 
 -- the values that differ from those at the end of the slot before, where the slots before left the dump on
-abbrev pub changed_part : Bool → List Vector → List Vector → List Part
-changed_part on before values = cond on (record { word = []; told = changes 0 before values } ∷ []) []
+abbrev pub changed_part : List Bool → Bool → List Vector → List Vector → List Part
+changed_part marks on before values = cond on (record { word = []; told = changes 0 marks before values } ∷ []) []
 
 -- at the first slot's end all values (18.1.2)
-abbrev pub start : ToldSlot → Piece
-start slot = record { time = slot.time; parts = all_at (codes "$dumpvars") slot.values ∷ command_parts true slot.commands slot.values }
+abbrev pub start : List Bool → ToldSlot → Piece
+start marks slot =
+    record { time = slot.time; parts = all_at (codes "$dumpvars") marks slot.values ∷ command_parts marks true slot.commands slot.values }
 
 -- at the end of each later one what changed, and what its commands ask for
-abbrev pub later_parts : Bool → List Vector → ToldSlot → List Part
-later_parts on before slot = changed_part on before slot.values ++ command_parts on slot.commands slot.values
+abbrev pub later_parts : List Bool → Bool → List Vector → ToldSlot → List Part
+later_parts marks on before slot = changed_part marks on before slot.values ++ command_parts marks on slot.commands slot.values
 
-abbrev pub later_pieces : Bool → ToldSlot → List ToldSlot → List Piece
-later_pieces on before [] = []
-later_pieces on before (slot ∷ slots) =
-    record { time = slot.time; parts = later_parts on before.values slot } ∷ later_pieces (on_after on slot.commands) slot slots
+abbrev pub later_pieces : List Bool → Bool → ToldSlot → List ToldSlot → List Piece
+later_pieces marks on before [] = []
+later_pieces marks on before (slot ∷ slots) =
+    record { time = slot.time; parts = later_parts marks on before.values slot } ∷ later_pieces marks (on_after on slot.commands) slot slots
 
-abbrev pub pieces : List ToldSlot → List Piece
-pieces [] = []
-pieces (first ∷ later) = start first ∷ later_pieces (on_after true first.commands) first later
+-- what is told of the variables that are marked
+abbrev pub pieces : List Bool → List ToldSlot → List Piece
+pieces marks [] = []
+pieces marks (first ∷ later) = start marks first ∷ later_pieces marks (on_after true first.commands) first later
 
 -- between the command's word and $end (18.2.3)
 abbrev pub framed : List ℕ → List ℕ → List ℕ
@@ -268,15 +353,13 @@ body (p ∷ q ∷ ps) end = time_line p.time ++ piece_text p ++ body (q ∷ ps) 
 
 -- ---- the whole
 
--- without a start no byte
-abbrev pub below : List ℕ → List Piece → ℕ → List ℕ
-below head [] end = []
-below head (p ∷ ps) end = head ++ body (p ∷ ps) end
-
--- the dump of a history below a header
-abbrev pub dump_below : List ℕ → History → List ℕ
-dump_below head history = below head (spoken (pieces (dumped (slots_after [] history.items)))) history.end.time
+-- of these slots, the first of which starts the dump and selects what it is of; where there is none no byte
+abbrev pub dump_of : Design → List ToldSlot → ℕ → List ℕ
+dump_of design [] end = []
+dump_of design (first ∷ later) end =
+    header design (scope_marks design first.commands)
+    ++ body (spoken (pieces (variable_marks design first.commands) (first ∷ later))) end
 
 -- the dump of a design and a history (18.2)
 abbrev pub vcd : Design → History → List ℕ
-vcd design history = dump_below (header design) history
+vcd design history = dump_of design (dumped (slots_after [] history.items)) history.end.time

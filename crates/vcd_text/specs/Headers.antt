@@ -1,7 +1,7 @@
 -- The lines of a header as they are written, one list of variables behind another.
-use Rattle.std.specs.Prelude.{◌≡◌, ℕ, ◌+◌, List, ◌++◌}
+use Rattle.std.specs.Prelude.{◌≡◌, ℕ, ◌+◌, Bool, cond, List, [], ◌++◌}
 use Rattle.vdesign.specs.Design.{Variable, Scope}
-use Rattle.vcd_text.specs.DumpText.{code, scope_lines, variable_lines}
+use Rattle.vcd_text.specs.DumpText.{code, scope_lines, scope_text, variable_lines}
 
 -- from the code of a variable to that of the one so many later
 abbrev pub IsCodeAfter : List ℕ → ℕ → List ℕ → Type 0
@@ -11,6 +11,15 @@ IsCodeAfter name count next = (n : ℕ) → name ≡ code n → next ≡ code (n
 abbrev pub Lists : List ℕ → List Variable → List ℕ → List ℕ → Type 0
 Lists name variables old new = (n : ℕ) → name ≡ code n → new ≡ old ++ variable_lines n variables
 
+-- the text grew by the lines of these variables, where they are selected
+abbrev pub ListsMarked : Bool → List ℕ → List Variable → List ℕ → List ℕ → Type 0
+ListsMarked mark name variables old new = (n : ℕ) → name ≡ code n → new ≡ old ++ cond mark (variable_lines n variables) []
+
+-- the text grew by the lines of a scope, where it is written
+abbrev pub ListsScope : ℕ → Bool → Bool → Scope → List ℕ → List Variable → List ℕ → List ℕ → Type 0
+ListsScope around written mark scope name variables old new =
+    (n : ℕ) → name ≡ code n → new ≡ old ++ cond written (scope_text around n mark scope variables) []
+
 -- all scopes, from variable 0 on
-abbrev pub all_scopes : List Scope → List Variable → List ℕ
+abbrev pub all_scopes : List Bool → List Scope → List Variable → List ℕ
 all_scopes = scope_lines 0 0

@@ -30,6 +30,12 @@ known values (p ∷ ps) = known (known_parts values p.parts) ps
 abbrev pub letters_of : List Vector → List (List Bit4)
 letters_of = map (λ v. v.letters)
 
+-- what stands at the places that are marked
+abbrev pub picked : {A : Type 0} → List Bool → List A → List A
+picked marks [] = []
+picked [] (x ∷ xs) = []
+picked (mark ∷ marks) (x ∷ xs) = cond mark (x ∷ picked marks xs) (picked marks xs)
+
 -- each slot has values of so many variables
 abbrev pub AllHave : ℕ → List ToldSlot → Type 0
 AllHave count = All (λ slot. length slot.values ≡ count)
@@ -39,10 +45,10 @@ abbrev pub on_over : Bool → List ToldSlot → Bool
 on_over on [] = on
 on_over on (slot ∷ slots) = on_over (on_after on slot.commands) slots
 
--- where the dump is on after a slot, what is written up to its end and with it tells the values at it, whatever values a reader took up
--- before
-abbrev pub IsTold : List ToldSlot → Type 0
-IsTold slots =
+-- where the dump is on after a slot, what is written up to its end and with it tells the values of the variables that are marked at it,
+-- whatever values a reader took up before
+abbrev pub IsTold : List Bool → List ToldSlot → Type 0
+IsTold marks slots =
     (values : List Vector) (k : ℕ) (slot : ToldSlot) → AllHave (length values) slots → slice_get slots k ≡ Some slot →
     on_over true (take (k + 1) slots) ≡ true →
-    letters_of (known values (spoken (take (k + 1) (pieces slots)))) ≡ letters_of slot.values
+    picked marks (letters_of (known values (spoken (take (k + 1) (pieces marks slots))))) ≡ picked marks (letters_of slot.values)

@@ -1,5 +1,6 @@
 -- The laws of a sink that writes the dump.
 use Rattle.std.proofs.Common.{◌≡◌, ℕ, List, [], ◌∷◌, ◌++◌, refl, sym, ap, subst, ◌∙◌, append_assoc}
+use Rattle.vdesign.specs.Design.{Design}
 use Rattle.vmodel.specs.declared.history.Item.{Item}
 use Rattle.basis.specs.declared.memory.OrMemory.{OrMemory}
 use Rattle.vcd_text.specs.declared.sink.DumpSink.{DumpSink}
@@ -8,24 +9,26 @@ use Rattle.vcd_text.specs.OutletLaws.{stopped_after, stopped_before}
 use Rattle.vcd_text.specs.declared.progress.Progress.{Progress}
 use Rattle.vcd_text.specs.Sinks.{item_text, items_text, progress_after, progress_over, text_of, Takes, Fails}
 
-text_joins : (head : List ℕ) (p : Progress) (xs ys : List Item) →
-    items_text head p (xs ++ ys) ≡ items_text head p xs ++ items_text head (progress_over p xs) ys
-text_joins head p [] ys = refl
-text_joins head p (x ∷ xs) ys =
-    ap (λ text. item_text head p x ++ text) (text_joins head (progress_after p x) xs ys)
-    ∙ sym (append_assoc (item_text head p x) (items_text head (progress_after p x) xs) (items_text head (progress_over (progress_after p x) xs) ys))
+text_joins : (design : Design) (p : Progress) (xs ys : List Item) →
+    items_text design p (xs ++ ys) ≡ items_text design p xs ++ items_text design (progress_over design p xs) ys
+text_joins design p [] ys = refl
+text_joins design p (x ∷ xs) ys =
+    let after : Progress = progress_after design p x in
+    ap (λ text. item_text design p x ++ text) (text_joins design after xs ys)
+    ∙ sym (append_assoc (item_text design p x) (items_text design after xs) (items_text design (progress_over design after xs) ys))
 
-progress_joins : (p : Progress) (xs ys : List Item) → progress_over p (xs ++ ys) ≡ progress_over (progress_over p xs) ys
-progress_joins p [] ys = refl
-progress_joins p (x ∷ xs) ys = progress_joins (progress_after p x) xs ys
+progress_joins : (design : Design) (p : Progress) (xs ys : List Item) →
+    progress_over design p (xs ++ ys) ≡ progress_over design (progress_over design p xs) ys
+progress_joins design p [] ys = refl
+progress_joins design p (x ∷ xs) ys = progress_joins design (progress_after design p x) xs ys
 
 module _ {O F : Type 0} (takes : O → List ℕ → O → Type 0) (fails : O → List ℕ → F → O → Type 0) (laws : IsOutlet takes fails) where
   -- what two lists of items add, where the first one was taken
   both_texts : (s t : DumpSink O) (xs ys : List Item) → Takes takes s xs t → text_of s (xs ++ ys) ≡ text_of s xs ++ text_of t ys
   both_texts s t xs ys p =
-      text_joins s.header.now s.progress xs ys
-      ∙ ap (λ (after : Progress). text_of s xs ++ items_text s.header.now after ys) (sym p.1)
-      ∙ ap (λ (head : List ℕ). text_of s xs ++ items_text head t.progress ys) (sym p.0.1)
+      text_joins s.design.now s.progress xs ys
+      ∙ ap (λ (after : Progress). text_of s xs ++ items_text s.design.now after ys) (sym p.1)
+      ∙ ap (λ (design : Design). text_of s xs ++ items_text design t.progress ys) (sym p.0.1)
 
   pub takes_none : (s : DumpSink O) → Takes takes s [] s
   takes_none s = ((refl, refl), refl, laws.none s.outlet.now)
@@ -35,7 +38,12 @@ module _ {O F : Type 0} (takes : O → List ℕ → O → Type 0) (fails : O →
       let taken : takes s.outlet.now (text_of s (xs ++ ys)) u.outlet.now =
       subst (λ (text : List ℕ). takes s.outlet.now text u.outlet.now) (sym (both_texts s t xs ys p))
       (laws.joins s.outlet.now t.outlet.now u.outlet.now (text_of s xs) (text_of t ys) p.2 q.2) in
-      ((q.0.0 ∙ p.0.0, q.0.1 ∙ p.0.1), q.1 ∙ ap (λ (after : Progress). progress_over after ys) p.1 ∙ sym (progress_joins s.progress xs ys), taken)
+      let reached : u.progress ≡ progress_over s.design.now s.progress (xs ++ ys) =
+      q.1
+      ∙ ap (λ (design : Design). progress_over design t.progress ys) p.0.1
+      ∙ ap (λ (after : Progress). progress_over s.design.now after ys) p.1
+      ∙ sym (progress_joins s.design.now s.progress xs ys) in
+      ((q.0.0 ∙ p.0.0, q.0.1 ∙ p.0.1), reached, taken)
 
   pub fails_after : (s t u : DumpSink O) (xs ys : List Item) (fault : OrMemory F) → Takes takes s xs t → Fails takes fails t ys fault u →
       Fails takes fails s (xs ++ ys) fault u
@@ -49,6 +57,6 @@ module _ {O F : Type 0} (takes : O → List ℕ → O → Type 0) (fails : O →
   pub fails_before : (s u : DumpSink O) (xs ys : List Item) (fault : OrMemory F) → Fails takes fails s xs fault u → Fails takes fails s (xs ++ ys) fault u
   fails_before s u xs ys fault p =
       let stopped : Stopped takes fails s.outlet.now (text_of s (xs ++ ys)) fault u.outlet.now =
-      subst (λ (text : List ℕ). Stopped takes fails s.outlet.now text fault u.outlet.now) (sym (text_joins s.header.now s.progress xs ys))
-      (stopped_before takes fails laws s.outlet.now u.outlet.now (text_of s xs) (items_text s.header.now (progress_over s.progress xs) ys) fault p.1) in
+      subst (λ (text : List ℕ). Stopped takes fails s.outlet.now text fault u.outlet.now) (sym (text_joins s.design.now s.progress xs ys))
+      (stopped_before takes fails laws s.outlet.now u.outlet.now (text_of s xs) (items_text s.design.now (progress_over s.design.now s.progress xs) ys) fault p.1) in
       (p.0, stopped, p.2)

@@ -1,11 +1,12 @@
 -- A sink that writes the dump: what it keeps from item to item, and what taking them makes of it.
 use Rattle.std.specs.Prelude.{◌≡◌, ℕ, ◌==◌, cond, List, [], ◌∷◌, ◌++◌, codes, true, Bool}
 use Rattle.vbits.specs.Vectors.{Vector}
+use Rattle.vdesign.specs.Design.{Design}
 use Rattle.vmodel.specs.History.{History}
 use Rattle.vmodel.specs.declared.history.Item.{Item}
 use Rattle.vmodel.specs.declared.history.Item.TheVariants.{SlotEnd, Dump, Line, Monitor}
 use Rattle.vdesign.specs.declared.dump.DumpCommand.{DumpCommand}
-use Rattle.vcd_text.specs.DumpText.{all_at, changed_part, command_parts, dump_below, has_start, on_after, parts_text, time_line}
+use Rattle.vcd_text.specs.DumpText.{all_at, changed_part, command_parts, has_start, header, on_after, parts_text, scope_marks, time_line, variable_marks, vcd}
 use Rattle.vcd_text.specs.Outlets.{Stopped}
 use Rattle.basis.specs.declared.memory.OrMemory.{OrMemory}
 use Rattle.basis.specs.declared.memory.OrMemory.TheVariants.{Fault, Memory}
@@ -25,72 +26,79 @@ abbrev pub last_line : ℕ → ℕ → List ℕ → ℕ
 last_line old t [] = old
 last_line old t (c ∷ cs) = t
 
--- the header and the first slot's end
-abbrev pub start_text : List ℕ → List DumpCommand → ℕ → List Vector → List ℕ
-start_text head commands t values =
-    head ++ time_line t ++ parts_text (all_at (codes "$dumpvars") values ∷ command_parts true commands values)
+-- a header and the first slot's end, of the variables that are marked
+abbrev pub started_text : List ℕ → List Bool → List DumpCommand → ℕ → List Vector → List ℕ
+started_text head marks commands t values =
+    head ++ time_line t ++ parts_text (all_at (codes "$dumpvars") marks values ∷ command_parts marks true commands values)
 
 -- below any header this is the text of the start
-abbrev pub IsStart : List ℕ → List DumpCommand → ℕ → List Vector → Type 0
-IsStart text commands t values = (head : List ℕ) → head ++ text ≡ start_text head commands t values
+abbrev pub IsStart : List ℕ → List Bool → List DumpCommand → ℕ → List Vector → Type 0
+IsStart text marks commands t values = (head : List ℕ) → head ++ text ≡ started_text head marks commands t values
+
+-- the header and the first slot's end, of what its commands select
+abbrev pub start_text : Design → List DumpCommand → ℕ → List Vector → List ℕ
+start_text design commands t values =
+    started_text (header design (scope_marks design commands)) (variable_marks design commands) commands t values
 
 -- the lines of a later slot's end, of a dump that was on or off before it
-abbrev pub slot_lines : Bool → List Vector → List DumpCommand → List Vector → List ℕ
-slot_lines on old commands new = parts_text (changed_part on old new ++ command_parts on commands new)
+abbrev pub slot_lines : Bool → List Bool → List Vector → List DumpCommand → List Vector → List ℕ
+slot_lines on marks old commands new = parts_text (changed_part marks on old new ++ command_parts marks on commands new)
 
 -- what a later slot's end adds
-abbrev pub slot_text : ℕ → Bool → List Vector → List DumpCommand → List Vector → List ℕ
-slot_text t on old commands new = timed t (slot_lines on old commands new)
+abbrev pub slot_text : ℕ → Bool → List Bool → List Vector → List DumpCommand → List Vector → List ℕ
+slot_text t on marks old commands new = timed t (slot_lines on marks old commands new)
 
 -- the last time line after it
-abbrev pub line_after_slot : ℕ → ℕ → Bool → List Vector → List DumpCommand → List Vector → ℕ
-line_after_slot last t on old commands new = last_line last t (slot_lines on old commands new)
+abbrev pub line_after_slot : ℕ → ℕ → Bool → List Bool → List Vector → List DumpCommand → List Vector → ℕ
+line_after_slot last t on marks old commands new = last_line last t (slot_lines on marks old commands new)
 
 -- what the first slot ends add: nothing before a $dumpvars
-abbrev pub begun_text : List ℕ → List DumpCommand → ℕ → List Vector → List ℕ
-begun_text head commands t values = cond (has_start commands) (start_text head commands t values) []
+abbrev pub begun_text : Design → List DumpCommand → ℕ → List Vector → List ℕ
+begun_text design commands t values = cond (has_start commands) (start_text design commands t values) []
 
--- what a slot end adds to the dump, below this header; nothing is written once a text failed
-abbrev pub ended_text : List ℕ → Progress → ℕ → List Vector → List ℕ
-ended_text head (Waiting commands) t values = begun_text head commands t values
-ended_text head (Started last on old commands) t values = slot_text t on old commands values
-ended_text head Failed t values = []
+-- what a slot end adds to the dump of a design; nothing is written once a text failed
+abbrev pub ended_text : Design → Progress → ℕ → List Vector → List ℕ
+ended_text design (Waiting commands) t values = begun_text design commands t values
+ended_text design (Started last on marks old commands) t values = slot_text t on marks old commands values
+ended_text design Failed t values = []
 
 -- what an item adds; printed lines are no part of it
-abbrev pub item_text : List ℕ → Progress → Item → List ℕ
-item_text head p (SlotEnd t values) = ended_text head p t values
-item_text head p (Dump command) = []
-item_text head p (Line text) = []
-item_text head p (Monitor place) = []
+abbrev pub item_text : Design → Progress → Item → List ℕ
+item_text design p (SlotEnd t values) = ended_text design p t values
+item_text design p (Dump command) = []
+item_text design p (Line text) = []
+item_text design p (Monitor place) = []
 
 -- the slot ended that asked for the dump, or one before it
-abbrev pub begun : List DumpCommand → ℕ → List Vector → Progress
-begun commands t values = cond (has_start commands) (Started t (on_after true commands) values []) (Waiting [])
+abbrev pub begun : Design → List DumpCommand → ℕ → List Vector → Progress
+begun design commands t values =
+    cond (has_start commands) (Started t (on_after true commands) (variable_marks design commands) values []) (Waiting [])
 
-abbrev pub ended : Progress → ℕ → List Vector → Progress
-ended (Waiting commands) t values = begun commands t values
-ended (Started last on old commands) t values = Started (line_after_slot last t on old commands values) (on_after on commands) values []
-ended Failed t values = Failed
+abbrev pub ended : Design → Progress → ℕ → List Vector → Progress
+ended design (Waiting commands) t values = begun design commands t values
+ended design (Started last on marks old commands) t values =
+    Started (line_after_slot last t on marks old commands values) (on_after on commands) marks values []
+ended design Failed t values = Failed
 
 abbrev pub asked : Progress → DumpCommand → Progress
 asked (Waiting commands) command = Waiting (commands ++ command ∷ [])
-asked (Started last on old commands) command = Started last on old (commands ++ command ∷ [])
+asked (Started last on marks old commands) command = Started last on marks old (commands ++ command ∷ [])
 asked Failed command = Failed
 
-abbrev pub progress_after : Progress → Item → Progress
-progress_after p (SlotEnd t values) = ended p t values
-progress_after p (Dump command) = asked p command
-progress_after p (Line text) = p
-progress_after p (Monitor place) = p
+abbrev pub progress_after : Design → Progress → Item → Progress
+progress_after design p (SlotEnd t values) = ended design p t values
+progress_after design p (Dump command) = asked p command
+progress_after design p (Line text) = p
+progress_after design p (Monitor place) = p
 
 -- what items add, one after another
-abbrev pub items_text : List ℕ → Progress → List Item → List ℕ
-items_text head p [] = []
-items_text head p (item ∷ items) = item_text head p item ++ items_text head (progress_after p item) items
+abbrev pub items_text : Design → Progress → List Item → List ℕ
+items_text design p [] = []
+items_text design p (item ∷ items) = item_text design p item ++ items_text design (progress_after design p item) items
 
-abbrev pub progress_over : Progress → List Item → Progress
-progress_over p [] = p
-progress_over p (item ∷ items) = progress_over (progress_after p item) items
+abbrev pub progress_over : Design → Progress → List Item → Progress
+progress_over design p [] = p
+progress_over design p (item ∷ items) = progress_over design (progress_after design p item) items
 
 -- the time of the end, unless the last time line is that
 abbrev pub end_line : ℕ → ℕ → List ℕ
@@ -99,34 +107,35 @@ end_line last t = cond (last == t) [] (time_line t)
 -- what the end adds
 abbrev pub end_text : Progress → ℕ → List ℕ
 end_text (Waiting commands) t = []
-end_text (Started last on old commands) t = end_line last t
+end_text (Started last on marks old commands) t = end_line last t
 end_text Failed t = []
 
 -- what a history adds to a dump of which nothing has come yet
-abbrev pub history_text : List ℕ → History → List ℕ
-history_text head history = items_text head (Waiting []) history.items ++ end_text (progress_over (Waiting []) history.items) history.end.time
+abbrev pub history_text : Design → History → List ℕ
+history_text design history =
+    items_text design (Waiting []) history.items ++ end_text (progress_over design (Waiting []) history.items) history.end.time
 
 -- after it the last time line is that of the end, and the same end adds nothing more
 abbrev pub progress_at_end : Progress → ℕ → Progress
 progress_at_end (Waiting commands) t = Waiting commands
-progress_at_end (Started last on old commands) t = Started t on old commands
+progress_at_end (Started last on marks old commands) t = Started t on marks old commands
 progress_at_end Failed t = Failed
 
 -- ---- what the program keeps
 
 -- what these items add to the dump
 abbrev pub text_of : {O : Type 0} → DumpSink O → List Item → List ℕ
-text_of sink items = items_text sink.header.now sink.progress items
+text_of sink items = items_text sink.design.now sink.progress items
 
--- it is the same borrowed outlet and the same header
+-- it is the same borrowed outlet and the same design
 abbrev pub IsSameDump : {O : Type 0} → DumpSink O → DumpSink O → Type 0
-IsSameDump old new = (new.outlet.ghost_name ≡ old.outlet.ghost_name) × (new.header.now ≡ old.header.now)
+IsSameDump old new = (new.outlet.ghost_name ≡ old.outlet.ghost_name) × (new.design.now ≡ old.design.now)
 
 -- the outlet took what the items add, and the dump has come as far as they lead
 abbrev pub Takes : {O : Type 0} → (O → List ℕ → O → Type 0) → DumpSink O → List Item → DumpSink O → Type 0
 Takes takes old items new =
     IsSameDump old new
-    × (new.progress ≡ progress_over old.progress items)
+    × (new.progress ≡ progress_over old.design.now old.progress items)
     × takes old.outlet.now (text_of old items) new.outlet.now
 
 -- this was done with a dump that failed before: nothing was written
@@ -166,8 +175,8 @@ FailsEnd takes fails old t fault new = Stopped takes fails old.outlet.now (end_t
 
 -- it took the dump of a history
 abbrev pub TakesDump : {O : Type 0} → (O → List ℕ → O → Type 0) → DumpSink O → History → DumpSink O → Type 0
-TakesDump takes old history new = takes old.outlet.now (dump_below old.header.now history) new.outlet.now
+TakesDump takes old history new = takes old.outlet.now (vcd old.design.now history) new.outlet.now
 
 -- it stopped somewhere in that
 abbrev pub FailsDump : {O F : Type 0} → (O → List ℕ → O → Type 0) → (O → List ℕ → F → O → Type 0) → DumpSink O → History → OrMemory F → DumpSink O → Type 0
-FailsDump takes fails old history fault new = Stopped takes fails old.outlet.now (dump_below old.header.now history) fault new.outlet.now
+FailsDump takes fails old history fault new = Stopped takes fails old.outlet.now (vcd old.design.now history) fault new.outlet.now

@@ -28,7 +28,7 @@ fn is_start(command: DumpCommand) -> bool
     ensures { result ≡ is_start command }
 {
     match command {
-        DumpCommand::Vars => true,
+        DumpCommand::Vars(_) => true,
         DumpCommand::Off => false,
         DumpCommand::On => false,
         DumpCommand::All => false,
@@ -40,7 +40,7 @@ pub(crate) fn on_by(on: bool, command: DumpCommand) -> bool
     ensures { result ≡ on_by on command }
 {
     match command {
-        DumpCommand::Vars => on,
+        DumpCommand::Vars(_) => on,
         DumpCommand::Off => false,
         DumpCommand::On => true,
         DumpCommand::All => on,

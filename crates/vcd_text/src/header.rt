@@ -1,51 +1,28 @@
 // The header of a dump (18.2.3).
 
-ghost use Rattle.std.specs.Prelude.{◌≡◌, ◌++◌, ◌==◌, IfOk, OnOk, decimal, length};
+ghost use Rattle.std.specs.Prelude.{◌≡◌, ◌++◌, ◌==◌, IfOk, OnOk, cond, decimal, length, min, suc};
 ghost use Rattle.std.specs.List.{after_last};
-ghost use Rattle.vcd_text.specs.DumpText.{bounds_text, closings, header as header_text, kind_word, named_variable_line as variable_text, scope_line, timescale_line};
-ghost use Rattle.vcd_text.specs.Headers.{IsCodeAfter, Lists, all_scopes};
+ghost use Rattle.vcd_text.specs.DumpText.{bounds_text, closings, header as header_text, is_written as is_written_before, kind_word, named_variable_line as variable_text, scope_line, timescale_line};
+ghost use Rattle.vcd_text.specs.Headers.{IsCodeAfter, Lists, ListsMarked, ListsScope, all_scopes};
 
+use crate::selected::is_any_below;
 use crate::values::follow;
 use basis::{NoMemory, Span};
 use itoa::Buffer;
 use std::alloc::Global;
-use std::marker::Model;
 use vdesign::design::{Design, Kind, Scope, Variable};
 use vdesign::expression::Bounds;
 
-/// The header of the dumps of one design: version, timescale, scopes and variables with their codes (18.2.3;
-/// docs/FORMATS.md, "Dumps"). Its value is the bytes.
-#[derive(Drop)]
-pub struct Header {
-    text: Vec<u8>,
-}
-
-impl Model for Header {
-    ghost use Rattle.std.specs.Prelude.{ℕ, List};
-
-    ghost Value = { List ℕ };
-
-    ghost view = { λ h. h.text.items };
-}
-
-impl Header {
-    /// The header of a design. E901 is the only refusal.
-    pub fn new(alloc: Global, design: &Design) -> Result<Header, NoMemory>
-        ensures { IfOk result (λ header. header ≡ header_text design.now) }
-    {
-        let mut text = Vec::from_slice(alloc, b"$version vrace $end\n")?;
-        put_precision(&mut text, design.scale.precision)?;
-        put_scopes(alloc, &mut text, &design.scopes, &design.variables)?;
-        text.extend_from_slice(b"$enddefinitions $end\n")?;
-        Ok(Header { text })
-    }
-
-    /// The bytes.
-    pub fn as_bytes(&self) -> &[u8]
-        ensures { result.now ≡ self.now }
-    {
-        &self.text
-    }
+/// The header of a dump of the scopes that are marked: version, timescale, scopes and variables with their codes (18.2.3;
+/// docs/FORMATS.md, "Dumps"). E901 is the only refusal.
+pub(crate) fn header_of(alloc: Global, design: &Design, marks: &[bool]) -> Result<Vec<u8>, NoMemory>
+    ensures { IfOk result (λ header. header.items ≡ header_text design.now marks.now) }
+{
+    let mut text = Vec::from_slice(alloc, b"$version vrace $end\n")?;
+    put_precision(&mut text, design.scale.precision)?;
+    put_scopes(alloc, &mut text, marks, &design.scopes, &design.variables)?;
+    text.extend_from_slice(b"$enddefinitions $end\n")?;
+    Ok(text)
 }
 
 // The unit in which times are counted.
@@ -164,26 +141,108 @@ fn put_scope(text: &mut Vec<u8>, name: &[u8]) -> Result<(), NoMemory>
     Ok(())
 }
 
+// Passes by the codes of variables.
+fn pass_by(name: &mut Vec<u8>, variables: &[Variable]) -> Result<(), NoMemory>
+    ensures { OnOk result (IsCodeAfter name.old.items (length variables.now) name.new.items) }
+{
+    for _ in variables {
+        follow(name)?;
+    }
+    Ok(())
+}
+
+// The lines of variables that are marked, or only their codes passed by.
+fn put_marked(
+    text: &mut Vec<u8>,
+    name: &mut Vec<u8>,
+    mark: bool,
+    variables: &[Variable],
+) -> Result<(), NoMemory>
+    ensures names { OnOk result (IsCodeAfter name.old.items (length variables.now) name.new.items) }
+    ensures lines { OnOk result (ListsMarked mark name.old.items variables.now text.old.items text.new.items) }
+{
+    if mark {
+        put_variables(text, name, variables)
+    } else {
+        pass_by(name, variables)
+    }
+}
+
+// A scope with its variables, where it is written, when so many are open.
+fn put_written(
+    text: &mut Vec<u8>,
+    name: &mut Vec<u8>,
+    around: u64,
+    written: bool,
+    mark: bool,
+    scope: &Scope,
+    own: &[Variable],
+) -> Result<(), NoMemory>
+    ensures names { OnOk result (IsCodeAfter name.old.items (length own.now) name.new.items) }
+    ensures lines { OnOk result
+        (ListsScope around written mark scope.now name.old.items own.now text.old.items text.new.items) }
+{
+    if !written {
+        return pass_by(name, own);
+    }
+    put_closings(text, around.saturating_sub(u64::from(scope.depth)))?;
+    put_scope(text, &scope.name)?;
+    put_marked(text, name, mark, own)
+}
+
+// Whether a scope is written, before those behind it: where it or one below it is selected.
+fn is_written(mark: bool, scope: &Scope, marks: &[bool], scopes: &[Scope]) -> bool
+    ensures { result ≡ is_written_before mark scope.now marks.now scopes.now }
+{
+    if mark {
+        return true;
+    }
+    is_any_below(scope.depth, marks, scopes)
+}
+
+// How many of the variables that are left are those of a scope.
+fn own_count(scope: &Scope, left: usize) -> usize
+    ensures { result ≡ min scope.now.variables left }
+{
+    (scope.variables as usize).min(left)
+}
+
+// How many scopes are open behind a scope, which is written or not.
+fn open_behind(written: bool, scope: &Scope, around: u64) -> u64
+    ensures { result ≡ cond written (suc scope.now.depth) around }
+{
+    if written {
+        u64::from(scope.depth) + 1
+    } else {
+        around
+    }
+}
+
 // Scopes with their variables, depth first.
 fn put_scopes(
     alloc: Global,
     text: &mut Vec<u8>,
+    marks: &[bool],
     scopes: &[Scope],
     variables: &[Variable],
 ) -> Result<(), NoMemory>
-    ensures { OnOk result (text.new.items ≡ text.old.items ++ all_scopes scopes.now variables.now) }
+    ensures { OnOk result (text.new.items ≡ text.old.items ++ all_scopes marks.now scopes.now variables.now) }
 {
     let mut name = Vec::from_slice(alloc, b"!")?;
     let mut around = 0u64;
+    let mut left_marks = marks;
+    let mut left = scopes;
     let mut rest = variables;
-    for scope in scopes {
-        let depth = u64::from(scope.depth);
-        put_closings(text, around.saturating_sub(depth))?;
-        put_scope(text, &scope.name)?;
-        let count = (scope.variables as usize).min(rest.len());
-        let (own, later) = rest.split_at(count);
-        put_variables(text, &mut name, own)?;
-        around = depth + 1;
+    while let Some((scope, behind)) = left.split_first() {
+        let Some((mark, later_marks)) = left_marks.split_first() else {
+            return put_closings(text, around);
+        };
+        let written = is_written(*mark, scope, later_marks, behind);
+        let (own, later) = rest.split_at(own_count(scope, rest.len()));
+        put_written(text, &mut name, around, written, *mark, scope, own)?;
+        around = open_behind(written, scope, around);
+        left_marks = later_marks;
+        left = behind;
         rest = later;
     }
     put_closings(text, around)

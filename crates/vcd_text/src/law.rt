@@ -1,30 +1,31 @@
 // Laws: what is written can be read, a sink completes a dump, and a text is compared byte for byte.
 
-ghost use Rattle.std.specs.Prelude.{◌≡◌, ◌+◌, ℕ, List, All, length};
+ghost use Rattle.std.specs.Prelude.{◌≡◌, ◌+◌, ℕ, Bool, List, All, length};
 ghost use Rattle.vcd_text.specs.CodeLaws.{IsDigit, IsNumeral, number_of};
 ghost use Rattle.vcd_text.specs.Comparing.{IsWhole};
-ghost use Rattle.vcd_text.specs.DumpText.{ToldSlot, code, dump_below, shortened};
+ghost use Rattle.vcd_text.specs.DumpText.{ToldSlot, code, shortened, vcd};
 ghost use Rattle.vcd_text.specs.Readers.{IsTold, extended};
 ghost use Rattle.vcd_text.specs.Sinks.{history_text};
+ghost use Rattle.vdesign.specs.Design.{Design};
 ghost use Rattle.vmodel.specs.History.{History};
 
 /// The law of dumps (docs/FORMATS.md, "Dumps"), which does nothing. The code of variable n is n + 1 in bijective base
 /// 94, the lowest digit first, with the digits `!` to `~`, and no other text is. A reader that extends the digits of a value
-/// on the left has all digits back. Where all slots have the same variables, the values told up to a slot's end and with
-/// it, each in place of the one before, are the values at it.
+/// on the left has all digits back. Where all slots have the same variables, the values of those that are marked told up to
+/// a slot's end and with it, each in place of the one before, are the values at it.
 pub fn dumps_are_readable()
     ensures digits { (n : ℕ) → All IsDigit (code n) }
     ensures number { (n : ℕ) → number_of (code n) ≡ n + 1 }
     ensures only { (n : ℕ) (text : List ℕ) → IsNumeral n text → text ≡ code n }
     ensures back { (digits : List ℕ) → extended (length digits) (shortened digits) ≡ digits }
-    ensures values { (slots : List ToldSlot) → IsTold slots }
+    ensures values { (marks : List Bool) (slots : List ToldSlot) → IsTold marks slots }
 {}
 
 /// The law of sinks, which does nothing: what the items of a history and then its end add to a dump of which nothing has
-/// come yet is the dump of the history.
+/// come yet is the dump of the design and the history.
 pub fn sinks_complete_dumps()
-    ensures { (head : List ℕ) (history : History) →
-        history_text head history ≡ dump_below head history }
+    ensures { (design : Design) (history : History) →
+        history_text design history ≡ vcd design history }
 {}
 
 /// The law of `Expected`, which does nothing: nothing of a text is left where just that text has come.

@@ -5,6 +5,7 @@ ghost use Rattle.vcd_text.specs.DumpText.{all_lines, changed_part, command_part,
 ghost use Rattle.vcd_text.specs.Sinks.{last_line, slot_text, IsStart};
 
 use crate::commands::{Commands, on_by};
+use crate::selected::Marks;
 use crate::values::{put_blanks, put_changes, put_values};
 use basis::NoMemory;
 use itoa::Buffer;
@@ -18,11 +19,12 @@ use vmodel::values::Values;
 pub(crate) enum Progress {
     /// No slot with a `$dumpvars` has ended; the commands of the slot that runs.
     Waiting(Commands),
-    /// The last time line; whether the slots that ended left the dump on, and the values at the last one's end; the commands of the slot
-    /// that runs.
+    /// The last time line; whether the slots that ended left the dump on; for each variable whether it is selected; the values at the
+    /// end of the last slot; the commands of the slot that runs.
     Started {
         last: u64,
         on: bool,
+        marks: Marks,
         values: Values,
         commands: Commands,
     },
@@ -50,60 +52,77 @@ fn put_listed(
     alloc: Global,
     text: &mut Vec<u8>,
     front: &[u8],
+    marks: &[bool],
     values: &[Vec4],
 ) -> Result<(), NoMemory>
     ensures { OnOk result (text.new.items
-        ≡ text.old.items ++ (front.now ++ all_lines values.now ++ line (codes "$end"))) }
+        ≡ text.old.items ++ (front.now ++ all_lines marks.now values.now ++ line (codes "$end"))) }
 {
     text.extend_from_slice(front)?;
-    put_values(alloc, text, values)?;
+    put_values(alloc, text, marks, values)?;
     text.extend_from_slice(b"$end\n")?;
     Ok(())
 }
 
 // All values as x: the dump goes off (18.1.3).
-fn put_off(alloc: Global, text: &mut Vec<u8>, values: &[Vec4]) -> Result<(), NoMemory>
+fn put_off(
+    alloc: Global,
+    text: &mut Vec<u8>,
+    marks: &[bool],
+    values: &[Vec4],
+) -> Result<(), NoMemory>
     ensures { OnOk result (text.new.items
-        ≡ text.old.items ++ parts_text (command_part true DumpCommand.Off values.now)) }
+        ≡ text.old.items ++ parts_text (command_part marks.now true DumpCommand.Off values.now)) }
 {
     text.extend_from_slice(b"$dumpoff\n")?;
-    put_blanks(alloc, text, values)?;
+    put_blanks(alloc, text, marks, values)?;
     text.extend_from_slice(b"$end\n")?;
     Ok(())
 }
 
 // All values: the dump goes on (18.1.3).
-fn put_on(alloc: Global, text: &mut Vec<u8>, values: &[Vec4]) -> Result<(), NoMemory>
+fn put_on(
+    alloc: Global,
+    text: &mut Vec<u8>,
+    marks: &[bool],
+    values: &[Vec4],
+) -> Result<(), NoMemory>
     ensures { OnOk result (text.new.items
-        ≡ text.old.items ++ parts_text (command_part false DumpCommand.On values.now)) }
+        ≡ text.old.items ++ parts_text (command_part marks.now false DumpCommand.On values.now)) }
 {
-    put_listed(alloc, text, b"$dumpon\n", values)
+    put_listed(alloc, text, b"$dumpon\n", marks, values)
 }
 
 // All values of a dump that is on (18.1.4).
-fn put_all(alloc: Global, text: &mut Vec<u8>, values: &[Vec4]) -> Result<(), NoMemory>
+fn put_all(
+    alloc: Global,
+    text: &mut Vec<u8>,
+    marks: &[bool],
+    values: &[Vec4],
+) -> Result<(), NoMemory>
     ensures { OnOk result (text.new.items
-        ≡ text.old.items ++ parts_text (command_part true DumpCommand.All values.now)) }
+        ≡ text.old.items ++ parts_text (command_part marks.now true DumpCommand.All values.now)) }
 {
-    put_listed(alloc, text, b"$dumpall\n", values)
+    put_listed(alloc, text, b"$dumpall\n", marks, values)
 }
 
 // What a command lists, of a dump that is on or off.
 fn put_command(
     alloc: Global,
     text: &mut Vec<u8>,
+    marks: &[bool],
     on: bool,
     command: DumpCommand,
     values: &[Vec4],
 ) -> Result<(), NoMemory>
     ensures { OnOk result (text.new.items
-        ≡ text.old.items ++ parts_text (command_part on command values.now)) }
+        ≡ text.old.items ++ parts_text (command_part marks.now on command values.now)) }
 {
     match command {
-        DumpCommand::Vars => Ok(()),
+        DumpCommand::Vars(_) => Ok(()),
         DumpCommand::Off => {
             if on {
-                put_off(alloc, text, values)
+                put_off(alloc, text, marks, values)
             } else {
                 Ok(())
             }
@@ -112,12 +131,12 @@ fn put_command(
             if on {
                 Ok(())
             } else {
-                put_on(alloc, text, values)
+                put_on(alloc, text, marks, values)
             }
         }
         DumpCommand::All => {
             if on {
-                put_all(alloc, text, values)
+                put_all(alloc, text, marks, values)
             } else {
                 Ok(())
             }
@@ -129,16 +148,17 @@ fn put_command(
 fn put_commands(
     alloc: Global,
     text: &mut Vec<u8>,
+    marks: &[bool],
     on: bool,
     commands: &[DumpCommand],
     values: &[Vec4],
 ) -> Result<(), NoMemory>
     ensures { OnOk result (text.new.items
-        ≡ text.old.items ++ parts_text (command_parts on commands.now values.now)) }
+        ≡ text.old.items ++ parts_text (command_parts marks.now on commands.now values.now)) }
 {
     let mut is_on = on;
     for command in commands {
-        put_command(alloc, text, is_on, *command, values)?;
+        put_command(alloc, text, marks, is_on, *command, values)?;
         is_on = on_by(is_on, *command);
     }
     Ok(())
@@ -148,31 +168,33 @@ fn put_commands(
 fn put_changed(
     alloc: Global,
     text: &mut Vec<u8>,
+    marks: &[bool],
     on: bool,
     old: &[Vec4],
     new: &[Vec4],
 ) -> Result<(), NoMemory>
     ensures { OnOk result (text.new.items
-        ≡ text.old.items ++ parts_text (changed_part on old.now new.now)) }
+        ≡ text.old.items ++ parts_text (changed_part marks.now on old.now new.now)) }
 {
     if !on {
         return Ok(());
     }
-    put_changes(alloc, text, old, new)
+    put_changes(alloc, text, marks, old, new)
 }
 
 // What the first slot end adds below the header.
 pub(crate) fn first_text(
     alloc: Global,
+    marks: &[bool],
     commands: &[DumpCommand],
     time: u64,
     values: &[Vec4],
 ) -> Result<Vec<u8>, NoMemory>
-    ensures { IfOk result (λ text. IsStart text.items commands.now time values.now) }
+    ensures { IfOk result (λ text. IsStart text.items marks.now commands.now time values.now) }
 {
     let mut text = line_of(alloc, time)?;
-    put_listed(alloc, &mut text, b"$dumpvars\n", values)?;
-    put_commands(alloc, &mut text, true, commands, values)?;
+    put_listed(alloc, &mut text, b"$dumpvars\n", marks, values)?;
+    put_commands(alloc, &mut text, marks, true, commands, values)?;
     Ok(text)
 }
 
@@ -181,17 +203,18 @@ pub(crate) fn later_text(
     alloc: Global,
     time: u64,
     on: bool,
+    marks: &[bool],
     old: &[Vec4],
     commands: &[DumpCommand],
     new: &[Vec4],
 ) -> Result<Vec<u8>, NoMemory>
     ensures { IfOk result (λ text.
-        text.items ≡ slot_text time on old.now commands.now new.now) }
+        text.items ≡ slot_text time on marks.now old.now commands.now new.now) }
 {
     let mut text = line_of(alloc, time)?;
     let start = text.len();
-    put_changed(alloc, &mut text, on, old, new)?;
-    put_commands(alloc, &mut text, on, commands, new)?;
+    put_changed(alloc, &mut text, marks, on, old, new)?;
+    put_commands(alloc, &mut text, marks, on, commands, new)?;
     if text.len() == start {
         text.clear();
     }

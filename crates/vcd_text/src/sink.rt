@@ -3,48 +3,52 @@
 ghost use Rattle.std.specs.Prelude.{◌≡◌, ◌≢◌, [], ◌∷◌, OnOk, OnErr, IfOk, IfErr};
 ghost use Rattle.vmodel.specs.declared.history.Item.TheVariants.{SlotEnd, Dump};
 ghost use Rattle.vcd_text.specs.declared.progress.Progress.TheVariants.{Waiting, Failed};
-ghost use Rattle.vcd_text.specs.Sinks.{begun, begun_text, end_line, line_after_slot, slot_text, start_text};
+ghost use Rattle.vcd_text.specs.Sinks.{begun, begun_text, end_line, line_after_slot, slot_text, started_text};
 ghost use Rattle.vcd_text.specs.Outlets.{Stopped};
 
 use crate::commands::{Commands, have_start, on_after};
-use crate::header::Header;
+use crate::header::header_of;
 use crate::outlet::{Outlet, put};
 use crate::progress::{Progress, first_text, later_text, line_after, line_of};
+use crate::selected::{scope_marks, spread};
 use basis::OrMemory;
 use std::alloc::Global;
 use vbits::Vec4;
+use vdesign::design::Design;
 use vdesign::dump::DumpCommand;
 use vmodel::history::{End, Item};
 use vmodel::sink::Sink;
 use vmodel::values::Values;
 
-/// Writes the dump of a run as its items come: the header and all values at the end of the first slot with a
-/// `$dumpvars`, the changes at each later slot end (18.2.1; docs/FORMATS.md, "Dumps"). Before a start nothing is
+/// Writes the dump of a run of a design as its items come: the header and the values at the end of the first slot with a
+/// `$dumpvars`, the changes at each later slot end, all of the variables that the first slot selects (18.1.2, 18.2.1;
+/// docs/FORMATS.md, "Dumps"). Before a start nothing is
 /// written, and nothing after a fault, where items are passed over. `finish` completes the dump, and `into_outlet` gives
 /// back what it is written to.
 #[derive(Drop)]
 pub struct DumpSink<'a, O> {
     alloc: Global,
-    header: &'a Header,
+    design: &'a Design,
     outlet: &'a mut O,
     progress: Progress,
 }
 
-// The header and the first slot's end.
+// A header and the first slot's end, of the variables that are marked.
 fn put_start<O: Outlet>(
     alloc: Global,
     head: &[u8],
     outlet: &mut O,
+    marks: &[bool],
     commands: &[DumpCommand],
     time: u64,
     values: &[Vec4],
 ) -> Result<(), OrMemory<O::Fault>>
     ensures ok { OnOk result
-        (O.takes outlet.old (start_text head.now commands.now time values.now) outlet.new) }
+        (O.takes outlet.old (started_text head.now marks.now commands.now time values.now) outlet.new) }
     ensures err { IfErr result (λ fault. Stopped O.takes O.fails outlet.old
-        (start_text head.now commands.now time values.now) fault outlet.new) }
+        (started_text head.now marks.now commands.now time values.now) fault outlet.new) }
 {
-    let text = first_text(alloc, commands, time, values)?;
+    let text = first_text(alloc, marks, commands, time, values)?;
     match put(outlet, head) {
         Ok(()) => put(outlet, &text),
         Err(fault) => Err(fault),
@@ -57,20 +61,21 @@ fn put_slot<O: Outlet>(
     outlet: &mut O,
     last: &mut u64,
     on: bool,
+    marks: &[bool],
     kept: &mut Values,
     commands: &[DumpCommand],
     time: u64,
     values: &[Vec4],
 ) -> Result<(), OrMemory<O::Fault>>
     ensures last { OnOk result
-        (last.new ≡ line_after_slot last.old time on kept.old commands.now values.now) }
+        (last.new ≡ line_after_slot last.old time on marks.now kept.old commands.now values.now) }
     ensures kept { OnOk result (kept.new ≡ values.now) }
     ensures ok { OnOk result (O.takes outlet.old
-        (slot_text time on kept.old commands.now values.now) outlet.new) }
+        (slot_text time on marks.now kept.old commands.now values.now) outlet.new) }
     ensures err { IfErr result (λ fault. Stopped O.takes O.fails outlet.old
-        (slot_text time on kept.old commands.now values.now) fault outlet.new) }
+        (slot_text time on marks.now kept.old commands.now values.now) fault outlet.new) }
 {
-    let text = later_text(alloc, time, on, kept.as_slice(), commands, values)?;
+    let text = later_text(alloc, time, on, marks, kept.as_slice(), commands, values)?;
     kept.assign(values)?;
     match put(outlet, &text) {
         Ok(()) => {
@@ -84,29 +89,44 @@ fn put_slot<O: Outlet>(
 // A slot has ended, and no dump was started before it: how far the dump has come then.
 fn begin<O: Outlet>(
     alloc: Global,
-    head: &[u8],
+    design: &Design,
     outlet: &mut O,
     commands: &[DumpCommand],
     time: u64,
     values: &[Vec4],
 ) -> Result<Progress, OrMemory<O::Fault>>
-    ensures progress { IfOk result (λ progress. progress ≡ begun commands.now time values.now) }
+    ensures progress { IfOk result (λ progress.
+        progress ≡ begun design.now commands.now time values.now) }
     ensures ok { OnOk result
-        (O.takes outlet.old (begun_text head.now commands.now time values.now) outlet.new) }
+        (O.takes outlet.old (begun_text design.now commands.now time values.now) outlet.new) }
     ensures err { IfErr result (λ fault. Stopped O.takes O.fails outlet.old
-        (begun_text head.now commands.now time values.now) fault outlet.new) }
+        (begun_text design.now commands.now time values.now) fault outlet.new) }
 {
     if !have_start(commands) {
         return Ok(Progress::Waiting(Commands::new(alloc)));
     }
     let kept = Values::from_slice(alloc, values)?;
-    put_start(alloc, head, outlet, commands, time, values)?;
-    Ok(Progress::Started {
-        last: time,
-        on: on_after(true, commands),
-        values: kept,
-        commands: Commands::new(alloc),
-    })
+    let scopes = scope_marks(alloc, design, commands)?;
+    let marks = spread(alloc, scopes.as_slice(), &design.scopes)?;
+    let head = header_of(alloc, design, scopes.as_slice())?;
+    match put_start(
+        alloc,
+        &head,
+        outlet,
+        marks.as_slice(),
+        commands,
+        time,
+        values,
+    ) {
+        Ok(()) => Ok(Progress::Started {
+            last: time,
+            on: on_after(true, commands),
+            marks,
+            values: kept,
+            commands: Commands::new(alloc),
+        }),
+        Err(fault) => Err(fault),
+    }
 }
 
 // The time of the end, unless the last time line is that.
@@ -131,15 +151,15 @@ impl<'a, O: Outlet> DumpSink<'a, O> {
     ghost use Rattle.vcd_text.specs.Sinks.{IsAtEnd, IsPassedOver, IsSameDump, Takes, TakesEnd, FailsEnd, StopsIn};
 
     /// A dump of which nothing has come yet.
-    pub fn new(alloc: Global, header: &'a Header, outlet: &'a mut O) -> DumpSink<'a, O>
+    pub fn new(alloc: Global, design: &'a Design, outlet: &'a mut O) -> DumpSink<'a, O>
         ensures same_outlet { result.outlet.ghost_name ≡ outlet.entry.ghost_name }
         ensures unwritten { result.outlet.now ≡ outlet.old }
-        ensures header { result.header.now ≡ header.now }
+        ensures design { result.design.now ≡ design.now }
         ensures progress { result.progress ≡ Waiting [] }
     {
         DumpSink {
             alloc,
-            header,
+            design,
             outlet,
             progress: Progress::Waiting(Commands::new(alloc)),
         }
@@ -155,7 +175,7 @@ impl<'a, O: Outlet> DumpSink<'a, O> {
             Progress::Waiting(commands) => {
                 self.progress = begin(
                     self.alloc,
-                    self.header.as_bytes(),
+                    self.design,
                     self.outlet,
                     commands.as_slice(),
                     time,
@@ -166,6 +186,7 @@ impl<'a, O: Outlet> DumpSink<'a, O> {
             Progress::Started {
                 last,
                 on,
+                marks,
                 values: kept,
                 commands,
             } => {
@@ -174,6 +195,7 @@ impl<'a, O: Outlet> DumpSink<'a, O> {
                     self.outlet,
                     last,
                     *on,
+                    marks.as_slice(),
                     kept,
                     commands.as_slice(),
                     time,
@@ -252,7 +274,7 @@ impl<'a, O: Outlet> DumpSink<'a, O> {
     {
         let DumpSink {
             alloc: _,
-            header: _,
+            design: _,
             outlet,
             progress: _,
         } = self;

@@ -1,7 +1,7 @@
 // The lines that say what variables are worth (18.2.2).
 
 ghost use Rattle.std.specs.Prelude.{◌≡◌, ◌<◌, ◌++◌, OnOk, true, false, length, drop, map};
-ghost use Rattle.vcd_text.specs.DumpText.{all_lines, blanked, change, changes, digit as digit_code, digits_of, extension as extension_code, following, is_kept as is_kept_vector, named_line, shortened, value_lines};
+ghost use Rattle.vcd_text.specs.DumpText.{all_lines, blanked, change, changes, digit as digit_code, digits_of, extension as extension_code, following, is_kept as is_kept_vector, is_news as is_news_of, named_line, shortened, value_lines};
 
 use basis::NoMemory;
 use std::alloc::Global;
@@ -103,28 +103,52 @@ fn put_value(
     Ok(())
 }
 
-// The lines of all values at the end of the text, in the order of the variables.
-pub(crate) fn put_values(alloc: Global, text: &mut Vec<u8>, values: &[Vec4]) -> Result<(), NoMemory>
-    ensures { OnOk result (text.new.items ≡ text.old.items ++ all_lines values.now) }
+// The lines of the values that are marked at the end of the text, in the order of the variables.
+pub(crate) fn put_values(
+    alloc: Global,
+    text: &mut Vec<u8>,
+    marks: &[bool],
+    values: &[Vec4],
+) -> Result<(), NoMemory>
+    ensures { OnOk result (text.new.items ≡ text.old.items ++ all_lines marks.now values.now) }
 {
     let mut scratch = Vec::new(alloc);
     let mut name = Vec::from_slice(alloc, b"!")?;
+    let mut rest = marks;
     for value in values {
-        put_value(text, &mut scratch, *value, &name)?;
+        let Some((mark, later)) = rest.split_first() else {
+            return Ok(());
+        };
+        if *mark {
+            put_value(text, &mut scratch, *value, &name)?;
+        }
         follow(&mut name)?;
+        rest = later;
     }
     Ok(())
 }
 
 // The same of values as wide as these, all x.
-pub(crate) fn put_blanks(alloc: Global, text: &mut Vec<u8>, values: &[Vec4]) -> Result<(), NoMemory>
-    ensures { OnOk result (text.new.items ≡ text.old.items ++ all_lines (map blanked values.now)) }
+pub(crate) fn put_blanks(
+    alloc: Global,
+    text: &mut Vec<u8>,
+    marks: &[bool],
+    values: &[Vec4],
+) -> Result<(), NoMemory>
+    ensures { OnOk result (text.new.items ≡ text.old.items ++ all_lines marks.now (map blanked values.now)) }
 {
     let mut scratch = Vec::new(alloc);
     let mut name = Vec::from_slice(alloc, b"!")?;
+    let mut rest = marks;
     for value in values {
-        put_value(text, &mut scratch, Vec4::all_x(value.len()), &name)?;
+        let Some((mark, later)) = rest.split_first() else {
+            return Ok(());
+        };
+        if *mark {
+            put_value(text, &mut scratch, Vec4::all_x(value.len()), &name)?;
+        }
         follow(&mut name)?;
+        rest = later;
     }
     Ok(())
 }
@@ -142,26 +166,43 @@ fn is_kept(old: Vec4, new: Vec4) -> bool
     }
 }
 
-// The lines of the values that differ from those of an earlier list, in the order of the variables (18.2.1).
+// Whether the value of a variable that is marked or not has changed, so that it is told.
+fn is_news(mark: bool, old: Vec4, new: Vec4) -> bool
+    ensures { result ≡ is_news_of mark old new }
+{
+    if !mark {
+        return false;
+    }
+    !is_kept(old, new)
+}
+
+// The lines of the values that are marked and differ from those of an earlier list, in the order of the variables (18.2.1).
 pub(crate) fn put_changes(
     alloc: Global,
     text: &mut Vec<u8>,
+    marks: &[bool],
     old: &[Vec4],
     new: &[Vec4],
 ) -> Result<(), NoMemory>
-    ensures { OnOk result (text.new.items ≡ text.old.items ++ value_lines (changes 0 old.now new.now)) }
+    ensures { OnOk result (text.new.items
+        ≡ text.old.items ++ value_lines (changes 0 marks.now old.now new.now)) }
 {
     let mut scratch = Vec::new(alloc);
     let mut name = Vec::from_slice(alloc, b"!")?;
     let mut rest = old;
+    let mut left = marks;
     for value in new {
+        let Some((mark, later)) = left.split_first() else {
+            return Ok(());
+        };
         let Some((before, after)) = rest.split_first() else {
             return Ok(());
         };
-        if !is_kept(*before, *value) {
+        if is_news(*mark, *before, *value) {
             put_value(text, &mut scratch, *value, &name)?;
         }
         follow(&mut name)?;
+        left = later;
         rest = after;
     }
     Ok(())

@@ -1,19 +1,19 @@
 // The whole dump of a history.
 
 ghost use Rattle.std.specs.Prelude.{◌≡◌, [], OnOk, IfErr};
-ghost use Rattle.vcd_text.specs.DumpText.{dump_below};
+ghost use Rattle.vcd_text.specs.DumpText.{vcd};
 ghost use Rattle.vcd_text.specs.Metered.{Grows, Stops};
 ghost use Rattle.vcd_text.specs.declared.progress.Progress.TheVariants.{Waiting};
 ghost use Rattle.vcd_text.specs.Sinks.{IsSameDump, TakesDump, FailsDump};
 
 use crate::fault::WriteFault;
-use crate::header::Header;
 use crate::metered::Metered;
 use crate::outlet::Outlet;
 use crate::sink::DumpSink;
 use basis::OrMemory;
 use std::alloc::Global;
 use std::io::Write;
+use vdesign::design::Design;
 use vmodel::history::History;
 use vmodel::sink::Sink;
 
@@ -31,21 +31,20 @@ fn fill<O: Outlet>(sink: &mut DumpSink<'_, O>, history: &History) -> Result<(), 
     }
 }
 
-/// Writes the dump of a history below the header of its design, which is the design's `vcd` (18.2; docs/FORMATS.md,
-/// "Dumps"); without a start no byte. After a fault a prefix of it stands written. E901, and E902 only where the writer
+/// Writes the dump of a history of a design, its `vcd` (18.2; docs/FORMATS.md, "Dumps"); without a start no byte. After a fault a prefix of it stands written. E901, and E902 only where the writer
 /// failed in this call.
 pub fn write_vcd<W: Write>(
     alloc: Global,
-    header: &Header,
+    design: &Design,
     history: &History,
     writer: &mut Metered<W>,
 ) -> Result<(), OrMemory<WriteFault>>
     ensures ok { OnOk result (
-        Grows W.contents writer.old writer.new (dump_below header.now history.now)) }
+        Grows W.contents writer.old writer.new (vcd design.now history.now)) }
     ensures err { IfErr result (
-        Stops W.contents writer.old writer.new (dump_below header.now history.now)) }
+        Stops W.contents writer.old writer.new (vcd design.now history.now)) }
 {
-    let mut sink = DumpSink::new(alloc, header, writer);
+    let mut sink = DumpSink::new(alloc, design, writer);
     let result = fill(&mut sink, history);
     let writer = sink.into_outlet();
     // No effect at run time. The proof reads what the writer holds from this use.

@@ -15,9 +15,11 @@ pub record Variable : Type 0 where
   pub start : Bit4  -- 4.2.2: each of its bits until it is first written
   pub bounds : Option Bounds
 
--- 12.1: an instance or the top, how many scopes are round it, and how many variables are its own
+-- 12.1, 12.5: an instance or the top, its name, its path (the names of the scopes round it from the top's on and its own, joined by
+-- dots), how many scopes are round it, and how many variables are its own
 pub record Scope : Type 0 where
   pub name : List ℕ
+  pub path : List ℕ
   pub depth : ℕ
   pub variables : ℕ
 

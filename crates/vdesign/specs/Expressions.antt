@@ -2,6 +2,7 @@
 use Rattle.std.specs.Prelude.{ℕ, Bool}
 use Rattle.vast.specs.declared.expression.UnaryOperator.{UnaryOperator}
 use Rattle.vast.specs.declared.expression.BinaryOperator.{BinaryOperator}
+use Rattle.vbits.specs.Vectors.{Vector}
 use Rattle.vdesign.specs.declared.expression.Bounds.{Bounds}
 use Rattle.vdesign.specs.declared.expression.Constant.{Constant}
 
@@ -9,6 +10,7 @@ pub data ExpressionTree : Type 0 where
   constant : Constant → ExpressionTree
   variable : ℕ → ExpressionTree
   bit : ℕ → ExpressionTree → ExpressionTree  -- name [ index ]
+  bit_of : Vector → Bounds → ExpressionTree → ExpressionTree  -- name [ index ], of a parameter
   part : ℕ → Bounds → ExpressionTree  -- name [ left : right ]
   time : ExpressionTree  -- $time
   conversion : Bool → ExpressionTree → ExpressionTree  -- $signed ( operand ), or $unsigned ( operand )

@@ -1,13 +1,14 @@
 -- An expression as the list of its nodes, each before its operands, and the way back: from the list comes the tree.
 use Rattle.std.proofs.Common.{◌≡◌, List, [], ◌∷◌, ◌++◌, refl, sym, ap, ◌∙◌, append_assoc, append-nil}
-use Rattle.vdesign.specs.Expressions.{ExpressionTree, constant, variable, bit, part, time, conversion, apply, combine, conditional, joined, repeated}
+use Rattle.vdesign.specs.Expressions.{ExpressionTree, constant, variable, bit, bit_of, part, time, conversion, apply, combine, conditional, joined, repeated}
 use Rattle.vdesign.specs.declared.expression.Node.{Node}
-use Rattle.vdesign.specs.declared.expression.Node.TheVariants.{Constant, Variable, Bit, Part, Time, Conversion, Unary, Binary, Conditional, Joined, Repeated}
+use Rattle.vdesign.specs.declared.expression.Node.TheVariants.{Constant, Variable, Bit, BitOf, Part, Time, Conversion, Unary, Binary, Conditional, Joined, Repeated}
 
 abbrev pub nodes_of : ExpressionTree → List Node
 nodes_of (constant c) = Constant c ∷ []
 nodes_of (variable number) = Variable number ∷ []
 nodes_of (bit number index) = Bit number ∷ nodes_of index
+nodes_of (bit_of value bounds index) = BitOf value bounds ∷ nodes_of index
 nodes_of (part number bounds) = Part number bounds ∷ []
 nodes_of time = Time ∷ []
 nodes_of (conversion signed operand) = Conversion signed ∷ nodes_of operand
@@ -25,6 +26,7 @@ abbrev pub grown : Node → List ExpressionTree → List ExpressionTree
 grown (Constant c) trees = constant c ∷ trees
 grown (Variable number) trees = variable number ∷ trees
 grown (Bit number) (index ∷ trees) = bit number index ∷ trees
+grown (BitOf value bounds) (index ∷ trees) = bit_of value bounds index ∷ trees
 grown (Part number bounds) trees = part number bounds ∷ trees
 grown Time trees = time ∷ trees
 grown (Conversion signed) (operand ∷ trees) = conversion signed operand ∷ trees
@@ -50,6 +52,7 @@ pub trees_of_nodes : (tree : ExpressionTree) (more : List Node) → trees_of (no
 trees_of_nodes (constant c) more = refl
 trees_of_nodes (variable number) more = refl
 trees_of_nodes (bit number index) more = ap (grown (Bit number)) (trees_of_nodes index more)
+trees_of_nodes (bit_of value bounds index) more = ap (grown (BitOf value bounds)) (trees_of_nodes index more)
 trees_of_nodes (part number bounds) more = refl
 trees_of_nodes time more = refl
 trees_of_nodes (conversion signed operand) more = ap (grown (Conversion signed)) (trees_of_nodes operand more)

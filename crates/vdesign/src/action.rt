@@ -2,7 +2,7 @@
 
 ghost use Rattle.std.specs.Prelude.{◌≡◌};
 
-use crate::dump::DumpCommand;
+use crate::dump::{DumpSwitch, Selection};
 use crate::expression::{Bounds, Expression};
 use crate::print::{Pieces, When};
 use std::marker::Model;
@@ -261,8 +261,10 @@ pub enum Action {
         when: When,
         pieces: Pieces,
     },
-    /// `$dumpvars;`, `$dumpoff;`, `$dumpon;` or `$dumpall;` (18.1)
-    Dump(DumpCommand),
+    /// `$dumpvars(..);` (18.1.2)
+    DumpVars(Selection),
+    /// `$dumpoff;`, `$dumpon;` or `$dumpall;` (18.1.3, 18.1.4)
+    Dump(DumpSwitch),
     /// `$dumpfile(..);` or `$dumpflush;`: a step that does nothing more (18.1.1, 18.1.6)
     Pass,
     /// `$finish;` (17.4.1)

@@ -90,6 +90,8 @@ pub enum Kind {
 #[derive(Drop)]
 pub struct Scope {
     pub name: Vec<u8>,
+    /// The names of the scopes round it from the top's on and its own, joined by dots.
+    pub path: Vec<u8>,
     /// How many scopes are round it.
     pub depth: u32,
     /// How many variables are its own.
@@ -101,5 +103,5 @@ impl Model for Scope {
 
     ghost Value = { design.Scope };
 
-    ghost view = { λ s. record { name = s.name.items; depth = s.depth; variables = s.variables } };
+    ghost view = { λ s. record { name = s.name.items; path = s.path.items; depth = s.depth; variables = s.variables } };
 }

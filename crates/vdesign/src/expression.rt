@@ -33,6 +33,8 @@ pub enum Node {
     Variable(u32),
     /// `name[index]`, of the variable of this number (5.2.1)
     Bit(u32),
+    /// `name[index]`, of a parameter of this value, whose bits have these numbers (4.10, 5.2.1)
+    BitOf { value: Vec4, bounds: Bounds },
     /// `name[left:right]`, of the variable of this number (5.2.1)
     Part { variable: u32, bounds: Bounds },
     /// `$time` (17.7.1)

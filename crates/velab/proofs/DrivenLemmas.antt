@@ -9,15 +9,15 @@ use Rattle.vast.specs.ModuleTrees.{declared_tree, item_tree}
 use Rattle.vast.specs.declared.module.Declared.{Declared}
 use Rattle.vast.specs.declared.module.Setting.{Setting}
 use Rattle.vast.specs.declared.module.ModuleItem.{ModuleItem}
+use Rattle.vmodules.specs.Names.{has_double, is_declared}
 use Rattle.velab.specs.declared.fault.ElabFault.{ElabFault}
 use Rattle.velab.specs.declared.fault.Rule.{Rule}
 use Rattle.velab.specs.declared.fault.Rule.TheVariants.{Doubled, Drivers}
-use Rattle.velab.specs.Elaborate.{has_double, driver_of, drivers_by}
+use Rattle.velab.specs.Elaborate.{driver_of, drivers_by}
 use Rattle.velab.specs.Rules.{broken_if}
-use Rattle.velab.specs.Scopes.{is_declared}
 use Rattle.velab.specs.Inner.{BreaksDrivers, declared_drivers, set_drivers, item_drivers}
 use Rattle.velab.proofs.ListLemmas.{stopped}
-use Rattle.velab.proofs.NameLemmas.{double_at}
+use Rattle.vmodules.proofs.NameLemmas.{double_at}
 use Rattle.velab.proofs.VariableLemmas.{part_stops}
 use Rattle.velab.proofs.FaultLemmas.{still, if_more}
 

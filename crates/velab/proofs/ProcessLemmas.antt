@@ -12,6 +12,12 @@ use Rattle.vast.specs.declared.module.Declared.{Declared}
 use Rattle.vast.specs.declared.module.Setting.{Setting}
 use Rattle.vast.specs.declared.module.NetKind.{NetKind}
 use Rattle.vast.specs.declared.module.ModuleItem.{ModuleItem}
+use Rattle.vast.specs.Modules.{ConnectionTree}
+use Rattle.vmodules.specs.Ports.{Port}
+use Rattle.vmodules.specs.Connected.{value_for}
+use Rattle.vmodules.specs.Inner.{port_form}
+use Rattle.vmodules.specs.declared.ports.PortForm.{PortForm}
+use Rattle.velab.specs.Elaborate.{laid_join, laid_joins, broken_join, broken_joins}
 use Rattle.velab.specs.declared.fault.ElabFault.{ElabFault}
 use Rattle.velab.specs.Elaborate.{ProcessTree, broken_processes, process_of, driven_by, process_trees_by}
 use Rattle.velab.specs.declared.fault.Rule.{Rule}
@@ -134,9 +140,15 @@ pub record LeadItems (scope : Scope) (now : List Action) (before : List (List �
   pub table : (laid_items scope now left).table ≡ all.table
   pub begins : before ++ (laid_items scope now left).begins ≡ all.begins
 
-pub items_end : (scope : Scope) (table : List Action) (begins : List (List ℕ)) (all : Processes) → LeadItems scope table begins [] all →
-    AreLaid all [] table begins
-items_end scope table begins all lead = record { table = lead.table; begins = sym (append-nil begins) ∙ lead.begins }
+-- nothing is laid so far
+pub items_start : (scope : Scope) (table : List Action) (before : List (List ℕ)) (items : List ItemTree) →
+    LeadItems scope table before items (behind before (laid_items scope table items))
+items_start scope table before items = record { table = refl; begins = refl }
+
+-- none is left, behind those that there were
+pub items_behind : (scope : Scope) (table : List Action) (before begins : List (List ℕ)) (what : Processes) →
+    LeadItems scope table begins [] (behind before what) → AreLaid what before table begins
+items_behind scope table before begins what lead = record { table = lead.table; begins = sym (append-nil begins) ∙ lead.begins }
 
 module _ (words : List Text) (scope : Scope) (items : List ModuleItem) (i : ℕ) (x : ModuleItem) (within : i < length items) (is : x ≡ get_or items i x) where
   items_open : map (item_tree words) (drop i items) ≡ item_tree words x ∷ map (item_tree words) (drop (i + 1) items)
@@ -175,3 +187,46 @@ module _ (words : List Text) (scope : Scope) (items : List ModuleItem) (i : ℕ)
       let opens = ap (λ (l : List ItemTree). length (flat_map given_by l)) items_open in
       let both = length-append (given_by (item_tree words x)) (flat_map given_by (map (item_tree words) (drop (i + 1) items))) in
       omega (arith, small, opens, both)
+
+-- ---- port connections, one after another
+
+pub record LeadJoins (outer inner : Scope) (ties : List ConnectionTree) (now : List Action) (before : List (List ℕ)) (left : List Port) (all : Processes) : Type 0 where
+  pub table : (laid_joins outer inner ties now left).table ≡ all.table
+  pub begins : before ++ (laid_joins outer inner ties now left).begins ≡ all.begins
+
+pub joins_start : (outer inner : Scope) (ties : List ConnectionTree) (table : List Action) (before : List (List ℕ)) (left : List Port) →
+    LeadJoins outer inner ties table before left (behind before (laid_joins outer inner ties table left))
+joins_start outer inner ties table before left = record { table = refl; begins = refl }
+
+pub joins_behind : (outer inner : Scope) (ties : List ConnectionTree) (table : List Action) (before begins : List (List ℕ)) (what : Processes) →
+    LeadJoins outer inner ties table begins [] (behind before what) → AreLaid what before table begins
+joins_behind outer inner ties table before begins what lead = record { table = lead.table; begins = sym (append-nil begins) ∙ lead.begins }
+
+module _ (words : List Text) (outer inner : Scope) (ties : List ConnectionTree) (ports : List PortForm) (i : ℕ) (x : PortForm) (within : i < length ports) (is : x ≡ get_or ports i x) where
+  ports_open : map (port_form words) (drop i ports) ≡ port_form words x ∷ map (port_form words) (drop (i + 1) ports)
+  ports_open = ap (λ (l : List PortForm). map (port_form words) l) (drop_at ports i x within is)
+
+  pub join_step : (now after : List Action) (begins begins_after : List (List ℕ)) (all : Processes) →
+      AreLaid (laid_join outer inner now (port_form words x) (value_for ties (port_form words x).name)) begins after begins_after →
+      LeadJoins outer inner ties now begins (map (port_form words) (drop i ports)) all →
+      LeadJoins outer inner ties after begins_after (map (port_form words) (drop (i + 1) ports)) all
+  join_step now after begins begins_after all put lead =
+      let rest : List Port = map (port_form words) (drop (i + 1) ports) in
+      let front : Processes = laid_join outer inner now (port_form words x) (value_for ties (port_form words x).name) in
+      let here : LeadJoins outer inner ties now begins (port_form words x ∷ rest) all = subst (λ (l : List Port). LeadJoins outer inner ties now begins l all) ports_open lead in
+      record {
+        table = ap (λ (t : List Action). (laid_joins outer inner ties t rest).table) put.table ∙ here.table;
+        begins = ap (λ (t : List Action). begins_after ++ (laid_joins outer inner ties t rest).begins) put.table
+            ∙ ap (λ (b : List (List ℕ)). b ++ (laid_joins outer inner ties front.table rest).begins) put.begins
+            ∙ append_assoc begins front.begins (laid_joins outer inner ties front.table rest).begins
+            ∙ here.begins;
+      }
+
+  pub join_right : (all : Option Rule) → broken_join outer inner (port_form words x) (value_for ties (port_form words x).name) ≡ None →
+      broken_joins outer inner ties (map (port_form words) (drop i ports)) ≡ all →
+      broken_joins outer inner ties (map (port_form words) (drop (i + 1) ports)) ≡ all
+  join_right all right same = goes_on _ _ _ all (ap (broken_joins outer inner ties) ports_open) right same
+
+  pub join_err : (all : Option Rule) → broken_joins outer inner ties (map (port_form words) (drop i ports)) ≡ all → (e : OrMemory ElabFault) →
+      Because (IsBroken (broken_join outer inner (port_form words x) (value_for ties (port_form words x).name))) e → Because (IsBroken all) e
+  join_err all same = stops_at _ _ _ all (ap (broken_joins outer inner ties) ports_open) same

@@ -20,15 +20,17 @@ use Rattle.vdesign.specs.declared.design.Kind.{Kind}
 use Rattle.vdesign.specs.declared.design.Kind.TheVariants.{Integer}
 use Rattle.basis.specs.declared.memory.OrMemory.{OrMemory}
 use Rattle.basis.specs.Reasons.{Because}
+use Rattle.vmodules.specs.Names.{has_double, is_declared}
 use Rattle.velab.specs.declared.fault.Rule.{Rule}
 use Rattle.velab.specs.declared.fault.Rule.TheVariants.{Doubled}
 use Rattle.velab.specs.declared.fault.ElabFault.{ElabFault}
 use Rattle.velab.specs.Rules.{broken_if, IsBroken}
-use Rattle.velab.specs.Scopes.{Scope, at, is_declared}
-use Rattle.velab.specs.Elaborate.{has_double, Declaration as Declared_as, declared, all_declared, declarations_of, kind_of, bounds_of, variable_by, variable_of, Home, variables_from, broken_declaration, broken_from, given_by}
-use Rattle.velab.specs.Inner.{names_of, names_in, texts_of, kind_item, DoublesIn}
+use Rattle.velab.specs.Scopes.{Scope, at}
+use Rattle.velab.specs.Elaborate.{Declaration as Declared_as, declared, all_declared, declarations_of, kind_of, bounds_of, variable_by, variable_of, Home, variables_from, broken_declaration, broken_from, given_by}
+use Rattle.vmodules.specs.declared.ports.PortForm.{PortForm}
+use Rattle.velab.specs.Inner.{names_of, names_in, texts_of, port_texts, kind_item, DoublesIn}
 use Rattle.velab.proofs.ListLemmas.{drop_at, step}
-use Rattle.velab.proofs.NameLemmas.{double_at}
+use Rattle.vmodules.proofs.NameLemmas.{double_at}
 use Rattle.velab.proofs.FaultLemmas.{still, if_more, goes_on, stops_at}
 
 -- ---- lists of declared names
@@ -111,6 +113,24 @@ words_err words list i d names all e within at same =
 
     is : names ++ text ∷ rest ≡ all
     is = ap (λ (ws : List Declared). names ++ texts_of words ws) (sym (drop_at list i d within at)) ∙ same
+
+pub ports_err : (words : List Text) (list : List PortForm) (i : ℕ) (p : PortForm) (names all : List Text) (e : OrMemory ElabFault) → i < length list → p ≡ get_or list i p → names ++ port_texts words (drop i list) ≡ all →
+    Because (IsBroken (broken_if (is_declared names (token_text words p.name)) Doubled)) e → Because (DoublesIn all) e
+ports_err words list i p names all e within at same =
+    still _ _ (if_more (is_declared names text) (has_double all) Doubled (name_stops names rest all text is)) e
+  where
+    text : Text
+    text = token_text words p.name
+
+    rest : List Text
+    rest = port_texts words (drop (i + 1) list)
+
+    is : names ++ text ∷ rest ≡ all
+    is = ap (λ (ps : List PortForm). names ++ port_texts words ps) (sym (drop_at list i p within at)) ∙ same
+
+-- a name that stands twice among the first ones stands twice among all
+pub front_doubles : (part rest : List Text) (e : OrMemory ElabFault) → Because (DoublesIn part) e → Because (DoublesIn (part ++ rest)) e
+front_doubles part rest = doubles_more part (part ++ rest) (part_stops part rest (part ++ rest) refl)
 
 in_order : (words : List Text) (item : ModuleItem) (items : List ModuleItem) → names_in (map (item_tree words) (item ∷ items)) ≡ names_of (item_tree words item) ++ names_in (map (item_tree words) items)
 in_order words item items = map-append (λ (d : Declared_as). d.name) (declarations_of (item_tree words item)) (flat_map declarations_of (map (item_tree words) items))

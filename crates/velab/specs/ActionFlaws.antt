@@ -7,7 +7,7 @@ use Rattle.vdesign.specs.Design.{Variable}
 use Rattle.vdesign.specs.declared.action.Action.{Action}
 use Rattle.vdesign.specs.declared.print.Piece.{Piece}
 use Rattle.vdesign.specs.declared.print.Piece.TheVariants.{Text, Value}
-use Rattle.vdesign.specs.declared.action.Action.TheVariants.{Assign, Nonblocking, Held, Posted, Trigger, Test, Case, Again, Repeat, Forever, Delay, On, Until, Drive, Print, Dump, Pass, Finish, Stop}
+use Rattle.vdesign.specs.declared.action.Action.TheVariants.{Assign, Nonblocking, Held, Posted, Trigger, Test, Case, Again, Repeat, Forever, Delay, On, Until, Drive, Print, DumpVars, Dump, Pass, Finish, Stop}
 use Rattle.vdesign.specs.declared.action.Branch.{Branch}
 use Rattle.vdesign.specs.declared.action.Target.{Target}
 use Rattle.vdesign.specs.Expressions.{ExpressionTree}
@@ -54,7 +54,8 @@ action_flaw now (On terms body) = None
 action_flaw now (Until condition terms body) = flaw_of now condition
 action_flaw now (Drive net value terms) = flaw_of now value
 action_flaw now (Print when pieces) = first_of (piece_flaw now) pieces
-action_flaw now (Dump command) = None
+action_flaw now (DumpVars selection) = None
+action_flaw now (Dump switch) = None
 action_flaw now Pass = None
 action_flaw now Finish = None
 action_flaw now Stop = None

@@ -1,5 +1,5 @@
--- `Elaborates tree top scale design`: the design that a text stands for (IEEE 1364-2005, clause 12).
-use Rattle.std.specs.Prelude.{◌≡◌, ℕ, ◌+◌, ◌-◌, max, min, nat_le, Bool, true, false, ◌||◌, cond, List, [], ◌∷◌, ◌++◌, map, length, Option, None, Some, is_some, unwrap_or, option_map}
+-- What an instance of a module adds to a design (IEEE 1364-2005, clause 12): its names, its variables and its processes.
+use Rattle.std.specs.Prelude.{◌≡◌, ℕ, ◌+◌, ◌-◌, max, min, nat_le, nat_lt, Bool, true, false, ◌||◌, cond, List, [], ◌∷◌, ◌++◌, map, length, Option, None, Some, is_some, unwrap_or, option_map}
 use Rattle.std.specs.List.{list_any, list_all, flat_map, filter_map, find}
 use Rattle.std.specs.Option.{option_or}
 use Rattle.std.specs.Borrow.{Bor}
@@ -8,20 +8,23 @@ use Rattle.vbits.specs.declared.bit4.Bit4.TheVariants.{X, Z}
 use Rattle.vbits.specs.declared.bit4.Bit4.{Bit4}
 use Rattle.vast.specs.Words.{Text}
 use Rattle.vast.specs.Expressions as text
-use Rattle.vast.specs.Statements.{TargetTree, DelayTree, by_number, by_name, by_value, TaskTree, print, dump_file, dump_vars, dump, end_run, SelectionTree, StatementTree, StatementTrees, empty, block, assign, nonblocking, trigger, if_true, if_else, case_of, while_true, repeat_times, forever, for_loop, wait_for, delay, event, task, no_statement, first_statement, BranchTree, BranchTrees, labelled, default, no_branch, first_branch}
+use Rattle.vast.specs.Statements.{TargetTree, DelayTree, by_number, by_name, by_value, TaskTree, print, dump_file, dump_vars, dump, end_run, StatementTree, StatementTrees, empty, block, assign, nonblocking, trigger, if_true, if_else, case_of, while_true, repeat_times, forever, for_loop, wait_for, delay, event, task, no_statement, first_statement, BranchTree, BranchTrees, labelled, default, no_branch, first_branch}
 use Rattle.vast.specs.Statements as written
 use Rattle.vbits.specs.Vectors.{Vector, with_sign}
-use Rattle.vast.specs.Modules.{RangeTree, ParameterType, integer, typed, HeadParameter, DeclarationKind, variables, integers, SettingTree, DeclaredTree, ItemTree, parameters, declaration, events, assignments, initial, always, instances, ModuleTree, SourceTree}
+use Rattle.vmodules.specs.Ports.{Port, ports_of}
+use Rattle.vmodules.specs.Connected.{value_for}
+use Rattle.vmodules.specs.Names.{is_declared}
+use Rattle.vast.specs.Modules.{ConnectionTree, RangeTree, ParameterType, integer, typed, HeadParameter, DeclarationKind, variables, integers, SettingTree, DeclaredTree, ItemTree, parameters, declaration, events, assignments, initial, always, instances, ModuleTree, SourceTree}
 use Rattle.vast.specs.declared.module.NetKind.{NetKind}
 use Rattle.vast.specs.declared.module.NetKind.TheVariants as net
 use Rattle.vdesign.specs.Design as design
 use Rattle.vdesign.specs.declared.action.Action.{Action}
-use Rattle.vdesign.specs.declared.action.Action.TheVariants.{Assign, Nonblocking, Held, Posted, Trigger, Test, Case, Again, Repeat, Forever, Delay, On, Until, Drive, Print, Dump, Pass, Finish, Stop}
+use Rattle.vdesign.specs.declared.action.Action.TheVariants.{Assign, Nonblocking, Held, Posted, Trigger, Test, Case, Again, Repeat, Forever, Delay, On, Until, Drive, Print, DumpVars, Dump, Pass, Finish, Stop}
 use Rattle.vdesign.specs.declared.action.Branch.{Branch}
-use Rattle.vdesign.specs.declared.dump.DumpCommand.TheVariants as commands
+use Rattle.vdesign.specs.declared.dump.DumpSwitch.TheVariants as switches
 use Rattle.vast.specs.declared.statement.Dumping.{Dumping}
 use Rattle.vast.specs.declared.statement.Dumping.TheVariants as dumps
-use Rattle.velab.specs.Runs.{is_whole}
+use Rattle.velab.specs.Selections.{selected, broken_selection}
 use Rattle.vdesign.specs.declared.action.Target.{Target}
 use Rattle.basis.specs.declared.timescale.Timescale.{Timescale}
 use Rattle.vdesign.specs.declared.design.Kind.{Kind}
@@ -33,9 +36,9 @@ use Rattle.vvalue.specs.declared.flaw.Flaw.{Flaw}
 use Rattle.velab.specs.declared.fault.Rule.{Rule}
 use Rattle.velab.specs.declared.fault.Rule.TheVariants as rule
 use Rattle.velab.specs.declared.scope.Meaning.{Meaning}
-use Rattle.velab.specs.declared.scope.Meaning.TheVariants.{Parameter, Event}
+use Rattle.velab.specs.declared.scope.Meaning.TheVariants.{Parameter, Event, Instance}
 use Rattle.velab.specs.Rules.{unless, broken_if, flaw_rule, rules_in}
-use Rattle.velab.specs.Scopes.{Scope, at, is_declared, number_of, event_of, broken_name, broken_variable, broken_event}
+use Rattle.velab.specs.Scopes.{Scope, at, number_of, event_of, broken_name, broken_variable, broken_event}
 use Rattle.velab.specs.Constants.{nothing, worth, bound_in}
 use Rattle.velab.specs.Resolved.{resolved, broken_expression, broken_constant}
 use Rattle.velab.specs.Written.{row_of, broken_target}
@@ -43,29 +46,6 @@ use Rattle.velab.specs.Prints.{when_of, pieces_in, broken_line}
 use Rattle.velab.specs.Right.{writes_rightly}
 use Rattle.velab.specs.ActionFlaws.{blank_moment, table_flaw}
 use Rattle.velab.specs.Waits.{any_of, names_in, terms_of, broken_control}
-
--- ---- names (3.7, 12.7)
-
--- whether a name stands twice in the list
-abbrev pub has_double : List Text → Bool
-has_double [] = false
-has_double (x ∷ xs) = list_any (bytes_eq x) xs || has_double xs
-
-abbrev pub module_names : SourceTree → List Text
-module_names = map (λ m. m.name)
-
--- the text of a name that was given
-abbrev pub named_text : Option (Bor Text) → Option Text
-named_text = option_map (λ name. name.now)
-
-abbrev pub only_of : SourceTree → Option ModuleTree
-only_of (m ∷ []) = Some m
-only_of _ = None
-
--- the module of that name; without a name the only module (12.1.1)
-abbrev pub top_of : SourceTree → Option Text → Option ModuleTree
-top_of modules None = only_of modules
-top_of modules (Some top) = find (λ m. bytes_eq m.name top) modules
 
 -- ---- variables (4.2, 4.3.1, 4.8)
 
@@ -104,8 +84,16 @@ declarations_of (instances letters overrides list) = []
 abbrev pub declarations : ModuleTree → List Declaration
 declarations m = flat_map declarations_of m.items
 
+abbrev pub port_names : ModuleTree → List Text
+port_names m = map (λ p. p.name) (ports_of m)
+
+-- those of its ports, and then of what its items declare
 abbrev pub declared_names : ModuleTree → List Text
-declared_names m = map (λ d. d.name) (declarations m)
+declared_names m = port_names m ++ map (λ d. d.name) (declarations m)
+
+-- 12.3.3: a port is declared where it stands
+abbrev pub port_declaration : Port → Declaration
+port_declaration p = declared (kind_of p.net) p.type.signed p.type.range p.name
 
 -- rising or falling
 abbrev pub span : Bounds → ℕ
@@ -142,6 +130,10 @@ broken_declaration scope (initial statement) = None
 broken_declaration scope (always statement) = None
 broken_declaration scope (instances letters overrides list) = None
 
+abbrev pub broken_ports : Scope → List Port → Option Rule
+broken_ports scope [] = None
+broken_ports scope (p ∷ more) = option_or (broken_range scope p.type.range) (broken_ports scope more)
+
 -- without a range a `reg` or a `wire` has 1 bit, an `integer` 32
 abbrev pub length_of : Kind → Option Bounds → ℕ
 length_of kind (Some bounds) = span bounds
@@ -149,7 +141,7 @@ length_of Reg None = 1
 length_of Integer None = 32
 length_of Wire None = 1
 
--- where variables stand: the name of their module, and the names of the nets in it that something drives
+-- where variables stand: the path of their instance or the top's name, and the names of the nets in it that something drives
 pub record Home : Type 0 where
   pub name : Text
   pub driven : List Text
@@ -160,7 +152,7 @@ start_by home Reg text = X
 start_by home Integer text = X
 start_by home Wire text = cond (is_declared home.driven text) X Z
 
--- its name stands behind its module's and a dot
+-- its name stands behind its instance's and a dot
 abbrev pub variable_by : Home → Kind → Bool → Option Bounds → Text → design.Variable
 variable_by home kind signed bounds text = record {
   name = home.name ++ 46 ∷ text;
@@ -193,18 +185,18 @@ drivers_by (initial statement) = []
 drivers_by (always statement) = []
 drivers_by (instances letters overrides list) = []
 
-abbrev pub driven_names : ModuleTree → List Text
-driven_names m = flat_map drivers_by m.items
+-- ---- parameters (4.10, 12.2), named events (9.7.3) and instances (12.1.2)
 
-abbrev pub home_of : ModuleTree → Home
-home_of m = record { name = m.name; driven = driven_names m }
-
--- ---- parameters (4.10, 12.2) and named events (9.7.3)
-
--- a parameter as it is written, with its type where one is, or a named event
+-- a parameter as it is written, with its type where one is; a named event; an instance
 pub data Given : Type 0 where
   given : Option ParameterType → SettingTree → Given
   event_given : Text → Given
+  instance_given : Text → Given
+
+-- what is said of the parameters of an instance from outside, by their names, and what names mean there (12.2.2)
+pub record Outside : Type 0 where
+  pub scope : Scope
+  pub values : List ConnectionTree
 
 -- in the head of a module one without a type has that of the one before it
 abbrev pub given_behind : Option ParameterType → List HeadParameter → List Given
@@ -222,7 +214,7 @@ given_by (events names) = map event_given names
 given_by (assignments settings) = []
 given_by (initial statement) = []
 given_by (always statement) = []
-given_by (instances letters overrides list) = []
+given_by (instances letters overrides list) = map (λ one. instance_given one.name) list
 
 -- 4.10.1: without a range it has the size of its value, and the value's sign unless it is declared to be signed
 abbrev pub typed_value : Bool → Option Bounds → ExpressionTree → Vector
@@ -245,63 +237,105 @@ broken_type scope None = None
 broken_type scope (Some integer) = None
 broken_type scope (Some (typed type)) = broken_range scope type.range
 
-abbrev pub parameter_of : Scope → Option ParameterType → SettingTree → Meaning
-parameter_of scope type setting =
-    let bounds = parameter_bounds scope type in
-    Parameter (parameter_by type bounds (resolved scope setting.value)) bounds scope.known
+abbrev pub parameter_of : Scope → Option ParameterType → ExpressionTree → Meaning
+parameter_of scope type value =
+    let bounds = parameter_bounds scope type in Parameter (parameter_by type bounds value) bounds scope.known
 
--- an event goes by its place among the others
-abbrev pub meaning_in : Scope → Given → Meaning
-meaning_in scope (given type setting) = parameter_of scope type setting
-meaning_in scope (event_given name) = Event scope.known
+-- 12.2.2: a value from outside stands in the place of the one that a parameter is set to
+abbrev pub valued : Scope → Scope → text.ExpressionTree → Option text.ExpressionTree → ExpressionTree
+valued outer scope value None = resolved scope value
+valued outer scope value (Some other) = resolved outer other
+
+abbrev pub broken_valued : Scope → Scope → text.ExpressionTree → Option text.ExpressionTree → Option Rule
+broken_valued outer scope value None = broken_constant scope value
+broken_valued outer scope value (Some other) = broken_constant outer other
+
+abbrev pub value_of : Outside → Scope → SettingTree → ExpressionTree
+value_of outside scope setting = valued outside.scope scope setting.value (value_for outside.values setting.name)
+
+abbrev pub broken_value : Outside → Scope → SettingTree → Option Rule
+broken_value outside scope setting = broken_valued outside.scope scope setting.value (value_for outside.values setting.name)
+
+-- events are numbered through the whole design
+abbrev pub meaning_in : Outside → Scope → Given → Meaning
+meaning_in outside scope (given type setting) = parameter_of scope type (value_of outside scope setting)
+meaning_in outside scope (event_given name) = Event scope.events
+meaning_in outside scope (instance_given name) = Instance
 
 abbrev pub name_in : Given → Text
 name_in (given type setting) = setting.name
 name_in (event_given name) = name
+name_in (instance_given name) = name
+
+abbrev pub events_in : Given → ℕ
+events_in (given type setting) = 0
+events_in (event_given name) = 1
+events_in (instance_given name) = 0
 
 -- a parameter is known from its place on, to what stands behind it
-abbrev pub with_given : Scope → Given → Scope
-with_given scope one = record {
+abbrev pub with_given : Outside → Scope → Given → Scope
+with_given outside scope one = record {
+  top = scope.top;
   names = scope.names ++ name_in one ∷ [];
+  first = scope.first;
   variables = scope.variables;
-  others = scope.others ++ meaning_in scope one ∷ [];
+  events = scope.events + events_in one;
+  others = scope.others ++ meaning_in outside scope one ∷ [];
   known = scope.known + 1;
 }
 
-abbrev pub with_all : Scope → List Given → Scope
-with_all scope [] = scope
-with_all scope (one ∷ more) = with_all (with_given scope one) more
+abbrev pub with_all : Outside → Scope → List Given → Scope
+with_all outside scope [] = scope
+with_all outside scope (one ∷ more) = with_all outside (with_given outside scope one) more
 
--- the range of a parameter is right, and its value constant
-abbrev pub broken_setting : Scope → Given → Option Rule
-broken_setting scope (given type setting) = option_or (broken_type scope type) (broken_constant scope setting.value)
-broken_setting scope (event_given name) = None
+-- the range of a parameter is right, and its value constant where it stands; a design has fewer than 2^32 named events (own)
+abbrev pub broken_setting : Outside → Scope → Given → Option Rule
+broken_setting outside scope (given type setting) = option_or (broken_type scope type) (broken_value outside scope setting)
+broken_setting outside scope (event_given name) = unless (nat_lt scope.events 4294967295) rule.TooMany
+broken_setting outside scope (instance_given name) = None
 
 -- and its name is new
-abbrev pub broken_given : Scope → Given → Option Rule
-broken_given scope one = option_or (broken_setting scope one) (broken_if (is_declared scope.names (name_in one)) rule.Doubled)
+abbrev pub broken_given : Outside → Scope → Given → Option Rule
+broken_given outside scope one =
+    option_or (broken_setting outside scope one) (broken_if (is_declared scope.names (name_in one)) rule.Doubled)
 
-abbrev pub broken_all : Scope → List Given → Option Rule
-broken_all scope [] = None
-broken_all scope (one ∷ more) = option_or (broken_given scope one) (broken_all (with_given scope one) more)
+abbrev pub broken_all : Outside → Scope → List Given → Option Rule
+broken_all outside scope [] = None
+broken_all outside scope (one ∷ more) = option_or (broken_given outside scope one) (broken_all outside (with_given outside scope one) more)
 
--- what is known behind an item: its parameters and events too
+-- what is known behind an item: what it gives too
 abbrev pub behind_item : Scope → ItemTree → Scope
 behind_item scope item = at scope (scope.known + length (given_by item))
 
+-- what an instance is told: the top's name, the numbers of its first variable and of its first named event, and what is said from
+-- outside
+pub record Base : Type 0 where
+  pub top : Text
+  pub first : ℕ
+  pub events : ℕ
+  pub outside : Outside
+
 -- the names of variables, and no others
-abbrev pub first_scope : ModuleTree → Scope
-first_scope m = record { names = declared_names m; variables = length (declared_names m); others = []; known = 0 }
+abbrev pub first_scope : Base → ModuleTree → Scope
+first_scope base m = record {
+  top = base.top;
+  names = declared_names m;
+  first = base.first;
+  variables = length (declared_names m);
+  events = base.events;
+  others = [];
+  known = 0;
+}
 
-abbrev pub head_scope : ModuleTree → Scope
-head_scope m = with_all (first_scope m) (given_in_head m.parameters)
+abbrev pub head_scope : Base → ModuleTree → Scope
+head_scope base m = with_all base.outside (first_scope base m) (given_in_head m.parameters)
 
-abbrev pub whole_scope : ModuleTree → Scope
-whole_scope m = with_all (head_scope m) (flat_map given_by m.items)
+abbrev pub whole_scope : Base → ModuleTree → Scope
+whole_scope base m = with_all base.outside (head_scope base m) (flat_map given_by m.items)
 
 -- what is known at the first item: all names, but as constants only the parameters of the head
-abbrev pub item_scope : ModuleTree → Scope
-item_scope m = at (whole_scope m) (head_scope m).known
+abbrev pub item_scope : Base → ModuleTree → Scope
+item_scope base m = at (whole_scope base m) (head_scope base m).known
 
 -- ---- the variables of items, each in the scope of its place
 
@@ -309,6 +343,11 @@ abbrev pub variables_from : Home → Scope → List ItemTree → List design.Var
 variables_from home scope [] = []
 variables_from home scope (item ∷ more) =
     map (variable_of home scope) (declarations_of item) ++ variables_from home (behind_item scope item) more
+
+-- the ports first
+abbrev pub variables_in : Home → Scope → ModuleTree → List design.Variable
+variables_in home scope m =
+    map (variable_of home scope) (map port_declaration (ports_of m)) ++ variables_from home scope m.items
 
 abbrev pub broken_from : Scope → List ItemTree → Option Rule
 broken_from scope [] = None
@@ -344,15 +383,11 @@ abbrev pub laid_assignment : Bool → Scope → List Action → TargetTree → O
 laid_assignment blocking scope table target amount value =
     placed table (assigning blocking (option_map (amount_of scope) amount) (row_of scope target) (resolved scope value))
 
-abbrev pub laid_dump : List Action → Option SelectionTree → Laid
-laid_dump table None = placed table (Dump commands.Vars)
-laid_dump table (Some selection) = cond (is_whole selection) (placed table (Dump commands.Vars)) (nothing_laid table)
-
 -- 18.1.3, 18.1.4, 18.1.6: `$dumpflush` does nothing more
 abbrev pub dumping_by : Dumping → Action
-dumping_by dumps.On = Dump commands.On
-dumping_by dumps.Off = Dump commands.Off
-dumping_by dumps.All = Dump commands.All
+dumping_by dumps.On = Dump switches.On
+dumping_by dumps.Off = Dump switches.Off
+dumping_by dumps.All = Dump switches.All
 dumping_by dumps.Flush = Pass
 
 -- 17.4
@@ -362,7 +397,7 @@ ending stops = cond stops Stop Finish
 abbrev pub laid_task : Scope → List Action → TaskTree → Laid
 laid_task scope table (print kind arguments) = placed table (Print (when_of kind) (pieces_in scope arguments))  -- 17.1
 laid_task scope table (dump_file letters) = placed table Pass  -- 18.1.1
-laid_task scope table (dump_vars selection) = laid_dump table selection
+laid_task scope table (dump_vars selection) = placed table (DumpVars (selected scope selection))  -- 18.1.2
 laid_task scope table (dump kind) = placed table (dumping_by kind)
 laid_task scope table (end_run stops digits) = placed table (ending stops)
 
@@ -483,7 +518,7 @@ broken_assignment scope target amount value =
 abbrev pub broken_task : Scope → TaskTree → Option Rule
 broken_task scope (print kind arguments) = broken_line scope arguments
 broken_task scope (dump_file letters) = None
-broken_task scope (dump_vars selection) = None
+broken_task scope (dump_vars selection) = broken_selection selection
 broken_task scope (dump kind) = None
 broken_task scope (end_run stops digits) = None
 
@@ -582,76 +617,66 @@ broken_items_from scope [] = None
 broken_items_from scope (item ∷ more) =
     option_or (broken_processes scope (process_trees_by item)) (broken_items_from (behind_item scope item) more)
 
--- ---- the design (12.1)
+-- ---- port connections (12.3.9.2)
 
-abbrev pub scope_by : Text → ℕ → design.Scope
-scope_by top count = record { name = top; depth = 0; variables = count }
+-- an input is driven by what stands outside
+abbrev pub driven_in : Scope → Scope → Text → text.ExpressionTree → Action
+driven_in outer inner port value = Drive (number_of inner port) (resolved outer value) (any_of outer (names_in value))
 
-abbrev pub variables_in : ModuleTree → List design.Variable
-variables_in m = variables_from (home_of m) (item_scope m) m.items
+-- the name that an expression is, alone
+abbrev pub only_name : text.ExpressionTree → Option Text
+only_name (text.number digits) = None
+only_name (text.name letters) = Some letters
+only_name text.time = None
+only_name (text.bit letters index) = None
+only_name (text.part letters left right) = None
+only_name (text.parentheses inner) = None
+only_name (text.concatenation parts) = None
+only_name (text.replication count parts) = None
+only_name (text.conversion signed inner) = None
+only_name (text.apply operator inner) = None
+only_name (text.combine operator left right) = None
+only_name (text.conditional condition when_true when_false) = None
 
-abbrev pub processes_in : ModuleTree → Processes
-processes_in m = laid_items (item_scope m) [] m.items
+-- an output drives a whole net outside
+abbrev pub driven_out : Scope → Scope → Text → Option Text → Action
+driven_out outer inner port None = Pass
+driven_out outer inner port (Some net) =
+    Drive (number_of outer net) (resolved inner (text.name port)) (any_of inner (port ∷ []))
 
--- under the timescale of the text (19.8)
-abbrev pub design_of : Timescale → ModuleTree → design.Design
-design_of scale m = record {
-  top = m.name;
-  scale = scale;
-  variables = variables_in m;
-  scopes = scope_by m.name (length (declared_names m)) ∷ [];
-  actions = (processes_in m).table;
-  processes = (processes_in m).begins;
-}
+abbrev pub joining : Scope → Scope → Port → text.ExpressionTree → Action
+joining outer inner p value = cond p.output (driven_out outer inner p.name (only_name value)) (driven_in outer inner p.name value)
 
--- whether each action of its processes writes what it may
-abbrev pub has_right_kinds : ModuleTree → Bool
-has_right_kinds m = list_all (writes_rightly (variables_in m)) (processes_in m).table
+-- a process of one action
+abbrev pub one_process : List Action → Action → Processes
+one_process table action = record { table = table ++ action ∷ []; begins = (length table ∷ []) ∷ [] }
 
--- what is wrong with an expression of its actions, where something is
-abbrev pub module_flaw : ModuleTree → Option Flaw
-module_flaw m = table_flaw (blank_moment (variables_in m)) (processes_in m).table
+-- a port that nothing is connected to makes no process
+abbrev pub laid_join : Scope → Scope → List Action → Port → Option text.ExpressionTree → Processes
+laid_join outer inner table p None = record { table = table; begins = [] }
+laid_join outer inner table p (Some value) = one_process table (joining outer inner p value)
 
--- what the names of a module break: those of variables, and the parameters of its head and of its body
-abbrev pub name_rules : ModuleTree → List (Option Rule)
-name_rules m =
-    broken_if (has_double (declared_names m)) rule.Doubled
-    ∷ unless (nat_le (length (declared_names m)) 1024) rule.TooMany
-    ∷ broken_all (first_scope m) (given_in_head m.parameters)
-    ∷ broken_all (head_scope m) (flat_map given_by m.items)
-    ∷ []
+abbrev pub laid_joins : Scope → Scope → List ConnectionTree → List Action → List Port → Processes
+laid_joins outer inner ties table [] = record { table = table; begins = [] }
+laid_joins outer inner ties table (p ∷ more) =
+    let front = laid_join outer inner table p (value_for ties p.name) in
+    let behind = laid_joins outer inner ties front.table more in
+    record { table = behind.table; begins = front.begins ++ behind.begins }
 
--- what its items break: the ranges of variables, and processes
-abbrev pub item_rules : ModuleTree → List (Option Rule)
-item_rules m =
-    broken_from (item_scope m) m.items
-    ∷ broken_items_from (item_scope m) m.items
-    ∷ unless (nat_le (length (processes_in m).begins) 256) rule.TooMany
-    ∷ []
+-- a port is a variable of its instance, and what an output is connected to is a name alone
+abbrev pub broken_input : Scope → Scope → Text → text.ExpressionTree → Option Rule
+broken_input outer inner port value = option_or (broken_variable inner port) (broken_expression outer value)
 
--- what its design breaks: drivers of nets, what is written, and sizes
-abbrev pub design_rules : ModuleTree → List (Option Rule)
-design_rules m =
-    broken_if (has_double (driven_names m)) rule.Drivers
-    ∷ unless (has_right_kinds m) rule.Kind
-    ∷ flaw_rule (module_flaw m)
-    ∷ []
+abbrev pub broken_output : Scope → Scope → Text → Option Text → Option Rule
+broken_output outer inner port None = Some rule.Ports
+broken_output outer inner port (Some net) = option_or (broken_variable outer net) (broken_expression inner (text.name port))
 
--- the rules that a module breaks
-abbrev pub broken_rules_of : ModuleTree → List Rule
-broken_rules_of m = rules_in (name_rules m) ++ (rules_in (item_rules m) ++ rules_in (design_rules m))
+abbrev pub broken_join : Scope → Scope → Port → Option text.ExpressionTree → Option Rule
+broken_join outer inner p None = None
+broken_join outer inner p (Some value) =
+    cond p.output (broken_output outer inner p.name (only_name value)) (broken_input outer inner p.name value)
 
-abbrev pub broken_top : Option ModuleTree → List Rule
-broken_top None = rule.Top ∷ []
-broken_top (Some m) = broken_rules_of m
-
--- the rules that a text breaks
-abbrev pub broken_rules : SourceTree → Option Text → List Rule
-broken_rules tree top = rules_in (broken_if (has_double (module_names tree)) rule.Doubled ∷ []) ++ broken_top (top_of tree top)
-
--- No rule is broken, so that the text has a top, and the design is the one that it describes.
-pub record Elaborates (tree : SourceTree) (top : Option Text) (scale : Timescale) (design : design.Design) : Type 0 where
-  pub right : broken_rules tree top ≡ []
-  pub unit : ModuleTree
-  pub is_top : top_of tree top ≡ Some unit
-  pub describes : design ≡ design_of scale unit
+abbrev pub broken_joins : Scope → Scope → List ConnectionTree → List Port → Option Rule
+broken_joins outer inner ties [] = None
+broken_joins outer inner ties (p ∷ more) =
+    option_or (broken_join outer inner p (value_for ties p.name)) (broken_joins outer inner ties more)

@@ -8,15 +8,22 @@ use Rattle.vdesign.specs.Design as design
 use Rattle.vlex.specs.Bytes.{is_underscore}
 use Rattle.vast.specs.Words.{Text}
 use Rattle.vast.specs.TokenTexts.{token_text}
-use Rattle.vast.specs.StatementTrees.{statement_tree, statement_trees, branch_tree, branch_trees}
-use Rattle.vast.specs.Modules.{ParameterType, ItemTree, declaration, variables, integers, ModuleTree}
-use Rattle.vast.specs.ModuleTrees.{module_tree, range_tree, parameter_type, head_parameter, type_tree, declaration_kind, declared_tree, setting_tree, item_tree}
+use Rattle.vast.specs.declared.statement.Path.{Path}
+use Rattle.vdesign.specs.declared.dump.Chosen.{Chosen}
+use Rattle.velab.specs.Selections.{chosen, dotted}
+use Rattle.vast.specs.StatementTrees.{path_tree, statement_tree, statement_trees, branch_tree, branch_trees}
+use Rattle.vast.specs.Modules.{ParameterType, ItemTree, declaration, variables, integers}
+use Rattle.vmodules.specs.Names.{has_double}
+use Rattle.vmodules.specs.Connected.{value_for}
+use Rattle.vmodules.specs.Inner.{Tie, ties_tree, port_form}
+use Rattle.vmodules.specs.declared.ports.PortForm.{PortForm}
+use Rattle.vast.specs.declared.module.Instance.{Instance}
+use Rattle.vast.specs.ModuleTrees.{instance_tree, range_tree, parameter_type, head_parameter, type_tree, declaration_kind, declared_tree, setting_tree, item_tree}
 use Rattle.vast.specs.declared.module.DeclarationKind.{DeclarationKind as DeclarationWords}
 use Rattle.vast.specs.declared.module.NetKind.{NetKind}
 use Rattle.vast.specs.declared.module.SignAndRange.{SignAndRange}
 use Rattle.vast.specs.declared.statement.Statement.{Statement}
 use Rattle.vast.specs.declared.statement.Branch.{Branch as WrittenBranch}
-use Rattle.vast.specs.declared.module.ModuleTree.{ModuleTree as Parsed}
 use Rattle.vast.specs.declared.module.ModuleItem.{ModuleItem}
 use Rattle.vast.specs.declared.module.Declared.{Declared}
 use Rattle.vast.specs.declared.module.Setting.{Setting}
@@ -33,7 +40,7 @@ use Rattle.velab.specs.Literals.{digit_letters}
 use Rattle.velab.specs.declared.variable.Form.{Form}
 use Rattle.format_text.specs.Pieces.{Argument, Printed, pieces_with}
 use Rattle.vdesign.specs.declared.action.Action.{Action}
-use Rattle.velab.specs.Elaborate.{Laid, Processes, has_double, declarations_of, laid, all_laid, laid_processes, laid_items, bounds_of, span, variable_by, variable_of, LaidBranches, laid_branch, laid_branches, process_trees_by, ProcessTree, process_of, driven_by, broken_processes, Home, driver_of, drivers_by, Given, given, event_given, given_by, given_in_head}
+use Rattle.velab.specs.Elaborate.{Laid, Processes, Outside, instance_given, port_declaration, laid_join, laid_joins, broken_join, broken_joins, declarations_of, laid, all_laid, laid_processes, laid_items, bounds_of, span, variable_by, variable_of, LaidBranches, laid_branch, laid_branches, process_trees_by, ProcessTree, process_of, driven_by, broken_processes, Home, driver_of, drivers_by, Given, given, event_given, given_by, given_in_head}
 use Rattle.vdesign.specs.declared.action.Branch.{Branch}
 
 -- ---- parts of a module
@@ -60,10 +67,6 @@ pub record AreBranches (what : LaidBranches) (before : List Branch) (default_bef
 pub record AreLaid (what : Processes) (before : List (List ℕ)) (table_after : List Action) (begins_after : List (List ℕ)) : Type 0 where
   pub table : table_after ≡ what.table
   pub begins : begins_after ≡ before ++ what.begins
-
--- the tree of a module that was found
-abbrev pub unit_tree : List Text → Option (Bor Parsed) → Option ModuleTree
-unit_tree words = option_map (λ unit. module_tree words unit.now)
 
 -- ---- numbers
 
@@ -106,6 +109,17 @@ given_of words kind setting = given (type_of words kind) (setting_tree words set
 abbrev pub given_all : List Text → ParameterWords → List Setting → List Given
 given_all words kind list = map (given (Some (parameter_type words kind))) (map (setting_tree words) list)
 
+-- what is said from outside, told of the program's values
+pub record FromOutside : Type 0 where
+  pub scope : Scope
+  pub values : List Tie
+
+abbrev pub outside_tree : List Text → FromOutside → Outside
+outside_tree words outside = record { scope = outside.scope; values = ties_tree words outside.values }
+
+abbrev pub instances_given : List Text → List Instance → List Given
+instances_given words list = map (λ one. instance_given one.name) (map (instance_tree words) list)
+
 abbrev pub events_given : List Text → List Token → List Given
 events_given words names = map event_given (map (token_text words) names)
 
@@ -118,6 +132,13 @@ given_at_head {X = X} words list = given_in_head (option_map (λ (heads : Vec He
 -- the names that are declared together, in the words of a text
 abbrev pub texts_of : List Text → List Declared → List Text
 texts_of words list = map (λ one. token_text words one.name) list
+
+-- the names of ports, and those behind them that items declare
+abbrev pub port_texts : List Text → List PortForm → List Text
+port_texts words ports = map (λ p. p.name) (map (port_form words) ports)
+
+abbrev pub names_before : List Text → List PortForm → List ModuleItem → List Text
+names_before words ports items = port_texts words ports ++ names_in (map (item_tree words) items)
 
 -- a statement laid on a table, statements, and the statement of an item
 abbrev pub laid_of : List Text → Scope → List Action → Statement → Laid
@@ -143,8 +164,31 @@ abbrev pub drives_in : List Text → List Setting → List ProcessTree
 drives_in words list = map driven_by (map (setting_tree words) list)
 
 -- the processes of items
-abbrev pub processes_of : List Text → Scope → List ModuleItem → Processes
-processes_of words scope items = laid_items scope [] (map (item_tree words) items)
+abbrev pub processes_of : List Text → Scope → List Action → List ModuleItem → Processes
+processes_of words scope table items = laid_items scope table (map (item_tree words) items)
+
+-- the scopes of paths, each with so many levels
+abbrev pub all_chosen : List Text → ℕ → List Path → List Chosen
+all_chosen words levels paths = map (λ names. chosen levels (dotted names)) (map (path_tree words) paths)
+
+-- a name that was found
+abbrev pub name_of : List Text → Option Token → Option Text
+name_of words = option_map (token_text words)
+
+-- those of port connections
+abbrev pub joins_of : List Text → Scope → Scope → List Tie → List Action → List PortForm → Processes
+joins_of words outer inner ties table ports = laid_joins outer inner (ties_tree words ties) table (map (port_form words) ports)
+
+abbrev pub join_of : List Text → Scope → Scope → List Tie → List Action → PortForm → Processes
+join_of words outer inner ties table port =
+    laid_join outer inner table (port_form words port) (value_for (ties_tree words ties) (port_form words port).name)
+
+abbrev pub broken_joins_of : List Text → Scope → Scope → List Tie → List PortForm → Option Rule
+broken_joins_of words outer inner ties ports = broken_joins outer inner (ties_tree words ties) (map (port_form words) ports)
+
+abbrev pub broken_join_of : List Text → Scope → Scope → List Tie → PortForm → Option Rule
+broken_join_of words outer inner ties port =
+    broken_join outer inner (port_form words port) (value_for (ties_tree words ties) (port_form words port).name)
 
 -- where there was no fault, these were laid
 abbrev pub HasLaid : {A B T E : Type 0} → Result T E → Laid → Vec ℕ A → List Action → Vec ℕ B → Type 0
@@ -177,6 +221,10 @@ net_item words net type list = declaration (variables net (type_tree words type)
 
 abbrev pub integers_item : List Text → List Declared → ItemTree
 integers_item words list = declaration integers (map (declared_tree words) list)
+
+-- the variables of ports
+abbrev pub port_variables : List Text → Home → Scope → List PortForm → List design.Variable
+port_variables words home scope ports = map (variable_of home scope) (map port_declaration (map (port_form words) ports))
 
 abbrev pub variables_for : List Text → Home → Scope → ModuleItem → List design.Variable
 variables_for words home scope item = map (variable_of home scope) (declarations_of (item_tree words item))

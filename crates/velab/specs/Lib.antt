@@ -9,9 +9,6 @@ pub mod Waits
 pub mod Right
 pub mod ActionFlaws
 pub mod Elaborate
-pub mod Reasons
-pub mod Laws
 pub mod Inner
 pub mod InnerParts
-pub mod Runs
-pub mod FirstNotRun
+pub mod Selections

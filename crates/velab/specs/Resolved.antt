@@ -4,9 +4,9 @@ use Rattle.std.specs.Option.{option_or}
 use Rattle.vbits.specs.declared.bit4.Bit4.TheVariants.{X}
 use Rattle.vbits.specs.Vectors.{Vector, filled}
 use Rattle.vast.specs.Expressions as text
-use Rattle.vdesign.specs.Expressions.{ExpressionTree, constant, variable, bit, part, time, conversion, apply, combine, conditional, joined, repeated}
+use Rattle.vdesign.specs.Expressions.{ExpressionTree, constant, variable, bit, bit_of, part, time, conversion, apply, combine, conditional, joined, repeated}
 use Rattle.vdesign.specs.declared.expression.Bounds.{Bounds}
-use Rattle.vvalue.specs.Value.{bit_of, part_of, part_size}
+use Rattle.vvalue.specs.Value.{part_of, part_size}
 use Rattle.vvalue.specs.Flaws.{is_part}
 use Rattle.velab.specs.Literals.{constant_of}
 use Rattle.velab.specs.Rules.{unless}
@@ -15,13 +15,13 @@ use Rattle.velab.specs.Constants.{worth, also_flawed, part_bounds, count_in}
 use Rattle.velab.specs.declared.fault.Rule.{Rule}
 use Rattle.velab.specs.declared.fault.Rule.TheVariants.{Width, Constant}
 use Rattle.velab.specs.declared.scope.Meaning.{Meaning}
-use Rattle.velab.specs.declared.scope.Meaning.TheVariants.{Variable, Parameter, Event}
+use Rattle.velab.specs.declared.scope.Meaning.TheVariants.{Variable, Parameter, Event, Instance}
 
 -- a value as it is: it isn't extended by its leftmost letter
 abbrev pub plain : Vector → ExpressionTree
 plain value = constant (record { value = value; spreads = false })
 
--- a concatenation of nothing, a name that isn't declared, or that of an event: no text of a design has one
+-- a concatenation of nothing, a name that isn't declared, or that of an event or an instance: no text of a design has one
 abbrev pub no_parts : ExpressionTree
 no_parts = plain (filled 1 X)
 
@@ -36,13 +36,15 @@ resolved_name None = no_parts
 resolved_name (Some (Variable number)) = variable number
 resolved_name (Some (Parameter value bounds before)) = plain value
 resolved_name (Some (Event number)) = no_parts
+resolved_name (Some Instance) = no_parts
 
 -- name [ index ]
 abbrev pub resolved_bit : Option Meaning → ExpressionTree → ExpressionTree
 resolved_bit None index = no_parts
 resolved_bit (Some (Variable number)) index = bit number index
-resolved_bit (Some (Parameter value bounds before)) index = plain (bit_of value (bounds_for value bounds) (worth index))
+resolved_bit (Some (Parameter value bounds before)) index = bit_of value (bounds_for value bounds) index
 resolved_bit (Some (Event number)) index = no_parts
+resolved_bit (Some Instance) index = no_parts
 
 -- name [ left : right ]
 abbrev pub resolved_part : Option Meaning → Bounds → ExpressionTree
@@ -50,6 +52,7 @@ resolved_part None selected = no_parts
 resolved_part (Some (Variable number)) selected = part number selected
 resolved_part (Some (Parameter value bounds before)) selected = plain (part_of value (bounds_for value bounds) selected (part_size selected))
 resolved_part (Some (Event number)) selected = no_parts
+resolved_part (Some Instance) selected = no_parts
 
 -- a variable goes by its number; parentheses have done their work
 abbrev mutual
@@ -74,19 +77,13 @@ abbrev mutual
   resolved_parts scope text.none = no_parts
   resolved_parts scope (text.first one more) = in_front (resolved scope one) more (resolved_parts scope more)
 
--- the index of a variable's bit is any expression; today that of a parameter's is constant
-abbrev pub index_rule : Option Meaning → Option Rule → Option Rule → Option Rule
-index_rule None of_variable of_parameter = None
-index_rule (Some (Variable number)) of_variable of_parameter = of_variable
-index_rule (Some (Parameter value bounds before)) of_variable of_parameter = of_parameter
-index_rule (Some (Event number)) of_variable of_parameter = None
-
 -- the part of a variable is looked at in the finished design
 abbrev pub part_rule : Option Meaning → Bounds → Option Rule
 part_rule None selected = None
 part_rule (Some (Variable number)) selected = None
 part_rule (Some (Parameter value bounds before)) selected = unless (is_part (bounds_for value bounds) selected) Width
 part_rule (Some (Event number)) selected = None
+part_rule (Some Instance) selected = None
 
 -- The first rule that a name in an expression breaks, or a constant in it. An expression may itself have to be constant.
 abbrev mutual
@@ -94,9 +91,7 @@ abbrev mutual
   broken fixed scope (text.number digits) = None
   broken fixed scope (text.name letters) = broken_name fixed scope letters
   broken fixed scope text.time = unless (not fixed) Constant
-  broken fixed scope (text.bit letters index) =
-      option_or (broken_name fixed scope letters)
-      (index_rule (meaning_of scope letters) (broken fixed scope index) (also_flawed (broken true scope index) (resolved scope index)))
+  broken fixed scope (text.bit letters index) = option_or (broken_name fixed scope letters) (broken fixed scope index)
   broken fixed scope (text.part letters left right) =
       option_or (broken_name fixed scope letters)
       (option_or (also_flawed (broken true scope left) (resolved scope left))

@@ -7,7 +7,7 @@ use Rattle.vdesign.specs.declared.design.Kind.TheVariants.{Reg, Integer, Wire}
 use Rattle.vdesign.specs.declared.action.Target.{Target}
 use Rattle.vdesign.specs.declared.action.Target.TheVariants.{Whole, Bit, Part}
 use Rattle.vdesign.specs.declared.action.Action.{Action}
-use Rattle.vdesign.specs.declared.action.Action.TheVariants.{Assign, Nonblocking, Held, Posted, Trigger, Test, Case, Again, Repeat, Forever, Delay, On, Until, Drive, Print, Dump, Pass, Finish, Stop}
+use Rattle.vdesign.specs.declared.action.Action.TheVariants.{Assign, Nonblocking, Held, Posted, Trigger, Test, Case, Again, Repeat, Forever, Delay, On, Until, Drive, Print, DumpVars, Dump, Pass, Finish, Stop}
 
 -- 4.2.1
 abbrev pub is_net : Kind → Bool
@@ -46,7 +46,8 @@ writes_rightly variables (On terms body) = true
 writes_rightly variables (Until condition terms body) = true
 writes_rightly variables (Drive net value terms) = is_some_net (slice_get variables net)
 writes_rightly variables (Print when pieces) = true
-writes_rightly variables (Dump command) = true
+writes_rightly variables (DumpVars selection) = true
+writes_rightly variables (Dump switch) = true
 writes_rightly variables Pass = true
 writes_rightly variables Finish = true
 writes_rightly variables Stop = true

@@ -15,7 +15,7 @@ use Rattle.vdesign.specs.declared.action.Term.TheVariants.{Change, Event as Trig
 use Rattle.velab.specs.declared.fault.Rule.{Rule}
 use Rattle.velab.specs.declared.fault.Rule.TheVariants.{Unknown, Kind}
 use Rattle.velab.specs.declared.scope.Meaning.{Meaning}
-use Rattle.velab.specs.declared.scope.Meaning.TheVariants.{Variable, Parameter, Event}
+use Rattle.velab.specs.declared.scope.Meaning.TheVariants.{Variable, Parameter, Event, Instance}
 use Rattle.velab.specs.Scopes.{Scope, meaning_of}
 
 -- ---- terms (9.7.2)
@@ -32,6 +32,7 @@ term_for edge None = Change edge 0
 term_for edge (Some (Variable number)) = Change edge number
 term_for edge (Some (Parameter value bounds before)) = Change edge 0
 term_for edge (Some (Event number)) = Triggered number
+term_for edge (Some Instance) = Change edge 0
 
 abbrev pub term_by : Scope → Edge → Text → Term
 term_by scope edge name = term_for edge (meaning_of scope name)
@@ -43,12 +44,13 @@ term_of scope term = term_by scope (edge_of term.edge) term.name
 abbrev pub further_term_of : Scope → FurtherTerm → Term
 further_term_of scope further = term_of scope further.term
 
--- any change of a variable is heard; a parameter never changes, and an event has no value
+-- any change of a variable is heard; a parameter never changes, and an event or an instance has no value
 abbrev pub heard : Option Meaning → List Term
 heard None = []
 heard (Some (Variable number)) = Change Any number ∷ []
 heard (Some (Parameter value bounds before)) = []
 heard (Some (Event number)) = []
+heard (Some Instance) = []
 
 -- any change of each of these
 abbrev pub heard_by : Scope → Text → List Term
@@ -179,6 +181,7 @@ not_heard edge None = Some Unknown
 not_heard edge (Some (Variable number)) = None
 not_heard edge (Some (Parameter value bounds before)) = Some Kind
 not_heard edge (Some (Event number)) = edge_rule edge
+not_heard edge (Some Instance) = Some Kind
 
 abbrev pub broken_by : Scope → Edge → Text → Option Rule
 broken_by scope edge name = not_heard edge (meaning_of scope name)

@@ -1,19 +1,21 @@
-// The names of a module's variables (IEEE 1364-2005, 3.7, 4.2).
+// The names of a module's variables: its ports, and what its items declare (IEEE 1364-2005, 3.7, 4.2, 12.3.3).
 ghost use Rattle.std.specs.Prelude.{◌≡◌, ◌≤◌, [], ◌++◌, ◌∷◌, false, length, map, IfOk, OnOk};
 ghost use Rattle.basis.specs.Reasons.{IfFault};
 ghost use Rattle.vast.specs.TokenTexts.{token_text};
 ghost use Rattle.vast.specs.ModuleTrees.{item_tree};
 ghost use Rattle.vexpr_parse.specs.Texts.{words_of};
-ghost use Rattle.velab.specs.Elaborate.{has_double};
-ghost use Rattle.velab.specs.Inner.{names_in, names_of, texts_of, DoublesIn};
+ghost use Rattle.vmodules.specs.Names.{has_double};
+ghost use Rattle.velab.specs.Inner.{names_in, names_of, names_before, port_texts, texts_of, DoublesIn};
 
 use crate::fault::ElabFault;
-use crate::letters::letters;
-use crate::names::Names;
+use crate::names::note;
 use basis::OrMemory;
 use std::alloc::Global;
 use vast::module::{Declared, ModuleItem};
 use vlex::Tokens;
+use vmodules::letters::letters;
+use vmodules::names::Names;
+use vmodules::ports::PortForm;
 
 // Names that are declared together.
 fn add_all<'t>(
@@ -25,7 +27,7 @@ fn add_all<'t>(
     ensures err { IfFault result (DoublesIn (into.old ++ texts_of (words_of tokens.now) list.now)) }
 {
     for one in list {
-        into.add(letters(tokens, one.name), one.name.number)?;
+        note(into, letters(tokens, one.name), one.name.number)?;
     }
     Ok(())
 }
@@ -51,20 +53,70 @@ fn add_item<'t>(
     }
 }
 
-/// The names of the variables that items declare, in the order of the text. E302 where two are alike.
+// The names of ports.
+fn add_ports<'t>(
+    tokens: &Tokens<'t>,
+    ports: &[PortForm<'_>],
+    into: &mut Names<'t>,
+) -> Result<(), OrMemory<ElabFault>>
+    ensures ok { OnOk result (into.new ≡ into.old ++ port_texts (words_of tokens.now) ports.now) }
+    ensures err { IfFault result (DoublesIn (into.old ++ port_texts (words_of tokens.now) ports.now)) }
+{
+    for port in ports {
+        note(into, letters(tokens, port.name), port.name.number)?;
+    }
+    Ok(())
+}
+
+/// The names of ports alone. E302 where two are alike.
+pub fn port_names<'t>(
+    alloc: Global,
+    tokens: &Tokens<'t>,
+    ports: &[PortForm<'_>],
+) -> Result<Names<'t>, OrMemory<ElabFault>>
+    ensures ok { IfOk result (λ names. names ≡ port_texts (words_of tokens.now) ports.now) }
+    ensures once { OnOk result (has_double (port_texts (words_of tokens.now) ports.now) ≡ false) }
+    ensures err { IfFault result (DoublesIn (port_texts (words_of tokens.now) ports.now)) }
+{
+    let mut names = Names::new(alloc);
+    add_ports(tokens, ports, &mut names)?;
+    let _count = names.len();
+    Ok(names)
+}
+
+// The names that items declare.
+fn add_items<'t>(
+    tokens: &Tokens<'t>,
+    items: &[ModuleItem],
+    into: &mut Names<'t>,
+) -> Result<(), OrMemory<ElabFault>>
+    ensures ok { OnOk result
+        (into.new ≡ into.old ++ names_in (map (item_tree (words_of tokens.now)) items.now)) }
+    ensures err { IfFault result
+        (DoublesIn (into.old ++ names_in (map (item_tree (words_of tokens.now)) items.now))) }
+{
+    for item in items {
+        add_item(tokens, item, into)?;
+    }
+    Ok(())
+}
+
+/// The names of ports, and of the variables that items declare, in the order of the text. E302 where two are alike.
 pub fn declared<'t>(
     alloc: Global,
     tokens: &Tokens<'t>,
+    ports: &[PortForm<'_>],
     items: &[ModuleItem],
 ) -> Result<Names<'t>, OrMemory<ElabFault>>
-    ensures ok { IfOk result (λ names.
-        names ≡ names_in (map (item_tree (words_of tokens.now)) items.now)) }
+    ensures ok { IfOk result (λ names. names ≡ names_before (words_of tokens.now) ports.now items.now) }
+    ensures once { OnOk result
+        (has_double (names_before (words_of tokens.now) ports.now items.now) ≡ false) }
     ensures err { IfFault result
-        (DoublesIn (names_in (map (item_tree (words_of tokens.now)) items.now))) }
+        (DoublesIn (names_before (words_of tokens.now) ports.now items.now)) }
 {
     let mut names = Names::new(alloc);
-    for item in items {
-        add_item(tokens, item, &mut names)?;
-    }
+    add_ports(tokens, ports, &mut names)?;
+    add_items(tokens, items, &mut names)?;
+    let _count = names.len();
     Ok(names)
 }

@@ -2,39 +2,22 @@
 ghost use Rattle.std.specs.Prelude.{◌≡◌, ◌++◌, ◌∷◌, [], false, map, IfOk, OnOk};
 ghost use Rattle.basis.specs.Reasons.{IfFault};
 ghost use Rattle.vast.specs.TokenTexts.{token_text};
-ghost use Rattle.vast.specs.ModuleTrees.{item_tree, module_tree, declaration_kind, declared_tree};
+ghost use Rattle.vast.specs.ModuleTrees.{item_tree, declaration_kind, declared_tree};
 ghost use Rattle.vexpr_parse.specs.Texts.{words_of};
-ghost use Rattle.velab.specs.Elaborate as spec;
-ghost use Rattle.velab.specs.Elaborate.{has_double, drivers_by, driven_names};
+ghost use Rattle.velab.specs.Elaborate.{drivers_by};
 ghost use Rattle.velab.specs.Inner.{declared_drivers, set_drivers, item_drivers, BreaksDrivers};
 
 use crate::fault::{ElabFault, Rule};
-use crate::letters::letters;
-use crate::names::Names;
+use crate::names::note;
 use basis::OrMemory;
-use std::alloc::Global;
-use std::marker::Model;
-use vast::module::{DeclarationKind, Declared, ModuleItem, ModuleTree, NetKind, Setting};
+use vast::module::{DeclarationKind, Declared, ModuleItem, NetKind, Setting};
 use vast::token::Token;
 use vlex::Tokens;
+use vmodules::letters::letters;
+use vmodules::names::Names;
 
-/// Where variables stand: the name of their module, and the nets in it that something drives.
-#[derive(Drop)]
-pub struct Home<'t> {
-    pub name: &'t [u8],
-    pub driven: Names<'t>,
-}
-
-impl<'t> Model for Home<'t> {
-    ghost use Rattle.velab.specs.Elaborate as elaborate;
-
-    ghost Value = { elaborate.Home };
-
-    ghost view = { λ home. record { name = home.name.now; driven = home.driven } };
-}
-
-// One driver more. E304 where the net has one.
-fn add_driver<'t>(
+/// One driver more. E304 where the net has one.
+pub fn add_driver<'t>(
     tokens: &Tokens<'t>,
     net: Token,
     into: &mut Names<'t>,
@@ -43,7 +26,7 @@ fn add_driver<'t>(
     ensures err { IfFault result
         (BreaksDrivers (into.old ++ token_text (words_of tokens.now) net ∷ [])) }
 {
-    match into.add(letters(tokens, net), net.number) {
+    match note(into, letters(tokens, net), net.number) {
         Ok(()) => Ok(()),
         Err(OrMemory::Memory(none)) => Err(OrMemory::Memory(none)),
         Err(OrMemory::Fault(_)) => Err(OrMemory::Fault(ElabFault {
@@ -135,36 +118,18 @@ fn add_item<'t>(
     }
 }
 
-// The nets that items drive, in the order of the text. E304 where one is driven twice.
-fn driven<'t>(
-    alloc: Global,
+/// The nets that items drive, in the order of the text, behind others. E304 where one is driven twice.
+pub fn add_items<'t>(
     tokens: &Tokens<'t>,
     items: &[ModuleItem],
-) -> Result<Names<'t>, OrMemory<ElabFault>>
-    ensures ok { IfOk result (λ names. names ≡ item_drivers (words_of tokens.now) items.now) }
-    ensures err { IfFault result (BreaksDrivers (item_drivers (words_of tokens.now) items.now)) }
-{
-    let mut names = Names::new(alloc);
-    for item in items {
-        add_item(tokens, item, &mut names)?;
-    }
-    Ok(names)
-}
-
-/// Where the variables of a module stand. E304 where a net of it is driven twice.
-pub fn home_of<'t>(
-    alloc: Global,
-    tokens: &Tokens<'t>,
-    unit: &ModuleTree,
-) -> Result<Home<'t>, OrMemory<ElabFault>>
-    ensures ok { IfOk result (λ home.
-        home ≡ spec.home_of (module_tree (words_of tokens.now) unit.now)) }
-    ensures once { OnOk result
-        (has_double (driven_names (module_tree (words_of tokens.now) unit.now)) ≡ false) }
+    into: &mut Names<'t>,
+) -> Result<(), OrMemory<ElabFault>>
+    ensures ok { OnOk result (into.new ≡ into.old ++ item_drivers (words_of tokens.now) items.now) }
     ensures err { IfFault result
-        (BreaksDrivers (driven_names (module_tree (words_of tokens.now) unit.now))) }
+        (BreaksDrivers (into.old ++ item_drivers (words_of tokens.now) items.now)) }
 {
-    let name = letters(tokens, unit.name);
-    let driven = driven(alloc, tokens, &unit.items)?;
-    Ok(Home { name, driven })
+    for item in items {
+        add_item(tokens, item, into)?;
+    }
+    Ok(())
 }

@@ -17,7 +17,7 @@ ghost use Rattle.velab.specs.Rules.{IsBroken};
 
 use crate::constant::{count_in, part_bounds, worth_of};
 use crate::fault::{ElabFault, Rule};
-use crate::letters::letters;
+use vmodules::letters::letters;
 use crate::number::constant_of;
 use crate::scope::{Meaning, Scope, named};
 use basis::OrMemory;
@@ -28,7 +28,7 @@ use vbits::Vec4;
 use vdesign::expression::{Bounds, Constant, Expression, Node};
 use vlex::Tokens;
 use vvalue::flaw::is_part;
-use vvalue::select::{bit_of, part_of};
+use vvalue::select::part_of;
 
 // A value as it is.
 fn plain(value: Vec4) -> Node
@@ -75,6 +75,7 @@ fn name_node(meaning: Meaning) -> Node
         Meaning::Variable(number) => Node::Variable(number),
         Meaning::Parameter { value, .. } => plain(value),
         Meaning::Event(_) => no_parts(),
+        Meaning::Instance => no_parts(),
     }
 }
 
@@ -112,6 +113,7 @@ fn part_node(meaning: Meaning, selected: Bounds, at: Token) -> Result<Node, OrMe
             }
         }
         Meaning::Event(_) => Ok(no_parts()),
+        Meaning::Instance => Ok(no_parts()),
     }
 }
 
@@ -125,7 +127,6 @@ fn put_parts(
     parts: &[Value],
     nodes: &mut Vec<Node>,
 ) -> Result<(), OrMemory<ElabFault>>
-    requires { scope.now.variables ≤ 1024 }
     ensures ok { OnOk result (nodes.new.items ≡ nodes.old.items
         ++ nodes_of (resolved_parts scope.now (text.trees_of (words_of tokens.now) parts.now))) }
     ensures right { OnOk result
@@ -154,7 +155,6 @@ pub fn worth(
     expression: &Value,
     at: Option<u32>,
 ) -> Result<Vec4, OrMemory<ElabFault>>
-    requires { scope.now.variables ≤ 1024 }
     ensures ok { IfOk result (λ value. value ≡
         constants.worth (resolved scope.now (text.tree_of (words_of tokens.now) expression.now))) }
     ensures right { OnOk result
@@ -179,7 +179,6 @@ fn put_bit(
     name: Token,
     nodes: &mut Vec<Node>,
 ) -> Result<(), OrMemory<ElabFault>>
-    requires { scope.now.variables ≤ 1024 }
     ensures ok { OnOk result (nodes.new.items ≡ nodes.old.items ++ nodes_of (resolved scope.now
         (bit (token_text (words_of tokens.now) name) (text.tree_of (words_of tokens.now) index.now)))) }
     ensures right { OnOk result (broken fixed scope.now
@@ -193,11 +192,12 @@ fn put_bit(
             put_expression(alloc, scope, fixed, tokens, index, nodes)
         }
         Meaning::Parameter { value, bounds, .. } => {
-            let index = worth(alloc, scope, tokens, index, Some(name.number))?;
-            let letter = bit_of(value, bounds_for(value, bounds), index);
-            put(nodes, plain(letter))
+            let bounds = bounds_for(value, bounds);
+            put(nodes, Node::BitOf { value, bounds })?;
+            put_expression(alloc, scope, fixed, tokens, index, nodes)
         }
         Meaning::Event(_) => put(nodes, no_parts()),
+        Meaning::Instance => put(nodes, no_parts()),
     }
 }
 
@@ -212,7 +212,6 @@ fn put_repeated(
     count: Vec4,
     nodes: &mut Vec<Node>,
 ) -> Result<(), OrMemory<ElabFault>>
-    requires { scope.now.variables ≤ 1024 }
     ensures ok { OnOk result (nodes.new.items ≡ nodes.old.items ++ Node.Repeated (constants.count_in count)
         ∷ nodes_of (resolved_parts scope.now (text.trees_of (words_of tokens.now) parts.now))) }
     ensures right { OnOk result
@@ -234,7 +233,6 @@ fn put_expression(
     expression: &Value,
     nodes: &mut Vec<Node>,
 ) -> Result<(), OrMemory<ElabFault>>
-    requires { scope.now.variables ≤ 1024 }
     ensures ok { OnOk result (nodes.new.items ≡ nodes.old.items
         ++ nodes_of (resolved scope.now (text.tree_of (words_of tokens.now) expression.now))) }
     ensures right { OnOk result
@@ -311,7 +309,6 @@ pub fn expression_of(
     tokens: &Tokens<'_>,
     expression: &Value,
 ) -> Result<Expression, OrMemory<ElabFault>>
-    requires { scope.now.variables ≤ 1024 }
     ensures ok { IfOk result (λ e.
         e ≡ resolved scope.now (text.tree_of (words_of tokens.now) expression.now)) }
     ensures right { OnOk result
@@ -331,7 +328,6 @@ pub fn expression_of_name(
     tokens: &Tokens<'_>,
     name: Token,
 ) -> Result<Expression, OrMemory<ElabFault>>
-    requires { scope.now.variables ≤ 1024 }
     ensures ok { IfOk result (λ e.
         e ≡ spec.resolved_name (meaning_of scope.now (token_text (words_of tokens.now) name))) }
     ensures right { OnOk result
@@ -352,7 +348,6 @@ pub fn constant_expression(
     tokens: &Tokens<'_>,
     expression: &Value,
 ) -> Result<Expression, OrMemory<ElabFault>>
-    requires { scope.now.variables ≤ 1024 }
     ensures ok { IfOk result (λ e.
         e ≡ resolved scope.now (text.tree_of (words_of tokens.now) expression.now)) }
     ensures right { OnOk result

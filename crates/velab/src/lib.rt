@@ -1,31 +1,28 @@
-// Elaboration: the tree of a text to the design that it stands for (IEEE 1364-2005, clause 12), where all of it runs.
-// In go a tree and the name of its top module, or none; out comes the design, or the rule that is broken.
-// The law: a design is the one that `Elaborates` gives the tree, and each fault is a rule that the tree breaks.
+// Elaboration of an instance: what its module adds to a design (IEEE 1364-2005, clause 12).
+// In go a module's tree, what its instance is told, and the tables so far; out come its names, its variables, its processes and those
+// of its port connections, or the rule that is broken.
+// The law: each call gives what the definition of its name in `specs/Elaborate` says, and each fault is a rule that is broken there.
 #![tactic(auto)]
 
 mod constant;
-mod declared;
-mod design;
-mod driven;
+pub mod declared;
+pub mod driven;
 mod expression;
-mod fault;
-mod first;
-pub mod law;
-mod letters;
-mod names;
+pub mod fault;
+pub mod home;
+pub mod join;
+pub mod names;
 mod number;
-mod parameter;
+pub mod parameter;
 mod print;
 mod range;
-mod right;
-mod scope;
-mod statement;
+pub mod right;
+pub mod scope;
+mod select;
+pub mod statement;
 mod target;
-mod top;
-mod variable;
+pub mod variable;
 mod wait;
-mod width;
+pub mod width;
 
-pub use design::elaborate;
 pub use fault::{ElabFault, Rule};
-pub use first::not_run;

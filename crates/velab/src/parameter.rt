@@ -1,4 +1,4 @@
-// Parameters (IEEE 1364-2005, 4.10, 12.2), their values known to what stands behind them, and named events (9.7.3).
+// Parameters (IEEE 1364-2005, 4.10, 12.2), their values known to what stands behind them, named events (9.7.3) and instances (12.1.2).
 
 ghost use Rattle.std.specs.Prelude.{◌≡◌, ◌<◌, ◌≤◌, ◌^◌, List, None, Some, map, option_map, length, IfOk, OnOk};
 ghost use Rattle.std.specs.Option.{option_or};
@@ -8,42 +8,58 @@ ghost use Rattle.vast.specs.TokenTexts.{token_text};
 ghost use Rattle.vast.specs.ModuleTrees.{head_parameter, item_tree, parameter_type, setting_tree};
 ghost use Rattle.vexpr_parse.specs.Texts.{words_of};
 ghost use Rattle.velab.specs.Elaborate as spec;
-ghost use Rattle.velab.specs.Elaborate.{with_given, with_all, broken_given, broken_all, broken_type, given, given_by, given_behind, event_given};
-ghost use Rattle.velab.specs.Inner.{given_of, given_all, events_given, given_in, given_at_head, type_of, IsNarrow};
+ghost use Rattle.velab.specs.Elaborate.{with_given, with_all, broken_given, broken_all, broken_type, given, given_by, given_behind, event_given, instance_given};
+ghost use Rattle.velab.specs.Inner.{given_of, given_all, events_given, instances_given, outside_tree, given_in, given_at_head, type_of, IsNarrow};
 ghost use Rattle.velab.specs.Rules.{IsBroken};
 
 use crate::constant::nothing;
 use crate::expression::constant_expression;
 use crate::fault::{ElabFault, Rule};
-use crate::letters::letters;
-use crate::names::Names;
 use crate::range::{range_bounds, span};
+use crate::names::note;
 use crate::scope::{Meaning, Scope};
 use basis::OrMemory;
 use std::alloc::Global;
 use std::marker::Model;
-use vast::module::{HeadParameter, ModuleItem, ParameterType, Setting};
+use vast::module::{HeadParameter, Instance, ModuleItem, ParameterType, Setting};
 use vast::token::Token;
 use vbits::Vec4;
 use vdesign::expression::{Bounds, Expression};
 use vlex::Tokens;
+use vmodules::connect::Ties;
+use vmodules::letters::letters;
+use vmodules::names::Names;
 use vvalue::asked::{by_itself, right_side};
 
-/// The names of a module so far: those of its variables, and its parameters and named events as far as they are known.
+/// The names of an instance so far: those of its variables, and its parameters, named events and instances as far as they are known;
+/// the number of its first variable, and that of the next named event; the top's name. A design has at most 1,024 variables and 4,294,967,295 events.
 #[derive(Drop)]
 pub struct Growing<'t> {
+    pub top: &'t [u8],
     pub names: Names<'t>,
+    pub first: usize,
     pub variables: usize,
+    pub events: usize,
     pub others: Vec<Meaning>,
 }
 
 impl<'t> Model for Growing<'t> {
-    ghost use Rattle.std.specs.Prelude.{length};
+    ghost use Rattle.std.specs.Prelude.{◌≤◌, ◌+◌, length};
     ghost use Rattle.velab.specs.Scopes as scopes;
 
     ghost Value = { scopes.Scope };
 
-    ghost view = { λ g. record { names = g.names; variables = g.variables; others = g.others.items; known = length g.others.items } };
+    ghost view = { λ g. record {
+      top = g.top.now;
+      names = g.names;
+      first = g.first;
+      variables = g.variables;
+      events = g.events;
+      others = g.others.items;
+      known = length g.others.items;
+    } };
+
+    ghost invariant = { λ g. (g.first + g.variables ≤ 1024) × (g.events ≤ 4294967295) };
 }
 
 impl<'t> Growing<'t> {
@@ -53,13 +69,38 @@ impl<'t> Growing<'t> {
         ensures small { result.known < 2 ^ 64 }
     {
         Scope {
+            top: self.top,
             names: &self.names,
+            first: self.first,
             variables: self.variables,
+            events: self.events,
             others: &self.others,
             known: self.others.len(),
         }
     }
 }
+
+/// What is said of the parameters of an instance from outside, by their names, and what names mean there (12.2.2).
+#[derive(Drop)]
+pub struct Outside<'s, 't, 'u> {
+    pub scope: Scope<'s, 't>,
+    pub values: &'s Ties<'t, 'u>,
+}
+
+impl<'s, 't, 'u> Model for Outside<'s, 't, 'u> {
+    ghost use Rattle.std.specs.Coded.{codes};
+    ghost use Rattle.vast.specs.contracts.expression.Expression as expression;
+    ghost use Rattle.velab.specs.Inner.{FromOutside};
+
+    ghost Value = { FromOutside };
+
+    ghost coded = { Prim.hlevel (codes, expression.the_row.coded) };
+
+    ghost view = { λ o. record { scope = o.scope; values = o.values.now } };
+}
+
+/// The most named events of a design.
+pub const MOST_EVENTS: usize = 4_294_967_295;
 
 // The bounds that a parameter is declared with, where it is. E303, E306 or E307 where they are none.
 fn bounds_of(
@@ -68,7 +109,6 @@ fn bounds_of(
     tokens: &Tokens<'_>,
     kind: Option<&ParameterType>,
 ) -> Result<Option<Bounds>, OrMemory<ElabFault>>
-    requires { scope.now.variables ≤ 1024 }
     ensures ok { IfOk result (λ bounds.
         bounds ≡ spec.parameter_bounds scope.now (type_of (words_of tokens.now) kind.entry)) }
     ensures few { IfOk result IsNarrow }
@@ -111,33 +151,59 @@ fn parameter_by(kind: Option<&ParameterType>, bounds: Option<Bounds>, value: &Ex
     }
 }
 
+// What a parameter is worth: by what is said of it from outside, or else by what it is set to. E303, E306 or E307 where that is no
+// constant.
+fn value_of(
+    alloc: Global,
+    tokens: &Tokens<'_>,
+    outside: &Outside<'_, '_, '_>,
+    scope: &Scope<'_, '_>,
+    setting: &Setting,
+) -> Result<Expression, OrMemory<ElabFault>>
+    ensures ok { IfOk result (λ e. e ≡ spec.value_of (outside_tree (words_of tokens.now) outside.now)
+        scope.now (setting_tree (words_of tokens.now) setting.now)) }
+    ensures right { OnOk result (spec.broken_value (outside_tree (words_of tokens.now) outside.now)
+        scope.now (setting_tree (words_of tokens.now) setting.now) ≡ None) }
+    ensures err { IfFault result (IsBroken
+        (spec.broken_value (outside_tree (words_of tokens.now) outside.now) scope.now
+        (setting_tree (words_of tokens.now) setting.now))) }
+{
+    match outside.values.value(letters(tokens, setting.name)) {
+        Some(value) => constant_expression(alloc, &outside.scope, tokens, value),
+        None => constant_expression(alloc, scope, tokens, &setting.value),
+    }
+}
+
 // One parameter more. E302 where its name is declared, E303, E306 or E307 where its range or its value is wrong.
 fn add<'t>(
     alloc: Global,
     tokens: &Tokens<'t>,
+    outside: &Outside<'_, '_, '_>,
     kind: Option<&ParameterType>,
     setting: &Setting,
     into: &mut Growing<'t>,
 ) -> Result<(), OrMemory<ElabFault>>
-    requires { into.old.variables ≤ 1024 }
     ensures ok { OnOk result
-        (into.new ≡ with_given into.old (given_of (words_of tokens.now) kind.entry setting.now)) }
+        (into.new ≡ with_given (outside_tree (words_of tokens.now) outside.now)
+        into.old (given_of (words_of tokens.now) kind.entry setting.now)) }
     ensures variables { into.new.variables ≡ into.old.variables }
     ensures right { OnOk result
-        (broken_given into.old (given_of (words_of tokens.now) kind.entry setting.now) ≡ None) }
+        (broken_given (outside_tree (words_of tokens.now) outside.now)
+        into.old (given_of (words_of tokens.now) kind.entry setting.now) ≡ None) }
     ensures err { IfFault result
-        (IsBroken (broken_given into.old (given_of (words_of tokens.now) kind.entry setting.now))) }
+        (IsBroken (broken_given (outside_tree (words_of tokens.now) outside.now)
+        into.old (given_of (words_of tokens.now) kind.entry setting.now))) }
 {
     let scope = into.scope();
     let bounds = bounds_of(alloc, &scope, tokens, kind)?;
-    let value = constant_expression(alloc, &scope, tokens, &setting.value)?;
+    let value = value_of(alloc, tokens, outside, &scope, setting)?;
     let meaning = Meaning::Parameter {
         value: parameter_by(kind, bounds, &value),
         bounds,
         before: scope.known,
     };
     let name = letters(tokens, setting.name);
-    into.names.add(name, setting.name.number)?;
+    note(&mut into.names, name, setting.name.number)?;
     into.others.push(meaning)?;
     Ok(())
 }
@@ -146,94 +212,161 @@ fn add<'t>(
 fn add_all<'t>(
     alloc: Global,
     tokens: &Tokens<'t>,
+    outside: &Outside<'_, '_, '_>,
     kind: &ParameterType,
     list: &[Setting],
     into: &mut Growing<'t>,
 ) -> Result<(), OrMemory<ElabFault>>
-    requires { into.old.variables ≤ 1024 }
     ensures ok { OnOk result
-        (into.new ≡ with_all into.old (given_all (words_of tokens.now) kind.now list.now)) }
+        (into.new ≡ with_all (outside_tree (words_of tokens.now) outside.now)
+        into.old (given_all (words_of tokens.now) kind.now list.now)) }
     ensures variables { into.new.variables ≡ into.old.variables }
     ensures right { OnOk result
-        (broken_all into.old (given_all (words_of tokens.now) kind.now list.now) ≡ None) }
+        (broken_all (outside_tree (words_of tokens.now) outside.now)
+        into.old (given_all (words_of tokens.now) kind.now list.now) ≡ None) }
     ensures err { IfFault result
-        (IsBroken (broken_all into.old (given_all (words_of tokens.now) kind.now list.now))) }
+        (IsBroken (broken_all (outside_tree (words_of tokens.now) outside.now)
+        into.old (given_all (words_of tokens.now) kind.now list.now))) }
 {
     for one in list {
-        add(alloc, tokens, Some(kind), one, into)?;
+        add(alloc, tokens, outside, Some(kind), one, into)?;
     }
     Ok(())
 }
 
-// A named event. E302 where its name is declared.
+// A named event. E302 where its name is declared, E309 where there are too many.
 fn add_event<'t>(
     tokens: &Tokens<'t>,
+    outside: &Outside<'_, '_, '_>,
     name: Token,
     into: &mut Growing<'t>,
 ) -> Result<(), OrMemory<ElabFault>>
     ensures ok { OnOk result
-        (into.new ≡ with_given into.old (event_given (token_text (words_of tokens.now) name))) }
+        (into.new ≡ with_given (outside_tree (words_of tokens.now) outside.now)
+        into.old (event_given (token_text (words_of tokens.now) name))) }
     ensures variables { into.new.variables ≡ into.old.variables }
     ensures right { OnOk result
-        (broken_given into.old (event_given (token_text (words_of tokens.now) name)) ≡ None) }
+        (broken_given (outside_tree (words_of tokens.now) outside.now)
+        into.old (event_given (token_text (words_of tokens.now) name)) ≡ None) }
     ensures err { IfFault result
-        (IsBroken (broken_given into.old (event_given (token_text (words_of tokens.now) name)))) }
+        (IsBroken (broken_given (outside_tree (words_of tokens.now) outside.now)
+        into.old (event_given (token_text (words_of tokens.now) name)))) }
 {
-    let number = into.others.len();
-    into.names.add(letters(tokens, name), name.number)?;
-    into.others.push(Meaning::Event(number))?;
+    if into.events >= MOST_EVENTS {
+        return Err(OrMemory::Fault(ElabFault {
+            rule: Rule::TooMany,
+            at: Some(name.number),
+        }));
+    }
+    note(&mut into.names, letters(tokens, name), name.number)?;
+    into.others.push(Meaning::Event(into.events))?;
+    into.events += 1;
     Ok(())
 }
 
 // Named events of one item.
 fn add_events<'t>(
     tokens: &Tokens<'t>,
+    outside: &Outside<'_, '_, '_>,
     names: &[Token],
     into: &mut Growing<'t>,
 ) -> Result<(), OrMemory<ElabFault>>
-    ensures ok { OnOk result (into.new ≡ with_all into.old (events_given (words_of tokens.now) names.now)) }
+    ensures ok { OnOk result
+        (into.new ≡ with_all (outside_tree (words_of tokens.now) outside.now)
+        into.old (events_given (words_of tokens.now) names.now)) }
     ensures variables { into.new.variables ≡ into.old.variables }
     ensures right { OnOk result
-        (broken_all into.old (events_given (words_of tokens.now) names.now) ≡ None) }
+        (broken_all (outside_tree (words_of tokens.now) outside.now)
+        into.old (events_given (words_of tokens.now) names.now) ≡ None) }
     ensures err { IfFault result
-        (IsBroken (broken_all into.old (events_given (words_of tokens.now) names.now))) }
+        (IsBroken (broken_all (outside_tree (words_of tokens.now) outside.now)
+        into.old (events_given (words_of tokens.now) names.now))) }
 {
     for name in names {
-        add_event(tokens, *name, into)?;
+        add_event(tokens, outside, *name, into)?;
     }
     Ok(())
 }
 
-// The parameters of an item, or its named events.
+// An instance. E302 where its name is declared.
+fn add_instance<'t>(
+    tokens: &Tokens<'t>,
+    outside: &Outside<'_, '_, '_>,
+    name: Token,
+    into: &mut Growing<'t>,
+) -> Result<(), OrMemory<ElabFault>>
+    ensures ok { OnOk result (into.new ≡
+        with_given (outside_tree (words_of tokens.now) outside.now)
+        into.old (instance_given (token_text (words_of tokens.now) name))) }
+    ensures variables { into.new.variables ≡ into.old.variables }
+    ensures right { OnOk result (broken_given (outside_tree (words_of tokens.now) outside.now)
+        into.old
+        (instance_given (token_text (words_of tokens.now) name)) ≡ None) }
+    ensures err { IfFault result (IsBroken (broken_given (outside_tree (words_of tokens.now) outside.now)
+        into.old (instance_given (token_text (words_of tokens.now) name)))) }
+{
+    note(&mut into.names, letters(tokens, name), name.number)?;
+    into.others.push(Meaning::Instance)?;
+    Ok(())
+}
+
+// The instances of one item.
+fn add_instances<'t>(
+    tokens: &Tokens<'t>,
+    outside: &Outside<'_, '_, '_>,
+    list: &[Instance],
+    into: &mut Growing<'t>,
+) -> Result<(), OrMemory<ElabFault>>
+    ensures ok { OnOk result
+        (into.new ≡ with_all (outside_tree (words_of tokens.now) outside.now)
+        into.old (instances_given (words_of tokens.now) list.now)) }
+    ensures variables { into.new.variables ≡ into.old.variables }
+    ensures right { OnOk result
+        (broken_all (outside_tree (words_of tokens.now) outside.now)
+        into.old (instances_given (words_of tokens.now) list.now) ≡ None) }
+    ensures err { IfFault result
+        (IsBroken (broken_all (outside_tree (words_of tokens.now) outside.now)
+        into.old (instances_given (words_of tokens.now) list.now))) }
+{
+    for one in list {
+        add_instance(tokens, outside, one.name, into)?;
+    }
+    Ok(())
+}
+
+// What an item gives: parameters, named events or instances.
 fn add_item<'t>(
     alloc: Global,
     tokens: &Tokens<'t>,
+    outside: &Outside<'_, '_, '_>,
     item: &ModuleItem,
     into: &mut Growing<'t>,
 ) -> Result<(), OrMemory<ElabFault>>
-    requires { into.old.variables ≤ 1024 }
     ensures ok { OnOk result
-        (into.new ≡ with_all into.old (given_by (item_tree (words_of tokens.now) item.now))) }
+        (into.new ≡ with_all (outside_tree (words_of tokens.now) outside.now)
+        into.old (given_by (item_tree (words_of tokens.now) item.now))) }
     ensures variables { into.new.variables ≡ into.old.variables }
     ensures right { OnOk result
-        (broken_all into.old (given_by (item_tree (words_of tokens.now) item.now)) ≡ None) }
+        (broken_all (outside_tree (words_of tokens.now) outside.now)
+        into.old (given_by (item_tree (words_of tokens.now) item.now)) ≡ None) }
     ensures err { IfFault result
-        (IsBroken (broken_all into.old (given_by (item_tree (words_of tokens.now) item.now)))) }
+        (IsBroken (broken_all (outside_tree (words_of tokens.now) outside.now)
+        into.old (given_by (item_tree (words_of tokens.now) item.now)))) }
 {
     match item {
         ModuleItem::Parameters { kind, settings, .. } => {
-            add_all(alloc, tokens, kind, settings, into)
+            add_all(alloc, tokens, outside, kind, settings, into)
         }
         ModuleItem::Declaration { .. } => Ok(()),
-        ModuleItem::Events { names, .. } => add_events(tokens, names, into),
+        ModuleItem::Events { names, .. } => add_events(tokens, outside, names, into),
         ModuleItem::Assignments { .. } => Ok(()),
         ModuleItem::Initial { .. } => Ok(()),
         ModuleItem::Always { .. } => Ok(()),
-        ModuleItem::Instances { .. } => Ok(()),
+        ModuleItem::Instances { instances, .. } => add_instances(tokens, outside, instances, into),
     }
 }
 
-/// How many parameters and named events an item has.
+/// How many names an item gives that are no variables: parameters, named events and instances.
 pub fn given_count(item: &ModuleItem) -> usize
     ensures { (words : List Text) → result ≡ length (given_by (item_tree words item.now)) }
 {
@@ -244,28 +377,31 @@ pub fn given_count(item: &ModuleItem) -> usize
         ModuleItem::Assignments { .. } => 0,
         ModuleItem::Initial { .. } => 0,
         ModuleItem::Always { .. } => 0,
-        ModuleItem::Instances { .. } => 0,
+        ModuleItem::Instances { instances, .. } => instances.len(),
     }
 }
 
-/// The parameters and the named events of items, in the order of the text.
+/// What items give, in the order of the text: parameters, named events and instances. Errors: E302, E303, E306, E307, E309, E901.
 pub fn add_items<'t>(
     alloc: Global,
     tokens: &Tokens<'t>,
+    outside: &Outside<'_, '_, '_>,
     items: &[ModuleItem],
     into: &mut Growing<'t>,
 ) -> Result<(), OrMemory<ElabFault>>
-    requires { into.old.variables ≤ 1024 }
     ensures ok { OnOk result
-        (into.new ≡ with_all into.old (given_in (words_of tokens.now) items.now)) }
+        (into.new ≡ with_all (outside_tree (words_of tokens.now) outside.now)
+        into.old (given_in (words_of tokens.now) items.now)) }
     ensures variables { into.new.variables ≡ into.old.variables }
     ensures right { OnOk result
-        (broken_all into.old (given_in (words_of tokens.now) items.now) ≡ None) }
+        (broken_all (outside_tree (words_of tokens.now) outside.now)
+        into.old (given_in (words_of tokens.now) items.now) ≡ None) }
     ensures err { IfFault result
-        (IsBroken (broken_all into.old (given_in (words_of tokens.now) items.now))) }
+        (IsBroken (broken_all (outside_tree (words_of tokens.now) outside.now)
+        into.old (given_in (words_of tokens.now) items.now))) }
 {
     for item in items {
-        add_item(alloc, tokens, item, into)?;
+        add_item(alloc, tokens, outside, item, into)?;
     }
     Ok(())
 }
@@ -288,22 +424,25 @@ fn kind_of<'a>(
 fn add_listed<'t>(
     alloc: Global,
     tokens: &Tokens<'t>,
+    outside: &Outside<'_, '_, '_>,
     list: &[HeadParameter],
     into: &mut Growing<'t>,
 ) -> Result<(), OrMemory<ElabFault>>
-    requires { into.old.variables ≤ 1024 }
     ensures ok { OnOk result
-        (into.new ≡ with_all into.old (given_behind None (map (head_parameter (words_of tokens.now)) list.now))) }
+        (into.new ≡ with_all (outside_tree (words_of tokens.now) outside.now)
+        into.old (given_behind None (map (head_parameter (words_of tokens.now)) list.now))) }
     ensures variables { into.new.variables ≡ into.old.variables }
     ensures right { OnOk result
-        (broken_all into.old (given_behind None (map (head_parameter (words_of tokens.now)) list.now)) ≡ None) }
+        (broken_all (outside_tree (words_of tokens.now) outside.now)
+        into.old (given_behind None (map (head_parameter (words_of tokens.now)) list.now)) ≡ None) }
     ensures err { IfFault result
-        (IsBroken (broken_all into.old (given_behind None (map (head_parameter (words_of tokens.now)) list.now)))) }
+        (IsBroken (broken_all (outside_tree (words_of tokens.now) outside.now)
+        into.old (given_behind None (map (head_parameter (words_of tokens.now)) list.now)))) }
 {
     let mut kind: Option<&ParameterType> = None;
     for head in list {
         kind = kind_of(head, kind);
-        add(alloc, tokens, kind, &head.setting, into)?;
+        add(alloc, tokens, outside, kind, &head.setting, into)?;
     }
     Ok(())
 }
@@ -312,20 +451,23 @@ fn add_listed<'t>(
 pub fn add_head<'t>(
     alloc: Global,
     tokens: &Tokens<'t>,
+    outside: &Outside<'_, '_, '_>,
     list: &Option<Vec<HeadParameter>>,
     into: &mut Growing<'t>,
 ) -> Result<(), OrMemory<ElabFault>>
-    requires { into.old.variables ≤ 1024 }
     ensures ok { OnOk result
-        (into.new ≡ with_all into.old (given_at_head (words_of tokens.now) list.now)) }
+        (into.new ≡ with_all (outside_tree (words_of tokens.now) outside.now)
+        into.old (given_at_head (words_of tokens.now) list.now)) }
     ensures variables { into.new.variables ≡ into.old.variables }
     ensures right { OnOk result
-        (broken_all into.old (given_at_head (words_of tokens.now) list.now) ≡ None) }
+        (broken_all (outside_tree (words_of tokens.now) outside.now)
+        into.old (given_at_head (words_of tokens.now) list.now) ≡ None) }
     ensures err { IfFault result
-        (IsBroken (broken_all into.old (given_at_head (words_of tokens.now) list.now))) }
+        (IsBroken (broken_all (outside_tree (words_of tokens.now) outside.now)
+        into.old (given_at_head (words_of tokens.now) list.now))) }
 {
     match list {
         None => Ok(()),
-        Some(list) => add_listed(alloc, tokens, list, into),
+        Some(list) => add_listed(alloc, tokens, outside, list, into),
     }
 }

@@ -13,7 +13,7 @@ ghost use Rattle.velab.specs.Prints as spec;
 
 use crate::expression::expression_of;
 use crate::fault::{ElabFault, Rule};
-use crate::letters::letters;
+use vmodules::letters::letters;
 use crate::scope::Scope;
 use basis::{NoMemory, OrMemory};
 use format_text::Printer;
@@ -65,7 +65,6 @@ fn put_argument(
     printer: &mut Printer,
     argument: &Argument,
 ) -> Result<bool, OrMemory<ElabFault>>
-    requires { scope.now.variables ≤ 1024 }
     ensures ok { IfOk result (λ is_right. TakesArgument printer.old (spec.argument_of scope.now
         (argument_tree (words_of tokens.now) argument.now)) is_right printer.new) }
     ensures right { OnOk result (spec.broken_argument scope.now
@@ -93,7 +92,6 @@ fn put_arguments(
     printer: &mut Printer,
     arguments: &[Argument],
 ) -> Result<bool, OrMemory<ElabFault>>
-    requires { scope.now.variables ≤ 1024 }
     ensures ok { IfOk result (λ is_right. Prints printer.old
         (map (spec.argument_of scope.now) (map (argument_tree (words_of tokens.now)) arguments.now))
         is_right printer.new) }
@@ -134,7 +132,6 @@ pub fn pieces_in(
     at: u32,
     arguments: &[Argument],
 ) -> Result<Pieces, OrMemory<ElabFault>>
-    requires { scope.now.variables ≤ 1024 }
     ensures ok { IfOk result (λ pieces. pieces ≡ spec.pieces_in scope.now
         (map (argument_tree (words_of tokens.now)) arguments.now)) }
     ensures right { OnOk result (spec.broken_line scope.now

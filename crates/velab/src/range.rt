@@ -37,7 +37,6 @@ fn right_bound(
     tokens: &Tokens<'_>,
     bound: &Expression,
 ) -> Result<u32, OrMemory<ElabFault>>
-    requires { scope.now.variables ≤ 1024 }
     ensures ok { IfOk result (λ n.
         n ≡ spec.bound_of scope.now (tree_of (words_of tokens.now) bound.now)) }
     ensures within { IfOk result (λ n. n ≤ 65535) }
@@ -71,7 +70,6 @@ fn bounds_of(
     tokens: &Tokens<'_>,
     range: &Written,
 ) -> Result<Bounds, OrMemory<ElabFault>>
-    requires { scope.now.variables ≤ 1024 }
     ensures ok { IfOk result (λ bounds.
         bounds ≡ spec.bounds_of scope.now (range_tree (words_of tokens.now) range.now)) }
     ensures right { OnOk result
@@ -99,7 +97,6 @@ pub fn range_bounds(
     tokens: &Tokens<'_>,
     range: &Option<Written>,
 ) -> Result<Option<Bounds>, OrMemory<ElabFault>>
-    requires { scope.now.variables ≤ 1024 }
     ensures ok { IfOk result (λ bounds. bounds ≡ bounds_for (words_of tokens.now) scope.now range.now) }
     ensures few { IfOk result IsNarrow }
     ensures right { OnOk result (spec.broken_range scope.now

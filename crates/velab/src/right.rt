@@ -70,6 +70,7 @@ fn writes_rightly(variables: &[Variable], action: &Action) -> bool
         Action::Until { .. } => true,
         Action::Drive { net, .. } => is_some_net(variables, *net),
         Action::Print { .. } => true,
+        Action::DumpVars(_) => true,
         Action::Dump(_) => true,
         Action::Pass => true,
         Action::Finish => true,

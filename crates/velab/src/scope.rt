@@ -1,4 +1,4 @@
-// What a module's names stand for (IEEE 1364-2005, 4.10, 12.7).
+// What a module's names stand for (IEEE 1364-2005, 4.10, 12.1.2, 12.7).
 
 ghost use Rattle.std.specs.Prelude.{◌≡◌, ◌≤◌, Some, None, IfOk, OnOk};
 ghost use Rattle.basis.specs.Reasons.{IfFault};
@@ -9,8 +9,8 @@ ghost use Rattle.velab.specs.Scopes as spec;
 ghost use Rattle.velab.specs.Scopes.{broken_variable, broken_event};
 
 use crate::fault::{ElabFault, Rule};
-use crate::letters::letters;
-use crate::names::Names;
+use vmodules::letters::letters;
+use vmodules::names::Names;
 use basis::OrMemory;
 use std::marker::Model;
 use vast::token::Token;
@@ -31,24 +31,41 @@ pub enum Meaning {
     },
     /// The named event of this number (9.7.3).
     Event(usize),
+    /// An instance (12.1.2).
+    Instance,
 }
 
-/// What is known of names at a place of a module: its names, of which so many that stand first are those of its variables, what the
-/// others stand for, and how many of the others stand before the place.
+/// What is known of names at a place of an instance: its names, of which so many that stand first are those of its variables, what the
+/// others stand for, and how many of the others stand before the place. `first` is the number of its first variable, and `events` that
+/// of the next named event. `top` is the name of the top. A design has at most 1,024 variables.
 #[derive(Drop)]
 pub struct Scope<'s, 't> {
+    pub top: &'s [u8],
     pub names: &'s Names<'t>,
+    pub first: usize,
     pub variables: usize,
+    pub events: usize,
     pub others: &'s [Meaning],
     pub known: usize,
 }
 
 impl<'s, 't> Model for Scope<'s, 't> {
+    ghost use Rattle.std.specs.Prelude.{◌≤◌, ◌+◌};
     ghost use Rattle.velab.specs.Scopes as scopes;
 
     ghost Value = { scopes.Scope };
 
-    ghost view = { λ s. record { names = s.names.now; variables = s.variables; others = s.others.now; known = s.known } };
+    ghost view = { λ s. record {
+      top = s.top.now;
+      names = s.names.now;
+      first = s.first;
+      variables = s.variables;
+      events = s.events;
+      others = s.others.now;
+      known = s.known;
+    } };
+
+    ghost invariant = { λ s. s.first + s.variables ≤ 1024 };
 }
 
 impl<'s, 't> Scope<'s, 't> {
@@ -57,8 +74,11 @@ impl<'s, 't> Scope<'s, 't> {
         ensures { result ≡ spec.at self.now known }
     {
         Scope {
+            top: self.top,
             names: self.names,
+            first: self.first,
             variables: self.variables,
+            events: self.events,
             others: self.others,
             known,
         }
@@ -67,11 +87,10 @@ impl<'s, 't> Scope<'s, 't> {
 
 // What the name at this place stands for.
 fn meaning_at(scope: &Scope<'_, '_>, place: usize) -> Option<Meaning>
-    requires { scope.now.variables ≤ 1024 }
     ensures { result ≡ spec.meaning_at scope.now place }
 {
     if place < scope.variables {
-        Some(Meaning::Variable(place as u32))
+        Some(Meaning::Variable((scope.first + place) as u32))
     } else {
         scope.others.get(place - scope.variables).copied()
     }
@@ -79,7 +98,6 @@ fn meaning_at(scope: &Scope<'_, '_>, place: usize) -> Option<Meaning>
 
 /// What a name stands for, where it is declared.
 pub fn meaning_of(scope: &Scope<'_, '_>, tokens: &Tokens<'_>, token: Token) -> Option<Meaning>
-    requires { scope.now.variables ≤ 1024 }
     ensures { result ≡ spec.meaning_of scope.now (token_text (words_of tokens.now) token) }
 {
     match scope.names.place(letters(tokens, token)) {
@@ -88,15 +106,14 @@ pub fn meaning_of(scope: &Scope<'_, '_>, tokens: &Tokens<'_>, token: Token) -> O
     }
 }
 
-// E303 where a name in an expression stands for nothing, E310 where it stands for an event, E303 or E307 where it may not stand in a
-// constant.
+// E303 where a name in an expression stands for nothing, E310 where it stands for an event or an instance, E303 or E307 where it
+// may not stand in a constant.
 fn check_name(
     scope: &Scope<'_, '_>,
     fixed: bool,
     tokens: &Tokens<'_>,
     token: Token,
 ) -> Result<(), OrMemory<ElabFault>>
-    requires { scope.now.variables ≤ 1024 }
     ensures right { OnOk result
         (spec.broken_name fixed scope.now (token_text (words_of tokens.now) token) ≡ None) }
     ensures err { IfFault result
@@ -129,18 +146,21 @@ fn check_name(
             rule: Rule::Kind,
             at: Some(token.number),
         })),
+        Some(Meaning::Instance) => Err(OrMemory::Fault(ElabFault {
+            rule: Rule::Kind,
+            at: Some(token.number),
+        })),
     }
 }
 
-/// What a name in an expression stands for. E303 where it stands for nothing, E310 where it stands for an event, E303 or E307 where it
-/// may not stand in a constant.
+/// What a name in an expression stands for. E303 where it stands for nothing, E310 where it stands for an event or an instance, E303 or E307
+/// where it may not stand in a constant.
 pub fn named(
     scope: &Scope<'_, '_>,
     fixed: bool,
     tokens: &Tokens<'_>,
     token: Token,
 ) -> Result<Meaning, OrMemory<ElabFault>>
-    requires { scope.now.variables ≤ 1024 }
     ensures ok { IfOk result (λ m.
         spec.meaning_of scope.now (token_text (words_of tokens.now) token) ≡ Some m) }
     ensures right { OnOk result
@@ -164,7 +184,6 @@ pub fn number_of(
     tokens: &Tokens<'_>,
     token: Token,
 ) -> Result<u32, OrMemory<ElabFault>>
-    requires { scope.now.variables ≤ 1024 }
     ensures ok { IfOk result (λ n. n ≡ spec.number_of scope.now (token_text (words_of tokens.now) token)) }
     ensures right { OnOk result
         (broken_variable scope.now (token_text (words_of tokens.now) token) ≡ None) }
@@ -185,6 +204,10 @@ pub fn number_of(
             rule: Rule::Kind,
             at: Some(token.number),
         })),
+        Some(Meaning::Instance) => Err(OrMemory::Fault(ElabFault {
+            rule: Rule::Kind,
+            at: Some(token.number),
+        })),
     }
 }
 
@@ -194,7 +217,6 @@ pub fn event_of(
     tokens: &Tokens<'_>,
     token: Token,
 ) -> Result<usize, OrMemory<ElabFault>>
-    requires { scope.now.variables ≤ 1024 }
     ensures ok { IfOk result (λ n. n ≡ spec.event_of scope.now (token_text (words_of tokens.now) token)) }
     ensures right { OnOk result
         (broken_event scope.now (token_text (words_of tokens.now) token) ≡ None) }
@@ -212,6 +234,10 @@ pub fn event_of(
             at: Some(token.number),
         })),
         Some(Meaning::Parameter { .. }) => Err(OrMemory::Fault(ElabFault {
+            rule: Rule::Kind,
+            at: Some(token.number),
+        })),
+        Some(Meaning::Instance) => Err(OrMemory::Fault(ElabFault {
             rule: Rule::Kind,
             at: Some(token.number),
         })),

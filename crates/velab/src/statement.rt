@@ -3,7 +3,7 @@ ghost use Rattle.std.specs.Prelude.{None, ◌≡◌, ◌<◌, ◌≤◌, ◌+◌
 ghost use Rattle.basis.specs.Reasons.{IfFault};
 ghost use Rattle.vast.specs.Words.{Text};
 ghost use Rattle.vast.specs.ExpressionTrees.{tree_of as text_tree, trees_of};
-ghost use Rattle.vast.specs.StatementTrees.{target_tree, delay_tree, selection_tree, task_tree, statement_tree, statement_trees, branch_tree, branch_trees};
+ghost use Rattle.vast.specs.StatementTrees.{target_tree, delay_tree, task_tree, statement_tree, statement_trees, branch_tree, branch_trees};
 ghost use Rattle.vast.specs.ModuleTrees.{item_tree};
 ghost use Rattle.vast.specs.TokenTexts.{token_text};
 ghost use Rattle.vexpr_parse.specs.Texts.{words_of};
@@ -18,12 +18,12 @@ ghost use Rattle.velab.specs.Rules.{IsBroken};
 
 use crate::expression::{alone, expression_of, expression_of_name};
 use crate::fault::ElabFault;
-use crate::first::is_whole;
-use crate::letters::letters;
+use vmodules::letters::letters;
 use crate::number::constant_of;
 use crate::parameter::given_count;
 use crate::print::{pieces_in, when_of};
 use crate::scope::{Scope, event_of, number_of};
+use crate::select::selected;
 use crate::target::{first_token, targets_of};
 use crate::wait::{condition_terms, event_terms};
 use basis::{NoMemory, OrMemory};
@@ -32,11 +32,11 @@ use std::marker::Model;
 use vast::expression::Expression as Value;
 use vast::module::{DeclarationKind, Declared, ModuleItem, NetKind, Setting};
 use vast::statement::{
-    Branch, CaseKind, Delay, Dumping, Printing, Selection, Statement, Target as Written, Task,
+    Branch, CaseKind, Delay, Dumping, Printing, Statement, Target as Written, Task,
 };
 use vast::token::Token;
 use vdesign::action::{Action, Branch as Choice, Branches, Places, Targets, Terms};
-use vdesign::dump::DumpCommand;
+use vdesign::dump::DumpSwitch;
 use vdesign::expression::{Expression, Node};
 use vdesign::print::Pieces;
 use vlex::Tokens;
@@ -62,8 +62,8 @@ impl Model for Table {
     ghost view = { λ t. t.actions.items };
 }
 
-// One action more, at the next place.
-fn put(
+/// One action more, at the next place; `at` is the number of the token that its statement begins with.
+pub fn put(
     table: &mut Table,
     into: &mut Vec<usize>,
     at: u32,
@@ -131,7 +131,6 @@ fn amount_of(
     tokens: &Tokens<'_>,
     amount: &Delay,
 ) -> Result<Expression, OrMemory<ElabFault>>
-    requires { scope.now.variables ≤ 1024 }
     ensures ok { IfOk result (λ e.
         e ≡ spec.amount_of scope.now (delay_tree (words_of tokens.now) amount.now)) }
     ensures right { OnOk result
@@ -153,7 +152,6 @@ fn own_amount(
     tokens: &Tokens<'_>,
     amount: &Option<Delay>,
 ) -> Result<Option<Expression>, OrMemory<ElabFault>>
-    requires { scope.now.variables ≤ 1024 }
     ensures ok { IfOk result (λ e. e ≡ option_map (spec.amount_of scope.now)
         (option_map (delay_tree (words_of tokens.now)) amount.now)) }
     ensures right { OnOk result (spec.broken_own scope.now
@@ -182,7 +180,6 @@ fn lay_assignment(
     table: &mut Table,
     into: &mut Vec<usize>,
 ) -> Result<(), OrMemory<ElabFault>>
-    requires { scope.now.variables ≤ 1024 }
     ensures ok { HasLaid result (spec.laid_assignment blocking scope.now table.old
         (target_tree (words_of tokens.now) target.now)
         (option_map (delay_tree (words_of tokens.now)) amount.now)
@@ -240,7 +237,6 @@ fn put_label(
     body: &[usize],
     into: &mut Vec<Choice>,
 ) -> Result<(), OrMemory<ElabFault>>
-    requires { scope.now.variables ≤ 1024 }
     ensures ok { OnOk result (into.new.items ≡ into.old.items ++ record {
       item = resolved scope.now (text_tree (words_of tokens.now) label.now);
       body = body.now;
@@ -265,7 +261,6 @@ fn put_labels(
     body: &[usize],
     into: &mut Vec<Choice>,
 ) -> Result<(), OrMemory<ElabFault>>
-    requires { scope.now.variables ≤ 1024 }
     ensures ok { OnOk result (into.new.items ≡ into.old.items
         ++ branches_by scope.now body.now (trees_of (words_of tokens.now) labels.now)) }
     ensures right { OnOk result
@@ -300,9 +295,9 @@ fn dumping_by(dumping: Dumping) -> Action
     ensures { result ≡ spec.dumping_by dumping }
 {
     match dumping {
-        Dumping::On => Action::Dump(DumpCommand::On),
-        Dumping::Off => Action::Dump(DumpCommand::Off),
-        Dumping::All => Action::Dump(DumpCommand::All),
+        Dumping::On => Action::Dump(DumpSwitch::On),
+        Dumping::Off => Action::Dump(DumpSwitch::Off),
+        Dumping::All => Action::Dump(DumpSwitch::All),
         Dumping::Flush => Action::Pass,
     }
 }
@@ -317,26 +312,7 @@ fn printing(kind: Printing, pieces: Pieces) -> Action
     }
 }
 
-// A `$dumpvars`: what isn't run yet lays nothing.
-fn lay_dump(
-    tokens: &Tokens<'_>,
-    at: u32,
-    selection: &Selection,
-    table: &mut Table,
-    into: &mut Vec<usize>,
-) -> Result<(), OrMemory<ElabFault>>
-    ensures ok { HasLaid result (spec.laid_dump table.old
-        (Some (selection_tree (words_of tokens.now) selection.now))) into.old table.new into.new }
-    ensures err { IfFault result (IsBroken None) }
-{
-    if is_whole(tokens, selection) {
-        put(table, into, at, Action::Dump(DumpCommand::Vars))
-    } else {
-        Ok(())
-    }
-}
-
-// A system task: what isn't run yet lays nothing.
+// A system task.
 fn lay_task(
     alloc: Global,
     scope: &Scope<'_, '_>,
@@ -346,7 +322,6 @@ fn lay_task(
     table: &mut Table,
     into: &mut Vec<usize>,
 ) -> Result<(), OrMemory<ElabFault>>
-    requires { scope.now.variables ≤ 1024 }
     ensures ok { HasLaid result
         (spec.laid_task scope.now table.old (task_tree (words_of tokens.now) task.now))
         into.old table.new into.new }
@@ -361,8 +336,10 @@ fn lay_task(
             put(table, into, at, printing(*kind, pieces))
         }
         Task::DumpFile(_) => put(table, into, at, Action::Pass),
-        Task::DumpVars(None) => put(table, into, at, Action::Dump(DumpCommand::Vars)),
-        Task::DumpVars(Some(selection)) => lay_dump(tokens, at, selection, table, into),
+        Task::DumpVars(selection) => {
+            let selection = selected(alloc, scope, tokens, selection)?;
+            put(table, into, at, Action::DumpVars(selection))
+        }
         Task::Dump(dumping) => put(table, into, at, dumping_by(*dumping)),
         Task::End { stops, .. } => put(table, into, at, ending(*stops)),
     }
@@ -378,7 +355,6 @@ fn lay(
     table: &mut Table,
     into: &mut Vec<usize>,
 ) -> Result<(), OrMemory<ElabFault>>
-    requires { scope.now.variables ≤ 1024 }
     ensures ok { HasLaid result (laid_of (words_of tokens.now) scope.now table.old statement.now)
         into.old table.new into.new }
     ensures right { OnOk result
@@ -530,7 +506,6 @@ fn lay_all(
     table: &mut Table,
     into: &mut Vec<usize>,
 ) -> Result<(), OrMemory<ElabFault>>
-    requires { scope.now.variables ≤ 1024 }
     ensures ok { HasLaid result
         (all_laid_of (words_of tokens.now) scope.now table.old statements.now) into.old table.new
         into.new }
@@ -557,7 +532,6 @@ fn lay_case(
     table: &mut Table,
     into: &mut Vec<usize>,
 ) -> Result<(), OrMemory<ElabFault>>
-    requires { scope.now.variables ≤ 1024 }
     ensures ok { HasLaid result (laid scope.now table.old
         (case_of kind (text_tree (words_of tokens.now) value.now)
         (branch_trees (words_of tokens.now) branches.now))) into.old table.new into.new }
@@ -594,7 +568,6 @@ fn lay_branches(
     into: &mut Vec<Choice>,
     otherwise: &mut Vec<usize>,
 ) -> Result<(), OrMemory<ElabFault>>
-    requires { scope.now.variables ≤ 1024 }
     ensures ok { HasBranches result
         (branches_laid_of (words_of tokens.now) scope.now table.old branches.now) into.old
         otherwise.old table.new into.new otherwise.new }
@@ -618,7 +591,6 @@ fn lay_branch(
     into: &mut Vec<Choice>,
     otherwise: &mut Vec<usize>,
 ) -> Result<(), OrMemory<ElabFault>>
-    requires { scope.now.variables ≤ 1024 }
     ensures ok { HasBranches result
         (branch_laid_of (words_of tokens.now) scope.now table.old branch.now) into.old
         otherwise.old table.new into.new otherwise.new }
@@ -646,7 +618,6 @@ fn lay_forever(
     table: &mut Table,
     into: &mut Vec<usize>,
 ) -> Result<(), OrMemory<ElabFault>>
-    requires { scope.now.variables ≤ 1024 }
     ensures ok { HasLaid result (laid scope.now table.old
         (forever (statement_tree (words_of tokens.now) statement.now))) into.old table.new
         into.new }
@@ -671,7 +642,6 @@ fn lay_drive(
     table: &mut Table,
     into: &mut Vec<usize>,
 ) -> Result<(), OrMemory<ElabFault>>
-    requires { scope.now.variables ≤ 1024 }
     ensures ok { HasLaid result (laid_process scope.now table.old (drives
         (token_text (words_of tokens.now) net) (text_tree (words_of tokens.now) value.now)))
         into.old table.new into.new }
@@ -701,7 +671,6 @@ fn lay_net(
     table: &mut Table,
     into: &mut Vec<Places>,
 ) -> Result<(), OrMemory<ElabFault>>
-    requires { scope.now.variables ≤ 1024 }
     ensures ok { HaveLaid result (laid_processes scope.now table.old (drives
         (token_text (words_of tokens.now) net) (text_tree (words_of tokens.now) value.now) ∷ []))
         into.old table.new into.new }
@@ -726,7 +695,6 @@ fn lay_variable(
     table: &mut Table,
     into: &mut Vec<Places>,
 ) -> Result<(), OrMemory<ElabFault>>
-    requires { scope.now.variables ≤ 1024 }
     ensures ok { HaveLaid result (laid_processes scope.now table.old (does (assign
         (whole (token_text (words_of tokens.now) name)) None
         (text_tree (words_of tokens.now) value.now)) ∷ [])) into.old table.new into.new }
@@ -764,7 +732,6 @@ fn lay_start(
     table: &mut Table,
     into: &mut Vec<Places>,
 ) -> Result<(), OrMemory<ElabFault>>
-    requires { scope.now.variables ≤ 1024 }
     ensures ok { HaveLaid result (laid_processes scope.now table.old
         (starts_in (words_of tokens.now) word (one.now ∷ []))) into.old table.new into.new }
     ensures right { OnOk result
@@ -791,7 +758,6 @@ fn lay_starts(
     table: &mut Table,
     into: &mut Vec<Places>,
 ) -> Result<(), OrMemory<ElabFault>>
-    requires { scope.now.variables ≤ 1024 }
     ensures ok { HaveLaid result (laid_processes scope.now table.old
         (starts_in (words_of tokens.now) word list.now)) into.old table.new into.new }
     ensures right { OnOk result (AreRight scope.now (starts_in (words_of tokens.now) word list.now)) }
@@ -813,7 +779,6 @@ fn lay_setting(
     table: &mut Table,
     into: &mut Vec<Places>,
 ) -> Result<(), OrMemory<ElabFault>>
-    requires { scope.now.variables ≤ 1024 }
     ensures ok { HaveLaid result (laid_processes scope.now table.old
         (drives_in (words_of tokens.now) (one.now ∷ []))) into.old table.new into.new }
     ensures right { OnOk result (AreRight scope.now (drives_in (words_of tokens.now) (one.now ∷ []))) }
@@ -832,7 +797,6 @@ fn lay_drives(
     table: &mut Table,
     into: &mut Vec<Places>,
 ) -> Result<(), OrMemory<ElabFault>>
-    requires { scope.now.variables ≤ 1024 }
     ensures ok { HaveLaid result (laid_processes scope.now table.old
         (drives_in (words_of tokens.now) list.now)) into.old table.new into.new }
     ensures right { OnOk result (AreRight scope.now (drives_in (words_of tokens.now) list.now)) }
@@ -854,7 +818,6 @@ fn lay_item(
     table: &mut Table,
     into: &mut Vec<Places>,
 ) -> Result<(), OrMemory<ElabFault>>
-    requires { scope.now.variables ≤ 1024 }
     ensures ok { HaveLaid result
         (laid_of_item (words_of tokens.now) scope.now table.old item.now) into.old table.new
         into.new }
@@ -893,40 +856,29 @@ fn lay_item(
     }
 }
 
-/// The actions of all processes, and where each process begins.
-#[derive(Drop)]
-pub struct ProcessTable {
-    pub table: Table,
-    pub begins: Vec<Places>,
-}
-
 /// A process for each `initial`, each `always`, each net that an `assign` drives and each name that is declared with a value, in the order of the
-/// text. `scope` is that of the first item. Errors: E303, E306, E307, E310, E901.
-pub fn processes(
+/// text, behind those that there are. `scope` is that of the first item. Errors: E303, E306, E307, E310, E901.
+pub fn put_processes(
     alloc: Global,
     tokens: &Tokens<'_>,
     scope: &Scope<'_, '_>,
     items: &[ModuleItem],
-) -> Result<ProcessTable, OrMemory<ElabFault>>
-    requires few { scope.now.variables ≤ 1024 }
+    table: &mut Table,
+    into: &mut Vec<Places>,
+) -> Result<(), OrMemory<ElabFault>>
     requires small { scope.now.known + length (given_in (words_of tokens.now) items.now) < 2 ^ 64 }
-    ensures ok { IfOk result (λ ps. AreLaid
-        (processes_of (words_of tokens.now) scope.now items.now) [] ps.table ps.begins.items) }
+    ensures ok { HaveLaid result
+        (processes_of (words_of tokens.now) scope.now table.old items.now) into.old table.new into.new }
     ensures right { OnOk result
         (broken_items_from scope.now (map (item_tree (words_of tokens.now)) items.now) ≡ None) }
     ensures err { IfFault result
         (IsBroken (broken_items_from scope.now (map (item_tree (words_of tokens.now)) items.now))) }
 {
-    let mut table = Table {
-        actions: Vec::new(alloc),
-        origins: Vec::new(alloc),
-    };
-    let mut begins = Vec::new(alloc);
     let mut known = scope.known;
     for item in items {
         let here = scope.at(known);
-        lay_item(alloc, &here, tokens, item, &mut table, &mut begins)?;
+        lay_item(alloc, &here, tokens, item, table, into)?;
         known += given_count(item);
     }
-    Ok(ProcessTable { table, begins })
+    Ok(())
 }

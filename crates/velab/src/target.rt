@@ -53,7 +53,6 @@ fn bounds_of(
     right: &Expression,
     at: u32,
 ) -> Result<Bounds, OrMemory<ElabFault>>
-    requires { scope.now.variables ≤ 1024 }
     ensures ok { IfOk result (λ bounds. bounds ≡ constants.part_bounds
         (constants.worth (resolved scope.now (text_tree (words_of tokens.now) left.now)))
         (constants.worth (resolved scope.now (text_tree (words_of tokens.now) right.now)))) }
@@ -77,7 +76,6 @@ fn put_target(
     target: &Written,
     into: &mut Vec<Target>,
 ) -> Result<(), OrMemory<ElabFault>>
-    requires { scope.now.variables ≤ 1024 }
     ensures ok { OnOk result (into.new.items ≡ into.old.items
         ++ row_of scope.now (target_tree (words_of tokens.now) target.now)) }
     ensures right { OnOk result
@@ -113,7 +111,6 @@ fn put_targets(
     targets: &[Written],
     into: &mut Vec<Target>,
 ) -> Result<(), OrMemory<ElabFault>>
-    requires { scope.now.variables ≤ 1024 }
     ensures ok { OnOk result (into.new.items ≡ into.old.items
         ++ row_of_all scope.now (target_trees (words_of tokens.now) targets.now)) }
     ensures right { OnOk result
@@ -135,7 +132,6 @@ pub fn targets_of(
     tokens: &Tokens<'_>,
     target: &Written,
 ) -> Result<Targets, OrMemory<ElabFault>>
-    requires { scope.now.variables ≤ 1024 }
     ensures ok { IfOk result (λ targets.
         targets ≡ row_of scope.now (target_tree (words_of tokens.now) target.now)) }
     ensures right { OnOk result

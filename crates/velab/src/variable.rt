@@ -1,18 +1,19 @@
-// Variables and nets: what a module declares by `reg`, by `integer` and by `wire` (4.2, 4.3, 4.8).
-ghost use Rattle.std.specs.Prelude.{◌≡◌, ◌<◌, ◌≤◌, ◌+◌, ◌^◌, [], ◌++◌, ◌∷◌, ℕ, Some, None, true, false, length, map, option_map, IfOk, OnOk};
+// Variables and nets: ports, and what a module declares by `reg`, by `integer` and by `wire` (4.2, 4.3, 4.8, 12.3.3).
+ghost use Rattle.std.specs.Prelude.{◌≡◌, ◌<◌, ◌≤◌, ◌+◌, ◌^◌, [], ◌++◌, ◌∷◌, ℕ, List, Some, None, true, false, length, map, option_map, IfOk, OnOk};
 ghost use Rattle.basis.specs.Reasons.{IfFault};
 ghost use Rattle.vast.specs.TokenTexts.{token_text};
 ghost use Rattle.vast.specs.ModuleTrees.{item_tree};
 ghost use Rattle.vexpr_parse.specs.Texts.{words_of};
 ghost use Rattle.velab.specs.Elaborate as spec;
-ghost use Rattle.velab.specs.Elaborate.{has_double, variable_of, declarations_of, variables_from, broken_declaration, broken_from, length_of};
-ghost use Rattle.velab.specs.Inner.{given_in, integers_item, kind_item, net_item, texts_of, variable_in, variables_by, variables_for, IsNarrow};
+ghost use Rattle.velab.specs.Elaborate.{variable_of, declarations_of, variables_from, broken_declaration, broken_from, broken_ports, broken_range, length_of};
+ghost use Rattle.vmodules.specs.Inner.{port_form};
+ghost use Rattle.vast.specs.Words.{Text};
+ghost use Rattle.velab.specs.Inner.{port_variables, given_in, integers_item, kind_item, net_item, texts_of, variable_in, variables_by, variables_for, IsNarrow};
 ghost use Rattle.velab.specs.Rules.{IsBroken};
 ghost use Rattle.velab.specs.Scopes.{Scope as Known};
 
-use crate::driven::Home;
+use crate::home::Home;
 use crate::fault::ElabFault;
-use crate::letters::letters;
 use crate::parameter::given_count;
 use crate::range::{range_bounds, span};
 use crate::scope::Scope;
@@ -23,6 +24,8 @@ use vbits::Bit4;
 use vdesign::design::{Kind, Variable};
 use vdesign::expression::Bounds;
 use vlex::Tokens;
+use vmodules::letters::letters;
+use vmodules::ports::PortForm;
 
 /// How names are declared: what a declaration says of each of them.
 #[derive(Clone, Copy, Debug)]
@@ -45,9 +48,8 @@ fn length_of(form: Form) -> u32
         },
     }
 }
-
-// A scope's name, a dot and a variable's own.
-fn dotted(alloc: Global, scope: &[u8], name: &[u8]) -> Result<Vec<u8>, NoMemory>
+/// An instance's path or the top's name, a dot and a name.
+pub fn dotted(alloc: Global, scope: &[u8], name: &[u8]) -> Result<Vec<u8>, NoMemory>
     ensures { IfOk result (λ text. text.items ≡ scope.now ++ 46 ∷ name.now) }
 {
     let mut text = Vec::from_slice(alloc, scope)?;
@@ -57,7 +59,7 @@ fn dotted(alloc: Global, scope: &[u8], name: &[u8]) -> Result<Vec<u8>, NoMemory>
 }
 
 // What each bit of a variable is until it is first written.
-fn start_of(home: &Home<'_>, kind: Kind, name: &[u8]) -> Bit4
+fn start_of(home: &Home<'_, '_>, kind: Kind, name: &[u8]) -> Bit4
     ensures { result ≡ spec.start_by home.now kind name.now }
 {
     match kind {
@@ -73,7 +75,7 @@ fn start_of(home: &Home<'_>, kind: Kind, name: &[u8]) -> Bit4
     }
 }
 
-fn variable(alloc: Global, home: &Home<'_>, form: Form, name: &[u8]) -> Result<Variable, NoMemory>
+fn variable(alloc: Global, home: &Home<'_, '_>, form: Form, name: &[u8]) -> Result<Variable, NoMemory>
     requires { IsNarrow form.bounds }
     ensures { IfOk result (λ v. v ≡ variable_in home.now form name.now) }
 {
@@ -93,7 +95,7 @@ fn variable(alloc: Global, home: &Home<'_>, form: Form, name: &[u8]) -> Result<V
 fn put_all(
     alloc: Global,
     tokens: &Tokens<'_>,
-    home: &Home<'_>,
+    home: &Home<'_, '_>,
     form: Form,
     list: &[Declared],
     into: &mut Vec<Variable>,
@@ -113,7 +115,7 @@ fn put_all(
 fn put_integers(
     alloc: Global,
     tokens: &Tokens<'_>,
-    home: &Home<'_>,
+    home: &Home<'_, '_>,
     list: &[Declared],
     into: &mut Vec<Variable>,
 ) -> Result<(), NoMemory>
@@ -142,14 +144,13 @@ fn kind_of(net: NetKind) -> Kind
 fn put_nets(
     alloc: Global,
     tokens: &Tokens<'_>,
-    home: &Home<'_>,
+    home: &Home<'_, '_>,
     scope: &Scope<'_, '_>,
     net: NetKind,
     kind: &SignAndRange,
     list: &[Declared],
     into: &mut Vec<Variable>,
 ) -> Result<(), OrMemory<ElabFault>>
-    requires { scope.now.variables ≤ 1024 }
     ensures ok { OnOk result (into.new.items ≡ into.old.items
         ++ map (variable_of home.now scope.now) (declarations_of (net_item (words_of tokens.now) net kind.now list.now))) }
     ensures right { OnOk result
@@ -171,13 +172,12 @@ fn put_nets(
 fn put_kind(
     alloc: Global,
     tokens: &Tokens<'_>,
-    home: &Home<'_>,
+    home: &Home<'_, '_>,
     scope: &Scope<'_, '_>,
     kind: &DeclarationKind,
     list: &[Declared],
     into: &mut Vec<Variable>,
 ) -> Result<(), OrMemory<ElabFault>>
-    requires { scope.now.variables ≤ 1024 }
     ensures ok { OnOk result (into.new.items ≡ into.old.items
         ++ map (variable_of home.now scope.now) (declarations_of (kind_item (words_of tokens.now) kind.now list.now))) }
     ensures right { OnOk result
@@ -200,12 +200,11 @@ fn put_kind(
 fn put_item(
     alloc: Global,
     tokens: &Tokens<'_>,
-    home: &Home<'_>,
+    home: &Home<'_, '_>,
     scope: &Scope<'_, '_>,
     item: &ModuleItem,
     into: &mut Vec<Variable>,
 ) -> Result<(), OrMemory<ElabFault>>
-    requires { scope.now.variables ≤ 1024 }
     ensures ok { OnOk result (into.new.items ≡
         into.old.items ++ variables_for (words_of tokens.now) home.now scope.now item.now) }
     ensures right { OnOk result
@@ -226,29 +225,108 @@ fn put_item(
     }
 }
 
-/// The variables that items declare, in the order of the text. `scope` is that of the first item. Errors: E303, E306, E307, E901.
-pub fn variables(
+// The bounds that a port is declared with, where it is. E303, E306 or E307 where its range is none.
+fn port_bounds(
     alloc: Global,
     tokens: &Tokens<'_>,
-    home: &Home<'_>,
+    scope: &Scope<'_, '_>,
+    port: &PortForm<'_>,
+) -> Result<Option<Bounds>, OrMemory<ElabFault>>
+    ensures ok { IfOk result (λ bounds. bounds ≡
+        option_map (spec.bounds_of scope.now) (port_form (words_of tokens.now) port.now).type.range) }
+    ensures few { IfOk result IsNarrow }
+    ensures right { OnOk result
+        (broken_range scope.now (port_form (words_of tokens.now) port.now).type.range ≡ None) }
+    ensures err { IfFault result
+        (IsBroken (broken_range scope.now (port_form (words_of tokens.now) port.now).type.range)) }
+{
+    match port.kind {
+        None => Ok(None),
+        Some(kind) => range_bounds(alloc, scope, tokens, &kind.range),
+    }
+}
+
+// Whether a port is signed.
+fn port_signed(port: &PortForm<'_>) -> bool
+    ensures { (words : List Text) → result ≡ (port_form words port.now).type.signed }
+{
+    match port.kind {
+        None => false,
+        Some(kind) => kind.signed,
+    }
+}
+
+// The variable of one port.
+fn put_port(
+    alloc: Global,
+    tokens: &Tokens<'_>,
+    home: &Home<'_, '_>,
+    scope: &Scope<'_, '_>,
+    port: &PortForm<'_>,
+    into: &mut Vec<Variable>,
+) -> Result<(), OrMemory<ElabFault>>
+    ensures ok { OnOk result (into.new.items ≡
+        into.old.items ++ port_variables (words_of tokens.now) home.now scope.now (port.now ∷ [])) }
+    ensures right { OnOk result
+        (broken_range scope.now (port_form (words_of tokens.now) port.now).type.range ≡ None) }
+    ensures err { IfFault result
+        (IsBroken (broken_range scope.now (port_form (words_of tokens.now) port.now).type.range)) }
+{
+    let bounds = port_bounds(alloc, tokens, scope, port)?;
+    let form = Form {
+        kind: kind_of(port.net),
+        signed: port_signed(port),
+        bounds,
+    };
+    let variable = variable(alloc, home, form, letters(tokens, port.name))?;
+    into.push(variable)?;
+    Ok(())
+}
+
+/// The variables of ports, in their order. `scope` is that of the first item. Errors: E303, E306, E307, E901.
+pub fn put_ports(
+    alloc: Global,
+    tokens: &Tokens<'_>,
+    home: &Home<'_, '_>,
+    scope: &Scope<'_, '_>,
+    ports: &[PortForm<'_>],
+    into: &mut Vec<Variable>,
+) -> Result<(), OrMemory<ElabFault>>
+    ensures ok { OnOk result (into.new.items ≡
+        into.old.items ++ port_variables (words_of tokens.now) home.now scope.now ports.now) }
+    ensures right { OnOk result
+        (broken_ports scope.now (map (port_form (words_of tokens.now)) ports.now) ≡ None) }
+    ensures err { IfFault result
+        (IsBroken (broken_ports scope.now (map (port_form (words_of tokens.now)) ports.now))) }
+{
+    for port in ports {
+        put_port(alloc, tokens, home, scope, port, into)?;
+    }
+    Ok(())
+}
+
+/// The variables that items declare, in the order of the text. `scope` is that of the first item. Errors: E303, E306, E307, E901.
+pub fn put_variables(
+    alloc: Global,
+    tokens: &Tokens<'_>,
+    home: &Home<'_, '_>,
     scope: &Scope<'_, '_>,
     items: &[ModuleItem],
-) -> Result<Vec<Variable>, OrMemory<ElabFault>>
-    requires few { scope.now.variables ≤ 1024 }
+    into: &mut Vec<Variable>,
+) -> Result<(), OrMemory<ElabFault>>
     requires small { scope.now.known + length (given_in (words_of tokens.now) items.now) < 2 ^ 64 }
-    ensures ok { IfOk result (λ list. list.items ≡
-        variables_from home.now scope.now (map (item_tree (words_of tokens.now)) items.now)) }
+    ensures ok { OnOk result (into.new.items ≡ into.old.items
+        ++ variables_from home.now scope.now (map (item_tree (words_of tokens.now)) items.now)) }
     ensures right { OnOk result
         (broken_from scope.now (map (item_tree (words_of tokens.now)) items.now) ≡ None) }
     ensures err { IfFault result
         (IsBroken (broken_from scope.now (map (item_tree (words_of tokens.now)) items.now))) }
 {
-    let mut list = Vec::new(alloc);
     let mut known = scope.known;
     for item in items {
         let here = scope.at(known);
-        put_item(alloc, tokens, home, &here, item, &mut list)?;
+        put_item(alloc, tokens, home, &here, item, into)?;
         known += given_count(item);
     }
-    Ok(list)
+    Ok(())
 }

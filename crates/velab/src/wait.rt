@@ -57,7 +57,6 @@ fn term_of(
     edge: Edge,
     name: Token,
 ) -> Result<Term, OrMemory<ElabFault>>
-    requires { scope.now.variables ≤ 1024 }
     ensures ok { IfOk result (λ term.
         term ≡ spec.term_by scope.now edge (token_text (words_of tokens.now) name)) }
     ensures right { OnOk result
@@ -76,6 +75,10 @@ fn term_of(
             at: Some(name.number),
         })),
         Some(Meaning::Event(number)) => event_term(edge, number, name.number),
+        Some(Meaning::Instance) => Err(OrMemory::Fault(ElabFault {
+            rule: Rule::Kind,
+            at: Some(name.number),
+        })),
     }
 }
 
@@ -87,7 +90,6 @@ fn put_term(
     name: Token,
     terms: &mut Vec<Term>,
 ) -> Result<(), OrMemory<ElabFault>>
-    requires { scope.now.variables ≤ 1024 }
     ensures ok { OnOk result (terms.new.items ≡ terms.old.items
         ++ spec.term_by scope.now edge (token_text (words_of tokens.now) name) ∷ []) }
     ensures right { OnOk result
@@ -107,7 +109,6 @@ fn put_name(
     name: Token,
     terms: &mut Vec<Term>,
 ) -> Result<(), NoMemory>
-    requires { scope.now.variables ≤ 1024 }
     ensures { OnOk result (terms.new.items ≡ terms.old.items
         ++ heard (spec_meaning scope.now (token_text (words_of tokens.now) name))) }
 {
@@ -121,6 +122,7 @@ fn put_name(
         }
         Some(Meaning::Parameter { .. }) => Ok(()),
         Some(Meaning::Event(_)) => Ok(()),
+        Some(Meaning::Instance) => Ok(()),
         None => Ok(()),
     }
 }
@@ -133,7 +135,6 @@ fn put_part_names(
     parts: &[Value],
     terms: &mut Vec<Term>,
 ) -> Result<(), NoMemory>
-    requires { scope.now.variables ≤ 1024 }
     ensures { OnOk result (terms.new.items ≡ terms.old.items
         ++ any_of scope.now (names_in_parts (text_trees (words_of tokens.now) parts.now))) }
 {
@@ -151,7 +152,6 @@ fn put_names(
     expression: &Value,
     terms: &mut Vec<Term>,
 ) -> Result<(), NoMemory>
-    requires { scope.now.variables ≤ 1024 }
     ensures { OnOk result (terms.new.items ≡ terms.old.items
         ++ any_of scope.now (names_in (text_tree (words_of tokens.now) expression.now))) }
 {
@@ -193,7 +193,6 @@ fn put_target(
     target: &Target,
     terms: &mut Vec<Term>,
 ) -> Result<(), NoMemory>
-    requires { scope.now.variables ≤ 1024 }
     ensures { OnOk result (terms.new.items ≡ terms.old.items ++ any_of scope.now
         (read_by_target (target_tree (words_of tokens.now) target.now))) }
 {
@@ -213,7 +212,6 @@ fn put_targets(
     targets: &[Target],
     terms: &mut Vec<Term>,
 ) -> Result<(), NoMemory>
-    requires { scope.now.variables ≤ 1024 }
     ensures { OnOk result (terms.new.items ≡ terms.old.items ++ any_of scope.now
         (read_by_targets (target_trees (words_of tokens.now) targets.now))) }
 {
@@ -229,7 +227,6 @@ fn put_delay(
     amount: &Delay,
     terms: &mut Vec<Term>,
 ) -> Result<(), NoMemory>
-    requires { scope.now.variables ≤ 1024 }
     ensures { OnOk result (terms.new.items ≡ terms.old.items
         ++ any_of scope.now (read_by_delay (delay_tree (words_of tokens.now) amount.now))) }
 {
@@ -247,7 +244,6 @@ fn put_own(
     amount: &Option<Delay>,
     terms: &mut Vec<Term>,
 ) -> Result<(), NoMemory>
-    requires { scope.now.variables ≤ 1024 }
     ensures { OnOk result (terms.new.items ≡ terms.old.items ++ any_of scope.now
         (read_by_own (option_map (delay_tree (words_of tokens.now)) amount.now))) }
 {
@@ -266,7 +262,6 @@ fn put_assignment(
     value: &Value,
     terms: &mut Vec<Term>,
 ) -> Result<(), NoMemory>
-    requires { scope.now.variables ≤ 1024 }
     ensures { OnOk result (terms.new.items ≡ terms.old.items ++ any_of scope.now
         (read_by_assignment (target_tree (words_of tokens.now) target.now)
         (option_map (delay_tree (words_of tokens.now)) amount.now)
@@ -284,7 +279,6 @@ fn put_argument(
     argument: &Argument,
     terms: &mut Vec<Term>,
 ) -> Result<(), NoMemory>
-    requires { scope.now.variables ≤ 1024 }
     ensures { OnOk result (terms.new.items ≡ terms.old.items ++ any_of scope.now
         (read_by_argument (argument_tree (words_of tokens.now) argument.now))) }
 {
@@ -301,7 +295,6 @@ fn put_arguments(
     arguments: &[Argument],
     terms: &mut Vec<Term>,
 ) -> Result<(), NoMemory>
-    requires { scope.now.variables ≤ 1024 }
     ensures { OnOk result (terms.new.items ≡ terms.old.items ++ any_of scope.now
         (read_by_arguments (map (argument_tree (words_of tokens.now)) arguments.now))) }
 {
@@ -318,7 +311,6 @@ fn put_task(
     task: &Task,
     terms: &mut Vec<Term>,
 ) -> Result<(), NoMemory>
-    requires { scope.now.variables ≤ 1024 }
     ensures { OnOk result (terms.new.items ≡ terms.old.items
         ++ any_of scope.now (read_by_task (task_tree (words_of tokens.now) task.now))) }
 {
@@ -338,7 +330,6 @@ fn put_labels(
     labels: &[Value],
     terms: &mut Vec<Term>,
 ) -> Result<(), NoMemory>
-    requires { scope.now.variables ≤ 1024 }
     ensures { OnOk result (terms.new.items ≡ terms.old.items
         ++ any_of scope.now (read_by_items (text_trees (words_of tokens.now) labels.now))) }
 {
@@ -356,7 +347,6 @@ fn put_read(
     statement: &Statement,
     terms: &mut Vec<Term>,
 ) -> Result<(), NoMemory>
-    requires { scope.now.variables ≤ 1024 }
     ensures { OnOk result (terms.new.items ≡ terms.old.items
         ++ any_of scope.now (read_by (statement_tree (words_of tokens.now) statement.now))) }
 {
@@ -444,7 +434,6 @@ fn put_all_read(
     statements: &[Statement],
     terms: &mut Vec<Term>,
 ) -> Result<(), NoMemory>
-    requires { scope.now.variables ≤ 1024 }
     ensures { OnOk result (terms.new.items ≡ terms.old.items
         ++ any_of scope.now (read_by_all (statement_trees (words_of tokens.now) statements.now))) }
 {
@@ -463,7 +452,6 @@ fn put_case(
     value: &Value,
     terms: &mut Vec<Term>,
 ) -> Result<(), NoMemory>
-    requires { scope.now.variables ≤ 1024 }
     ensures { OnOk result (terms.new.items ≡ terms.old.items ++ any_of scope.now (read_by
         (case_of kind (text_tree (words_of tokens.now) value.now)
         (branch_trees (words_of tokens.now) branches.now)))) }
@@ -479,7 +467,6 @@ fn put_branches(
     branches: &[Branch],
     terms: &mut Vec<Term>,
 ) -> Result<(), NoMemory>
-    requires { scope.now.variables ≤ 1024 }
     ensures { OnOk result (terms.new.items ≡ terms.old.items ++ any_of scope.now
         (read_by_branches (branch_trees (words_of tokens.now) branches.now))) }
 {
@@ -496,7 +483,6 @@ fn put_branch(
     branch: &Branch,
     terms: &mut Vec<Term>,
 ) -> Result<(), NoMemory>
-    requires { scope.now.variables ≤ 1024 }
     ensures { OnOk result (terms.new.items ≡ terms.old.items ++ any_of scope.now
         (read_by_branch (branch_tree (words_of tokens.now) branch.now))) }
 {
@@ -516,7 +502,6 @@ fn put_further_term(
     one: &FurtherTerm,
     terms: &mut Vec<Term>,
 ) -> Result<(), OrMemory<ElabFault>>
-    requires { scope.now.variables ≤ 1024 }
     ensures ok { OnOk result (terms.new.items ≡ terms.old.items
         ++ spec.further_term_of scope.now (further_term (words_of tokens.now) one.now) ∷ []) }
     ensures right { OnOk result
@@ -535,7 +520,6 @@ fn put_further(
     further: &[FurtherTerm],
     terms: &mut Vec<Term>,
 ) -> Result<(), OrMemory<ElabFault>>
-    requires { scope.now.variables ≤ 1024 }
     ensures ok { OnOk result (terms.new.items ≡ terms.old.items
         ++ map (spec.further_term_of scope.now)
         (map (further_term (words_of tokens.now)) further.now)) }
@@ -560,7 +544,6 @@ fn put_event(
     body: &Statement,
     terms: &mut Vec<Term>,
 ) -> Result<(), OrMemory<ElabFault>>
-    requires { scope.now.variables ≤ 1024 }
     ensures ok { OnOk result (terms.new.items ≡ terms.old.items ++ spec.terms_of scope.now
         (event_tree (words_of tokens.now) event.now)
         (statement_tree (words_of tokens.now) body.now)) }
@@ -595,7 +578,6 @@ pub fn event_terms(
     event: &Event,
     body: &Statement,
 ) -> Result<Terms, OrMemory<ElabFault>>
-    requires { scope.now.variables ≤ 1024 }
     ensures ok { IfOk result (λ terms. terms ≡ spec.terms_of scope.now
         (event_tree (words_of tokens.now) event.now)
         (statement_tree (words_of tokens.now) body.now)) }
@@ -616,11 +598,24 @@ pub fn condition_terms(
     tokens: &Tokens<'_>,
     condition: &Value,
 ) -> Result<Terms, NoMemory>
-    requires { scope.now.variables ≤ 1024 }
     ensures { IfOk result (λ terms. terms ≡ any_of scope.now
         (names_in (text_tree (words_of tokens.now) condition.now))) }
 {
     let mut terms = Vec::new(alloc);
     put_names(scope, tokens, condition, &mut terms)?;
+    Ok(Terms::new(terms))
+}
+
+/// Any change of the variable of this name, if it is one's: what an output listens to (12.3.9.2).
+pub fn name_terms(
+    alloc: Global,
+    scope: &Scope<'_, '_>,
+    tokens: &Tokens<'_>,
+    name: Token,
+) -> Result<Terms, NoMemory>
+    ensures { IfOk result (λ terms. terms ≡ any_of scope.now (token_text (words_of tokens.now) name ∷ [])) }
+{
+    let mut terms = Vec::new(alloc);
+    put_name(scope, tokens, name, &mut terms)?;
     Ok(Terms::new(terms))
 }

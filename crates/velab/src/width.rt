@@ -115,6 +115,7 @@ fn action_flaw(action: &Action, moment: &Moment<'_>) -> Option<Flaw>
         Action::Until { condition, .. } => flaw_of(condition, moment),
         Action::Drive { value, .. } => flaw_of(value, moment),
         Action::Print { pieces, .. } => pieces_flaw(pieces.as_slice(), moment),
+        Action::DumpVars(_) => None,
         Action::Dump(_) => None,
         Action::Pass => None,
         Action::Finish => None,

@@ -10,7 +10,7 @@ use Rattle.vbits.specs.Vectors.{Vector, filled, with_sign, resize}
 use Rattle.vdesign.specs.Design.{Variable, Design}
 use Rattle.vdesign.specs.declared.action.Action.{Action}
 use Rattle.vdesign.specs.declared.print.When.TheVariants.{Now, AtSlotEnd, AtChange}
-use Rattle.vdesign.specs.declared.action.Action.TheVariants.{Assign, Nonblocking, Held, Posted, Trigger, Test, Case, Again, Repeat, Forever, Delay, On, Until, Drive, Print, Dump, Pass, Finish, Stop}
+use Rattle.vdesign.specs.declared.action.Action.TheVariants.{Assign, Nonblocking, Held, Posted, Trigger, Test, Case, Again, Repeat, Forever, Delay, On, Until, Drive, Print, DumpVars, Dump, Pass, Finish, Stop}
 use Rattle.vdesign.specs.Expressions.{ExpressionTree}
 use Rattle.vdesign.specs.declared.action.Target.{Target}
 use Rattle.vdesign.specs.declared.action.Target.TheVariants.{Whole as WholeTarget, Bit as BitTarget, Part as PartTarget}
@@ -309,7 +309,8 @@ does-suits variables place (Drive net value terms) after now h = record { wrote 
 does-suits variables place (Print Now pieces) after now h = record { wrote = tt; posted = λ post is. cc }
 does-suits variables place (Print AtSlotEnd pieces) after now h = record { wrote = tt; posted = λ post is. cc }
 does-suits variables place (Print AtChange pieces) after now h = record { wrote = tt; posted = λ post is. cc }
-does-suits variables place (Dump command) after now h = record { wrote = tt; posted = λ post is. cc }
+does-suits variables place (DumpVars selection) after now h = record { wrote = tt; posted = λ post is. cc }
+does-suits variables place (Dump switch) after now h = record { wrote = tt; posted = λ post is. cc }
 does-suits variables place Pass after now h = record { wrote = tt; posted = λ post is. cc }
 does-suits variables place Finish after now h = record { wrote = tt; posted = λ post is. cc }
 does-suits variables place Stop after now h = record { wrote = tt; posted = λ post is. cc }

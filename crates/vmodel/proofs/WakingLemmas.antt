@@ -11,7 +11,7 @@ use Rattle.vdesign.specs.declared.action.Edge.TheVariants.{Any, Rise, Fall}
 use Rattle.vdesign.specs.declared.action.Term.{Term}
 use Rattle.vdesign.specs.declared.action.Term.TheVariants.{Change as ChangeTerm, Event}
 use Rattle.vdesign.specs.declared.action.Action.{Action}
-use Rattle.vdesign.specs.declared.action.Action.TheVariants.{Assign, Nonblocking, Held, Posted, Trigger, Test, Case, Again, Repeat, Forever, Delay, On, Until, Drive, Print, Dump, Pass, Finish, Stop}
+use Rattle.vdesign.specs.declared.action.Action.TheVariants.{Assign, Nonblocking, Held, Posted, Trigger, Test, Case, Again, Repeat, Forever, Delay, On, Until, Drive, Print, DumpVars, Dump, Pass, Finish, Stop}
 use Rattle.vmodel.specs.declared.values.Change.{Change}
 use Rattle.vmodel.specs.Queue.{with_process}
 use Rattle.vmodel.specs.State.{Process, State}
@@ -57,7 +57,8 @@ none_comes values (Some (Case kind value branches otherwise)) = refl
 none_comes values (Some (Repeat count body)) = refl
 none_comes values (Some (Drive net value terms)) = none_hears values terms
 none_comes values (Some (Print when pieces)) = refl
-none_comes values (Some (Dump command)) = refl
+none_comes values (Some (DumpVars selection)) = refl
+none_comes values (Some (Dump switch)) = refl
 none_comes values (Some Pass) = refl
 none_comes values (Some Finish) = refl
 none_comes values (Some Stop) = refl
@@ -134,7 +135,8 @@ module _ (news : News) (before after : List Vector) (d : AreChanges news.changes
   comes_is_by (Some (Repeat count body)) = refl
   comes_is_by (Some (Drive net value terms)) = any_is terms
   comes_is_by (Some (Print when pieces)) = refl
-  comes_is_by (Some (Dump command)) = refl
+  comes_is_by (Some (DumpVars selection)) = refl
+  comes_is_by (Some (Dump switch)) = refl
   comes_is_by (Some Pass) = refl
   comes_is_by (Some Finish) = refl
   comes_is_by (Some Stop) = refl

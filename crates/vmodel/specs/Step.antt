@@ -5,7 +5,11 @@ use Rattle.vbits.specs.Vectors.{Vector}
 use Rattle.basis.specs.Timescales.{factor}
 use Rattle.vdesign.specs.Design.{Design}
 use Rattle.vdesign.specs.declared.action.Action.{Action}
-use Rattle.vdesign.specs.declared.action.Action.TheVariants.{Assign, Nonblocking, Held, Posted, Trigger, Test, Case, Again, Repeat, Forever, Delay, On, Until, Drive, Print, Dump, Pass, Finish, Stop}
+use Rattle.vdesign.specs.declared.action.Action.TheVariants.{Assign, Nonblocking, Held, Posted, Trigger, Test, Case, Again, Repeat, Forever, Delay, On, Until, Drive, Print, DumpVars, Dump, Pass, Finish, Stop}
+use Rattle.vdesign.specs.declared.dump.DumpSwitch.{DumpSwitch}
+use Rattle.vdesign.specs.declared.dump.DumpSwitch.TheVariants as switch
+use Rattle.vdesign.specs.declared.dump.DumpCommand.{DumpCommand}
+use Rattle.vdesign.specs.declared.dump.DumpCommand.TheVariants as command
 use Rattle.vdesign.specs.declared.print.When.{When}
 use Rattle.vdesign.specs.declared.print.When.TheVariants.{Now, AtSlotEnd, AtChange}
 use Rattle.vdesign.specs.declared.print.Piece.{Piece}
@@ -76,6 +80,12 @@ printing Now place = record quiet { shown = Some (Prints place) }
 printing AtSlotEnd place = record quiet { strobed = Some place }
 printing AtChange place = record quiet { shown = Some (Watches place) }
 
+-- the command that a dump task gives, but for $dumpvars (18.1.3, 18.1.4)
+abbrev pub switched : DumpSwitch → DumpCommand
+switched switch.Off = command.Off
+switched switch.On = command.On
+switched switch.All = command.All
+
 -- what an action at a place does at a moment, of a process that has `after` left behind it
 abbrev pub does : ℕ → Action → List Spot → Moment → Did
 -- 9.2.1: `targets = value` writes
@@ -116,8 +126,9 @@ does place (Drive net value terms) after now =
     record { left = Doing place ∷ after; deed = record quiet { wrote = assigned now (WholeTarget net ∷ []) value; fate = Waits place } }
 -- 17.1: `$display(..)`, `$strobe(..)`, `$monitor(..)`
 does place (Print when pieces) after now = record { left = after; deed = printing when place }
--- 18.1: `$dumpvars` and its kin
-does place (Dump command) after now = record { left = after; deed = record quiet { shown = Some (Commands command) } }
+-- 18.1: `$dumpvars(..)`, whose selection stands at its place, and its kin
+does place (DumpVars selection) after now = record { left = after; deed = record quiet { shown = Some (Commands (command.Vars place)) } }
+does place (Dump asked) after now = record { left = after; deed = record quiet { shown = Some (Commands (switched asked)) } }
 -- 18.1.1, 18.1.6: `$dumpfile` and `$dumpflush` do nothing more
 does place Pass after now = record { left = after; deed = quiet }
 -- 17.4.1: `$finish`

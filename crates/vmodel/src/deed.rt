@@ -16,7 +16,7 @@ use basis::NoMemory;
 use std::alloc::Global;
 use vbits::Vec4;
 use vdesign::action::{Action, Places, Target, Targets};
-use vdesign::dump::DumpCommand;
+use vdesign::dump::{DumpCommand, DumpSwitch};
 use vdesign::expression::Expression;
 use vdesign::print::When;
 use vvalue::asked::{delay_of, holds};
@@ -137,6 +137,17 @@ fn suspending(fate: Fate) -> Deed
     Deed {
         fate,
         ..Deed::quiet()
+    }
+}
+
+// The command that a dump task gives, but for `$dumpvars` (18.1).
+fn switched(switch: DumpSwitch) -> DumpCommand
+    ensures { result ≡ spec.switched switch }
+{
+    match switch {
+        DumpSwitch::Off => DumpCommand::Off,
+        DumpSwitch::On => DumpCommand::On,
+        DumpSwitch::All => DumpCommand::All,
     }
 }
 
@@ -430,7 +441,10 @@ pub fn deed_of<'d>(
             Ok(drive_of(place, parts))
         }
         Action::Print { when, .. } => Ok(goes_by(&[], printing(*when, place))),
-        Action::Dump(command) => Ok(goes_by(&[], showing(Shown::Commands(*command)))),
+        Action::DumpVars(_) => {
+            Ok(goes_by(&[], showing(Shown::Commands(DumpCommand::Vars(place)))))
+        }
+        Action::Dump(switch) => { Ok(goes_by(&[], showing(Shown::Commands(switched(*switch))))) }
         Action::Pass => Ok(goes_to(&[])),
         Action::Finish => Ok(goes_by(&[], ending(Cause::Finish))),
         Action::Stop => Ok(goes_by(&[], ending(Cause::Stop))),

@@ -1,5 +1,5 @@
--- A rule that what runs of the only tree of a text breaks leaves the text without a design.
-use Rattle.std.proofs.Common.{◌≡◌, inr, ℕ, Bool, true, false, not, true≢false, refl, List, Option, Result, Ok, Err, IfErr, sym, ap, subst, ◌∙◌}
+-- A rule that the only tree of a text breaks leaves the text without a design.
+use Rattle.std.proofs.Common.{◌≡◌, inr, ℕ, List, Option, Result, Ok, Err, IfErr, sym, ap, subst, ◌∙◌}
 use Rattle.vsrc.specs.Source.{Source}
 use Rattle.vsrc.specs.Expansion.{expansion}
 use Rattle.vsrc.specs.declared.fault.SrcFault.{SrcFault}
@@ -7,13 +7,12 @@ use Rattle.vlex.specs.Tokenized.{Tokenized, pieces_of}
 use Rattle.vast.specs.Modules.{SourceTree, DerivesText}
 use Rattle.vexpr_parse.specs.Texts.{words_of}
 use Rattle.vparse.specs.Refusals.{HasNoText, IsOnlyText}
-use Rattle.velab.specs.Elaborate.{Elaborates}
-use Rattle.velab.specs.Runs.{runs}
-use Rattle.velab.specs.Reasons.{IsDesignReason, HasNoDesign}
+use Rattle.vhierarchy.specs.Instances.{Elaborates}
+use Rattle.vhierarchy.specs.Reasons.{IsDesignReason, HasNoDesign}
 use Rattle.velab.specs.declared.fault.ElabFault.{ElabFault}
 use Rattle.vrace.specs.Replays.{AreRead, IsTreeOf, texts_of}
-use Rattle.vrace.specs.Unique.{IsCut, IsReadAs, IsRunAs}
-use Rattle.vrace.specs.Refusals.{Breaks, IsTextReason, IsDesignFault, IsDesignless, IsNotRun, IsTreeless}
+use Rattle.vrace.specs.Unique.{IsCut, IsReadAs}
+use Rattle.vrace.specs.Refusals.{Breaks, IsTextReason, IsDesignFault, IsDesignless, IsTreeless}
 use Rattle.vrace.specs.declared.fault.Fault.{Fault}
 
 module _ (source : Source) (tokens : Tokenized) (cut : IsCut source tokens) where
@@ -31,25 +30,12 @@ module _ (source : Source) (tokens : Tokenized) (cut : IsCut source tokens) wher
     only = λ other is. only other (at_words other is);
   }
 
--- what isn't none is refused
-pub refused : (b : Bool) → true ≡ not b → b ≡ false
-refused true e = absurd (true≢false e)
-refused false e = refl
-
-pub not_run : (text : List ℕ) (tree : SourceTree) (top : Option (List ℕ)) → IsReadAs text tree → runs tree ≡ false →
-    IsDesignless text top × IsNotRun text
-not_run text tree top read none = (
-  (λ scale design is.
-      absurd (true≢false (sym is.all_runs ∙ ap runs (read.only is.tree is.is_tree) ∙ none))),
-  (tree, read.is_tree, none),
-)
-
-pub breaks : (text : List ℕ) (tree : SourceTree) (top : Option (List ℕ)) (fault : ElabFault) → IsRunAs text tree →
+pub breaks : (text : List ℕ) (tree : SourceTree) (top : Option (List ℕ)) (fault : ElabFault) → IsReadAs text tree →
     IsDesignReason tree top fault → HasNoDesign tree top → Breaks text top fault.rule
-breaks text tree top fault run reason none = (
+breaks text tree top fault read reason none = (
   (λ scale design is.
-      none scale design (subst (λ t. Elaborates t top scale design) (run.is_read.only is.tree is.is_tree) is.elaborated)),
-  record { tree = tree; is_tree = run.is_read.is_tree; all_runs = run.all_runs; broken = reason },
+      none scale design (subst (λ t. Elaborates t top scale design) (read.only is.tree is.is_tree) is.elaborated)),
+  record { tree = tree; is_tree = read.is_tree; broken = reason },
 )
 
 abbrev source_in : Source → Result Source SrcFault → Source

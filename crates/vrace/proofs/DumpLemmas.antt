@@ -7,7 +7,7 @@ use Rattle.vmodel.specs.declared.history.End.{End}
 use Rattle.vmodel.specs.Run.{Setting, rules_of, history_after}
 use Rattle.vmodel.specs.Played.{Finishes}
 use Rattle.basis.specs.declared.memory.OrMemory.{OrMemory}
-use Rattle.vcd_text.specs.DumpText.{dump_below}
+use Rattle.vcd_text.specs.DumpText.{vcd}
 use Rattle.vcd_text.specs.Metered.{Written, Broken}
 use Rattle.vcd_text.specs.MeteredLaws.{stops_of}
 use Rattle.vcd_text.specs.declared.metered.Metered.{Metered}
@@ -25,15 +25,15 @@ if_err (Ok x) f p = tt
 if_err (Err e) f p = f e p
 
 -- the dump of a run that ends
-pub the_dump : (head : List ℕ) (setting : Setting) (log : List (ℕ × ℕ)) (limit n : ℕ) (end : End) → Finishes setting log limit n end →
-    IsRunDump head setting log limit (dump_below head (history_after setting log n))
-the_dump head setting log limit n end finishes = record { steps = n; end = end; finishes = finishes; is_text = refl }
+pub the_dump : (setting : Setting) (log : List (ℕ × ℕ)) (limit n : ℕ) (end : End) → Finishes setting log limit n end →
+    IsRunDump setting log limit (vcd setting.design (history_after setting log n))
+the_dump setting log limit n end finishes = record { steps = n; end = end; finishes = finishes; is_text = refl }
 
 -- the fault that came as the dump went out
-pub stops : {W : Type 0} (contents : W → Option (List ℕ)) (head : List ℕ) (setting : Setting) (log : List (ℕ × ℕ)) (limit : ℕ) (old new : Metered W) (cause : OrMemory WriteFault) (fault : Fault) →
-    fault ≡ fault_of cause → StopsOutlet (Written contents) (Broken contents) head setting log limit old cause new →
-    StopsText contents (IsRunDump head setting log limit) old new fault
-stops contents head setting log limit old new cause fault is (dump, known, stopped) =
+pub stops : {W : Type 0} (contents : W → Option (List ℕ)) (setting : Setting) (log : List (ℕ × ℕ)) (limit : ℕ) (old new : Metered W) (cause : OrMemory WriteFault) (fault : Fault) →
+    fault ≡ fault_of cause → StopsOutlet (Written contents) (Broken contents) setting log limit old cause new →
+    StopsText contents (IsRunDump setting log limit) old new fault
+stops contents setting log limit old new cause fault is (dump, known, stopped) =
     record { cause = cause; is = is; text = dump; holds = known; stops = stops_of contents old new dump cause stopped }
 
 -- why there is no such run

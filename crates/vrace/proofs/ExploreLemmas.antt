@@ -21,7 +21,7 @@ use Rattle.vrace.specs.Refusals.{IsOfWriting}
 use Rattle.vrace.specs.RunDumps.{failures_after, fault_of}
 use Rattle.vrace.specs.declared.exploring.Status.{Status}
 use Rattle.vrace.specs.declared.fault.Fault.{Fault}
-use Rattle.vrace.specs.declared.fault.Fault.TheVariants.{NotEnded, BadToken, Directive, NoMacro, Growth, LeftOpen, Timescales, NoTree, Outside, TooDeep, NotYet, NoDesign, BadLog, NoSuchChoice, TooManySteps, OutOfLimit, BadReport, FalseEnd, FalseRace, FalseHead, Memory, Write, Read, TooLong}
+use Rattle.vrace.specs.declared.fault.Fault.TheVariants.{NotEnded, BadToken, Directive, NoMacro, Growth, LeftOpen, Timescales, NoTree, Outside, TooDeep, NoDesign, BadLog, NoSuchChoice, TooManySteps, OutOfLimit, BadReport, FalseEnd, FalseRace, FalseHead, Memory, Write, Read, TooLong}
 
 of_writing : (cause : OrMemory WriteFault) → IsOfWriting (fault_of cause)
 of_writing (or.Memory m) = tt
@@ -68,7 +68,6 @@ module _ (files : List (List ℕ)) (asked : Asked) (searched : Searched files as
   search_reason (NoTree at) p = absurd p
   search_reason (Outside at) p = absurd p
   search_reason (TooDeep at) p = absurd p
-  search_reason (NotYet at) p = absurd p
   search_reason (Directive at) p = absurd p
   search_reason (NoMacro at) p = absurd p
   search_reason (LeftOpen at) p = absurd p
@@ -94,7 +93,6 @@ module _ (files : List (List ℕ)) (asked : Asked) (searched : Searched files as
   no_failure (NoTree at) n p = absurd p
   no_failure (Outside at) n p = absurd p
   no_failure (TooDeep at) n p = absurd p
-  no_failure (NotYet at) n p = absurd p
   no_failure (Directive at) n p = absurd p
   no_failure (NoMacro at) n p = absurd p
   no_failure (LeftOpen at) n p = absurd p

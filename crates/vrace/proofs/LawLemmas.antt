@@ -9,8 +9,8 @@ use Rattle.vast.specs.Words.{Text}
 use Rattle.vast.specs.Modules.{SourceTree, DerivesText}
 use Rattle.vdesign.specs.Design.{Design}
 use Rattle.vgrammar.specs.SourcePlaces.{IsOnly}
-use Rattle.velab.specs.Elaborate.{Elaborates}
-use Rattle.velab.specs.Laws.{ElaboratesOneWay}
+use Rattle.vhierarchy.specs.Instances.{Elaborates}
+use Rattle.vhierarchy.specs.Laws.{ElaboratesOneWay}
 use Rattle.sched_core.specs.LogText.{OneLogForText}
 use Rattle.sched_core.specs.Replay.{EndsAfter}
 use Rattle.vmodel.specs.Run.{Setting, rules_of, history_after}
@@ -19,7 +19,7 @@ use Rattle.vrace.specs.Replays.{AreRead, texts_of, IsTreeOf, IsDesignOf, IsDesig
 use Rattle.vrace.specs.declared.replay.Show.{Show}
 use Rattle.vrace.specs.Refusals.{IsDesignFault, IsFileReason, IsTextReason, IsRunReason, IsReason, IsOfMemory, IsOfWriting}
 use Rattle.vrace.specs.declared.fault.Fault.{Fault}
-use Rattle.vrace.specs.declared.fault.Fault.TheVariants.{NotEnded, BadToken, Directive, NoMacro, Growth, LeftOpen, Timescales, NoTree, Outside, TooDeep, NotYet, NoDesign, BadLog, NoSuchChoice, TooManySteps, OutOfLimit, BadReport, FalseEnd, FalseRace, FalseHead, Memory, Write, Read, TooLong}
+use Rattle.vrace.specs.declared.fault.Fault.TheVariants.{NotEnded, BadToken, Directive, NoMacro, Growth, LeftOpen, Timescales, NoTree, Outside, TooDeep, NoDesign, BadLog, NoSuchChoice, TooManySteps, OutOfLimit, BadReport, FalseEnd, FalseRace, FalseHead, Memory, Write, Read, TooLong}
 use Rattle.vreport.specs.RunLaws.{same_end, never_missing, never_more}
 
 pub record Laws : Type 0 where
@@ -46,7 +46,6 @@ module _ (laws : Laws) (files : List (List ℕ)) (read : AreRead files) where
   not_for_files (NoTree at) r = absurd r
   not_for_files (Outside at) r = absurd r
   not_for_files (TooDeep at) r = absurd r
-  not_for_files (NotYet at) r = absurd r
   not_for_files (NoDesign rule at) r = absurd r
   not_for_files BadLog r = absurd r
   not_for_files NoSuchChoice r = absurd r
@@ -71,7 +70,6 @@ module _ (laws : Laws) (files : List (List ℕ)) (read : AreRead files) where
       not_for_text (NoTree at) r = absurd (r.0 here.tree here.is_tree)
       not_for_text (Outside at) r = absurd (r.0 here.tree here.is_tree)
       not_for_text (TooDeep at) r = absurd (r.0 here.tree here.is_tree)
-      not_for_text (NotYet at) (none, more) = absurd (none (expanded_timescale files) design here)
       not_for_text (NoDesign rule at) (none, broken) = absurd (none (expanded_timescale files) design here)
       not_for_text (Memory m) r = tt
       not_for_text (Directive at) r = absurd r
@@ -107,7 +105,6 @@ of_writing (Timescales at) r = absurd r
 of_writing (NoTree at) r = absurd r
 of_writing (Outside at) r = absurd r
 of_writing (TooDeep at) r = absurd r
-of_writing (NotYet at) r = absurd r
 of_writing (NoDesign rule at) r = absurd r
 of_writing BadLog r = absurd r
 of_writing NoSuchChoice r = absurd r
@@ -176,7 +173,6 @@ module _ (laws : Laws) where
       not_for_run (NoTree at) r = absurd r
       not_for_run (Outside at) r = absurd r
       not_for_run (TooDeep at) r = absurd r
-      not_for_run (NotYet at) r = absurd r
       not_for_run (NoDesign rule at) r = absurd r
       not_for_run OutOfLimit r = absurd r
       not_for_run BadReport r = absurd r

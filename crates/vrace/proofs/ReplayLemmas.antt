@@ -4,7 +4,7 @@ use Rattle.vmodel.specs.Run.{Setting, rules_of, history_after}
 use Rattle.vmodel.specs.declared.history.End.{End}
 use Rattle.vmodel.specs.Played.{Finishes}
 use Rattle.sched_core.specs.Replay.{IsMissing, TakesMore}
-use Rattle.vcd_text.specs.DumpText.{header, vcd}
+use Rattle.vcd_text.specs.DumpText.{vcd}
 use Rattle.vcd_text.specs.declared.metered.Metered.{Metered}
 use Rattle.vcd_text.specs.declared.fault.WriteFault.{WriteFault}
 use Rattle.vcd_text.specs.declared.fault.WriteFault.TheVariants as write
@@ -22,7 +22,7 @@ use Rattle.vreport.specs.Dumps.{IsRunDump}
 use Rattle.vrace.proofs.DumpLemmas.{the_dump}
 use Rattle.vrace.specs.RunDumps.{IsRunFault, IsRunShown, Ends, fault_of, failures_after}
 use Rattle.vrace.specs.declared.fault.Fault.{Fault}
-use Rattle.vrace.specs.declared.fault.Fault.TheVariants.{NotEnded, BadToken, Directive, NoMacro, Growth, LeftOpen, Timescales, NoTree, Outside, TooDeep, NotYet, NoDesign, BadLog, NoSuchChoice, TooManySteps, OutOfLimit, BadReport, FalseEnd, FalseRace, FalseHead, Memory, Write, Read, TooLong}
+use Rattle.vrace.specs.declared.fault.Fault.TheVariants.{NotEnded, BadToken, Directive, NoMacro, Growth, LeftOpen, Timescales, NoTree, Outside, TooDeep, NoDesign, BadLog, NoSuchChoice, TooManySteps, OutOfLimit, BadReport, FalseEnd, FalseRace, FalseHead, Memory, Write, Read, TooLong}
 
 of_writing : (cause : OrMemory WriteFault) → IsOfWriting (fault_of cause)
 of_writing (or.Memory m) = tt
@@ -37,7 +37,7 @@ count_of_writing (or.Memory m) n = refl
 count_of_writing (or.Fault write.Write) n = refl
 
 module _ (files : List (List ℕ)) (asked : Asked) (log : List ℕ) (played : Played files asked log) (setting : Setting) (same : setting ≡ setting_of files asked log played) where
-  pub dumped : (dump : List ℕ) → IsRunDump (header setting.design) setting played.members asked.steps dump → IsDump files asked log dump
+  pub dumped : (dump : List ℕ) → IsRunDump setting played.members asked.steps dump → IsDump files asked log dump
   dumped dump d = record {
     played = played;
     steps = d.steps;
@@ -74,7 +74,6 @@ module _ (files : List (List ℕ)) (asked : Asked) (log : List ℕ) (played : Pl
   run_reason (NoTree at) p = absurd p
   run_reason (Outside at) p = absurd p
   run_reason (TooDeep at) p = absurd p
-  run_reason (NotYet at) p = absurd p
   run_reason (NoDesign rule at) p = absurd p
   run_reason BadLog p = absurd p
   run_reason OutOfLimit p = absurd p
@@ -96,7 +95,7 @@ module _ (files : List (List ℕ)) (asked : Asked) (log : List ℕ) (played : Pl
   -- where the run ends there is a dump, so that a writer that fails has its reason
   pub writing_reason : (n : ℕ) (end : End) → Finishes setting played.members asked.steps n end → (cause : OrMemory WriteFault) → IsReason files asked log (fault_of cause)
   writing_reason n end finishes cause =
-      let dump = the_dump (header setting.design) setting played.members asked.steps n end finishes in
+      let dump = the_dump setting played.members asked.steps n end finishes in
       inr (reason_of_writing files asked log _ cause (dumped _ dump))
 
   module _ {W : Type 0} (contents : W → Option (List ℕ)) (show : Show) (old new : Metered W) where

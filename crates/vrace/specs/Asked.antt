@@ -1,6 +1,6 @@
 -- What is asked of a replay: the top module's name, the time limit, the steps of one run, and the grain.
 use Rattle.std.specs.Prelude.{ℕ, ◌≤◌, List, Option}
-use Rattle.velab.specs.Elaborate.{named_text}
+use Rattle.vmodules.specs.Inner.{named_text}
 use Rattle.vmodel.specs.declared.history.Grain.{Grain}
 use Rattle.vrace.specs.declared.options.Options.{Options}
 

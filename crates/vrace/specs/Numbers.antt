@@ -6,7 +6,7 @@ use Rattle.vrace.specs.declared.fault.Detail.TheVariants.{Nothing, Place, Item}
 use Rattle.velab.specs.declared.fault.Rule.{Rule}
 use Rattle.velab.specs.declared.fault.Rule.TheVariants.{Top, Doubled, Unknown, Drivers, Ports, Width, Constant, Depth, TooMany, Kind}
 use Rattle.vrace.specs.declared.fault.Fault.{Fault}
-use Rattle.vrace.specs.declared.fault.Fault.TheVariants.{NotEnded, BadToken, Directive, NoMacro, Growth, LeftOpen, Timescales, NoTree, Outside, TooDeep, NotYet, NoDesign, BadLog, NoSuchChoice, TooManySteps, OutOfLimit, BadReport, FalseEnd, FalseRace, FalseHead, Memory, Write, Read, TooLong}
+use Rattle.vrace.specs.declared.fault.Fault.TheVariants.{NotEnded, BadToken, Directive, NoMacro, Growth, LeftOpen, Timescales, NoTree, Outside, TooDeep, NoDesign, BadLog, NoSuchChoice, TooManySteps, OutOfLimit, BadReport, FalseEnd, FalseRace, FalseHead, Memory, Write, Read, TooLong}
 
 -- a rule that a text without a design breaks
 abbrev pub rule_number : Rule → ℕ
@@ -32,7 +32,6 @@ number_of (Timescales at) = 114
 number_of (NoTree at) = 201
 number_of (Outside at) = 202
 number_of (TooDeep at) = 203
-number_of (NotYet at) = 299
 number_of (NoDesign rule at) = rule_number rule
 number_of BadLog = 401
 number_of NoSuchChoice = 402
@@ -59,7 +58,6 @@ detail_of (Timescales at) = Place at
 detail_of (NoTree at) = Place at
 detail_of (Outside at) = Place at
 detail_of (TooDeep at) = Place at
-detail_of (NotYet at) = Place at
 detail_of (NoDesign rule at) = Place at
 detail_of BadLog = Nothing
 detail_of NoSuchChoice = Nothing

@@ -15,8 +15,7 @@ use Rattle.vdesign.specs.Design.{Design}
 use Rattle.vparse.specs.Refusals.{IsRefusal}
 use Rattle.vparse.specs.declared.fault.SyntaxFault.{SyntaxFault}
 use Rattle.vparse.specs.declared.fault.SyntaxFault.TheVariants as words
-use Rattle.velab.specs.Runs.{runs}
-use Rattle.velab.specs.Elaborate.{broken_rules}
+use Rattle.vhierarchy.specs.Instances.{broken_rules}
 use Rattle.velab.specs.Rules.{Breaks as Among}
 use Rattle.sched_core.specs.LogText.{IsNoNamedLogText}
 use Rattle.sched_core.specs.Replay.{IsMissing, TakesMore}
@@ -28,7 +27,7 @@ use Rattle.vrace.specs.declared.replay.Show.{Show}
 use Rattle.vrace.specs.declared.fault.At.{At}
 use Rattle.velab.specs.declared.fault.Rule.{Rule}
 use Rattle.vrace.specs.declared.fault.Fault.{Fault}
-use Rattle.vrace.specs.declared.fault.Fault.TheVariants.{NotEnded, BadToken, Directive, NoMacro, Growth, LeftOpen, Timescales, NoTree, Outside, TooDeep, NotYet, NoDesign, BadLog, NoSuchChoice, TooManySteps, Memory, Write, TooLong}
+use Rattle.vrace.specs.declared.fault.Fault.TheVariants.{NotEnded, BadToken, Directive, NoMacro, Growth, LeftOpen, Timescales, NoTree, Outside, TooDeep, NoDesign, BadLog, NoSuchChoice, TooManySteps, Memory, Write, TooLong}
 
 -- where a fault was found is told: this holds of its place
 abbrev pub IsAt : At → (Place → Type 0) → Type 0
@@ -44,15 +43,10 @@ IsDesignless text top = (scale : Timescale) (design : Design) → IsDesignOf tex
 abbrev pub HasRefusal : Source → SyntaxFault → Type 0
 HasRefusal source fault = (tokens : Tokenized) × AreTokens source tokens × IsRefusal tokens fault
 
--- the text has a tree, and there is more in it than runs
-abbrev pub IsNotRun : List ℕ → Type 0
-IsNotRun text = (tree : SourceTree) × IsTreeOf text tree × (runs tree ≡ false)
-
--- the text has a tree that runs, which breaks the rule
+-- the text has a tree, which breaks the rule
 pub record IsBroken (text : List ℕ) (top : Option (List ℕ)) (rule : Rule) : Type 0 where
   pub tree : SourceTree
   pub is_tree : IsTreeOf text tree
-  pub all_runs : runs tree ≡ true
   pub broken : Among (broken_rules tree top) rule
 
 abbrev pub Breaks : List ℕ → Option (List ℕ) → Rule → Type 0
@@ -73,15 +67,14 @@ IsFileReason files (Memory m) = Unit {0}
 IsFileReason files TooLong = limit < total files
 IsFileReason files other = ⊥
 
--- What a fault of the text says of it. The place of E101, E102 and E2xx is that of what can't be read; those of E299 and E3xx
--- are shown, and not told.
+-- What a fault of the text says of it. The place of E101, E102 and E2xx is that of what can't be read; that of E3xx is
+-- shown, and not told.
 abbrev pub IsTextReason : Source → Option (List ℕ) → Fault → Type 0
 IsTextReason source top (NotEnded at) = HasNoTokens source.text × IsAt at (λ place. IsTokenReason source (pieces.NotEnded place))
 IsTextReason source top (BadToken at) = HasNoTokens source.text × IsAt at (λ place. IsTokenReason source (pieces.BadToken place))
 IsTextReason source top (NoTree at) = IsTreeless source.text × IsAt at (λ place. HasRefusal source (words.NoTree place))
 IsTextReason source top (Outside at) = IsTreeless source.text × IsAt at (λ place. HasRefusal source (words.Outside place))
 IsTextReason source top (TooDeep at) = IsTreeless source.text × IsAt at (λ place. HasRefusal source (words.TooDeep place))
-IsTextReason source top (NotYet at) = IsDesignless source.text top × IsNotRun source.text
 IsTextReason source top (NoDesign rule at) = Breaks source.text top rule
 IsTextReason source top (Memory m) = Unit {0}
 IsTextReason source top other = ⊥

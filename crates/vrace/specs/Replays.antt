@@ -8,8 +8,7 @@ use Rattle.vlex.specs.Tokenized.{Tokenized, pieces_of, IsTokenAt, AreInOrder}
 use Rattle.vast.specs.Words.{Text}
 use Rattle.vast.specs.Modules.{SourceTree, DerivesText}
 use Rattle.vdesign.specs.Design.{Design}
-use Rattle.velab.specs.Elaborate.{Elaborates}
-use Rattle.velab.specs.Runs.{runs}
+use Rattle.vhierarchy.specs.Instances.{Elaborates}
 use Rattle.sched_core.specs.Logs.{IsLog}
 use Rattle.sched_core.specs.LogText.{named_log_text}
 use Rattle.sched_core.specs.declared.log.LogHead.{LogHead}
@@ -55,11 +54,10 @@ pub record AreTokens (source : Source) (tokens : Tokenized) : Type 0 where
   pub stand : All (IsTokenAt source.text) tokens.spans
   pub in_order : AreInOrder 0 tokens.spans (length source.text)
 
--- A text stands for a design: that of the top module in its tree, under its timescale. All of the tree has to be of what runs.
+-- A text stands for a design: that of the top module in its tree, under its timescale.
 pub record IsDesignOf (text : List ℕ) (scale : Timescale) (top : Option Text) (design : Design) : Type 0 where
   pub tree : SourceTree
   pub is_tree : IsTreeOf text tree
-  pub all_runs : runs tree ≡ true
   pub elaborated : Elaborates tree top scale design
 
 -- and so do files, by the text and the timescale that they are expanded to

@@ -10,7 +10,6 @@ use Rattle.vcd_text.specs.declared.fault.WriteFault.{WriteFault}
 use Rattle.vcd_text.specs.declared.fault.WriteFault.TheVariants as write
 use Rattle.basis.specs.declared.memory.OrMemory.{OrMemory}
 use Rattle.basis.specs.declared.memory.OrMemory.TheVariants as or
-use Rattle.vcd_text.specs.DumpText.{header}
 use Rattle.vreport.specs.Dumps.{IsRunDump}
 use Rattle.vrace.specs.RunLines.{IsRunLines}
 use Rattle.vrace.specs.declared.replay.Show.{Show}
@@ -58,5 +57,5 @@ Ends contents Holds setting log limit old new fault =
 
 -- the run under the log ends within so many steps, and this is shown of it
 abbrev pub IsRunShown : Show → Setting → List (ℕ × ℕ) → ℕ → List ℕ → Type 0
-IsRunShown Dump setting log limit text = IsRunDump (header setting.design) setting log limit text
+IsRunShown Dump setting log limit text = IsRunDump setting log limit text
 IsRunShown Lines setting log limit text = IsRunLines setting log limit text

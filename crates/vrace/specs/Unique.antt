@@ -4,7 +4,6 @@ use Rattle.vsrc.specs.Source.{Source}
 use Rattle.vlex.specs.Lexed.{IsOnlyLexed}
 use Rattle.vlex.specs.Tokenized.{Tokenized, pieces_of}
 use Rattle.vast.specs.Modules.{SourceTree}
-use Rattle.velab.specs.Runs.{runs}
 use Rattle.vrace.specs.Replays.{AreTokens, IsTreeOf}
 
 pub record IsCut (source : Source) (tokens : Tokenized) : Type 0 where
@@ -14,8 +13,3 @@ pub record IsCut (source : Source) (tokens : Tokenized) : Type 0 where
 pub record IsReadAs (text : List ℕ) (tree : SourceTree) : Type 0 where
   pub is_tree : IsTreeOf text tree
   pub only : (other : SourceTree) → IsTreeOf text other → other ≡ tree
-
--- its only tree, all of which runs
-pub record IsRunAs (text : List ℕ) (tree : SourceTree) : Type 0 where
-  pub is_read : IsReadAs text tree
-  pub all_runs : runs tree ≡ true

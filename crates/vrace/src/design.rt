@@ -9,11 +9,11 @@ ghost use Rattle.vast.specs.Modules.{SourceTree};
 ghost use Rattle.vast.specs.ModuleTrees.{source_tree};
 ghost use Rattle.vexpr_parse.specs.Texts.{words_of};
 ghost use Rattle.vparse.specs.Refusals.{HasNoText, IsRefusal};
-ghost use Rattle.velab.specs.Elaborate.{Elaborates, named_text};
-ghost use Rattle.velab.specs.Reasons.{IsDesignReason, HasNoDesign};
-ghost use Rattle.velab.specs.Runs.{runs};
+ghost use Rattle.vhierarchy.specs.Instances.{Elaborates};
+ghost use Rattle.vmodules.specs.Inner.{named_text};
+ghost use Rattle.vhierarchy.specs.Reasons.{IsDesignReason, HasNoDesign};
 ghost use Rattle.vrace.specs.Replays.{limit, total, AreRead, IsDesignOf, IsDesignOfFiles};
-ghost use Rattle.vrace.specs.Unique.{IsCut, IsReadAs, IsRunAs};
+ghost use Rattle.vrace.specs.Unique.{IsCut, IsReadAs};
 ghost use Rattle.vrace.specs.Refusals.{IsFileReason, IsTextReason, IsDesignFault};
 
 use crate::fault::{At, Fault};
@@ -23,7 +23,8 @@ use std::alloc::Global;
 use trace_text::Origins;
 use vast::module::TextTree;
 use vdesign::design::Design;
-use velab::{ElabFault, elaborate, not_run};
+use velab::ElabFault;
+use vhierarchy::elaborate;
 use vlex::{LexFault, Tokens, tokens};
 use vparse::{SyntaxFault, parse};
 use vsrc::{Expanded, Place, SrcFault, expand};
@@ -116,18 +117,10 @@ fn of_tree(fault: SyntaxFault) -> Fault
     }
 }
 
-// That there is more in the tree than runs.
-fn of_running(tokens: &Tokens<'_>, at: u32) -> Fault
-    ensures { (source : Source) (tree : SourceTree) (top : Option (List ℕ)) →
-        IsReadAs source.text tree → runs tree ≡ false → IsTextReason source top result }
-{
-    Fault::NotYet(At(place_of(tokens, at)))
-}
-
 // What stops the elaboration of the tree.
 fn of_design(tokens: &Tokens<'_>, fault: ElabFault) -> Fault
     ensures { (source : Source) (tree : SourceTree) (top : Option (List ℕ)) →
-        IsRunAs source.text tree → IsDesignReason tree top fault → HasNoDesign tree top →
+        IsReadAs source.text tree → IsDesignReason tree top fault → HasNoDesign tree top →
         IsTextReason source top result }
 {
     Fault::NoDesign(fault.rule, at_token(tokens, fault.at))
@@ -173,20 +166,7 @@ fn tree_of(alloc: Global, tokens: &Tokens<'_>) -> Result<TextTree, Fault>
     }
 }
 
-// All of the tree has to be of what runs.
-fn check_running(tokens: &Tokens<'_>, tree: &TextTree) -> Result<(), Fault>
-    ensures ok { OnOk result (runs (source_tree (words_of tokens.now) tree.now) ≡ true) }
-    ensures err { (source : Source) (top : Option (List ℕ)) →
-        IsReadAs source.text (source_tree (words_of tokens.now) tree.now) →
-        IfErr result (IsTextReason source top) }
-{
-    match not_run(tokens, tree) {
-        None => Ok(()),
-        Some(at) => Err(of_running(tokens, at)),
-    }
-}
-
-// The design of a tree that runs.
+// The design of the tree.
 fn design_of_tree(
     alloc: Global,
     tokens: &Tokens<'_>,
@@ -197,30 +177,13 @@ fn design_of_tree(
     ensures ok { IfOk result
         (Elaborates (source_tree (words_of tokens.now) tree.now) (named_text top.entry) scale) }
     ensures err { (source : Source) →
-        IsRunAs source.text (source_tree (words_of tokens.now) tree.now) →
+        IsReadAs source.text (source_tree (words_of tokens.now) tree.now) →
         IfErr result (IsTextReason source (named_text top.entry)) }
 {
     match elaborate(alloc, tokens, tree, top, scale) {
         Ok(design) => Ok(design),
         Err(OrMemory::Fault(fault)) => Err(of_design(tokens, fault)),
         Err(OrMemory::Memory(refused)) => Err(Fault::Memory(refused)),
-    }
-}
-
-// The tree of the tokens, all of which runs.
-fn read_of(alloc: Global, tokens: &Tokens<'_>) -> Result<TextTree, Fault>
-    ensures ok { (source : Source) → IsCut source tokens.now →
-        IfOk result (λ tree. IsRunAs source.text (source_tree (words_of tokens.now) tree)) }
-    ensures err { (source : Source) (top : Option (List ℕ)) → IsCut source tokens.now →
-        IfErr result (IsTextReason source top) }
-{
-    let tree = match tree_of(alloc, tokens) {
-        Ok(tree) => tree,
-        Err(fault) => return Err(fault),
-    };
-    match check_running(tokens, &tree) {
-        Ok(()) => Ok(tree),
-        Err(fault) => Err(fault),
     }
 }
 
@@ -234,7 +197,7 @@ fn design_of_text(alloc: Global, text: &Expanded, top: Option<&[u8]>) -> Result<
         Ok(tokens) => tokens,
         Err(fault) => return Err(fault),
     };
-    let tree = match read_of(alloc, &tokens) {
+    let tree = match tree_of(alloc, &tokens) {
         Ok(tree) => tree,
         Err(fault) => return Err(fault),
     };

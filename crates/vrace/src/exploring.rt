@@ -23,7 +23,7 @@ use std::io::Write;
 use std::sync::Wait;
 use std::thread::Threads;
 use vcd_text::{Metered, TooMany};
-use velab::law::elaboration_law;
+use vhierarchy::law::elaboration_law;
 use vmachine::Machine;
 use vreport::{Explored, report_alone, report_shared, write_report};
 use workpool::Gate;

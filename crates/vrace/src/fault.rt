@@ -70,8 +70,6 @@ pub enum Fault {
     Outside(At),
     /// Statements and expressions nest deeper than 64.
     TooDeep(At),
-    /// What begins here isn't run yet.
-    NotYet(At),
     /// No design is the text's, as this rule is broken.
     NoDesign(Rule, At),
     /// The log is ill formed.
@@ -127,7 +125,6 @@ impl Fault {
             Fault::NoTree(_) => 201,
             Fault::Outside(_) => 202,
             Fault::TooDeep(_) => 203,
-            Fault::NotYet(_) => 299,
             Fault::NoDesign(rule, _) => rule_number(*rule),
             Fault::BadLog => 401,
             Fault::NoSuchChoice => 402,
@@ -159,7 +156,6 @@ impl Fault {
             Fault::NoTree(at) => Detail::Place(*at),
             Fault::Outside(at) => Detail::Place(*at),
             Fault::TooDeep(at) => Detail::Place(*at),
-            Fault::NotYet(at) => Detail::Place(*at),
             Fault::NoDesign(_, at) => Detail::Place(*at),
             Fault::FalseEnd(item) => Detail::Item(*item),
             Fault::FalseRace(item) => Detail::Item(*item),

@@ -5,7 +5,6 @@ ghost use Rattle.sched_core.specs.LogText.{IsNamedLogText};
 ghost use Rattle.vsrc.specs.Source.{file_bytes};
 ghost use Rattle.vmodel.specs.declared.history.End.{End};
 ghost use Rattle.vmodel.specs.Played.{Finishes};
-ghost use Rattle.vcd_text.specs.DumpText.{header};
 ghost use Rattle.vcd_text.specs.Metered.{Grows};
 ghost use Rattle.vrace.specs.Asked.{asked};
 ghost use Rattle.vrace.specs.Replays.{IsShown, IsPlay, grain_under as grain_by};
@@ -24,7 +23,7 @@ use sched_core::{Log, LogFault, LogHead, ReplayFault, read_named_log};
 use std::alloc::Global;
 use std::io::Write;
 use trace_text::Origins;
-use vcd_text::{Header, Metered, WriteFault};
+use vcd_text::{Metered, WriteFault};
 use vmachine::{Machine, RunFault};
 use vmodel::history::Grain;
 use vreport::write_dump;
@@ -81,23 +80,22 @@ pub(crate) fn see_end(machine: &Machine, log: &Log, steps: u32) -> Result<(), Fa
     }
 }
 
-// Writes the dump of the run, which ends, below the header.
+// Writes the dump of the run, which ends.
 fn write_run<W: Write>(
     alloc: Global,
     machine: &Machine,
     log: &Log,
     steps: u32,
-    head: &Header,
     writer: &mut Metered<W>,
 ) -> Result<(), Fault>
-    requires ends { HasDump head.now machine.now log.now steps }
-    ensures ok { OnOk result ((dump : List ℕ) × IsRunDump head.now machine.now log.now steps dump ×
+    requires ends { HasDump machine.now log.now steps }
+    ensures ok { OnOk result ((dump : List ℕ) × IsRunDump machine.now log.now steps dump ×
         Grows W.contents writer.old writer.new dump) }
     ensures err { IfErr result (λ fault.
-        StopsText W.contents (IsRunDump head.now machine.now log.now steps) writer.old writer.new
+        StopsText W.contents (IsRunDump machine.now log.now steps) writer.old writer.new
         fault) }
 {
-    match write_dump(alloc, machine, log, steps, head, writer) {
+    match write_dump(alloc, machine, log, steps, writer) {
         Ok(()) => Ok(()),
         Err(fault) => Err(of_writing(fault)),
     }
@@ -112,20 +110,17 @@ fn dump_run<W: Write>(
     writer: &mut Metered<W>,
 ) -> Result<(), Fault>
     ensures ok { OnOk result ((dump : List ℕ) ×
-        IsRunDump (header machine.now.design) machine.now log.now steps dump ×
+        IsRunDump machine.now log.now steps dump ×
         Grows W.contents writer.old writer.new dump) }
     ensures err { IfErr result (λ fault.
-        Ends W.contents (IsRunDump (header machine.now.design) machine.now log.now steps)
+        Ends W.contents (IsRunDump machine.now log.now steps)
         machine.now log.now steps writer.old writer.new fault) }
 {
     match see_end(machine, log, steps) {
         Ok(()) => {}
         Err(fault) => return Err(fault),
     }
-    match Header::new(alloc, machine.design()) {
-        Ok(head) => write_run(alloc, machine, log, steps, &head, writer),
-        Err(refused) => Err(Fault::Memory(refused)),
-    }
+    write_run(alloc, machine, log, steps, writer)
 }
 
 // Writes the lines of the run, which ends.

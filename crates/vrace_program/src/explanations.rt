@@ -10,7 +10,7 @@ pub struct Explanation {
     advice: &'static str,
 }
 
-const EXPLANATIONS: [Explanation; 31] = [
+const EXPLANATIONS: [Explanation; 32] = [
     Explanation {
         number: 101,
         meaning: "a comment or a string that begins here isn't ended",
@@ -72,34 +72,34 @@ const EXPLANATIONS: [Explanation; 31] = [
         advice: "take begin and end away where one statement stands between them, split the process, or group a long sum by parentheses",
     },
     Explanation {
-        number: 299,
-        meaning: "the text is read, and what begins here isn't run yet",
-        example: "module tb(input a);, an instance, $dumpvars(1);",
-        advice: "write it with what docs/LANGUAGE.md lists under What runs",
-    },
-    Explanation {
         number: 301,
-        meaning: "no module is the top",
-        example: "a text without a module; two modules and no --top; --top of a name that isn't there",
-        advice: "name the module: --top NAME; for check, which has the top from the report, give the files that the report was made of",
+        meaning: "no module is the top, or an instance is of a module that isn't there",
+        example: "a text without a module; two modules and no --top; --top of a name that isn't there; b u(); without a module b",
+        advice: "name the module: --top NAME; give the file with the instance's module too; for check, which has the top from the report, give the files that the report was made of",
     },
     Explanation {
         number: 302,
-        meaning: "a name declared twice: two modules, or two variables, parameters or named events of the top",
+        meaning: "a name declared twice: two modules, or two ports, variables, parameters, named events or instances of one module",
         example: "reg a, a;",
         advice: "rename one",
     },
     Explanation {
         number: 303,
-        meaning: "a name that isn't declared in its module, or a parameter in a constant that stands before it",
-        example: "initial b = 1; without a reg b;",
-        advice: "declare it; only what a constant uses has to stand before it",
+        meaning: "a name that isn't declared in its module, a parameter in a constant that stands before it, or a path of $dumpvars to nothing",
+        example: "initial b = 1; without a reg b;; $dumpvars(0, tb.u); without an instance u",
+        advice: "declare it; only what a constant uses has to stand before it; a path begins with the top's name",
     },
     Explanation {
         number: 304,
-        meaning: "a net with two drivers",
+        meaning: "a net with two drivers: two assigns, two outputs of instances, or an assign to an input that is connected outside",
         example: "assign p = q; assign p = 0;",
         advice: "put both into one assign, or write to two nets",
+    },
+    Explanation {
+        number: 305,
+        meaning: "a connection that doesn't fit: of a port that isn't there, too many or one twice, an output to anything but a name; the same of parameters, a local one among them",
+        example: "b u(.c(a)); without a port c; b u(p + q); to an output",
+        advice: "connect each port at most once, an output to a net of its own; a localparam can't be set from outside",
     },
     Explanation {
         number: 306,
@@ -114,14 +114,20 @@ const EXPLANATIONS: [Explanation; 31] = [
         advice: "write it with numbers and parameters",
     },
     Explanation {
+        number: 308,
+        meaning: "instances more than 16 levels deep, the top's among them",
+        example: "module b; b u(); endmodule and an instance of b",
+        advice: "a module can't stand in itself; take levels out",
+    },
+    Explanation {
         number: 309,
-        meaning: "over 256 processes or 1,024 variables",
+        meaning: "over 256 processes, 1,024 variables or 1,024 instances below the top; connections of ports are processes, and ports are variables",
         example: "257 initials; reg v0, v1, .. up to v1024",
         advice: "split the testbench, or put several initials into one",
     },
     Explanation {
         number: 310,
-        meaning: "a name of another kind than its use asks for: a net that a statement writes, a variable that an assign writes, a parameter that is written or waited for, a named event in an expression, a bit of what has no range; or a format that isn't known or has no expression",
+        meaning: "a name of another kind than its use asks for: a net that a statement writes, a variable that an assign or an output drives, a parameter that is written or waited for, a named event or an instance in an expression, a variable's path in $dumpvars, a bit of what has no range; or a format that isn't known or has no expression",
         example: "reg r; assign r = 1;, wire w; initial w = 1;, $display(\"%d\");",
         advice: "declare it as what it is used as; docs/LANGUAGE.md lists the formats under Printed lines",
     },

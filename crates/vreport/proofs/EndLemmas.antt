@@ -21,7 +21,7 @@ use Rattle.vmodel.specs.Played.{Finishes, width_is}
 use Rattle.vmachine.specs.declared.standing.Standing.{Standing}
 use Rattle.vmachine.specs.Machines.{Stands, machine_rules}
 use Rattle.vmachine.specs.Reads.{end_in}
-use Rattle.vcd_text.specs.DumpText.{dump_below, header}
+use Rattle.vcd_text.specs.DumpText.{vcd}
 use Rattle.vreport.specs.declared.row.Row.{Row}
 use Rattle.vreport.specs.Dumps.{HasDump, IsRunDump}
 use Rattle.report_text.specs.Report.{End as Told}
@@ -86,11 +86,11 @@ module _ (setting : Setting) (alike : Alike setting) (all : AllStand setting) (t
         told.2,
       )
 
-  pub row_dump : (found : Standing × List (ℕ × ℕ)) (place : ℕ) (row : Row) (head : List ℕ) → IsFound (machine_rules setting) limits found → IsRow setting found place row →
-      HasDump head setting found.1 limits.steps
-  row_dump found place row head f of =
+  pub row_dump : (found : Standing × List (ℕ × ℕ)) (place : ℕ) (row : Row) → IsFound (machine_rules setting) limits found → IsRow setting found place row →
+      HasDump setting found.1 limits.steps
+  row_dump found place row f of =
       let p = row_finishes found place row f of in
-      (dump_below head (history_after setting found.1 f.steps), the_dump head setting found.1 limits.steps f.steps p.0 p.1)
+      (vcd setting.design (history_after setting found.1 f.steps), the_dump setting found.1 limits.steps f.steps p.0 p.1)
 
   module _ (marks : List (Standing × List (ℕ × ℕ))) (found : AreFound (machine_rules setting) limits marks) (row : Row) (of : IsRowOfSome setting marks row)
       (mark : Standing × List (ℕ × ℕ)) (at : slice_get marks row.place ≡ Some mark) where
@@ -100,16 +100,16 @@ module _ (setting : Setting) (alike : Alike setting) (all : AllStand setting) (t
     its_row : IsRow setting mark row.place row
     its_row = subst (λ (x : Standing × List (ℕ × ℕ)). IsRow setting x row.place row) same_mark of.of
 
-    pub its_dump : (head : List ℕ) → HasDump head setting mark.1 limits.steps
-    its_dump head = row_dump mark row.place row head (found row.place mark at) its_row
+    pub its_dump : HasDump setting mark.1 limits.steps
+    its_dump = row_dump mark row.place row (found row.place mark at) its_row
 
-    pub its_long_dump : (head : List ℕ) → head ≡ header setting.design → HasLongDump head setting mark.1 limits.steps → HasSomeLongDump setting limits
-    its_long_dump head is long = (mark.1, (found row.place mark at).short, subst (λ (h : List ℕ). HasLongDump h setting mark.1 limits.steps) is long)
+    pub its_long_dump : HasLongDump setting mark.1 limits.steps → HasSomeLongDump setting limits
+    its_long_dump long = (mark.1, (found row.place mark at).short, long)
 
     -- the end that is made of it
-    pub its_end : (head : List ℕ) → head ≡ header setting.design → (end : Told) → end.time ≡ row.time → end.cause ≡ cause_of row.cause → end.line ≡ row.line.items → end.log ≡ mark.1 →
-        HasTimeAndLog end → CountsDump head setting mark.1 limits.steps end.bytes → IsEndOfRow setting limits marks row end
-    its_end head is end time_is cause_is line_is log_is kept counts =
+    pub its_end : (end : Told) → end.time ≡ row.time → end.cause ≡ cause_of row.cause → end.line ≡ row.line.items → end.log ≡ mark.1 →
+        HasTimeAndLog end → CountsDump setting mark.1 limits.steps end.bytes → IsEndOfRow setting limits marks row end
+    its_end end time_is cause_is line_is log_is kept counts =
         let f = found row.place mark at in
         let t = state_after setting mark.1 f.steps in
         let told = its_row.at_end t (stood mark f) in
@@ -124,7 +124,7 @@ module _ (setting : Setting) (alike : Alike setting) (all : AllStand setting) (t
           kept = kept;
           bytes = record {
             dump = counts.0;
-            is_dump = subst (λ (h : List ℕ). IsRunDump h setting end.log limits.steps counts.0) is (subst (λ (l : List (ℕ × ℕ)). IsRunDump head setting l limits.steps counts.0) (sym log_is) counts.1);
+            is_dump = subst (λ (l : List (ℕ × ℕ)). IsRunDump setting l limits.steps counts.0) (sym log_is) counts.1;
             bytes_are = counts.2;
           };
         }

@@ -6,7 +6,7 @@ use Rattle.basis.specs.declared.memory.NoMemory.{NoMemory}
 use Rattle.basis.specs.declared.memory.OrMemory.{OrMemory}
 use Rattle.basis.specs.declared.memory.OrMemory.TheVariants.{Memory}
 use Rattle.vmodel.specs.Run.{Setting, rules_of, history_after}
-use Rattle.vcd_text.specs.DumpText.{dump_below, header}
+use Rattle.vcd_text.specs.DumpText.{vcd}
 use Rattle.vcd_text.specs.Outlets.{IsOutlet, Stopped}
 use Rattle.vcd_text.specs.OutletLaws.{stopped_before, stopped_after}
 use Rattle.report_text.specs.Report.{Column, End, Race}
@@ -21,10 +21,10 @@ use Rattle.vreport.specs.Written.{AreDumps, IsDumpOf, StopsEnd, StopsEnds, Stops
 use Rattle.vreport.proofs.LeadLemmas.{Leads, leads_first, leads_on, leads_stop, leads_end}
 
 -- a run has one dump
-pub same_dump : (head : List ℕ) (setting : Setting) (log : List (ℕ × ℕ)) (limit : ℕ) (d e : List ℕ) → IsRunDump head setting log limit d → IsRunDump head setting log limit e → d ≡ e
-same_dump head setting log limit d e p q =
+pub same_dump : (setting : Setting) (log : List (ℕ × ℕ)) (limit : ℕ) (d e : List ℕ) → IsRunDump setting log limit d → IsRunDump setting log limit e → d ≡ e
+same_dump setting log limit d e p q =
     let steps = same_end (rules_of setting) log p.steps q.steps p.finishes.ends.run p.finishes.ends.end q.finishes.ends in
-    p.is_text ∙ ap (λ n. dump_below head (history_after setting log n)) steps ∙ sym q.is_text
+    p.is_text ∙ ap (λ n. vcd setting.design (history_after setting log n)) steps ∙ sym q.is_text
 
 pub dump_of_bytes : (setting : Setting) (steps : ℕ) (end : End) (h : HasBytes setting steps end) → IsDumpOf setting steps end h.dump
 dump_of_bytes setting steps end h = record { is_dump = h.is_dump; bytes_are = h.bytes_are }
@@ -58,11 +58,11 @@ module _ {O F : Type 0} (takes : O → List ℕ → O → Type 0) (fails : O →
   module _ (setting : Setting) (steps : ℕ) where
     -- ---- one end
 
-    pub end_taken : (end : End) (head lines : List ℕ) (log : List (ℕ × ℕ)) (old m new : O) → head ≡ header setting.design → lines ≡ end_text end → log ≡ end.log → takes old lines m →
-        TakesDump takes head setting log steps m new → TakesEnd takes setting steps end old new
-    end_taken end head lines log old m new is lines_are log_is first (d, known, taken) = λ dump of.
-        let known' = subst (λ (h : List ℕ). IsRunDump h setting end.log steps d) is (subst (λ (l : List (ℕ × ℕ)). IsRunDump head setting l steps d) log_is known) in
-        let same : d ≡ dump = same_dump (header setting.design) setting end.log steps d dump known' of.is_dump in
+    pub end_taken : (end : End) (lines : List ℕ) (log : List (ℕ × ℕ)) (old m new : O) → lines ≡ end_text end → log ≡ end.log → takes old lines m →
+        TakesDump takes setting log steps m new → TakesEnd takes setting steps end old new
+    end_taken end lines log old m new lines_are log_is first (d, known, taken) = λ dump of.
+        let known' = subst (λ (l : List (ℕ × ℕ)). IsRunDump setting l steps d) log_is known in
+        let same : d ≡ dump = same_dump setting end.log steps d dump known' of.is_dump in
         laws.joins old m new (end_text end) dump (subst (λ (text : List ℕ). takes old text m) lines_are first) (subst (λ (text : List ℕ). takes m text new) same taken)
 
     pub stops_at_lines : (end : End) (lines : List ℕ) (old m : O) (fault : OrMemory F) → lines ≡ end_text end → Stopped takes fails old lines fault m →
@@ -70,11 +70,11 @@ module _ {O F : Type 0} (takes : O → List ℕ → O → Type 0) (fails : O →
     stops_at_lines end lines old m fault lines_are stopped = λ dump of.
         stopped_before takes fails laws old m (end_text end) dump fault (subst (λ (text : List ℕ). Stopped takes fails old text fault m) lines_are stopped)
 
-    pub stops_in_dump : (end : End) (head lines : List ℕ) (log : List (ℕ × ℕ)) (old m new : O) (fault : OrMemory F) → head ≡ header setting.design → lines ≡ end_text end → log ≡ end.log →
-        takes old lines m → StopsDump takes fails head setting log steps m fault new → StopsEnd takes fails setting steps end old fault new
-    stops_in_dump end head lines log old m new fault is lines_are log_is first (d, known, stopped) = λ dump of.
-        let known' = subst (λ (h : List ℕ). IsRunDump h setting end.log steps d) is (subst (λ (l : List (ℕ × ℕ)). IsRunDump head setting l steps d) log_is known) in
-        let same : d ≡ dump = same_dump (header setting.design) setting end.log steps d dump known' of.is_dump in
+    pub stops_in_dump : (end : End) (lines : List ℕ) (log : List (ℕ × ℕ)) (old m new : O) (fault : OrMemory F) → lines ≡ end_text end → log ≡ end.log →
+        takes old lines m → StopsDump takes fails setting log steps m fault new → StopsEnd takes fails setting steps end old fault new
+    stops_in_dump end lines log old m new fault lines_are log_is first (d, known, stopped) = λ dump of.
+        let known' = subst (λ (l : List (ℕ × ℕ)). IsRunDump setting l steps d) log_is known in
+        let same : d ≡ dump = same_dump setting end.log steps d dump known' of.is_dump in
         stopped_after takes fails laws old m new (end_text end) dump fault (subst (λ (text : List ℕ). takes old text m) lines_are first)
         (subst (λ (text : List ℕ). Stopped takes fails m text fault new) same stopped)
 
@@ -195,9 +195,6 @@ module _ {O F : Type 0} (takes : O → List ℕ → O → Type 0) (fails : O →
       are_dumps = are_its;
       taken = taken_all top (ends_text r.ends its_dumps) turn last a b c d e p (q its_dumps are_its) s t;
     }
-
-    pub report_refused : (a : O) (refused : NoMemory) → StopsReport takes fails setting r a (Memory refused) a
-    report_refused a refused = record { dumps = its_dumps; are_dumps = are_its; stopped = (0, laws.none a) }
 
     pub report_stops_first : (a b : O) (fault : OrMemory F) → Stopped takes fails a top fault b → StopsReport takes fails setting r a fault b
     report_stops_first a b fault p = record { dumps = its_dumps; are_dumps = are_its; stopped = stopped_first top (ends_text r.ends its_dumps) turn last a b fault p }

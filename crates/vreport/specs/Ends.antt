@@ -8,7 +8,6 @@ use Rattle.statebook.specs.declared.limits.Limits.{Limits}
 use Rattle.vmodel.specs.declared.history.Cause.{Cause}
 use Rattle.vmodel.specs.Run.{Setting, rules_of, state_after, end_of}
 use Rattle.report_text.specs.Report.{End}
-use Rattle.vcd_text.specs.DumpText.{header}
 use Rattle.vreport.specs.Dumps.{IsRunDump}
 use Rattle.vreport.specs.Values.{values_line}
 
@@ -28,16 +27,16 @@ pub record IsTrueEnd (setting : Setting) (limits : Limits) (end : End) : Type 0 
 -- its bytes are as many as the dump of that run has
 pub record HasBytes (setting : Setting) (steps : ℕ) (end : End) : Type 0 where
   pub dump : List ℕ
-  pub is_dump : IsRunDump (header setting.design) setting end.log steps dump
+  pub is_dump : IsRunDump setting end.log steps dump
   pub bytes_are : end.bytes ≡ length dump
 
 -- the run has a dump of 2^64 bytes or more
-abbrev pub HasLongDump : List ℕ → Setting → List (ℕ × ℕ) → ℕ → Type 0
-HasLongDump head setting log limit = (dump : List ℕ) × IsRunDump head setting log limit dump × (2 ^ 64 ≤ length dump)
+abbrev pub HasLongDump : Setting → List (ℕ × ℕ) → ℕ → Type 0
+HasLongDump setting log limit = (dump : List ℕ) × IsRunDump setting log limit dump × (2 ^ 64 ≤ length dump)
 
 -- so has a run of no more departures than the limit
 abbrev pub HasSomeLongDump : Setting → Limits → Type 0
-HasSomeLongDump setting limits = (log : List (ℕ × ℕ)) × (length log ≤ limits.depart) × HasLongDump (header setting.design) setting log limits.steps
+HasSomeLongDump setting limits = (log : List (ℕ × ℕ)) × (length log ≤ limits.depart) × HasLongDump setting log limits.steps
 
 -- the end is listed, under a log of at most so many departures
 pub record ListsEnd (ends : List End) (time : ℕ) (cause : Cause) (line : List ℕ) (departures : ℕ) : Type 0 where

@@ -118,8 +118,8 @@ HasTimeAndLogs race = (race.time < 2 ^ 64) × Each HasLog race.values
 -- ---- ends of rows
 
 -- so many bytes as the run's dump has
-abbrev pub CountsDump : List ℕ → Setting → List (ℕ × ℕ) → ℕ → ℕ → Type 0
-CountsDump head setting log limit count = (dump : List ℕ) × IsRunDump head setting log limit dump × (count ≡ length dump)
+abbrev pub CountsDump : Setting → List (ℕ × ℕ) → ℕ → ℕ → Type 0
+CountsDump setting log limit count = (dump : List ℕ) × IsRunDump setting log limit dump × (count ≡ length dump)
 
 -- the end is that of the row, under the log of its mark
 pub record IsEndOfRow (setting : Setting) (limits : Limits) (marks : List (Standing × List (ℕ × ℕ))) (row : Row) (end : Told) : Type 0 where

@@ -5,7 +5,6 @@ use Rattle.sched_core.specs.Rules.{IsRun, NamesBelow}
 use Rattle.vbits.specs.Vectors.{Vector}
 use Rattle.vdesign.specs.Design.{Variable}
 use Rattle.vmodel.specs.Run.{Setting, rules_of}
-use Rattle.vcd_text.specs.DumpText.{header}
 use Rattle.racebook.specs.Races.{IsShown}
 use Rattle.report_text.specs.Report.{Column, End, Race, Report}
 use Rattle.report_text.specs.WellFormed.{Each}
@@ -31,7 +30,7 @@ pub record IsTrueEndOf (setting : Setting) (report : Report) (end : End) (dump :
   pub after : IsEndAfter setting end.log steps end.time end.cause end.line
   pub within : steps ≤ report.steps
   pub short : length end.log ≤ report.depart
-  pub is_dump : IsRunDump (header setting.design) setting end.log report.steps dump
+  pub is_dump : IsRunDump setting end.log report.steps dump
 
 -- of each end and its dump
 abbrev pub AreTrueEnds : Setting → Report → List End → List (List ℕ) → Type 0

@@ -2,7 +2,6 @@
 use Rattle.std.specs.Prelude.{◌≡◌, ℕ, List, [], ◌∷◌, ◌++◌, length}
 use Rattle.basis.specs.declared.memory.OrMemory.{OrMemory}
 use Rattle.vmodel.specs.Run.{Setting}
-use Rattle.vcd_text.specs.DumpText.{header}
 use Rattle.vcd_text.specs.Outlets.{Stopped}
 use Rattle.report_text.specs.Report.{End, Report}
 use Rattle.report_text.specs.ReportText.{end_text, ends_text, report_text}
@@ -10,7 +9,7 @@ use Rattle.vreport.specs.Dumps.{IsRunDump}
 
 -- the dump of the end's run; it has as many bytes as the end tells
 pub record IsDumpOf (setting : Setting) (steps : ℕ) (end : End) (dump : List ℕ) : Type 0 where
-  pub is_dump : IsRunDump (header setting.design) setting end.log steps dump
+  pub is_dump : IsRunDump setting end.log steps dump
   pub bytes_are : end.bytes ≡ length dump
 
 abbrev pub AreDumps : Setting → ℕ → List End → List (List ℕ) → Type 0

@@ -8,7 +8,7 @@ ghost use Rattle.vreport.specs.Dumps.{HasDump, StopsDump, TakesDump};
 use basis::OrMemory;
 use sched_core::Log;
 use std::alloc::Global;
-use vcd_text::{DumpSink, Header, Outlet};
+use vcd_text::{DumpSink, Outlet};
 use vmachine::{Machine, RunFault};
 
 // Runs the design under the log, which ends, into a fresh sink.
@@ -19,14 +19,14 @@ fn fill<O: Outlet>(
     sink: &mut DumpSink<'_, O>,
 ) -> Result<(), OrMemory<O::Fault>>
     requires fresh { sink.old.progress ≡ Waiting [] }
-    requires ends { HasDump sink.old.header.now machine.now log.now steps }
+    requires design { sink.old.design.now ≡ machine.now.design }
+    requires ends { HasDump machine.now log.now steps }
     ensures same { IsSameDump sink.old sink.new }
     ensures ok { OnOk result
-        (TakesDump O.takes sink.old.header.now machine.now log.now steps sink.old.outlet.now
-        sink.new.outlet.now) }
+        (TakesDump O.takes machine.now log.now steps sink.old.outlet.now sink.new.outlet.now) }
     ensures err { IfErr result (λ fault.
-        StopsDump O.takes O.fails sink.old.header.now machine.now log.now steps sink.old.outlet.now
-        fault sink.new.outlet.now) }
+        StopsDump O.takes O.fails machine.now log.now steps sink.old.outlet.now fault
+        sink.new.outlet.now) }
 {
     match machine.run_into(log, steps, sink) {
         Ok(end) => match sink.finish(&end) {
@@ -39,23 +39,22 @@ fn fill<O: Outlet>(
     }
 }
 
-/// Runs the machine under the log, which ends within so many steps, and hands its dump below the header to the outlet,
+/// Runs the machine under the log, which ends within so many steps, and hands its dump to the outlet,
 /// slot by slot. E901 where memory was refused; else a fault is the outlet's. Then a front of the dump may have been taken.
 pub fn write_dump<O: Outlet>(
     alloc: Global,
     machine: &Machine,
     log: &Log,
     steps: u32,
-    head: &Header,
     outlet: &mut O,
 ) -> Result<(), OrMemory<O::Fault>>
-    requires ends { HasDump head.now machine.now log.now steps }
+    requires ends { HasDump machine.now log.now steps }
     ensures ok { OnOk result
-        (TakesDump O.takes head.now machine.now log.now steps outlet.old outlet.new) }
+        (TakesDump O.takes machine.now log.now steps outlet.old outlet.new) }
     ensures err { IfErr result (λ fault.
-        StopsDump O.takes O.fails head.now machine.now log.now steps outlet.old fault outlet.new) }
+        StopsDump O.takes O.fails machine.now log.now steps outlet.old fault outlet.new) }
 {
-    let mut sink = DumpSink::new(alloc, head, outlet);
+    let mut sink = DumpSink::new(alloc, machine.design(), outlet);
     let result = fill(machine, log, steps, &mut sink);
     let outlet = sink.into_outlet();
     // No effect at run time. The proof reads what the outlet holds from this use.

@@ -3,7 +3,6 @@
 ghost use Rattle.std.specs.Prelude.{◌≡◌, ◌<◌, ◌^◌, length, IfOk, Decides};
 ghost use Rattle.std.specs.declared.cmp.Ordering.TheVariants.{Equal};
 ghost use Rattle.basis.specs.Reasons.{IfFault};
-ghost use Rattle.vcd_text.specs.DumpText.{header};
 ghost use Rattle.explore.specs.Found.{ListsFound};
 ghost use Rattle.report_text.specs.WellFormed.{Each, EachTwo, IsEndBefore};
 ghost use Rattle.vmachine.specs.Machines.{machine_rules};
@@ -19,7 +18,7 @@ use report_text::End;
 use sched_core::Log;
 use statebook::Limits;
 use std::alloc::Global;
-use vcd_text::{Counter, Header, TooMany};
+use vcd_text::{Counter, TooMany};
 use vmachine::{Machine, Standing, machine_law};
 
 // How many bytes the dump of the run has.
@@ -28,14 +27,13 @@ fn dump_len(
     machine: &Machine,
     log: &Log,
     steps: u32,
-    head: &Header,
 ) -> Result<u64, OrMemory<TooMany>>
-    requires ends { HasDump head.now machine.now log.now steps }
-    ensures ok { IfOk result (CountsDump head.now machine.now log.now steps) }
-    ensures long { IfFault result (λ _. HasLongDump head.now machine.now log.now steps) }
+    requires ends { HasDump machine.now log.now steps }
+    ensures ok { IfOk result (CountsDump machine.now log.now steps) }
+    ensures long { IfFault result (λ _. HasLongDump machine.now log.now steps) }
 {
     let mut counter = Counter::new();
-    match write_dump(alloc, machine, log, steps, head, &mut counter) {
+    match write_dump(alloc, machine, log, steps, &mut counter) {
         Ok(()) => Ok(counter.count()),
         Err(fault) => Err(fault),
     }
@@ -79,12 +77,10 @@ fn end_of(
     machine: &Machine,
     findings: &Findings<Standing>,
     limits: &Limits,
-    head: &Header,
     row: &Row,
 ) -> Result<End, OrMemory<TooMany>>
     requires found { ListsFound (machine_rules machine.now) limits.now findings.now }
     requires of { IsRowOfSome machine.now findings.now.marks.entries row.now }
-    requires head { head.now ≡ header machine.now.design }
     ensures ok { IfOk result
         (IsEndOfRow machine.now limits.now findings.now.marks.entries row.now) }
     ensures long { IfFault result (λ _. HasSomeLongDump machine.now limits.now) }
@@ -93,7 +89,7 @@ fn end_of(
     let Some((_, log)) = findings.marks.get_index(row.place) else {
         unreachable!()
     };
-    let bytes = match dump_len(alloc, machine, log, limits.steps, head) {
+    let bytes = match dump_len(alloc, machine, log, limits.steps) {
         Ok(bytes) => bytes,
         Err(fault) => return Err(fault),
     };
@@ -112,13 +108,11 @@ fn ends_of_rows(
     machine: &Machine,
     findings: &Findings<Standing>,
     limits: &Limits,
-    head: &Header,
     rows: &[Row],
 ) -> Result<Vec<End>, OrMemory<TooMany>>
     requires found { ListsFound (machine_rules machine.now) limits.now findings.now }
     requires of { AreRows machine.now findings.now.marks.entries rows.now }
     requires sorted { AreSortedRows rows.now }
-    requires head { head.now ≡ header machine.now.design }
     ensures ok { IfOk result (λ ends.
         AreEnds machine.now limits.now findings.now.marks.entries rows.now ends.items) }
     ensures long { IfFault result (λ _. HasSomeLongDump machine.now limits.now) }
@@ -128,7 +122,7 @@ fn ends_of_rows(
         if repeats(rows, place) {
             continue;
         }
-        match end_of(alloc, machine, findings, limits, head, &rows[place]) {
+        match end_of(alloc, machine, findings, limits, &rows[place]) {
             Ok(end) => ends.push(end)?,
             Err(fault) => return Err(fault),
         }
@@ -156,7 +150,6 @@ pub fn ends_of(
     ensures long { IfFault result (λ _. HasSomeLongDump machine.now limits.now) }
 {
     machine_law();
-    let head = Header::new(alloc, machine.design())?;
     let rows = rows_in_order(alloc, machine, findings)?;
-    ends_of_rows(alloc, machine, findings, limits, &head, &rows)
+    ends_of_rows(alloc, machine, findings, limits, &rows)
 }

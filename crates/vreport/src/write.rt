@@ -1,7 +1,6 @@
 // The text of a report, with the dump of each end.
 
 ghost use Rattle.std.specs.Prelude.{◌≡◌, ℕ, List, OnOk, IfOk, IfErr};
-ghost use Rattle.vcd_text.specs.DumpText.{header};
 ghost use Rattle.vcd_text.specs.Outlets.{Stopped};
 ghost use Rattle.report_text.specs.WellFormed.{Each};
 ghost use Rattle.report_text.specs.ReportText.{races_text};
@@ -12,7 +11,7 @@ use crate::dump::write_dump;
 use basis::{NoMemory, OrMemory};
 use report_text::{Column, End, Race, Report, end_lines, head_lines, race_count_line, race_lines};
 use std::alloc::Global;
-use vcd_text::{Header, Outlet, put};
+use vcd_text::{Outlet, put};
 use vmachine::Machine;
 
 // Hands on a text that was made, unless memory was refused for it.
@@ -36,18 +35,16 @@ fn put_end<O: Outlet>(
     alloc: Global,
     machine: &Machine,
     steps: u32,
-    head: &Header,
     end: &End,
     outlet: &mut O,
 ) -> Result<(), OrMemory<O::Fault>>
     requires bytes { HasBytes machine.now steps end.now }
-    requires head { head.now ≡ header machine.now.design }
     ensures ok { OnOk result (TakesEnd O.takes machine.now steps end.now outlet.old outlet.new) }
     ensures err { IfErr result (λ fault.
         StopsEnd O.takes O.fails machine.now steps end.now outlet.old fault outlet.new) }
 {
     match put_made(outlet, end_lines(alloc, end)) {
-        Ok(()) => write_dump(alloc, machine, &end.log, steps, head, outlet),
+        Ok(()) => write_dump(alloc, machine, &end.log, steps, outlet),
         Err(fault) => Err(fault),
     }
 }
@@ -57,18 +54,16 @@ fn put_ends<O: Outlet>(
     alloc: Global,
     machine: &Machine,
     steps: u32,
-    head: &Header,
     ends: &[End],
     outlet: &mut O,
 ) -> Result<(), OrMemory<O::Fault>>
     requires bytes { Each (HasBytes machine.now steps) ends.now }
-    requires head { head.now ≡ header machine.now.design }
     ensures ok { OnOk result (TakesEnds O.takes machine.now steps ends.now outlet.old outlet.new) }
     ensures err { IfErr result (λ fault.
         StopsEnds O.takes O.fails machine.now steps ends.now outlet.old fault outlet.new) }
 {
     for end in ends {
-        match put_end(alloc, machine, steps, head, end, outlet) {
+        match put_end(alloc, machine, steps, end, outlet) {
             Ok(()) => {}
             Err(fault) => return Err(fault),
         }
@@ -109,15 +104,11 @@ pub fn write_report<O: Outlet>(
     ensures err { IfErr result (λ fault.
         StopsReport O.takes O.fails machine.now report.now outlet.old fault outlet.new) }
 {
-    let head = match Header::new(alloc, machine.design()) {
-        Ok(head) => head,
-        Err(refused) => return Err(OrMemory::Memory(refused)),
-    };
     match put_made(outlet, head_lines(alloc, report)) {
         Ok(()) => {}
         Err(fault) => return Err(fault),
     }
-    match put_ends(alloc, machine, report.steps, &head, &report.ends, outlet) {
+    match put_ends(alloc, machine, report.steps, &report.ends, outlet) {
         Ok(()) => {}
         Err(fault) => return Err(fault),
     }

@@ -1,9 +1,9 @@
 -- Nodes that begin with those of an expression: the first one tells which expression it is, and what its operands are.
 use Rattle.std.proofs.Common.{◌≡◌, List, [], ◌∷◌, ◌++◌, length, sym, ap, subst, ◌∙◌, append_assoc, append-nil, arith}
-use Rattle.vdesign.specs.Expressions.{ExpressionTree, constant, variable, bit, part, time, conversion, apply, combine, conditional, joined, repeated}
+use Rattle.vdesign.specs.Expressions.{ExpressionTree, constant, variable, bit, bit_of, part, time, conversion, apply, combine, conditional, joined, repeated}
 use Rattle.vdesign.specs.Nodes.{nodes_of}
 use Rattle.vdesign.specs.declared.expression.Node.{Node}
-use Rattle.vdesign.specs.declared.expression.Node.TheVariants.{Constant, Variable, Bit, Part, Time, Conversion, Unary, Binary, Conditional, Joined, Repeated}
+use Rattle.vdesign.specs.declared.expression.Node.TheVariants.{Constant, Variable, Bit, BitOf, Part, Time, Conversion, Unary, Binary, Conditional, Joined, Repeated}
 
 -- what has to be shown of an expression of this first node, and of what is behind it, by its operands
 abbrev pub Shown : (ExpressionTree → List Node → Type 0) → Node → List Node → Type 0
@@ -11,6 +11,8 @@ Shown P (Constant c) behind = P (constant c) behind
 Shown P (Variable number) behind = P (variable number) behind
 Shown P (Bit number) behind =
     (index : ExpressionTree) (more : List Node) → behind ≡ nodes_of index ++ more → P (bit number index) more
+Shown P (BitOf value bounds) behind =
+    (index : ExpressionTree) (more : List Node) → behind ≡ nodes_of index ++ more → P (bit_of value bounds index) more
 Shown P (Part number bounds) behind = P (part number bounds) behind
 Shown P Time behind = P time behind
 Shown P (Conversion signed) behind =
@@ -39,6 +41,10 @@ by_first P node behind shown (variable number) more is =
     subst (P (variable number)) same (subst (λ n. Shown P n behind) first shown)
 by_first P node behind shown (bit number index) more is =
     let first : node ≡ Bit number = cc in
+    let same : behind ≡ nodes_of index ++ more = cc in
+    (subst (λ n. Shown P n behind) first shown) index more same
+by_first P node behind shown (bit_of value bounds index) more is =
+    let first : node ≡ BitOf value bounds = cc in
     let same : behind ≡ nodes_of index ++ more = cc in
     (subst (λ n. Shown P n behind) first shown) index more same
 by_first P node behind shown (part number bounds) more is =
@@ -81,6 +87,7 @@ pub not_empty : (tree : ExpressionTree) (more : List Node) → [] ≡ nodes_of t
 not_empty (constant c) more is = cc
 not_empty (variable number) more is = cc
 not_empty (bit number index) more is = cc
+not_empty (bit_of value bounds index) more is = cc
 not_empty (part number bounds) more is = cc
 not_empty time more is = cc
 not_empty (conversion signed operand) more is = cc

@@ -6,12 +6,13 @@ use Rattle.vbits.specs.declared.bit4.Bit4.TheVariants.{X}
 use Rattle.vbits.specs.Vectors.{Vector, filled, with_sign, truth}
 use Rattle.vast.specs.declared.expression.UnaryOperator.{UnaryOperator}
 use Rattle.vast.specs.declared.expression.BinaryOperator.{BinaryOperator}
-use Rattle.vdesign.specs.Expressions.{ExpressionTree, bit, conversion, apply, combine, conditional, joined, repeated}
+use Rattle.vdesign.specs.declared.expression.Bounds.{Bounds}
+use Rattle.vdesign.specs.Expressions.{ExpressionTree, bit, bit_of, conversion, apply, combine, conditional, joined, repeated}
 use Rattle.vvalue.specs.declared.context.Context.{Context}
 use Rattle.vvalue.specs.declared.manner.Manner.{Manner}
 use Rattle.vvalue.specs.declared.manner.UnaryManner.{UnaryManner}
 use Rattle.vvalue.specs.Manners.{manner, unary_manner}
-use Rattle.vvalue.specs.Value.{Moment, own, fitted, chosen, unary_context, left_context, right_context, unary_value, binary_value, bit_value, joined_value, repeated_value, value_of}
+use Rattle.vvalue.specs.Value.{Moment, own, fitted, chosen, unary_context, left_context, right_context, unary_value, binary_value, bit_value, indexed_bit, joined_value, repeated_value, value_of}
 
 pub filled_length : (v : Vector) (here : Context) → v ≡ filled here.size X → length v.letters ≡ here.size
 unfolding filled
@@ -62,6 +63,12 @@ pub bit_is : (now : Moment) (n : ℕ) (index : ExpressionTree) (here there : Con
     whole ≡ value_of now (bit n index) here
 bit_is now n index here there value made whole is makes of stands =
     is ∙ ap (λ v. fitted v here) (makes ∙ ap (bit_value now n) (of ∙ ap (value_of now index) stands))
+
+pub bit_of_is : (now : Moment) (v : Vector) (bounds : Bounds) (index : ExpressionTree) (here there : Context) (value made whole : Vector) →
+    whole ≡ fitted made here → made ≡ indexed_bit v bounds value → value ≡ value_of now index there → there ≡ own now index →
+    whole ≡ value_of now (bit_of v bounds index) here
+bit_of_is now v bounds index here there value made whole is makes of stands =
+    is ∙ ap (λ w. fitted w here) (makes ∙ ap (indexed_bit v bounds) (of ∙ ap (value_of now index) stands))
 
 pub joined_is : (now : Moment) (left right : ExpressionTree) (here first second : Context) (a b made whole : Vector) →
     whole ≡ fitted made here → made ≡ joined_value a b → a ≡ value_of now left first → first ≡ own now left →

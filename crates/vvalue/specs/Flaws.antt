@@ -8,7 +8,7 @@ use Rattle.vdesign.specs.declared.design.Kind.TheVariants.{Reg, Integer, Wire}
 use Rattle.vdesign.specs.declared.expression.Bounds.{Bounds}
 use Rattle.vdesign.specs.declared.action.Target.{Target}
 use Rattle.vdesign.specs.declared.action.Target.TheVariants as target
-use Rattle.vdesign.specs.Expressions.{ExpressionTree, constant, variable, bit, part, time, conversion, apply, combine, conditional, joined, repeated}
+use Rattle.vdesign.specs.Expressions.{ExpressionTree, constant, variable, bit, bit_of, part, time, conversion, apply, combine, conditional, joined, repeated}
 use Rattle.vvalue.specs.declared.flaw.Flaw.{Flaw}
 use Rattle.vvalue.specs.declared.flaw.Flaw.TheVariants.{NoBits, Size}
 use Rattle.vvalue.specs.Value.{Moment, size_of, bounds_of}
@@ -51,6 +51,7 @@ abbrev pub flaw_of : Moment → ExpressionTree → Option Flaw
 flaw_of now (constant c) = None
 flaw_of now (variable n) = None
 flaw_of now (bit n index) = option_or (unless (has_bits (slice_get now.variables n)) NoBits) (flaw_of now index)
+flaw_of now (bit_of v bounds index) = flaw_of now index  -- 4.10: every parameter has bits
 flaw_of now (part n bounds) = part_flaw now n bounds
 flaw_of now time = None
 flaw_of now (conversion signed o) = flaw_of now o

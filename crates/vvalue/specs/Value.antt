@@ -25,7 +25,7 @@ use Rattle.vvalue.specs.declared.manner.UnaryManner.TheVariants.{Keeps, Folds, D
 use Rattle.vvalue.specs.Manners.{manner, unary_manner}
 use Rattle.vdesign.specs.Design.{Variable}
 use Rattle.vdesign.specs.declared.expression.Bounds.{Bounds}
-use Rattle.vdesign.specs.Expressions.{ExpressionTree, constant, variable, bit, part, time, conversion, apply, combine, conditional, joined, repeated}
+use Rattle.vdesign.specs.Expressions.{ExpressionTree, constant, variable, bit, bit_of, part, time, conversion, apply, combine, conditional, joined, repeated}
 
 -- What is known when an expression is evaluated: the values of the variables, by number, how these are declared, the time in units
 -- in which delays are written, as `$time` tells it (17.7.1), and how many units of the precision make one of these (19.8).
@@ -62,6 +62,7 @@ abbrev pub size_of : Moment → ExpressionTree → ℕ
 size_of now (constant c) = length c.value.letters
 size_of now (variable n) = length (value_at now n).letters
 size_of now (bit n index) = 1
+size_of now (bit_of v bounds index) = 1
 size_of now (part n bounds) = part_size bounds
 size_of now time = 64
 size_of now (conversion signed o) = size_of now o
@@ -87,6 +88,7 @@ abbrev pub is_signed : Moment → ExpressionTree → Bool
 is_signed now (constant c) = c.value.signed
 is_signed now (variable n) = (value_at now n).signed
 is_signed now (bit n index) = false
+is_signed now (bit_of v bounds index) = false
 is_signed now (part n bounds) = false
 is_signed now time = false
 is_signed now (conversion signed o) = signed
@@ -129,12 +131,12 @@ bit_by v bounds None = X
 bit_by v bounds (Some number) = bit_letter v bounds number
 
 -- the bit that an index gives
-abbrev pub bit_of : Vector → Bounds → Vector → Vector
-bit_of v bounds index = single (bit_by v bounds (index_in index))
+abbrev pub indexed_bit : Vector → Bounds → Vector → Vector
+indexed_bit v bounds index = single (bit_by v bounds (index_in index))
 
 -- `name[index]`
 abbrev pub bit_value : Moment → ℕ → Vector → Vector
-bit_value now n index = bit_of (value_at now n) (bounds_of now n) index
+bit_value now n index = indexed_bit (value_at now n) (bounds_of now n) index
 
 -- the number of the bit that stands so far from the right one of these bounds
 abbrev pub number_of_bit : Bounds → ℕ → ℕ
@@ -270,6 +272,7 @@ abbrev pub value_of : Moment → ExpressionTree → Context → Vector
 value_of now (constant c) here = extended c.value (c.spreads || here.signed) here
 value_of now (variable n) here = fitted (value_at now n) here
 value_of now (bit n index) here = fitted (bit_value now n (value_of now index (own now index))) here
+value_of now (bit_of v bounds index) here = fitted (indexed_bit v bounds (value_of now index (own now index))) here
 value_of now (part n bounds) here = fitted (part_value now n bounds) here
 value_of now time here = fitted (of_number 64 now.time) here
 value_of now (conversion signed o) here = fitted (with_sign (value_of now o (own now o)) signed) here

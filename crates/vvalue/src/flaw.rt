@@ -125,6 +125,7 @@ fn flaw_at<'n>(nodes: &'n [Node], moment: &Moment<'_>) -> (Option<Flaw>, &'n [No
             let (index, behind) = flaw_at(behind, moment);
             (bit_flaw(moment, *variable).or(index), behind)
         }
+        Node::BitOf { .. } => flaw_at(behind, moment),
         Node::Part { variable, bounds } => (part_flaw(moment, *variable, *bounds), behind),
         Node::Time => (None, behind),
         Node::Conversion(_) => flaw_at(behind, moment),

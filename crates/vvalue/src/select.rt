@@ -87,8 +87,8 @@ pub(crate) fn index_in(value: Vec4) -> Option<u64>
 }
 
 /// The bit of a value that an index gives, by its bounds (5.2.1).
-pub fn bit_of(value: Vec4, bounds: Bounds, index: Vec4) -> Vec4
-    ensures { result ≡ spec.bit_of value bounds index }
+pub fn indexed_bit(value: Vec4, bounds: Bounds, index: Vec4) -> Vec4
+    ensures { result ≡ spec.indexed_bit value bounds index }
 {
     let letter = match index_in(index) {
         Some(number) => bit_letter(value, bounds, number),
@@ -101,7 +101,7 @@ pub fn bit_of(value: Vec4, bounds: Bounds, index: Vec4) -> Vec4
 pub fn bit_value(moment: &Moment<'_>, variable: u32, index: Vec4) -> Vec4
     ensures { result ≡ spec.bit_value moment.now variable index }
 {
-    bit_of(
+    indexed_bit(
         value_at(moment, variable),
         bounds_of(moment, variable),
         index,

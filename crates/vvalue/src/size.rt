@@ -120,6 +120,10 @@ pub fn own<'n>(nodes: &'n [Node], moment: &Moment<'_>) -> (Context, &'n [Node])
             let (_, behind) = own(behind, moment);
             (ONE_BIT, behind)
         }
+        Node::BitOf { .. } => {
+            let (_, behind) = own(behind, moment);
+            (ONE_BIT, behind)
+        }
         Node::Part { bounds, .. } => (own_part(*bounds), behind),
         Node::Time => (TIME, behind),
         Node::Conversion(signed) => {

@@ -11,11 +11,11 @@ use crate::context::{Context, common};
 use crate::manner::{Manner, UnaryManner, manner_of, unary_manner_of};
 use crate::moment::{Moment, time_of, value_at};
 use crate::operators::{binary_value, chosen, extended, fitted, unary_value};
-use crate::select::{bit_value, joined_value, part_value, repeated_value};
+use crate::select::{bit_value, indexed_bit, joined_value, part_value, repeated_value};
 use crate::size::own;
 use vast::expression::{BinaryOperator, UnaryOperator};
 use vbits::Vec4;
-use vdesign::expression::{Constant, Node};
+use vdesign::expression::{Bounds, Constant, Node};
 
 // A number where it stands.
 fn number_value(number: Constant, here: Context) -> Vec4
@@ -102,6 +102,27 @@ fn of_bit<'n>(
     let (there, _) = own(nodes, moment);
     let (index, behind) = value_of(nodes, moment, there);
     (fitted(bit_value(moment, variable, index), here), behind)
+}
+
+// `name[index]` of a parameter; the nodes begin with the index.
+#[cycle(values)]
+fn of_bit_of<'n>(
+    value: Vec4,
+    bounds: Bounds,
+    nodes: &'n [Node],
+    moment: &Moment<'_>,
+    here: Context,
+) -> (Vec4, &'n [Node])
+    requires { IsWithin here }
+    ensures exact { IsOfFirst (Node.BitOf value bounds ∷ nodes.now)
+        (λ tree. spec.value_of moment.now tree here) result.0 }
+    ensures rest { AreBehindFirst (Node.BitOf value bounds ∷ nodes.now) result.1.now }
+    ensures len { length result.0.letters ≡ here.size }
+    ensures fewer { length result.1.now ≤ length nodes.now }
+{
+    let (there, _) = own(nodes, moment);
+    let (index, behind) = value_of(nodes, moment, there);
+    (fitted(indexed_bit(value, bounds, index), here), behind)
 }
 
 // `$signed(operand)`, or `$unsigned(operand)`; the nodes begin with the operand.
@@ -243,6 +264,7 @@ pub fn value_of<'n>(nodes: &'n [Node], moment: &Moment<'_>, here: Context) -> (V
         Node::Constant(number) => (number_value(*number, here), behind),
         Node::Variable(number) => (fitted(value_at(moment, *number), here), behind),
         Node::Bit(variable) => of_bit(*variable, behind, moment, here),
+        Node::BitOf { value, bounds } => of_bit_of(*value, *bounds, behind, moment, here),
         Node::Part { variable, bounds } => {
             let value = part_value(moment, *variable, *bounds);
             (fitted(value, here), behind)

@@ -5,5 +5,5 @@ use Rattle.report_check.proofs.end.is_true_end.Goals as goal
 
 pub is_dump-requires : goal.is_dump-requires
 is_dump-requires c = record {
-  ends = so_has_dump c.args.machine.now c.report.inside.steps c.args.end.now c.end.inside.log c.args.head.now (ap (λ (e : End). e.log) c.end.view_is) (c.in_ok-ends_so.ensures.0 c.if-not-branch.false);
+  ends = so_has_dump c.args.machine.now c.report.inside.steps c.args.end.now c.end.inside.log (ap (λ (e : End). e.log) c.end.view_is) (c.in_ok-ends_so.ensures.0 c.if-not-branch.false);
 }

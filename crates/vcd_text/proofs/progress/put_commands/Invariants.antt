@@ -4,5 +4,5 @@ use Rattle.vcd_text.proofs.progress.put_commands.Given as goal
 
 abbrev pub invariant-loop-command : goal.invariant-loop-command
 invariant-loop-command l =
-    l.text.items ++ parts_text (command_parts l.is_on (drop l.command-index l.commands) l.values)
-    ≡ l.initial.text.items ++ parts_text (command_parts l.initial.is_on l.commands l.values)
+    l.text.items ++ parts_text (command_parts l.marks l.is_on (drop l.command-index l.commands) l.values)
+    ≡ l.initial.text.items ++ parts_text (command_parts l.marks l.initial.is_on l.commands l.values)

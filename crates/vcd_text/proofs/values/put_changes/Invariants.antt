@@ -5,4 +5,5 @@ use Rattle.vcd_text.proofs.values.put_changes.Given as goal
 abbrev pub invariant-loop-value : goal.invariant-loop-value
 invariant-loop-value l =
     (l.name.items ≡ code l.value-index)
-    × (l.text.items ++ value_lines (changes l.value-index l.rest (drop l.value-index l.new)) ≡ l.initial.text.items ++ value_lines (changes 0 l.initial.rest l.new))
+    × (l.text.items ++ value_lines (changes l.value-index l.left l.rest (drop l.value-index l.new))
+    ≡ l.initial.text.items ++ value_lines (changes 0 l.initial.left l.initial.rest l.new))

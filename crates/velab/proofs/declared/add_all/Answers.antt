@@ -1,15 +1,15 @@
 use Rattle.std.proofs.Common.{arith, List, ℕ, subst}
 use Rattle.basis.specs.Reasons.{Because}
+use Rattle.vmodules.specs.Names.{is_declared}
 use Rattle.velab.specs.Rules.{broken_if, IsBroken}
-use Rattle.velab.specs.Scopes.{is_declared}
 use Rattle.velab.specs.declared.fault.Rule.TheVariants.{Doubled}
 use Rattle.vexpr_parse.specs.Texts.{words_of}
 use Rattle.velab.proofs.FaultLemmas.{handed_on}
 use Rattle.velab.proofs.VariableLemmas.{words_err}
 use Rattle.velab.proofs.declared.add_all.Goals as goal
 
-pub returns-in_err-add-clause-err : goal.returns-in_err-add-clause-err
-returns-in_err-add-clause-err c =
-    handed_on _ c.from_residual.result c.in_err-add.field-0.0 c.from_residual.ensures.1
-    (words_err (words_of c.args.tokens.now) c.args.list.now c.loop-one.one-index c.one-item.result c.loop-one.into _ c.in_err-add.field-0.0 (omega arith) c.one-item.is c.loop-one.invariant
-    (subst (λ (name : List ℕ). Because (IsBroken (broken_if (is_declared c.loop-one.into name) Doubled)) c.in_err-add.field-0.0) c.letters.ensures c.in_err-add.ensures.err))
+pub returns-in_err-note-clause-err : goal.returns-in_err-note-clause-err
+returns-in_err-note-clause-err c =
+    handed_on _ c.from_residual.result c.in_err-note.field-0.0 c.from_residual.ensures.1
+    (words_err (words_of c.args.tokens.now) c.args.list.now c.loop-one.one-index c.one-item.result c.loop-one.into _ c.in_err-note.field-0.0 (omega arith) c.one-item.is c.loop-one.invariant
+    (subst (λ (name : List ℕ). Because (IsBroken (broken_if (is_declared c.loop-one.into name) Doubled)) c.in_err-note.field-0.0) c.letters.ensures c.in_err-note.ensures.err))

@@ -1,8 +1,7 @@
 use Rattle.std.proofs.Common.{◌≡◌, ◌++◌, ◌∷◌, [], ℕ, List, Some, subst}
 use Rattle.basis.specs.Reasons.{Because}
-use Rattle.velab.specs.Elaborate.{has_double}
+use Rattle.vmodules.specs.Names.{has_double, is_declared}
 use Rattle.velab.specs.Rules.{broken_if, IsBroken}
-use Rattle.velab.specs.Scopes.{is_declared}
 use Rattle.velab.specs.declared.fault.Rule.TheVariants.{Doubled, Drivers}
 use Rattle.velab.proofs.DrivenLemmas.{driver_twice}
 use Rattle.velab.proofs.driven.add_driver.Goals as goal

@@ -2,7 +2,7 @@ use Rattle.std.proofs.Common.{option_map, subst}
 use Rattle.basis.specs.Reasons.{Because}
 use Rattle.vast.specs.ModuleTrees.{source_tree}
 use Rattle.vexpr_parse.specs.Texts.{words_of}
-use Rattle.velab.specs.Reasons.{HasNoDesign, IsDesignReason}
+use Rattle.vhierarchy.specs.Reasons.{HasNoDesign, IsDesignReason}
 use Rattle.vrace.proofs.design.design_of_tree.Goals as goal
 
 pub returns-in-Err-Fault-clause-err : goal.returns-in-Err-Fault-clause-err

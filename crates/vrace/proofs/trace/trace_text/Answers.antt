@@ -5,7 +5,6 @@ use Rattle.vrace.specs.Asked.{asked}
 use Rattle.vrace.specs.Refusals.{IsReason}
 use Rattle.vrace.specs.RunDumps.{IsRunFault}
 use Rattle.vrace.proofs.ReplayLemmas.{dumped, run_reason, writing_reason}
-use Rattle.vcd_text.specs.DumpText.{header}
 use Rattle.vrace.proofs.DumpLemmas.{the_dump}
 use Rattle.vrace.proofs.trace.trace_text.Goals as goal
 
@@ -31,4 +30,4 @@ returns-clause-ran g c =
     let (played, same, members) = c.in-Ok.ensures.ok in
     let (n, end, finishes) = c.in-Ok-see_end.ensures.ends in
     let there : Finishes machine played.members c.args.options.now.limits.steps n end = subst (λ log. Finishes machine log c.args.options.now.limits.steps n end) members finishes in
-    (_, dumped (file_bytes c.args.files.now) (asked c.args.options.now) c.args.log.now played machine same _ (the_dump (header machine.design) machine played.members c.args.options.now.limits.steps n end there))
+    (_, dumped (file_bytes c.args.files.now) (asked c.args.options.now) c.args.log.now played machine same _ (the_dump machine played.members c.args.options.now.limits.steps n end there))

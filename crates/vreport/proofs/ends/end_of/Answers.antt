@@ -12,7 +12,7 @@ dump_len-requires c =
     let mark : Standing × List (ℕ × ℕ) = (c.in-Some.field-0-0.now, c.in-Some.log.now) in
     record {
       ends = its_dump setting (law.same setting) (law.stands setting) (law.runs setting) c.args.limits.now c.args.findings.now.marks.entries c.requires.found c.args.row.now c.requires.of
-          mark (sym c.get_index.ensures.entry ∙ ap (option_map deref_pair) c.in-Some.is) c.args.head.now;
+          mark (sym c.get_index.ensures.entry ∙ ap (option_map deref_pair) c.in-Some.is);
     }
 
 pub returns-in-Err-clause-long : goal.returns-in-Err-clause-long
@@ -21,7 +21,7 @@ returns-in-Err-clause-long c =
     let setting = c.args.machine.now in
     let mark : Standing × List (ℕ × ℕ) = (c.in-Some.field-0-0.now, c.in-Some.log.now) in
     because c.in-Err.fault (λ _ long. its_long_dump setting (law.same setting) (law.stands setting) (law.runs setting) c.args.limits.now c.args.findings.now.marks.entries c.requires.found
-    c.args.row.now c.requires.of mark (sym c.get_index.ensures.entry ∙ ap (option_map deref_pair) c.in-Some.is) c.args.head.now c.requires.head long) c.in-Err.ensures.long
+    c.args.row.now c.requires.of mark (sym c.get_index.ensures.entry ∙ ap (option_map deref_pair) c.in-Some.is) long) c.in-Err.ensures.long
 
 pub returns-clause-ok : goal.returns-clause-ok
 returns-clause-ok c =
@@ -29,5 +29,5 @@ returns-clause-ok c =
     let setting = c.args.machine.now in
     let mark : Standing × List (ℕ × ℕ) = (c.in-Some.field-0-0.now, c.in-Some.log.now) in
     its_end setting (law.same setting) (law.stands setting) (law.runs setting) c.args.limits.now c.args.findings.now.marks.entries c.requires.found c.args.row.now c.requires.of
-    mark (sym c.get_index.ensures.entry ∙ ap (option_map deref_pair) c.in-Some.is) c.args.head.now c.requires.head _ c.time_of.ensures.same c.cause_of.ensures
+    mark (sym c.get_index.ensures.entry ∙ ap (option_map deref_pair) c.in-Some.is) _ c.time_of.ensures.same c.cause_of.ensures
     (c.in_ok-from_slice.ensures.items ∙ c.deref.ensures.value) c.in_ok-copy.ensures.equal (c.time_of.ensures.bits, subst IsLog (sym c.in_ok-copy.ensures.equal) c.copy.ensures.lawful) c.in-Ok.ensures.ok

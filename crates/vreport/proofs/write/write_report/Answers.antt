@@ -4,39 +4,36 @@ use Rattle.vcd_text.specs.Outlets.{Stopped}
 use Rattle.report_text.specs.Report.{Column, End, Race, Report}
 use Rattle.report_text.specs.ReportText.{head_text, number_line, races_text}
 use Rattle.vreport.specs.Written.{StopsEnds, StopsReport, TakesEnds}
-use Rattle.vreport.proofs.WriteLemmas.{report_refused, report_stops_first, report_stops_last, report_stops_second, report_stops_third, report_taken}
+use Rattle.vreport.proofs.WriteLemmas.{report_stops_first, report_stops_last, report_stops_second, report_stops_third, report_taken}
 use Rattle.vreport.proofs.write.write_report.Goals as goal
 
 pub returns-in-Err-clause-err : goal.returns-in-Err-clause-err
-returns-in-Err-clause-err g c = report_refused g.O.Outlet.takes g.O.Outlet.fails g.met.O.Outlet.lawful c.args.machine.now c.args.report.now c.requires.bytes c.args.outlet.now c.in-Err.refused
-
-pub returns-in-Err-put_made-clause-err : goal.returns-in-Err-put_made-clause-err
-returns-in-Err-put_made-clause-err g c =
-    report_stops_first g.O.Outlet.takes g.O.Outlet.fails g.met.O.Outlet.lawful c.args.machine.now c.args.report.now c.requires.bytes c.args.outlet.now c.put_made.new.outlet c.in-Err-put_made.fault (c.in-Err-put_made.ensures.err (head_text c.args.report.now ++ number_line (codes "ends") (length c.args.report.now.ends)) c.head_lines.ensures)
+returns-in-Err-clause-err g c =
+    report_stops_first g.O.Outlet.takes g.O.Outlet.fails g.met.O.Outlet.lawful c.args.machine.now c.args.report.now c.requires.bytes c.args.outlet.now c.put_made.new.outlet c.in-Err.fault (c.in-Err.ensures.err (head_text c.args.report.now ++ number_line (codes "ends") (length c.args.report.now.ends)) c.head_lines.ensures)
 
 pub returns-in-Err-put_ends-clause-err : goal.returns-in-Err-put_ends-clause-err
 returns-in-Err-put_ends-clause-err g c =
     report_stops_second g.O.Outlet.takes g.O.Outlet.fails g.met.O.Outlet.lawful c.args.machine.now c.args.report.now c.requires.bytes c.args.outlet.now c.put_made.new.outlet c.put_ends.new.outlet c.in-Err-put_ends.fault
-    (c.in-Ok-put_made.ensures.ok (head_text c.args.report.now ++ number_line (codes "ends") (length c.args.report.now.ends)) c.head_lines.ensures)
+    (c.in-Ok.ensures.ok (head_text c.args.report.now ++ number_line (codes "ends") (length c.args.report.now.ends)) c.head_lines.ensures)
     (subst (λ (r : Report). StopsEnds g.O.Outlet.takes g.O.Outlet.fails c.args.machine.now r.steps r.ends c.put_made.new.outlet c.in-Err-put_ends.fault c.put_ends.new.outlet) c.report.view_is
     (subst (λ (es : List End). StopsEnds g.O.Outlet.takes g.O.Outlet.fails c.args.machine.now c.report.inside.steps es c.put_made.new.outlet c.in-Err-put_ends.fault c.put_ends.new.outlet) c.deref.ensures.value c.in-Err-put_ends.ensures.err))
 
-pub returns-in-Err-put_made-2-clause-err : goal.returns-in-Err-put_made-2-clause-err
-returns-in-Err-put_made-2-clause-err g c =
-    report_stops_third g.O.Outlet.takes g.O.Outlet.fails g.met.O.Outlet.lawful c.args.machine.now c.args.report.now c.requires.bytes c.args.outlet.now c.put_made.new.outlet c.put_ends.new.outlet c.put_made-2.new.outlet c.in-Err-put_made-2.fault
-    (c.in-Ok-put_made.ensures.ok (head_text c.args.report.now ++ number_line (codes "ends") (length c.args.report.now.ends)) c.head_lines.ensures)
+pub returns-in-Err-put_made-clause-err : goal.returns-in-Err-put_made-clause-err
+returns-in-Err-put_made-clause-err g c =
+    report_stops_third g.O.Outlet.takes g.O.Outlet.fails g.met.O.Outlet.lawful c.args.machine.now c.args.report.now c.requires.bytes c.args.outlet.now c.put_made.new.outlet c.put_ends.new.outlet c.put_made-2.new.outlet c.in-Err-put_made.fault
+    (c.in-Ok.ensures.ok (head_text c.args.report.now ++ number_line (codes "ends") (length c.args.report.now.ends)) c.head_lines.ensures)
     (subst (λ (r : Report). TakesEnds g.O.Outlet.takes c.args.machine.now r.steps r.ends c.put_made.new.outlet c.put_ends.new.outlet) c.report.view_is
     (subst (λ (es : List End). TakesEnds g.O.Outlet.takes c.args.machine.now c.report.inside.steps es c.put_made.new.outlet c.put_ends.new.outlet) c.deref.ensures.value c.in-Ok-put_ends.ensures.ok))
-    (c.in-Err-put_made-2.ensures.err (number_line (codes "races") (length c.args.report.now.races)) c.race_count_line.ensures)
+    (c.in-Err-put_made.ensures.err (number_line (codes "races") (length c.args.report.now.races)) c.race_count_line.ensures)
 
 pub returns-clause-ok : goal.returns-clause-ok
 returns-clause-ok g c =
     on_ok_weaker c.put_races.result (λ taken.
     report_taken g.O.Outlet.takes g.O.Outlet.fails g.met.O.Outlet.lawful c.args.machine.now c.args.report.now c.requires.bytes c.args.outlet.now c.put_made.new.outlet c.put_ends.new.outlet c.put_made-2.new.outlet c.put_races.new.outlet
-    (c.in-Ok-put_made.ensures.ok (head_text c.args.report.now ++ number_line (codes "ends") (length c.args.report.now.ends)) c.head_lines.ensures)
+    (c.in-Ok.ensures.ok (head_text c.args.report.now ++ number_line (codes "ends") (length c.args.report.now.ends)) c.head_lines.ensures)
     (subst (λ (r : Report). TakesEnds g.O.Outlet.takes c.args.machine.now r.steps r.ends c.put_made.new.outlet c.put_ends.new.outlet) c.report.view_is
     (subst (λ (es : List End). TakesEnds g.O.Outlet.takes c.args.machine.now c.report.inside.steps es c.put_made.new.outlet c.put_ends.new.outlet) c.deref.ensures.value c.in-Ok-put_ends.ensures.ok))
-    (c.in-Ok-put_made-2.ensures.ok (number_line (codes "races") (length c.args.report.now.races)) c.race_count_line.ensures)
+    (c.in-Ok-put_made.ensures.ok (number_line (codes "races") (length c.args.report.now.races)) c.race_count_line.ensures)
     (subst (λ (r : Report). g.O.Outlet.takes c.put_made-2.new.outlet (races_text r.variables r.races) c.put_races.new.outlet) c.report.view_is
     (subst (λ (vs : List Column). g.O.Outlet.takes c.put_made-2.new.outlet (races_text vs c.report.inside.races.items) c.put_races.new.outlet) c.deref-2.ensures.value (subst (λ (rs : List Race). g.O.Outlet.takes c.put_made-2.new.outlet (races_text c.deref-2.result.now rs) c.put_races.new.outlet) c.deref-3.ensures.value taken)))) c.put_races.ensures.ok
 
@@ -46,9 +43,9 @@ returns-clause-err g c =
     (λ fault. StopsReport g.O.Outlet.takes g.O.Outlet.fails c.args.machine.now c.args.report.now c.args.outlet.now fault c.put_races.new.outlet)
     (λ fault stopped.
     report_stops_last g.O.Outlet.takes g.O.Outlet.fails g.met.O.Outlet.lawful c.args.machine.now c.args.report.now c.requires.bytes c.args.outlet.now c.put_made.new.outlet c.put_ends.new.outlet c.put_made-2.new.outlet c.put_races.new.outlet fault
-    (c.in-Ok-put_made.ensures.ok (head_text c.args.report.now ++ number_line (codes "ends") (length c.args.report.now.ends)) c.head_lines.ensures)
+    (c.in-Ok.ensures.ok (head_text c.args.report.now ++ number_line (codes "ends") (length c.args.report.now.ends)) c.head_lines.ensures)
     (subst (λ (r : Report). TakesEnds g.O.Outlet.takes c.args.machine.now r.steps r.ends c.put_made.new.outlet c.put_ends.new.outlet) c.report.view_is
     (subst (λ (es : List End). TakesEnds g.O.Outlet.takes c.args.machine.now c.report.inside.steps es c.put_made.new.outlet c.put_ends.new.outlet) c.deref.ensures.value c.in-Ok-put_ends.ensures.ok))
-    (c.in-Ok-put_made-2.ensures.ok (number_line (codes "races") (length c.args.report.now.races)) c.race_count_line.ensures)
+    (c.in-Ok-put_made.ensures.ok (number_line (codes "races") (length c.args.report.now.races)) c.race_count_line.ensures)
     (subst (λ (r : Report). Stopped g.O.Outlet.takes g.O.Outlet.fails c.put_made-2.new.outlet (races_text r.variables r.races) fault c.put_races.new.outlet) c.report.view_is
     (subst (λ (vs : List Column). Stopped g.O.Outlet.takes g.O.Outlet.fails c.put_made-2.new.outlet (races_text vs c.report.inside.races.items) fault c.put_races.new.outlet) c.deref-2.ensures.value (subst (λ (rs : List Race). Stopped g.O.Outlet.takes g.O.Outlet.fails c.put_made-2.new.outlet (races_text c.deref-2.result.now rs) fault c.put_races.new.outlet) c.deref-3.ensures.value stopped)))) c.put_races.ensures.err

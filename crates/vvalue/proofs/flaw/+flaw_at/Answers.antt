@@ -1,7 +1,7 @@
 use Rattle.std.proofs.Common.{◌≡◌, ◌++◌, ◌+◌, ◌*◌, ◌&&◌, nat_le, Option, None, refl, ap, ◌∙◌}
 use Rattle.std.specs.Option.{option_or}
 use Rattle.vdesign.specs.Nodes.{nodes_of}
-use Rattle.vdesign.specs.declared.expression.Node.TheVariants.{Constant, Variable, Bit, Part, Time, Conversion, Unary, Binary, Conditional, Joined, Repeated}
+use Rattle.vdesign.specs.declared.expression.Node.TheVariants.{Constant, Variable, Bit, BitOf, Part, Time, Conversion, Unary, Binary, Conditional, Joined, Repeated}
 use Rattle.vvalue.specs.declared.context.Context.{Context}
 use Rattle.vvalue.specs.declared.flaw.Flaw.{Flaw}
 use Rattle.vvalue.specs.declared.flaw.Flaw.TheVariants.{Size}
@@ -52,6 +52,18 @@ returns-in-Bit-clause-rest t c =
     (Bit c.in-Bit.variable) c.in-Some.behind.now c.in-Some.ensures.cases.0 c.in-Bit.is
     c.flaw_at-index.ensures.rest
 
+pub returns-in-BitOf-clause-exact : goal.returns-in-BitOf-clause-exact
+returns-in-BitOf-clause-exact t c =
+    by_node (λ tree more. c.flaw_at.result.0 ≡ flaw_of c.args.moment.now tree) c.args.nodes.now c.in-Some.node.now
+    (BitOf c.in-BitOf.value c.in-BitOf.bounds) c.in-Some.behind.now c.in-Some.ensures.cases.0 c.in-BitOf.is
+    c.flaw_at.ensures.exact
+
+pub returns-in-BitOf-clause-rest : goal.returns-in-BitOf-clause-rest
+returns-in-BitOf-clause-rest t c =
+    by_node (λ tree more. c.flaw_at.result.1.now ≡ more) c.args.nodes.now c.in-Some.node.now
+    (BitOf c.in-BitOf.value c.in-BitOf.bounds) c.in-Some.behind.now c.in-Some.ensures.cases.0 c.in-BitOf.is
+    c.flaw_at.ensures.rest
+
 pub returns-in-Part-clause-exact : goal.returns-in-Part-clause-exact
 returns-in-Part-clause-exact t c =
     by_node (λ tree more. c.part_flaw.result ≡ flaw_of c.args.moment.now tree) c.args.nodes.now c.in-Some.node.now
@@ -78,15 +90,15 @@ returns-in-Time-clause-rest t c =
 
 pub returns-in-Conversion-clause-exact : goal.returns-in-Conversion-clause-exact
 returns-in-Conversion-clause-exact t c =
-    by_node (λ tree more. c.flaw_at.result.0 ≡ flaw_of c.args.moment.now tree) c.args.nodes.now c.in-Some.node.now
+    by_node (λ tree more. c.flaw_at-in-Conversion.result.0 ≡ flaw_of c.args.moment.now tree) c.args.nodes.now c.in-Some.node.now
     (Conversion c.in-Conversion.field-0) c.in-Some.behind.now c.in-Some.ensures.cases.0 c.in-Conversion.is
-    c.flaw_at.ensures.exact
+    c.flaw_at-in-Conversion.ensures.exact
 
 pub returns-in-Conversion-clause-rest : goal.returns-in-Conversion-clause-rest
 returns-in-Conversion-clause-rest t c =
-    by_node (λ tree more. c.flaw_at.result.1.now ≡ more) c.args.nodes.now c.in-Some.node.now
+    by_node (λ tree more. c.flaw_at-in-Conversion.result.1.now ≡ more) c.args.nodes.now c.in-Some.node.now
     (Conversion c.in-Conversion.field-0) c.in-Some.behind.now c.in-Some.ensures.cases.0 c.in-Conversion.is
-    c.flaw_at.ensures.rest
+    c.flaw_at-in-Conversion.ensures.rest
 
 pub returns-in-Unary-clause-exact : goal.returns-in-Unary-clause-exact
 returns-in-Unary-clause-exact t c =

@@ -1,7 +1,7 @@
 use Rattle.std.proofs.Common.{◌≡◌, ◌++◌, ◌+◌, ◌*◌, max, min, false, length, refl, ap, ◌∙◌}
 use Rattle.vdesign.specs.Expressions.{ExpressionTree, apply, combine}
 use Rattle.vdesign.specs.Nodes.{nodes_of}
-use Rattle.vdesign.specs.declared.expression.Node.TheVariants.{Constant, Variable, Bit, Part, Time, Conversion, Unary, Binary, Conditional, Joined, Repeated}
+use Rattle.vdesign.specs.declared.expression.Node.TheVariants.{Constant, Variable, Bit, BitOf, Part, Time, Conversion, Unary, Binary, Conditional, Joined, Repeated}
 use Rattle.vast.specs.declared.expression.UnaryOperator.{UnaryOperator}
 use Rattle.vast.specs.declared.expression.BinaryOperator.{BinaryOperator}
 use Rattle.vvalue.specs.declared.context.Context.{Context}
@@ -157,6 +157,18 @@ returns-in-Bit-clause-rest t c =
     by_node (λ tree more. c.own.result.1.now ≡ more)
     c.args.nodes.now c.in-Some.node.now (Bit c.in-Bit.field-0) c.in-Some.behind.now
     c.in-Some.ensures.cases.0 c.in-Bit.is c.own.ensures.rest
+
+pub returns-in-BitOf-clause-exact : goal.returns-in-BitOf-clause-exact
+returns-in-BitOf-clause-exact t c =
+    by_node (λ tree more. context 1 false ≡ own c.args.moment.now tree)
+    c.args.nodes.now c.in-Some.node.now (BitOf c.in-BitOf.value c.in-BitOf.bounds) c.in-Some.behind.now
+    c.in-Some.ensures.cases.0 c.in-BitOf.is (λ index more is. refl)
+
+pub returns-in-BitOf-clause-rest : goal.returns-in-BitOf-clause-rest
+returns-in-BitOf-clause-rest t c =
+    by_node (λ tree more. c.own-in-BitOf.result.1.now ≡ more)
+    c.args.nodes.now c.in-Some.node.now (BitOf c.in-BitOf.value c.in-BitOf.bounds) c.in-Some.behind.now
+    c.in-Some.ensures.cases.0 c.in-BitOf.is c.own-in-BitOf.ensures.rest
 
 pub returns-in-Part-clause-exact : goal.returns-in-Part-clause-exact
 returns-in-Part-clause-exact t c =

@@ -1,10 +1,10 @@
 use Rattle.std.proofs.Common.{◌≡◌, ◌++◌, refl, ap, ◌∙◌}
 use Rattle.vbits.specs.Vectors.{Vector}
 use Rattle.vdesign.specs.Nodes.{nodes_of}
-use Rattle.vdesign.specs.declared.expression.Node.TheVariants.{Constant, Variable, Bit, Part, Time, Conversion, Unary, Binary, Conditional, Joined, Repeated}
+use Rattle.vdesign.specs.declared.expression.Node.TheVariants.{Constant, Variable, Bit, BitOf, Part, Time, Conversion, Unary, Binary, Conditional, Joined, Repeated}
 use Rattle.vvalue.specs.Value.{fitted, value_of}
 use Rattle.vvalue.proofs.NodeLemmas.{by_first, by_node, by_none}
-use Rattle.vvalue.proofs.ValueLemmas.{filled_length, bit_is, conversion_is, apply_is, combine_is, conditional_is, joined_is, repeated_is}
+use Rattle.vvalue.proofs.ValueLemmas.{filled_length, bit_is, bit_of_is, conversion_is, apply_is, combine_is, conditional_is, joined_is, repeated_is}
 use Rattle.vvalue.proofs.value.+values.Goals as goal
 
 -- ---- a node with operands
@@ -78,6 +78,18 @@ of_bit-returns-clause-exact t c =
 pub of_bit-returns-clause-rest : goal.of_bit-returns-clause-rest
 of_bit-returns-clause-rest t c =
     by_first (λ tree more. c.value_of-index.result.1.now ≡ more) (Bit c.args.variable) c.args.nodes.now c.value_of-index.ensures.rest
+
+pub of_bit_of-returns-clause-exact : goal.of_bit_of-returns-clause-exact
+of_bit_of-returns-clause-exact t c =
+    by_first (λ tree more. c.fitted.result ≡ value_of c.args.moment.now tree c.args.here) (BitOf c.args.value c.args.bounds) c.args.nodes.now
+    (λ index more is. bit_of_is c.args.moment.now c.args.value c.args.bounds index c.args.here c.own.result.0
+    c.value_of-index.result.0 c.indexed_bit.result c.fitted.result
+    c.fitted.ensures.exact c.indexed_bit.ensures (c.value_of-index.ensures.exact index more is) (c.own.ensures.exact index more is))
+
+pub of_bit_of-returns-clause-rest : goal.of_bit_of-returns-clause-rest
+of_bit_of-returns-clause-rest t c =
+    by_first (λ tree more. c.value_of-index.result.1.now ≡ more) (BitOf c.args.value c.args.bounds) c.args.nodes.now
+    c.value_of-index.ensures.rest
 
 pub of_joined-returns-clause-exact : goal.of_joined-returns-clause-exact
 of_joined-returns-clause-exact t c =

@@ -4,6 +4,9 @@ use Rattle.vvalue.proofs.value.+values.Given as goal
 abbrev pub decreases-of_bit : goal.decreases-of_bit
 decreases-of_bit l = 2 * length l.nodes.now + 1
 
+abbrev pub decreases-of_bit_of : goal.decreases-of_bit_of
+decreases-of_bit_of l = 2 * length l.nodes.now + 1
+
 abbrev pub decreases-of_joined : goal.decreases-of_joined
 decreases-of_joined l = 2 * length l.nodes.now + 1
 

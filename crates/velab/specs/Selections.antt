@@ -1,0 +1,39 @@
+-- What a `$dumpvars` selects (IEEE 1364-2005, 12.4, 18.1.2).
+use Rattle.std.specs.Prelude.{ℕ, List, [], ◌∷◌, ◌++◌, map, Option, None, Some, is_some, unwrap_or}
+use Rattle.std.specs.List.{flat_map}
+use Rattle.vbits.specs.Numbers.{number}
+use Rattle.vast.specs.Words.{Text}
+use Rattle.vast.specs.Statements.{SelectionTree}
+use Rattle.vdesign.specs.declared.dump.Chosen.{Chosen}
+use Rattle.velab.specs.Literals.{constant_of}
+use Rattle.velab.specs.Rules.{unless}
+use Rattle.velab.specs.Scopes.{Scope}
+use Rattle.velab.specs.declared.fault.Rule.{Rule}
+use Rattle.velab.specs.declared.fault.Rule.TheVariants.{Kind}
+
+-- the number of levels, read unsigned, where it is known
+abbrev pub levels_in : Text → Option ℕ
+levels_in digits = number (constant_of digits).value.letters
+
+-- the names of a path, joined by dots
+abbrev pub dotted : List Text → Text
+dotted [] = []
+dotted (name ∷ more) = name ++ flat_map (λ one. 46 ∷ one) more
+
+abbrev pub chosen : ℕ → Text → Chosen
+chosen levels path = record { path = path; levels = levels }
+
+-- with a number alone the top is meant (own)
+abbrev pub chosen_by : Text → ℕ → List (List Text) → List Chosen
+chosen_by top levels [] = chosen levels top ∷ []
+chosen_by top levels (path ∷ more) = map (λ names. chosen levels (dotted names)) (path ∷ more)
+
+-- without a number everything is
+abbrev pub selected : Scope → Option SelectionTree → List Chosen
+selected scope None = []
+selected scope (Some selection) = chosen_by scope.top (unwrap_or (levels_in selection.levels) 0) selection.paths
+
+-- the number has no unknown bit
+abbrev pub broken_selection : Option SelectionTree → Option Rule
+broken_selection None = None
+broken_selection (Some selection) = unless (is_some (levels_in selection.levels)) Kind

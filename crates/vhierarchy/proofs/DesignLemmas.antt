@@ -1,0 +1,76 @@
+-- Faults of the modules' names, of the top and of the whole, and what they say of a text.
+use Rattle.std.proofs.Common.{◌≡◌, ◌<◌, ℕ, ◌+◌, length, drop, get_or, List, [], ◌∷◌, ◌++◌, map, inl, Option, Some, None, Bool, true, false, Result, Ok, Err, IfOk, OnOk, refl, sym, ap, subst, ◌∙◌}
+use Rattle.vast.specs.Words.{Text}
+use Rattle.vast.specs.Modules.{ModuleTree, SourceTree}
+use Rattle.basis.specs.declared.memory.OrMemory.{OrMemory}
+use Rattle.basis.specs.declared.memory.OrMemory.TheVariants.{Fault, Memory}
+use Rattle.basis.specs.declared.timescale.Timescale.{Timescale}
+use Rattle.basis.specs.Reasons.{Because, IfFault}
+use Rattle.vdesign.specs.Design.{Design, Variable, Scope as Room}
+use Rattle.vmodules.specs.Names.{has_double, is_declared}
+use Rattle.vmodules.specs.Hierarchy.{top_of, module_names}
+use Rattle.velab.specs.declared.fault.Rule.{Rule}
+use Rattle.velab.specs.declared.fault.Rule.TheVariants.{Doubled, Top}
+use Rattle.velab.specs.declared.fault.ElabFault.{ElabFault}
+use Rattle.velab.specs.Rules.{broken_if, IsBroken, Breaks, rules_in}
+use Rattle.velab.proofs.ListLemmas.{drop_at}
+use Rattle.velab.proofs.VariableLemmas.{name_stops}
+use Rattle.velab.proofs.FaultLemmas.{still, if_more, breaks_here, breaks_later, front_breaks, back_breaks, none_first}
+use Rattle.vhierarchy.specs.Instances.{broken_rules, broken_top, whole_of, design_by, Elaborates}
+use Rattle.vhierarchy.specs.Reasons.{IsDesignReason}
+use Rattle.vhierarchy.specs.Inner.{BreaksOf, variable_names, scope_names}
+
+-- a rule of several, by its place
+pub first_of : (a : Option Rule) (more : List (Option Rule)) (e : OrMemory ElabFault) → Because (IsBroken a) e → Because (BreaksOf (rules_in (a ∷ more))) e
+first_of a more (Fault f) h = breaks_here a more f.rule h
+first_of a more (Memory m) h = tt
+
+pub later_of : (a : Option Rule) (more : List (Option Rule)) (e : OrMemory ElabFault) → Because (BreaksOf (rules_in more)) e → Because (BreaksOf (rules_in (a ∷ more))) e
+later_of a more (Fault f) h = breaks_later a more f.rule h
+later_of a more (Memory m) h = tt
+
+-- a path that can't be added stands twice among all
+pub paths_err : (list : List Variable) (i : ℕ) (v : Variable) (names all : List Text) (e : OrMemory ElabFault) → i < length list → v ≡ get_or list i v → names ++ variable_names (drop i list) ≡ all →
+    Because (IsBroken (broken_if (is_declared names v.name) Doubled)) e → Because (IsBroken (broken_if (has_double all) Doubled)) e
+paths_err list i v names all e within at same =
+    still _ _ (if_more (is_declared names v.name) (has_double all) Doubled
+    (name_stops names (variable_names (drop (i + 1) list)) all v.name (ap (λ (vs : List Variable). names ++ variable_names vs) (sym (drop_at list i v within at)) ∙ same))) e
+
+pub scopes_err : (list : List Room) (i : ℕ) (s : Room) (names all : List Text) (e : OrMemory ElabFault) → i < length list → s ≡ get_or list i s → names ++ scope_names (drop i list) ≡ all →
+    Because (IsBroken (broken_if (is_declared names s.path) Doubled)) e → Because (IsBroken (broken_if (has_double all) Doubled)) e
+scopes_err list i s names all e within at same =
+    still _ _ (if_more (is_declared names s.path) (has_double all) Doubled
+    (name_stops names (scope_names (drop (i + 1) list)) all s.path (ap (λ (ss : List Room). names ++ scope_names ss) (sym (drop_at list i s within at)) ∙ same))) e
+
+-- a rule that the names of modules break is one that the text breaks
+pub names_reason : (tree : SourceTree) (top : Option Text) (e : OrMemory ElabFault) → Because (IsBroken (broken_if (has_double (module_names tree)) Doubled)) e →
+    Because (IsDesignReason tree top) e
+names_reason tree top (Fault f) h = front_breaks _ (broken_top tree (top_of tree top)) f.rule (breaks_here _ [] f.rule h)
+names_reason tree top (Memory m) h = tt
+
+-- a rule that the top breaks is one that the text breaks
+pub top_reason : {T : Type 0} (result : Result T (OrMemory ElabFault)) (tree : SourceTree) (top : Option Text) (m : ModuleTree) → top_of tree top ≡ Some m →
+    IfFault result (BreaksOf (broken_top tree (Some m))) → IfFault result (IsDesignReason tree top)
+top_reason (Ok x) tree top m is h = tt
+top_reason (Err (Fault f)) tree top m is h =
+    back_breaks (rules_in (broken_if (has_double (module_names tree)) Doubled ∷ [])) (broken_top tree (top_of tree top)) f.rule
+    (subst (λ o. Breaks (broken_top tree o) f.rule) (sym is) h)
+top_reason (Err (Memory n)) tree top m is h = tt
+
+-- nothing is broken where the names of modules differ and the top is right
+pub nothing_broken : (tree : SourceTree) (top : Option Text) (m : ModuleTree) → top_of tree top ≡ Some m →
+    has_double (module_names tree) ≡ false → broken_top tree (Some m) ≡ [] → broken_rules tree top ≡ []
+nothing_broken tree top m is differ right =
+    ap (λ b. rules_in (broken_if b Doubled ∷ []) ++ broken_top tree (top_of tree top)) differ ∙ ap (broken_top tree) is ∙ right
+
+pub missing : (tree : SourceTree) (top : Option Text) → top_of tree top ≡ None → Breaks (broken_rules tree top) Top
+missing tree top is =
+    back_breaks (rules_in (broken_if (has_double (module_names tree)) Doubled ∷ [])) (broken_top tree (top_of tree top)) Top
+    (subst (λ o. Breaks (broken_top tree o) Top) (sym is) (inl refl))
+
+pub top_elaborates : (result : Result Design (OrMemory ElabFault)) (tree : SourceTree) (top : Option Text) (scale : Timescale) (m : ModuleTree) →
+    top_of tree top ≡ Some m → has_double (module_names tree) ≡ false → IfOk result (λ design. design ≡ design_by scale m (whole_of tree m)) →
+    OnOk result (broken_top tree (Some m) ≡ []) → IfOk result (Elaborates tree top scale)
+top_elaborates (Ok design) tree top scale m is differ describes right =
+    record { right = nothing_broken tree top m is differ right; unit = m; is_top = is; describes = describes }
+top_elaborates (Err e) tree top scale m is differ describes right = tt

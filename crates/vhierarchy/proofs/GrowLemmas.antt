@@ -1,0 +1,156 @@
+-- An instance and all below it: what its parts say of the whole.
+use Rattle.std.proofs.Common.{inl, ◌≡◌, ◌<◌, ℕ, suc, ◌+◌, ◌^◌, Option, None, Some, List, [], ◌∷◌, ◌++◌, length, map, drop, get_or, refl, sym, ap, subst, ◌∙◌, arith}
+use Rattle.std.specs.List.{fold, flat_map}
+use Rattle.basis.specs.Reasons.{Because}
+use Rattle.basis.specs.declared.memory.OrMemory.{OrMemory}
+use Rattle.basis.specs.declared.memory.OrMemory.TheVariants.{Fault, Memory}
+use Rattle.vast.specs.Words.{Text}
+use Rattle.vast.specs.Modules.{SourceTree}
+use Rattle.vast.specs.ModuleTrees.{item_tree}
+use Rattle.vast.specs.declared.module.ModuleItem.{ModuleItem}
+use Rattle.vmodules.specs.Ports.{Port, ports_of}
+use Rattle.vmodules.specs.Inner.{Units, units_tree}
+use Rattle.velab.specs.declared.fault.Rule.{Rule}
+use Rattle.velab.specs.declared.fault.Rule.TheVariants.{Depth}
+use Rattle.velab.specs.declared.fault.ElabFault.{ElabFault}
+use Rattle.velab.specs.Rules.{Breaks, IsBroken, rules_in}
+use Rattle.velab.specs.Scopes.{Scope, at}
+use Rattle.velab.specs.Elaborate.{Outside, Base, Given, given_by, given_in_head, with_given, with_all, first_scope, head_scope, whole_scope}
+use Rattle.velab.specs.Inner.{given_in}
+use Rattle.velab.proofs.ListLemmas.{drop_at}
+use Rattle.velab.proofs.FaultLemmas.{front_breaks, back_breaks, breaks_here}
+use Rattle.vhierarchy.specs.Instances.{Wanted, wanted_from, wanted_in, broken_among, Part, Request, base_of, inside, name_rules, own_by, own_rules_by, with_own, own_rules, asked, grown, broken_each, broken_grown}
+use Rattle.vhierarchy.specs.Inner.{BreaksOf, request_tree, wanted_tree, wanted_trees, each_grown, each_broken_grown, one_grown, one_broken}
+use Rattle.vhierarchy.specs.declared.wanted.Wanted.{Wanted as Found}
+use Rattle.vhierarchy.specs.declared.request.Request.{Request as Asked}
+
+-- ---- faults of a part of several rules
+
+pub front_err : (xs ys : List Rule) (e : OrMemory ElabFault) → Because (BreaksOf xs) e → Because (BreaksOf (xs ++ ys)) e
+front_err xs ys (Fault f) h = front_breaks xs ys f.rule h
+front_err xs ys (Memory m) h = tt
+
+pub back_err : (xs ys : List Rule) (e : OrMemory ElabFault) → Because (BreaksOf ys) e → Because (BreaksOf (xs ++ ys)) e
+back_err xs ys (Fault f) h = back_breaks xs ys f.rule h
+back_err xs ys (Memory m) h = tt
+
+pub one_err : (rule : Option Rule) (e : OrMemory ElabFault) → Because (IsBroken rule) e → Because (BreaksOf (rules_in (rule ∷ []))) e
+one_err rule (Fault f) h = breaks_here rule [] f.rule h
+one_err rule (Memory m) h = tt
+
+-- the same list of rules under another name
+pub same_rules : (xs ys : List Rule) (e : OrMemory ElabFault) → xs ≡ ys → Because (BreaksOf xs) e → Because (BreaksOf ys) e
+same_rules xs ys e is h = subst (λ (rules : List Rule). Because (BreaksOf rules) e) is h
+
+-- ---- instances one after another
+
+module _ (units : Units) (levels : ℕ) (request : Asked) (scope : Scope) (list : List Found) (i : ℕ) (x : Found) (within : i < length list) (is : x ≡ get_or list i x) where
+  opens : wanted_trees units.words (drop i list) ≡ wanted_tree units.words x ∷ wanted_trees units.words (drop (i + 1) list)
+  opens = ap (λ (l : List Found). wanted_trees units.words l) (drop_at list i x within is)
+
+  grow : Part → Wanted → Part
+  grow so_far one = grown levels (units_tree units) so_far (asked scope (request_tree units.words request) one)
+
+  rules : Part → Wanted → List Rule
+  rules so_far one = broken_grown levels (units_tree units) so_far (asked scope (request_tree units.words request) one)
+
+  pub each_step : (part next all : Part) → next ≡ one_grown units levels request scope part x → each_grown units levels request scope part (drop i list) ≡ all →
+      each_grown units levels request scope next (drop (i + 1) list) ≡ all
+  each_step part next all put same =
+      ap (λ (p : Part). fold grow p (wanted_trees units.words (drop (i + 1) list))) put ∙ sym (ap (fold grow part) opens) ∙ same
+
+  each_opens : (part : Part) → each_broken_grown units levels request scope part (drop i list) ≡
+      one_broken units levels request scope part x ++ broken_each grow rules (grow part (wanted_tree units.words x)) (wanted_trees units.words (drop (i + 1) list))
+  each_opens part = ap (broken_each grow rules part) opens
+
+  pub each_right : (part next : Part) (all : List Rule) → next ≡ one_grown units levels request scope part x → one_broken units levels request scope part x ≡ [] →
+      each_broken_grown units levels request scope part (drop i list) ≡ all → each_broken_grown units levels request scope next (drop (i + 1) list) ≡ all
+  each_right part next all put right same =
+      ap (λ (p : Part). broken_each grow rules p (wanted_trees units.words (drop (i + 1) list))) put
+      ∙ ap (λ (r : List Rule). r ++ broken_each grow rules (grow part (wanted_tree units.words x)) (wanted_trees units.words (drop (i + 1) list))) (sym right)
+      ∙ sym (each_opens part) ∙ same
+
+  pub each_err : (part : Part) (all : List Rule) → each_broken_grown units levels request scope part (drop i list) ≡ all → (e : OrMemory ElabFault) →
+      Because (BreaksOf (one_broken units levels request scope part x)) e → Because (BreaksOf all) e
+  each_err part all same e h =
+      same_rules _ all e (sym (each_opens part) ∙ same)
+      (front_err (one_broken units levels request scope part x) (broken_each grow rules (grow part (wanted_tree units.words x)) (wanted_trees units.words (drop (i + 1) list))) e h)
+
+-- ---- so many are known
+
+pub known_all : (outside : Outside) (scope : Scope) (list : List Given) → (with_all outside scope list).known ≡ scope.known + length list
+known_all outside scope [] = omega arith
+known_all outside scope (one ∷ more) = let rest = known_all outside (with_given outside scope one) more in omega (arith, rest)
+
+-- ---- an instance
+
+module _ (modules : SourceTree) (part : Part) (request : Request) (levels below : ℕ) (deep : levels ≡ suc below) where
+  opened : grown levels modules part request ≡ grown (suc below) modules part request
+  opened = ap (λ n. grown n modules part request) deep
+
+  broken_opened : broken_grown (suc below) modules part request ≡ broken_grown levels modules part request
+  broken_opened = ap (λ n. broken_grown n modules part request) (sym deep)
+
+  broken_below : List Rule
+  broken_below =
+      broken_each (λ (so_far : Part) (one : Wanted). grown below modules so_far (asked (inside part request) request one))
+      (λ (so_far : Part) (one : Wanted). broken_grown below modules so_far (asked (inside part request) request one))
+      (with_own modules part request) (wanted_in modules request.unit)
+
+  own_breaks : (e : OrMemory ElabFault) → Because (BreaksOf (own_rules modules part request)) e → Because (BreaksOf (broken_grown levels modules part request)) e
+  own_breaks e h = same_rules _ _ e broken_opened (front_err (own_rules modules part request) broken_below e h)
+
+  others : List Rule
+  others = own_rules_by request (ports_of request.unit) (wanted_in modules request.unit) (inside part request) part
+
+  pub names_err : (e : OrMemory ElabFault) → Because (BreaksOf (rules_in (name_rules part request))) e → Because (BreaksOf (broken_grown levels modules part request)) e
+  names_err e h = own_breaks e (front_err (rules_in (name_rules part request)) (rules_in (broken_among modules request.unit.items ∷ []) ++ others) e h)
+
+  pub wanted_err : (e : OrMemory ElabFault) → Because (IsBroken (broken_among modules request.unit.items)) e → Because (BreaksOf (broken_grown levels modules part request)) e
+  wanted_err e h =
+      own_breaks e (back_err (rules_in (name_rules part request)) (rules_in (broken_among modules request.unit.items ∷ []) ++ others) e
+      (front_err (rules_in (broken_among modules request.unit.items ∷ [])) others e (one_err (broken_among modules request.unit.items) e h)))
+
+  module _ (ports : List Port) (wanted : List Wanted) (scope : Scope) (ports_are : ports ≡ ports_of request.unit) (wanted_are : wanted ≡ wanted_in modules request.unit)
+      (scope_is : scope ≡ inside part request) where
+    own_is : own_by request ports wanted scope part ≡ with_own modules part request
+    own_is = λ i. own_by request (ports_are i) (wanted_are i) (scope_is i) part
+
+    rules_are : own_rules_by request ports wanted scope part ≡ others
+    rules_are = λ i. own_rules_by request (ports_are i) (wanted_are i) (scope_is i) part
+
+    pub own_err : (e : OrMemory ElabFault) → Because (BreaksOf (own_rules_by request ports wanted scope part)) e → Because (BreaksOf (broken_grown levels modules part request)) e
+    own_err e h =
+        own_breaks e (back_err (rules_in (name_rules part request)) (rules_in (broken_among modules request.unit.items ∷ []) ++ others) e
+        (back_err (rules_in (broken_among modules request.unit.items ∷ [])) others e (same_rules _ _ e rules_are h)))
+
+    module _ (next : Part) (put : next ≡ own_by request ports wanted scope part) where
+      broken_here : broken_each (λ (so_far : Part) (one : Wanted). grown below modules so_far (asked scope request one))
+          (λ (so_far : Part) (one : Wanted). broken_grown below modules so_far (asked scope request one)) next wanted ≡ broken_below
+      broken_here = λ i.
+          broken_each (λ (so_far : Part) (one : Wanted). grown below modules so_far (asked (scope_is i) request one))
+          (λ (so_far : Part) (one : Wanted). broken_grown below modules so_far (asked (scope_is i) request one)) ((put ∙ own_is) i) (wanted_are i)
+
+      pub each_of_err : (e : OrMemory ElabFault) →
+          Because (BreaksOf (broken_each (λ (so_far : Part) (one : Wanted). grown below modules so_far (asked scope request one))
+              (λ (so_far : Part) (one : Wanted). broken_grown below modules so_far (asked scope request one)) next wanted)) e →
+          Because (BreaksOf (broken_grown levels modules part request)) e
+      each_of_err e h =
+          same_rules _ _ e broken_opened (back_err (own_rules modules part request) broken_below e (same_rules _ _ e broken_here h))
+
+      pub unit_is : (whole : Part) → whole ≡ fold (λ (so_far : Part) (one : Wanted). grown below modules so_far (asked scope request one)) next wanted →
+          whole ≡ grown levels modules part request
+      unit_is whole is =
+          is ∙ (λ i. fold (λ (so_far : Part) (one : Wanted). grown below modules so_far (asked (scope_is i) request one)) ((put ∙ own_is) i) (wanted_are i)) ∙ sym opened
+
+      pub unit_right : rules_in (name_rules part request) ≡ [] → broken_among modules request.unit.items ≡ None → own_rules_by request ports wanted scope part ≡ [] →
+          broken_each (λ (so_far : Part) (one : Wanted). grown below modules so_far (asked scope request one))
+          (λ (so_far : Part) (one : Wanted). broken_grown below modules so_far (asked scope request one)) next wanted ≡ [] →
+          broken_grown levels modules part request ≡ []
+      unit_right names found own each =
+          sym broken_opened
+          ∙ (λ i. (names i ++ (rules_in (found i ∷ []) ++ (sym rules_are ∙ own) i)) ++ (sym broken_here ∙ each) i)
+
+-- no level is left
+pub too_deep : (modules : SourceTree) (part : Part) (request : Request) (levels : ℕ) → levels ≡ 0 → Breaks (broken_grown levels modules part request) Depth
+too_deep modules part request levels none = subst (λ n. Breaks (broken_grown n modules part request) Depth) (sym none) (inl refl)

@@ -1,0 +1,6 @@
+pub mod GrowLemmas
+pub mod BrokenLemmas
+pub mod DesignLemmas
+pub mod OwnLemmas
+pub mod DriverLemmas
+mod NamedLemmas

@@ -1,0 +1,364 @@
+-- The names of a design are names where those of its text are: paths of the grammar's names, one for each variable.
+use Rattle.std.proofs.Common.{◌≡◌, ◌≢◌, ℕ, zero, suc, ◌<◌, ◌+◌, Bool, true, false, ◌&&◌, ◌||◌, ◌==◌, not, List, [], ◌∷◌, ◌++◌, map, length, Option, Some, None, refl, sym, ap, subst, ◌∙◌, true≢false, arith}
+use Rattle.std.specs.Prelude.{slice_get, cond, nat_le, filter}
+use Rattle.std.specs.List.{fold, list_all, list_any, flat_map, find}
+use Rattle.std.specs.Option.{option_or}
+use Rattle.std.specs.Str.{bytes_eq}
+use Rattle.std.proofs.lemmas.List.Folds.{list_all-append}
+use Rattle.std.proofs.lemmas.Slice.Eq.{bytes_eq-Decides}
+use Rattle.basis.proofs.Bools.{and_left, and_right, and_both, or_left, or_right, or_first, or_second}
+use Rattle.basis.specs.declared.timescale.Timescale.{Timescale}
+use Rattle.vast.specs.Words.{Text, begins_name, is_in_name, is_name, is_reserved}
+use Rattle.vast.specs.Names.{has_letters_of_name, is_path_from, is_path}
+use Rattle.vast.specs.Modules.{ConnectionsTree, InstanceTree, ItemTree, parameters, declaration, variables, integers, events, assignments, initial, always, instances, DeclarationKind, DirectionTree, input, output, PortTree, ModuleTree, SourceTree, DerivesText, DeclaredTree, fits, fits_module, fits_item, fits_declared, fits_optional, fits_optional_parameters, fits_optional_ports, fits_ports, fits_port, fits_direction, fits_declaration_kind, fits_overrides, fits_instance, fits_connections, is_directed, are_some}
+use Rattle.vmodules.specs.Names.{has_double, is_declared}
+use Rattle.vmodules.specs.Hierarchy.{instantiated, module_names, module_of, roots, only_of, top_of}
+use Rattle.vmodules.specs.Ports.{Port, port_by, ports_behind, ports_listed, ports_of}
+use Rattle.vdesign.specs.Named.{AreNamed}
+use Rattle.vdesign.specs.Design.{Variable, Design}
+use Rattle.vdesign.specs.declared.design.Kind.TheVariants.{Integer}
+use Rattle.velab.specs.Scopes.{Scope}
+use Rattle.velab.specs.Elaborate.{Home, Declaration, all_declared, kind_of, declared_as, declarations_of, port_declaration, variable_of, variables_from, behind_item, given_by}
+use Rattle.velab.specs.declared.fault.Rule.{Rule}
+use Rattle.velab.specs.declared.fault.Rule.TheVariants.{Doubled}
+use Rattle.velab.specs.Rules.{broken_if, rules_in}
+use Rattle.velab.proofs.FaultLemmas.{none_was, front_none}
+use Rattle.vhierarchy.specs.Instances.{Wanted, wanted_one, wanted_of, wanted_by, wanted_from, wanted_in, Part, Request, own_by, home_by, with_own, inside, asked, grown, nothing, top_request, whole_of, variable_paths, design_by, path_rules, design_rules, broken_grown, broken_top, broken_rules, Elaborates}
+
+-- ---- letters and paths
+
+letters : (text : Text) → is_name text ≡ true → has_letters_of_name text ≡ true
+letters [] e = e
+letters (c ∷ cs) e = and_left (begins_name c && list_all is_in_name cs) (not (is_reserved (c ∷ cs))) e
+
+either : {P : Type 0} (a b : Bool) → (a || b) ≡ true → (a ≡ true → P) → (b ≡ true → P) → P
+either true b e f g = f refl
+either false b e f g = g e
+
+-- the rest of the last name of a path
+ends_path : (cs : Text) → list_all is_in_name cs ≡ true → is_path_from true cs ≡ true
+ends_path [] e = refl
+ends_path (c ∷ cs) e =
+    or_first (is_in_name c && is_path_from true cs) (c == 46 && is_path_from false cs)
+    (and_both (is_in_name c) (is_path_from true cs) (and_left (is_in_name c) (list_all is_in_name cs) e) (ends_path cs (and_right (is_in_name c) (list_all is_in_name cs) e)))
+
+name_is_path : (text : Text) → has_letters_of_name text ≡ true → is_path text ≡ true
+name_is_path [] e = e
+name_is_path (c ∷ cs) e =
+    and_both (begins_name c) (is_path_from true cs) (and_left (begins_name c) (list_all is_in_name cs) e)
+    (ends_path cs (and_right (begins_name c) (list_all is_in_name cs) e))
+
+-- a path, a dot and a path
+goes_on : (begun : Bool) (cs path : Text) → is_path_from begun cs ≡ true → is_path path ≡ true → is_path_from begun (cs ++ 46 ∷ path) ≡ true
+goes_on true [] path e h = or_second (is_in_name 46 && is_path_from true path) (46 == 46 && is_path_from false path) h
+goes_on false [] path e h = absurd (true≢false (sym e))
+goes_on true (c ∷ cs) path e h =
+    either {(is_in_name c && is_path_from true (cs ++ 46 ∷ path) || (c == 46 && is_path_from false (cs ++ 46 ∷ path))) ≡ true}
+    (is_in_name c && is_path_from true cs) (c == 46 && is_path_from false cs) e
+    (λ a. or_first (is_in_name c && is_path_from true (cs ++ 46 ∷ path)) (c == 46 && is_path_from false (cs ++ 46 ∷ path))
+        (and_both (is_in_name c) (is_path_from true (cs ++ 46 ∷ path)) (and_left (is_in_name c) (is_path_from true cs) a)
+        (goes_on true cs path (and_right (is_in_name c) (is_path_from true cs) a) h)))
+    (λ b. or_second (is_in_name c && is_path_from true (cs ++ 46 ∷ path)) (c == 46 && is_path_from false (cs ++ 46 ∷ path))
+        (and_both (c == 46) (is_path_from false (cs ++ 46 ∷ path)) (and_left (c == 46) (is_path_from false cs) b)
+        (goes_on false cs path (and_right (c == 46) (is_path_from false cs) b) h)))
+goes_on false (c ∷ cs) path e h =
+    and_both (begins_name c) (is_path_from true (cs ++ 46 ∷ path)) (and_left (begins_name c) (is_path_from true cs) e)
+    (goes_on true cs path (and_right (begins_name c) (is_path_from true cs) e) h)
+
+dotted_is_path : (scope text : Text) → is_path scope ≡ true → is_name text ≡ true → is_path (scope ++ 46 ∷ text) ≡ true
+dotted_is_path scope text e h = goes_on false scope text e (name_is_path text (letters text h))
+
+-- ---- declared names, and those of instances
+
+abbrev names : List Declaration → List Text
+names = map (λ d. d.name)
+
+abbrev instance_names : ItemTree → List Text
+instance_names (parameters local type settings) = []
+instance_names (declaration kind list) = []
+instance_names (events list) = []
+instance_names (assignments settings) = []
+instance_names (initial statement) = []
+instance_names (always statement) = []
+instance_names (instances text overrides list) = map (λ one. one.name) list
+
+abbrev item_is_named : ItemTree → Bool
+item_is_named item = list_all is_name (names (declarations_of item)) && list_all is_name (instance_names item)
+
+abbrev ports_are_named : ModuleTree → Bool
+ports_are_named m = list_all is_name (names (map port_declaration (ports_of m)))
+
+abbrev is_named : ModuleTree → Bool
+is_named m = is_name m.name && (ports_are_named m && list_all item_is_named m.items)
+
+abbrev wanted_is_named : Wanted → Bool
+wanted_is_named w = is_name w.name && is_named w.child
+
+-- ---- what the grammar derives has its names
+
+passes : {A : Type 0} (p q : A → Bool) → ((one : A) → p one ≡ true → q one ≡ true) → (list : List A) → list_all p list ≡ true → list_all q list ≡ true
+passes p q step [] all = refl
+passes p q step (one ∷ more) all =
+    and_both (q one) (list_all q more) (step one (and_left (p one) (list_all p more) all)) (passes p q step more (and_right (p one) (list_all p more) all))
+
+all_declared_named : (kind : _) (signed : _) (range : _) (list : List DeclaredTree) →
+    list_all (fits_declared 64) list ≡ true → list_all is_name (names (all_declared kind signed range list)) ≡ true
+all_declared_named kind signed range [] fit = refl
+all_declared_named kind signed range (one ∷ more) fit =
+    and_both (is_name one.name) (list_all is_name (names (all_declared kind signed range more)))
+    (and_left (is_name one.name) (fits_optional 64 one.value) (and_left (fits_declared 64 one) (list_all (fits_declared 64) more) fit))
+    (all_declared_named kind signed range more (and_right (fits_declared 64 one) (list_all (fits_declared 64) more) fit))
+
+kind_named : (kind : DeclarationKind) (list : List DeclaredTree) → list_all (fits_declared 64) list ≡ true → list_all is_name (names (declared_as kind list)) ≡ true
+kind_named (variables word type) list fit = all_declared_named (kind_of word) type.signed type.range list fit
+kind_named integers list fit = all_declared_named Integer true None list fit
+
+instances_named : (list : List InstanceTree) → list_all (fits_instance 64) list ≡ true → list_all is_name (map (λ (one : InstanceTree). one.name) list) ≡ true
+instances_named [] fit = refl
+instances_named (one ∷ more) fit =
+    and_both (is_name one.name) (list_all is_name (map (λ (x : InstanceTree). x.name) more))
+    (and_left (is_name one.name) (fits_connections 64 one.connections) (and_left (fits_instance 64 one) (list_all (fits_instance 64) more) fit))
+    (instances_named more (and_right (fits_instance 64 one) (list_all (fits_instance 64) more) fit))
+
+item_named : (item : ItemTree) → fits_item 64 item ≡ true → item_is_named item ≡ true
+item_named (parameters local type settings) fit = refl
+item_named (declaration kind declared) fit =
+    and_both (list_all is_name (names (declared_as kind declared))) true
+    (kind_named kind declared
+    (and_right (nat_le 1 (length declared)) (list_all (fits_declared 64) declared)
+    (and_right (fits_declaration_kind 64 kind) (are_some (fits_declared 64) declared) fit)))
+    refl
+item_named (events list) fit = refl
+item_named (assignments list) fit = refl
+item_named (initial statement) fit = refl
+item_named (always statement) fit = refl
+item_named (instances text overrides list) fit =
+    instances_named list
+    (and_right (nat_le 1 (length list)) (list_all (fits_instance 64) list)
+    (and_right (is_name text && fits_overrides 64 overrides) (are_some (fits_instance 64) list) fit))
+
+port_name : (direction : Option DirectionTree) (text : Text) → (port_by direction text).name ≡ text
+port_name None text = refl
+port_name (Some (input wire type)) text = refl
+port_name (Some (output net type)) text = refl
+
+ports_named : (before : Option DirectionTree) (list : List PortTree) → list_all (fits_port 64) list ≡ true →
+    list_all is_name (names (map port_declaration (ports_behind before list))) ≡ true
+ports_named before [] fit = refl
+ports_named before (port ∷ more) fit =
+    and_both (is_name (port_by (option_or port.direction before) port.name).name)
+    (list_all is_name (names (map port_declaration (ports_behind (option_or port.direction before) more))))
+    (ap is_name (port_name (option_or port.direction before) port.name)
+    ∙ and_right (fits_direction 64 port.direction) (is_name port.name) (and_left (fits_port 64 port) (list_all (fits_port 64) more) fit))
+    (ports_named (option_or port.direction before) more (and_right (fits_port 64 port) (list_all (fits_port 64) more) fit))
+
+listed_named : (list : Option (List PortTree)) → fits_optional_ports 64 list ≡ true → list_all is_name (names (map port_declaration (ports_listed list))) ≡ true
+listed_named None fit = refl
+listed_named (Some []) fit = refl
+listed_named (Some (port ∷ more)) fit =
+    ports_named None (port ∷ more) (and_right (is_directed port.direction) (list_all (fits_port 64) (port ∷ more)) fit)
+
+module_fits : (m : ModuleTree) → fits_module 64 m ≡ true → is_named m ≡ true
+module_fits m fit =
+    and_both (is_name m.name) (ports_are_named m && list_all item_is_named m.items)
+    (and_left (is_name m.name) heads (and_left (is_name m.name && heads) ports_fit front))
+    (and_both (ports_are_named m) (list_all item_is_named m.items) (listed_named m.ports (and_right (is_name m.name && heads) ports_fit front))
+    (passes (fits_item 64) item_is_named item_named m.items (and_right (is_name m.name && heads && ports_fit) (list_all (fits_item 64) m.items) fit)))
+  where
+    heads : Bool
+    heads = fits_optional_parameters 64 m.parameters
+
+    ports_fit : Bool
+    ports_fit = fits_optional_ports 64 m.ports
+
+    front : (is_name m.name && heads && ports_fit) ≡ true
+    front = and_left (is_name m.name && heads && ports_fit) (list_all (fits_item 64) m.items) fit
+
+all_named : (tree : SourceTree) → fits 64 tree ≡ true → list_all is_named tree ≡ true
+all_named tree fit = passes (fits_module 64) is_named module_fits tree fit
+
+-- ---- modules that are found
+
+found_passes : (p q : ModuleTree → Bool) (modules : List ModuleTree) (m : ModuleTree) → list_all q modules ≡ true → find p modules ≡ Some m → q m ≡ true
+found_passes p q [] m all is = cc
+found_passes p q (x ∷ xs) m all is = by (p x) is (found_passes p q xs m (and_right (q x) (list_all q xs) all))
+  where
+    by : (b : Bool) → cond b (Some x) (find p xs) ≡ Some m → (find p xs ≡ Some m → q m ≡ true) → q m ≡ true
+    by true e later = let same : x ≡ m = cc in subst (λ (y : ModuleTree). q y ≡ true) same (and_left (q x) (list_all q xs) all)
+    by false e later = later e
+
+kept_pass : (p q : ModuleTree → Bool) (modules : List ModuleTree) → list_all q modules ≡ true → list_all q (filter p modules) ≡ true
+kept_pass p q [] all = refl
+kept_pass p q (x ∷ xs) all = by (p x) (kept_pass p q xs (and_right (q x) (list_all q xs) all))
+  where
+    by : (b : Bool) → list_all q (filter p xs) ≡ true → list_all q (cond b (x ∷ filter p xs) (filter p xs)) ≡ true
+    by true later = and_both (q x) (list_all q (filter p xs)) (and_left (q x) (list_all q xs) all) later
+    by false later = later
+
+only_passes : (q : ModuleTree → Bool) (modules : List ModuleTree) (m : ModuleTree) → list_all q modules ≡ true → only_of modules ≡ Some m → q m ≡ true
+only_passes q [] m all is = cc
+only_passes q (x ∷ []) m all is = let same : x ≡ m = cc in subst (λ (y : ModuleTree). q y ≡ true) same (and_left (q x) true all)
+only_passes q (x ∷ y ∷ more) m all is = cc
+
+top_named : (tree : SourceTree) (top : Option Text) (m : ModuleTree) → list_all is_named tree ≡ true → top_of tree top ≡ Some m → is_named m ≡ true
+top_named tree (Some text) m all is = found_passes (λ x. bytes_eq x.name text) is_named tree m all is
+top_named tree None m all is =
+    only_passes is_named (roots tree) m (kept_pass (λ x. not (is_declared (instantiated tree) x.name)) is_named tree all) is
+
+-- ---- the instances of a module are named
+
+each_named : (child : ModuleTree) (known : ℕ) (overrides : Option ConnectionsTree) (list : List InstanceTree) → is_named child ≡ true →
+    list_all is_name (map (λ (one : InstanceTree). one.name) list) ≡ true → list_all wanted_is_named (map (wanted_one child known overrides) list) ≡ true
+each_named child known overrides [] e all = refl
+each_named child known overrides (one ∷ more) e all =
+    and_both (wanted_is_named (wanted_one child known overrides one)) (list_all wanted_is_named (map (wanted_one child known overrides) more))
+    (and_both (is_name one.name) (is_named child) (and_left (is_name one.name) (list_all is_name (map (λ (x : InstanceTree). x.name) more)) all) e)
+    (each_named child known overrides more e (and_right (is_name one.name) (list_all is_name (map (λ (x : InstanceTree). x.name) more)) all))
+
+of_named : (child : Option ModuleTree) (known : ℕ) (overrides : Option ConnectionsTree) (list : List InstanceTree) →
+    ((m : ModuleTree) → child ≡ Some m → is_named m ≡ true) → list_all is_name (map (λ (one : InstanceTree). one.name) list) ≡ true →
+    list_all wanted_is_named (wanted_of child known overrides list) ≡ true
+of_named None known overrides list e all = refl
+of_named (Some child) known overrides list e all = each_named child known overrides list (e child refl) all
+
+module _ (modules : SourceTree) (named : list_all is_named modules ≡ true) where
+  by_named : (known : ℕ) (item : ItemTree) → item_is_named item ≡ true → list_all wanted_is_named (wanted_by modules known item) ≡ true
+  by_named known (parameters local type settings) e = refl
+  by_named known (declaration kind list) e = refl
+  by_named known (events list) e = refl
+  by_named known (assignments settings) e = refl
+  by_named known (initial statement) e = refl
+  by_named known (always statement) e = refl
+  by_named known (instances text overrides list) e =
+      of_named (module_of modules text) known overrides list (λ m is. found_passes (λ x. bytes_eq x.name text) is_named modules m named is) e
+
+  from_named : (known : ℕ) (items : List ItemTree) → list_all item_is_named items ≡ true → list_all wanted_is_named (wanted_from modules known items) ≡ true
+  from_named known [] e = refl
+  from_named known (item ∷ more) e =
+      list_all-append wanted_is_named (wanted_by modules known item) (wanted_from modules (known + length (given_by item)) more)
+      ∙ and_both (list_all wanted_is_named (wanted_by modules known item)) (list_all wanted_is_named (wanted_from modules (known + length (given_by item)) more))
+      (by_named known item (and_left (item_is_named item) (list_all item_is_named more) e))
+      (from_named (known + length (given_by item)) more (and_right (item_is_named item) (list_all item_is_named more) e))
+
+-- ---- the variables have paths
+
+abbrev all_paths : List Variable → Bool
+all_paths = list_all (λ v. is_path v.name)
+
+module _ (home : Home) (e : is_path home.name ≡ true) where
+  paths_of : (scope : Scope) (ds : List Declaration) → list_all is_name (names ds) ≡ true → all_paths (map (variable_of home scope) ds) ≡ true
+  paths_of scope [] all = refl
+  paths_of scope (d ∷ ds) all =
+      and_both (is_path (home.name ++ 46 ∷ d.name)) (all_paths (map (variable_of home scope) ds))
+      (dotted_is_path home.name d.name e (and_left (is_name d.name) (list_all is_name (names ds)) all))
+      (paths_of scope ds (and_right (is_name d.name) (list_all is_name (names ds)) all))
+
+  paths_from : (scope : Scope) (items : List ItemTree) → list_all item_is_named items ≡ true → all_paths (variables_from home scope items) ≡ true
+  paths_from scope [] all = refl
+  paths_from scope (item ∷ more) all =
+      list_all-append (λ (v : Variable). is_path v.name) (map (variable_of home scope) (declarations_of item)) (variables_from home (behind_item scope item) more)
+      ∙ and_both (all_paths (map (variable_of home scope) (declarations_of item))) (all_paths (variables_from home (behind_item scope item) more))
+      (paths_of scope (declarations_of item)
+      (and_left (list_all is_name (names (declarations_of item))) (list_all is_name (instance_names item)) (and_left (item_is_named item) (list_all item_is_named more) all)))
+      (paths_from (behind_item scope item) more (and_right (item_is_named item) (list_all item_is_named more) all))
+
+own_paths : (request : Request) (ports : List Port) (wanted : List Wanted) (scope : Scope) (part : Part) → is_path request.path ≡ true →
+    list_all is_name (names (map port_declaration ports)) ≡ true → list_all item_is_named request.unit.items ≡ true →
+    all_paths part.variables ≡ true → all_paths (own_by request ports wanted scope part).variables ≡ true
+own_paths request ports wanted scope part e ports_named items_named before =
+    let home : Home = home_by request ports wanted scope in
+    let first : List Variable = map (variable_of home scope) (map port_declaration ports) in
+    let rest : List Variable = variables_from home scope request.unit.items in
+    list_all-append (λ (v : Variable). is_path v.name) part.variables (first ++ rest)
+    ∙ and_both (all_paths part.variables) (all_paths (first ++ rest)) before
+    (list_all-append (λ (v : Variable). is_path v.name) first rest
+    ∙ and_both (all_paths first) (all_paths rest) (paths_of home e scope (map port_declaration ports) ports_named) (paths_from home e scope request.unit.items items_named))
+
+fold_keeps : {A : Type 0} (f : Part → A → Part) (good : A → Bool) →
+    ((part : Part) (one : A) → good one ≡ true → all_paths part.variables ≡ true → all_paths (f part one).variables ≡ true) →
+    (list : List A) (part : Part) → list_all good list ≡ true → all_paths part.variables ≡ true → all_paths (fold f part list).variables ≡ true
+fold_keeps f good step [] part all before = before
+fold_keeps f good step (one ∷ more) part all before =
+    fold_keeps f good step more (f part one) (and_right (good one) (list_all good more) all)
+    (step part one (and_left (good one) (list_all good more) all) before)
+
+module _ (modules : SourceTree) (named : list_all is_named modules ≡ true) where
+  grown_paths : (levels : ℕ) (part : Part) (request : Request) → is_path request.path ≡ true → is_named request.unit ≡ true →
+      all_paths part.variables ≡ true → all_paths (grown levels modules part request).variables ≡ true
+  grown_paths zero part request e unit before = before
+  grown_paths (suc levels) part request e unit before =
+      let scope : Scope = inside part request in
+      let inner = and_right (is_name request.unit.name) (ports_are_named request.unit && list_all item_is_named request.unit.items) unit in
+      let ports = and_left (ports_are_named request.unit) (list_all item_is_named request.unit.items) inner in
+      let items = and_right (ports_are_named request.unit) (list_all item_is_named request.unit.items) inner in
+      fold_keeps (λ (so_far : Part) (one : Wanted). grown levels modules so_far (asked scope request one)) wanted_is_named
+      (λ so_far one good. grown_paths levels so_far (asked scope request one) (dotted_is_path request.path one.name e (and_left (is_name one.name) (is_named one.child) good))
+          (and_right (is_name one.name) (is_named one.child) good))
+      (wanted_in modules request.unit) (with_own modules part request) (from_named modules named _ request.unit.items items)
+      (own_paths request (ports_of request.unit) (wanted_in modules request.unit) scope part e ports items before)
+
+-- ---- one by one
+
+path_at : (vs : List Variable) → all_paths vs ≡ true → (i : ℕ) (v : Variable) → slice_get vs i ≡ Some v → is_path v.name ≡ true
+path_at [] all i v at = cc
+path_at (w ∷ vs) all zero v at =
+    let is : w ≡ v = cc in subst (λ (x : Variable). is_path x.name ≡ true) is (and_left (is_path w.name) (all_paths vs) all)
+path_at (w ∷ vs) all (suc i) v at = path_at vs (and_right (is_path w.name) (all_paths vs) all) i v at
+
+-- a variable of that name is among those
+among : (vs : List Variable) (j : ℕ) (w : Variable) (text : Text) → slice_get vs j ≡ Some w → text ≡ w.name → is_declared (map (λ (v : Variable). v.name) vs) text ≡ true
+among [] j w text at e = cc
+among (x ∷ vs) zero w text at e =
+    let is : w ≡ x = cc in
+    or_first (bytes_eq text x.name) (is_declared (map (λ (v : Variable). v.name) vs) text)
+    ((bytes_eq-Decides text x.name).1 (e ∙ ap (λ (v : Variable). v.name) is))
+among (x ∷ vs) (suc j) w text at e = or_second (bytes_eq text x.name) (is_declared (map (λ (v : Variable). v.name) vs) text) (among vs j w text at e)
+
+distinct_at : (vs : List Variable) → has_double (map (λ (v : Variable). v.name) vs) ≡ false →
+    (i j : ℕ) (v w : Variable) → i < j → slice_get vs i ≡ Some v → slice_get vs j ≡ Some w → v.name ≢ w.name
+distinct_at [] none i j v w lt first second = cc
+distinct_at (x ∷ vs) none i zero v w lt first second = absurd (omega (arith, lt))
+distinct_at (x ∷ vs) none zero (suc j) v w lt first second = λ alike.
+    let is : x ≡ v = cc in
+    true≢false
+    (
+    sym (among vs j w x.name second (ap (λ (y : Variable). y.name) is ∙ alike))
+    ∙ or_left (is_declared (map (λ (y : Variable). y.name) vs) x.name) (has_double (map (λ (y : Variable). y.name) vs)) none
+    )
+distinct_at (x ∷ vs) none (suc i) (suc j) v w lt first second =
+    distinct_at vs (or_right (is_declared (map (λ (y : Variable). y.name) vs) x.name) (has_double (map (λ (y : Variable). y.name) vs)) none) i j v w (omega (arith, lt)) first second
+
+-- ---- the design
+
+design_named : (scale : Timescale) (m : ModuleTree) (part : Part) → is_named m ≡ true → all_paths part.variables ≡ true →
+    has_double (variable_paths part) ≡ false → AreNamed (design_by scale m part)
+design_named scale m part e paths none = record {
+  top = letters m.name (and_left (is_name m.name) (ports_are_named m && list_all item_is_named m.items) e);
+  paths = path_at part.variables paths;
+  distinct = distinct_at part.variables none;
+}
+
+none_doubled : (b : Bool) → broken_if b Doubled ≡ None → b ≡ false
+none_doubled true e = cc
+none_doubled false e = refl
+
+behind_none : (xs ys : List Rule) → xs ++ ys ≡ [] → ys ≡ []
+behind_none [] ys e = e
+behind_none (x ∷ xs) ys e = cc
+
+rules_right : (tree : SourceTree) (top : Option Text) (m : ModuleTree) → top_of tree top ≡ Some m → broken_rules tree top ≡ [] → design_rules (whole_of tree m) ≡ []
+rules_right tree top m is e =
+    behind_none (broken_grown 16 tree nothing (top_request m)) (design_rules (whole_of tree m))
+    (sym (ap (broken_top tree) is) ∙ behind_none (rules_in (broken_if (has_double (module_names tree)) Doubled ∷ [])) (broken_top tree (top_of tree top)) e)
+
+pub named_by : (words : List Text) (tree : SourceTree) (top : Option Text) (scale : Timescale) (design : Design) →
+    DerivesText words tree → Elaborates tree top scale design → AreNamed design
+named_by words tree top scale design derives elaborates =
+    let m : ModuleTree = elaborates.unit in
+    let all = all_named tree derives.fitting in
+    let unit = top_named tree top m all elaborates.is_top in
+    let part : Part = whole_of tree m in
+    subst AreNamed (sym elaborates.describes)
+    (design_named scale m part unit
+    (grown_paths tree all 16 nothing (top_request m) (name_is_path m.name (letters m.name (and_left (is_name m.name) (ports_are_named m && list_all item_is_named m.items) unit))) unit refl)
+    (none_doubled (has_double (variable_paths part)) (none_was _ _ (front_none (rules_in (path_rules part)) _ (rules_right tree top m elaborates.is_top elaborates.right)))))

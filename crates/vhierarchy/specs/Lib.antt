@@ -1,0 +1,4 @@
+pub mod Instances
+pub mod Reasons
+pub mod Laws
+pub mod Inner

@@ -1,0 +1,21 @@
+-- Why a text has no design: the rule that a fault says is broken (IEEE 1364-2005, clause 12).
+use Rattle.std.specs.Prelude.{◌≡◌, Option}
+use Rattle.vast.specs.Words.{Text}
+use Rattle.vast.specs.Modules.{SourceTree}
+use Rattle.basis.specs.declared.timescale.Timescale.{Timescale}
+use Rattle.vdesign.specs.Design.{Design}
+use Rattle.velab.specs.declared.fault.ElabFault.{ElabFault}
+use Rattle.velab.specs.Rules.{Breaks}
+use Rattle.vhierarchy.specs.Instances.{broken_rules, Elaborates}
+
+-- what a fault says of the text: it breaks this rule
+abbrev pub IsDesignReason : SourceTree → Option Text → ElabFault → Type 0
+IsDesignReason tree top fault = Breaks (broken_rules tree top) fault.rule
+
+-- no design is the text's, under no timescale
+abbrev pub HasNoDesign : SourceTree → Option Text → Type 0
+HasNoDesign tree top = (scale : Timescale) (design : Design) → Elaborates tree top scale design → ⊥
+
+-- a design is the text's only one under the timescale
+abbrev pub IsOnlyDesign : SourceTree → Option Text → Timescale → Design → Type 0
+IsOnlyDesign tree top scale design = (other : Design) → Elaborates tree top scale other → other ≡ design

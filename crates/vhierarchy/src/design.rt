@@ -1,0 +1,266 @@
+// The design of a text.
+
+ghost use Rattle.std.specs.Prelude.{◌≡◌, [], false, None, Some, length, nat_le, IfOk, OnOk};
+ghost use Rattle.basis.specs.Reasons.{IfFault};
+ghost use Rattle.vdesign.specs.Design.{Design};
+ghost use Rattle.vast.specs.Modules.{ModuleTree as Tree};
+ghost use Rattle.vast.specs.ModuleTrees.{source_tree, module_tree};
+ghost use Rattle.vexpr_parse.specs.Texts.{words_of};
+ghost use Rattle.vmodules.specs.Names.{has_double};
+ghost use Rattle.vmodules.specs.Inner.{unit_names, units_tree, named_text};
+ghost use Rattle.velab.specs.Rules.{rules_in, broken_if, unless, IsBroken};
+ghost use Rattle.vhierarchy.specs.Instances as spec;
+ghost use Rattle.vhierarchy.specs.Instances.{Elaborates, path_rules, top_request, whole_of};
+ghost use Rattle.vhierarchy.specs.Reasons.{IsDesignReason, IsOnlyDesign, HasNoDesign};
+ghost use Rattle.vhierarchy.specs.Inner.{BreaksOf, scope_names, variable_names};
+
+use crate::grow::put_unit;
+use crate::own::MOST_PROCESSES;
+use crate::part::Part;
+use crate::request::Request;
+use crate::select::check_selections;
+use basis::{OrMemory, Timescale};
+use std::alloc::Global;
+use vast::module::{ModuleTree, TextTree};
+use vdesign::design::{Design, Scope as Room, Variable};
+use velab::fault::{ElabFault, Rule};
+use velab::names::note;
+use velab::parameter::Outside;
+use velab::right::check_kinds;
+use velab::scope::Scope;
+use velab::statement::Table;
+use velab::width::check_flaws;
+use vlex::Tokens;
+use vmodules::connect::Ties;
+use vmodules::hierarchy::{Modules, modules_of, top_of};
+use vmodules::letters::letters;
+use vmodules::names::Names;
+
+/// The most levels of instances, the top among them.
+const MOST_LEVELS: u32 = 16;
+
+// The top and all below it.
+fn whole_part<'t, 'u>(
+    alloc: Global,
+    modules: &Modules<'t, 'u>,
+    unit: &'u ModuleTree,
+) -> Result<Part, OrMemory<ElabFault>>
+    ensures ok { IfOk result (λ part.
+        part ≡ whole_of (units_tree modules.now) (module_tree modules.now.words unit.now)) }
+    ensures right { OnOk result (spec.broken_grown 16 (units_tree modules.now) spec.nothing
+        (top_request (module_tree modules.now.words unit.now)) ≡ []) }
+    ensures err { IfFault result (BreaksOf (spec.broken_grown 16 (units_tree modules.now) spec.nothing
+        (top_request (module_tree modules.now.words unit.now)))) }
+{
+    let name = letters(modules.tokens(), unit.name);
+    let names = Names::new(alloc);
+    let ties = Ties::new(alloc);
+    let outside = Outside {
+        scope: Scope {
+            top: b"",
+            names: &names,
+            first: 0,
+            variables: 0,
+            events: 0,
+            others: &[],
+            known: 0,
+        },
+        values: &ties,
+    };
+    let request = Request {
+        top: name,
+        path: name,
+        name,
+        at: unit.name.number,
+        depth: 0,
+        unit,
+        outside: &outside,
+        ties: &ties,
+    };
+    let mut part = Part::new(alloc);
+    put_unit(alloc, modules, MOST_LEVELS, &request, &mut part)?;
+    Ok(part)
+}
+
+// The paths of variables. E302 where two are alike.
+fn paths_of<'p>(
+    alloc: Global,
+    variables: &'p [Variable],
+    at: u32,
+) -> Result<Names<'p>, OrMemory<ElabFault>>
+    ensures ok { IfOk result (λ names. names ≡ variable_names variables.now) }
+    ensures once { OnOk result (has_double (variable_names variables.now) ≡ false) }
+    ensures err { IfFault result
+        (IsBroken (broken_if (has_double (variable_names variables.now)) Rule.Doubled)) }
+{
+    let mut names = Names::new(alloc);
+    for variable in variables {
+        note(&mut names, &variable.name, at)?;
+    }
+    let _count = names.len();
+    Ok(names)
+}
+
+// The paths of scopes. E302 where two are alike.
+fn scopes_of<'p>(
+    alloc: Global,
+    scopes: &'p [Room],
+    at: u32,
+) -> Result<Names<'p>, OrMemory<ElabFault>>
+    ensures ok { IfOk result (λ names. names ≡ scope_names scopes.now) }
+    ensures once { OnOk result (has_double (scope_names scopes.now) ≡ false) }
+    ensures err { IfFault result
+        (IsBroken (broken_if (has_double (scope_names scopes.now)) Rule.Doubled)) }
+{
+    let mut names = Names::new(alloc);
+    for scope in scopes {
+        note(&mut names, &scope.path, at)?;
+    }
+    let _count = names.len();
+    Ok(names)
+}
+
+// What the paths of a part break. E302 where two are alike, E303 or E310 where what is dumped is no scope.
+fn check_paths(alloc: Global, part: &Part, at: u32) -> Result<(), OrMemory<ElabFault>>
+    ensures right { OnOk result (rules_in (path_rules part.now) ≡ []) }
+    ensures err { IfFault result (BreaksOf (rules_in (path_rules part.now))) }
+{
+    let variables = paths_of(alloc, &part.variables, at)?;
+    let scopes = scopes_of(alloc, &part.scopes, at)?;
+    let table = &part.table;
+    check_selections(&scopes, &variables, &table.actions, &table.origins)
+}
+
+// A part as a design. E309 where it has too many processes.
+fn design_by(
+    alloc: Global,
+    name: &[u8],
+    at: u32,
+    scale: Timescale,
+    part: Part,
+) -> Result<Design, OrMemory<ElabFault>>
+    ensures ok { (m : Tree) → IfOk result (λ design. m.name ≡ name.now →
+        design ≡ spec.design_by scale m part) }
+    ensures right { OnOk result (unless (nat_le (length part.begins) 256) Rule.TooMany ≡ None) }
+    ensures err { IfFault result (IsBroken (unless (nat_le (length part.begins) 256) Rule.TooMany)) }
+{
+    let Part {
+        variables,
+        scopes,
+        table,
+        begins,
+        ..
+    } = part;
+    let Table { actions, origins } = table;
+    if begins.len() > MOST_PROCESSES {
+        return Err(OrMemory::Fault(ElabFault {
+            rule: Rule::TooMany,
+            at: Some(at),
+        }));
+    }
+    Ok(Design {
+        top: Vec::from_slice(alloc, name)?,
+        scale,
+        variables,
+        scopes,
+        actions,
+        origins,
+        processes: begins,
+    })
+}
+
+// The design of a part, where it is right. Errors: E302, E306, E309, E310, E901.
+fn checked(
+    alloc: Global,
+    tokens: &Tokens<'_>,
+    unit: &ModuleTree,
+    scale: Timescale,
+    part: Part,
+) -> Result<Design, OrMemory<ElabFault>>
+    ensures ok { IfOk result (λ design.
+        design ≡ spec.design_by scale (module_tree (words_of tokens.now) unit.now) part) }
+    ensures right { OnOk result (spec.design_rules part ≡ []) }
+    ensures err { IfFault result (BreaksOf (spec.design_rules part)) }
+{
+    let at = unit.name.number;
+    check_paths(alloc, &part, at)?;
+    let design = design_by(alloc, letters(tokens, unit.name), at, scale, part)?;
+    check_kinds(&design)?;
+    check_flaws(alloc, &design)?;
+    Ok(design)
+}
+
+// The design that a module describes as the top, where it is right.
+fn design_of<'t, 'u>(
+    alloc: Global,
+    modules: &Modules<'t, 'u>,
+    unit: &'u ModuleTree,
+    scale: Timescale,
+) -> Result<Design, OrMemory<ElabFault>>
+    ensures ok { IfOk result (λ design. design ≡ spec.design_by scale
+        (module_tree modules.now.words unit.now)
+        (whole_of (units_tree modules.now) (module_tree modules.now.words unit.now))) }
+    ensures right { OnOk result (spec.broken_top (units_tree modules.now)
+        (Some (module_tree modules.now.words unit.now)) ≡ []) }
+    ensures err { IfFault result (BreaksOf (spec.broken_top (units_tree modules.now)
+        (Some (module_tree modules.now.words unit.now)))) }
+{
+    let part = whole_part(alloc, modules, unit)?;
+    checked(alloc, modules.tokens(), unit, scale, part)
+}
+
+// The modules of a text by name. E302 where two have one name.
+fn modules_by<'t, 'u>(
+    alloc: Global,
+    tokens: &'u Tokens<'t>,
+    list: &'u [ModuleTree],
+) -> Result<Modules<'t, 'u>, OrMemory<ElabFault>>
+    ensures ok { IfOk result (λ modules.
+        modules ≡ record { words = words_of tokens.now; list = list.now }) }
+    ensures once { OnOk result (has_double (unit_names (words_of tokens.now) list.now) ≡ false) }
+    ensures err { IfFault result (IsBroken
+        (broken_if (has_double (unit_names (words_of tokens.now) list.now)) Rule.Doubled)) }
+{
+    match modules_of(alloc, tokens, list) {
+        Ok(modules) => Ok(modules),
+        Err(OrMemory::Memory(none)) => Err(OrMemory::Memory(none)),
+        Err(OrMemory::Fault(doubled)) => Err(OrMemory::Fault(ElabFault {
+            rule: Rule::Doubled,
+            at: Some(doubled.at),
+        })),
+    }
+}
+
+/// The design that the text stands for, under its timescale. `top` names its top module; without it the only module that no module
+/// instantiates is the top (12.1.1).
+/// Errors: E301 to E310, each only where its rule is broken, and E901. Of several faults any one may be answered. Modules that the top
+/// doesn't reach are not looked into.
+pub fn elaborate(
+    alloc: Global,
+    tokens: &Tokens<'_>,
+    text: &TextTree,
+    top: Option<&[u8]>,
+    scale: Timescale,
+) -> Result<Design, OrMemory<ElabFault>>
+    ensures design { IfOk result (Elaborates (source_tree (words_of tokens.now) text.now) (named_text top.entry) scale) }
+    ensures only { IfOk result (IsOnlyDesign (source_tree (words_of tokens.now) text.now) (named_text top.entry) scale) }
+    ensures reason { IfFault result (IsDesignReason (source_tree (words_of tokens.now) text.now) (named_text top.entry)) }
+    ensures none { IfFault result (λ _. HasNoDesign (source_tree (words_of tokens.now) text.now) (named_text top.entry)) }
+{
+    let modules = modules_by(alloc, tokens, &text.modules)?;
+    match top_of(alloc, &modules, top)? {
+        Some(unit) => design_of(alloc, &modules, unit, scale),
+        None => Err(OrMemory::Fault(ElabFault {
+            rule: Rule::Top,
+            at: second(&text.modules, top),
+        })),
+    }
+}
+
+// The token of the name that is one too many, where no top was asked for.
+fn second(modules: &[ModuleTree], top: Option<&[u8]>) -> Option<u32> {
+    match top {
+        Some(_) => None,
+        None => modules.get(1).map(|unit| unit.name.number),
+    }
+}

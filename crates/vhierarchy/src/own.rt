@@ -1,0 +1,254 @@
+// What an instance adds of its own: its names, its variables and its processes (IEEE 1364-2005, 12.1).
+
+ghost use Rattle.std.specs.Prelude.{◌≡◌, ◌<◌, ◌≤◌, ◌+◌, ◌^◌, ◌++◌, ◌∷◌, [], List, length, map, IfOk, OnOk};
+ghost use Rattle.basis.specs.Reasons.{IfFault};
+ghost use Rattle.vast.specs.ModuleTrees.{module_tree};
+ghost use Rattle.vexpr_parse.specs.Texts.{words_of};
+ghost use Rattle.vmodules.specs.Ports.{ports_of};
+ghost use Rattle.vmodules.specs.Inner.{port_form};
+ghost use Rattle.velab.specs.Elaborate.{head_scope, whole_scope};
+ghost use Rattle.velab.specs.Inner.{AreLaid, given_in};
+ghost use Rattle.velab.specs.Rules.{rules_in};
+ghost use Rattle.vhierarchy.specs.Instances.{base_of, count_rules, name_rules};
+ghost use Rattle.vhierarchy.specs.declared.wanted.Wanted.{Wanted as Found};
+ghost use Rattle.vhierarchy.specs.Inner.{BreaksOf, own_part, own_part_rules, own_process_rules, own_processes, own_variable_rules, own_variables, request_tree};
+
+use crate::drivers::driven_names;
+use crate::part::Part;
+use crate::request::Request;
+use crate::wanted::Wanted;
+use basis::{NoMemory, OrMemory};
+use std::alloc::Global;
+use vdesign::action::Places;
+use vdesign::design::{Scope as Room, Variable};
+use velab::declared::declared;
+use velab::fault::{ElabFault, Rule};
+use velab::home::Home;
+use velab::join::put_joins;
+use velab::parameter::{Growing, MOST_EVENTS, add_head, add_items};
+use velab::scope::Scope;
+use velab::statement::{Table, put_processes};
+use velab::variable::{put_ports, put_variables};
+use vlex::Tokens;
+use vmodules::ports::PortForm;
+
+/// The most variables of a design.
+const MOST_VARIABLES: usize = 1024;
+/// The most processes of a design.
+pub const MOST_PROCESSES: usize = 256;
+/// The most scopes of a design: the top's, and those of 1,024 instances.
+const MOST_SCOPES: usize = 1025;
+
+/// The names of an instance, and how many of those that are no variables the head of its module has.
+#[derive(Drop)]
+pub struct Known<'t> {
+    pub growing: Growing<'t>,
+    pub head: usize,
+}
+
+/// The names of an instance. Errors: E302, E303, E306, E307, E309, E901.
+pub fn known_names<'t>(
+    alloc: Global,
+    tokens: &Tokens<'t>,
+    part: &Part,
+    request: &Request<'_, 't, '_>,
+    ports: &[PortForm<'_>],
+) -> Result<Known<'t>, OrMemory<ElabFault>>
+    requires { map (port_form (words_of tokens.now)) ports.now ≡
+        ports_of (module_tree (words_of tokens.now) request.now.unit.now) }
+    ensures whole { IfOk result (λ known. known.growing ≡ whole_scope
+        (base_of part.now (request_tree (words_of tokens.now) request.now))
+        (module_tree (words_of tokens.now) request.now.unit.now)) }
+    ensures head { IfOk result (λ known. known.head ≡ (head_scope
+        (base_of part.now (request_tree (words_of tokens.now) request.now))
+        (module_tree (words_of tokens.now) request.now.unit.now)).known) }
+    ensures right { OnOk result
+        (rules_in (name_rules part.now (request_tree (words_of tokens.now) request.now)) ≡ []) }
+    ensures err { IfFault result
+        (BreaksOf (rules_in (name_rules part.now (request_tree (words_of tokens.now) request.now)))) }
+{
+    let first = part.variables.len();
+    let names = declared(alloc, tokens, ports, &request.unit.items)?;
+    let variables = names.len();
+    if first > MOST_VARIABLES || variables > MOST_VARIABLES - first {
+        return Err(OrMemory::Fault(ElabFault {
+            rule: Rule::TooMany,
+            at: Some(request.at),
+        }));
+    }
+    if part.events > MOST_EVENTS {
+        return Err(OrMemory::Fault(ElabFault {
+            rule: Rule::TooMany,
+            at: Some(request.at),
+        }));
+    }
+    let mut growing = Growing {
+        top: request.top,
+        names,
+        first,
+        variables,
+        events: part.events,
+        others: Vec::new(alloc),
+    };
+    add_head(alloc, tokens, request.outside, &request.unit.parameters, &mut growing)?;
+    let head = growing.others.len();
+    add_items(alloc, tokens, request.outside, &request.unit.items, &mut growing)?;
+    Ok(Known { growing, head })
+}
+
+// The variables of an instance. Errors: E303, E304, E306, E307, E901.
+fn put_own_variables(
+    alloc: Global,
+    tokens: &Tokens<'_>,
+    request: &Request<'_, '_, '_>,
+    ports: &[PortForm<'_>],
+    wanted: &[Wanted<'_, '_>],
+    scope: &Scope<'_, '_>,
+    into: &mut Vec<Variable>,
+) -> Result<(), OrMemory<ElabFault>>
+    requires small { scope.now.known
+        + length (given_in (words_of tokens.now) request.now.unit.now.items.items) < 2 ^ 64 }
+    ensures ok { OnOk result (into.new.items ≡ into.old.items
+        ++ own_variables (words_of tokens.now) request.now ports.now wanted.now scope.now) }
+    ensures right { OnOk result (rules_in
+        (own_variable_rules (words_of tokens.now) request.now ports.now wanted.now scope.now) ≡ []) }
+    ensures err { IfFault result (BreaksOf (rules_in
+        (own_variable_rules (words_of tokens.now) request.now ports.now wanted.now scope.now))) }
+{
+    let driven = driven_names(
+        alloc,
+        tokens,
+        request.ties,
+        ports,
+        &request.unit.items,
+        wanted,
+    )?;
+    let home = Home {
+        name: request.path,
+        driven,
+    };
+    put_ports(alloc, tokens, &home, scope, ports, into)?;
+    put_variables(alloc, tokens, &home, scope, &request.unit.items, into)
+}
+
+// The processes of an instance: those of its port connections, and its own. Errors: E303, E305, E306, E307, E310, E901.
+fn put_own_processes(
+    alloc: Global,
+    tokens: &Tokens<'_>,
+    request: &Request<'_, '_, '_>,
+    ports: &[PortForm<'_>],
+    scope: &Scope<'_, '_>,
+    table: &mut Table,
+    into: &mut Vec<Places>,
+) -> Result<(), OrMemory<ElabFault>>
+    requires small { scope.now.known
+        + length (given_in (words_of tokens.now) request.now.unit.now.items.items) < 2 ^ 64 }
+    ensures ok { (wanted : List Found) → OnOk result (AreLaid (own_processes (words_of tokens.now)
+        request.now ports.now wanted scope.now table.old) into.old.items table.new into.new.items) }
+    ensures right { (wanted : List Found) → OnOk result (rules_in
+        (own_process_rules (words_of tokens.now) request.now ports.now wanted scope.now) ≡ []) }
+    ensures err { (wanted : List Found) → IfFault result (BreaksOf (rules_in
+        (own_process_rules (words_of tokens.now) request.now ports.now wanted scope.now))) }
+{
+    let outside = request.outside;
+    put_joins(
+        alloc,
+        &outside.scope,
+        scope,
+        tokens,
+        request.at,
+        request.ties,
+        ports,
+        table,
+        into,
+    )?;
+    put_processes(alloc, tokens, scope, &request.unit.items, table, into)
+}
+
+// The scope of an instance.
+fn put_scope(
+    alloc: Global,
+    name: &[u8],
+    path: &[u8],
+    depth: u32,
+    variables: usize,
+    into: &mut Vec<Room>,
+) -> Result<(), NoMemory>
+    requires { variables ≤ 1024 }
+    ensures { OnOk result (into.new.items ≡
+        into.old.items ++ record { name = name.now; path = path.now; depth = depth; variables = variables } ∷ []) }
+{
+    let name = Vec::from_slice(alloc, name)?;
+    let path = Vec::from_slice(alloc, path)?;
+    into.push(Room {
+        name,
+        path,
+        depth,
+        variables: variables as u32,
+    })?;
+    Ok(())
+}
+
+// E309, where there are too many processes or scopes.
+fn check_counts(begins: usize, scopes: usize, at: u32) -> Result<(), OrMemory<ElabFault>>
+    ensures right { OnOk result (rules_in (count_rules begins scopes) ≡ []) }
+    ensures err { IfFault result (BreaksOf (rules_in (count_rules begins scopes))) }
+{
+    if begins > MOST_PROCESSES || scopes > MOST_SCOPES {
+        return Err(OrMemory::Fault(ElabFault {
+            rule: Rule::TooMany,
+            at: Some(at),
+        }));
+    }
+    Ok(())
+}
+
+/// What an instance adds of its own, where its names are right. Errors: E303, E304, E305, E306, E307, E309, E310, E901.
+pub fn put_own(
+    alloc: Global,
+    tokens: &Tokens<'_>,
+    request: &Request<'_, '_, '_>,
+    ports: &[PortForm<'_>],
+    wanted: &[Wanted<'_, '_>],
+    scope: &Scope<'_, '_>,
+    part: &mut Part,
+) -> Result<(), OrMemory<ElabFault>>
+    requires small { scope.now.known
+        + length (given_in (words_of tokens.now) request.now.unit.now.items.items) < 2 ^ 64 }
+    ensures ok { OnOk result (part.new ≡
+        own_part (words_of tokens.now) request.now ports.now wanted.now scope.now part.old) }
+    ensures right { OnOk result (own_part_rules (words_of tokens.now) request.now ports.now wanted.now
+        scope.now part.old ≡ []) }
+    ensures err { IfFault result (BreaksOf (own_part_rules (words_of tokens.now) request.now ports.now
+        wanted.now scope.now part.old)) }
+{
+    put_own_variables(
+        alloc,
+        tokens,
+        request,
+        ports,
+        wanted,
+        scope,
+        &mut part.variables,
+    )?;
+    put_scope(
+        alloc,
+        request.name,
+        request.path,
+        request.depth,
+        scope.variables,
+        &mut part.scopes,
+    )?;
+    put_own_processes(
+        alloc,
+        tokens,
+        request,
+        ports,
+        scope,
+        &mut part.table,
+        &mut part.begins,
+    )?;
+    check_counts(part.begins.len(), part.scopes.len(), request.at)?;
+    part.events = scope.events;
+    Ok(())
+}

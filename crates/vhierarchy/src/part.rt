@@ -1,0 +1,59 @@
+// A design so far.
+
+ghost use Rattle.std.specs.Prelude.{◌≡◌};
+ghost use Rattle.vhierarchy.specs.Instances as spec;
+
+use std::alloc::Global;
+use std::marker::Model;
+use vdesign::action::Places;
+use vdesign::design::{Scope, Variable};
+use velab::statement::Table;
+
+/// A design so far: its variables, its scopes, its actions, where its processes begin, and how many named events it has.
+#[derive(Drop)]
+pub struct Part {
+    pub variables: Vec<Variable>,
+    pub scopes: Vec<Scope>,
+    pub table: Table,
+    pub begins: Vec<Places>,
+    pub events: usize,
+}
+
+impl Model for Part {
+    ghost use Rattle.std.specs.Prelude.{◌≤◌, length};
+    ghost use Rattle.std.specs.Coded.{codes};
+    ghost use Rattle.vdesign.specs.contracts.expression.Expression as expression;
+    ghost use Rattle.vhierarchy.specs.Instances as spec;
+
+    ghost Value = { spec.Part };
+
+    ghost coded = { Prim.hlevel (codes, expression.the_row.coded) };
+
+    ghost view = { λ p. record {
+      variables = p.variables.items;
+      scopes = p.scopes.items;
+      table = p.table;
+      begins = p.begins.items;
+      events = p.events;
+    } };
+
+    ghost invariant = { λ p. (length p.variables.items ≤ 1024) × (p.events ≤ 4294967295) };
+}
+
+impl Part {
+    /// A design without anything.
+    pub fn new(alloc: Global) -> Part
+        ensures { result ≡ spec.nothing }
+    {
+        Part {
+            variables: Vec::new(alloc),
+            scopes: Vec::new(alloc),
+            table: Table {
+                actions: Vec::new(alloc),
+                origins: Vec::new(alloc),
+            },
+            begins: Vec::new(alloc),
+            events: 0,
+        }
+    }
+}

@@ -1,0 +1,329 @@
+// The instances that a module has, with what is said of their parameters and connected to their ports (IEEE 1364-2005, 12.1.2, 12.2.2,
+// 12.3).
+
+ghost use Rattle.std.specs.Prelude.{◌≡◌, ◌<◌, ◌+◌, ◌^◌, ◌++◌, true, false, None, length, map, option_map, IfOk, OnOk};
+ghost use Rattle.basis.specs.Reasons.{IfFault};
+ghost use Rattle.vast.specs.ModuleTrees.{connections_tree, instance_tree, item_tree, module_tree};
+ghost use Rattle.vexpr_parse.specs.Texts.{words_of};
+ghost use Rattle.vmodules.specs.Names.{has_double};
+ghost use Rattle.vmodules.specs.Connected.{fits_if, fits_names, matched as spec_matched, matched_if as spec_matched_if, open_names as spec_open_names};
+ghost use Rattle.vmodules.specs.Inner.{ties_tree, units_tree, unit_tree};
+ghost use Rattle.velab.specs.Elaborate.{port_names as spec_port_names};
+ghost use Rattle.velab.specs.Inner.{given_in};
+ghost use Rattle.velab.specs.Rules.{IsBroken, broken_if, unless};
+ghost use Rattle.vhierarchy.specs.Instances as spec;
+ghost use Rattle.vhierarchy.specs.Inner.{IsOpen, each_wanted, each_broken, wanted_tree, wanted_trees, found_in, broken_in};
+
+use basis::OrMemory;
+use std::alloc::Global;
+use vast::module::{Connections, Instance, ModuleItem, ModuleTree};
+use vast::token::Token;
+use velab::declared::port_names;
+use velab::fault::{ElabFault, Rule};
+use velab::parameter::given_count;
+use vlex::Tokens;
+use vmodules::connect::{Ties, matched, matched_if};
+use vmodules::hierarchy::Modules;
+use vmodules::letters::letters;
+use vmodules::names::Names;
+use vmodules::parameters::open_names;
+use vmodules::ports::ports_of;
+
+/// An instance of a module: its name, how many names that are no variables stand before it, and, by their names, what is said of its
+/// parameters and what its ports are connected to.
+#[derive(Drop)]
+pub struct Wanted<'t, 'u> {
+    pub child: &'u ModuleTree,
+    pub name: Token,
+    pub known: usize,
+    pub values: Ties<'t, 'u>,
+    pub ties: Ties<'t, 'u>,
+}
+
+/// The most instances of an item.
+const MOST_INSTANCES: usize = 1024;
+
+// What is said of a module from outside may speak of these: parameters and ports.
+#[derive(Drop)]
+struct Open<'t, 'u> {
+    child: &'u ModuleTree,
+    values: Names<'t>,
+    ports: Names<'t>,
+}
+
+// The parameters of a module that can be overridden. E302 where two have the same name.
+fn values_of<'t>(
+    alloc: Global,
+    tokens: &Tokens<'t>,
+    child: &ModuleTree,
+) -> Result<Names<'t>, OrMemory<ElabFault>>
+    ensures ok { IfOk result (λ names.
+        names ≡ spec_open_names (module_tree (words_of tokens.now) child.now)) }
+    ensures once { OnOk result
+        (has_double (spec_open_names (module_tree (words_of tokens.now) child.now)) ≡ false) }
+    ensures err { IfFault result (IsBroken (broken_if
+        (has_double (spec_open_names (module_tree (words_of tokens.now) child.now))) Rule.Doubled)) }
+{
+    match open_names(alloc, tokens, child) {
+        Ok(names) => Ok(names),
+        Err(OrMemory::Memory(none)) => Err(OrMemory::Memory(none)),
+        Err(OrMemory::Fault(doubled)) => Err(OrMemory::Fault(ElabFault {
+            rule: Rule::Doubled,
+            at: Some(doubled.at),
+        })),
+    }
+}
+
+// The ports of a module. E302 where two have the same name.
+fn ports_for<'t>(
+    alloc: Global,
+    tokens: &Tokens<'t>,
+    child: &ModuleTree,
+) -> Result<Names<'t>, OrMemory<ElabFault>>
+    ensures ok { IfOk result (λ names.
+        names ≡ spec_port_names (module_tree (words_of tokens.now) child.now)) }
+    ensures once { OnOk result
+        (has_double (spec_port_names (module_tree (words_of tokens.now) child.now)) ≡ false) }
+    ensures err { IfFault result (IsBroken (broken_if
+        (has_double (spec_port_names (module_tree (words_of tokens.now) child.now))) Rule.Doubled)) }
+{
+    let ports = ports_of(alloc, child)?;
+    port_names(alloc, tokens, &ports)
+}
+
+// What may be spoken of from outside. E302 where two parameters have the same name, or two ports.
+fn open_of<'t, 'u>(
+    alloc: Global,
+    tokens: &Tokens<'t>,
+    child: &'u ModuleTree,
+) -> Result<Open<'t, 'u>, OrMemory<ElabFault>>
+    ensures ok { IfOk result (IsOpen (words_of tokens.now) child.now) }
+    ensures right { OnOk result
+        (spec.broken_child (module_tree (words_of tokens.now) child.now) ≡ None) }
+    ensures err { IfFault result
+        (IsBroken (spec.broken_child (module_tree (words_of tokens.now) child.now))) }
+{
+    let values = values_of(alloc, tokens, child)?;
+    let ports = ports_for(alloc, tokens, child)?;
+    Ok(Open {
+        child,
+        values,
+        ports,
+    })
+}
+
+// What is said of parameters. E305 where it doesn't fit.
+fn values_by<'t, 'u>(
+    alloc: Global,
+    tokens: &Tokens<'t>,
+    names: &Names<'t>,
+    overrides: &'u Option<Connections>,
+) -> Result<Ties<'t, 'u>, OrMemory<ElabFault>>
+    ensures ok { IfOk result (λ ties. ties_tree (words_of tokens.now) ties ≡ spec_matched_if names.now
+        (option_map (connections_tree (words_of tokens.now)) overrides.now)) }
+    ensures fits { OnOk result (fits_if names.now
+        (option_map (connections_tree (words_of tokens.now)) overrides.now) ≡ true) }
+    ensures err { IfFault result (IsBroken (unless (fits_if names.now
+        (option_map (connections_tree (words_of tokens.now)) overrides.now)) Rule.Ports)) }
+{
+    match matched_if(alloc, tokens, names, overrides) {
+        Ok(ties) => Ok(ties),
+        Err(OrMemory::Memory(none)) => Err(OrMemory::Memory(none)),
+        Err(OrMemory::Fault(misfit)) => Err(OrMemory::Fault(ElabFault {
+            rule: Rule::Ports,
+            at: misfit.at,
+        })),
+    }
+}
+
+// What ports are connected to. E305 where it doesn't fit.
+fn ties_by<'t, 'u>(
+    alloc: Global,
+    tokens: &Tokens<'t>,
+    names: &Names<'t>,
+    connections: &'u Connections,
+) -> Result<Ties<'t, 'u>, OrMemory<ElabFault>>
+    ensures ok { IfOk result (λ ties. ties_tree (words_of tokens.now) ties ≡
+        spec_matched names.now (connections_tree (words_of tokens.now) connections.now)) }
+    ensures fits { OnOk result
+        (fits_names names.now (connections_tree (words_of tokens.now) connections.now) ≡ true) }
+    ensures err { IfFault result (IsBroken (unless (fits_names names.now
+        (connections_tree (words_of tokens.now) connections.now)) Rule.Ports)) }
+{
+    match matched(alloc, tokens, names, connections) {
+        Ok(ties) => Ok(ties),
+        Err(OrMemory::Memory(none)) => Err(OrMemory::Memory(none)),
+        Err(OrMemory::Fault(misfit)) => Err(OrMemory::Fault(ElabFault {
+            rule: Rule::Ports,
+            at: misfit.at,
+        })),
+    }
+}
+
+// One instance. E305 where what is said of its parameters or connected to its ports doesn't fit.
+fn wanted_one<'t, 'u>(
+    alloc: Global,
+    tokens: &Tokens<'t>,
+    offered: &Open<'t, 'u>,
+    known: usize,
+    overrides: &'u Option<Connections>,
+    one: &'u Instance,
+) -> Result<Wanted<'t, 'u>, OrMemory<ElabFault>>
+    requires { IsOpen (words_of tokens.now) offered.now.child.now offered.now }
+    ensures ok { IfOk result (λ wanted. wanted_tree (words_of tokens.now) wanted ≡
+        spec.wanted_one (module_tree (words_of tokens.now) offered.now.child.now) known
+        (option_map (connections_tree (words_of tokens.now)) overrides.now)
+        (instance_tree (words_of tokens.now) one.now)) }
+    ensures right { OnOk result (spec.broken_instance
+        (module_tree (words_of tokens.now) offered.now.child.now)
+        (option_map (connections_tree (words_of tokens.now)) overrides.now)
+        (instance_tree (words_of tokens.now) one.now) ≡ None) }
+    ensures err { IfFault result (IsBroken (spec.broken_instance
+        (module_tree (words_of tokens.now) offered.now.child.now)
+        (option_map (connections_tree (words_of tokens.now)) overrides.now)
+        (instance_tree (words_of tokens.now) one.now))) }
+{
+    let values = values_by(alloc, tokens, &offered.values, overrides)?;
+    let ties = ties_by(alloc, tokens, &offered.ports, &one.connections)?;
+    Ok(Wanted {
+        child: offered.child,
+        name: one.name,
+        known,
+        values,
+        ties,
+    })
+}
+
+// The instances of one item, where what may be spoken of is known.
+fn put_each<'t, 'u>(
+    alloc: Global,
+    tokens: &Tokens<'t>,
+    offered: &Open<'t, 'u>,
+    known: usize,
+    overrides: &'u Option<Connections>,
+    list: &'u [Instance],
+    into: &mut Vec<Wanted<'t, 'u>>,
+) -> Result<(), OrMemory<ElabFault>>
+    requires { IsOpen (words_of tokens.now) offered.now.child.now offered.now }
+    ensures ok { OnOk result (wanted_trees (words_of tokens.now) into.new.items ≡
+        wanted_trees (words_of tokens.now) into.old.items ++ each_wanted (words_of tokens.now)
+        offered.now.child.now known overrides.now list.now) }
+    ensures right { OnOk result (each_broken (words_of tokens.now) offered.now.child.now
+        overrides.now list.now ≡ None) }
+    ensures err { IfFault result (IsBroken (each_broken (words_of tokens.now) offered.now.child.now
+        overrides.now list.now)) }
+{
+    for one in list {
+        let wanted = wanted_one(alloc, tokens, offered, known, overrides, one)?;
+        into.push(wanted)?;
+    }
+    Ok(())
+}
+
+// The instances of a module that an item has, `at` being the number of the token that names the module.
+fn put_instances<'t, 'u>(
+    alloc: Global,
+    tokens: &Tokens<'t>,
+    child: Option<&'u ModuleTree>,
+    at: u32,
+    known: usize,
+    overrides: &'u Option<Connections>,
+    list: &'u [Instance],
+    into: &mut Vec<Wanted<'t, 'u>>,
+) -> Result<(), OrMemory<ElabFault>>
+    ensures ok { OnOk result (wanted_trees (words_of tokens.now) into.new.items ≡
+        wanted_trees (words_of tokens.now) into.old.items
+        ++ spec.wanted_of (unit_tree (words_of tokens.now) child.entry) known
+        (option_map (connections_tree (words_of tokens.now)) overrides.now)
+        (map (instance_tree (words_of tokens.now)) list.now)) }
+    ensures right { OnOk result (spec.broken_of (unit_tree (words_of tokens.now) child.entry)
+        (option_map (connections_tree (words_of tokens.now)) overrides.now)
+        (map (instance_tree (words_of tokens.now)) list.now) ≡ None) }
+    ensures err { IfFault result (IsBroken (spec.broken_of (unit_tree (words_of tokens.now) child.entry)
+        (option_map (connections_tree (words_of tokens.now)) overrides.now)
+        (map (instance_tree (words_of tokens.now)) list.now))) }
+{
+    match child {
+        None => Err(OrMemory::Fault(ElabFault {
+            rule: Rule::Top,
+            at: Some(at),
+        })),
+        Some(child) => {
+            if list.len() > MOST_INSTANCES {
+                return Err(OrMemory::Fault(ElabFault {
+                    rule: Rule::TooMany,
+                    at: Some(at),
+                }));
+            }
+            let offered = open_of(alloc, tokens, child)?;
+            put_each(alloc, tokens, &offered, known, overrides, list, into)
+        }
+    }
+}
+
+// The instances of an item.
+fn put_item<'t, 'u>(
+    alloc: Global,
+    modules: &Modules<'t, 'u>,
+    known: usize,
+    item: &'u ModuleItem,
+    into: &mut Vec<Wanted<'t, 'u>>,
+) -> Result<(), OrMemory<ElabFault>>
+    ensures ok { OnOk result (wanted_trees modules.now.words into.new.items ≡
+        wanted_trees modules.now.words into.old.items
+        ++ spec.wanted_by (units_tree modules.now) known (item_tree modules.now.words item.now)) }
+    ensures right { OnOk result
+        (spec.broken_wanted (units_tree modules.now) (item_tree modules.now.words item.now) ≡ None) }
+    ensures err { IfFault result (IsBroken
+        (spec.broken_wanted (units_tree modules.now) (item_tree modules.now.words item.now))) }
+{
+    match item {
+        ModuleItem::Parameters { .. } => Ok(()),
+        ModuleItem::Declaration { .. } => Ok(()),
+        ModuleItem::Events { .. } => Ok(()),
+        ModuleItem::Assignments { .. } => Ok(()),
+        ModuleItem::Initial { .. } => Ok(()),
+        ModuleItem::Always { .. } => Ok(()),
+        ModuleItem::Instances {
+            module,
+            overrides,
+            instances,
+        } => {
+            let tokens = modules.tokens();
+            let child = modules.module_of(letters(tokens, *module));
+            put_instances(
+                alloc,
+                tokens,
+                child,
+                module.number,
+                known,
+                overrides,
+                instances,
+                into,
+            )
+        }
+    }
+}
+
+/// The instances of a module, in the order of its items; so many names that are no variables stand before the first. Errors: E301, E302,
+/// E305, E309, E901.
+pub fn wanted_in<'t, 'u>(
+    alloc: Global,
+    modules: &Modules<'t, 'u>,
+    known: usize,
+    items: &'u [ModuleItem],
+) -> Result<Vec<Wanted<'t, 'u>>, OrMemory<ElabFault>>
+    requires small { known + length (given_in modules.now.words items.now) < 2 ^ 64 }
+    ensures ok { IfOk result (λ list.
+        wanted_trees modules.now.words list.items ≡ found_in modules.now known items.now) }
+    ensures right { OnOk result (broken_in modules.now items.now ≡ None) }
+    ensures err { IfFault result (IsBroken (broken_in modules.now items.now)) }
+{
+    let mut list = Vec::new(alloc);
+    let mut before = known;
+    for item in items {
+        put_item(alloc, modules, before, item, &mut list)?;
+        before += given_count(item);
+    }
+    Ok(list)
+}

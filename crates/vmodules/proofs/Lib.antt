@@ -1,0 +1,4 @@
+pub mod ConnectLemmas
+pub mod HierarchyLemmas
+pub mod ListLemmas
+pub mod NameLemmas

@@ -1,0 +1,11 @@
+use Rattle.std.proofs.Common.{◌≡◌, ◌++◌, List, None, map, drop}
+use Rattle.vast.specs.Words.{Text}
+use Rattle.vast.specs.ModuleTrees.{port_tree}
+use Rattle.vmodules.specs.Ports.{ports_behind}
+use Rattle.vmodules.specs.Inner.{port_form, direction_of}
+use Rattle.vmodules.proofs.ports.listed.Given as goal
+
+abbrev pub invariant-loop-port : goal.invariant-loop-port
+invariant-loop-port l = (words : List Text) →
+    map (port_form words) l.forms.items ++ ports_behind (direction_of words l.direction) (map (port_tree words) (drop l.port-index l.list))
+    ≡ ports_behind None (map (port_tree words) l.list)

@@ -1,0 +1,189 @@
+// What is connected by order or by name (IEEE 1364-2005, 12.2.2, 12.3.5, 12.3.6).
+
+ghost use Rattle.std.specs.Prelude.{◌≡◌, ◌++◌, ◌∷◌, [], List, map, true, false, option_map, Some, IfOk, OnOk};
+ghost use Rattle.basis.specs.Reasons.{IfFault};
+ghost use Rattle.vast.specs.Words.{Text};
+ghost use Rattle.vast.specs.Modules.{by_order, by_name};
+ghost use Rattle.vast.specs.ExpressionTrees.{tree_of};
+ghost use Rattle.vast.specs.ModuleTrees.{connection_tree, connections_tree};
+ghost use Rattle.vexpr_parse.specs.Texts.{words_of};
+ghost use Rattle.vmodules.specs.Names.{is_declared};
+ghost use Rattle.vmodules.specs.Connected as spec;
+ghost use Rattle.vmodules.specs.Connected.{fits_names, fits_if, value_for};
+ghost use Rattle.vmodules.specs.Inner.{ties_tree, tie_names, value_tree};
+
+use crate::letters::letters;
+use crate::names::Names;
+use basis::OrMemory;
+use indexmap::IndexMap;
+use std::alloc::Global;
+use std::marker::Model;
+use vast::expression::Expression;
+use vast::module::{Connection, Connections};
+use vlex::Tokens;
+
+/// What is connected does not fit; `at` is the number of the token where that shows, if there is one.
+#[derive(Clone, Copy, Debug, PartialEq, Eq)]
+pub struct Misfit {
+    pub at: Option<u32>,
+}
+
+/// Names with what is connected to each, where something is. A name is found by its bytes, at once.
+#[derive(Drop)]
+pub struct Ties<'t, 'u> {
+    tied: IndexMap<&'t [u8], Option<&'u Expression>>,
+}
+
+impl<'t, 'u> Model for Ties<'t, 'u> {
+    ghost use Rattle.std.specs.Prelude.{List, map};
+    ghost use Rattle.std.specs.Coded.{codes};
+    ghost use Rattle.vast.specs.contracts.expression.Expression as expression;
+    ghost use Rattle.vmodules.specs.Inner.{Tie};
+
+    ghost Value = { List Tie };
+
+    ghost coded = { Prim.hlevel (codes, expression.the_row.coded) };
+
+    ghost view = { λ t. map (λ entry. (entry.0.now, entry.1)) t.tied.entries };
+}
+
+impl<'t, 'u> Ties<'t, 'u> {
+    /// None.
+    pub fn new(alloc: Global) -> Self
+        ensures { result ≡ [] }
+    {
+        Ties {
+            tied: IndexMap::new(alloc),
+        }
+    }
+
+    // Connects a value to a name that has none.
+    fn add(
+        &mut self,
+        name: &'t [u8],
+        value: Option<&'u Expression>,
+        at: Option<u32>,
+    ) -> Result<(), OrMemory<Misfit>>
+        ensures added { OnOk result (self.new ≡ self.old ++ (name.now, value.entry) ∷ []) }
+        ensures fresh { OnOk result (is_declared (tie_names self.old) name.now ≡ false) }
+        ensures err { IfFault result (λ _. is_declared (tie_names self.old) name.now ≡ true) }
+    {
+        let before = self.tied.insert(name, value)?;
+        if before.is_some() {
+            return Err(OrMemory::Fault(Misfit { at }));
+        }
+        Ok(())
+    }
+
+    /// What is connected to a name, where something is.
+    pub fn value(&self, name: &[u8]) -> Option<&'u Expression>
+        ensures { (words : List Text) →
+            value_tree words result ≡ value_for (ties_tree words self.now) name.now }
+    {
+        match self.tied.get(&name) {
+            None => None,
+            Some(value) => *value,
+        }
+    }
+}
+
+// The first value for the first name, and so on.
+fn by_order<'t, 'u>(
+    alloc: Global,
+    names: &Names<'t>,
+    values: &'u [Expression],
+) -> Result<Ties<'t, 'u>, OrMemory<Misfit>>
+    ensures ok { (words : List Text) → IfOk result (λ ties.
+        ties_tree words ties ≡ spec.matched names.now (by_order (map (tree_of words) values.now))) }
+    ensures fits { (words : List Text) → OnOk result
+        (fits_names names.now (by_order (map (tree_of words) values.now)) ≡ true) }
+    ensures err { (words : List Text) → IfFault result (λ _.
+        fits_names names.now (by_order (map (tree_of words) values.now)) ≡ false) }
+{
+    let mut ties = Ties::new(alloc);
+    if values.len() > names.len() {
+        return Err(OrMemory::Fault(Misfit { at: None }));
+    }
+    for place in 0..values.len() {
+        ties.add(names.name(place), Some(&values[place]), None)?;
+    }
+    Ok(ties)
+}
+
+// The value of a connection, where there is one.
+fn value_of<'u>(connection: &'u Connection) -> Option<&'u Expression>
+    ensures { (words : List Text) →
+        value_tree words result ≡ (connection_tree words connection.now).value }
+{
+    match &connection.value {
+        None => None,
+        Some(value) => Some(value),
+    }
+}
+
+// Each value for its name.
+fn by_name<'t, 'u>(
+    alloc: Global,
+    tokens: &Tokens<'t>,
+    names: &Names<'t>,
+    list: &'u [Connection],
+) -> Result<Ties<'t, 'u>, OrMemory<Misfit>>
+    ensures ok { IfOk result (λ ties. ties_tree (words_of tokens.now) ties ≡ spec.matched names.now
+        (by_name (map (connection_tree (words_of tokens.now)) list.now))) }
+    ensures fits { OnOk result (fits_names names.now
+        (by_name (map (connection_tree (words_of tokens.now)) list.now)) ≡ true) }
+    ensures err { IfFault result (λ _. fits_names names.now
+        (by_name (map (connection_tree (words_of tokens.now)) list.now)) ≡ false) }
+{
+    let mut ties = Ties::new(alloc);
+    for connection in list {
+        let name = letters(tokens, connection.name);
+        if names.place(name).is_none() {
+            return Err(OrMemory::Fault(Misfit {
+                at: Some(connection.name.number),
+            }));
+        }
+        ties.add(name, value_of(connection), Some(connection.name.number))?;
+    }
+    Ok(ties)
+}
+
+/// What is connected to these names.
+pub fn matched<'t, 'u>(
+    alloc: Global,
+    tokens: &Tokens<'t>,
+    names: &Names<'t>,
+    connections: &'u Connections,
+) -> Result<Ties<'t, 'u>, OrMemory<Misfit>>
+    ensures ok { IfOk result (λ ties. ties_tree (words_of tokens.now) ties ≡
+        spec.matched names.now (connections_tree (words_of tokens.now) connections.now)) }
+    ensures fits { OnOk result
+        (fits_names names.now (connections_tree (words_of tokens.now) connections.now) ≡ true) }
+    ensures err { IfFault result (λ _.
+        fits_names names.now (connections_tree (words_of tokens.now) connections.now) ≡ false) }
+{
+    match connections {
+        Connections::ByOrder(values) => by_order(alloc, names, values),
+        Connections::ByName(list) => by_name(alloc, tokens, names, list),
+    }
+}
+
+/// What is connected to these names, where connections are written; else nothing.
+pub fn matched_if<'t, 'u>(
+    alloc: Global,
+    tokens: &Tokens<'t>,
+    names: &Names<'t>,
+    overrides: &'u Option<Connections>,
+) -> Result<Ties<'t, 'u>, OrMemory<Misfit>>
+    ensures ok { IfOk result (λ ties. ties_tree (words_of tokens.now) ties ≡ spec.matched_if
+        names.now (option_map (connections_tree (words_of tokens.now)) overrides.now)) }
+    ensures fits { OnOk result (fits_if names.now
+        (option_map (connections_tree (words_of tokens.now)) overrides.now) ≡ true) }
+    ensures err { IfFault result (λ _. fits_if names.now
+        (option_map (connections_tree (words_of tokens.now)) overrides.now) ≡ false) }
+{
+    match overrides {
+        None => Ok(Ties::new(alloc)),
+        Some(connections) => matched(alloc, tokens, names, connections),
+    }
+}
