@@ -1,11 +1,11 @@
 -- An instance and all below it: what its parts say of the whole.
-use Rattle.std.proofs.Common.{inl, ◌≡◌, ◌<◌, ℕ, suc, ◌+◌, ◌^◌, Option, None, Some, List, [], ◌∷◌, ◌++◌, length, map, drop, get_or, refl, sym, ap, subst, ◌∙◌, arith}
+use Rattle.std.proofs.Common.{inl, ◌≡◌, ◌<◌, ℕ, suc, ◌+◌, ◌^◌, Option, None, Some, List, [], ◌∷◌, ◌++◌, length, map, drop, get_or, Result, Ok, Err, refl, sym, ap, subst, ◌∙◌, arith}
 use Rattle.std.specs.List.{fold, flat_map}
-use Rattle.basis.specs.Reasons.{Because}
+use Rattle.basis.specs.Reasons.{Because, IfFault}
 use Rattle.basis.specs.declared.memory.OrMemory.{OrMemory}
 use Rattle.basis.specs.declared.memory.OrMemory.TheVariants.{Fault, Memory}
 use Rattle.vast.specs.Words.{Text}
-use Rattle.vast.specs.Modules.{SourceTree}
+use Rattle.vast.specs.Modules.{ModuleTree, SourceTree}
 use Rattle.vast.specs.ModuleTrees.{item_tree}
 use Rattle.vast.specs.declared.module.ModuleItem.{ModuleItem}
 use Rattle.vmodules.specs.Ports.{Port, ports_of}
@@ -38,6 +38,9 @@ pub one_err : (rule : Option Rule) (e : OrMemory ElabFault) → Because (IsBroke
 one_err rule (Fault f) h = breaks_here rule [] f.rule h
 one_err rule (Memory m) h = tt
 
+pub both_none : (xs ys : List Rule) → xs ≡ [] → ys ≡ [] → xs ++ ys ≡ []
+both_none xs ys front back = λ i. front i ++ back i
+
 -- the same list of rules under another name
 pub same_rules : (xs ys : List Rule) (e : OrMemory ElabFault) → xs ≡ ys → Because (BreaksOf xs) e → Because (BreaksOf ys) e
 same_rules xs ys e is h = subst (λ (rules : List Rule). Because (BreaksOf rules) e) is h
@@ -48,10 +51,10 @@ module _ (units : Units) (levels : ℕ) (request : Asked) (scope : Scope) (list 
   opens : wanted_trees units.words (drop i list) ≡ wanted_tree units.words x ∷ wanted_trees units.words (drop (i + 1) list)
   opens = ap (λ (l : List Found). wanted_trees units.words l) (drop_at list i x within is)
 
-  grow : Part → Wanted → Part
+  abbrev grow : Part → Wanted → Part
   grow so_far one = grown levels (units_tree units) so_far (asked scope (request_tree units.words request) one)
 
-  rules : Part → Wanted → List Rule
+  abbrev rules : Part → Wanted → List Rule
   rules so_far one = broken_grown levels (units_tree units) so_far (asked scope (request_tree units.words request) one)
 
   pub each_step : (part next all : Part) → next ≡ one_grown units levels request scope part x → each_grown units levels request scope part (drop i list) ≡ all →
@@ -82,6 +85,24 @@ pub known_all : (outside : Outside) (scope : Scope) (list : List Given) → (wit
 known_all outside scope [] = omega arith
 known_all outside scope (one ∷ more) = let rest = known_all outside (with_given outside scope one) more in omega (arith, rest)
 
+-- what the head gives is known at the first item
+pub head_known : (base : Base) (m : ModuleTree) → (head_scope base m).known ≡ length (given_in_head m.parameters)
+head_known base m = let all = known_all base.outside (first_scope base m) (given_in_head m.parameters) in omega (arith, all)
+
+-- all that is given fits where all that is known does
+pub few : (base : Base) (m : ModuleTree) (head whole bound : ℕ) (list : List Given) → head ≡ (head_scope base m).known → whole ≡ (whole_scope base m).known →
+    whole < bound → list ≡ flat_map given_by m.items → head + length list < bound
+few base m head whole bound list head_is whole_is fits list_is =
+    let all : (whole_scope base m).known ≡ (head_scope base m).known + length (flat_map given_by m.items) = known_all base.outside (head_scope base m) (flat_map given_by m.items) in
+    let count : length list ≡ length (flat_map given_by m.items) = ap (λ (l : List Given). length l) list_is in
+    omega (arith, all, count, head_is, whole_is, fits)
+
+-- what leads from fault to fault
+pub fault_leads : {T : Type 0} (result : Result T (OrMemory ElabFault)) (P Q : ElabFault → Type 0) → ((e : OrMemory ElabFault) → Because P e → Because Q e) →
+    IfFault result P → IfFault result Q
+fault_leads (Ok x) P Q leads h = tt
+fault_leads (Err e) P Q leads h = leads e h
+
 -- ---- an instance
 
 module _ (modules : SourceTree) (part : Part) (request : Request) (levels below : ℕ) (deep : levels ≡ suc below) where
@@ -91,7 +112,7 @@ module _ (modules : SourceTree) (part : Part) (request : Request) (levels below 
   broken_opened : broken_grown (suc below) modules part request ≡ broken_grown levels modules part request
   broken_opened = ap (λ n. broken_grown n modules part request) (sym deep)
 
-  broken_below : List Rule
+  abbrev broken_below : List Rule
   broken_below =
       broken_each (λ (so_far : Part) (one : Wanted). grown below modules so_far (asked (inside part request) request one))
       (λ (so_far : Part) (one : Wanted). broken_grown below modules so_far (asked (inside part request) request one))
@@ -100,7 +121,7 @@ module _ (modules : SourceTree) (part : Part) (request : Request) (levels below 
   own_breaks : (e : OrMemory ElabFault) → Because (BreaksOf (own_rules modules part request)) e → Because (BreaksOf (broken_grown levels modules part request)) e
   own_breaks e h = same_rules _ _ e broken_opened (front_err (own_rules modules part request) broken_below e h)
 
-  others : List Rule
+  abbrev others : List Rule
   others = own_rules_by request (ports_of request.unit) (wanted_in modules request.unit) (inside part request) part
 
   pub names_err : (e : OrMemory ElabFault) → Because (BreaksOf (rules_in (name_rules part request))) e → Because (BreaksOf (broken_grown levels modules part request)) e
@@ -133,7 +154,7 @@ module _ (modules : SourceTree) (part : Part) (request : Request) (levels below 
 
       pub each_of_err : (e : OrMemory ElabFault) →
           Because (BreaksOf (broken_each (λ (so_far : Part) (one : Wanted). grown below modules so_far (asked scope request one))
-              (λ (so_far : Part) (one : Wanted). broken_grown below modules so_far (asked scope request one)) next wanted)) e →
+          (λ (so_far : Part) (one : Wanted). broken_grown below modules so_far (asked scope request one)) next wanted)) e →
           Because (BreaksOf (broken_grown levels modules part request)) e
       each_of_err e h =
           same_rules _ _ e broken_opened (back_err (own_rules modules part request) broken_below e (same_rules _ _ e broken_here h))

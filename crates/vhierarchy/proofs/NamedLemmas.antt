@@ -53,14 +53,14 @@ goes_on : (begun : Bool) (cs path : Text) → is_path_from begun cs ≡ true →
 goes_on true [] path e h = or_second (is_in_name 46 && is_path_from true path) (46 == 46 && is_path_from false path) h
 goes_on false [] path e h = absurd (true≢false (sym e))
 goes_on true (c ∷ cs) path e h =
-    either {(is_in_name c && is_path_from true (cs ++ 46 ∷ path) || (c == 46 && is_path_from false (cs ++ 46 ∷ path))) ≡ true}
+    either {P = is_path_from true (c ∷ cs ++ 46 ∷ path) ≡ true}
     (is_in_name c && is_path_from true cs) (c == 46 && is_path_from false cs) e
     (λ a. or_first (is_in_name c && is_path_from true (cs ++ 46 ∷ path)) (c == 46 && is_path_from false (cs ++ 46 ∷ path))
-        (and_both (is_in_name c) (is_path_from true (cs ++ 46 ∷ path)) (and_left (is_in_name c) (is_path_from true cs) a)
-        (goes_on true cs path (and_right (is_in_name c) (is_path_from true cs) a) h)))
+    (and_both (is_in_name c) (is_path_from true (cs ++ 46 ∷ path)) (and_left (is_in_name c) (is_path_from true cs) a)
+    (goes_on true cs path (and_right (is_in_name c) (is_path_from true cs) a) h)))
     (λ b. or_second (is_in_name c && is_path_from true (cs ++ 46 ∷ path)) (c == 46 && is_path_from false (cs ++ 46 ∷ path))
-        (and_both (c == 46) (is_path_from false (cs ++ 46 ∷ path)) (and_left (c == 46) (is_path_from false cs) b)
-        (goes_on false cs path (and_right (c == 46) (is_path_from false cs) b) h)))
+    (and_both (c == 46) (is_path_from false (cs ++ 46 ∷ path)) (and_left (c == 46) (is_path_from false cs) b)
+    (goes_on false cs path (and_right (c == 46) (is_path_from false cs) b) h)))
 goes_on false (c ∷ cs) path e h =
     and_both (begins_name c) (is_path_from true (cs ++ 46 ∷ path)) (and_left (begins_name c) (is_path_from true cs) e)
     (goes_on true cs path (and_right (begins_name c) (is_path_from true cs) e) h)
@@ -293,7 +293,7 @@ module _ (modules : SourceTree) (named : list_all is_named modules ≡ true) whe
       let items = and_right (ports_are_named request.unit) (list_all item_is_named request.unit.items) inner in
       fold_keeps (λ (so_far : Part) (one : Wanted). grown levels modules so_far (asked scope request one)) wanted_is_named
       (λ so_far one good. grown_paths levels so_far (asked scope request one) (dotted_is_path request.path one.name e (and_left (is_name one.name) (is_named one.child) good))
-          (and_right (is_name one.name) (is_named one.child) good))
+      (and_right (is_name one.name) (is_named one.child) good))
       (wanted_in modules request.unit) (with_own modules part request) (from_named modules named _ request.unit.items items)
       (own_paths request (ports_of request.unit) (wanted_in modules request.unit) scope part e ports items before)
 

@@ -16,7 +16,8 @@ use Rattle.velab.specs.declared.fault.Rule.{Rule}
 use Rattle.velab.specs.declared.fault.ElabFault.{ElabFault}
 use Rattle.velab.specs.Rules.{Breaks}
 use Rattle.velab.specs.Scopes.{Scope}
-use Rattle.vdesign.specs.Design.{Variable, Scope as Room}
+use Rattle.basis.specs.declared.timescale.Timescale.{Timescale}
+use Rattle.vdesign.specs.Design.{Variable, Scope as Room, Design}
 use Rattle.vdesign.specs.declared.action.Action.{Action}
 use Rattle.velab.specs.Elaborate.{Processes, port_names}
 use Rattle.velab.specs.Inner.{outside_tree, item_drivers}
@@ -144,3 +145,14 @@ variable_names = map (λ v. v.name)
 -- and those of scopes
 abbrev pub scope_names : List Room → List Text
 scope_names = map (λ s. s.path)
+
+-- a part as a design, under a top's name
+abbrev pub named_design : Text → Timescale → Part → Design
+named_design name scale part = record {
+  top = name;
+  scale = scale;
+  variables = part.variables;
+  scopes = part.scopes;
+  actions = part.table;
+  processes = part.begins;
+}

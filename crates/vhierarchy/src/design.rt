@@ -3,7 +3,6 @@
 ghost use Rattle.std.specs.Prelude.{◌≡◌, [], false, None, Some, length, nat_le, IfOk, OnOk};
 ghost use Rattle.basis.specs.Reasons.{IfFault};
 ghost use Rattle.vdesign.specs.Design.{Design};
-ghost use Rattle.vast.specs.Modules.{ModuleTree as Tree};
 ghost use Rattle.vast.specs.ModuleTrees.{source_tree, module_tree};
 ghost use Rattle.vexpr_parse.specs.Texts.{words_of};
 ghost use Rattle.vmodules.specs.Names.{has_double};
@@ -12,7 +11,7 @@ ghost use Rattle.velab.specs.Rules.{rules_in, broken_if, unless, IsBroken};
 ghost use Rattle.vhierarchy.specs.Instances as spec;
 ghost use Rattle.vhierarchy.specs.Instances.{Elaborates, path_rules, top_request, whole_of};
 ghost use Rattle.vhierarchy.specs.Reasons.{IsDesignReason, IsOnlyDesign, HasNoDesign};
-ghost use Rattle.vhierarchy.specs.Inner.{BreaksOf, scope_names, variable_names};
+ghost use Rattle.vhierarchy.specs.Inner.{BreaksOf, named_design, scope_names, variable_names};
 
 use crate::grow::put_unit;
 use crate::own::MOST_PROCESSES;
@@ -139,8 +138,7 @@ fn design_by(
     scale: Timescale,
     part: Part,
 ) -> Result<Design, OrMemory<ElabFault>>
-    ensures ok { (m : Tree) → IfOk result (λ design. m.name ≡ name.now →
-        design ≡ spec.design_by scale m part) }
+    ensures ok { IfOk result (λ design. design ≡ named_design name.now scale part) }
     ensures right { OnOk result (unless (nat_le (length part.begins) 256) Rule.TooMany ≡ None) }
     ensures err { IfFault result (IsBroken (unless (nat_le (length part.begins) 256) Rule.TooMany)) }
 {

@@ -9,6 +9,7 @@ ghost use Rattle.vmodules.specs.Names.{has_double};
 ghost use Rattle.velab.specs.Inner.{BreaksDrivers};
 ghost use Rattle.vhierarchy.specs.Inner.{inputs_of, outputs_of, outputs_by, driven_by};
 
+use crate::wanted::Wanted;
 use basis::OrMemory;
 use std::alloc::Global;
 use vast::module::ModuleItem;
@@ -20,8 +21,6 @@ use vmodules::connect::Ties;
 use vmodules::letters::letters;
 use vmodules::names::Names;
 use vmodules::ports::{PortForm, ports_of};
-
-use crate::wanted::Wanted;
 
 // The port, where it is an input that is connected. E304 where it is driven already.
 fn add_input<'t>(

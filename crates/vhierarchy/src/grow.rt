@@ -46,8 +46,8 @@ pub fn put_unit<'t, 'u>(
     let tokens = modules.tokens();
     let ports = ports_of(alloc, request.unit)?;
     let known = known_names(alloc, tokens, part, request, &ports)?;
-    let wanted = wanted_in(alloc, modules, known.head, &request.unit.items)?;
     let scope = known.growing.scope().at(known.head);
+    let wanted = wanted_in(alloc, modules, known.head, &request.unit.items)?;
     put_own(alloc, tokens, request, &ports, &wanted, &scope, part)?;
     put_each(alloc, modules, levels - 1, request, &scope, &wanted, part)
 }

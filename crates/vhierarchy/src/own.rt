@@ -90,9 +90,21 @@ pub fn known_names<'t>(
         events: part.events,
         others: Vec::new(alloc),
     };
-    add_head(alloc, tokens, request.outside, &request.unit.parameters, &mut growing)?;
+    add_head(
+        alloc,
+        tokens,
+        request.outside,
+        &request.unit.parameters,
+        &mut growing,
+    )?;
     let head = growing.others.len();
-    add_items(alloc, tokens, request.outside, &request.unit.items, &mut growing)?;
+    add_items(
+        alloc,
+        tokens,
+        request.outside,
+        &request.unit.items,
+        &mut growing,
+    )?;
     Ok(Known { growing, head })
 }
 
@@ -190,11 +202,12 @@ fn put_scope(
 }
 
 // E309, where there are too many processes or scopes.
-fn check_counts(begins: usize, scopes: usize, at: u32) -> Result<(), OrMemory<ElabFault>>
-    ensures right { OnOk result (rules_in (count_rules begins scopes) ≡ []) }
-    ensures err { IfFault result (BreaksOf (rules_in (count_rules begins scopes))) }
+fn check_counts(begins: &[Places], scopes: &[Room], at: u32) -> Result<(), OrMemory<ElabFault>>
+    ensures right { OnOk result (rules_in (count_rules (length begins.now) (length scopes.now)) ≡ []) }
+    ensures err { IfFault result
+        (BreaksOf (rules_in (count_rules (length begins.now) (length scopes.now)))) }
 {
-    if begins > MOST_PROCESSES || scopes > MOST_SCOPES {
+    if begins.len() > MOST_PROCESSES || scopes.len() > MOST_SCOPES {
         return Err(OrMemory::Fault(ElabFault {
             rule: Rule::TooMany,
             at: Some(at),
@@ -248,7 +261,7 @@ pub fn put_own(
         &mut part.table,
         &mut part.begins,
     )?;
-    check_counts(part.begins.len(), part.scopes.len(), request.at)?;
+    check_counts(&part.begins, &part.scopes, request.at)?;
     part.events = scope.events;
     Ok(())
 }

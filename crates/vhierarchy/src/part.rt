@@ -20,7 +20,6 @@ pub struct Part {
 }
 
 impl Model for Part {
-    ghost use Rattle.std.specs.Prelude.{◌≤◌, length};
     ghost use Rattle.std.specs.Coded.{codes};
     ghost use Rattle.vdesign.specs.contracts.expression.Expression as expression;
     ghost use Rattle.vhierarchy.specs.Instances as spec;
@@ -36,8 +35,6 @@ impl Model for Part {
       begins = p.begins.items;
       events = p.events;
     } };
-
-    ghost invariant = { λ p. (length p.variables.items ≤ 1024) × (p.events ≤ 4294967295) };
 }
 
 impl Part {
