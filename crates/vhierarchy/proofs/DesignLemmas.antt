@@ -1,7 +1,7 @@
 -- Faults of the modules' names, of the top and of the whole, and what they say of a text.
-use Rattle.std.proofs.Common.{◌≡◌, ◌<◌, ℕ, ◌+◌, length, drop, get_or, List, [], ◌∷◌, ◌++◌, map, inl, Option, Some, None, Bool, true, false, Result, Ok, Err, IfOk, OnOk, refl, sym, ap, subst, ◌∙◌}
+use Rattle.std.proofs.Common.{◌≡◌, ◌<◌, ℕ, ◌+◌, length, drop, get_or, List, [], ◌∷◌, ◌++◌, map, inl, Option, Some, None, Bool, true, false, Result, Ok, Err, IfOk, OnOk, IsErrAnd, refl, sym, ap, subst, ◌∙◌}
 use Rattle.vast.specs.Words.{Text}
-use Rattle.vast.specs.Modules.{ModuleTree, SourceTree}
+use Rattle.vast.specs.Modules.{ConnectionTree, ModuleTree, SourceTree}
 use Rattle.basis.specs.declared.memory.OrMemory.{OrMemory}
 use Rattle.basis.specs.declared.memory.OrMemory.TheVariants.{Fault, Memory}
 use Rattle.basis.specs.declared.timescale.Timescale.{Timescale}
@@ -16,7 +16,7 @@ use Rattle.velab.specs.Rules.{broken_if, IsBroken, Breaks, rules_in}
 use Rattle.velab.proofs.ListLemmas.{drop_at}
 use Rattle.velab.proofs.VariableLemmas.{name_stops}
 use Rattle.velab.proofs.FaultLemmas.{still, if_more, breaks_here, breaks_later, front_breaks, back_breaks, none_first}
-use Rattle.vhierarchy.specs.Instances.{broken_rules, broken_top, whole_of, design_by, Elaborates}
+use Rattle.vhierarchy.specs.Instances.{Part, Request, nothing, top_request, grown, broken_grown, broken_rules, broken_top, broken_whole, whole_of, design_by, Elaborates}
 use Rattle.vhierarchy.specs.Reasons.{IsDesignReason}
 use Rattle.vhierarchy.specs.Inner.{BreaksOf, variable_names, scope_names}
 
@@ -41,6 +41,52 @@ pub scopes_err : (list : List Room) (i : ℕ) (s : Room) (names all : List Text)
 scopes_err list i s names all e within at same =
     still _ _ (if_more (is_declared names s.path) (has_double all) Doubled
     (name_stops names (scope_names (drop (i + 1) list)) all s.path (ap (λ (ss : List Room). names ++ scope_names ss) (sym (drop_at list i s within at)) ∙ same))) e
+
+-- ---- the whole
+
+module _ (modules : SourceTree) (m : ModuleTree) (levels : ℕ) (part : Part) (request : Request) (deep : levels ≡ 16) (empty : part ≡ nothing) (is_top : request ≡ top_request m) where
+  pub whole_is : grown levels modules part request ≡ whole_of modules m
+  unfolding whole_of
+  whole_is = λ i. grown (deep i) modules (empty i) (is_top i)
+
+  pub broken_whole_is : broken_grown levels modules part request ≡ broken_whole modules m
+  unfolding broken_whole
+  broken_whole_is = λ i. broken_grown (deep i) modules (empty i) (is_top i)
+
+pub no_ok : {T : Type 0} (P : Type 0) (result : Result T (OrMemory ElabFault)) (e : OrMemory ElabFault) → IsErrAnd result (λ y. y ≡ e) → OnOk result P
+no_ok P (Ok x) e h = absurd h
+no_ok P (Err y) e h = tt
+
+-- the top, told of the program's values
+pub top_is : (m : ModuleTree) (name : Text) (names : List Text) (ties : List ConnectionTree) → name ≡ m.name → names ≡ [] → ties ≡ [] →
+    record {
+      top = name;
+      path = name;
+      name = name;
+      depth = 0;
+      unit = m;
+      outside = record { scope = record { top = []; names = names; first = 0; variables = 0; events = 0; others = []; known = 0 }; values = ties };
+      ties = ties;
+    } ≡ top_request m
+top_is m name names ties named none nothing_tied = λ i. record {
+  top = named i;
+  path = named i;
+  name = named i;
+  depth = 0;
+  unit = m;
+  outside = record { scope = record { top = []; names = none i; first = 0; variables = 0; events = 0; others = []; known = 0 }; values = nothing_tied i };
+  ties = nothing_tied i;
+}
+
+-- ---- the text
+
+same_top : (m n : ModuleTree) → Some m ≡ Some n → m ≡ n
+same_top m n e = cc
+
+pub one_design : (tree : SourceTree) (top : Option Text) (scale : Timescale) (design other : Design) →
+    Elaborates tree top scale design → Elaborates tree top scale other → design ≡ other
+one_design tree top scale design other d e =
+    d.describes ∙ ap (λ (m : ModuleTree). design_by scale m (whole_of tree m)) (same_top d.unit e.unit (sym d.is_top ∙ e.is_top)) ∙ sym e.describes
 
 -- a rule that the names of modules break is one that the text breaks
 pub names_reason : (tree : SourceTree) (top : Option Text) (e : OrMemory ElabFault) → Because (IsBroken (broken_if (has_double (module_names tree)) Doubled)) e →

@@ -23,7 +23,7 @@ use Rattle.velab.specs.declared.fault.Rule.{Rule}
 use Rattle.velab.specs.declared.fault.Rule.TheVariants.{Doubled}
 use Rattle.velab.specs.Rules.{broken_if, rules_in}
 use Rattle.velab.proofs.FaultLemmas.{none_was, front_none}
-use Rattle.vhierarchy.specs.Instances.{Wanted, wanted_one, wanted_of, wanted_by, wanted_from, wanted_in, Part, Request, own_by, home_by, with_own, inside, asked, grown, nothing, top_request, whole_of, variable_paths, design_by, path_rules, design_rules, broken_grown, broken_top, broken_rules, Elaborates}
+use Rattle.vhierarchy.specs.Instances.{Wanted, wanted_one, wanted_of, wanted_by, wanted_from, wanted_in, Part, Request, own_by, home_by, with_own, inside, asked, grown, nothing, top_request, whole_of, variable_paths, design_by, path_rules, design_rules, broken_whole, broken_top, broken_rules, Elaborates}
 
 -- ---- letters and paths
 
@@ -297,6 +297,11 @@ module _ (modules : SourceTree) (named : list_all is_named modules ≡ true) whe
       (wanted_in modules request.unit) (with_own modules part request) (from_named modules named _ request.unit.items items)
       (own_paths request (ports_of request.unit) (wanted_in modules request.unit) scope part e ports items before)
 
+whole_paths : (modules : SourceTree) → list_all is_named modules ≡ true → (m : ModuleTree) → is_path m.name ≡ true → is_named m ≡ true →
+    all_paths (whole_of modules m).variables ≡ true
+unfolding whole_of
+whole_paths modules named m e unit = grown_paths modules named 16 nothing (top_request m) e unit refl
+
 -- ---- one by one
 
 path_at : (vs : List Variable) → all_paths vs ≡ true → (i : ℕ) (v : Variable) → slice_get vs i ≡ Some v → is_path v.name ≡ true
@@ -348,7 +353,7 @@ behind_none (x ∷ xs) ys e = cc
 
 rules_right : (tree : SourceTree) (top : Option Text) (m : ModuleTree) → top_of tree top ≡ Some m → broken_rules tree top ≡ [] → design_rules (whole_of tree m) ≡ []
 rules_right tree top m is e =
-    behind_none (broken_grown 16 tree nothing (top_request m)) (design_rules (whole_of tree m))
+    behind_none (broken_whole tree m) (design_rules (whole_of tree m))
     (sym (ap (broken_top tree) is) ∙ behind_none (rules_in (broken_if (has_double (module_names tree)) Doubled ∷ [])) (broken_top tree (top_of tree top)) e)
 
 pub named_by : (words : List Text) (tree : SourceTree) (top : Option Text) (scale : Timescale) (design : Design) →
@@ -360,5 +365,5 @@ named_by words tree top scale design derives elaborates =
     let part : Part = whole_of tree m in
     subst AreNamed (sym elaborates.describes)
     (design_named scale m part unit
-    (grown_paths tree all 16 nothing (top_request m) (name_is_path m.name (letters m.name (and_left (is_name m.name) (ports_are_named m && list_all item_is_named m.items) unit))) unit refl)
+    (whole_paths tree all m (name_is_path m.name (letters m.name (and_left (is_name m.name) (ports_are_named m && list_all item_is_named m.items) unit))) unit)
     (none_doubled (has_double (variable_paths part)) (none_was _ _ (front_none (rules_in (path_rules part)) _ (rules_right tree top m elaborates.is_top elaborates.right)))))

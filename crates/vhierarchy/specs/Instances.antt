@@ -283,9 +283,12 @@ top_request m = record {
   ties = [];
 }
 
--- 16 levels, the top among them
-abbrev pub whole_of : SourceTree → ModuleTree → Part
+-- 16 levels, the top among them, and the rules that they break
+unfoldable pub whole_of : SourceTree → ModuleTree → Part
 whole_of modules m = grown 16 modules nothing (top_request m)
+
+unfoldable pub broken_whole : SourceTree → ModuleTree → List Rule
+broken_whole modules m = broken_grown 16 modules nothing (top_request m)
 
 -- under the timescale of the text (19.8)
 abbrev pub design_by : Timescale → ModuleTree → Part → design.Design
@@ -359,7 +362,7 @@ design_rules part = rules_in (path_rules part) ++ rules_in (table_rules part)
 
 abbrev pub broken_top : SourceTree → Option ModuleTree → List Rule
 broken_top modules None = rule.Top ∷ []
-broken_top modules (Some m) = broken_grown 16 modules nothing (top_request m) ++ design_rules (whole_of modules m)
+broken_top modules (Some m) = broken_whole modules m ++ design_rules (whole_of modules m)
 
 -- the rules that a text breaks
 abbrev pub broken_rules : SourceTree → Option Text → List Rule

@@ -9,7 +9,7 @@ ghost use Rattle.vmodules.specs.Names.{has_double};
 ghost use Rattle.vmodules.specs.Inner.{unit_names, units_tree, named_text};
 ghost use Rattle.velab.specs.Rules.{rules_in, broken_if, unless, IsBroken};
 ghost use Rattle.vhierarchy.specs.Instances as spec;
-ghost use Rattle.vhierarchy.specs.Instances.{Elaborates, path_rules, top_request, whole_of};
+ghost use Rattle.vhierarchy.specs.Instances.{Elaborates, broken_whole, path_rules, whole_of};
 ghost use Rattle.vhierarchy.specs.Reasons.{IsDesignReason, IsOnlyDesign, HasNoDesign};
 ghost use Rattle.vhierarchy.specs.Inner.{BreaksOf, named_design, scope_names, variable_names};
 
@@ -35,8 +35,12 @@ use vmodules::hierarchy::{Modules, modules_of, top_of};
 use vmodules::letters::letters;
 use vmodules::names::Names;
 
-/// The most levels of instances, the top among them.
-const MOST_LEVELS: u32 = 16;
+// The most levels of instances, the top among them.
+fn most_levels() -> u32
+    ensures { result ≡ 16 }
+{
+    16
+}
 
 // The top and all below it.
 fn whole_part<'t, 'u>(
@@ -46,10 +50,10 @@ fn whole_part<'t, 'u>(
 ) -> Result<Part, OrMemory<ElabFault>>
     ensures ok { IfOk result (λ part.
         part ≡ whole_of (units_tree modules.now) (module_tree modules.now.words unit.now)) }
-    ensures right { OnOk result (spec.broken_grown 16 (units_tree modules.now) spec.nothing
-        (top_request (module_tree modules.now.words unit.now)) ≡ []) }
-    ensures err { IfFault result (BreaksOf (spec.broken_grown 16 (units_tree modules.now) spec.nothing
-        (top_request (module_tree modules.now.words unit.now)))) }
+    ensures right { OnOk result (broken_whole (units_tree modules.now)
+        (module_tree modules.now.words unit.now) ≡ []) }
+    ensures err { IfFault result (BreaksOf (broken_whole (units_tree modules.now)
+        (module_tree modules.now.words unit.now))) }
 {
     let name = letters(modules.tokens(), unit.name);
     let names = Names::new(alloc);
@@ -77,7 +81,7 @@ fn whole_part<'t, 'u>(
         ties: &ties,
     };
     let mut part = Part::new(alloc);
-    put_unit(alloc, modules, MOST_LEVELS, &request, &mut part)?;
+    put_unit(alloc, modules, most_levels(), &request, &mut part)?;
     Ok(part)
 }
 

@@ -1,0 +1,42 @@
+use Rattle.std.proofs.Common.{List, ap, sym, ◌∙◌}
+use Rattle.basis.proofs.Results.{on_ok, on_ok_value}
+use Rattle.vast.specs.Words.{Text}
+use Rattle.vast.specs.Modules.{ModuleTree, SourceTree}
+use Rattle.vast.specs.ModuleTrees.{module_tree}
+use Rattle.vmodules.specs.Inner.{units_tree}
+use Rattle.velab.proofs.FaultLemmas.{handed_on}
+use Rattle.vhierarchy.specs.Instances.{broken_whole, design_by, design_rules, whole_of}
+use Rattle.vhierarchy.proofs.GrowLemmas.{front_err, back_err, both_none, same_rules, fault_leads}
+use Rattle.vhierarchy.proofs.design.design_of.Goals as goal
+
+pub returns-in_err-part-clause-err : goal.returns-in_err-part-clause-err
+returns-in_err-part-clause-err c =
+    let words : List Text = c.args.modules.now.words in
+    let modules : SourceTree = units_tree c.args.modules.now in
+    let m : ModuleTree = module_tree words c.args.unit.now in
+    handed_on _ c.from_residual.result c.in_err-part.field-0.0 c.from_residual.ensures.1
+    (front_err (broken_whole modules m) (design_rules (whole_of modules m)) c.in_err-part.field-0.0 c.in_err-part.ensures.err)
+
+pub returns-clause-ok : goal.returns-clause-ok
+returns-clause-ok c =
+    on_ok_value c.checked.result
+    (λ design is. is ∙ (λ i. design_by c.args.scale (module_tree (c.tokens.ensures i) c.args.unit.now) (c.in_ok-part.ensures.ok i)))
+    c.checked.ensures.ok
+
+pub returns-clause-right : goal.returns-clause-right
+returns-clause-right c =
+    let words : List Text = c.args.modules.now.words in
+    let modules : SourceTree = units_tree c.args.modules.now in
+    let m : ModuleTree = module_tree words c.args.unit.now in
+    on_ok c.checked.result
+    (λ right. both_none (broken_whole modules m) (design_rules (whole_of modules m)) c.in_ok-part.ensures.right (ap design_rules (sym c.in_ok-part.ensures.ok) ∙ right))
+    c.checked.ensures.right
+
+pub returns-clause-err : goal.returns-clause-err
+returns-clause-err c =
+    let words : List Text = c.args.modules.now.words in
+    let modules : SourceTree = units_tree c.args.modules.now in
+    let m : ModuleTree = module_tree words c.args.unit.now in
+    fault_leads c.checked.result _ _
+    (λ e h. back_err (broken_whole modules m) (design_rules (whole_of modules m)) e (same_rules _ _ e (ap design_rules c.in_ok-part.ensures.ok) h))
+    c.checked.ensures.err
