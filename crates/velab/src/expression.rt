@@ -17,7 +17,6 @@ ghost use Rattle.velab.specs.Rules.{IsBroken};
 
 use crate::constant::{count_in, part_bounds, worth_of};
 use crate::fault::{ElabFault, Rule};
-use vmodules::letters::letters;
 use crate::number::constant_of;
 use crate::scope::{Meaning, Scope, named};
 use basis::OrMemory;
@@ -27,6 +26,7 @@ use vast::token::Token;
 use vbits::Vec4;
 use vdesign::expression::{Bounds, Constant, Expression, Node};
 use vlex::Tokens;
+use vmodules::letters::letters;
 use vvalue::flaw::is_part;
 use vvalue::select::part_of;
 

@@ -10,11 +10,7 @@ use basis::OrMemory;
 use vmodules::names::Names;
 
 /// Adds a name, the token of this number, behind the others. E302 where it is among them.
-pub fn note<'t>(
-    names: &mut Names<'t>,
-    text: &'t [u8],
-    at: u32,
-) -> Result<(), OrMemory<ElabFault>>
+pub fn note<'t>(names: &mut Names<'t>, text: &'t [u8], at: u32) -> Result<(), OrMemory<ElabFault>>
     ensures added { OnOk result (names.new ≡ names.old ++ text.now ∷ []) }
     ensures unique { has_double names.new ≡ false }
     ensures fresh { OnOk result (is_declared names.old text.now ≡ false) }

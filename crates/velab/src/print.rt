@@ -13,7 +13,6 @@ ghost use Rattle.velab.specs.Prints as spec;
 
 use crate::expression::expression_of;
 use crate::fault::{ElabFault, Rule};
-use vmodules::letters::letters;
 use crate::scope::Scope;
 use basis::{NoMemory, OrMemory};
 use format_text::Printer;
@@ -22,6 +21,7 @@ use vast::expression::Expression as Value;
 use vast::statement::{Argument, Printing};
 use vdesign::print::{Pieces, When};
 use vlex::Tokens;
+use vmodules::letters::letters;
 
 /// When a print task prints (17.1.1, 17.1.2, 17.1.3).
 pub fn when_of(kind: Printing) -> When

@@ -9,14 +9,14 @@ ghost use Rattle.velab.specs.Scopes as spec;
 ghost use Rattle.velab.specs.Scopes.{broken_variable, broken_event};
 
 use crate::fault::{ElabFault, Rule};
-use vmodules::letters::letters;
-use vmodules::names::Names;
 use basis::OrMemory;
 use std::marker::Model;
 use vast::token::Token;
 use vbits::Vec4;
 use vdesign::expression::Bounds;
 use vlex::Tokens;
+use vmodules::letters::letters;
+use vmodules::names::Names;
 
 /// What a name stands for.
 #[derive(Clone, Copy, Debug)]

@@ -104,7 +104,10 @@ pub fn selected(
 {
     match selection {
         None => Ok(Selection::everything(alloc)),
-        Some(selection) => match constant_of(letters(tokens, selection.levels)).value.to_u64() {
+        Some(selection) => match constant_of(letters(tokens, selection.levels))
+            .value
+            .to_u64()
+        {
             None => Err(OrMemory::Fault(ElabFault {
                 rule: Rule::Kind,
                 at: Some(selection.levels.number),

@@ -18,7 +18,6 @@ ghost use Rattle.velab.specs.Rules.{IsBroken};
 
 use crate::expression::{alone, expression_of, expression_of_name};
 use crate::fault::ElabFault;
-use vmodules::letters::letters;
 use crate::number::constant_of;
 use crate::parameter::given_count;
 use crate::print::{pieces_in, when_of};
@@ -40,6 +39,7 @@ use vdesign::dump::DumpSwitch;
 use vdesign::expression::{Expression, Node};
 use vdesign::print::Pieces;
 use vlex::Tokens;
+use vmodules::letters::letters;
 
 /// Actions in the order in which they are come to, and for each the number of the token that its statement begins with. A
 /// clause sees the actions.

@@ -12,8 +12,8 @@ ghost use Rattle.velab.specs.Inner.{port_variables, given_in, integers_item, kin
 ghost use Rattle.velab.specs.Rules.{IsBroken};
 ghost use Rattle.velab.specs.Scopes.{Scope as Known};
 
-use crate::home::Home;
 use crate::fault::ElabFault;
+use crate::home::Home;
 use crate::parameter::given_count;
 use crate::range::{range_bounds, span};
 use crate::scope::Scope;
@@ -75,7 +75,12 @@ fn start_of(home: &Home<'_, '_>, kind: Kind, name: &[u8]) -> Bit4
     }
 }
 
-fn variable(alloc: Global, home: &Home<'_, '_>, form: Form, name: &[u8]) -> Result<Variable, NoMemory>
+fn variable(
+    alloc: Global,
+    home: &Home<'_, '_>,
+    form: Form,
+    name: &[u8],
+) -> Result<Variable, NoMemory>
     requires { IsNarrow form.bounds }
     ensures { IfOk result (λ v. v ≡ variable_in home.now form name.now) }
 {

@@ -1,5 +1,5 @@
 -- Faults of the modules' names, of the top and of the whole, and what they say of a text.
-use Rattle.std.proofs.Common.{◌≡◌, ◌<◌, ℕ, ◌+◌, length, drop, get_or, List, [], ◌∷◌, ◌++◌, map, inl, Option, Some, None, Bool, true, false, Result, Ok, Err, IfOk, OnOk, IsErrAnd, refl, sym, ap, subst, ◌∙◌}
+use Rattle.std.proofs.Common.{◌≡◌, ◌<◌, ℕ, ◌+◌, length, drop, get_or, List, [], ◌∷◌, ◌++◌, inl, Option, Some, None, false, Result, Ok, Err, IfOk, OnOk, IsErrAnd, refl, sym, ap, subst, ◌∙◌}
 use Rattle.vast.specs.Words.{Text}
 use Rattle.vast.specs.Modules.{ConnectionTree, ModuleTree, SourceTree}
 use Rattle.basis.specs.declared.memory.OrMemory.{OrMemory}
@@ -15,7 +15,7 @@ use Rattle.velab.specs.declared.fault.ElabFault.{ElabFault}
 use Rattle.velab.specs.Rules.{broken_if, IsBroken, Breaks, rules_in}
 use Rattle.velab.proofs.ListLemmas.{drop_at}
 use Rattle.velab.proofs.VariableLemmas.{name_stops}
-use Rattle.velab.proofs.FaultLemmas.{still, if_more, breaks_here, breaks_later, front_breaks, back_breaks, none_first}
+use Rattle.velab.proofs.FaultLemmas.{still, if_more, breaks_here, breaks_later, front_breaks, back_breaks}
 use Rattle.vhierarchy.specs.Instances.{Part, Request, nothing, top_request, grown, broken_grown, broken_rules, broken_top, broken_whole, whole_of, design_by, Elaborates}
 use Rattle.vhierarchy.specs.Reasons.{IsDesignReason}
 use Rattle.vhierarchy.specs.Inner.{BreaksOf, variable_names, scope_names}

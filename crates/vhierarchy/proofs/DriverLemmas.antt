@@ -1,6 +1,6 @@
 -- The names of nets that are driven, one after another.
-use Rattle.std.proofs.Common.{◌≡◌, ◌<◌, ℕ, ◌+◌, Bool, true, false, ap, sym, List, [], ◌∷◌, ◌++◌, length, drop, get_or, append-nil, Option, None, Some, refl}
-use Rattle.std.specs.List.{cons_option, flat_map}
+use Rattle.std.proofs.Common.{◌≡◌, ◌<◌, ℕ, ◌+◌, ap, sym, List, [], ◌∷◌, ◌++◌, length, drop, get_or, append-nil, Option, None, Some, refl}
+use Rattle.std.specs.List.{cons_option}
 use Rattle.basis.specs.Reasons.{Because}
 use Rattle.basis.specs.declared.memory.OrMemory.{OrMemory}
 use Rattle.vast.specs.Words.{Text}

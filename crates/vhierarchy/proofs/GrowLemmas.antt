@@ -1,25 +1,21 @@
 -- An instance and all below it: what its parts say of the whole.
-use Rattle.std.proofs.Common.{inl, ◌≡◌, ◌<◌, ℕ, suc, ◌+◌, ◌^◌, Option, None, Some, List, [], ◌∷◌, ◌++◌, length, map, drop, get_or, Result, Ok, Err, refl, sym, ap, subst, ◌∙◌, arith}
+use Rattle.std.proofs.Common.{inl, ◌≡◌, ◌<◌, ℕ, suc, ◌+◌, Option, None, List, [], ◌∷◌, ◌++◌, length, drop, get_or, Result, Ok, Err, refl, sym, ap, subst, ◌∙◌, arith}
 use Rattle.std.specs.List.{fold, flat_map}
 use Rattle.basis.specs.Reasons.{Because, IfFault}
 use Rattle.basis.specs.declared.memory.OrMemory.{OrMemory}
 use Rattle.basis.specs.declared.memory.OrMemory.TheVariants.{Fault, Memory}
-use Rattle.vast.specs.Words.{Text}
 use Rattle.vast.specs.Modules.{ModuleTree, SourceTree}
-use Rattle.vast.specs.ModuleTrees.{item_tree}
-use Rattle.vast.specs.declared.module.ModuleItem.{ModuleItem}
 use Rattle.vmodules.specs.Ports.{Port, ports_of}
 use Rattle.vmodules.specs.Inner.{Units, units_tree}
 use Rattle.velab.specs.declared.fault.Rule.{Rule}
 use Rattle.velab.specs.declared.fault.Rule.TheVariants.{Depth}
 use Rattle.velab.specs.declared.fault.ElabFault.{ElabFault}
 use Rattle.velab.specs.Rules.{Breaks, IsBroken, rules_in}
-use Rattle.velab.specs.Scopes.{Scope, at}
+use Rattle.velab.specs.Scopes.{Scope}
 use Rattle.velab.specs.Elaborate.{Outside, Base, Given, given_by, given_in_head, with_given, with_all, first_scope, head_scope, whole_scope}
-use Rattle.velab.specs.Inner.{given_in}
 use Rattle.velab.proofs.ListLemmas.{drop_at}
 use Rattle.velab.proofs.FaultLemmas.{front_breaks, back_breaks, breaks_here}
-use Rattle.vhierarchy.specs.Instances.{Wanted, wanted_from, wanted_in, broken_among, Part, Request, base_of, inside, name_rules, own_by, own_rules_by, with_own, own_rules, asked, grown, broken_each, broken_grown}
+use Rattle.vhierarchy.specs.Instances.{Wanted, wanted_in, broken_among, Part, Request, inside, name_rules, own_by, own_rules_by, with_own, own_rules, asked, grown, broken_each, broken_grown}
 use Rattle.vhierarchy.specs.Inner.{BreaksOf, request_tree, wanted_tree, wanted_trees, each_grown, each_broken_grown, one_grown, one_broken}
 use Rattle.vhierarchy.specs.declared.wanted.Wanted.{Wanted as Found}
 use Rattle.vhierarchy.specs.declared.request.Request.{Request as Asked}

@@ -1,7 +1,7 @@
 -- The names of a design are names where those of its text are: paths of the grammar's names, one for each variable.
 use Rattle.std.proofs.Common.{◌≡◌, ◌≢◌, ℕ, zero, suc, ◌<◌, ◌+◌, Bool, true, false, ◌&&◌, ◌||◌, ◌==◌, not, List, [], ◌∷◌, ◌++◌, map, length, Option, Some, None, refl, sym, ap, subst, ◌∙◌, true≢false, arith}
 use Rattle.std.specs.Prelude.{slice_get, cond, nat_le, filter}
-use Rattle.std.specs.List.{fold, list_all, list_any, flat_map, find}
+use Rattle.std.specs.List.{fold, list_all, find}
 use Rattle.std.specs.Option.{option_or}
 use Rattle.std.specs.Str.{bytes_eq}
 use Rattle.std.proofs.lemmas.List.Folds.{list_all-append}
@@ -10,7 +10,7 @@ use Rattle.basis.proofs.Bools.{and_left, and_right, and_both, or_left, or_right,
 use Rattle.basis.specs.declared.timescale.Timescale.{Timescale}
 use Rattle.vast.specs.Words.{Text, begins_name, is_in_name, is_name, is_reserved}
 use Rattle.vast.specs.Names.{has_letters_of_name, is_path_from, is_path}
-use Rattle.vast.specs.Modules.{ConnectionsTree, InstanceTree, ItemTree, parameters, declaration, variables, integers, events, assignments, initial, always, instances, DeclarationKind, DirectionTree, input, output, PortTree, ModuleTree, SourceTree, DerivesText, DeclaredTree, fits, fits_module, fits_item, fits_declared, fits_optional, fits_optional_parameters, fits_optional_ports, fits_ports, fits_port, fits_direction, fits_declaration_kind, fits_overrides, fits_instance, fits_connections, is_directed, are_some}
+use Rattle.vast.specs.Modules.{ConnectionsTree, InstanceTree, ItemTree, parameters, declaration, variables, integers, events, assignments, initial, always, instances, DeclarationKind, DirectionTree, input, output, PortTree, ModuleTree, SourceTree, DerivesText, DeclaredTree, fits, fits_module, fits_item, fits_declared, fits_optional, fits_optional_parameters, fits_optional_ports, fits_port, fits_direction, fits_declaration_kind, fits_overrides, fits_instance, fits_connections, is_directed, are_some}
 use Rattle.vmodules.specs.Names.{has_double, is_declared}
 use Rattle.vmodules.specs.Hierarchy.{instantiated, module_names, module_of, roots, only_of, top_of}
 use Rattle.vmodules.specs.Ports.{Port, port_by, ports_behind, ports_listed, ports_of}

@@ -1,9 +1,8 @@
 -- What the steps of elaboration over instances are told by and answer; nothing here has to be believed.
-use Rattle.std.specs.Prelude.{◌≡◌, ℕ, List, ◌++◌, map, Option, None, Some, option_map}
+use Rattle.std.specs.Prelude.{◌≡◌, ℕ, List, ◌++◌, map, Option, option_map}
 use Rattle.std.specs.List.{fold, flat_map}
 use Rattle.vast.specs.Words.{Text}
 use Rattle.vast.specs.TokenTexts.{token_text}
-use Rattle.vast.specs.Modules.{ConnectionTree, ConnectionsTree, ModuleTree, SourceTree}
 use Rattle.vast.specs.ModuleTrees.{module_tree, item_tree, instance_tree, connections_tree}
 use Rattle.vast.specs.declared.module.ModuleItem.{ModuleItem}
 use Rattle.vast.specs.declared.module.Instance.{Instance}

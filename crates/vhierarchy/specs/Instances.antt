@@ -1,5 +1,5 @@
 -- `Elaborates modules top scale design`: the design that a text stands for, by recursion over instances (IEEE 1364-2005, clause 12).
-use Rattle.std.specs.Prelude.{◌≡◌, ℕ, zero, suc, ◌+◌, nat_le, Bool, cond, List, [], ◌∷◌, ◌++◌, map, length, Option, None, Some}
+use Rattle.std.specs.Prelude.{◌≡◌, ℕ, zero, suc, ◌+◌, nat_le, cond, List, [], ◌∷◌, ◌++◌, map, length, Option, None, Some}
 use Rattle.std.specs.List.{fold, list_all, flat_map, filter_map}
 use Rattle.std.specs.Option.{option_or}
 use Rattle.basis.specs.declared.timescale.Timescale.{Timescale}

@@ -12,8 +12,8 @@ ghost use Rattle.vrace.specs.declared.replay.Show.{Show};
 
 use report_text::report_text_law;
 use sched_core::law::log_text_law;
-use vhierarchy::law::elaboration_law;
 use vgrammar::source_law::source_law;
+use vhierarchy::law::elaboration_law;
 use vlex::law::lexing_law;
 use vreport::agreement_law;
 

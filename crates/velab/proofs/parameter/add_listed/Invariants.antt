@@ -8,10 +8,8 @@ use Rattle.velab.proofs.parameter.add_listed.Given as goal
 abbrev pub invariant-loop-head : goal.invariant-loop-head
 invariant-loop-head l = record {
   ok : with_all (outside_tree (words_of l.tokens) l.outside) l.into (given_behind (type_of (words_of l.tokens) l.kind) (map (head_parameter (words_of l.tokens)) (drop l.head-index l.list)))
-     
       ≡ with_all (outside_tree (words_of l.tokens) l.outside) l.initial.into (given_behind None (map (head_parameter (words_of l.tokens)) l.list));
   right : broken_all (outside_tree (words_of l.tokens) l.outside) l.into (given_behind (type_of (words_of l.tokens) l.kind) (map (head_parameter (words_of l.tokens)) (drop l.head-index l.list)))
-     
       ≡ broken_all (outside_tree (words_of l.tokens) l.outside) l.initial.into (given_behind None (map (head_parameter (words_of l.tokens)) l.list));
   variables : l.into.variables ≡ l.initial.into.variables;
 }

@@ -23,14 +23,14 @@ returns-in-Some-clause-design c =
     let top : Option Text = named_text c.args.top in
     let m : ModuleTree = module_tree c.in_ok-modules.modules.words c.in-Some.unit.now in
     let trees : units_tree c.in_ok-modules.modules ≡ tree =
-        ap units_tree c.in_ok-modules.ensures.ok ∙ ap (λ (list : List Parsed). map (module_tree words) list) c.deref.ensures.value in
+    ap units_tree c.in_ok-modules.ensures.ok ∙ ap (λ (list : List Parsed). map (module_tree words) list) c.deref.ensures.value in
     let is_top : top_of tree top ≡ Some m =
-        ap (λ (modules : SourceTree). top_of modules top) (sym trees) ∙ sym c.in_ok-unit.ensures ∙ ap (unit_tree c.in_ok-modules.modules.words) c.in-Some.is in
+    ap (λ (modules : SourceTree). top_of modules top) (sym trees) ∙ sym c.in_ok-unit.ensures ∙ ap (unit_tree c.in_ok-modules.modules.words) c.in-Some.is in
     let elaborates : IfOk c.design_of.result (Elaborates tree top c.args.scale) =
-        top_elaborates c.design_of.result tree top c.args.scale m is_top
-        (subst (λ (list : List Parsed). has_double (unit_names words list) ≡ false) c.deref.ensures.value c.in_ok-modules.ensures.once)
-        (subst (λ (modules : SourceTree). IfOk c.design_of.result (λ design. design ≡ design_by c.args.scale m (whole_of modules m))) trees c.design_of.ensures.ok)
-        (subst (λ (modules : SourceTree). OnOk c.design_of.result (broken_top modules (Some m) ≡ [])) trees c.design_of.ensures.right) in
+    top_elaborates c.design_of.result tree top c.args.scale m is_top
+    (subst (λ (list : List Parsed). has_double (unit_names words list) ≡ false) c.deref.ensures.value c.in_ok-modules.ensures.once)
+    (subst (λ (modules : SourceTree). IfOk c.design_of.result (λ design. design ≡ design_by c.args.scale m (whole_of modules m))) trees c.design_of.ensures.ok)
+    (subst (λ (modules : SourceTree). OnOk c.design_of.result (broken_top modules (Some m) ≡ [])) trees c.design_of.ensures.right) in
     elaborates
 
 pub returns-in-Some-clause-only : goal.returns-in-Some-clause-only
@@ -40,14 +40,14 @@ returns-in-Some-clause-only c =
     let top : Option Text = named_text c.args.top in
     let m : ModuleTree = module_tree c.in_ok-modules.modules.words c.in-Some.unit.now in
     let trees : units_tree c.in_ok-modules.modules ≡ tree =
-        ap units_tree c.in_ok-modules.ensures.ok ∙ ap (λ (list : List Parsed). map (module_tree words) list) c.deref.ensures.value in
+    ap units_tree c.in_ok-modules.ensures.ok ∙ ap (λ (list : List Parsed). map (module_tree words) list) c.deref.ensures.value in
     let is_top : top_of tree top ≡ Some m =
-        ap (λ (modules : SourceTree). top_of modules top) (sym trees) ∙ sym c.in_ok-unit.ensures ∙ ap (unit_tree c.in_ok-modules.modules.words) c.in-Some.is in
+    ap (λ (modules : SourceTree). top_of modules top) (sym trees) ∙ sym c.in_ok-unit.ensures ∙ ap (unit_tree c.in_ok-modules.modules.words) c.in-Some.is in
     let elaborates : IfOk c.design_of.result (Elaborates tree top c.args.scale) =
-        top_elaborates c.design_of.result tree top c.args.scale m is_top
-        (subst (λ (list : List Parsed). has_double (unit_names words list) ≡ false) c.deref.ensures.value c.in_ok-modules.ensures.once)
-        (subst (λ (modules : SourceTree). IfOk c.design_of.result (λ design. design ≡ design_by c.args.scale m (whole_of modules m))) trees c.design_of.ensures.ok)
-        (subst (λ (modules : SourceTree). OnOk c.design_of.result (broken_top modules (Some m) ≡ [])) trees c.design_of.ensures.right) in
+    top_elaborates c.design_of.result tree top c.args.scale m is_top
+    (subst (λ (list : List Parsed). has_double (unit_names words list) ≡ false) c.deref.ensures.value c.in_ok-modules.ensures.once)
+    (subst (λ (modules : SourceTree). IfOk c.design_of.result (λ design. design ≡ design_by c.args.scale m (whole_of modules m))) trees c.design_of.ensures.ok)
+    (subst (λ (modules : SourceTree). OnOk c.design_of.result (broken_top modules (Some m) ≡ [])) trees c.design_of.ensures.right) in
     on_ok_value c.design_of.result (λ design is other also. one_design tree top c.args.scale other design also is) elaborates
 
 pub returns-in-Some-clause-reason : goal.returns-in-Some-clause-reason
@@ -57,12 +57,12 @@ returns-in-Some-clause-reason c =
     let top : Option Text = named_text c.args.top in
     let m : ModuleTree = module_tree c.in_ok-modules.modules.words c.in-Some.unit.now in
     let trees : units_tree c.in_ok-modules.modules ≡ tree =
-        ap units_tree c.in_ok-modules.ensures.ok ∙ ap (λ (list : List Parsed). map (module_tree words) list) c.deref.ensures.value in
+    ap units_tree c.in_ok-modules.ensures.ok ∙ ap (λ (list : List Parsed). map (module_tree words) list) c.deref.ensures.value in
     let is_top : top_of tree top ≡ Some m =
-        ap (λ (modules : SourceTree). top_of modules top) (sym trees) ∙ sym c.in_ok-unit.ensures ∙ ap (unit_tree c.in_ok-modules.modules.words) c.in-Some.is in
+    ap (λ (modules : SourceTree). top_of modules top) (sym trees) ∙ sym c.in_ok-unit.ensures ∙ ap (unit_tree c.in_ok-modules.modules.words) c.in-Some.is in
     let reason : IfFault c.design_of.result (IsDesignReason tree top) =
-        top_reason c.design_of.result tree top m is_top
-        (subst (λ (modules : SourceTree). IfFault c.design_of.result (BreaksOf (broken_top modules (Some m)))) trees c.design_of.ensures.err) in
+    top_reason c.design_of.result tree top m is_top
+    (subst (λ (modules : SourceTree). IfFault c.design_of.result (BreaksOf (broken_top modules (Some m)))) trees c.design_of.ensures.err) in
     reason
 
 pub returns-in-Some-clause-none : goal.returns-in-Some-clause-none
@@ -72,10 +72,10 @@ returns-in-Some-clause-none c =
     let top : Option Text = named_text c.args.top in
     let m : ModuleTree = module_tree c.in_ok-modules.modules.words c.in-Some.unit.now in
     let trees : units_tree c.in_ok-modules.modules ≡ tree =
-        ap units_tree c.in_ok-modules.ensures.ok ∙ ap (λ (list : List Parsed). map (module_tree words) list) c.deref.ensures.value in
+    ap units_tree c.in_ok-modules.ensures.ok ∙ ap (λ (list : List Parsed). map (module_tree words) list) c.deref.ensures.value in
     let is_top : top_of tree top ≡ Some m =
-        ap (λ (modules : SourceTree). top_of modules top) (sym trees) ∙ sym c.in_ok-unit.ensures ∙ ap (unit_tree c.in_ok-modules.modules.words) c.in-Some.is in
+    ap (λ (modules : SourceTree). top_of modules top) (sym trees) ∙ sym c.in_ok-unit.ensures ∙ ap (unit_tree c.in_ok-modules.modules.words) c.in-Some.is in
     let reason : IfFault c.design_of.result (IsDesignReason tree top) =
-        top_reason c.design_of.result tree top m is_top
-        (subst (λ (modules : SourceTree). IfFault c.design_of.result (BreaksOf (broken_top modules (Some m)))) trees c.design_of.ensures.err) in
+    top_reason c.design_of.result tree top m is_top
+    (subst (λ (modules : SourceTree). IfFault c.design_of.result (BreaksOf (broken_top modules (Some m)))) trees c.design_of.ensures.err) in
     no_design c.design_of.result tree top reason

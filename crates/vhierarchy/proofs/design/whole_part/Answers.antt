@@ -18,7 +18,7 @@ returns-in_err-put_unit-clause-err c =
     let modules : SourceTree = units_tree c.args.modules.now in
     let m : ModuleTree = module_tree words c.args.unit.now in
     let is_top = top_is m c.letters-name.result.now c.new-names.result (ties_tree words c.new-ties.result)
-        (c.letters-name.ensures ∙ ap (λ (ws : List Text). token_text ws c.args.unit.now.name) c.tokens.ensures) c.new-names.ensures (ap (ties_tree words) c.new-ties.ensures) in
+    (c.letters-name.ensures ∙ ap (λ (ws : List Text). token_text ws c.args.unit.now.name) c.tokens.ensures) c.new-names.ensures (ap (ties_tree words) c.new-ties.ensures) in
     handed_on _ c.from_residual.result c.in_err-put_unit.field-0.0 c.from_residual.ensures.1
     (same_rules _ _ c.in_err-put_unit.field-0.0 (broken_whole_is modules m c.most_levels.result c.new-part.result _ c.most_levels.ensures c.new-part.ensures is_top) c.in_err-put_unit.ensures.err)
 
@@ -28,7 +28,7 @@ returns-clause-ok c =
     let modules : SourceTree = units_tree c.args.modules.now in
     let m : ModuleTree = module_tree words c.args.unit.now in
     let is_top = top_is m c.letters-name.result.now c.new-names.result (ties_tree words c.new-ties.result)
-        (c.letters-name.ensures ∙ ap (λ (ws : List Text). token_text ws c.args.unit.now.name) c.tokens.ensures) c.new-names.ensures (ap (ties_tree words) c.new-ties.ensures) in
+    (c.letters-name.ensures ∙ ap (λ (ws : List Text). token_text ws c.args.unit.now.name) c.tokens.ensures) c.new-names.ensures (ap (ties_tree words) c.new-ties.ensures) in
     c.in_ok-put_unit.ensures.ok ∙ whole_is modules m c.most_levels.result c.new-part.result _ c.most_levels.ensures c.new-part.ensures is_top
 
 pub returns-clause-right : goal.returns-clause-right
@@ -37,5 +37,5 @@ returns-clause-right c =
     let modules : SourceTree = units_tree c.args.modules.now in
     let m : ModuleTree = module_tree words c.args.unit.now in
     let is_top = top_is m c.letters-name.result.now c.new-names.result (ties_tree words c.new-ties.result)
-        (c.letters-name.ensures ∙ ap (λ (ws : List Text). token_text ws c.args.unit.now.name) c.tokens.ensures) c.new-names.ensures (ap (ties_tree words) c.new-ties.ensures) in
+    (c.letters-name.ensures ∙ ap (λ (ws : List Text). token_text ws c.args.unit.now.name) c.tokens.ensures) c.new-names.ensures (ap (ties_tree words) c.new-ties.ensures) in
     sym (broken_whole_is modules m c.most_levels.result c.new-part.result _ c.most_levels.ensures c.new-part.ensures is_top) ∙ c.in_ok-put_unit.ensures.right
