@@ -86,7 +86,7 @@ const EXPLANATIONS: [Explanation; 32] = [
     Explanation {
         number: 303,
         meaning: "a name that isn't declared in its module, a parameter in a constant that stands before it, or a path of $dumpvars to nothing",
-        example: "initial b = 1; without a reg b;; $dumpvars(0, tb.u); without an instance u",
+        example: "initial b = 1; without a reg b, $dumpvars(0, tb.u); without an instance u",
         advice: "declare it; only what a constant uses has to stand before it; a path begins with the top's name",
     },
     Explanation {
