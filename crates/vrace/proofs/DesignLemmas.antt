@@ -12,7 +12,7 @@ use Rattle.vhierarchy.specs.Reasons.{IsDesignReason, HasNoDesign}
 use Rattle.velab.specs.declared.fault.ElabFault.{ElabFault}
 use Rattle.vrace.specs.Replays.{AreRead, IsTreeOf, texts_of}
 use Rattle.vrace.specs.Unique.{IsCut, IsReadAs}
-use Rattle.vrace.specs.Refusals.{Breaks, IsTextReason, IsDesignFault, IsDesignless, IsTreeless}
+use Rattle.vrace.specs.Refusals.{Breaks, IsTextReason, IsDesignFault, IsTreeless}
 use Rattle.vrace.specs.declared.fault.Fault.{Fault}
 
 module _ (source : Source) (tokens : Tokenized) (cut : IsCut source tokens) where

@@ -1,5 +1,5 @@
 -- The only tokens of a text, and its only tree.
-use Rattle.std.specs.Prelude.{◌≡◌, ℕ, true, List}
+use Rattle.std.specs.Prelude.{◌≡◌, ℕ, List}
 use Rattle.vsrc.specs.Source.{Source}
 use Rattle.vlex.specs.Lexed.{IsOnlyLexed}
 use Rattle.vlex.specs.Tokenized.{Tokenized, pieces_of}
