@@ -1,12 +1,12 @@
 -- What a fault of a part says of the whole.
-use Rattle.std.proofs.Common.{◌≡◌, inl, inr, Option, Some, None, List, [], ◌∷◌, ◌++◌, Bool, true, false, Result, Ok, Err, IsErrAnd, refl, sym, ap, subst, ◌∙◌}
+use Rattle.std.proofs.Common.{◌≡◌, Option, Some, None, Bool, true, false, Result, Ok, Err, IsErrAnd, refl, sym, ap, subst, ◌∙◌}
 use Rattle.std.specs.Option.{option_or}
 use Rattle.basis.specs.declared.memory.OrMemory.{OrMemory}
 use Rattle.basis.specs.declared.memory.OrMemory.TheVariants.{Fault, Memory}
 use Rattle.basis.specs.Reasons.{Because, IfFault}
 use Rattle.velab.specs.declared.fault.Rule.{Rule}
 use Rattle.velab.specs.declared.fault.ElabFault.{ElabFault}
-use Rattle.velab.specs.Rules.{IsBroken, Breaks, broken_if, rules_in}
+use Rattle.velab.specs.Rules.{IsBroken, broken_if}
 
 -- a rule that a part breaks is broken by the whole
 pub still : (a b : Option Rule) → ((r : Rule) → a ≡ Some r → b ≡ Some r) → (e : OrMemory ElabFault) → Because (IsBroken a) e → Because (IsBroken b) e
@@ -32,35 +32,31 @@ pub handed_on : {T : Type 0} (P : ElabFault → Type 0) (result : Result T (OrMe
 handed_on P (Ok x) e h p = absurd h
 handed_on P (Err y) e h p = subst (Because P) (sym h) p
 
--- ---- lists of rules
+-- ---- one rule behind another
 
-pub breaks_here : (x : Option Rule) (more : List (Option Rule)) (r : Rule) → x ≡ Some r → Breaks (rules_in (x ∷ more)) r
-breaks_here x more r is = subst (λ o. Breaks (rules_in (o ∷ more)) r) (sym is) (inl refl)
+pub first_breaks : (a b : Option Rule) (e : OrMemory ElabFault) → Because (IsBroken a) e → Because (IsBroken (option_or a b)) e
+first_breaks a b = still a (option_or a b) (λ r h. ap (λ o. option_or o b) h)
 
-pub breaks_later : (x : Option Rule) (more : List (Option Rule)) (r : Rule) → Breaks (rules_in more) r → Breaks (rules_in (x ∷ more)) r
-breaks_later None more r h = h
-breaks_later (Some rule) more r h = inr h
+-- where the first isn't broken
+pub then_breaks : (a b : Option Rule) → a ≡ None → (e : OrMemory ElabFault) → Because (IsBroken b) e → Because (IsBroken (option_or a b)) e
+then_breaks a b right = still b (option_or a b) (λ r h. ap (λ o. option_or o b) right ∙ h)
 
-pub none_first : (x : Option Rule) (more : List (Option Rule)) → x ≡ None → rules_in more ≡ [] → rules_in (x ∷ more) ≡ []
-none_first x more is rest = ap (λ o. rules_in (o ∷ more)) is ∙ rest
+pub both_right : (a b : Option Rule) → a ≡ None → b ≡ None → option_or a b ≡ None
+both_right a b first second = ap (λ o. option_or o b) first ∙ second
 
-pub none_was : (x : Option Rule) (more : List (Option Rule)) → rules_in (x ∷ more) ≡ [] → x ≡ None
-none_was None more e = refl
-none_was (Some rule) more e = cc
+pub first_right : (a b : Option Rule) → option_or a b ≡ None → a ≡ None
+first_right None b e = refl
+first_right (Some r) b e = cc
 
-pub front_breaks : (xs ys : List Rule) (r : Rule) → Breaks xs r → Breaks (xs ++ ys) r
-front_breaks [] ys r h = absurd h
-front_breaks (x ∷ xs) ys r (inl h) = inl h
-front_breaks (x ∷ xs) ys r (inr h) = inr (front_breaks xs ys r h)
+pub then_right : (a b : Option Rule) → option_or a b ≡ None → b ≡ None
+then_right None b e = e
+then_right (Some r) b e = cc
 
-pub back_breaks : (xs ys : List Rule) (r : Rule) → Breaks ys r → Breaks (xs ++ ys) r
-back_breaks [] ys r h = h
-back_breaks (x ∷ xs) ys r h = inr (back_breaks xs ys r h)
+-- the same rule under another name
+pub same_rule : (a b : Option Rule) → a ≡ b → (e : OrMemory ElabFault) → Because (IsBroken a) e → Because (IsBroken b) e
+same_rule a b is e h = subst (λ (rule : Option Rule). Because (IsBroken rule) e) is h
 
-pub front_none : (xs ys : List Rule) → xs ++ ys ≡ [] → xs ≡ []
-front_none [] ys e = refl
-front_none (x ∷ xs) ys e = cc
-
-pub none_breaks : (xs : List Rule) (r : Rule) → Breaks xs r → xs ≡ [] → ⊥
-none_breaks [] r h e = h
-none_breaks (x ∷ xs) r h e = cc
+-- a rule isn't broken where none is
+pub not_both : (rule : Option Rule) (r : Rule) → rule ≡ Some r → rule ≡ None → ⊥
+not_both None r is none = cc
+not_both (Some other) r is none = cc

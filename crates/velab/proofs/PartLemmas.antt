@@ -15,7 +15,7 @@ use Rattle.vdesign.specs.declared.expression.Node.{Node}
 use Rattle.vdesign.specs.declared.expression.Node.TheVariants.{Conversion}
 use Rattle.velab.specs.declared.fault.ElabFault.{ElabFault}
 use Rattle.velab.specs.InnerParts.{before_part}
-use Rattle.velab.specs.Resolved.{resolved, resolved_parts, broken, broken_parts}
+use Rattle.velab.specs.Resolved.{resolved, resolved_parts, count_of, broken, broken_parts}
 use Rattle.velab.specs.declared.fault.Rule.{Rule}
 use Rattle.velab.specs.Rules.{IsBroken}
 use Rattle.velab.specs.Scopes.{Scope}
@@ -27,6 +27,11 @@ pub one_and_parts : {T : Type 0} (result : Result T (OrMemory ElabFault)) (old b
     between ≡ old ++ one ∷ [] → OnOk result (new ≡ between ++ rest) → OnOk result (new ≡ old ++ one ∷ rest)
 one_and_parts (Ok u) old between new rest one first is = is ∙ ap (λ ns. ns ++ rest) first ∙ append_assoc old (one ∷ []) rest
 one_and_parts (Err e) old between new rest one first is = tt
+
+-- as many trees as parts
+pub parts_counted : (words : List Text) (parts : List Expression) → count_of (trees_of words parts) ≡ length parts
+parts_counted words [] = refl
+parts_counted words (one ∷ more) = let rest = parts_counted words more in omega (arith, rest)
 
 -- what isn't empty
 pub some_of : (xs : List Expression) → (length xs == 0) ≡ false → 0 < length xs

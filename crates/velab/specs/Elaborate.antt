@@ -1,6 +1,6 @@
 -- What an instance of a module adds to a design (IEEE 1364-2005, clause 12): its names, its variables and its processes.
 use Rattle.std.specs.Prelude.{◌≡◌, ℕ, ◌+◌, ◌-◌, max, min, nat_le, nat_lt, Bool, true, false, ◌||◌, cond, List, [], ◌∷◌, ◌++◌, map, length, Option, None, Some, is_some, unwrap_or, option_map}
-use Rattle.std.specs.List.{list_any, list_all, flat_map, filter_map, find}
+use Rattle.std.specs.List.{filter, list_any, list_all, flat_map, filter_map, find}
 use Rattle.std.specs.Option.{option_or}
 use Rattle.std.specs.Borrow.{Bor}
 use Rattle.std.specs.Str.{bytes_eq}
@@ -37,7 +37,7 @@ use Rattle.velab.specs.declared.fault.Rule.{Rule}
 use Rattle.velab.specs.declared.fault.Rule.TheVariants as rule
 use Rattle.velab.specs.declared.scope.Meaning.{Meaning}
 use Rattle.velab.specs.declared.scope.Meaning.TheVariants.{Parameter, Event, Instance}
-use Rattle.velab.specs.Rules.{unless, broken_if, flaw_rule, rules_in}
+use Rattle.velab.specs.Rules.{unless, broken_if, flaw_rule}
 use Rattle.velab.specs.Scopes.{Scope, at, number_of, event_of, broken_name, broken_variable, broken_event}
 use Rattle.velab.specs.Constants.{nothing, worth, bound_in}
 use Rattle.velab.specs.Resolved.{resolved, broken_expression, broken_constant}
@@ -175,7 +175,7 @@ drivers_as (variables net.Wire type) list = filter_map driver_of list
 drivers_as (variables net.Reg type) list = []
 drivers_as integers list = []
 
--- the nets that an item drives, as often as it does (6.1)
+-- the names that an item drives, as often as it does (6.1)
 abbrev pub drivers_by : ItemTree → List Text
 drivers_by (parameters local type settings) = []
 drivers_by (declaration kind list) = drivers_as kind list
@@ -184,6 +184,19 @@ drivers_by (assignments settings) = map (λ setting. setting.name) settings
 drivers_by (initial statement) = []
 drivers_by (always statement) = []
 drivers_by (instances letters overrides list) = []
+
+abbrev pub is_wire : Kind → Bool
+is_wire Reg = false
+is_wire Integer = false
+is_wire Wire = true
+
+-- the nets among what is declared (4.2.1)
+abbrev pub net_names : List Declaration → List Text
+net_names list = map (λ d. d.name) (filter (λ d. is_wire d.kind) list)
+
+-- those of ports, and of what items declare
+abbrev pub nets_of : List Port → List ItemTree → List Text
+nets_of ports items = net_names (map port_declaration ports ++ flat_map declarations_of items)
 
 -- ---- parameters (4.10, 12.2), named events (9.7.3) and instances (12.1.2)
 
@@ -241,14 +254,14 @@ abbrev pub parameter_of : Scope → Option ParameterType → ExpressionTree → 
 parameter_of scope type value =
     let bounds = parameter_bounds scope type in Parameter (parameter_by type bounds value) bounds scope.known
 
--- 12.2.2: a value from outside stands in the place of the one that a parameter is set to
+-- 12.2.2: a value from outside stands in the place of the one that a parameter is set to, which is a constant all the same
 abbrev pub valued : Scope → Scope → text.ExpressionTree → Option text.ExpressionTree → ExpressionTree
 valued outer scope value None = resolved scope value
 valued outer scope value (Some other) = resolved outer other
 
 abbrev pub broken_valued : Scope → Scope → text.ExpressionTree → Option text.ExpressionTree → Option Rule
 broken_valued outer scope value None = broken_constant scope value
-broken_valued outer scope value (Some other) = broken_constant outer other
+broken_valued outer scope value (Some other) = option_or (broken_constant scope value) (broken_constant outer other)
 
 abbrev pub value_of : Outside → Scope → SettingTree → ExpressionTree
 value_of outside scope setting = valued outside.scope scope setting.value (value_for outside.values setting.name)
@@ -344,11 +357,6 @@ variables_from home scope [] = []
 variables_from home scope (item ∷ more) =
     map (variable_of home scope) (declarations_of item) ++ variables_from home (behind_item scope item) more
 
--- the ports first
-abbrev pub variables_in : Home → Scope → ModuleTree → List design.Variable
-variables_in home scope m =
-    map (variable_of home scope) (map port_declaration (ports_of m)) ++ variables_from home scope m.items
-
 abbrev pub broken_from : Scope → List ItemTree → Option Rule
 broken_from scope [] = None
 broken_from scope (item ∷ more) = option_or (broken_declaration scope item) (broken_from (behind_item scope item) more)
@@ -412,8 +420,7 @@ abbrev pub branches_by : Scope → List ℕ → text.ExpressionTrees → List Br
 branches_by scope places text.none = []
 branches_by scope places (text.first item more) = record { item = resolved scope item; body = places } ∷ branches_by scope places more
 
--- a statement behind what the table has: `begin`, `end` and `;` are no action, what stands inside is laid first, and what isn't
--- run yet lays nothing
+-- a statement behind what the table has: `begin`, `end` and `;` are no action, and what stands inside is laid first
 abbrev mutual
   pub laid : Scope → List Action → StatementTree → Laid
   laid scope table empty = nothing_laid table
@@ -527,7 +534,7 @@ abbrev pub broken_items : Scope → text.ExpressionTrees → Option Rule
 broken_items scope text.none = None
 broken_items scope (text.first item more) = option_or (broken_expression scope item) (broken_items scope more)
 
--- the first rule that is broken in a statement; what isn't run yet breaks none
+-- the first rule that is broken in a statement
 abbrev mutual
   pub broken_in : Scope → StatementTree → Option Rule
   broken_in scope empty = None
@@ -599,10 +606,6 @@ process_trees_by (assignments settings) = map driven_by settings
 process_trees_by (initial statement) = does statement ∷ []
 process_trees_by (always statement) = does (forever statement) ∷ []  -- 9.9.2
 process_trees_by (instances letters overrides list) = []
-
--- in the order of the text
-abbrev pub process_trees : ModuleTree → List ProcessTree
-process_trees m = flat_map process_trees_by m.items
 
 -- the processes of items, each in the scope of its place
 abbrev pub laid_items : Scope → List Action → List ItemTree → Processes

@@ -21,6 +21,7 @@ use Rattle.vast.specs.declared.module.Instance.{Instance}
 use Rattle.vast.specs.ModuleTrees.{instance_tree, range_tree, parameter_type, head_parameter, type_tree, declaration_kind, declared_tree, setting_tree, item_tree}
 use Rattle.vast.specs.declared.module.DeclarationKind.{DeclarationKind as DeclarationWords}
 use Rattle.vast.specs.declared.module.NetKind.{NetKind}
+use Rattle.vast.specs.declared.module.NetKind.TheVariants.{Reg, Wire}
 use Rattle.vast.specs.declared.module.SignAndRange.{SignAndRange}
 use Rattle.vast.specs.declared.statement.Statement.{Statement}
 use Rattle.vast.specs.declared.statement.Branch.{Branch as WrittenBranch}
@@ -34,13 +35,14 @@ use Rattle.vast.specs.declared.module.ParameterType.{ParameterType as ParameterW
 use Rattle.velab.specs.declared.fault.Rule.{Rule}
 use Rattle.velab.specs.declared.fault.Rule.TheVariants.{Doubled, Drivers}
 use Rattle.velab.specs.declared.fault.ElabFault.{ElabFault}
-use Rattle.velab.specs.Rules.{IsBroken, Breaks, broken_if}
+use Rattle.velab.specs.Rules.{IsBroken, broken_if}
 use Rattle.velab.specs.Scopes.{Scope}
 use Rattle.velab.specs.Literals.{digit_letters}
 use Rattle.velab.specs.declared.variable.Form.{Form}
+use Rattle.velab.specs.declared.driven.Driver.{Driver}
 use Rattle.format_text.specs.Pieces.{Argument, Printed, pieces_with}
 use Rattle.vdesign.specs.declared.action.Action.{Action}
-use Rattle.velab.specs.Elaborate.{Laid, Processes, Outside, instance_given, port_declaration, laid_join, laid_joins, broken_join, broken_joins, declarations_of, laid, all_laid, laid_processes, laid_items, bounds_of, span, variable_by, variable_of, LaidBranches, laid_branch, laid_branches, process_trees_by, ProcessTree, process_of, driven_by, broken_processes, Home, driver_of, drivers_by, Given, given, event_given, given_by, given_in_head}
+use Rattle.velab.specs.Elaborate.{Laid, Processes, Outside, instance_given, port_declaration, net_names, laid_join, laid_joins, broken_join, broken_joins, declarations_of, laid, all_laid, laid_processes, laid_items, bounds_of, span, variable_by, variable_of, LaidBranches, laid_branch, laid_branches, process_trees_by, ProcessTree, process_of, driven_by, broken_processes, Home, driver_of, drivers_by, Given, given, event_given, given_by, given_in_head}
 use Rattle.vdesign.specs.declared.action.Branch.{Branch}
 
 -- ---- parts of a module
@@ -83,10 +85,6 @@ DoublesIn names = IsBroken (broken_if (has_double names) Doubled)
 -- a net is driven twice
 abbrev pub BreaksDrivers : List Text → ElabFault → Type 0
 BreaksDrivers driven = IsBroken (broken_if (has_double driven) Drivers)
-
--- a fault is one of these rules
-abbrev pub BreaksOf : List Rule → ElabFault → Type 0
-BreaksOf rules fault = Breaks rules fault.rule
 
 -- bounds that are at most 64 bits apart
 abbrev pub IsNarrow : Option Bounds → Type 0
@@ -229,7 +227,11 @@ port_variables words home scope ports = map (variable_of home scope) (map port_d
 abbrev pub variables_for : List Text → Home → Scope → ModuleItem → List design.Variable
 variables_for words home scope item = map (variable_of home scope) (declarations_of (item_tree words item))
 
--- the nets that are driven by the values that they are declared with, by an `assign`, and by items
+-- the names that are driven, one driver each
+abbrev pub driver_names : List Driver → List Text
+driver_names list = map (λ one. one.net.now) list
+
+-- those that are driven by the values that they are declared with, by an `assign`, and by items
 abbrev pub declared_drivers : List Text → List Declared → List Text
 declared_drivers words list = filter_map driver_of (map (declared_tree words) list)
 
@@ -238,6 +240,17 @@ set_drivers words list = map (λ setting. setting.name) (map (setting_tree words
 
 abbrev pub item_drivers : List Text → List ModuleItem → List Text
 item_drivers words items = flat_map drivers_by (map (item_tree words) items)
+
+-- the nets among ports, and among what an item and items declare
+abbrev pub port_nets : List Text → List PortForm → List Text
+port_nets words ports = net_names (map port_declaration (map (port_form words) ports))
+
+abbrev pub nets_as : NetKind → List Text → List Text
+nets_as Reg names = []
+nets_as Wire names = names
+
+abbrev pub item_nets : List Text → List ModuleItem → List Text
+item_nets words items = net_names (flat_map declarations_of (map (item_tree words) items))
 
 -- ---- lines
 

@@ -1,5 +1,5 @@
 -- `resolved scope tree`: the expression of a design that an expression of a text stands for (IEEE 1364-2005, clause 5, 12.7).
-use Rattle.std.specs.Prelude.{Bool, true, false, not, Option, None, Some}
+use Rattle.std.specs.Prelude.{ℕ, ◌+◌, nat_le, Bool, true, false, not, Option, None, Some}
 use Rattle.std.specs.Option.{option_or}
 use Rattle.vbits.specs.declared.bit4.Bit4.TheVariants.{X}
 use Rattle.vbits.specs.Vectors.{Vector, filled}
@@ -85,6 +85,15 @@ part_rule (Some (Parameter value bounds before)) selected = unless (is_part (bou
 part_rule (Some (Event number)) selected = None
 part_rule (Some Instance) selected = None
 
+-- how many parts a concatenation has
+abbrev pub count_of : text.ExpressionTrees → ℕ
+count_of text.none = 0
+count_of (text.first one more) = count_of more + 1
+
+-- a vector has at most 64 bits, and each part has one at least
+abbrev pub too_many_parts : text.ExpressionTrees → Option Rule
+too_many_parts parts = unless (nat_le (count_of parts) 64) Width
+
 -- The first rule that a name in an expression breaks, or a constant in it. An expression may itself have to be constant.
 abbrev mutual
   pub broken : Bool → Scope → text.ExpressionTree → Option Rule
@@ -98,9 +107,10 @@ abbrev mutual
       (option_or (also_flawed (broken true scope right) (resolved scope right))
       (part_rule (meaning_of scope letters) (part_bounds (worth (resolved scope left)) (worth (resolved scope right))))))
   broken fixed scope (text.parentheses inner) = broken fixed scope inner
-  broken fixed scope (text.concatenation parts) = broken_parts fixed scope parts
+  broken fixed scope (text.concatenation parts) = option_or (too_many_parts parts) (broken_parts fixed scope parts)
   broken fixed scope (text.replication count parts) =
-      option_or (also_flawed (broken true scope count) (resolved scope count)) (broken_parts fixed scope parts)
+      option_or (also_flawed (broken true scope count) (resolved scope count))
+      (option_or (too_many_parts parts) (broken_parts fixed scope parts))
   broken fixed scope (text.conversion signed inner) = broken fixed scope inner
   broken fixed scope (text.apply operator inner) = broken fixed scope inner
   broken fixed scope (text.combine operator left right) = option_or (broken fixed scope left) (broken fixed scope right)
@@ -110,6 +120,10 @@ abbrev mutual
   pub broken_parts : Bool → Scope → text.ExpressionTrees → Option Rule
   broken_parts fixed scope text.none = None
   broken_parts fixed scope (text.first one more) = option_or (broken fixed scope one) (broken_parts fixed scope more)
+
+-- the parts of a concatenation
+abbrev pub broken_joined : Bool → Scope → text.ExpressionTrees → Option Rule
+broken_joined fixed scope parts = option_or (too_many_parts parts) (broken_parts fixed scope parts)
 
 -- an expression of any kind
 abbrev pub broken_expression : Scope → text.ExpressionTree → Option Rule

@@ -1,5 +1,5 @@
 -- Rules that a text breaks. Of a part of the text the first that is broken is told, in the order in which it is looked at.
-use Rattle.std.specs.Prelude.{◌≡◌, ◌⊎◌, Bool, true, false, List, [], ◌∷◌, Option, None, Some, option_map}
+use Rattle.std.specs.Prelude.{◌≡◌, Bool, true, false, Option, None, Some, option_map}
 use Rattle.vvalue.specs.declared.flaw.Flaw.{Flaw}
 use Rattle.vvalue.specs.declared.flaw.Flaw.TheVariants.{NoBits, Size}
 use Rattle.velab.specs.declared.fault.Rule.{Rule}
@@ -22,17 +22,6 @@ rule_of Size = Width
 
 abbrev pub flaw_rule : Option Flaw → Option Rule
 flaw_rule flaw = option_map rule_of flaw
-
--- the rules that are broken
-abbrev pub rules_in : List (Option Rule) → List Rule
-rules_in [] = []
-rules_in (None ∷ more) = rules_in more
-rules_in (Some rule ∷ more) = rule ∷ rules_in more
-
--- a rule is among those that are broken
-abbrev pub Breaks : List Rule → Rule → Type 0
-Breaks [] rule = ⊥
-Breaks (one ∷ more) rule = (one ≡ rule) ⊎ Breaks more rule
 
 -- a fault tells of this rule
 abbrev pub IsBroken : Option Rule → ElabFault → Type 0

@@ -11,7 +11,7 @@ ghost use Rattle.vexpr_parse.specs.Texts.{words_of};
 ghost use Rattle.velab.specs.Constants as constants;
 ghost use Rattle.velab.specs.Scopes.{meaning_of, broken_name, bounds_for};
 ghost use Rattle.velab.specs.Resolved as spec;
-ghost use Rattle.velab.specs.Resolved.{resolved, resolved_parts, broken, broken_parts, broken_expression, broken_constant};
+ghost use Rattle.velab.specs.Resolved.{resolved, resolved_parts, broken, broken_joined, broken_parts, broken_expression, broken_constant};
 ghost use Rattle.velab.specs.InnerParts as inner;
 ghost use Rattle.velab.specs.Rules.{IsBroken};
 
@@ -29,6 +29,9 @@ use vlex::Tokens;
 use vmodules::letters::letters;
 use vvalue::flaw::is_part;
 use vvalue::select::part_of;
+
+/// The most parts of a concatenation: a vector has at most 64 bits.
+const MOST_PARTS: usize = 64;
 
 // A value as it is.
 fn plain(value: Vec4) -> Node
@@ -201,6 +204,34 @@ fn put_bit(
     }
 }
 
+// The parts of a concatenation, behind the token of this number. E306 where there are more than 64, as each has a bit at least.
+#[cycle(expressions)]
+#[tactic(auto, using(crate::proofs::PartLemmas::parts_counted))]
+fn put_joined(
+    alloc: Global,
+    scope: &Scope<'_, '_>,
+    fixed: bool,
+    tokens: &Tokens<'_>,
+    at: u32,
+    parts: &[Value],
+    nodes: &mut Vec<Node>,
+) -> Result<(), OrMemory<ElabFault>>
+    ensures ok { OnOk result (nodes.new.items ≡ nodes.old.items
+        ++ nodes_of (resolved_parts scope.now (text.trees_of (words_of tokens.now) parts.now))) }
+    ensures right { OnOk result
+        (broken_joined fixed scope.now (text.trees_of (words_of tokens.now) parts.now) ≡ None) }
+    ensures err { IfFault result
+        (IsBroken (broken_joined fixed scope.now (text.trees_of (words_of tokens.now) parts.now))) }
+{
+    if parts.len() > MOST_PARTS {
+        return Err(OrMemory::Fault(ElabFault {
+            rule: Rule::Width,
+            at: Some(at),
+        }));
+    }
+    put_parts(alloc, scope, fixed, tokens, parts, nodes)
+}
+
 // `{count{part, part}}`, of which the count is known.
 #[cycle(expressions)]
 fn put_repeated(
@@ -208,6 +239,7 @@ fn put_repeated(
     scope: &Scope<'_, '_>,
     fixed: bool,
     tokens: &Tokens<'_>,
+    at: u32,
     parts: &[Value],
     count: Vec4,
     nodes: &mut Vec<Node>,
@@ -215,12 +247,12 @@ fn put_repeated(
     ensures ok { OnOk result (nodes.new.items ≡ nodes.old.items ++ Node.Repeated (constants.count_in count)
         ∷ nodes_of (resolved_parts scope.now (text.trees_of (words_of tokens.now) parts.now))) }
     ensures right { OnOk result
-        (broken_parts fixed scope.now (text.trees_of (words_of tokens.now) parts.now) ≡ None) }
+        (broken_joined fixed scope.now (text.trees_of (words_of tokens.now) parts.now) ≡ None) }
     ensures err { IfFault result
-        (IsBroken (broken_parts fixed scope.now (text.trees_of (words_of tokens.now) parts.now))) }
+        (IsBroken (broken_joined fixed scope.now (text.trees_of (words_of tokens.now) parts.now))) }
 {
     put(nodes, Node::Repeated(count_in(count)))?;
-    put_parts(alloc, scope, fixed, tokens, parts, nodes)
+    put_joined(alloc, scope, fixed, tokens, at, parts, nodes)
 }
 
 // Puts the nodes that an expression of the text stands for behind others.
@@ -264,12 +296,12 @@ fn put_expression(
             let node = part_node(meaning, part_bounds(left, right), *name)?;
             put(nodes, node)
         }
-        Value::Concatenation { parts, .. } => {
-            put_parts(alloc, scope, fixed, tokens, parts, nodes)
+        Value::Concatenation { at, parts } => {
+            put_joined(alloc, scope, fixed, tokens, *at, parts, nodes)
         }
         Value::Replication { at, count, parts } => {
             let count = worth(alloc, scope, tokens, count, Some(*at))?;
-            put_repeated(alloc, scope, fixed, tokens, parts, count, nodes)
+            put_repeated(alloc, scope, fixed, tokens, *at, parts, count, nodes)
         }
         Value::Conversion { signed, operand } => {
             put(nodes, Node::Conversion(*signed))?;

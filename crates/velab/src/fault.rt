@@ -3,27 +3,29 @@
 /// A rule of elaboration that a text may break (IEEE 1364-2005, clause 12).
 #[derive(Clone, Copy, Debug, PartialEq, Eq)]
 pub enum Rule {
-    /// E301: no module in the text, none of the name that was asked for, or several and none asked for.
+    /// E301: a module that isn't in the text, that of the top or of an instance; or no top was asked for, and there is none or several.
     Top,
-    /// E302: two modules, or two names of a module, are alike.
+    /// E302: two modules, two names of a module, or two paths are alike.
     Doubled,
-    /// E303: a name that the module doesn't declare, or in a constant a parameter that stands later.
+    /// E303: a name that the module doesn't declare, in a constant a name that stands later, or a path of `$dumpvars` to nothing.
     Unknown,
-    /// E304: a net that two continuous assignments drive.
+    /// E304: a net that is driven twice: by continuous assignments, its own value, outputs of instances, or a connection of an input.
     Drivers,
-    /// E305: what is connected to an instance isn't what its module has: its ports, its parameters.
+    /// E305: what is connected to an instance isn't what its module has: its ports, its parameters. Or an output is connected to what
+    /// is no name alone.
     Ports,
     /// E306: a bound that isn't 0 to 65,535, more than 64 bits from one bound to the other, joined or repeated, nothing repeated, or a
     /// part that goes the other way than its variable.
     Width,
     /// E307: a variable or `$time` in what has to be constant.
     Constant,
-    /// E308: instances in one another that go too deep.
+    /// E308: more than 16 levels of instances, the top among them.
     Depth,
-    /// E309: more than 1,024 variables or more than 256 processes.
+    /// E309: more than 1,024 variables, 256 processes, 1,024 instances below the top or 4,294,967,295 named events.
     TooMany,
-    /// E310: a process that assigns to a net, a continuous assignment to what is no net, a parameter that is written or waited for, or
-    /// a bit or a part of what is declared without a range and is no `integer`.
+    /// E310: a name of another kind than its use asks for: a net that a process assigns to, a variable that an `assign` or an output
+    /// drives, a parameter that is written or waited for, a named event or an instance in an expression, a bit or a part of what is
+    /// declared without a range and is no `integer`, a path of `$dumpvars` to a variable; or a format that isn't known or has nothing to print.
     Kind,
 }
 

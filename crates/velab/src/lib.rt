@@ -12,6 +12,7 @@ pub mod fault;
 pub mod home;
 pub mod join;
 pub mod names;
+pub mod nets;
 mod number;
 pub mod parameter;
 mod print;

@@ -151,7 +151,7 @@ fn parameter_by(kind: Option<&ParameterType>, bounds: Option<Bounds>, value: &Ex
     }
 }
 
-// What a parameter is worth: by what is said of it from outside, or else by what it is set to. E303, E306 or E307 where that is no
+// What a parameter is worth: by what is said of it from outside, or else by what it is set to. E303, E306 or E307 where either is no
 // constant.
 fn value_of(
     alloc: Global,
@@ -168,9 +168,10 @@ fn value_of(
         (spec.broken_value (outside_tree (words_of tokens.now) outside.now) scope.now
         (setting_tree (words_of tokens.now) setting.now))) }
 {
+    let own = constant_expression(alloc, scope, tokens, &setting.value)?;
     match outside.values.value(letters(tokens, setting.name)) {
         Some(value) => constant_expression(alloc, &outside.scope, tokens, value),
-        None => constant_expression(alloc, scope, tokens, &setting.value),
+        None => Ok(own),
     }
 }
 

@@ -1,4 +1,4 @@
-// What a `$dumpvars` selects (IEEE 1364-2005, 12.4, 18.1.2).
+// What a `$dumpvars` selects (IEEE 1364-2005, 12.5, 18.1.2).
 
 ghost use Rattle.std.specs.Prelude.{◌≡◌, ◌++◌, ◌∷◌, None, map, option_map, IfOk, OnOk};
 ghost use Rattle.std.specs.List.{flat_map};

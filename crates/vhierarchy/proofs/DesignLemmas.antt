@@ -5,29 +5,24 @@ use Rattle.vast.specs.Modules.{ConnectionTree, ModuleTree, SourceTree}
 use Rattle.basis.specs.declared.memory.OrMemory.{OrMemory}
 use Rattle.basis.specs.declared.memory.OrMemory.TheVariants.{Fault, Memory}
 use Rattle.basis.specs.declared.timescale.Timescale.{Timescale}
+use Rattle.std.specs.List.{list_all}
+use Rattle.std.specs.Option.{option_or}
 use Rattle.basis.specs.Reasons.{Because, IfFault}
 use Rattle.vdesign.specs.Design.{Design, Variable, Scope as Room}
 use Rattle.vmodules.specs.Names.{has_double, is_declared}
 use Rattle.vmodules.specs.Hierarchy.{top_of, module_names}
 use Rattle.velab.specs.declared.fault.Rule.{Rule}
-use Rattle.velab.specs.declared.fault.Rule.TheVariants.{Doubled, Top}
+use Rattle.velab.specs.declared.fault.Rule.TheVariants.{Doubled, Kind, Top}
 use Rattle.velab.specs.declared.fault.ElabFault.{ElabFault}
-use Rattle.velab.specs.Rules.{broken_if, IsBroken, Breaks, rules_in}
+use Rattle.velab.specs.Rules.{broken_if, unless, flaw_rule, IsBroken}
+use Rattle.velab.specs.Right.{writes_rightly}
+use Rattle.velab.specs.ActionFlaws.{blank_moment, table_flaw}
 use Rattle.velab.proofs.ListLemmas.{drop_at}
 use Rattle.velab.proofs.VariableLemmas.{name_stops}
-use Rattle.velab.proofs.FaultLemmas.{still, if_more, breaks_here, breaks_later, front_breaks, back_breaks}
-use Rattle.vhierarchy.specs.Instances.{Part, Request, nothing, top_request, grown, broken_grown, broken_rules, broken_top, broken_whole, whole_of, design_by, Elaborates}
+use Rattle.velab.proofs.FaultLemmas.{still, if_more, first_breaks, then_breaks, both_right, same_rule}
+use Rattle.vhierarchy.specs.Instances.{Part, Request, nothing, top_request, grown, broken_grown, broken_rule, broken_top, broken_whole, whole_of, design_by, Elaborates}
 use Rattle.vhierarchy.specs.Reasons.{IsDesignReason}
-use Rattle.vhierarchy.specs.Inner.{BreaksOf, variable_names, scope_names}
-
--- a rule of several, by its place
-pub first_of : (a : Option Rule) (more : List (Option Rule)) (e : OrMemory ElabFault) → Because (IsBroken a) e → Because (BreaksOf (rules_in (a ∷ more))) e
-first_of a more (Fault f) h = breaks_here a more f.rule h
-first_of a more (Memory m) h = tt
-
-pub later_of : (a : Option Rule) (more : List (Option Rule)) (e : OrMemory ElabFault) → Because (BreaksOf (rules_in more)) e → Because (BreaksOf (rules_in (a ∷ more))) e
-later_of a more (Fault f) h = breaks_later a more f.rule h
-later_of a more (Memory m) h = tt
+use Rattle.vhierarchy.specs.Inner.{variable_names, scope_names}
 
 -- a path that can't be added stands twice among all
 pub paths_err : (list : List Variable) (i : ℕ) (v : Variable) (names all : List Text) (e : OrMemory ElabFault) → i < length list → v ≡ get_or list i v → names ++ variable_names (drop i list) ≡ all →
@@ -78,6 +73,16 @@ top_is m name names ties named none nothing_tied = λ i. record {
   ties = nothing_tied i;
 }
 
+-- what is looked at behind the count of processes: what is written, and sizes
+abbrev pub broken_kinds : Part → Option Rule
+broken_kinds part = unless (list_all (writes_rightly part.variables) part.table) Kind
+
+abbrev pub broken_sizes : Part → Option Rule
+broken_sizes part = flaw_rule (table_flaw (blank_moment part.variables) part.table)
+
+abbrev pub behind_counts : Part → Option Rule
+behind_counts part = option_or (broken_kinds part) (broken_sizes part)
+
 -- ---- the text
 
 same_top : (m n : ModuleTree) → Some m ≡ Some n → m ≡ n
@@ -88,35 +93,32 @@ pub one_design : (tree : SourceTree) (top : Option Text) (scale : Timescale) (de
 one_design tree top scale design other d e =
     d.describes ∙ ap (λ (m : ModuleTree). design_by scale m (whole_of tree m)) (same_top d.unit e.unit (sym d.is_top ∙ e.is_top)) ∙ sym e.describes
 
--- a rule that the names of modules break is one that the text breaks
+-- a rule that the names of modules break is the first that the text breaks
 pub names_reason : (tree : SourceTree) (top : Option Text) (e : OrMemory ElabFault) → Because (IsBroken (broken_if (has_double (module_names tree)) Doubled)) e →
     Because (IsDesignReason tree top) e
-names_reason tree top (Fault f) h = front_breaks _ (broken_top tree (top_of tree top)) f.rule (breaks_here _ [] f.rule h)
-names_reason tree top (Memory m) h = tt
+names_reason tree top = first_breaks (broken_if (has_double (module_names tree)) Doubled) (broken_top tree (top_of tree top))
 
--- a rule that the top breaks is one that the text breaks
-pub top_reason : {T : Type 0} (result : Result T (OrMemory ElabFault)) (tree : SourceTree) (top : Option Text) (m : ModuleTree) → top_of tree top ≡ Some m →
-    IfFault result (BreaksOf (broken_top tree (Some m))) → IfFault result (IsDesignReason tree top)
-top_reason (Ok x) tree top m is h = tt
-top_reason (Err (Fault f)) tree top m is h =
-    back_breaks (rules_in (broken_if (has_double (module_names tree)) Doubled ∷ [])) (broken_top tree (top_of tree top)) f.rule
-    (subst (λ o. Breaks (broken_top tree o) f.rule) (sym is) h)
-top_reason (Err (Memory n)) tree top m is h = tt
+-- where those differ
+module _ (tree : SourceTree) (top : Option Text) (differ : has_double (module_names tree) ≡ false) where
+  names_right : broken_if (has_double (module_names tree)) Doubled ≡ None
+  names_right = ap (λ b. broken_if b Doubled) differ
 
--- nothing is broken where the names of modules differ and the top is right
-pub nothing_broken : (tree : SourceTree) (top : Option Text) (m : ModuleTree) → top_of tree top ≡ Some m →
-    has_double (module_names tree) ≡ false → broken_top tree (Some m) ≡ [] → broken_rules tree top ≡ []
-nothing_broken tree top m is differ right =
-    ap (λ b. rules_in (broken_if b Doubled ∷ []) ++ broken_top tree (top_of tree top)) differ ∙ ap (broken_top tree) is ∙ right
+  pub missing : top_of tree top ≡ None → broken_rule tree top ≡ Some Top
+  missing is = ap (λ o. option_or o (broken_top tree (top_of tree top))) names_right ∙ ap (broken_top tree) is
 
-pub missing : (tree : SourceTree) (top : Option Text) → top_of tree top ≡ None → Breaks (broken_rules tree top) Top
-missing tree top is =
-    back_breaks (rules_in (broken_if (has_double (module_names tree)) Doubled ∷ [])) (broken_top tree (top_of tree top)) Top
-    (subst (λ o. Breaks (broken_top tree o) Top) (sym is) (inl refl))
+  module _ (m : ModuleTree) (is : top_of tree top ≡ Some m) where
+    -- the first rule that the top breaks is the first that the text breaks
+    pub top_reason : {T : Type 0} (result : Result T (OrMemory ElabFault)) → IfFault result (IsBroken (broken_top tree (Some m))) → IfFault result (IsDesignReason tree top)
+    top_reason (Ok x) h = tt
+    top_reason (Err e) h =
+        then_breaks (broken_if (has_double (module_names tree)) Doubled) (broken_top tree (top_of tree top)) names_right e (same_rule _ _ (ap (broken_top tree) (sym is)) e h)
 
-pub top_elaborates : (result : Result Design (OrMemory ElabFault)) (tree : SourceTree) (top : Option Text) (scale : Timescale) (m : ModuleTree) →
-    top_of tree top ≡ Some m → has_double (module_names tree) ≡ false → IfOk result (λ design. design ≡ design_by scale m (whole_of tree m)) →
-    OnOk result (broken_top tree (Some m) ≡ []) → IfOk result (Elaborates tree top scale)
-top_elaborates (Ok design) tree top scale m is differ describes right =
-    record { right = nothing_broken tree top m is differ right; unit = m; is_top = is; describes = describes }
-top_elaborates (Err e) tree top scale m is differ describes right = tt
+    -- nothing is broken where the top is right
+    nothing_broken : broken_top tree (Some m) ≡ None → broken_rule tree top ≡ None
+    nothing_broken right =
+        both_right (broken_if (has_double (module_names tree)) Doubled) (broken_top tree (top_of tree top)) names_right (ap (broken_top tree) is ∙ right)
+
+    pub top_elaborates : (result : Result Design (OrMemory ElabFault)) (scale : Timescale) → IfOk result (λ design. design ≡ design_by scale m (whole_of tree m)) →
+        OnOk result (broken_top tree (Some m) ≡ None) → IfOk result (Elaborates tree top scale)
+    top_elaborates (Ok design) scale describes right = record { right = nothing_broken right; unit = m; is_top = is; describes = describes }
+    top_elaborates (Err e) scale describes right = tt

@@ -1,6 +1,7 @@
 -- An instance and all below it: what its parts say of the whole.
-use Rattle.std.proofs.Common.{inl, ◌≡◌, ◌<◌, ℕ, suc, ◌+◌, Option, None, List, [], ◌∷◌, ◌++◌, length, drop, get_or, Result, Ok, Err, refl, sym, ap, subst, ◌∙◌, arith}
+use Rattle.std.proofs.Common.{◌≡◌, ◌<◌, ℕ, suc, ◌+◌, Option, Some, None, List, [], ◌∷◌, ◌++◌, length, drop, get_or, Result, Ok, Err, refl, sym, ap, subst, ◌∙◌, arith}
 use Rattle.std.specs.List.{fold, flat_map}
+use Rattle.std.specs.Option.{option_or}
 use Rattle.basis.specs.Reasons.{Because, IfFault}
 use Rattle.basis.specs.declared.memory.OrMemory.{OrMemory}
 use Rattle.basis.specs.declared.memory.OrMemory.TheVariants.{Fault, Memory}
@@ -10,36 +11,15 @@ use Rattle.vmodules.specs.Inner.{Units, units_tree}
 use Rattle.velab.specs.declared.fault.Rule.{Rule}
 use Rattle.velab.specs.declared.fault.Rule.TheVariants.{Depth}
 use Rattle.velab.specs.declared.fault.ElabFault.{ElabFault}
-use Rattle.velab.specs.Rules.{Breaks, IsBroken, rules_in}
+use Rattle.velab.specs.Rules.{IsBroken}
 use Rattle.velab.specs.Scopes.{Scope}
 use Rattle.velab.specs.Elaborate.{Outside, Base, Given, given_by, given_in_head, with_given, with_all, first_scope, head_scope, whole_scope}
 use Rattle.velab.proofs.ListLemmas.{drop_at}
-use Rattle.velab.proofs.FaultLemmas.{front_breaks, back_breaks, breaks_here}
-use Rattle.vhierarchy.specs.Instances.{Wanted, wanted_in, broken_among, Part, Request, inside, name_rules, own_by, own_rules_by, with_own, own_rules, asked, grown, broken_each, broken_grown}
-use Rattle.vhierarchy.specs.Inner.{BreaksOf, request_tree, wanted_tree, wanted_trees, each_grown, each_broken_grown, one_grown, one_broken}
+use Rattle.velab.proofs.FaultLemmas.{first_breaks, then_breaks, both_right, same_rule}
+use Rattle.vhierarchy.specs.Instances.{Wanted, wanted_in, broken_among, Part, Request, inside, broken_names, own_by, broken_own_by, with_own, broken_own, asked, grown, broken_each, broken_grown}
+use Rattle.vhierarchy.specs.Inner.{request_tree, wanted_tree, wanted_trees, each_grown, each_broken_grown, one_grown, one_broken}
 use Rattle.vhierarchy.specs.declared.wanted.Wanted.{Wanted as Found}
 use Rattle.vhierarchy.specs.declared.request.Request.{Request as Asked}
-
--- ---- faults of a part of several rules
-
-pub front_err : (xs ys : List Rule) (e : OrMemory ElabFault) → Because (BreaksOf xs) e → Because (BreaksOf (xs ++ ys)) e
-front_err xs ys (Fault f) h = front_breaks xs ys f.rule h
-front_err xs ys (Memory m) h = tt
-
-pub back_err : (xs ys : List Rule) (e : OrMemory ElabFault) → Because (BreaksOf ys) e → Because (BreaksOf (xs ++ ys)) e
-back_err xs ys (Fault f) h = back_breaks xs ys f.rule h
-back_err xs ys (Memory m) h = tt
-
-pub one_err : (rule : Option Rule) (e : OrMemory ElabFault) → Because (IsBroken rule) e → Because (BreaksOf (rules_in (rule ∷ []))) e
-one_err rule (Fault f) h = breaks_here rule [] f.rule h
-one_err rule (Memory m) h = tt
-
-pub both_none : (xs ys : List Rule) → xs ≡ [] → ys ≡ [] → xs ++ ys ≡ []
-both_none xs ys front back = λ i. front i ++ back i
-
--- the same list of rules under another name
-pub same_rules : (xs ys : List Rule) (e : OrMemory ElabFault) → xs ≡ ys → Because (BreaksOf xs) e → Because (BreaksOf ys) e
-same_rules xs ys e is h = subst (λ (rules : List Rule). Because (BreaksOf rules) e) is h
 
 -- ---- instances one after another
 
@@ -50,8 +30,8 @@ module _ (units : Units) (levels : ℕ) (request : Asked) (scope : Scope) (list 
   abbrev grow : Part → Wanted → Part
   grow so_far one = grown levels (units_tree units) so_far (asked scope (request_tree units.words request) one)
 
-  abbrev rules : Part → Wanted → List Rule
-  rules so_far one = broken_grown levels (units_tree units) so_far (asked scope (request_tree units.words request) one)
+  abbrev rule : Part → Wanted → Option Rule
+  rule so_far one = broken_grown levels (units_tree units) so_far (asked scope (request_tree units.words request) one)
 
   pub each_step : (part next all : Part) → next ≡ one_grown units levels request scope part x → each_grown units levels request scope part (drop i list) ≡ all →
       each_grown units levels request scope next (drop (i + 1) list) ≡ all
@@ -59,21 +39,21 @@ module _ (units : Units) (levels : ℕ) (request : Asked) (scope : Scope) (list 
       ap (λ (p : Part). fold grow p (wanted_trees units.words (drop (i + 1) list))) put ∙ sym (ap (fold grow part) opens) ∙ same
 
   each_opens : (part : Part) → each_broken_grown units levels request scope part (drop i list) ≡
-      one_broken units levels request scope part x ++ broken_each grow rules (grow part (wanted_tree units.words x)) (wanted_trees units.words (drop (i + 1) list))
-  each_opens part = ap (broken_each grow rules part) opens
+      option_or (one_broken units levels request scope part x) (broken_each grow rule (grow part (wanted_tree units.words x)) (wanted_trees units.words (drop (i + 1) list)))
+  each_opens part = ap (broken_each grow rule part) opens
 
-  pub each_right : (part next : Part) (all : List Rule) → next ≡ one_grown units levels request scope part x → one_broken units levels request scope part x ≡ [] →
+  pub each_right : (part next : Part) (all : Option Rule) → next ≡ one_grown units levels request scope part x → one_broken units levels request scope part x ≡ None →
       each_broken_grown units levels request scope part (drop i list) ≡ all → each_broken_grown units levels request scope next (drop (i + 1) list) ≡ all
   each_right part next all put right same =
-      ap (λ (p : Part). broken_each grow rules p (wanted_trees units.words (drop (i + 1) list))) put
-      ∙ ap (λ (r : List Rule). r ++ broken_each grow rules (grow part (wanted_tree units.words x)) (wanted_trees units.words (drop (i + 1) list))) (sym right)
+      ap (λ (p : Part). broken_each grow rule p (wanted_trees units.words (drop (i + 1) list))) put
+      ∙ ap (λ (r : Option Rule). option_or r (broken_each grow rule (grow part (wanted_tree units.words x)) (wanted_trees units.words (drop (i + 1) list)))) (sym right)
       ∙ sym (each_opens part) ∙ same
 
-  pub each_err : (part : Part) (all : List Rule) → each_broken_grown units levels request scope part (drop i list) ≡ all → (e : OrMemory ElabFault) →
-      Because (BreaksOf (one_broken units levels request scope part x)) e → Because (BreaksOf all) e
+  pub each_err : (part : Part) (all : Option Rule) → each_broken_grown units levels request scope part (drop i list) ≡ all → (e : OrMemory ElabFault) →
+      Because (IsBroken (one_broken units levels request scope part x)) e → Because (IsBroken all) e
   each_err part all same e h =
-      same_rules _ all e (sym (each_opens part) ∙ same)
-      (front_err (one_broken units levels request scope part x) (broken_each grow rules (grow part (wanted_tree units.words x)) (wanted_trees units.words (drop (i + 1) list))) e h)
+      same_rule _ all (sym (each_opens part) ∙ same) e
+      (first_breaks (one_broken units levels request scope part x) (broken_each grow rule (grow part (wanted_tree units.words x)) (wanted_trees units.words (drop (i + 1) list))) e h)
 
 -- ---- so many are known
 
@@ -108,66 +88,68 @@ module _ (modules : SourceTree) (part : Part) (request : Request) (levels below 
   broken_opened : broken_grown (suc below) modules part request ≡ broken_grown levels modules part request
   broken_opened = ap (λ n. broken_grown n modules part request) (sym deep)
 
-  abbrev broken_below : List Rule
+  abbrev broken_below : Option Rule
   broken_below =
       broken_each (λ (so_far : Part) (one : Wanted). grown below modules so_far (asked (inside part request) request one))
       (λ (so_far : Part) (one : Wanted). broken_grown below modules so_far (asked (inside part request) request one))
       (with_own modules part request) (wanted_in modules request.unit)
 
-  own_breaks : (e : OrMemory ElabFault) → Because (BreaksOf (own_rules modules part request)) e → Because (BreaksOf (broken_grown levels modules part request)) e
-  own_breaks e h = same_rules _ _ e broken_opened (front_err (own_rules modules part request) broken_below e h)
+  own_breaks : (e : OrMemory ElabFault) → Because (IsBroken (broken_own modules part request)) e → Because (IsBroken (broken_grown levels modules part request)) e
+  own_breaks e h = same_rule _ _ broken_opened e (first_breaks (broken_own modules part request) broken_below e h)
 
-  abbrev others : List Rule
-  others = own_rules_by request (ports_of request.unit) (wanted_in modules request.unit) (inside part request) part
+  abbrev among : Option Rule
+  among = broken_among modules 0 request.unit.items
 
-  pub names_err : (e : OrMemory ElabFault) → Because (BreaksOf (rules_in (name_rules part request))) e → Because (BreaksOf (broken_grown levels modules part request)) e
-  names_err e h = own_breaks e (front_err (rules_in (name_rules part request)) (rules_in (broken_among modules request.unit.items ∷ []) ++ others) e h)
+  abbrev others : Option Rule
+  others = broken_own_by request (ports_of request.unit) (wanted_in modules request.unit) (inside part request) part
 
-  pub wanted_err : (e : OrMemory ElabFault) → Because (IsBroken (broken_among modules request.unit.items)) e → Because (BreaksOf (broken_grown levels modules part request)) e
-  wanted_err e h =
-      own_breaks e (back_err (rules_in (name_rules part request)) (rules_in (broken_among modules request.unit.items ∷ []) ++ others) e
-      (front_err (rules_in (broken_among modules request.unit.items ∷ [])) others e (one_err (broken_among modules request.unit.items) e h)))
+  pub names_err : (e : OrMemory ElabFault) → Because (IsBroken (broken_names part request)) e → Because (IsBroken (broken_grown levels modules part request)) e
+  names_err e h = own_breaks e (first_breaks (broken_names part request) (option_or among others) e h)
 
-  module _ (ports : List Port) (wanted : List Wanted) (scope : Scope) (ports_are : ports ≡ ports_of request.unit) (wanted_are : wanted ≡ wanted_in modules request.unit)
-      (scope_is : scope ≡ inside part request) where
-    own_is : own_by request ports wanted scope part ≡ with_own modules part request
-    own_is = λ i. own_by request (ports_are i) (wanted_are i) (scope_is i) part
+  module _ (names : broken_names part request ≡ None) where
+    pub wanted_err : (e : OrMemory ElabFault) → Because (IsBroken among) e → Because (IsBroken (broken_grown levels modules part request)) e
+    wanted_err e h = own_breaks e (then_breaks (broken_names part request) (option_or among others) names e (first_breaks among others e h))
 
-    rules_are : own_rules_by request ports wanted scope part ≡ others
-    rules_are = λ i. own_rules_by request (ports_are i) (wanted_are i) (scope_is i) part
+    module _ (found : among ≡ None) (ports : List Port) (wanted : List Wanted) (scope : Scope) (ports_are : ports ≡ ports_of request.unit)
+        (wanted_are : wanted ≡ wanted_in modules request.unit) (scope_is : scope ≡ inside part request) where
+      own_is : own_by request ports wanted scope part ≡ with_own modules part request
+      own_is = λ i. own_by request (ports_are i) (wanted_are i) (scope_is i) part
 
-    pub own_err : (e : OrMemory ElabFault) → Because (BreaksOf (own_rules_by request ports wanted scope part)) e → Because (BreaksOf (broken_grown levels modules part request)) e
-    own_err e h =
-        own_breaks e (back_err (rules_in (name_rules part request)) (rules_in (broken_among modules request.unit.items ∷ []) ++ others) e
-        (back_err (rules_in (broken_among modules request.unit.items ∷ [])) others e (same_rules _ _ e rules_are h)))
+      others_are : broken_own_by request ports wanted scope part ≡ others
+      others_are = λ i. broken_own_by request (ports_are i) (wanted_are i) (scope_is i) part
 
-    module _ (next : Part) (put : next ≡ own_by request ports wanted scope part) where
-      broken_here : broken_each (λ (so_far : Part) (one : Wanted). grown below modules so_far (asked scope request one))
-          (λ (so_far : Part) (one : Wanted). broken_grown below modules so_far (asked scope request one)) next wanted ≡ broken_below
-      broken_here = λ i.
-          broken_each (λ (so_far : Part) (one : Wanted). grown below modules so_far (asked (scope_is i) request one))
-          (λ (so_far : Part) (one : Wanted). broken_grown below modules so_far (asked (scope_is i) request one)) ((put ∙ own_is) i) (wanted_are i)
+      pub own_err : (e : OrMemory ElabFault) → Because (IsBroken (broken_own_by request ports wanted scope part)) e → Because (IsBroken (broken_grown levels modules part request)) e
+      own_err e h =
+          own_breaks e (then_breaks (broken_names part request) (option_or among others) names e (then_breaks among others found e (same_rule _ _ others_are e h)))
 
-      pub each_of_err : (e : OrMemory ElabFault) →
-          Because (BreaksOf (broken_each (λ (so_far : Part) (one : Wanted). grown below modules so_far (asked scope request one))
-          (λ (so_far : Part) (one : Wanted). broken_grown below modules so_far (asked scope request one)) next wanted)) e →
-          Because (BreaksOf (broken_grown levels modules part request)) e
-      each_of_err e h =
-          same_rules _ _ e broken_opened (back_err (own_rules modules part request) broken_below e (same_rules _ _ e broken_here h))
+      module _ (next : Part) (put : next ≡ own_by request ports wanted scope part) where
+        broken_here : broken_each (λ (so_far : Part) (one : Wanted). grown below modules so_far (asked scope request one))
+            (λ (so_far : Part) (one : Wanted). broken_grown below modules so_far (asked scope request one)) next wanted ≡ broken_below
+        broken_here = λ i.
+            broken_each (λ (so_far : Part) (one : Wanted). grown below modules so_far (asked (scope_is i) request one))
+            (λ (so_far : Part) (one : Wanted). broken_grown below modules so_far (asked (scope_is i) request one)) ((put ∙ own_is) i) (wanted_are i)
 
-      pub unit_is : (whole : Part) → whole ≡ fold (λ (so_far : Part) (one : Wanted). grown below modules so_far (asked scope request one)) next wanted →
-          whole ≡ grown levels modules part request
-      unit_is whole is =
-          is ∙ (λ i. fold (λ (so_far : Part) (one : Wanted). grown below modules so_far (asked (scope_is i) request one)) ((put ∙ own_is) i) (wanted_are i)) ∙ sym opened
+        pub unit_is : (whole : Part) → whole ≡ fold (λ (so_far : Part) (one : Wanted). grown below modules so_far (asked scope request one)) next wanted →
+            whole ≡ grown levels modules part request
+        unit_is whole is =
+            is ∙ (λ i. fold (λ (so_far : Part) (one : Wanted). grown below modules so_far (asked (scope_is i) request one)) ((put ∙ own_is) i) (wanted_are i)) ∙ sym opened
 
-      pub unit_right : rules_in (name_rules part request) ≡ [] → broken_among modules request.unit.items ≡ None → own_rules_by request ports wanted scope part ≡ [] →
-          broken_each (λ (so_far : Part) (one : Wanted). grown below modules so_far (asked scope request one))
-          (λ (so_far : Part) (one : Wanted). broken_grown below modules so_far (asked scope request one)) next wanted ≡ [] →
-          broken_grown levels modules part request ≡ []
-      unit_right names found own each =
-          sym broken_opened
-          ∙ (λ i. (names i ++ (rules_in (found i ∷ []) ++ (sym rules_are ∙ own) i)) ++ (sym broken_here ∙ each) i)
+        module _ (own : broken_own_by request ports wanted scope part ≡ None) where
+          own_right : broken_own modules part request ≡ None
+          own_right = both_right (broken_names part request) (option_or among others) names (both_right among others found (sym others_are ∙ own))
+
+          pub each_of_err : (e : OrMemory ElabFault) →
+              Because (IsBroken (broken_each (λ (so_far : Part) (one : Wanted). grown below modules so_far (asked scope request one))
+              (λ (so_far : Part) (one : Wanted). broken_grown below modules so_far (asked scope request one)) next wanted)) e →
+              Because (IsBroken (broken_grown levels modules part request)) e
+          each_of_err e h =
+              same_rule _ _ broken_opened e (then_breaks (broken_own modules part request) broken_below own_right e (same_rule _ _ broken_here e h))
+
+          pub unit_right : broken_each (λ (so_far : Part) (one : Wanted). grown below modules so_far (asked scope request one))
+              (λ (so_far : Part) (one : Wanted). broken_grown below modules so_far (asked scope request one)) next wanted ≡ None →
+              broken_grown levels modules part request ≡ None
+          unit_right each = sym broken_opened ∙ both_right (broken_own modules part request) broken_below own_right (sym broken_here ∙ each)
 
 -- no level is left
-pub too_deep : (modules : SourceTree) (part : Part) (request : Request) (levels : ℕ) → levels ≡ 0 → Breaks (broken_grown levels modules part request) Depth
-too_deep modules part request levels none = subst (λ n. Breaks (broken_grown n modules part request) Depth) (sym none) (inl refl)
+pub too_deep : (modules : SourceTree) (part : Part) (request : Request) (levels : ℕ) → levels ≡ 0 → broken_grown levels modules part request ≡ Some Depth
+too_deep modules part request levels none = ap (λ n. broken_grown n modules part request) none

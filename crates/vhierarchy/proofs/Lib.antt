@@ -3,4 +3,5 @@ pub mod BrokenLemmas
 pub mod DesignLemmas
 pub mod OwnLemmas
 pub mod DriverLemmas
+pub mod WantedLemmas
 mod NamedLemmas

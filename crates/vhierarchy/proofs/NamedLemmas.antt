@@ -21,9 +21,9 @@ use Rattle.velab.specs.Scopes.{Scope}
 use Rattle.velab.specs.Elaborate.{Home, Declaration, all_declared, kind_of, declared_as, declarations_of, port_declaration, variable_of, variables_from, behind_item, given_by}
 use Rattle.velab.specs.declared.fault.Rule.{Rule}
 use Rattle.velab.specs.declared.fault.Rule.TheVariants.{Doubled}
-use Rattle.velab.specs.Rules.{broken_if, rules_in}
-use Rattle.velab.proofs.FaultLemmas.{none_was, front_none}
-use Rattle.vhierarchy.specs.Instances.{Wanted, wanted_one, wanted_of, wanted_by, wanted_from, wanted_in, Part, Request, own_by, home_by, with_own, inside, asked, grown, nothing, top_request, whole_of, variable_paths, design_by, path_rules, design_rules, broken_whole, broken_top, broken_rules, Elaborates}
+use Rattle.velab.specs.Rules.{broken_if}
+use Rattle.velab.proofs.FaultLemmas.{first_right, then_right}
+use Rattle.vhierarchy.specs.Instances.{Wanted, wanted_one, wanted_of, wanted_by, wanted_from, wanted_in, Part, Request, own_by, home_by, with_own, inside, asked, grown, nothing, top_request, whole_of, variable_paths, design_by, broken_paths, broken_table, broken_design, broken_whole, broken_top, broken_rule, Elaborates}
 
 -- ---- letters and paths
 
@@ -347,14 +347,10 @@ none_doubled : (b : Bool) → broken_if b Doubled ≡ None → b ≡ false
 none_doubled true e = cc
 none_doubled false e = refl
 
-behind_none : (xs ys : List Rule) → xs ++ ys ≡ [] → ys ≡ []
-behind_none [] ys e = e
-behind_none (x ∷ xs) ys e = cc
-
-rules_right : (tree : SourceTree) (top : Option Text) (m : ModuleTree) → top_of tree top ≡ Some m → broken_rules tree top ≡ [] → design_rules (whole_of tree m) ≡ []
-rules_right tree top m is e =
-    behind_none (broken_whole tree m) (design_rules (whole_of tree m))
-    (sym (ap (broken_top tree) is) ∙ behind_none (rules_in (broken_if (has_double (module_names tree)) Doubled ∷ [])) (broken_top tree (top_of tree top)) e)
+design_right : (tree : SourceTree) (top : Option Text) (m : ModuleTree) → top_of tree top ≡ Some m → broken_rule tree top ≡ None → broken_design (whole_of tree m) ≡ None
+design_right tree top m is e =
+    then_right (broken_whole tree m) (broken_design (whole_of tree m))
+    (sym (ap (broken_top tree) is) ∙ then_right (broken_if (has_double (module_names tree)) Doubled) (broken_top tree (top_of tree top)) e)
 
 pub named_by : (words : List Text) (tree : SourceTree) (top : Option Text) (scale : Timescale) (design : Design) →
     DerivesText words tree → Elaborates tree top scale design → AreNamed design
@@ -366,4 +362,4 @@ named_by words tree top scale design derives elaborates =
     subst AreNamed (sym elaborates.describes)
     (design_named scale m part unit
     (whole_paths tree all m (name_is_path m.name (letters m.name (and_left (is_name m.name) (ports_are_named m && list_all item_is_named m.items) unit))) unit)
-    (none_doubled (has_double (variable_paths part)) (none_was _ _ (front_none (rules_in (path_rules part)) _ (rules_right tree top m elaborates.is_top elaborates.right)))))
+    (none_doubled (has_double (variable_paths part)) (first_right _ _ (first_right (broken_paths part) (broken_table part) (design_right tree top m elaborates.is_top elaborates.right)))))

@@ -1,22 +1,27 @@
 -- What an instance adds of its own, in two steps, and where its rules stand.
-use Rattle.std.proofs.Common.{◌≡◌, ℕ, Option, None, List, [], ◌∷◌, ◌++◌, length, refl, sym, ap, ◌∙◌, append_assoc}
+use Rattle.std.proofs.Common.{◌≡◌, ℕ, Option, None, List, [], ◌∷◌, ◌++◌, length, map, refl, sym, ap, ◌∙◌, append_assoc}
+use Rattle.std.specs.Option.{option_or}
 use Rattle.basis.specs.Reasons.{Because}
 use Rattle.basis.specs.declared.memory.OrMemory.{OrMemory}
+use Rattle.vast.specs.Words.{Text}
 use Rattle.vast.specs.Modules.{ItemTree}
-use Rattle.vdesign.specs.Design.{Scope as Room}
+use Rattle.vast.specs.ModuleTrees.{item_tree}
+use Rattle.vast.specs.declared.module.ModuleItem.{ModuleItem}
+use Rattle.vdesign.specs.Design.{Scope as Room, Variable}
 use Rattle.vdesign.specs.declared.action.Action.{Action}
 use Rattle.velab.specs.declared.fault.Rule.{Rule}
 use Rattle.velab.specs.declared.fault.ElabFault.{ElabFault}
-use Rattle.velab.specs.Rules.{IsBroken, rules_in}
+use Rattle.velab.specs.Rules.{IsBroken}
 use Rattle.velab.specs.Scopes.{Scope}
-use Rattle.velab.specs.Elaborate.{Processes, laid_items}
+use Rattle.velab.specs.Elaborate.{Processes, laid_items, variables_from}
 use Rattle.vmodules.specs.Ports.{Port}
-use Rattle.velab.specs.Inner.{AreLaid}
-use Rattle.velab.proofs.FaultLemmas.{none_first}
-use Rattle.vhierarchy.specs.Instances.{Wanted, Part, Request, scope_of, count_rules, own_by, own_rules_by, variables_by, variable_rules, processes_by, process_rules}
-use Rattle.vhierarchy.specs.Inner.{BreaksOf}
-use Rattle.vhierarchy.proofs.GrowLemmas.{front_err, back_err, both_none, same_rules}
-use Rattle.vhierarchy.proofs.DesignLemmas.{first_of, later_of}
+use Rattle.vmodules.specs.declared.ports.PortForm.{PortForm}
+use Rattle.velab.specs.Inner.{AreLaid, port_variables}
+use Rattle.vhierarchy.specs.Inner.{nets_driven, own_variables}
+use Rattle.vhierarchy.specs.declared.request.Request.{Request as Asked}
+use Rattle.vhierarchy.specs.declared.wanted.Wanted.{Wanted as Found}
+use Rattle.velab.proofs.FaultLemmas.{first_breaks, then_breaks, both_right, same_rule}
+use Rattle.vhierarchy.specs.Instances.{Wanted, Part, Request, scope_of, broken_counts, own_by, broken_own_by, variables_by, broken_variables, processes_by, broken_processes}
 
 -- the processes of port connections, and those of items behind them
 pub both_laid : (scope : Scope) (items : List ItemTree) (joins : Processes) (before b1 b2 : List (List ℕ)) (t1 t2 : List Action) →
@@ -29,29 +34,22 @@ both_laid scope items joins before b1 b2 t1 t2 first second = record {
       ∙ append_assoc before joins.begins (laid_items scope joins.table items).begins;
 }
 
--- two rules in order, and three
-module _ (a b : Option Rule) (e : OrMemory ElabFault) where
-  pub first_err : Because (IsBroken a) e → Because (BreaksOf (rules_in (a ∷ b ∷ []))) e
-  first_err h = first_of a (b ∷ []) e h
-
-  pub second_err : Because (IsBroken b) e → Because (BreaksOf (rules_in (a ∷ b ∷ []))) e
-  second_err h = later_of a (b ∷ []) e (first_of b [] e h)
-
-pub none_of_two : (a b : Option Rule) → a ≡ None → b ≡ None → rules_in (a ∷ b ∷ []) ≡ []
-none_of_two a b x y = none_first a (b ∷ []) x (none_first b [] y refl)
-
-module _ (a b c : Option Rule) (e : OrMemory ElabFault) where
-  pub first_of_three : Because (IsBroken a) e → Because (BreaksOf (rules_in (a ∷ b ∷ c ∷ []))) e
-  first_of_three h = first_of a (b ∷ c ∷ []) e h
-
-  pub second_of_three : Because (IsBroken b) e → Because (BreaksOf (rules_in (a ∷ b ∷ c ∷ []))) e
-  second_of_three h = later_of a (b ∷ c ∷ []) e (first_of b (c ∷ []) e h)
-
-  pub third_of_three : Because (IsBroken c) e → Because (BreaksOf (rules_in (a ∷ b ∷ c ∷ []))) e
-  third_of_three h = later_of a (b ∷ c ∷ []) e (later_of b (c ∷ []) e (first_of c [] e h))
-
-pub none_of_three : (a b c : Option Rule) → a ≡ None → b ≡ None → c ≡ None → rules_in (a ∷ b ∷ c ∷ []) ≡ []
-none_of_three a b c x y z = none_first a (b ∷ c ∷ []) x (none_of_two b c y z)
+-- the variables of ports, and those of items behind them
+pub own_variables_are : (words : List Text) (told : Asked) (ports : List PortForm) (wanted : List Found) (scope : Scope) (before middle after : List Variable) (driven : List Text)
+    (one two : List ModuleItem) → one ≡ told.unit.now.items.items → two ≡ told.unit.now.items.items → driven ≡ nets_driven words told.ties.now ports one wanted →
+    middle ≡ before ++ port_variables words (record { name = told.path.now; driven = driven }) scope ports →
+    after ≡ middle ++ variables_from (record { name = told.path.now; driven = driven }) scope (map (item_tree words) two) →
+    after ≡ before ++ own_variables words told ports wanted scope
+own_variables_are words told ports wanted scope before middle after driven one two one_is two_is driven_is first second =
+    let items : List ModuleItem = told.unit.now.items.items in
+    let exact : driven ≡ nets_driven words told.ties.now ports items wanted =
+    driven_is ∙ ap (λ (list : List ModuleItem). nets_driven words told.ties.now ports list wanted) one_is in
+    second
+    ∙ (λ i. first i ++ variables_from (record { name = told.path.now; driven = driven }) scope (map (item_tree words) (two_is i)))
+    ∙ append_assoc before (port_variables words (record { name = told.path.now; driven = driven }) scope ports)
+    (variables_from (record { name = told.path.now; driven = driven }) scope (map (item_tree words) items))
+    ∙ (λ i. before ++ (port_variables words (record { name = told.path.now; driven = exact i }) scope ports
+    ++ variables_from (record { name = told.path.now; driven = exact i }) scope (map (item_tree words) items)))
 
 -- what an instance adds of its own, field by field, and its rules
 module _ (request : Request) (ports : List Port) (wanted : List Wanted) (scope : Scope) (part : Part) where
@@ -62,27 +60,28 @@ module _ (request : Request) (ports : List Port) (wanted : List Wanted) (scope :
   own_is after variables scopes table begins events =
       λ i. record { variables = variables i; scopes = scopes i; table = table i; begins = begins i; events = events i }
 
-  abbrev counts : List Rule
-  counts = rules_in (count_rules (length (own_by request ports wanted scope part).begins) (length (own_by request ports wanted scope part).scopes))
+  abbrev counts : Option Rule
+  counts = broken_counts (length (own_by request ports wanted scope part).begins) (length (own_by request ports wanted scope part).scopes)
 
-  pub processes_err : (e : OrMemory ElabFault) → Because (BreaksOf (rules_in (process_rules request ports wanted scope))) e →
-      Because (BreaksOf (own_rules_by request ports wanted scope part)) e
-  processes_err e h =
-      back_err (rules_in (variable_rules request ports wanted scope)) (rules_in (process_rules request ports wanted scope) ++ counts) e
-      (front_err (rules_in (process_rules request ports wanted scope)) counts e h)
+  module _ (variables : broken_variables request ports wanted scope ≡ None) where
+    pub processes_err : (e : OrMemory ElabFault) → Because (IsBroken (broken_processes request ports wanted scope)) e →
+        Because (IsBroken (broken_own_by request ports wanted scope part)) e
+    processes_err e h =
+        then_breaks (broken_variables request ports wanted scope) (option_or (broken_processes request ports wanted scope) counts) variables e
+        (first_breaks (broken_processes request ports wanted scope) counts e h)
 
-  module _ (begins : List (List ℕ)) (scopes : List Room) (begins_are : begins ≡ part.begins ++ (processes_by request ports wanted scope part.table).begins)
-      (scopes_are : scopes ≡ part.scopes ++ scope_of request scope.variables ∷ []) where
-    counts_are : rules_in (count_rules (length begins) (length scopes)) ≡ counts
-    counts_are = λ i. rules_in (count_rules (length (begins_are i)) (length (scopes_are i)))
+    module _ (processes : broken_processes request ports wanted scope ≡ None) (begins : List (List ℕ)) (scopes : List Room)
+        (begins_are : begins ≡ part.begins ++ (processes_by request ports wanted scope part.table).begins)
+        (scopes_are : scopes ≡ part.scopes ++ scope_of request scope.variables ∷ []) where
+      counts_are : broken_counts (length begins) (length scopes) ≡ counts
+      counts_are = λ i. broken_counts (length (begins_are i)) (length (scopes_are i))
 
-    pub counts_err : (e : OrMemory ElabFault) → Because (BreaksOf (rules_in (count_rules (length begins) (length scopes)))) e → Because (BreaksOf (own_rules_by request ports wanted scope part)) e
-    counts_err e h =
-        back_err (rules_in (variable_rules request ports wanted scope)) (rules_in (process_rules request ports wanted scope) ++ counts) e
-        (back_err (rules_in (process_rules request ports wanted scope)) counts e (same_rules _ _ e counts_are h))
+      pub counts_err : (e : OrMemory ElabFault) → Because (IsBroken (broken_counts (length begins) (length scopes))) e → Because (IsBroken (broken_own_by request ports wanted scope part)) e
+      counts_err e h =
+          then_breaks (broken_variables request ports wanted scope) (option_or (broken_processes request ports wanted scope) counts) variables e
+          (then_breaks (broken_processes request ports wanted scope) counts processes e (same_rule _ _ counts_are e h))
 
-    pub own_right : rules_in (variable_rules request ports wanted scope) ≡ [] → rules_in (process_rules request ports wanted scope) ≡ [] →
-        rules_in (count_rules (length begins) (length scopes)) ≡ [] → own_rules_by request ports wanted scope part ≡ []
-    own_right variables processes few =
-        both_none (rules_in (variable_rules request ports wanted scope)) (rules_in (process_rules request ports wanted scope) ++ counts) variables
-        (both_none (rules_in (process_rules request ports wanted scope)) counts processes (sym counts_are ∙ few))
+      pub own_right : broken_counts (length begins) (length scopes) ≡ None → broken_own_by request ports wanted scope part ≡ None
+      own_right few =
+          both_right (broken_variables request ports wanted scope) (option_or (broken_processes request ports wanted scope) counts) variables
+          (both_right (broken_processes request ports wanted scope) counts processes (sym counts_are ∙ few))

@@ -1,6 +1,6 @@
 -- What the steps of elaboration over instances are told by and answer; nothing here has to be believed.
 use Rattle.std.specs.Prelude.{◌≡◌, ℕ, List, ◌++◌, map, Option, option_map}
-use Rattle.std.specs.List.{fold, flat_map}
+use Rattle.std.specs.List.{fold, filter, flat_map}
 use Rattle.vast.specs.Words.{Text}
 use Rattle.vast.specs.TokenTexts.{token_text}
 use Rattle.vast.specs.ModuleTrees.{module_tree, item_tree, instance_tree, connections_tree}
@@ -8,26 +8,21 @@ use Rattle.vast.specs.declared.module.ModuleItem.{ModuleItem}
 use Rattle.vast.specs.declared.module.Instance.{Instance}
 use Rattle.vast.specs.declared.module.Connections.{Connections}
 use Rattle.vast.specs.declared.module.ModuleTree.{ModuleTree as Parsed}
+use Rattle.vmodules.specs.Names.{is_declared}
 use Rattle.vmodules.specs.Connected.{open_names}
 use Rattle.vmodules.specs.Inner.{Tie, Units, ties_tree, units_tree, port_form}
 use Rattle.vmodules.specs.declared.ports.PortForm.{PortForm}
 use Rattle.velab.specs.declared.fault.Rule.{Rule}
-use Rattle.velab.specs.declared.fault.ElabFault.{ElabFault}
-use Rattle.velab.specs.Rules.{Breaks}
 use Rattle.velab.specs.Scopes.{Scope}
 use Rattle.basis.specs.declared.timescale.Timescale.{Timescale}
 use Rattle.vdesign.specs.Design.{Variable, Scope as Room, Design}
 use Rattle.vdesign.specs.declared.action.Action.{Action}
-use Rattle.velab.specs.Elaborate.{Processes, port_names}
+use Rattle.velab.specs.Elaborate.{Processes, port_names, nets_of}
 use Rattle.velab.specs.Inner.{outside_tree, item_drivers}
-use Rattle.vhierarchy.specs.Instances.{Wanted, wanted_one, broken_instances, wanted_from, broken_among, Part, Request, asked, grown, broken_grown, broken_each, own_by, own_rules_by, variables_by, variable_rules, processes_by, process_rules, driven_inside, driven_outputs, driven_outside}
+use Rattle.vhierarchy.specs.Instances.{Wanted, wanted_one, broken_instances, wanted_from, broken_among, Part, Request, asked, grown, broken_grown, broken_each, own_by, broken_own_by, variables_by, broken_variables, processes_by, broken_processes, driven_inside, driven_outputs, driven_outside}
 use Rattle.vhierarchy.specs.declared.wanted.Wanted.{Wanted as Found}
 use Rattle.vhierarchy.specs.declared.wanted.Open.{Open}
 use Rattle.vhierarchy.specs.declared.request.Request.{Request as Asked}
-
--- a fault is one of these rules
-abbrev pub BreaksOf : List Rule → ElabFault → Type 0
-BreaksOf rules fault = Breaks rules fault.rule
 
 -- an instance that was found, told of the program's values
 abbrev pub wanted_tree : List Text → Found → Wanted
@@ -54,27 +49,32 @@ request_tree words told = record {
   ties = ties_tree words told.ties.now;
 }
 
--- the nets that connected inputs drive, and those that outputs of instances do
+-- the names that connected inputs drive, and those that outputs of instances do
 abbrev pub inputs_of : List Text → List Tie → List PortForm → List Text
 inputs_of words ties ports = driven_inside (ties_tree words ties) (map (port_form words) ports)
 
 abbrev pub outputs_of : List Text → List Tie → List PortForm → List Text
 outputs_of words ties ports = driven_outputs (ties_tree words ties) (map (port_form words) ports)
 
--- the nets that instances drive outside
+-- the names that instances drive outside
 abbrev pub outputs_by : List Text → List Found → List Text
 outputs_by words list = flat_map driven_outside (wanted_trees words list)
 
--- the nets of an instance that something drives
+-- the names that something drives in an instance, and the nets among them
 abbrev pub driven_by : List Text → List Tie → List PortForm → List ModuleItem → List Found → List Text
 driven_by words ties ports items wanted = (inputs_of words ties ports ++ item_drivers words items) ++ outputs_by words wanted
+
+abbrev pub nets_driven : List Text → List Tie → List PortForm → List ModuleItem → List Found → List Text
+nets_driven words ties ports items wanted =
+    filter (is_declared (nets_of (map (port_form words) ports) (map (item_tree words) items))) (driven_by words ties ports items wanted)
 
 -- the instances of items
 abbrev pub found_in : Units → ℕ → List ModuleItem → List Wanted
 found_in units known items = wanted_from (units_tree units) known (map (item_tree units.words) items)
 
-abbrev pub broken_in : Units → List ModuleItem → Option Rule
-broken_in units items = broken_among (units_tree units) (map (item_tree units.words) items)
+-- what they break, where so many instances stand before
+abbrev pub broken_in : Units → ℕ → List ModuleItem → Option Rule
+broken_in units before items = broken_among (units_tree units) before (map (item_tree units.words) items)
 
 -- what may be spoken of from outside is that of this module
 pub record IsOpen (words : List Text) (child : Parsed) (open_of : Open) : Type 0 where
@@ -96,25 +96,25 @@ abbrev pub own_part : List Text → Asked → List PortForm → List Found → S
 own_part words asked ports wanted scope part =
     own_by (request_tree words asked) (map (port_form words) ports) (wanted_trees words wanted) scope part
 
-abbrev pub own_part_rules : List Text → Asked → List PortForm → List Found → Scope → Part → List Rule
-own_part_rules words asked ports wanted scope part =
-    own_rules_by (request_tree words asked) (map (port_form words) ports) (wanted_trees words wanted) scope part
+abbrev pub broken_own_part : List Text → Asked → List PortForm → List Found → Scope → Part → Option Rule
+broken_own_part words asked ports wanted scope part =
+    broken_own_by (request_tree words asked) (map (port_form words) ports) (wanted_trees words wanted) scope part
 
 abbrev pub own_variables : List Text → Asked → List PortForm → List Found → Scope → List Variable
 own_variables words asked ports wanted scope =
     variables_by (request_tree words asked) (map (port_form words) ports) (wanted_trees words wanted) scope
 
-abbrev pub own_variable_rules : List Text → Asked → List PortForm → List Found → Scope → List (Option Rule)
-own_variable_rules words asked ports wanted scope =
-    variable_rules (request_tree words asked) (map (port_form words) ports) (wanted_trees words wanted) scope
+abbrev pub broken_own_variables : List Text → Asked → List PortForm → List Found → Scope → Option Rule
+broken_own_variables words asked ports wanted scope =
+    broken_variables (request_tree words asked) (map (port_form words) ports) (wanted_trees words wanted) scope
 
 abbrev pub own_processes : List Text → Asked → List PortForm → List Found → Scope → List Action → Processes
 own_processes words asked ports wanted scope table =
     processes_by (request_tree words asked) (map (port_form words) ports) (wanted_trees words wanted) scope table
 
-abbrev pub own_process_rules : List Text → Asked → List PortForm → List Found → Scope → List (Option Rule)
-own_process_rules words asked ports wanted scope =
-    process_rules (request_tree words asked) (map (port_form words) ports) (wanted_trees words wanted) scope
+abbrev pub broken_own_processes : List Text → Asked → List PortForm → List Found → Scope → Option Rule
+broken_own_processes words asked ports wanted scope =
+    broken_processes (request_tree words asked) (map (port_form words) ports) (wanted_trees words wanted) scope
 
 -- the instances of a list, one after another
 abbrev pub each_grown : Units → ℕ → Asked → Scope → Part → List Found → Part
@@ -122,7 +122,7 @@ each_grown units levels request scope part list =
     fold (λ (so_far : Part) (one : Wanted). grown levels (units_tree units) so_far (asked scope (request_tree units.words request) one))
     part (wanted_trees units.words list)
 
-abbrev pub each_broken_grown : Units → ℕ → Asked → Scope → Part → List Found → List Rule
+abbrev pub each_broken_grown : Units → ℕ → Asked → Scope → Part → List Found → Option Rule
 each_broken_grown units levels request scope part list =
     broken_each (λ (so_far : Part) (one : Wanted). grown levels (units_tree units) so_far (asked scope (request_tree units.words request) one))
     (λ (so_far : Part) (one : Wanted). broken_grown levels (units_tree units) so_far (asked scope (request_tree units.words request) one))
@@ -133,7 +133,7 @@ abbrev pub one_grown : Units → ℕ → Asked → Scope → Part → Found → 
 one_grown units levels request scope part one =
     grown levels (units_tree units) part (asked scope (request_tree units.words request) (wanted_tree units.words one))
 
-abbrev pub one_broken : Units → ℕ → Asked → Scope → Part → Found → List Rule
+abbrev pub one_broken : Units → ℕ → Asked → Scope → Part → Found → Option Rule
 one_broken units levels request scope part one =
     broken_grown levels (units_tree units) part (asked scope (request_tree units.words request) (wanted_tree units.words one))
 

@@ -1,6 +1,6 @@
 -- `Elaborates modules top scale design`: the design that a text stands for, by recursion over instances (IEEE 1364-2005, clause 12).
 use Rattle.std.specs.Prelude.{◌≡◌, ℕ, zero, suc, ◌+◌, nat_le, cond, List, [], ◌∷◌, ◌++◌, map, length, Option, None, Some}
-use Rattle.std.specs.List.{fold, list_all, flat_map, filter_map}
+use Rattle.std.specs.List.{fold, list_all, flat_map, filter, filter_map}
 use Rattle.std.specs.Option.{option_or}
 use Rattle.basis.specs.declared.timescale.Timescale.{Timescale}
 use Rattle.vast.specs.Words.{Text}
@@ -16,11 +16,11 @@ use Rattle.vdesign.specs.declared.action.Action.TheVariants.{Assign, Nonblocking
 use Rattle.vdesign.specs.declared.dump.Chosen.{Chosen}
 use Rattle.velab.specs.declared.fault.Rule.{Rule}
 use Rattle.velab.specs.declared.fault.Rule.TheVariants as rule
-use Rattle.velab.specs.Rules.{unless, broken_if, flaw_rule, rules_in}
+use Rattle.velab.specs.Rules.{unless, broken_if, flaw_rule}
 use Rattle.velab.specs.Right.{writes_rightly}
 use Rattle.velab.specs.ActionFlaws.{blank_moment, table_flaw}
 use Rattle.velab.specs.Scopes.{Scope, at}
-use Rattle.velab.specs.Elaborate.{port_names, declared_names, Outside, Base, Home, Processes, given_by, given_in_head, first_scope, head_scope, item_scope, variable_of, port_declaration, variables_from, broken_all, broken_ports, broken_from, drivers_by, only_name, laid_joins, broken_joins, laid_items, broken_items_from}
+use Rattle.velab.specs.Elaborate.{port_names, declared_names, Outside, Base, Home, Processes, given_by, given_in_head, first_scope, head_scope, item_scope, variable_of, port_declaration, variables_from, broken_all, broken_ports, broken_from, drivers_by, nets_of, only_name, laid_joins, broken_joins, laid_items, broken_items_from}
 
 -- ---- the instances that a module has (12.1.2)
 
@@ -80,27 +80,28 @@ abbrev pub broken_child : ModuleTree → Option Rule
 broken_child child =
     option_or (broken_if (has_double (open_names child)) rule.Doubled) (broken_if (has_double (port_names child)) rule.Doubled)
 
--- the module is there; a design has at most 1,024 instances below the top, and so has an item
-abbrev pub broken_of : Option ModuleTree → Option ConnectionsTree → List InstanceTree → Option Rule
-broken_of None overrides list = Some rule.Top
-broken_of (Some child) overrides list =
-    option_or (unless (nat_le (length list) 1024) rule.TooMany)
+-- the module is there; a design has at most 1,024 instances below the top, and so has a module, of which so many stand before
+abbrev pub broken_of : ℕ → Option ModuleTree → Option ConnectionsTree → List InstanceTree → Option Rule
+broken_of before None overrides list = Some rule.Top
+broken_of before (Some child) overrides list =
+    option_or (unless (nat_le (before + length list) 1024) rule.TooMany)
     (option_or (broken_child child) (broken_instances child overrides list))
 
-abbrev pub broken_wanted : SourceTree → ItemTree → Option Rule
-broken_wanted modules (parameters local type settings) = None
-broken_wanted modules (declaration kind list) = None
-broken_wanted modules (events names) = None
-broken_wanted modules (assignments settings) = None
-broken_wanted modules (initial statement) = None
-broken_wanted modules (always statement) = None
-broken_wanted modules (instances letters overrides list) = broken_of (module_of modules letters) overrides list
+abbrev pub broken_wanted : SourceTree → ℕ → ItemTree → Option Rule
+broken_wanted modules before (parameters local type settings) = None
+broken_wanted modules before (declaration kind list) = None
+broken_wanted modules before (events names) = None
+broken_wanted modules before (assignments settings) = None
+broken_wanted modules before (initial statement) = None
+broken_wanted modules before (always statement) = None
+broken_wanted modules before (instances letters overrides list) = broken_of before (module_of modules letters) overrides list
 
-abbrev pub broken_among : SourceTree → List ItemTree → Option Rule
-broken_among modules [] = None
-broken_among modules (item ∷ more) = option_or (broken_wanted modules item) (broken_among modules more)
+abbrev pub broken_among : SourceTree → ℕ → List ItemTree → Option Rule
+broken_among modules before [] = None
+broken_among modules before (item ∷ more) =
+    option_or (broken_wanted modules before item) (broken_among modules (before + length (wanted_by modules 0 item)) more)
 
--- ---- nets that are driven (6.1, 12.3.9.2)
+-- ---- names that are driven (6.1, 12.3.9.2)
 
 -- the port, where it is an input that is connected
 abbrev pub driven_input : Port → Option ExpressionTree → Option Text
@@ -156,37 +157,40 @@ inside part request = item_scope (base_of part request) request.unit
 abbrev pub scope_of : Request → ℕ → design.Scope
 scope_of request count = record { name = request.name; path = request.path; depth = request.depth; variables = count }
 
+-- Each of these tells the first rule that is broken, in the order in which they are looked at here.
+
 -- what its names break
-abbrev pub name_rules : Part → Request → List (Option Rule)
-name_rules part request =
-    broken_if (has_double (declared_names request.unit)) rule.Doubled
-    ∷ unless (nat_le (length part.variables + length (declared_names request.unit)) 1024) rule.TooMany
-    ∷ unless (nat_le part.events 4294967295) rule.TooMany
-    ∷ broken_all request.outside (first_scope (base_of part request) request.unit) (given_in_head request.unit.parameters)
-    ∷ broken_all request.outside (head_scope (base_of part request) request.unit) (flat_map given_by request.unit.items)
-    ∷ []
+abbrev pub broken_names : Part → Request → Option Rule
+broken_names part request =
+    option_or (broken_if (has_double (declared_names request.unit)) rule.Doubled)
+    (option_or (unless (nat_le (length part.variables + length (declared_names request.unit)) 1024) rule.TooMany)
+    (option_or (unless (nat_le part.events 4294967295) rule.TooMany)
+    (option_or (broken_all request.outside (first_scope (base_of part request) request.unit) (given_in_head request.unit.parameters))
+    (broken_all request.outside (head_scope (base_of part request) request.unit) (flat_map given_by request.unit.items)))))
 
 -- a design has at most 256 processes, and 1,024 instances below the top
-abbrev pub count_rules : ℕ → ℕ → List (Option Rule)
-count_rules processes scopes =
-    unless (nat_le processes 256) rule.TooMany ∷ unless (nat_le scopes 1025) rule.TooMany ∷ []
+abbrev pub broken_counts : ℕ → ℕ → Option Rule
+broken_counts processes scopes = option_or (unless (nat_le processes 256) rule.TooMany) (unless (nat_le scopes 1025) rule.TooMany)
 
 -- what is its own, by its ports, the instances in it and its names
 module _ (request : Request) (ports : List Port) (wanted : List Wanted) (scope : Scope) where
+  -- where its variables stand, and the nets in it that something drives, as often as it does
   abbrev pub home_by : Home
-  home_by = record { name = request.path; driven = driven_names request.ties ports wanted request.unit.items }
+  home_by = record {
+    name = request.path;
+    driven = filter (is_declared (nets_of ports request.unit.items)) (driven_names request.ties ports wanted request.unit.items);
+  }
 
   -- its ports, and what its items declare
   abbrev pub variables_by : List design.Variable
   variables_by =
       map (variable_of home_by scope) (map port_declaration ports) ++ variables_from home_by scope request.unit.items
 
-  abbrev pub variable_rules : List (Option Rule)
-  variable_rules =
-      broken_if (has_double home_by.driven) rule.Drivers
-      ∷ broken_ports scope ports
-      ∷ broken_from scope request.unit.items
-      ∷ []
+  -- no net has two drivers, and each variable has bounds
+  abbrev pub broken_variables : Option Rule
+  broken_variables =
+      option_or (broken_if (has_double home_by.driven) rule.Drivers)
+      (option_or (broken_ports scope ports) (broken_from scope request.unit.items))
 
   abbrev pub joins_by : List Action → Processes
   joins_by table = laid_joins request.outside.scope scope request.ties table ports
@@ -198,9 +202,9 @@ module _ (request : Request) (ports : List Port) (wanted : List Wanted) (scope :
       let own = laid_items scope joins.table request.unit.items in
       record { table = own.table; begins = joins.begins ++ own.begins }
 
-  abbrev pub process_rules : List (Option Rule)
-  process_rules =
-      broken_joins request.outside.scope scope request.ties ports ∷ broken_items_from scope request.unit.items ∷ []
+  abbrev pub broken_processes : Option Rule
+  broken_processes =
+      option_or (broken_joins request.outside.scope scope request.ties ports) (broken_items_from scope request.unit.items)
 
   -- with its own variables, its scope and its own processes
   abbrev pub own_by : Part → Part
@@ -212,21 +216,21 @@ module _ (request : Request) (ports : List Port) (wanted : List Wanted) (scope :
     events = scope.events;
   }
 
-  abbrev pub own_rules_by : Part → List Rule
-  own_rules_by part =
-      rules_in variable_rules
-      ++ (rules_in process_rules ++ rules_in (count_rules (length (own_by part).begins) (length (own_by part).scopes)))
+  abbrev pub broken_own_by : Part → Option Rule
+  broken_own_by part =
+      option_or broken_variables
+      (option_or broken_processes (broken_counts (length (own_by part).begins) (length (own_by part).scopes)))
 
 abbrev pub with_own : SourceTree → Part → Request → Part
 with_own modules part request =
     own_by request (ports_of request.unit) (wanted_in modules request.unit) (inside part request) part
 
 -- what it breaks of its own: by its names, by the instances that it has, and by variables and processes
-abbrev pub own_rules : SourceTree → Part → Request → List Rule
-own_rules modules part request =
-    rules_in (name_rules part request)
-    ++ (rules_in (broken_among modules request.unit.items ∷ [])
-    ++ own_rules_by request (ports_of request.unit) (wanted_in modules request.unit) (inside part request) part)
+abbrev pub broken_own : SourceTree → Part → Request → Option Rule
+broken_own modules part request =
+    option_or (broken_names part request)
+    (option_or (broken_among modules 0 request.unit.items)
+    (broken_own_by request (ports_of request.unit) (wanted_in modules request.unit) (inside part request) part))
 
 -- ---- and the instances in it
 
@@ -249,19 +253,19 @@ grown (suc levels) modules part request =
     fold (λ (so_far : Part) (one : Wanted). grown levels modules so_far (asked (inside part request) request one))
     (with_own modules part request) (wanted_in modules request.unit)
 
--- the rules that instances break one after another, each by what stands before
-abbrev pub broken_each : (Part → Wanted → Part) → (Part → Wanted → List Rule) → Part → List Wanted → List Rule
-broken_each step rules part [] = []
-broken_each step rules part (one ∷ more) = rules part one ++ broken_each step rules (step part one) more
+-- what instances break one after another, each by what stands before
+abbrev pub broken_each : (Part → Wanted → Part) → (Part → Wanted → Option Rule) → Part → List Wanted → Option Rule
+broken_each step rule part [] = None
+broken_each step rule part (one ∷ more) = option_or (rule part one) (broken_each step rule (step part one) more)
 
--- the rules that an instance and all below it break: more levels than there are is one
-abbrev pub broken_grown : ℕ → SourceTree → Part → Request → List Rule
-broken_grown zero modules part request = rule.Depth ∷ []
+-- what an instance and all below it break: there are no more levels than these
+abbrev pub broken_grown : ℕ → SourceTree → Part → Request → Option Rule
+broken_grown zero modules part request = Some rule.Depth
 broken_grown (suc levels) modules part request =
-    own_rules modules part request
-    ++ broken_each (λ (so_far : Part) (one : Wanted). grown levels modules so_far (asked (inside part request) request one))
+    option_or (broken_own modules part request)
+    (broken_each (λ (so_far : Part) (one : Wanted). grown levels modules so_far (asked (inside part request) request one))
     (λ (so_far : Part) (one : Wanted). broken_grown levels modules so_far (asked (inside part request) request one))
-    (with_own modules part request) (wanted_in modules request.unit)
+    (with_own modules part request) (wanted_in modules request.unit))
 
 -- ---- the design (12.1)
 
@@ -283,11 +287,11 @@ top_request m = record {
   ties = [];
 }
 
--- 16 levels, the top among them, and the rules that they break
+-- 16 levels, the top among them, and what they break
 unfoldable pub whole_of : SourceTree → ModuleTree → Part
 whole_of modules m = grown 16 modules nothing (top_request m)
 
-unfoldable pub broken_whole : SourceTree → ModuleTree → List Rule
+unfoldable pub broken_whole : SourceTree → ModuleTree → Option Rule
 broken_whole modules m = broken_grown 16 modules nothing (top_request m)
 
 -- under the timescale of the text (19.8)
@@ -342,36 +346,35 @@ abbrev pub broken_selections : List Text → List Text → List Action → Optio
 broken_selections scopes variables [] = None
 broken_selections scopes variables (one ∷ more) = option_or (broken_selection scopes variables one) (broken_selections scopes variables more)
 
--- what a design breaks: paths that are alike, what is dumped, what is written, and sizes
-abbrev pub path_rules : Part → List (Option Rule)
-path_rules part =
-    broken_if (has_double (variable_paths part)) rule.Doubled
-    ∷ broken_if (has_double (scope_paths part)) rule.Doubled
-    ∷ broken_selections (scope_paths part) (variable_paths part) part.table
-    ∷ []
+-- no two paths are alike, which two only are where names are, so that it is told before; and what is dumped is there
+abbrev pub broken_paths : Part → Option Rule
+broken_paths part =
+    option_or (broken_if (has_double (variable_paths part)) rule.Doubled)
+    (option_or (broken_if (has_double (scope_paths part)) rule.Doubled)
+    (broken_selections (scope_paths part) (variable_paths part) part.table))
 
-abbrev pub table_rules : Part → List (Option Rule)
-table_rules part =
-    unless (nat_le (length part.begins) 256) rule.TooMany
-    ∷ unless (list_all (writes_rightly part.variables) part.table) rule.Kind
-    ∷ flaw_rule (table_flaw (blank_moment part.variables) part.table)
-    ∷ []
+-- there are at most 256 processes, which is told before; what is written is a variable or a net as it is to be, and no size is wrong
+abbrev pub broken_table : Part → Option Rule
+broken_table part =
+    option_or (unless (nat_le (length part.begins) 256) rule.TooMany)
+    (option_or (unless (list_all (writes_rightly part.variables) part.table) rule.Kind)
+    (flaw_rule (table_flaw (blank_moment part.variables) part.table)))
 
-abbrev pub design_rules : Part → List Rule
-design_rules part = rules_in (path_rules part) ++ rules_in (table_rules part)
+abbrev pub broken_design : Part → Option Rule
+broken_design part = option_or (broken_paths part) (broken_table part)
 
-abbrev pub broken_top : SourceTree → Option ModuleTree → List Rule
-broken_top modules None = rule.Top ∷ []
-broken_top modules (Some m) = broken_whole modules m ++ design_rules (whole_of modules m)
+abbrev pub broken_top : SourceTree → Option ModuleTree → Option Rule
+broken_top modules None = Some rule.Top
+broken_top modules (Some m) = option_or (broken_whole modules m) (broken_design (whole_of modules m))
 
--- the rules that a text breaks
-abbrev pub broken_rules : SourceTree → Option Text → List Rule
-broken_rules modules top =
-    rules_in (broken_if (has_double (module_names modules)) rule.Doubled ∷ []) ++ broken_top modules (top_of modules top)
+-- the first rule that a text breaks
+abbrev pub broken_rule : SourceTree → Option Text → Option Rule
+broken_rule modules top =
+    option_or (broken_if (has_double (module_names modules)) rule.Doubled) (broken_top modules (top_of modules top))
 
 -- No rule is broken, so that the text has a top, and the design is the one that it describes.
 pub record Elaborates (modules : SourceTree) (top : Option Text) (scale : Timescale) (design : design.Design) : Type 0 where
-  pub right : broken_rules modules top ≡ []
+  pub right : broken_rule modules top ≡ None
   pub unit : ModuleTree
   pub is_top : top_of modules top ≡ Some unit
   pub describes : design ≡ design_by scale unit (whole_of modules unit)

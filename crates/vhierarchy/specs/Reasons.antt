@@ -5,12 +5,12 @@ use Rattle.vast.specs.Modules.{SourceTree}
 use Rattle.basis.specs.declared.timescale.Timescale.{Timescale}
 use Rattle.vdesign.specs.Design.{Design}
 use Rattle.velab.specs.declared.fault.ElabFault.{ElabFault}
-use Rattle.velab.specs.Rules.{Breaks}
-use Rattle.vhierarchy.specs.Instances.{broken_rules, Elaborates}
+use Rattle.velab.specs.Rules.{IsBroken}
+use Rattle.vhierarchy.specs.Instances.{broken_rule, Elaborates}
 
--- what a fault says of the text: it breaks this rule
+-- what a fault says of the text: this is the first rule that it breaks
 abbrev pub IsDesignReason : SourceTree → Option Text → ElabFault → Type 0
-IsDesignReason tree top fault = Breaks (broken_rules tree top) fault.rule
+IsDesignReason tree top = IsBroken (broken_rule tree top)
 
 -- no design is the text's, under no timescale
 abbrev pub HasNoDesign : SourceTree → Option Text → Type 0

@@ -1,24 +1,24 @@
 // The design of a text.
 
-ghost use Rattle.std.specs.Prelude.{◌≡◌, [], false, None, Some, length, nat_le, IfOk, OnOk};
+ghost use Rattle.std.specs.Prelude.{◌≡◌, false, None, Some, length, nat_le, IfOk, OnOk};
 ghost use Rattle.basis.specs.Reasons.{IfFault};
 ghost use Rattle.vdesign.specs.Design.{Design};
 ghost use Rattle.vast.specs.ModuleTrees.{source_tree, module_tree};
 ghost use Rattle.vexpr_parse.specs.Texts.{words_of};
 ghost use Rattle.vmodules.specs.Names.{has_double};
 ghost use Rattle.vmodules.specs.Inner.{unit_names, units_tree, named_text};
-ghost use Rattle.velab.specs.Rules.{rules_in, broken_if, unless, IsBroken};
+ghost use Rattle.velab.specs.Rules.{broken_if, unless, IsBroken};
 ghost use Rattle.vhierarchy.specs.Instances as spec;
-ghost use Rattle.vhierarchy.specs.Instances.{Elaborates, broken_whole, path_rules, whole_of};
+ghost use Rattle.vhierarchy.specs.Instances.{Elaborates, broken_paths, broken_whole, whole_of};
 ghost use Rattle.vhierarchy.specs.Reasons.{IsDesignReason, IsOnlyDesign, HasNoDesign};
-ghost use Rattle.vhierarchy.specs.Inner.{BreaksOf, named_design, scope_names, variable_names};
+ghost use Rattle.vhierarchy.specs.Inner.{named_design, scope_names, variable_names};
 
 use crate::grow::put_unit;
 use crate::own::MOST_PROCESSES;
 use crate::part::Part;
 use crate::request::Request;
 use crate::select::check_selections;
-use basis::{OrMemory, Timescale};
+use basis::{NoMemory, OrMemory, Timescale};
 use std::alloc::Global;
 use vast::module::{ModuleTree, TextTree};
 use vdesign::design::{Design, Scope as Room, Variable};
@@ -31,7 +31,7 @@ use velab::statement::Table;
 use velab::width::check_flaws;
 use vlex::Tokens;
 use vmodules::connect::Ties;
-use vmodules::hierarchy::{Modules, modules_of, top_of};
+use vmodules::hierarchy::{Modules, modules_of, second_root, top_of};
 use vmodules::letters::letters;
 use vmodules::names::Names;
 
@@ -51,8 +51,8 @@ fn whole_part<'t, 'u>(
     ensures ok { IfOk result (λ part.
         part ≡ whole_of (units_tree modules.now) (module_tree modules.now.words unit.now)) }
     ensures right { OnOk result (broken_whole (units_tree modules.now)
-        (module_tree modules.now.words unit.now) ≡ []) }
-    ensures err { IfFault result (BreaksOf (broken_whole (units_tree modules.now)
+        (module_tree modules.now.words unit.now) ≡ None) }
+    ensures err { IfFault result (IsBroken (broken_whole (units_tree modules.now)
         (module_tree modules.now.words unit.now))) }
 {
     let name = letters(modules.tokens(), unit.name);
@@ -125,8 +125,8 @@ fn scopes_of<'p>(
 
 // What the paths of a part break. E302 where two are alike, E303 or E310 where what is dumped is no scope.
 fn check_paths(alloc: Global, part: &Part, at: u32) -> Result<(), OrMemory<ElabFault>>
-    ensures right { OnOk result (rules_in (path_rules part.now) ≡ []) }
-    ensures err { IfFault result (BreaksOf (rules_in (path_rules part.now))) }
+    ensures right { OnOk result (broken_paths part.now ≡ None) }
+    ensures err { IfFault result (IsBroken (broken_paths part.now)) }
 {
     let variables = paths_of(alloc, &part.variables, at)?;
     let scopes = scopes_of(alloc, &part.scopes, at)?;
@@ -181,8 +181,8 @@ fn checked(
 ) -> Result<Design, OrMemory<ElabFault>>
     ensures ok { IfOk result (λ design.
         design ≡ spec.design_by scale (module_tree (words_of tokens.now) unit.now) part) }
-    ensures right { OnOk result (spec.design_rules part ≡ []) }
-    ensures err { IfFault result (BreaksOf (spec.design_rules part)) }
+    ensures right { OnOk result (spec.broken_design part ≡ None) }
+    ensures err { IfFault result (IsBroken (spec.broken_design part)) }
 {
     let at = unit.name.number;
     check_paths(alloc, &part, at)?;
@@ -203,8 +203,8 @@ fn design_of<'t, 'u>(
         (module_tree modules.now.words unit.now)
         (whole_of (units_tree modules.now) (module_tree modules.now.words unit.now))) }
     ensures right { OnOk result (spec.broken_top (units_tree modules.now)
-        (Some (module_tree modules.now.words unit.now)) ≡ []) }
-    ensures err { IfFault result (BreaksOf (spec.broken_top (units_tree modules.now)
+        (Some (module_tree modules.now.words unit.now)) ≡ None) }
+    ensures err { IfFault result (IsBroken (spec.broken_top (units_tree modules.now)
         (Some (module_tree modules.now.words unit.now)))) }
 {
     let part = whole_part(alloc, modules, unit)?;
@@ -235,8 +235,8 @@ fn modules_by<'t, 'u>(
 
 /// The design that the text stands for, under its timescale. `top` names its top module; without it the only module that no module
 /// instantiates is the top (12.1.1).
-/// Errors: E301 to E310, each only where its rule is broken, and E901. Of several faults any one may be answered. Modules that the top
-/// doesn't reach are not looked into.
+/// Errors: E301 to E310, that of the first rule that is broken (`broken_rule`), and E901. Modules that the top doesn't reach are not looked
+/// into.
 pub fn elaborate(
     alloc: Global,
     tokens: &Tokens<'_>,
@@ -252,17 +252,24 @@ pub fn elaborate(
     let modules = modules_by(alloc, tokens, &text.modules)?;
     match top_of(alloc, &modules, top)? {
         Some(unit) => design_of(alloc, &modules, unit, scale),
-        None => Err(OrMemory::Fault(ElabFault {
-            rule: Rule::Top,
-            at: second(&text.modules, top),
-        })),
+        None => {
+            let at = one_too_many(alloc, &modules, top)?;
+            Err(OrMemory::Fault(ElabFault {
+                rule: Rule::Top,
+                at,
+            }))
+        }
     }
 }
 
 // The token of the name that is one too many, where no top was asked for.
-fn second(modules: &[ModuleTree], top: Option<&[u8]>) -> Option<u32> {
+fn one_too_many(
+    alloc: Global,
+    modules: &Modules<'_, '_>,
+    top: Option<&[u8]>,
+) -> Result<Option<u32>, NoMemory> {
     match top {
-        Some(_) => None,
-        None => modules.get(1).map(|unit| unit.name.number),
+        Some(_) => Ok(None),
+        None => second_root(alloc, modules),
     }
 }

@@ -1,38 +1,36 @@
-// Nets that are driven: by connected inputs, by the items of a module, and by the outputs of its instances (IEEE 1364-2005, 6.1,
-// 12.3.9.2).
+// What is driven: by connected inputs, by the items of a module, and by the outputs of its instances (IEEE 1364-2005, 6.1, 12.3.9.2).
 
 ghost use Rattle.std.specs.Prelude.{◌≡◌, ◌++◌, ◌∷◌, [], false, map, IfOk, OnOk};
 ghost use Rattle.basis.specs.Reasons.{IfFault};
 ghost use Rattle.vast.specs.ModuleTrees.{item_tree};
 ghost use Rattle.vexpr_parse.specs.Texts.{words_of};
 ghost use Rattle.vmodules.specs.Names.{has_double};
-ghost use Rattle.velab.specs.Inner.{BreaksDrivers};
-ghost use Rattle.vhierarchy.specs.Inner.{inputs_of, outputs_of, outputs_by, driven_by};
+ghost use Rattle.velab.specs.Inner.{BreaksDrivers, driver_names};
+ghost use Rattle.vhierarchy.specs.Inner.{inputs_of, outputs_of, outputs_by, driven_by, nets_driven};
 
 use crate::wanted::Wanted;
-use basis::OrMemory;
+use basis::{NoMemory, OrMemory};
 use std::alloc::Global;
 use vast::module::ModuleItem;
-use velab::driven::{add_driver, add_items};
+use velab::driven::{Driver, add_driver, add_items};
 use velab::fault::ElabFault;
 use velab::join::only_name;
+use velab::nets::{driven_nets, nets_of};
 use vlex::Tokens;
 use vmodules::connect::Ties;
 use vmodules::letters::letters;
 use vmodules::names::Names;
 use vmodules::ports::{PortForm, ports_of};
 
-// The port, where it is an input that is connected. E304 where it is driven already.
+// The port, where it is an input that is connected.
 fn add_input<'t>(
     tokens: &Tokens<'t>,
     ties: &Ties<'_, '_>,
     port: &PortForm<'_>,
-    into: &mut Names<'t>,
-) -> Result<(), OrMemory<ElabFault>>
-    ensures ok { OnOk result
-        (into.new ≡ into.old ++ inputs_of (words_of tokens.now) ties.now (port.now ∷ [])) }
-    ensures err { IfFault result
-        (BreaksDrivers (into.old ++ inputs_of (words_of tokens.now) ties.now (port.now ∷ []))) }
+    into: &mut Vec<Driver<'t>>,
+) -> Result<(), NoMemory>
+    ensures { OnOk result (driver_names into.new.items ≡
+        driver_names into.old.items ++ inputs_of (words_of tokens.now) ties.now (port.now ∷ [])) }
 {
     match ties.value(letters(tokens, port.name)) {
         None => Ok(()),
@@ -51,12 +49,10 @@ fn add_inputs<'t>(
     tokens: &Tokens<'t>,
     ties: &Ties<'_, '_>,
     ports: &[PortForm<'_>],
-    into: &mut Names<'t>,
-) -> Result<(), OrMemory<ElabFault>>
-    ensures ok { OnOk result
-        (into.new ≡ into.old ++ inputs_of (words_of tokens.now) ties.now ports.now) }
-    ensures err { IfFault result
-        (BreaksDrivers (into.old ++ inputs_of (words_of tokens.now) ties.now ports.now)) }
+    into: &mut Vec<Driver<'t>>,
+) -> Result<(), NoMemory>
+    ensures { OnOk result (driver_names into.new.items ≡
+        driver_names into.old.items ++ inputs_of (words_of tokens.now) ties.now ports.now) }
 {
     for port in ports {
         add_input(tokens, ties, port, into)?;
@@ -64,17 +60,15 @@ fn add_inputs<'t>(
     Ok(())
 }
 
-// The net outside that an output drives. E304 where it is driven already.
+// What an output drives outside.
 fn add_output<'t>(
     tokens: &Tokens<'t>,
     ties: &Ties<'_, '_>,
     port: &PortForm<'_>,
-    into: &mut Names<'t>,
-) -> Result<(), OrMemory<ElabFault>>
-    ensures ok { OnOk result
-        (into.new ≡ into.old ++ outputs_of (words_of tokens.now) ties.now (port.now ∷ [])) }
-    ensures err { IfFault result
-        (BreaksDrivers (into.old ++ outputs_of (words_of tokens.now) ties.now (port.now ∷ []))) }
+    into: &mut Vec<Driver<'t>>,
+) -> Result<(), NoMemory>
+    ensures { OnOk result (driver_names into.new.items ≡
+        driver_names into.old.items ++ outputs_of (words_of tokens.now) ties.now (port.now ∷ [])) }
 {
     match ties.value(letters(tokens, port.name)) {
         None => Ok(()),
@@ -90,17 +84,15 @@ fn add_output<'t>(
     }
 }
 
-// The nets outside that outputs drive.
+// What outputs drive outside.
 fn add_outputs<'t>(
     tokens: &Tokens<'t>,
     ties: &Ties<'_, '_>,
     ports: &[PortForm<'_>],
-    into: &mut Names<'t>,
-) -> Result<(), OrMemory<ElabFault>>
-    ensures ok { OnOk result
-        (into.new ≡ into.old ++ outputs_of (words_of tokens.now) ties.now ports.now) }
-    ensures err { IfFault result
-        (BreaksDrivers (into.old ++ outputs_of (words_of tokens.now) ties.now ports.now)) }
+    into: &mut Vec<Driver<'t>>,
+) -> Result<(), NoMemory>
+    ensures { OnOk result (driver_names into.new.items ≡
+        driver_names into.old.items ++ outputs_of (words_of tokens.now) ties.now ports.now) }
 {
     for port in ports {
         add_output(tokens, ties, port, into)?;
@@ -108,37 +100,53 @@ fn add_outputs<'t>(
     Ok(())
 }
 
-// The nets that an instance drives outside.
+// What an instance drives outside.
 fn add_instance<'t>(
     alloc: Global,
     tokens: &Tokens<'t>,
     wanted: &Wanted<'_, '_>,
-    into: &mut Names<'t>,
-) -> Result<(), OrMemory<ElabFault>>
-    ensures ok { OnOk result
-        (into.new ≡ into.old ++ outputs_by (words_of tokens.now) (wanted.now ∷ [])) }
-    ensures err { IfFault result
-        (BreaksDrivers (into.old ++ outputs_by (words_of tokens.now) (wanted.now ∷ []))) }
+    into: &mut Vec<Driver<'t>>,
+) -> Result<(), NoMemory>
+    ensures { OnOk result (driver_names into.new.items ≡
+        driver_names into.old.items ++ outputs_by (words_of tokens.now) (wanted.now ∷ [])) }
 {
     let ports = ports_of(alloc, wanted.child)?;
     add_outputs(tokens, &wanted.ties, &ports, into)
 }
 
-// The nets that instances drive outside.
+// What instances drive outside.
 fn add_instances<'t>(
     alloc: Global,
     tokens: &Tokens<'t>,
     list: &[Wanted<'_, '_>],
-    into: &mut Names<'t>,
-) -> Result<(), OrMemory<ElabFault>>
-    ensures ok { OnOk result (into.new ≡ into.old ++ outputs_by (words_of tokens.now) list.now) }
-    ensures err { IfFault result
-        (BreaksDrivers (into.old ++ outputs_by (words_of tokens.now) list.now)) }
+    into: &mut Vec<Driver<'t>>,
+) -> Result<(), NoMemory>
+    ensures { OnOk result (driver_names into.new.items ≡
+        driver_names into.old.items ++ outputs_by (words_of tokens.now) list.now) }
 {
     for wanted in list {
         add_instance(alloc, tokens, wanted, into)?;
     }
     Ok(())
+}
+
+// What is driven in an instance.
+fn drivers_of<'t>(
+    alloc: Global,
+    tokens: &Tokens<'t>,
+    ties: &Ties<'_, '_>,
+    ports: &[PortForm<'_>],
+    items: &[ModuleItem],
+    wanted: &[Wanted<'_, '_>],
+) -> Result<Vec<Driver<'t>>, NoMemory>
+    ensures { IfOk result (λ drivers. driver_names drivers.items ≡
+        driven_by (words_of tokens.now) ties.now ports.now items.now wanted.now) }
+{
+    let mut drivers = Vec::new(alloc);
+    add_inputs(tokens, ties, ports, &mut drivers)?;
+    add_items(tokens, items, &mut drivers)?;
+    add_instances(alloc, tokens, wanted, &mut drivers)?;
+    Ok(drivers)
 }
 
 /// The nets of an instance that something drives. E304 where one is driven twice.
@@ -151,16 +159,15 @@ pub fn driven_names<'t>(
     wanted: &[Wanted<'_, '_>],
 ) -> Result<Names<'t>, OrMemory<ElabFault>>
     ensures ok { IfOk result (λ names. names ≡
-        driven_by (words_of tokens.now) ties.now ports.now items.now wanted.now) }
+        nets_driven (words_of tokens.now) ties.now ports.now items.now wanted.now) }
     ensures once { OnOk result (has_double
-        (driven_by (words_of tokens.now) ties.now ports.now items.now wanted.now) ≡ false) }
+        (nets_driven (words_of tokens.now) ties.now ports.now items.now wanted.now) ≡ false) }
     ensures err { IfFault result (BreaksDrivers
-        (driven_by (words_of tokens.now) ties.now ports.now items.now wanted.now)) }
+        (nets_driven (words_of tokens.now) ties.now ports.now items.now wanted.now)) }
 {
-    let mut names = Names::new(alloc);
-    add_inputs(tokens, ties, ports, &mut names)?;
-    add_items(tokens, items, &mut names)?;
-    add_instances(alloc, tokens, wanted, &mut names)?;
+    let drivers = drivers_of(alloc, tokens, ties, ports, items, wanted)?;
+    let nets = nets_of(alloc, tokens, ports, items)?;
+    let names = driven_nets(alloc, &nets, &drivers)?;
     let _count = names.len();
     Ok(names)
 }

@@ -1,10 +1,11 @@
 // Instances and all below them, one after another (IEEE 1364-2005, 12.1).
 
-ghost use Rattle.std.specs.Prelude.{◌≡◌, ◌<◌, ◌≤◌, ◌+◌, [], OnOk};
+ghost use Rattle.std.specs.Prelude.{◌≡◌, ◌<◌, ◌≤◌, ◌+◌, None, OnOk};
 ghost use Rattle.basis.specs.Reasons.{IfFault};
 ghost use Rattle.vmodules.specs.Inner.{units_tree};
 ghost use Rattle.vhierarchy.specs.Instances as spec;
-ghost use Rattle.vhierarchy.specs.Inner.{BreaksOf, request_tree, each_grown, each_broken_grown, one_grown, one_broken};
+ghost use Rattle.velab.specs.Rules.{IsBroken};
+ghost use Rattle.vhierarchy.specs.Inner.{request_tree, each_grown, each_broken_grown, one_grown, one_broken};
 
 use crate::own::{known_names, put_own};
 use crate::part::Part;
@@ -33,8 +34,8 @@ pub fn put_unit<'t, 'u>(
     ensures ok { OnOk result (part.new ≡ spec.grown levels (units_tree modules.now) part.old
         (request_tree modules.now.words request.now)) }
     ensures right { OnOk result (spec.broken_grown levels (units_tree modules.now) part.old
-        (request_tree modules.now.words request.now) ≡ []) }
-    ensures err { IfFault result (BreaksOf (spec.broken_grown levels (units_tree modules.now) part.old
+        (request_tree modules.now.words request.now) ≡ None) }
+    ensures err { IfFault result (IsBroken (spec.broken_grown levels (units_tree modules.now) part.old
         (request_tree modules.now.words request.now))) }
 {
     if levels == 0 {
@@ -67,9 +68,9 @@ fn put_each<'t, 'u>(
     ensures ok { OnOk result (part.new ≡
         each_grown modules.now levels request.now scope.now part.old list.now) }
     ensures right { OnOk result
-        (each_broken_grown modules.now levels request.now scope.now part.old list.now ≡ []) }
+        (each_broken_grown modules.now levels request.now scope.now part.old list.now ≡ None) }
     ensures err { IfFault result
-        (BreaksOf (each_broken_grown modules.now levels request.now scope.now part.old list.now)) }
+        (IsBroken (each_broken_grown modules.now levels request.now scope.now part.old list.now)) }
 {
     for one in list {
         put_asked(alloc, modules, levels, request, scope, one, part)?;
@@ -92,9 +93,9 @@ fn put_asked<'t, 'u>(
     ensures ok { OnOk result (part.new ≡
         one_grown modules.now levels request.now scope.now part.old one.now) }
     ensures right { OnOk result
-        (one_broken modules.now levels request.now scope.now part.old one.now ≡ []) }
+        (one_broken modules.now levels request.now scope.now part.old one.now ≡ None) }
     ensures err { IfFault result
-        (BreaksOf (one_broken modules.now levels request.now scope.now part.old one.now)) }
+        (IsBroken (one_broken modules.now levels request.now scope.now part.old one.now)) }
 {
     let name = letters(modules.tokens(), one.name);
     let path = dotted(alloc, request.path, name)?;

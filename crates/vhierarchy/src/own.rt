@@ -1,6 +1,6 @@
 // What an instance adds of its own: its names, its variables and its processes (IEEE 1364-2005, 12.1).
 
-ghost use Rattle.std.specs.Prelude.{◌≡◌, ◌<◌, ◌≤◌, ◌+◌, ◌^◌, ◌++◌, ◌∷◌, [], List, length, map, IfOk, OnOk};
+ghost use Rattle.std.specs.Prelude.{◌≡◌, ◌<◌, ◌≤◌, ◌+◌, ◌^◌, ◌++◌, ◌∷◌, [], List, None, length, map, IfOk, OnOk};
 ghost use Rattle.basis.specs.Reasons.{IfFault};
 ghost use Rattle.vast.specs.ModuleTrees.{module_tree};
 ghost use Rattle.vexpr_parse.specs.Texts.{words_of};
@@ -8,10 +8,10 @@ ghost use Rattle.vmodules.specs.Ports.{ports_of};
 ghost use Rattle.vmodules.specs.Inner.{port_form};
 ghost use Rattle.velab.specs.Elaborate.{head_scope, whole_scope};
 ghost use Rattle.velab.specs.Inner.{AreLaid, given_in};
-ghost use Rattle.velab.specs.Rules.{rules_in};
-ghost use Rattle.vhierarchy.specs.Instances.{base_of, count_rules, name_rules};
+ghost use Rattle.velab.specs.Rules.{IsBroken};
+ghost use Rattle.vhierarchy.specs.Instances.{base_of, broken_counts, broken_names};
 ghost use Rattle.vhierarchy.specs.declared.wanted.Wanted.{Wanted as Found};
-ghost use Rattle.vhierarchy.specs.Inner.{BreaksOf, own_part, own_part_rules, own_process_rules, own_processes, own_variable_rules, own_variables, request_tree};
+ghost use Rattle.vhierarchy.specs.Inner.{broken_own_part, broken_own_processes, broken_own_variables, own_part, own_processes, own_variables, request_tree};
 
 use crate::drivers::driven_names;
 use crate::part::Part;
@@ -63,9 +63,9 @@ pub fn known_names<'t>(
         (base_of part.now (request_tree (words_of tokens.now) request.now))
         (module_tree (words_of tokens.now) request.now.unit.now)).known) }
     ensures right { OnOk result
-        (rules_in (name_rules part.now (request_tree (words_of tokens.now) request.now)) ≡ []) }
+        (broken_names part.now (request_tree (words_of tokens.now) request.now) ≡ None) }
     ensures err { IfFault result
-        (BreaksOf (rules_in (name_rules part.now (request_tree (words_of tokens.now) request.now)))) }
+        (IsBroken (broken_names part.now (request_tree (words_of tokens.now) request.now))) }
 {
     let first = part.variables.len();
     let names = declared(alloc, tokens, ports, &request.unit.items)?;
@@ -122,10 +122,10 @@ fn put_own_variables(
         + length (given_in (words_of tokens.now) request.now.unit.now.items.items) < 2 ^ 64 }
     ensures ok { OnOk result (into.new.items ≡ into.old.items
         ++ own_variables (words_of tokens.now) request.now ports.now wanted.now scope.now) }
-    ensures right { OnOk result (rules_in
-        (own_variable_rules (words_of tokens.now) request.now ports.now wanted.now scope.now) ≡ []) }
-    ensures err { IfFault result (BreaksOf (rules_in
-        (own_variable_rules (words_of tokens.now) request.now ports.now wanted.now scope.now))) }
+    ensures right { OnOk result (broken_own_variables (words_of tokens.now) request.now ports.now
+        wanted.now scope.now ≡ None) }
+    ensures err { IfFault result (IsBroken (broken_own_variables (words_of tokens.now) request.now
+        ports.now wanted.now scope.now)) }
 {
     let driven = driven_names(
         alloc,
@@ -157,10 +157,10 @@ fn put_own_processes(
         + length (given_in (words_of tokens.now) request.now.unit.now.items.items) < 2 ^ 64 }
     ensures ok { (wanted : List Found) → OnOk result (AreLaid (own_processes (words_of tokens.now)
         request.now ports.now wanted scope.now table.old) into.old.items table.new into.new.items) }
-    ensures right { (wanted : List Found) → OnOk result (rules_in
-        (own_process_rules (words_of tokens.now) request.now ports.now wanted scope.now) ≡ []) }
-    ensures err { (wanted : List Found) → IfFault result (BreaksOf (rules_in
-        (own_process_rules (words_of tokens.now) request.now ports.now wanted scope.now))) }
+    ensures right { (wanted : List Found) → OnOk result (broken_own_processes
+        (words_of tokens.now) request.now ports.now wanted scope.now ≡ None) }
+    ensures err { (wanted : List Found) → IfFault result (IsBroken (broken_own_processes
+        (words_of tokens.now) request.now ports.now wanted scope.now)) }
 {
     let outside = request.outside;
     put_joins(
@@ -203,9 +203,9 @@ fn put_scope(
 
 // E309, where there are too many processes or scopes.
 fn check_counts(begins: &[Places], scopes: &[Room], at: u32) -> Result<(), OrMemory<ElabFault>>
-    ensures right { OnOk result (rules_in (count_rules (length begins.now) (length scopes.now)) ≡ []) }
+    ensures right { OnOk result (broken_counts (length begins.now) (length scopes.now) ≡ None) }
     ensures err { IfFault result
-        (BreaksOf (rules_in (count_rules (length begins.now) (length scopes.now)))) }
+        (IsBroken (broken_counts (length begins.now) (length scopes.now))) }
 {
     if begins.len() > MOST_PROCESSES || scopes.len() > MOST_SCOPES {
         return Err(OrMemory::Fault(ElabFault {
@@ -230,10 +230,10 @@ pub fn put_own(
         + length (given_in (words_of tokens.now) request.now.unit.now.items.items) < 2 ^ 64 }
     ensures ok { OnOk result (part.new ≡
         own_part (words_of tokens.now) request.now ports.now wanted.now scope.now part.old) }
-    ensures right { OnOk result (own_part_rules (words_of tokens.now) request.now ports.now wanted.now
-        scope.now part.old ≡ []) }
-    ensures err { IfFault result (BreaksOf (own_part_rules (words_of tokens.now) request.now ports.now
-        wanted.now scope.now part.old)) }
+    ensures right { OnOk result (broken_own_part (words_of tokens.now) request.now ports.now
+        wanted.now scope.now part.old ≡ None) }
+    ensures err { IfFault result (IsBroken (broken_own_part (words_of tokens.now) request.now
+        ports.now wanted.now scope.now part.old)) }
 {
     put_own_variables(
         alloc,

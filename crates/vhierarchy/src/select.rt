@@ -1,4 +1,4 @@
-// Whether the paths of `$dumpvars` are those of scopes (IEEE 1364-2005, 12.4, 18.1.2).
+// Whether the paths of `$dumpvars` are those of scopes (IEEE 1364-2005, 12.5, 18.1.2).
 
 ghost use Rattle.std.specs.Prelude.{◌≡◌, None, OnOk};
 ghost use Rattle.basis.specs.Reasons.{IfFault};

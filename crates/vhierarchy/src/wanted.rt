@@ -40,7 +40,7 @@ pub struct Wanted<'t, 'u> {
     pub ties: Ties<'t, 'u>,
 }
 
-/// The most instances of an item.
+/// The most instances of a design below the top.
 const MOST_INSTANCES: usize = 1024;
 
 // What is said of a module from outside may speak of these: parameters and ports.
@@ -220,7 +220,8 @@ fn put_each<'t, 'u>(
     Ok(())
 }
 
-// The instances of a module that an item has, `at` being the number of the token that names the module.
+// The instances of a module that an item has, behind others, `at` being the number of the token that names the module. E301 where
+// there is no such module, E309 where there are more than 1,024 with those before.
 fn put_instances<'t, 'u>(
     alloc: Global,
     tokens: &Tokens<'t>,
@@ -236,10 +237,12 @@ fn put_instances<'t, 'u>(
         ++ spec.wanted_of (unit_tree (words_of tokens.now) child.entry) known
         (option_map (connections_tree (words_of tokens.now)) overrides.now)
         (map (instance_tree (words_of tokens.now)) list.now)) }
-    ensures right { OnOk result (spec.broken_of (unit_tree (words_of tokens.now) child.entry)
+    ensures right { OnOk result (spec.broken_of (length into.old.items)
+        (unit_tree (words_of tokens.now) child.entry)
         (option_map (connections_tree (words_of tokens.now)) overrides.now)
         (map (instance_tree (words_of tokens.now)) list.now) ≡ None) }
-    ensures err { IfFault result (IsBroken (spec.broken_of (unit_tree (words_of tokens.now) child.entry)
+    ensures err { IfFault result (IsBroken (spec.broken_of (length into.old.items)
+        (unit_tree (words_of tokens.now) child.entry)
         (option_map (connections_tree (words_of tokens.now)) overrides.now)
         (map (instance_tree (words_of tokens.now)) list.now))) }
 {
@@ -249,7 +252,7 @@ fn put_instances<'t, 'u>(
             at: Some(at),
         })),
         Some(child) => {
-            if list.len() > MOST_INSTANCES {
+            if into.len() + list.len() > MOST_INSTANCES {
                 return Err(OrMemory::Fault(ElabFault {
                     rule: Rule::TooMany,
                     at: Some(at),
@@ -272,10 +275,10 @@ fn put_item<'t, 'u>(
     ensures ok { OnOk result (wanted_trees modules.now.words into.new.items ≡
         wanted_trees modules.now.words into.old.items
         ++ spec.wanted_by (units_tree modules.now) known (item_tree modules.now.words item.now)) }
-    ensures right { OnOk result
-        (spec.broken_wanted (units_tree modules.now) (item_tree modules.now.words item.now) ≡ None) }
-    ensures err { IfFault result (IsBroken
-        (spec.broken_wanted (units_tree modules.now) (item_tree modules.now.words item.now))) }
+    ensures right { OnOk result (spec.broken_wanted (units_tree modules.now)
+        (length into.old.items) (item_tree modules.now.words item.now) ≡ None) }
+    ensures err { IfFault result (IsBroken (spec.broken_wanted (units_tree modules.now)
+        (length into.old.items) (item_tree modules.now.words item.now))) }
 {
     match item {
         ModuleItem::Parameters { .. } => Ok(()),
@@ -316,8 +319,8 @@ pub fn wanted_in<'t, 'u>(
     requires small { known + length (given_in modules.now.words items.now) < 2 ^ 64 }
     ensures ok { IfOk result (λ list.
         wanted_trees modules.now.words list.items ≡ found_in modules.now known items.now) }
-    ensures right { OnOk result (broken_in modules.now items.now ≡ None) }
-    ensures err { IfFault result (IsBroken (broken_in modules.now items.now)) }
+    ensures right { OnOk result (broken_in modules.now 0 items.now ≡ None) }
+    ensures err { IfFault result (IsBroken (broken_in modules.now 0 items.now)) }
 {
     let mut list = Vec::new(alloc);
     let mut before = known;

@@ -221,3 +221,21 @@ pub fn top_of<'u>(
         Some(name) => Ok(modules.module_of(name)),
     }
 }
+
+/// The token of the name of the second module that has no instances, where there are two: it is one too many for a top. No clause says
+/// which it is.
+pub fn second_root(alloc: Global, modules: &Modules<'_, '_>) -> Result<Option<u32>, NoMemory> {
+    let tokens = modules.tokens();
+    let list = modules.list();
+    let names = instantiated(alloc, tokens, list)?;
+    let mut has_one = false;
+    for unit in list {
+        if names.place(letters(tokens, unit.name)).is_none() {
+            if has_one {
+                return Ok(Some(unit.name.number));
+            }
+            has_one = true;
+        }
+    }
+    Ok(None)
+}

@@ -15,8 +15,7 @@ use Rattle.vdesign.specs.Design.{Design}
 use Rattle.vparse.specs.Refusals.{IsRefusal}
 use Rattle.vparse.specs.declared.fault.SyntaxFault.{SyntaxFault}
 use Rattle.vparse.specs.declared.fault.SyntaxFault.TheVariants as words
-use Rattle.vhierarchy.specs.Instances.{broken_rules}
-use Rattle.velab.specs.Rules.{Breaks as Among}
+use Rattle.vhierarchy.specs.Instances.{broken_rule}
 use Rattle.sched_core.specs.LogText.{IsNoNamedLogText}
 use Rattle.sched_core.specs.Replay.{IsMissing, TakesMore}
 use Rattle.vmodel.specs.Run.{rules_of}
@@ -43,11 +42,11 @@ IsDesignless text top = (scale : Timescale) (design : Design) → IsDesignOf tex
 abbrev pub HasRefusal : Source → SyntaxFault → Type 0
 HasRefusal source fault = (tokens : Tokenized) × AreTokens source tokens × IsRefusal tokens fault
 
--- the text has a tree, which breaks the rule
+-- the text has a tree, of which this is the first rule that is broken
 pub record IsBroken (text : List ℕ) (top : Option (List ℕ)) (rule : Rule) : Type 0 where
   pub tree : SourceTree
   pub is_tree : IsTreeOf text tree
-  pub broken : Among (broken_rules tree top) rule
+  pub broken : broken_rule tree top ≡ Some rule
 
 abbrev pub Breaks : List ℕ → Option (List ℕ) → Rule → Type 0
 Breaks text top rule = IsDesignless text top × IsBroken text top rule

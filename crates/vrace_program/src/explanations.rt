@@ -57,7 +57,7 @@ const EXPLANATIONS: [Explanation; 32] = [
         number: 201,
         meaning: "the grammar takes no such text: the words before this one begin a text, and with it, or with the end of the text, they begin none",
         example: "a = 1 and no semicolon; else without an if",
-        advice: "look at the words of that line, and at the end of the line before it: a semicolon may be missing there; docs/LANGUAGE.md has the grammar",
+        advice: "look at the words of that line, and at the end of the line before it: a semicolon may be missing there; or the construct isn't in the profile, as ports declared in the body, named blocks, memories, hierarchical names and SystemVerilog; docs/LANGUAGE.md has the grammar",
     },
     Explanation {
         number: 202,
@@ -121,7 +121,7 @@ const EXPLANATIONS: [Explanation; 32] = [
     },
     Explanation {
         number: 309,
-        meaning: "over 256 processes, 1,024 variables or 1,024 instances below the top; connections of ports are processes, and ports are variables",
+        meaning: "over 256 processes, 1,024 variables, 1,024 instances below the top or 4,294,967,295 named events; connections of ports are processes, and ports are variables",
         example: "257 initials; reg v0, v1, .. up to v1024",
         advice: "split the testbench, or put several initials into one",
     },

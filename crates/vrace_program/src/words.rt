@@ -9,7 +9,7 @@ use vrace::Show;
 const PAGES: &str =
     "Pages, in the folder docs: LANGUAGE.md (what is read, commands, limits), SCHEDULING.md (steps, choices, logs), RACES.md (reports), FORMATS.md (dumps, lines, logs, reports), FAULTS.md (numbers)
 
-Exit status: 0 where all was done; 1 where something in a report isn't true; 2 where the call was refused, with one line on standard error (vrace explain NUMBER says what it means)";
+Exit status: 0 where all was done, of explore where nothing was missed and no race was found; 1 where explore found a race, or something in a report isn't true; 2 where the call was refused, with one line on standard error (vrace explain NUMBER says what it means); 3 where explore was cut and found no race";
 
 /// What is to be run, and how.
 #[derive(Drop)]

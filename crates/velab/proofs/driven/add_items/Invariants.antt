@@ -1,7 +1,9 @@
 use Rattle.std.proofs.Common.{◌≡◌, ◌++◌, drop}
 use Rattle.vexpr_parse.specs.Texts.{words_of}
-use Rattle.velab.specs.Inner.{item_drivers}
+use Rattle.velab.specs.Inner.{driver_names, item_drivers}
 use Rattle.velab.proofs.driven.add_items.Given as goal
 
 abbrev pub invariant-loop-item : goal.invariant-loop-item
-invariant-loop-item l = l.into ++ item_drivers (words_of l.tokens) (drop l.item-index l.items) ≡ l.initial.into ++ item_drivers (words_of l.tokens) l.items
+invariant-loop-item l =
+    driver_names l.into.items ++ item_drivers (words_of l.tokens) (drop l.item-index l.items)
+    ≡ driver_names l.initial.into.items ++ item_drivers (words_of l.tokens) l.items

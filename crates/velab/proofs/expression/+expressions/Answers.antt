@@ -5,7 +5,7 @@ use Rattle.vast.specs.ExpressionTrees.{trees_of}
 use Rattle.vexpr_parse.specs.Texts.{words_of}
 use Rattle.vdesign.specs.Nodes.{nodes_of}
 use Rattle.vdesign.specs.declared.expression.Node.{Node}
-use Rattle.velab.specs.Resolved.{resolved, resolved_parts, broken, broken_parts}
+use Rattle.velab.specs.Resolved.{resolved, resolved_parts, broken, broken_joined}
 use Rattle.std.specs.Option.{option_or}
 use Rattle.vbits.specs.Vectors.{Vector}
 use Rattle.vdesign.specs.declared.expression.Node.TheVariants.{Repeated}
@@ -17,24 +17,24 @@ use Rattle.velab.proofs.expression.+expressions.Goals as goal
 
 pub put_expression-returns-in-Concatenation-clause-ok : goal.put_expression-returns-in-Concatenation-clause-ok
 put_expression-returns-in-Concatenation-clause-ok t c =
-    subst (λ (tree : ExpressionTree). OnOk c.put_parts.result (c.put_parts.new.nodes.items ≡ c.args.nodes.now.items ++ nodes_of (resolved c.args.scope.now tree)))
+    subst (λ (tree : ExpressionTree). OnOk c.put_joined.result (c.put_joined.new.nodes.items ≡ c.args.nodes.now.items ++ nodes_of (resolved c.args.scope.now tree)))
     (concatenation_is (words_of c.args.tokens.now) c.args.expression.now c.in-Concatenation.at c.in-Concatenation.parts
     c.deref-in-Concatenation.result.now c.in-Concatenation.is c.deref-in-Concatenation.ensures.value)
-    c.put_parts.ensures.ok
+    c.put_joined.ensures.ok
 
 pub put_expression-returns-in-Concatenation-clause-right : goal.put_expression-returns-in-Concatenation-clause-right
 put_expression-returns-in-Concatenation-clause-right t c =
-    subst (λ (tree : ExpressionTree). OnOk c.put_parts.result (broken c.args.fixed c.args.scope.now tree ≡ None))
+    subst (λ (tree : ExpressionTree). OnOk c.put_joined.result (broken c.args.fixed c.args.scope.now tree ≡ None))
     (concatenation_is (words_of c.args.tokens.now) c.args.expression.now c.in-Concatenation.at c.in-Concatenation.parts
     c.deref-in-Concatenation.result.now c.in-Concatenation.is c.deref-in-Concatenation.ensures.value)
-    c.put_parts.ensures.right
+    c.put_joined.ensures.right
 
 pub put_expression-returns-in-Concatenation-clause-err : goal.put_expression-returns-in-Concatenation-clause-err
 put_expression-returns-in-Concatenation-clause-err t c =
-    subst (λ (tree : ExpressionTree). IfFault c.put_parts.result (IsBroken (broken c.args.fixed c.args.scope.now tree)))
+    subst (λ (tree : ExpressionTree). IfFault c.put_joined.result (IsBroken (broken c.args.fixed c.args.scope.now tree)))
     (concatenation_is (words_of c.args.tokens.now) c.args.expression.now c.in-Concatenation.at c.in-Concatenation.parts
     c.deref-in-Concatenation.result.now c.in-Concatenation.is c.deref-in-Concatenation.ensures.value)
-    c.put_parts.ensures.err
+    c.put_joined.ensures.err
 
 pub put_expression-returns-in_ok-count-in-Replication-clause-ok : goal.put_expression-returns-in_ok-count-in-Replication-clause-ok
 put_expression-returns-in_ok-count-in-Replication-clause-ok t c =
@@ -54,7 +54,7 @@ put_expression-returns-in_ok-count-in-Replication-clause-right t c =
     (replication_is words c.args.expression.now c.in-Replication.at c.in-Replication.count c.in-Replication.parts
     c.deref-in-Replication.result.now c.deref-in-Replication-2.result.now c.in-Replication.is c.deref-in-Replication.ensures
     c.deref-in-Replication-2.ensures.value)
-    (subst (λ (r : Option Rule). OnOk c.put_repeated.result (option_or r (broken_parts c.args.fixed c.args.scope.now (trees_of words c.deref-in-Replication-2.result.now)) ≡ None))
+    (subst (λ (r : Option Rule). OnOk c.put_repeated.result (option_or r (broken_joined c.args.fixed c.args.scope.now (trees_of words c.deref-in-Replication-2.result.now)) ≡ None))
     (sym c.in_ok-count-in-Replication.ensures.right) c.put_repeated.ensures.right)
 
 pub put_expression-returns-in_ok-count-in-Replication-clause-err : goal.put_expression-returns-in_ok-count-in-Replication-clause-err
@@ -64,7 +64,7 @@ put_expression-returns-in_ok-count-in-Replication-clause-err t c =
     (replication_is words c.args.expression.now c.in-Replication.at c.in-Replication.count c.in-Replication.parts
     c.deref-in-Replication.result.now c.deref-in-Replication-2.result.now c.in-Replication.is c.deref-in-Replication.ensures
     c.deref-in-Replication-2.ensures.value)
-    (subst (λ (r : Option Rule). IfFault c.put_repeated.result (IsBroken (option_or r (broken_parts c.args.fixed c.args.scope.now (trees_of words c.deref-in-Replication-2.result.now)))))
+    (subst (λ (r : Option Rule). IfFault c.put_repeated.result (IsBroken (option_or r (broken_joined c.args.fixed c.args.scope.now (trees_of words c.deref-in-Replication-2.result.now)))))
     (sym c.in_ok-count-in-Replication.ensures.right) c.put_repeated.ensures.err)
 
 pub put_parts-loop-one-preserved : goal.put_parts-loop-one-preserved

@@ -4,9 +4,9 @@ use Rattle.vast.specs.Words.{Text}
 use Rattle.vast.specs.Modules.{ModuleTree, SourceTree}
 use Rattle.vast.specs.ModuleTrees.{module_tree}
 use Rattle.vmodules.specs.Inner.{units_tree}
-use Rattle.velab.proofs.FaultLemmas.{handed_on}
-use Rattle.vhierarchy.specs.Instances.{broken_whole, design_by, design_rules, whole_of}
-use Rattle.vhierarchy.proofs.GrowLemmas.{front_err, back_err, both_none, same_rules, fault_leads}
+use Rattle.velab.proofs.FaultLemmas.{handed_on, first_breaks, then_breaks, both_right, same_rule}
+use Rattle.vhierarchy.specs.Instances.{broken_design, broken_whole, design_by, whole_of}
+use Rattle.vhierarchy.proofs.GrowLemmas.{fault_leads}
 use Rattle.vhierarchy.proofs.design.design_of.Goals as goal
 
 pub returns-in_err-part-clause-err : goal.returns-in_err-part-clause-err
@@ -15,7 +15,7 @@ returns-in_err-part-clause-err c =
     let modules : SourceTree = units_tree c.args.modules.now in
     let m : ModuleTree = module_tree words c.args.unit.now in
     handed_on _ c.from_residual.result c.in_err-part.field-0.0 c.from_residual.ensures.1
-    (front_err (broken_whole modules m) (design_rules (whole_of modules m)) c.in_err-part.field-0.0 c.in_err-part.ensures.err)
+    (first_breaks (broken_whole modules m) (broken_design (whole_of modules m)) c.in_err-part.field-0.0 c.in_err-part.ensures.err)
 
 pub returns-clause-ok : goal.returns-clause-ok
 returns-clause-ok c =
@@ -29,7 +29,7 @@ returns-clause-right c =
     let modules : SourceTree = units_tree c.args.modules.now in
     let m : ModuleTree = module_tree words c.args.unit.now in
     on_ok c.checked.result
-    (λ right. both_none (broken_whole modules m) (design_rules (whole_of modules m)) c.in_ok-part.ensures.right (ap design_rules (sym c.in_ok-part.ensures.ok) ∙ right))
+    (λ right. both_right (broken_whole modules m) (broken_design (whole_of modules m)) c.in_ok-part.ensures.right (ap broken_design (sym c.in_ok-part.ensures.ok) ∙ right))
     c.checked.ensures.right
 
 pub returns-clause-err : goal.returns-clause-err
@@ -38,5 +38,5 @@ returns-clause-err c =
     let modules : SourceTree = units_tree c.args.modules.now in
     let m : ModuleTree = module_tree words c.args.unit.now in
     fault_leads c.checked.result _ _
-    (λ e h. back_err (broken_whole modules m) (design_rules (whole_of modules m)) e (same_rules _ _ e (ap design_rules c.in_ok-part.ensures.ok) h))
+    (λ e h. then_breaks (broken_whole modules m) (broken_design (whole_of modules m)) c.in_ok-part.ensures.right e (same_rule _ _ (ap broken_design c.in_ok-part.ensures.ok) e h))
     c.checked.ensures.err

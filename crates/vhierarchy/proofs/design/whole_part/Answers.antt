@@ -4,8 +4,7 @@ use Rattle.vast.specs.Modules.{ModuleTree, SourceTree}
 use Rattle.vast.specs.ModuleTrees.{module_tree}
 use Rattle.vast.specs.TokenTexts.{token_text}
 use Rattle.vmodules.specs.Inner.{ties_tree, units_tree}
-use Rattle.velab.proofs.FaultLemmas.{handed_on}
-use Rattle.vhierarchy.proofs.GrowLemmas.{same_rules}
+use Rattle.velab.proofs.FaultLemmas.{handed_on, same_rule}
 use Rattle.vhierarchy.proofs.DesignLemmas.{whole_is, broken_whole_is, no_ok, top_is}
 use Rattle.vhierarchy.proofs.design.whole_part.Goals as goal
 
@@ -20,7 +19,7 @@ returns-in_err-put_unit-clause-err c =
     let is_top = top_is m c.letters-name.result.now c.new-names.result (ties_tree words c.new-ties.result)
     (c.letters-name.ensures ∙ ap (λ (ws : List Text). token_text ws c.args.unit.now.name) c.tokens.ensures) c.new-names.ensures (ap (ties_tree words) c.new-ties.ensures) in
     handed_on _ c.from_residual.result c.in_err-put_unit.field-0.0 c.from_residual.ensures.1
-    (same_rules _ _ c.in_err-put_unit.field-0.0 (broken_whole_is modules m c.most_levels.result c.new-part.result _ c.most_levels.ensures c.new-part.ensures is_top) c.in_err-put_unit.ensures.err)
+    (same_rule _ _ (broken_whole_is modules m c.most_levels.result c.new-part.result _ c.most_levels.ensures c.new-part.ensures is_top) c.in_err-put_unit.field-0.0 c.in_err-put_unit.ensures.err)
 
 pub returns-clause-ok : goal.returns-clause-ok
 returns-clause-ok c =

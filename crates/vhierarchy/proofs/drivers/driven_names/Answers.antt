@@ -1,29 +1,43 @@
-use Rattle.std.proofs.Common.{List, ◌++◌, ap, ◌∙◌, subst}
+use Rattle.std.proofs.Common.{◌≡◌, List, map, false, filter, ap, subst, sym, ◌∙◌}
 use Rattle.basis.specs.Reasons.{Because}
 use Rattle.vast.specs.Words.{Text}
+use Rattle.vast.specs.ModuleTrees.{item_tree}
 use Rattle.vexpr_parse.specs.Texts.{words_of}
-use Rattle.velab.specs.Inner.{BreaksDrivers, item_drivers}
+use Rattle.vmodules.specs.Names.{has_double, is_declared}
+use Rattle.vmodules.specs.Inner.{port_form}
+use Rattle.velab.specs.Elaborate.{nets_of}
+use Rattle.velab.specs.Inner.{BreaksDrivers, driver_names}
 use Rattle.velab.proofs.FaultLemmas.{handed_on}
-use Rattle.vhierarchy.specs.Inner.{inputs_of, outputs_by}
-use Rattle.vhierarchy.proofs.DriverLemmas.{front_twice}
+use Rattle.vhierarchy.specs.Inner.{driven_by, nets_driven}
+use Rattle.vhierarchy.proofs.DriverLemmas.{same_nets}
 use Rattle.vhierarchy.proofs.drivers.driven_names.Goals as goal
 
-pub returns-in_err-add_inputs-clause-err : goal.returns-in_err-add_inputs-clause-err
-returns-in_err-add_inputs-clause-err c =
+pub returns-in_err-names-clause-err : goal.returns-in_err-names-clause-err
+returns-in_err-names-clause-err c =
     let words : List Text = words_of c.args.tokens.now in
-    let inputs : List Text = inputs_of words c.args.ties.now c.args.ports.now in
-    let items : List Text = item_drivers words c.args.items.now in
-    handed_on _ c.from_residual.result c.in_err-add_inputs.field-0.0 c.from_residual.ensures.1
-    (front_twice (inputs ++ items) (outputs_by words c.args.wanted.now) c.in_err-add_inputs.field-0.0
-    (front_twice inputs items c.in_err-add_inputs.field-0.0
-    (subst (λ (names : List Text). Because (BreaksDrivers (names ++ inputs)) c.in_err-add_inputs.field-0.0) c.new-names.ensures c.in_err-add_inputs.ensures.err)))
+    let driven : List Text = driven_by words c.args.ties.now c.args.ports.now c.args.items.now c.args.wanted.now in
+    let nets : List Text = nets_of (map (port_form words) c.args.ports.now) (map (item_tree words) c.args.items.now) in
+    handed_on _ c.from_residual-in_err-names.result c.in_err-names.field-0.0 c.from_residual-in_err-names.ensures.1
+    (subst (λ (names : List Text). Because (BreaksDrivers names) c.in_err-names.field-0.0)
+    (same_nets c.in_ok-nets.nets nets (driver_names c.deref.result.now) driven c.in_ok-nets.ensures (ap driver_names c.deref.ensures.value ∙ c.in_ok-drivers.ensures))
+    c.in_err-names.ensures.err)
 
-pub returns-in_err-add_items-clause-err : goal.returns-in_err-add_items-clause-err
-returns-in_err-add_items-clause-err c =
+pub returns-clause-ok : goal.returns-clause-ok
+returns-clause-ok c =
     let words : List Text = words_of c.args.tokens.now in
-    let inputs : List Text = inputs_of words c.args.ties.now c.args.ports.now in
-    let items : List Text = item_drivers words c.args.items.now in
-    handed_on _ c.from_residual-in_err-add_items.result c.in_err-add_items.field-0.0 c.from_residual-in_err-add_items.ensures.1
-    (front_twice (inputs ++ items) (outputs_by words c.args.wanted.now) c.in_err-add_items.field-0.0
-    (subst (λ (names : List Text). Because (BreaksDrivers (names ++ items)) c.in_err-add_items.field-0.0)
-    (c.in_ok-add_inputs.ensures.ok ∙ ap (λ (names : List Text). names ++ inputs) c.new-names.ensures) c.in_err-add_items.ensures.err))
+    let driven : List Text = driven_by words c.args.ties.now c.args.ports.now c.args.items.now c.args.wanted.now in
+    let nets : List Text = nets_of (map (port_form words) c.args.ports.now) (map (item_tree words) c.args.items.now) in
+    c.in_ok-names.ensures.ok
+    ∙ same_nets c.in_ok-nets.nets nets (driver_names c.deref.result.now) driven c.in_ok-nets.ensures (ap driver_names c.deref.ensures.value ∙ c.in_ok-drivers.ensures)
+
+pub returns-clause-once : goal.returns-clause-once
+returns-clause-once c =
+    let words : List Text = words_of c.args.tokens.now in
+    let driven : List Text = driven_by words c.args.ties.now c.args.ports.now c.args.items.now c.args.wanted.now in
+    let nets : List Text = nets_of (map (port_form words) c.args.ports.now) (map (item_tree words) c.args.items.now) in
+    ap has_double
+    (sym (
+    c.in_ok-names.ensures.ok
+    ∙ same_nets c.in_ok-nets.nets nets (driver_names c.deref.result.now) driven c.in_ok-nets.ensures (ap driver_names c.deref.ensures.value ∙ c.in_ok-drivers.ensures)
+    ))
+    ∙ c.len-count.ensures.unique

@@ -1,4 +1,4 @@
-use Rattle.std.proofs.Common.{◌≡◌, ◌-◌, ◌^◌, [], None, List, length, map, ap, refl, sym, subst, ◌∙◌, arith}
+use Rattle.std.proofs.Common.{◌≡◌, ◌-◌, ◌^◌, None, List, length, map, ap, refl, sym, subst, ◌∙◌, arith}
 use Rattle.basis.specs.Reasons.{Because}
 use Rattle.basis.proofs.Results.{on_ok}
 use Rattle.vast.specs.Words.{Text}
@@ -9,13 +9,13 @@ use Rattle.vexpr_parse.specs.Texts.{words_of}
 use Rattle.vmodules.specs.Ports.{Port, ports_of}
 use Rattle.vmodules.specs.declared.ports.PortForm.{PortForm}
 use Rattle.vmodules.specs.Inner.{units_tree, port_form}
-use Rattle.velab.specs.Rules.{IsBroken, rules_in}
+use Rattle.velab.specs.Rules.{IsBroken}
 use Rattle.velab.specs.Scopes.{Scope, at}
 use Rattle.velab.specs.Elaborate.{given_in_head}
 use Rattle.velab.specs.Inner.{given_in}
 use Rattle.velab.proofs.FaultLemmas.{handed_on}
-use Rattle.vhierarchy.specs.Instances.{Wanted, wanted_in, Request, base_of, inside, name_rules, own_by}
-use Rattle.vhierarchy.specs.Inner.{BreaksOf, broken_in, found_in, own_part, own_part_rules, request_tree, wanted_trees}
+use Rattle.vhierarchy.specs.Instances.{Wanted, wanted_in, Request, base_of, inside, broken_names, own_by}
+use Rattle.vhierarchy.specs.Inner.{broken_in, found_in, own_part, broken_own_part, request_tree, wanted_trees}
 use Rattle.vhierarchy.proofs.GrowLemmas.{each_err, few, head_known, names_err, wanted_err, own_err, each_of_err, unit_is, unit_right, fault_leads}
 use Rattle.vhierarchy.proofs.grow.+growing.Goals as goal
 
@@ -29,7 +29,7 @@ pub put_unit-returns-in_err-known-clause-err : goal.put_unit-returns-in_err-know
 put_unit-returns-in_err-known-clause-err t c =
     handed_on _ c.from_residual-in_err-known.result c.in_err-known.field-0.0 c.from_residual-in_err-known.ensures.1
     (names_err (units_tree c.args.modules.now) c.args.part.now (request_tree c.args.modules.now.words c.args.request.now) c.args.levels (c.args.levels - 1) (omega arith) c.in_err-known.field-0.0
-    (subst (λ (words : List Text). Because (BreaksOf (rules_in (name_rules c.args.part.now (request_tree words c.args.request.now)))) c.in_err-known.field-0.0)
+    (subst (λ (words : List Text). Because (IsBroken (broken_names c.args.part.now (request_tree words c.args.request.now))) c.in_err-known.field-0.0)
     c.tokens-tokens.ensures c.in_err-known.ensures.err))
 
 pub put_unit-wanted_in-requires : goal.put_unit-wanted_in-requires
@@ -43,9 +43,11 @@ put_unit-wanted_in-requires t c =
 
 pub put_unit-returns-in_err-wanted-clause-err : goal.put_unit-returns-in_err-wanted-clause-err
 put_unit-returns-in_err-wanted-clause-err t c =
+    let names : broken_names c.args.part.now (request_tree c.args.modules.now.words c.args.request.now) ≡ None =
+    subst (λ (ws : List Text). broken_names c.args.part.now (request_tree ws c.args.request.now) ≡ None) c.tokens-tokens.ensures c.in_ok-known.ensures.right in
     handed_on _ c.from_residual-in_err-wanted.result c.in_err-wanted.field-0.0 c.from_residual-in_err-wanted.ensures.1
-    (wanted_err (units_tree c.args.modules.now) c.args.part.now (request_tree c.args.modules.now.words c.args.request.now) c.args.levels (c.args.levels - 1) (omega arith) c.in_err-wanted.field-0.0
-    (subst (λ (items : List ModuleItem). Because (IsBroken (broken_in c.args.modules.now items)) c.in_err-wanted.field-0.0) c.deref-2.ensures.value c.in_err-wanted.ensures.err))
+    (wanted_err (units_tree c.args.modules.now) c.args.part.now (request_tree c.args.modules.now.words c.args.request.now) c.args.levels (c.args.levels - 1) (omega arith) names c.in_err-wanted.field-0.0
+    (subst (λ (items : List ModuleItem). Because (IsBroken (broken_in c.args.modules.now 0 items)) c.in_err-wanted.field-0.0) c.deref-2.ensures.value c.in_err-wanted.ensures.err))
 
 pub put_unit-put_own-requires : goal.put_unit-put_own-requires
 put_unit-put_own-requires t c =
@@ -72,9 +74,13 @@ put_unit-returns-in_err-put_own-clause-err t c =
     let scope_is : c.at-scope.result ≡ inside c.args.part.now request =
     c.at-scope.ensures ∙ (λ i. at ((c.scope.ensures.same ∙ c.in_ok-known.ensures.whole) i) (c.in_ok-known.ensures.head i))
     ∙ (λ i. inside c.args.part.now (request_tree (c.tokens-tokens.ensures i) c.args.request.now)) in
+    let names : broken_names c.args.part.now request ≡ None =
+    subst (λ (ws : List Text). broken_names c.args.part.now (request_tree ws c.args.request.now) ≡ None) c.tokens-tokens.ensures c.in_ok-known.ensures.right in
+    let found : broken_in c.args.modules.now 0 c.args.request.now.unit.now.items.items ≡ None =
+    subst (λ (items : List ModuleItem). broken_in c.args.modules.now 0 items ≡ None) c.deref-2.ensures.value c.in_ok-wanted.ensures.right in
     handed_on _ c.from_residual-in_err-put_own.result c.in_err-put_own.field-0.0 c.from_residual-in_err-put_own.ensures.1
-    (own_err modules c.args.part.now request c.args.levels (c.args.levels - 1) (omega arith) ports wanted c.at-scope.result ports_are wanted_are scope_is c.in_err-put_own.field-0.0
-    (subst (λ (ws : List Text). Because (BreaksOf (own_part_rules ws c.args.request.now c.deref-3.result.now c.deref-4.result.now c.at-scope.result c.args.part.now)) c.in_err-put_own.field-0.0)
+    (own_err modules c.args.part.now request c.args.levels (c.args.levels - 1) (omega arith) names found ports wanted c.at-scope.result ports_are wanted_are scope_is c.in_err-put_own.field-0.0
+    (subst (λ (ws : List Text). Because (IsBroken (broken_own_part ws c.args.request.now c.deref-3.result.now c.deref-4.result.now c.at-scope.result c.args.part.now)) c.in_err-put_own.field-0.0)
     c.tokens-tokens.ensures c.in_err-put_own.ensures.err))
 
 pub put_unit-returns-clause-ok : goal.put_unit-returns-clause-ok
@@ -96,8 +102,12 @@ put_unit-returns-clause-ok t c =
     let put : c.put_own.new.part ≡ own_by request ports wanted c.at-scope.result c.args.part.now =
     c.in_ok-put_own.ensures.ok
     ∙ (λ i. own_part (c.tokens-tokens.ensures i) c.args.request.now c.deref-3.result.now ((c.deref-4.ensures.value ∙ sym c.deref-5.ensures.value) i) c.at-scope.result c.args.part.now) in
+    let names : broken_names c.args.part.now request ≡ None =
+    subst (λ (ws : List Text). broken_names c.args.part.now (request_tree ws c.args.request.now) ≡ None) c.tokens-tokens.ensures c.in_ok-known.ensures.right in
+    let found : broken_in c.args.modules.now 0 c.args.request.now.unit.now.items.items ≡ None =
+    subst (λ (items : List ModuleItem). broken_in c.args.modules.now 0 items ≡ None) c.deref-2.ensures.value c.in_ok-wanted.ensures.right in
     on_ok c.put_each.result
-    (unit_is modules c.args.part.now request c.args.levels (c.args.levels - 1) (omega arith) ports wanted c.at-scope.result ports_are wanted_are scope_is c.put_own.new.part put c.put_each.new.part)
+    (unit_is modules c.args.part.now request c.args.levels (c.args.levels - 1) (omega arith) names found ports wanted c.at-scope.result ports_are wanted_are scope_is c.put_own.new.part put c.put_each.new.part)
     c.put_each.ensures.ok
 
 pub put_unit-returns-clause-right : goal.put_unit-returns-clause-right
@@ -119,14 +129,15 @@ put_unit-returns-clause-right t c =
     let put : c.put_own.new.part ≡ own_by request ports wanted c.at-scope.result c.args.part.now =
     c.in_ok-put_own.ensures.ok
     ∙ (λ i. own_part (c.tokens-tokens.ensures i) c.args.request.now c.deref-3.result.now ((c.deref-4.ensures.value ∙ sym c.deref-5.ensures.value) i) c.at-scope.result c.args.part.now) in
+    let names : broken_names c.args.part.now request ≡ None =
+    subst (λ (ws : List Text). broken_names c.args.part.now (request_tree ws c.args.request.now) ≡ None) c.tokens-tokens.ensures c.in_ok-known.ensures.right in
+    let found : broken_in c.args.modules.now 0 c.args.request.now.unit.now.items.items ≡ None =
+    subst (λ (items : List ModuleItem). broken_in c.args.modules.now 0 items ≡ None) c.deref-2.ensures.value c.in_ok-wanted.ensures.right in
+    let own : broken_own_part words c.args.request.now c.deref-3.result.now c.deref-5.result.now c.at-scope.result c.args.part.now ≡ None =
+    (λ i. broken_own_part ((sym c.tokens-tokens.ensures) i) c.args.request.now c.deref-3.result.now ((c.deref-5.ensures.value ∙ sym c.deref-4.ensures.value) i) c.at-scope.result c.args.part.now)
+    ∙ c.in_ok-put_own.ensures.right in
     on_ok c.put_each.result
-    (unit_right modules c.args.part.now request c.args.levels (c.args.levels - 1) (omega arith) ports wanted c.at-scope.result ports_are wanted_are scope_is c.put_own.new.part put
-    (subst (λ (ws : List Text). rules_in (name_rules c.args.part.now (request_tree ws c.args.request.now)) ≡ []) c.tokens-tokens.ensures c.in_ok-known.ensures.right)
-    (subst (λ (items : List ModuleItem). broken_in c.args.modules.now items ≡ None) c.deref-2.ensures.value c.in_ok-wanted.ensures.right)
-    (
-    (λ i. own_part_rules ((sym c.tokens-tokens.ensures) i) c.args.request.now c.deref-3.result.now ((c.deref-5.ensures.value ∙ sym c.deref-4.ensures.value) i) c.at-scope.result c.args.part.now)
-    ∙ c.in_ok-put_own.ensures.right
-    ))
+    (unit_right modules c.args.part.now request c.args.levels (c.args.levels - 1) (omega arith) names found ports wanted c.at-scope.result ports_are wanted_are scope_is c.put_own.new.part put own)
     c.put_each.ensures.right
 
 pub put_unit-returns-clause-err : goal.put_unit-returns-clause-err
@@ -148,6 +159,13 @@ put_unit-returns-clause-err t c =
     let put : c.put_own.new.part ≡ own_by request ports wanted c.at-scope.result c.args.part.now =
     c.in_ok-put_own.ensures.ok
     ∙ (λ i. own_part (c.tokens-tokens.ensures i) c.args.request.now c.deref-3.result.now ((c.deref-4.ensures.value ∙ sym c.deref-5.ensures.value) i) c.at-scope.result c.args.part.now) in
+    let names : broken_names c.args.part.now request ≡ None =
+    subst (λ (ws : List Text). broken_names c.args.part.now (request_tree ws c.args.request.now) ≡ None) c.tokens-tokens.ensures c.in_ok-known.ensures.right in
+    let found : broken_in c.args.modules.now 0 c.args.request.now.unit.now.items.items ≡ None =
+    subst (λ (items : List ModuleItem). broken_in c.args.modules.now 0 items ≡ None) c.deref-2.ensures.value c.in_ok-wanted.ensures.right in
+    let own : broken_own_part words c.args.request.now c.deref-3.result.now c.deref-5.result.now c.at-scope.result c.args.part.now ≡ None =
+    (λ i. broken_own_part ((sym c.tokens-tokens.ensures) i) c.args.request.now c.deref-3.result.now ((c.deref-5.ensures.value ∙ sym c.deref-4.ensures.value) i) c.at-scope.result c.args.part.now)
+    ∙ c.in_ok-put_own.ensures.right in
     fault_leads c.put_each.result _ _
-    (each_of_err modules c.args.part.now request c.args.levels (c.args.levels - 1) (omega arith) ports wanted c.at-scope.result ports_are wanted_are scope_is c.put_own.new.part put)
+    (each_of_err modules c.args.part.now request c.args.levels (c.args.levels - 1) (omega arith) names found ports wanted c.at-scope.result ports_are wanted_are scope_is c.put_own.new.part put own)
     c.put_each.ensures.err

@@ -1,13 +1,14 @@
-use Rattle.std.proofs.Common.{◌≡◌, ◌++◌, ◌∷◌, [], List, map, ap, subst, ◌∙◌}
+use Rattle.std.proofs.Common.{◌≡◌, ◌++◌, ◌∷◌, [], List, None, map, ap, subst, ◌∙◌}
 use Rattle.basis.specs.Reasons.{IfFault}
 use Rattle.vast.specs.Words.{Text}
 use Rattle.vexpr_parse.specs.Texts.{words_of}
 use Rattle.vmodules.specs.Ports.{Port}
 use Rattle.vmodules.specs.Inner.{port_form}
+use Rattle.velab.specs.Rules.{IsBroken}
 use Rattle.velab.specs.Scopes.{Scope}
 use Rattle.velab.proofs.FaultLemmas.{handed_on}
-use Rattle.vhierarchy.specs.Instances.{Part, Request, Wanted, scope_of, own_rules_by, own_by}
-use Rattle.vhierarchy.specs.Inner.{BreaksOf, request_tree, wanted_trees}
+use Rattle.vhierarchy.specs.Instances.{Part, Request, Wanted, scope_of, broken_own_by, own_by}
+use Rattle.vhierarchy.specs.Inner.{request_tree, wanted_trees}
 use Rattle.vhierarchy.proofs.OwnLemmas.{own_is, processes_err, counts_err, own_right}
 use Rattle.vhierarchy.proofs.own.put_own.Goals as goal
 
@@ -18,7 +19,7 @@ returns-in_err-put_own_processes-clause-err c =
     let ports : List Port = map (port_form words) c.args.ports.now in
     let wanted : List Wanted = wanted_trees words c.args.wanted.now in
     handed_on _ c.from_residual-in_err-put_own_processes.result c.in_err-put_own_processes.field-0.0 c.from_residual-in_err-put_own_processes.ensures.1
-    (processes_err request ports wanted c.args.scope.now c.args.part.now c.in_err-put_own_processes.field-0.0 (c.in_err-put_own_processes.ensures.err c.args.wanted.now))
+    (processes_err request ports wanted c.args.scope.now c.args.part.now c.in_ok-put_own_variables.ensures.right c.in_err-put_own_processes.field-0.0 (c.in_err-put_own_processes.ensures.err c.args.wanted.now))
 
 pub returns-in_err-check_counts-clause-err : goal.returns-in_err-check_counts-clause-err
 returns-in_err-check_counts-clause-err c =
@@ -33,9 +34,9 @@ returns-in_err-check_counts-clause-err c =
       begins = c.part.inside.begins.items;
       events = c.part.inside.events;
     } in
-    subst (λ (part : Part). IfFault c.from_residual-in_err-check_counts.result (BreaksOf (own_rules_by request ports wanted c.args.scope.now part))) c.part.view_is
+    subst (λ (part : Part). IfFault c.from_residual-in_err-check_counts.result (IsBroken (broken_own_by request ports wanted c.args.scope.now part))) c.part.view_is
     (handed_on _ c.from_residual-in_err-check_counts.result c.in_err-check_counts.field-0.0 c.from_residual-in_err-check_counts.ensures.1
-    (counts_err request ports wanted c.args.scope.now before c.deref.result.now c.deref-2.result.now
+    (counts_err request ports wanted c.args.scope.now before c.in_ok-put_own_variables.ensures.right (c.in_ok-put_own_processes.ensures.right c.args.wanted.now) c.deref.result.now c.deref-2.result.now
     (c.deref.ensures.value ∙ (c.in_ok-put_own_processes.ensures.ok c.args.wanted.now).begins)
     (c.deref-2.ensures.value ∙ c.in_ok-put_scope.ensures ∙ ap (λ (scope : Scope). c.part.inside.scopes.items ++ scope_of request scope.variables ∷ []) c.scope.view_is)
     c.in_err-check_counts.field-0.0 c.in_err-check_counts.ensures.err))
@@ -79,8 +80,8 @@ returns-clause-right c =
       begins = c.part.inside.begins.items;
       events = c.part.inside.events;
     } in
-    subst (λ (part : Part). own_rules_by request ports wanted c.args.scope.now part ≡ []) c.part.view_is
-    (own_right request ports wanted c.args.scope.now before c.deref.result.now c.deref-2.result.now
+    subst (λ (part : Part). broken_own_by request ports wanted c.args.scope.now part ≡ None) c.part.view_is
+    (own_right request ports wanted c.args.scope.now before c.in_ok-put_own_variables.ensures.right (c.in_ok-put_own_processes.ensures.right c.args.wanted.now) c.deref.result.now c.deref-2.result.now
     (c.deref.ensures.value ∙ (c.in_ok-put_own_processes.ensures.ok c.args.wanted.now).begins)
     (c.deref-2.ensures.value ∙ c.in_ok-put_scope.ensures ∙ ap (λ (scope : Scope). c.part.inside.scopes.items ++ scope_of request scope.variables ∷ []) c.scope.view_is)
-    c.in_ok-put_own_variables.ensures.right (c.in_ok-put_own_processes.ensures.right c.args.wanted.now) c.in_ok-check_counts.ensures.right)
+    c.in_ok-check_counts.ensures.right)
