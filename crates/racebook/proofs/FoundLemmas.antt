@@ -20,7 +20,7 @@ use Rattle.vmachine.specs.Machines.{Stands, machine_rules}
 use Rattle.vmachine.specs.Reads.{slot_in}
 use Rattle.racebook.specs.declared.glimpse.Glimpse.{Glimpse}
 use Rattle.racebook.specs.Order.{AreInTextOrder, IsTextBefore}
-use Rattle.racebook.specs.Races.{Race, EachRace, HasFewest, IsRace, IsShown, IsSighting, ListsEveryValue, ListsValue}
+use Rattle.racebook.specs.Races.{Race, EachRace, HasFewest, IsRace, ShowsValue, IsSighting, ListsEveryValue, ListsValue}
 use Rattle.racebook.specs.Inner.{AreAll, AreGlimpses, AreGlimpsesBelow, AreInTime, AreWide, Disagree, IsGlimpse, IsNoSlot, IsOfSome, IsSeen}
 
 -- ---- what stands at the end of a slot
@@ -192,7 +192,7 @@ pub record IsSeenWithin (gs : List Glimpse) (time variable : ℕ) (v : Vector) (
 
 pub shown_seen : (setting : Setting) (depart : ℕ) (marks : List (Standing × List (ℕ × ℕ))) (gs : List Glimpse) → Alike setting → AllStand setting → RunHere setting → MarkAlike setting → HasVariables setting →
     IsCovered (machine_rules setting) depart (IsListedMark (machine_rules setting) marks) → AreGlimpses setting marks gs →
-    (time variable : ℕ) (v : Vector) (log : List (ℕ × ℕ)) (steps : ℕ) → length log ≤ depart → IsShown setting time variable v log steps → IsSeenWithin gs time variable v (length log)
+    (time variable : ℕ) (v : Vector) (log : List (ℕ × ℕ)) (steps : ℕ) → length log ≤ depart → ShowsValue setting time variable v log steps → IsSeenWithin gs time variable v (length log)
 shown_seen setting depart marks gs alike all here mark_alike wide covered are time variable v log steps short shown =
     let s = stands (machine_rules setting) log steps in
     let t = state_after setting log steps in

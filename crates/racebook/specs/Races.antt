@@ -15,7 +15,7 @@ use Rattle.vmachine.specs.Machines.{Stands, machine_rules}
 use Rattle.racebook.specs.Order.{IsEarlier, AreInTextOrder}
 
 -- after so many steps the run under the log is at the end of the slot of this time, where the variable has this value
-pub record IsShown (setting : Setting) (time variable : ℕ) (value : Vector) (log : List (ℕ × ℕ)) (steps : ℕ) : Type 0 where
+pub record ShowsValue (setting : Setting) (time variable : ℕ) (value : Vector) (log : List (ℕ × ℕ)) (steps : ℕ) : Type 0 where
   pub run : IsRun (rules_of setting) log steps
   pub values : List Vector
   pub slot : IsSlotEnd time values (state_after setting log steps)
@@ -24,7 +24,7 @@ pub record IsShown (setting : Setting) (time variable : ℕ) (value : Vector) (l
 -- so it is within the limits, once the run has reached all that the log names
 pub record IsSighting (setting : Setting) (limits : Limits) (time variable : ℕ) (value : Vector) (log : List (ℕ × ℕ)) : Type 0 where
   pub steps : ℕ
-  pub shown : IsShown setting time variable value log steps
+  pub shown : ShowsValue setting time variable value log steps
   pub within : steps ≤ limits.steps
   pub names : NamesBelow log steps
   pub short : length log ≤ limits.depart
@@ -55,7 +55,7 @@ EachRace P races = (i : ℕ) (race : Race) → slice_get races i ≡ Some race �
 pub record SomeRunShows (setting : Setting) (depart time variable : ℕ) (value : Vector) : Type 0 where
   pub log : List (ℕ × ℕ)
   pub steps : ℕ
-  pub shown : IsShown setting time variable value log steps
+  pub shown : ShowsValue setting time variable value log steps
   pub short : length log ≤ depart
 
 -- two such runs show different values
@@ -87,7 +87,7 @@ ListsEveryValue setting depart races = (time variable : ℕ) (value : Vector) �
 -- no run at all shows the value, at this time, with fewer departures than its log
 abbrev pub HasFewest : Setting → Race → Type 0
 HasFewest setting race = (i : ℕ) (s : Vector × List (ℕ × ℕ)) (log : List (ℕ × ℕ)) (steps : ℕ) →
-    slice_get race.values i ≡ Some s → IsShown setting race.time race.variable s.0 log steps → length s.1 ≤ length log
+    slice_get race.values i ≡ Some s → ShowsValue setting race.time race.variable s.0 log steps → length s.1 ≤ length log
 
 -- races stand in the order of time, then of variable, each time and variable once
 abbrev pub AreRacesInOrder : List Race → Type 0

@@ -13,7 +13,7 @@ use Rattle.basis.proofs.Lists.{place_within}
 use Rattle.sched_core.specs.LogText.{log_text}
 use Rattle.report_text.specs.Report.{Column, Race}
 use Rattle.report_text.specs.ReportText.{spaced, name_at, race_text, races_text, value_lines}
-use Rattle.report_text.specs.WellFormed.{IsValue, IsRace, IsRaceBefore, EachTwo}
+use Rattle.report_text.specs.WellFormed.{IsValue, IsRaceForm, IsRaceBefore, EachTwo}
 use Rattle.report_text.specs.Inner.Columns.{Differ}
 use Rattle.report_text.specs.Inner.Races.{Shown, shown_line, IsShown, IsShownBefore, IsRaceLine, IsRaceTaken}
 use Rattle.report_text.specs.Inner.Lists.{Listed}
@@ -106,5 +106,5 @@ race_front columns race text rest h = record {
   whole = h.1 ∙ race_spelled columns race h.0.0.column rest h.0.0.listed;
 }
 
-pub race_values : (columns : List Column) (race : Race) (width : ℕ) → (h : IsRace columns race) → width ≡ h.column.width → Listed (IsShown width) IsShownBefore race.values
+pub race_values : (columns : List Column) (race : Race) (width : ℕ) → (h : IsRaceForm columns race) → width ≡ h.column.width → Listed (IsShown width) IsShownBefore race.values
 race_values columns race width h w = (λ i x at. (subst (λ k. IsValue k x.0) (sym w) (h.values i x at), h.logs i x at), h.order)

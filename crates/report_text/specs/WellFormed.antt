@@ -64,7 +64,7 @@ pub record IsEnd (columns : List Column) (end : End) : Type 0 where
   pub line : IsLineOf columns end.line
 
 -- two values or more, each as wide as the variable, in the order of their bytes
-pub record IsRace (columns : List Column) (race : Race) : Type 0 where
+pub record IsRaceForm (columns : List Column) (race : Race) : Type 0 where
   pub time : race.time < 2 ^ 64
   pub column : Column
   pub listed : slice_get columns race.variable ≡ Some column
@@ -96,7 +96,7 @@ pub record IsReport (r : Report) (dumps : List (List ℕ)) : Type 0 where
   pub ends : Each (IsEnd r.variables) r.ends
   pub ends_order : EachTwo IsEndBefore r.ends
   pub bytes : HaveBytes r.ends dumps
-  pub races : Each (IsRace r.variables) r.races
+  pub races : Each (IsRaceForm r.variables) r.races
   pub races_order : EachTwo IsRaceBefore r.races
 
 -- the text is that of no report

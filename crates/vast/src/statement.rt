@@ -120,7 +120,7 @@ pub enum Argument {
     Value(Box<Expression>),
 }
 
-/// `name.name..` (12.4)
+/// `name.name..` (12.5)
 #[derive(Drop)]
 pub struct Path {
     pub names: Vec<Token>,

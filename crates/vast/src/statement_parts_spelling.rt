@@ -25,7 +25,8 @@ pub fn put_target<'t>(
     words: &[&'t [u8]],
     target: &Target,
 ) -> Result<(), NoMemory>
-    ensures { Puts out.old out.new result (spell_target (target_tree (texts words.now) target.now)) }
+    ensures { Puts out.old out.new result (spell_target
+        (target_tree (texts words.now) target.now)) }
 {
     match target {
         Target::Whole(name) => put_token(out, words, *name),

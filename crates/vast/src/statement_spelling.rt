@@ -247,7 +247,8 @@ fn put_branch<'t>(
     words: &[&'t [u8]],
     branch: &Branch,
 ) -> Result<(), NoMemory>
-    ensures { Puts out.old out.new result (spell_branch (branch_tree (texts words.now) branch.now)) }
+    ensures { Puts out.old out.new result (spell_branch
+        (branch_tree (texts words.now) branch.now)) }
 {
     match branch {
         Branch::Labelled { labels, body } => {

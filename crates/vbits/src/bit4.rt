@@ -1,3 +1,5 @@
+// The four letters of a value (IEEE 1364-2005, 4.1).
+
 ghost use Rattle.std.specs.Prelude.{◌≡◌};
 ghost use Rattle.vbits.specs.Letters as letters;
 

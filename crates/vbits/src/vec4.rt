@@ -1,3 +1,5 @@
+// Vectors of 1 to 64 letters, kept as two planes of bits (IEEE 1364-2005, 4.1, 4.3).
+
 ghost use Rattle.std.specs.Prelude.{◌≡◌, ◌++◌, ◌<◌, ◌≤◌, length, slice_get};
 ghost use Rattle.vbits.specs.Numbers as numbers;
 ghost use Rattle.vbits.specs.Planes as planes_back;

@@ -159,7 +159,8 @@ fn put_marked(
     variables: &[Variable],
 ) -> Result<(), NoMemory>
     ensures names { OnOk result (IsCodeAfter name.old.items (length variables.now) name.new.items) }
-    ensures lines { OnOk result (ListsMarked mark name.old.items variables.now text.old.items text.new.items) }
+    ensures lines { OnOk result (ListsMarked mark name.old.items variables.now text.old.items
+        text.new.items) }
 {
     if mark {
         put_variables(text, name, variables)
@@ -180,7 +181,8 @@ fn put_written(
 ) -> Result<(), NoMemory>
     ensures names { OnOk result (IsCodeAfter name.old.items (length own.now) name.new.items) }
     ensures lines { OnOk result
-        (ListsScope around written mark scope.now name.old.items own.now text.old.items text.new.items) }
+        (ListsScope around written mark scope.now name.old.items own.now text.old.items
+        text.new.items) }
 {
     if !written {
         return pass_by(name, own);
@@ -226,7 +228,8 @@ fn put_scopes(
     scopes: &[Scope],
     variables: &[Variable],
 ) -> Result<(), NoMemory>
-    ensures { OnOk result (text.new.items ≡ text.old.items ++ all_scopes marks.now scopes.now variables.now) }
+    ensures { OnOk result (text.new.items ≡ text.old.items
+        ++ all_scopes marks.now scopes.now variables.now) }
 {
     let mut name = Vec::from_slice(alloc, b"!")?;
     let mut around = 0u64;

@@ -44,7 +44,8 @@ fn put_start<O: Outlet>(
     values: &[Vec4],
 ) -> Result<(), OrMemory<O::Fault>>
     ensures ok { OnOk result
-        (O.takes outlet.old (started_text head.now marks.now commands.now time values.now) outlet.new) }
+        (O.takes outlet.old (started_text head.now marks.now commands.now time values.now)
+        outlet.new) }
     ensures err { IfErr result (λ fault. Stopped O.takes O.fails outlet.old
         (started_text head.now marks.now commands.now time values.now) fault outlet.new) }
 {

@@ -135,7 +135,8 @@ pub(crate) fn put_blanks(
     marks: &[bool],
     values: &[Vec4],
 ) -> Result<(), NoMemory>
-    ensures { OnOk result (text.new.items ≡ text.old.items ++ all_lines marks.now (map blanked values.now)) }
+    ensures { OnOk result (text.new.items ≡ text.old.items
+        ++ all_lines marks.now (map blanked values.now)) }
 {
     let mut scratch = Vec::new(alloc);
     let mut name = Vec::from_slice(alloc, b"!")?;

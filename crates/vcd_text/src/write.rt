@@ -31,8 +31,8 @@ fn fill<O: Outlet>(sink: &mut DumpSink<'_, O>, history: &History) -> Result<(), 
     }
 }
 
-/// Writes the dump of a history of a design, its `vcd` (18.2; docs/FORMATS.md, "Dumps"); without a start no byte. After a fault a prefix of it stands written. E901, and E902 only where the writer
-/// failed in this call.
+/// Writes the dump of a history of a design, its `vcd` (18.2; docs/FORMATS.md, "Dumps"); without a start no byte. After a fault a
+/// prefix of it stands written. E901, and E902 only where the writer failed in this call.
 pub fn write_vcd<W: Write>(
     alloc: Global,
     design: &Design,

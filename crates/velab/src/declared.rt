@@ -38,7 +38,8 @@ fn add_item<'t>(
     item: &ModuleItem,
     into: &mut Names<'t>,
 ) -> Result<(), OrMemory<ElabFault>>
-    ensures ok { OnOk result (into.new ≡ into.old ++ names_of (item_tree (words_of tokens.now) item.now)) }
+    ensures ok { OnOk result (into.new ≡ into.old ++ names_of
+        (item_tree (words_of tokens.now) item.now)) }
     ensures err { IfFault result
         (DoublesIn (into.old ++ names_of (item_tree (words_of tokens.now) item.now))) }
 {
@@ -60,7 +61,8 @@ fn add_ports<'t>(
     into: &mut Names<'t>,
 ) -> Result<(), OrMemory<ElabFault>>
     ensures ok { OnOk result (into.new ≡ into.old ++ port_texts (words_of tokens.now) ports.now) }
-    ensures err { IfFault result (DoublesIn (into.old ++ port_texts (words_of tokens.now) ports.now)) }
+    ensures err { IfFault result (DoublesIn (into.old ++ port_texts (words_of tokens.now)
+        ports.now)) }
 {
     for port in ports {
         note(into, letters(tokens, port.name), port.name.number)?;
@@ -108,7 +110,8 @@ pub fn declared<'t>(
     ports: &[PortForm<'_>],
     items: &[ModuleItem],
 ) -> Result<Names<'t>, OrMemory<ElabFault>>
-    ensures ok { IfOk result (λ names. names ≡ names_before (words_of tokens.now) ports.now items.now) }
+    ensures ok { IfOk result (λ names. names ≡ names_before (words_of tokens.now) ports.now
+        items.now) }
     ensures once { OnOk result
         (has_double (names_before (words_of tokens.now) ports.now items.now) ≡ false) }
     ensures err { IfFault result

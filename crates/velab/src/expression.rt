@@ -183,11 +183,14 @@ fn put_bit(
     nodes: &mut Vec<Node>,
 ) -> Result<(), OrMemory<ElabFault>>
     ensures ok { OnOk result (nodes.new.items ≡ nodes.old.items ++ nodes_of (resolved scope.now
-        (bit (token_text (words_of tokens.now) name) (text.tree_of (words_of tokens.now) index.now)))) }
+        (bit (token_text (words_of tokens.now) name) (text.tree_of (words_of tokens.now)
+        index.now)))) }
     ensures right { OnOk result (broken fixed scope.now
-        (bit (token_text (words_of tokens.now) name) (text.tree_of (words_of tokens.now) index.now)) ≡ None) }
+        (bit (token_text (words_of tokens.now) name) (text.tree_of (words_of tokens.now) index.now))
+        ≡ None) }
     ensures err { IfFault result (IsBroken (broken fixed scope.now
-        (bit (token_text (words_of tokens.now) name) (text.tree_of (words_of tokens.now) index.now)))) }
+        (bit (token_text (words_of tokens.now) name) (text.tree_of (words_of tokens.now)
+        index.now)))) }
 {
     match named(scope, fixed, tokens, name)? {
         Meaning::Variable(number) => {
@@ -244,7 +247,8 @@ fn put_repeated(
     count: Vec4,
     nodes: &mut Vec<Node>,
 ) -> Result<(), OrMemory<ElabFault>>
-    ensures ok { OnOk result (nodes.new.items ≡ nodes.old.items ++ Node.Repeated (constants.count_in count)
+    ensures ok { OnOk result (nodes.new.items ≡ nodes.old.items
+        ++ Node.Repeated (constants.count_in count)
         ∷ nodes_of (resolved_parts scope.now (text.trees_of (words_of tokens.now) parts.now))) }
     ensures right { OnOk result
         (broken_joined fixed scope.now (text.trees_of (words_of tokens.now) parts.now) ≡ None) }
@@ -346,7 +350,8 @@ pub fn expression_of(
     ensures right { OnOk result
         (broken_expression scope.now (text.tree_of (words_of tokens.now) expression.now) ≡ None) }
     ensures err { IfFault result
-        (IsBroken (broken_expression scope.now (text.tree_of (words_of tokens.now) expression.now))) }
+        (IsBroken (broken_expression scope.now (text.tree_of (words_of tokens.now)
+        expression.now))) }
 {
     let mut nodes = Vec::new(alloc);
     put_expression(alloc, scope, false, tokens, expression, &mut nodes)?;

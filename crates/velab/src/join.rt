@@ -28,7 +28,8 @@ use vmodules::ports::PortForm;
 
 /// The name that an expression is, alone.
 pub fn only_name(value: &Value) -> Option<Token>
-    ensures { (words : List Text) → name_of words result ≡ spec.only_name (text_tree words value.now) }
+    ensures { (words : List Text) → name_of words result
+        ≡ spec.only_name (text_tree words value.now) }
 {
     match value {
         Value::Name(name) => Some(*name),
@@ -69,7 +70,8 @@ fn lay_input(
         (token_text (words_of tokens.now) port) (text_tree (words_of tokens.now) value.now)))
         into.old table.new into.new }
     ensures right { OnOk result (spec.broken_input outer.now inner.now
-        (token_text (words_of tokens.now) port) (text_tree (words_of tokens.now) value.now) ≡ None) }
+        (token_text (words_of tokens.now) port) (text_tree (words_of tokens.now) value.now)
+        ≡ None) }
     ensures err { IfFault result (IsBroken (spec.broken_input outer.now inner.now
         (token_text (words_of tokens.now) port) (text_tree (words_of tokens.now) value.now))) }
 {
@@ -95,7 +97,8 @@ fn lay_output(
         (token_text (words_of tokens.now) port) (Some (token_text (words_of tokens.now) net))))
         into.old table.new into.new }
     ensures right { OnOk result (spec.broken_output outer.now inner.now
-        (token_text (words_of tokens.now) port) (Some (token_text (words_of tokens.now) net)) ≡ None) }
+        (token_text (words_of tokens.now) port) (Some (token_text (words_of tokens.now) net))
+        ≡ None) }
     ensures err { IfFault result (IsBroken (spec.broken_output outer.now inner.now
         (token_text (words_of tokens.now) port) (Some (token_text (words_of tokens.now) net)))) }
 {
@@ -118,12 +121,15 @@ fn lay_tied(
     into: &mut Vec<Places>,
 ) -> Result<(), OrMemory<ElabFault>>
     ensures ok { HaveLaid result (spec.laid_join outer.now inner.now table.old
-        (port_form (words_of tokens.now) port.now) (Some (text_tree (words_of tokens.now) value.now)))
+        (port_form (words_of tokens.now) port.now) (Some
+        (text_tree (words_of tokens.now) value.now)))
         into.old table.new into.new }
     ensures right { OnOk result (spec.broken_join outer.now inner.now
-        (port_form (words_of tokens.now) port.now) (Some (text_tree (words_of tokens.now) value.now)) ≡ None) }
+        (port_form (words_of tokens.now) port.now) (Some
+        (text_tree (words_of tokens.now) value.now)) ≡ None) }
     ensures err { IfFault result (IsBroken (spec.broken_join outer.now inner.now
-        (port_form (words_of tokens.now) port.now) (Some (text_tree (words_of tokens.now) value.now)))) }
+        (port_form (words_of tokens.now) port.now) (Some
+        (text_tree (words_of tokens.now) value.now)))) }
 {
     if !port.output {
         return lay_input(

@@ -14,7 +14,8 @@ pub fn note<'t>(names: &mut Names<'t>, text: &'t [u8], at: u32) -> Result<(), Or
     ensures added { OnOk result (names.new ≡ names.old ++ text.now ∷ []) }
     ensures unique { has_double names.new ≡ false }
     ensures fresh { OnOk result (is_declared names.old text.now ≡ false) }
-    ensures err { IfFault result (IsBroken (broken_if (is_declared names.old text.now) Rule.Doubled)) }
+    ensures err { IfFault result (IsBroken (broken_if (is_declared names.old text.now)
+        Rule.Doubled)) }
 {
     let new = names.add(text)?;
     if !new {

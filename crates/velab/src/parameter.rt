@@ -160,7 +160,8 @@ fn value_of(
     scope: &Scope<'_, '_>,
     setting: &Setting,
 ) -> Result<Expression, OrMemory<ElabFault>>
-    ensures ok { IfOk result (λ e. e ≡ spec.value_of (outside_tree (words_of tokens.now) outside.now)
+    ensures ok { IfOk result (λ e. e ≡ spec.value_of (outside_tree (words_of tokens.now)
+        outside.now)
         scope.now (setting_tree (words_of tokens.now) setting.now)) }
     ensures right { OnOk result (spec.broken_value (outside_tree (words_of tokens.now) outside.now)
         scope.now (setting_tree (words_of tokens.now) setting.now) ≡ None) }
@@ -303,7 +304,8 @@ fn add_instance<'t>(
     ensures right { OnOk result (broken_given (outside_tree (words_of tokens.now) outside.now)
         into.old
         (instance_given (token_text (words_of tokens.now) name)) ≡ None) }
-    ensures err { IfFault result (IsBroken (broken_given (outside_tree (words_of tokens.now) outside.now)
+    ensures err { IfFault result (IsBroken (broken_given
+        (outside_tree (words_of tokens.now) outside.now)
         into.old (instance_given (token_text (words_of tokens.now) name)))) }
 {
     note(&mut into.names, letters(tokens, name), name.number)?;

@@ -112,7 +112,8 @@ fn put_arguments(
 // The pieces of a line, where all its formats are right: else E310.
 fn line_of(is_right: bool, pieces: Option<Pieces>, at: u32) -> Result<Pieces, OrMemory<ElabFault>>
     ensures ok { IfOk result (λ line. (is_right ≡ true) × (pieces ≡ Some line)) }
-    ensures err { IfFault result (λ fault. (fault.rule ≡ Rule.Kind) × (is_right ≡ true → pieces ≡ None)) }
+    ensures err { IfFault result (λ fault. (fault.rule ≡ Rule.Kind) ×
+        (is_right ≡ true → pieces ≡ None)) }
 {
     match pieces {
         Some(line) if is_right => Ok(line),

@@ -76,7 +76,8 @@ fn bounds_of(
         (spec.broken_range scope.now (Some (range_tree (words_of tokens.now) range.now)) ≡ None) }
     ensures few { IfOk result (λ bounds. spec.span bounds ≤ 64) }
     ensures err { IfFault result
-        (IsBroken (spec.broken_range scope.now (Some (range_tree (words_of tokens.now) range.now)))) }
+        (IsBroken (spec.broken_range scope.now (Some (range_tree (words_of tokens.now)
+        range.now)))) }
 {
     let left = right_bound(alloc, scope, tokens, &range.left)?;
     let right = right_bound(alloc, scope, tokens, &range.right)?;
@@ -97,7 +98,8 @@ pub fn range_bounds(
     tokens: &Tokens<'_>,
     range: &Option<Written>,
 ) -> Result<Option<Bounds>, OrMemory<ElabFault>>
-    ensures ok { IfOk result (λ bounds. bounds ≡ bounds_for (words_of tokens.now) scope.now range.now) }
+    ensures ok { IfOk result (λ bounds. bounds ≡ bounds_for (words_of tokens.now) scope.now
+        range.now) }
     ensures few { IfOk result IsNarrow }
     ensures right { OnOk result (spec.broken_range scope.now
         (option_map (range_tree (words_of tokens.now)) range.now) ≡ None) }

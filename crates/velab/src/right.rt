@@ -104,7 +104,8 @@ pub fn check_kinds(design: &Design) -> Result<(), OrMemory<ElabFault>>
     ensures ok { OnOk result
         (list_all (spec.writes_rightly design.now.variables) design.now.actions ≡ true) }
     ensures err { IfFault result
-        (IsBroken (unless (list_all (spec.writes_rightly design.now.variables) design.now.actions) Rule.Kind)) }
+        (IsBroken (unless (list_all (spec.writes_rightly design.now.variables) design.now.actions)
+        Rule.Kind)) }
 {
     if all_write_rightly(&design.variables, &design.actions) {
         return Ok(());

@@ -184,7 +184,8 @@ pub fn number_of(
     tokens: &Tokens<'_>,
     token: Token,
 ) -> Result<u32, OrMemory<ElabFault>>
-    ensures ok { IfOk result (λ n. n ≡ spec.number_of scope.now (token_text (words_of tokens.now) token)) }
+    ensures ok { IfOk result (λ n. n ≡ spec.number_of scope.now
+        (token_text (words_of tokens.now) token)) }
     ensures right { OnOk result
         (broken_variable scope.now (token_text (words_of tokens.now) token) ≡ None) }
     ensures err { IfFault result
@@ -217,7 +218,8 @@ pub fn event_of(
     tokens: &Tokens<'_>,
     token: Token,
 ) -> Result<usize, OrMemory<ElabFault>>
-    ensures ok { IfOk result (λ n. n ≡ spec.event_of scope.now (token_text (words_of tokens.now) token)) }
+    ensures ok { IfOk result (λ n. n ≡ spec.event_of scope.now
+        (token_text (words_of tokens.now) token)) }
     ensures right { OnOk result
         (broken_event scope.now (token_text (words_of tokens.now) token) ≡ None) }
     ensures err { IfFault result

@@ -25,7 +25,8 @@ use vmodules::letters::letters;
 // Names, a dot before each.
 fn put_names(tokens: &Tokens<'_>, names: &[Token], into: &mut Vec<u8>) -> Result<(), NoMemory>
     ensures { OnOk result (into.new.items ≡
-        into.old.items ++ flat_map (λ one. 46 ∷ one) (map (token_text (words_of tokens.now)) names.now)) }
+        into.old.items ++ flat_map (λ one. 46 ∷ one) (map (token_text (words_of tokens.now))
+        names.now)) }
 {
     for name in names {
         into.push(b'.')?;

@@ -243,7 +243,8 @@ fn put_label(
     } ∷ []) }
     ensures right { OnOk result
         (broken_expression scope.now (text_tree (words_of tokens.now) label.now) ≡ None) }
-    ensures err { IfFault result (IsBroken (broken_expression scope.now (text_tree (words_of tokens.now) label.now))) }
+    ensures err { IfFault result (IsBroken (broken_expression scope.now
+        (text_tree (words_of tokens.now) label.now))) }
 {
     let item = expression_of(alloc, scope, tokens, label)?;
     let places = Vec::from_slice(alloc, body)?;
@@ -265,7 +266,8 @@ fn put_labels(
         ++ branches_by scope.now body.now (trees_of (words_of tokens.now) labels.now)) }
     ensures right { OnOk result
         (broken_items scope.now (trees_of (words_of tokens.now) labels.now) ≡ None) }
-    ensures err { IfFault result (IsBroken (broken_items scope.now (trees_of (words_of tokens.now) labels.now))) }
+    ensures err { IfFault result (IsBroken (broken_items scope.now
+        (trees_of (words_of tokens.now) labels.now))) }
 {
     for label in labels {
         put_label(alloc, scope, tokens, label, body, into)?;
@@ -359,7 +361,8 @@ fn lay(
         into.old table.new into.new }
     ensures right { OnOk result
         (broken_in scope.now (statement_tree (words_of tokens.now) statement.now) ≡ None) }
-    ensures err { IfFault result (IsBroken (broken_in scope.now (statement_tree (words_of tokens.now) statement.now))) }
+    ensures err { IfFault result (IsBroken (broken_in scope.now
+        (statement_tree (words_of tokens.now) statement.now))) }
 {
     match statement {
         Statement::Empty => Ok(()),
@@ -511,7 +514,8 @@ fn lay_all(
         into.new }
     ensures right { OnOk result
         (broken_in_all scope.now (statement_trees (words_of tokens.now) statements.now) ≡ None) }
-    ensures err { IfFault result (IsBroken (broken_in_all scope.now (statement_trees (words_of tokens.now) statements.now))) }
+    ensures err { IfFault result (IsBroken (broken_in_all scope.now
+        (statement_trees (words_of tokens.now) statements.now))) }
 {
     for statement in statements {
         lay(alloc, scope, tokens, statement, table, into)?;
@@ -573,7 +577,8 @@ fn lay_branches(
         otherwise.old table.new into.new otherwise.new }
     ensures right { OnOk result
         (broken_branches scope.now (branch_trees (words_of tokens.now) branches.now) ≡ None) }
-    ensures err { IfFault result (IsBroken (broken_branches scope.now (branch_trees (words_of tokens.now) branches.now))) }
+    ensures err { IfFault result (IsBroken (broken_branches scope.now
+        (branch_trees (words_of tokens.now) branches.now))) }
 {
     for branch in branches {
         lay_branch(alloc, scope, tokens, branch, table, into, otherwise)?;
@@ -596,7 +601,8 @@ fn lay_branch(
         otherwise.old table.new into.new otherwise.new }
     ensures right { OnOk result
         (broken_branch scope.now (branch_tree (words_of tokens.now) branch.now) ≡ None) }
-    ensures err { IfFault result (IsBroken (broken_branch scope.now (branch_tree (words_of tokens.now) branch.now))) }
+    ensures err { IfFault result (IsBroken (broken_branch scope.now
+        (branch_tree (words_of tokens.now) branch.now))) }
 {
     match branch {
         Branch::Labelled { labels, body } => {
@@ -646,7 +652,8 @@ fn lay_drive(
         (token_text (words_of tokens.now) net) (text_tree (words_of tokens.now) value.now)))
         into.old table.new into.new }
     ensures right { OnOk result (broken_process scope.now (drives
-        (token_text (words_of tokens.now) net) (text_tree (words_of tokens.now) value.now)) ≡ None) }
+        (token_text (words_of tokens.now) net) (text_tree (words_of tokens.now) value.now))
+        ≡ None) }
     ensures err { IfFault result (IsBroken (broken_process scope.now (drives
         (token_text (words_of tokens.now) net) (text_tree (words_of tokens.now) value.now)))) }
 {
@@ -737,7 +744,8 @@ fn lay_start(
     ensures right { OnOk result
         (AreRight scope.now (starts_in (words_of tokens.now) word (one.now ∷ []))) }
     ensures err { IfFault result
-        (IsBroken (broken_processes scope.now (starts_in (words_of tokens.now) word (one.now ∷ [])))) }
+        (IsBroken (broken_processes scope.now (starts_in (words_of tokens.now) word
+        (one.now ∷ [])))) }
 {
     match &one.value {
         None => Ok(()),
@@ -760,7 +768,8 @@ fn lay_starts(
 ) -> Result<(), OrMemory<ElabFault>>
     ensures ok { HaveLaid result (laid_processes scope.now table.old
         (starts_in (words_of tokens.now) word list.now)) into.old table.new into.new }
-    ensures right { OnOk result (AreRight scope.now (starts_in (words_of tokens.now) word list.now)) }
+    ensures right { OnOk result (AreRight scope.now (starts_in (words_of tokens.now) word
+        list.now)) }
     ensures err { IfFault result
         (IsBroken (broken_processes scope.now (starts_in (words_of tokens.now) word list.now))) }
 {
@@ -781,7 +790,8 @@ fn lay_setting(
 ) -> Result<(), OrMemory<ElabFault>>
     ensures ok { HaveLaid result (laid_processes scope.now table.old
         (drives_in (words_of tokens.now) (one.now ∷ []))) into.old table.new into.new }
-    ensures right { OnOk result (AreRight scope.now (drives_in (words_of tokens.now) (one.now ∷ []))) }
+    ensures right { OnOk result (AreRight scope.now (drives_in (words_of tokens.now)
+        (one.now ∷ []))) }
     ensures err { IfFault result
         (IsBroken (broken_processes scope.now (drives_in (words_of tokens.now) (one.now ∷ [])))) }
 {
@@ -824,7 +834,8 @@ fn lay_item(
     ensures right { OnOk result
         (AreRight scope.now (process_trees_by (item_tree (words_of tokens.now) item.now))) }
     ensures err { IfFault result (IsBroken
-        (broken_processes scope.now (process_trees_by (item_tree (words_of tokens.now) item.now)))) }
+        (broken_processes scope.now (process_trees_by (item_tree (words_of tokens.now)
+        item.now)))) }
 {
     match item {
         ModuleItem::Initial { statement, .. } => {
@@ -868,7 +879,8 @@ pub fn put_processes(
 ) -> Result<(), OrMemory<ElabFault>>
     requires small { scope.now.known + length (given_in (words_of tokens.now) items.now) < 2 ^ 64 }
     ensures ok { HaveLaid result
-        (processes_of (words_of tokens.now) scope.now table.old items.now) into.old table.new into.new }
+        (processes_of (words_of tokens.now) scope.now table.old items.now) into.old table.new
+        into.new }
     ensures right { OnOk result
         (broken_items_from scope.now (map (item_tree (words_of tokens.now)) items.now) ≡ None) }
     ensures err { IfFault result

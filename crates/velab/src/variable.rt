@@ -125,7 +125,8 @@ fn put_integers(
     into: &mut Vec<Variable>,
 ) -> Result<(), NoMemory>
     ensures { (scope : Known) → OnOk result (into.new.items ≡ into.old.items
-        ++ map (variable_of home.now scope) (declarations_of (integers_item (words_of tokens.now) list.now))) }
+        ++ map (variable_of home.now scope) (declarations_of
+        (integers_item (words_of tokens.now) list.now))) }
 {
     let form = Form {
         kind: Kind::Integer,
@@ -157,9 +158,11 @@ fn put_nets(
     into: &mut Vec<Variable>,
 ) -> Result<(), OrMemory<ElabFault>>
     ensures ok { OnOk result (into.new.items ≡ into.old.items
-        ++ map (variable_of home.now scope.now) (declarations_of (net_item (words_of tokens.now) net kind.now list.now))) }
+        ++ map (variable_of home.now scope.now) (declarations_of
+        (net_item (words_of tokens.now) net kind.now list.now))) }
     ensures right { OnOk result
-        (broken_declaration scope.now (net_item (words_of tokens.now) net kind.now list.now) ≡ None) }
+        (broken_declaration scope.now (net_item (words_of tokens.now) net kind.now list.now)
+        ≡ None) }
     ensures err { IfFault result (IsBroken
         (broken_declaration scope.now (net_item (words_of tokens.now) net kind.now list.now))) }
 {
@@ -184,7 +187,8 @@ fn put_kind(
     into: &mut Vec<Variable>,
 ) -> Result<(), OrMemory<ElabFault>>
     ensures ok { OnOk result (into.new.items ≡ into.old.items
-        ++ map (variable_of home.now scope.now) (declarations_of (kind_item (words_of tokens.now) kind.now list.now))) }
+        ++ map (variable_of home.now scope.now) (declarations_of
+        (kind_item (words_of tokens.now) kind.now list.now))) }
     ensures right { OnOk result
         (broken_declaration scope.now (kind_item (words_of tokens.now) kind.now list.now) ≡ None) }
     ensures err { IfFault result (IsBroken
@@ -238,7 +242,8 @@ fn port_bounds(
     port: &PortForm<'_>,
 ) -> Result<Option<Bounds>, OrMemory<ElabFault>>
     ensures ok { IfOk result (λ bounds. bounds ≡
-        option_map (spec.bounds_of scope.now) (port_form (words_of tokens.now) port.now).type.range) }
+        option_map (spec.bounds_of scope.now) (port_form (words_of tokens.now)
+        port.now).type.range) }
     ensures few { IfOk result IsNarrow }
     ensures right { OnOk result
         (broken_range scope.now (port_form (words_of tokens.now) port.now).type.range ≡ None) }

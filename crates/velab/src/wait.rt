@@ -613,7 +613,8 @@ pub fn name_terms(
     tokens: &Tokens<'_>,
     name: Token,
 ) -> Result<Terms, NoMemory>
-    ensures { IfOk result (λ terms. terms ≡ any_of scope.now (token_text (words_of tokens.now) name ∷ [])) }
+    ensures { IfOk result (λ terms. terms ≡ any_of scope.now
+        (token_text (words_of tokens.now) name ∷ [])) }
 {
     let mut terms = Vec::new(alloc);
     put_name(scope, tokens, name, &mut terms)?;

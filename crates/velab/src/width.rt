@@ -149,7 +149,8 @@ pub fn check_flaws(alloc: Global, design: &Design) -> Result<(), OrMemory<ElabFa
     ensures ok { OnOk result
         (spec.table_flaw (spec.blank_moment design.now.variables) design.now.actions ≡ None) }
     ensures err { IfFault result
-        (IsBroken (flaw_rule (spec.table_flaw (spec.blank_moment design.now.variables) design.now.actions))) }
+        (IsBroken (flaw_rule (spec.table_flaw (spec.blank_moment design.now.variables)
+        design.now.actions))) }
 {
     let values = blanks(alloc, &design.variables)?;
     let moment = Moment {

@@ -144,7 +144,8 @@ fn design_by(
 ) -> Result<Design, OrMemory<ElabFault>>
     ensures ok { IfOk result (λ design. design ≡ named_design name.now scale part) }
     ensures right { OnOk result (unless (nat_le (length part.begins) 256) Rule.TooMany ≡ None) }
-    ensures err { IfFault result (IsBroken (unless (nat_le (length part.begins) 256) Rule.TooMany)) }
+    ensures err { IfFault result (IsBroken (unless (nat_le (length part.begins) 256)
+        Rule.TooMany)) }
 {
     let Part {
         variables,
@@ -244,10 +245,14 @@ pub fn elaborate(
     top: Option<&[u8]>,
     scale: Timescale,
 ) -> Result<Design, OrMemory<ElabFault>>
-    ensures design { IfOk result (Elaborates (source_tree (words_of tokens.now) text.now) (named_text top.entry) scale) }
-    ensures only { IfOk result (IsOnlyDesign (source_tree (words_of tokens.now) text.now) (named_text top.entry) scale) }
-    ensures reason { IfFault result (IsDesignReason (source_tree (words_of tokens.now) text.now) (named_text top.entry)) }
-    ensures none { IfFault result (λ _. HasNoDesign (source_tree (words_of tokens.now) text.now) (named_text top.entry)) }
+    ensures design { IfOk result (Elaborates (source_tree (words_of tokens.now) text.now)
+        (named_text top.entry) scale) }
+    ensures only { IfOk result (IsOnlyDesign (source_tree (words_of tokens.now) text.now)
+        (named_text top.entry) scale) }
+    ensures reason { IfFault result (IsDesignReason (source_tree (words_of tokens.now) text.now)
+        (named_text top.entry)) }
+    ensures none { IfFault result (λ _. HasNoDesign (source_tree (words_of tokens.now) text.now)
+        (named_text top.entry)) }
 {
     let modules = modules_by(alloc, tokens, &text.modules)?;
     match top_of(alloc, &modules, top)? {

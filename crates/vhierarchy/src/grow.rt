@@ -35,7 +35,8 @@ pub fn put_unit<'t, 'u>(
         (request_tree modules.now.words request.now)) }
     ensures right { OnOk result (spec.broken_grown levels (units_tree modules.now) part.old
         (request_tree modules.now.words request.now) ≡ None) }
-    ensures err { IfFault result (IsBroken (spec.broken_grown levels (units_tree modules.now) part.old
+    ensures err { IfFault result (IsBroken (spec.broken_grown levels (units_tree modules.now)
+        part.old
         (request_tree modules.now.words request.now))) }
 {
     if levels == 0 {

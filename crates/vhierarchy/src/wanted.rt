@@ -62,7 +62,8 @@ fn values_of<'t>(
     ensures once { OnOk result
         (has_double (spec_open_names (module_tree (words_of tokens.now) child.now)) ≡ false) }
     ensures err { IfFault result (IsBroken (broken_if
-        (has_double (spec_open_names (module_tree (words_of tokens.now) child.now))) Rule.Doubled)) }
+        (has_double (spec_open_names (module_tree (words_of tokens.now) child.now)))
+        Rule.Doubled)) }
 {
     match open_names(alloc, tokens, child) {
         Ok(names) => Ok(names),
@@ -85,7 +86,8 @@ fn ports_for<'t>(
     ensures once { OnOk result
         (has_double (spec_port_names (module_tree (words_of tokens.now) child.now)) ≡ false) }
     ensures err { IfFault result (IsBroken (broken_if
-        (has_double (spec_port_names (module_tree (words_of tokens.now) child.now))) Rule.Doubled)) }
+        (has_double (spec_port_names (module_tree (words_of tokens.now) child.now)))
+        Rule.Doubled)) }
 {
     let ports = ports_of(alloc, child)?;
     port_names(alloc, tokens, &ports)
@@ -119,7 +121,8 @@ fn values_by<'t, 'u>(
     names: &Names<'t>,
     overrides: &'u Option<Connections>,
 ) -> Result<Ties<'t, 'u>, OrMemory<ElabFault>>
-    ensures ok { IfOk result (λ ties. ties_tree (words_of tokens.now) ties ≡ spec_matched_if names.now
+    ensures ok { IfOk result (λ ties. ties_tree (words_of tokens.now) ties
+        ≡ spec_matched_if names.now
         (option_map (connections_tree (words_of tokens.now)) overrides.now)) }
     ensures fits { OnOk result (fits_if names.now
         (option_map (connections_tree (words_of tokens.now)) overrides.now) ≡ true) }

@@ -107,7 +107,8 @@ fn put_strobes(
 
 // Puts behind others what the state after a step adds, where it is a slot end (11.4).
 fn put_end(items: &mut Vec<Item>, design: &Design, state: &SlowState) -> Result<(), NoMemory>
-    ensures { OnOk result (items.new.items ≡ items.old.items ++ spec.end_items design.now state.now) }
+    ensures { OnOk result (items.new.items ≡ items.old.items
+        ++ spec.end_items design.now state.now) }
 {
     let alloc = *items.allocator();
     if let Some(end) = state.slot_end(alloc)? {

@@ -359,7 +359,8 @@ pub fn slow_step(
     i: u32,
 ) -> Result<(SlowState, Vec<Item>), NoMemory>
     ensures state { IfOk result (λ after. after.0 ≡ (next design.now state.now i).state) }
-    ensures items { IfOk result (λ after. after.1.items ≡ items_of design.now (next design.now state.now i)) }
+    ensures items { IfOk result (λ after. after.1.items
+        ≡ items_of design.now (next design.now state.now i)) }
 {
     let mut after = state.copy(alloc)?;
     let deed = after.step(design, i)?;

@@ -103,7 +103,8 @@ fn shared(
     moment: &Moment<'_>,
 ) -> Result<Vec<Part>, NoMemory>
     requires { length value.letters ≡ size_of_all moment.now targets.now }
-    ensures { IfOk result (λ parts. parts.items ≡ spec.shared moment.now targets.now value.letters) }
+    ensures { IfOk result (λ parts. parts.items ≡ spec.shared moment.now targets.now
+        value.letters) }
 {
     let mut parts = Vec::new(alloc);
     let mut behind = value.len();

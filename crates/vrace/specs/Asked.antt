@@ -1,7 +1,8 @@
--- What is asked of a replay: the top module's name, the time limit, the steps of one run, and the grain.
+-- What is asked of a call: the top module's name, the time limit, the steps of one run, and the grain.
 use Rattle.std.specs.Prelude.{ℕ, ◌≤◌, List, Option}
 use Rattle.vmodules.specs.Inner.{named_text}
 use Rattle.vmodel.specs.declared.history.Grain.{Grain}
+use Rattle.statebook.specs.Limits.{AreLimits}
 use Rattle.vrace.specs.declared.options.Options.{Options}
 
 pub record Asked : Type 0 where
@@ -17,14 +18,6 @@ asked options = record {
   steps = options.limits.steps;
   grain = options.grain;
 }
-
--- how far runs are explored, each within its limit
-pub record AreLimits (depart steps entries : ℕ) : Type 0 where
-  pub few_departures : depart ≤ 4
-  pub some_steps : 1 ≤ steps
-  pub few_steps : steps ≤ 1000000
-  pub some_entries : 1 ≤ entries
-  pub few_entries : entries ≤ 1000000
 
 -- each number is within its limit
 pub record IsWithin (until depart steps entries : ℕ) : Type 0 where

@@ -1,7 +1,8 @@
 // The options that are asked for, where each number is within its limit.
 
 ghost use Rattle.std.specs.Prelude.{◌≡◌, IfOk, IfErr, IfSome, IfNone};
-ghost use Rattle.vrace.specs.Asked.{AreLimits, IsWithin};
+ghost use Rattle.statebook.specs.Limits.{AreLimits};
+ghost use Rattle.vrace.specs.Asked.{IsWithin};
 ghost use Rattle.vrace.specs.declared.fault.Fault.TheVariants.{OutOfLimit};
 
 use crate::fault::Fault;

@@ -22,7 +22,8 @@ use vreport::agreement_law;
 pub fn replay_law()
     ensures one { (show : Show) (files : List (List ℕ)) (asked : Asked) (log text other : List ℕ) →
         IsShown show files asked log text → IsShown show files asked log other → text ≡ other }
-    ensures refused { (show : Show) (files : List (List ℕ)) (asked : Asked) (log text : List ℕ) (fault : Fault) →
+    ensures refused { (show : Show) (files : List (List ℕ)) (asked : Asked) (log text : List ℕ)
+        (fault : Fault) →
         IsShown show files asked log text → IsReason files asked log fault → IsOfWriting fault }
 {
     lexing_law();

@@ -16,7 +16,7 @@ use Rattle.racebook.specs.Races as found
 use Rattle.racebook.specs.Order.{AreInTextOrder}
 use Rattle.report_text.specs.declared.report.Version.TheVariants.{One, Two}
 use Rattle.report_text.specs.Report.{Column, End, Report}
-use Rattle.report_text.specs.WellFormed.{Each, EachTwo, HaveBytes, IsColumn, IsEnd, IsEndBefore, IsHead, IsLineOf, IsRace, IsRaceBefore, IsTextLess, IsValue}
+use Rattle.report_text.specs.WellFormed.{Each, EachTwo, HaveBytes, IsColumn, IsEnd, IsEndBefore, IsHead, IsLineOf, IsRaceForm, IsRaceBefore, IsTextLess, IsValue}
 use Rattle.vreport.specs.Ends.{IsTrueEnd}
 use Rattle.vreport.specs.Formed.{IsFormed}
 use Rattle.vreport.specs.Inner.{HasTimeAndLog, HasTimeAndLogs, HasWidth}
@@ -100,7 +100,7 @@ one_shape setting limits shaped race is =
     }
 
 formed_race : (setting : Setting) (limits : Limits) → AllShaped setting → (race : found.Race) → found.IsRace setting limits race → AreInTextOrder race.values → HasTimeAndLogs (told_race race) →
-    IsRace (map column_of setting.design.variables) (told_race race)
+    IsRaceForm (map column_of setting.design.variables) (told_race race)
 formed_race setting limits shaped race is order kept =
     let one = one_shape setting limits shaped race is in
     record {
@@ -126,7 +126,7 @@ formed setting shaped limits findings report named until head widths true_ends e
     let columns : report.variables ≡ map column_of variables = head.setting_is.variables_are in
     let told : report.races ≡ map told_race races.races = races.told_are in
     let kept : Each HasTimeAndLogs (map told_race races.races) = subst (Each HasTimeAndLogs) told races_kept in
-    let each : Each (IsRace (map column_of variables)) (map told_race races.races) = each_mapped told_race (IsRace (map column_of variables)) races.races (λ i race at.
+    let each : Each (IsRaceForm (map column_of variables)) (map told_race races.races) = each_mapped told_race (IsRaceForm (map column_of variables)) races.races (λ i race at.
     formed_race setting limits shaped race (races.each i race at) (races.values_order i race at)
     (kept i (told_race race) (slice_get-map told_race races.races i ∙ ap (option_map told_race) at))) in
     record {
@@ -136,6 +136,6 @@ formed setting shaped limits findings report named until head widths true_ends e
       ends = subst (λ cs. Each (IsEnd cs) report.ends) (sym columns) (formed_ends setting limits shaped report.ends true_ends ends_kept);
       ends_order = ends_order;
       bytes = formed_bytes setting report.steps report.ends dumps are;
-      races = subst (λ cs. Each (IsRace cs) report.races) (sym columns) (subst (Each (IsRace (map column_of variables))) (sym told) each);
+      races = subst (λ cs. Each (IsRaceForm cs) report.races) (sym columns) (subst (Each (IsRaceForm (map column_of variables))) (sym told) each);
       races_order = subst (EachTwo IsRaceBefore) (sym told) (two_mapped told_race IsRaceBefore races.races races.order);
     }

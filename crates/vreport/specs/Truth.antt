@@ -5,7 +5,7 @@ use Rattle.sched_core.specs.Rules.{IsRun, NamesBelow}
 use Rattle.vbits.specs.Vectors.{Vector}
 use Rattle.vdesign.specs.Design.{Variable}
 use Rattle.vmodel.specs.Run.{Setting, rules_of}
-use Rattle.racebook.specs.Races.{IsShown}
+use Rattle.racebook.specs.Races.{ShowsValue}
 use Rattle.report_text.specs.Report.{Column, End, Race, Report}
 use Rattle.report_text.specs.WellFormed.{Each}
 use Rattle.vreport.specs.Dumps.{IsRunDump}
@@ -49,7 +49,7 @@ pub record IsTrueSighting (setting : Setting) (report : Report) (time variable :
   pub within : steps ≤ report.steps
   pub at : ℕ
   pub reached : at ≤ steps
-  pub shown : IsShown setting time variable value seen.1 at
+  pub shown : ShowsValue setting time variable value seen.1 at
   pub short : length seen.1 ≤ report.depart
 
 -- each value of the race is so seen; its values are different ones (`IsReport`), so any two are a race

@@ -58,7 +58,7 @@ fn names(
     Ok(names)
 }
 
-// A path (12.4).
+// A path (12.5).
 #[tactic(auto, using(crate::proofs::StatementTurns::path_answers))]
 fn path(alloc: Global, tokens: &Tokens<'_>, cursor: &mut Cursor) -> Result<Path, OrMemory<Stop>>
     ensures { Gives path_tree reading.path tokens.now cursor.old cursor.new result }

@@ -7,7 +7,7 @@ use Rattle.report_text.specs.ReportText.{line, spaced, race_text, races_text, va
 use Rattle.report_text.specs.declared.races.RaceLine.{RaceLine}
 use Rattle.report_text.specs.Inner.Lists.{Listed}
 use Rattle.report_text.specs.Inner.Places.{Place, Stands, Took}
-use Rattle.report_text.specs.WellFormed.{IsValue, IsRace, IsRaceBefore, IsTextLess}
+use Rattle.report_text.specs.WellFormed.{IsValue, IsRaceForm, IsRaceBefore, IsTextLess}
 
 -- a value and the log of a run that shows it
 abbrev pub Shown : Type 0
@@ -36,7 +36,7 @@ FollowsRace races race = (before : Race) → slice_get races (length races - 1) 
 
 -- a race of these variables whose values can be counted in 64 bits
 abbrev pub IsCounted : List Column → Race → Type 0
-IsCounted columns race = IsRace columns race × (length race.values < 2 ^ 64)
+IsCounted columns race = IsRaceForm columns race × (length race.values < 2 ^ 64)
 
 -- the text is a race of these variables, and then the rest
 abbrev pub IsRaceTaken : List Column → List ℕ → Race → List ℕ → Type 0
