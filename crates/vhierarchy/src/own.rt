@@ -188,8 +188,12 @@ fn put_scope(
 ) -> Result<(), NoMemory>
     requires { variables ≤ 1024 }
     ensures { OnOk result (into.new.items ≡
-        into.old.items ++ record { name = name.now; path = path.now; depth = depth;
-        variables = variables } ∷ []) }
+        into.old.items ++ record {
+          name = name.now;
+          path = path.now;
+          depth = depth;
+          variables = variables;
+        } ∷ []) }
 {
     let name = Vec::from_slice(alloc, name)?;
     let path = Vec::from_slice(alloc, path)?;
