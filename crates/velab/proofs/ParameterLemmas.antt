@@ -17,9 +17,9 @@ use Rattle.velab.specs.declared.fault.Rule.{Rule}
 use Rattle.velab.specs.declared.fault.ElabFault.{ElabFault}
 use Rattle.velab.specs.Rules.{IsBroken}
 use Rattle.velab.specs.Scopes.{Scope}
-use Rattle.velab.specs.Elaborate.{Outside, Given, given, given_by, given_behind, with_given, with_all, broken_given, broken_all}
+use Rattle.velab.specs.Elaborate.{Outside, Given, given, given_by, valueless_by, given_behind, with_given, with_all, broken_given, broken_all}
 use Rattle.velab.specs.Elaborate.{event_given, instance_given}
-use Rattle.velab.specs.Inner.{given_all, given_in, events_given, instances_given}
+use Rattle.velab.specs.Inner.{given_all, given_in, valueless_in, events_given, instances_given}
 use Rattle.velab.proofs.ListLemmas.{drop_at}
 use Rattle.velab.proofs.FaultLemmas.{goes_on, stops_at}
 
@@ -83,6 +83,10 @@ module _ (words : List Text) where
   pub given_open : (items : List ModuleItem) (i : ℕ) (x : ModuleItem) → i < length items → x ≡ get_or items i x →
       given_in words (drop i items) ≡ given_by (item_tree words x) ++ given_in words (drop (i + 1) items)
   given_open items i x within is = ap (given_in words) (drop_at items i x within is)
+
+  pub valueless_open : (items : List ModuleItem) (i : ℕ) (x : ModuleItem) → i < length items → x ≡ get_or items i x →
+      valueless_in words (drop i items) ≡ valueless_by (item_tree words x) ++ valueless_in words (drop (i + 1) items)
+  valueless_open items i x within is = ap (valueless_in words) (drop_at items i x within is)
 
   pub heads_open : (type now : Option ParameterType) (list : List HeadWords) (i : ℕ) (x : HeadWords) → i < length list → x ≡ get_or list i x →
       now ≡ option_or (head_parameter words x).kind type →

@@ -220,14 +220,25 @@ abbrev pub given_in_head : Option (List HeadParameter) → List Given
 given_in_head None = []
 given_in_head (Some list) = given_behind None list
 
+-- the parameters that an item declares
 abbrev pub given_by : ItemTree → List Given
 given_by (parameters local type settings) = map (given (Some type)) settings
 given_by (declaration kind list) = []
-given_by (events names) = map event_given names
+given_by (events names) = []
 given_by (assignments settings) = []
 given_by (initial statement) = []
 given_by (always statement) = []
-given_by (instances letters overrides list) = map (λ one. instance_given one.name) list
+given_by (instances letters overrides list) = []
+
+-- its named events and its instances, which have no value
+abbrev pub valueless_by : ItemTree → List Given
+valueless_by (parameters local type settings) = []
+valueless_by (declaration kind list) = []
+valueless_by (events names) = map event_given names
+valueless_by (assignments settings) = []
+valueless_by (initial statement) = []
+valueless_by (always statement) = []
+valueless_by (instances letters overrides list) = map (λ one. instance_given one.name) list
 
 -- 4.10.1: without a range it has the size of its value, and the value's sign unless it is declared to be signed
 abbrev pub typed_value : Bool → Option Bounds → ExpressionTree → Vector
@@ -340,8 +351,13 @@ first_scope base m = record {
   known = 0;
 }
 
+-- and those of its named events and instances, wherever they are declared
+abbrev pub valueless_scope : Base → ModuleTree → Scope
+valueless_scope base m = with_all base.outside (first_scope base m) (flat_map valueless_by m.items)
+
+-- and the parameters of its head
 abbrev pub head_scope : Base → ModuleTree → Scope
-head_scope base m = with_all base.outside (first_scope base m) (given_in_head m.parameters)
+head_scope base m = with_all base.outside (valueless_scope base m) (given_in_head m.parameters)
 
 abbrev pub whole_scope : Base → ModuleTree → Scope
 whole_scope base m = with_all base.outside (head_scope base m) (flat_map given_by m.items)

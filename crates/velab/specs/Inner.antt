@@ -42,7 +42,7 @@ use Rattle.velab.specs.declared.variable.Form.{Form}
 use Rattle.velab.specs.declared.driven.Driver.{Driver}
 use Rattle.format_text.specs.Pieces.{Argument, Printed, pieces_with}
 use Rattle.vdesign.specs.declared.action.Action.{Action}
-use Rattle.velab.specs.Elaborate.{Laid, Processes, Outside, instance_given, port_declaration, net_names, laid_join, laid_joins, broken_join, broken_joins, declarations_of, laid, all_laid, laid_processes, laid_items, bounds_of, span, variable_by, variable_of, LaidBranches, laid_branch, laid_branches, process_trees_by, ProcessTree, process_of, driven_by, broken_processes, Home, driver_of, drivers_by, Given, given, event_given, given_by, given_in_head}
+use Rattle.velab.specs.Elaborate.{Laid, Processes, Outside, instance_given, port_declaration, net_names, laid_join, laid_joins, broken_join, broken_joins, declarations_of, laid, all_laid, laid_processes, laid_items, bounds_of, span, variable_by, variable_of, LaidBranches, laid_branch, laid_branches, process_trees_by, ProcessTree, process_of, driven_by, broken_processes, Home, driver_of, drivers_by, Given, given, event_given, given_by, valueless_by, given_in_head}
 use Rattle.vdesign.specs.declared.action.Branch.{Branch}
 
 -- ---- parts of a module
@@ -123,6 +123,9 @@ events_given words names = map event_given (map (token_text words) names)
 
 abbrev pub given_in : List Text → List ModuleItem → List Given
 given_in words items = flat_map given_by (map (item_tree words) items)
+
+abbrev pub valueless_in : List Text → List ModuleItem → List Given
+valueless_in words items = flat_map valueless_by (map (item_tree words) items)
 
 abbrev pub given_at_head : {X : Type 0} → List Text → Option (Vec HeadWords X) → List Given
 given_at_head {X = X} words list = given_in_head (option_map (λ (heads : Vec HeadWords X). map (head_parameter words) heads.items) list)

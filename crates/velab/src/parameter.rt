@@ -8,8 +8,8 @@ ghost use Rattle.vast.specs.TokenTexts.{token_text};
 ghost use Rattle.vast.specs.ModuleTrees.{head_parameter, item_tree, parameter_type, setting_tree};
 ghost use Rattle.vexpr_parse.specs.Texts.{words_of};
 ghost use Rattle.velab.specs.Elaborate as spec;
-ghost use Rattle.velab.specs.Elaborate.{with_given, with_all, broken_given, broken_all, broken_type, given, given_by, given_behind, event_given, instance_given};
-ghost use Rattle.velab.specs.Inner.{given_of, given_all, events_given, instances_given, outside_tree, given_in, given_at_head, type_of, IsNarrow};
+ghost use Rattle.velab.specs.Elaborate.{with_given, with_all, broken_given, broken_all, broken_type, given, given_by, given_behind, valueless_by, event_given, instance_given};
+ghost use Rattle.velab.specs.Inner.{given_of, given_all, events_given, instances_given, outside_tree, given_in, valueless_in, given_at_head, type_of, IsNarrow};
 ghost use Rattle.velab.specs.Rules.{IsBroken};
 
 use crate::constant::nothing;
@@ -337,7 +337,7 @@ fn add_instances<'t>(
     Ok(())
 }
 
-// What an item gives: parameters, named events or instances.
+// The parameters that an item declares.
 fn add_item<'t>(
     alloc: Global,
     tokens: &Tokens<'t>,
@@ -361,6 +361,35 @@ fn add_item<'t>(
             add_all(alloc, tokens, outside, kind, settings, into)
         }
         ModuleItem::Declaration { .. } => Ok(()),
+        ModuleItem::Events { .. } => Ok(()),
+        ModuleItem::Assignments { .. } => Ok(()),
+        ModuleItem::Initial { .. } => Ok(()),
+        ModuleItem::Always { .. } => Ok(()),
+        ModuleItem::Instances { .. } => Ok(()),
+    }
+}
+
+// The named events or instances of an item.
+fn add_valueless_of<'t>(
+    tokens: &Tokens<'t>,
+    outside: &Outside<'_, '_, '_>,
+    item: &ModuleItem,
+    into: &mut Growing<'t>,
+) -> Result<(), OrMemory<ElabFault>>
+    ensures ok { OnOk result
+        (into.new ≡ with_all (outside_tree (words_of tokens.now) outside.now)
+        into.old (valueless_by (item_tree (words_of tokens.now) item.now))) }
+    ensures variables { into.new.variables ≡ into.old.variables }
+    ensures right { OnOk result
+        (broken_all (outside_tree (words_of tokens.now) outside.now)
+        into.old (valueless_by (item_tree (words_of tokens.now) item.now)) ≡ None) }
+    ensures err { IfFault result
+        (IsBroken (broken_all (outside_tree (words_of tokens.now) outside.now)
+        into.old (valueless_by (item_tree (words_of tokens.now) item.now)))) }
+{
+    match item {
+        ModuleItem::Parameters { .. } => Ok(()),
+        ModuleItem::Declaration { .. } => Ok(()),
         ModuleItem::Events { names, .. } => add_events(tokens, outside, names, into),
         ModuleItem::Assignments { .. } => Ok(()),
         ModuleItem::Initial { .. } => Ok(()),
@@ -369,22 +398,46 @@ fn add_item<'t>(
     }
 }
 
-/// How many names an item gives that are no variables: parameters, named events and instances.
+/// The named events and instances of items, in the order of the text: what has no value. Errors: E302, E309, E901.
+pub fn add_valueless<'t>(
+    tokens: &Tokens<'t>,
+    outside: &Outside<'_, '_, '_>,
+    items: &[ModuleItem],
+    into: &mut Growing<'t>,
+) -> Result<(), OrMemory<ElabFault>>
+    ensures ok { OnOk result
+        (into.new ≡ with_all (outside_tree (words_of tokens.now) outside.now)
+        into.old (valueless_in (words_of tokens.now) items.now)) }
+    ensures variables { into.new.variables ≡ into.old.variables }
+    ensures right { OnOk result
+        (broken_all (outside_tree (words_of tokens.now) outside.now)
+        into.old (valueless_in (words_of tokens.now) items.now) ≡ None) }
+    ensures err { IfFault result
+        (IsBroken (broken_all (outside_tree (words_of tokens.now) outside.now)
+        into.old (valueless_in (words_of tokens.now) items.now))) }
+{
+    for item in items {
+        add_valueless_of(tokens, outside, item, into)?;
+    }
+    Ok(())
+}
+
+/// How many parameters an item declares.
 pub fn given_count(item: &ModuleItem) -> usize
     ensures { (words : List Text) → result ≡ length (given_by (item_tree words item.now)) }
 {
     match item {
         ModuleItem::Parameters { settings, .. } => settings.len(),
         ModuleItem::Declaration { .. } => 0,
-        ModuleItem::Events { names, .. } => names.len(),
+        ModuleItem::Events { .. } => 0,
         ModuleItem::Assignments { .. } => 0,
         ModuleItem::Initial { .. } => 0,
         ModuleItem::Always { .. } => 0,
-        ModuleItem::Instances { instances, .. } => instances.len(),
+        ModuleItem::Instances { .. } => 0,
     }
 }
 
-/// What items give, in the order of the text: parameters, named events and instances. Errors: E302, E303, E306, E307, E309, E901.
+/// The parameters that items declare, in the order of the text. Errors: E302, E303, E306, E307, E310, E901.
 pub fn add_items<'t>(
     alloc: Global,
     tokens: &Tokens<'t>,

@@ -13,7 +13,7 @@ use Rattle.velab.specs.declared.fault.Rule.TheVariants.{Depth}
 use Rattle.velab.specs.declared.fault.ElabFault.{ElabFault}
 use Rattle.velab.specs.Rules.{IsBroken}
 use Rattle.velab.specs.Scopes.{Scope}
-use Rattle.velab.specs.Elaborate.{Outside, Base, Given, given_by, given_in_head, with_given, with_all, first_scope, head_scope, whole_scope}
+use Rattle.velab.specs.Elaborate.{Outside, Base, Given, given_by, valueless_by, given_in_head, with_given, with_all, first_scope, valueless_scope, head_scope, whole_scope}
 use Rattle.velab.proofs.ListLemmas.{drop_at}
 use Rattle.velab.proofs.FaultLemmas.{first_breaks, then_breaks, both_right, same_rule}
 use Rattle.vhierarchy.specs.Instances.{Wanted, wanted_in, broken_among, Part, Request, inside, broken_names, own_by, broken_own_by, with_own, broken_own, asked, grown, broken_each, broken_grown}
@@ -61,9 +61,12 @@ pub known_all : (outside : Outside) (scope : Scope) (list : List Given) → (wit
 known_all outside scope [] = omega arith
 known_all outside scope (one ∷ more) = let rest = known_all outside (with_given outside scope one) more in omega (arith, rest)
 
--- what the head gives is known at the first item
-pub head_known : (base : Base) (m : ModuleTree) → (head_scope base m).known ≡ length (given_in_head m.parameters)
-head_known base m = let all = known_all base.outside (first_scope base m) (given_in_head m.parameters) in omega (arith, all)
+-- what has no value and what the head gives is known at the first item
+pub head_known : (base : Base) (m : ModuleTree) → (head_scope base m).known ≡ length (flat_map valueless_by m.items) + length (given_in_head m.parameters)
+head_known base m =
+    let first = known_all base.outside (first_scope base m) (flat_map valueless_by m.items) in
+    let all = known_all base.outside (valueless_scope base m) (given_in_head m.parameters) in
+    omega (arith, first, all)
 
 -- all that is given fits where all that is known does
 pub few : (base : Base) (m : ModuleTree) (head whole bound : ℕ) (list : List Given) → head ≡ (head_scope base m).known → whole ≡ (whole_scope base m).known →

@@ -20,7 +20,7 @@ use Rattle.velab.specs.Rules.{unless, broken_if, flaw_rule}
 use Rattle.velab.specs.Right.{writes_rightly}
 use Rattle.velab.specs.ActionFlaws.{blank_moment, table_flaw}
 use Rattle.velab.specs.Scopes.{Scope, at}
-use Rattle.velab.specs.Elaborate.{port_names, declared_names, Outside, Base, Home, Processes, given_by, given_in_head, first_scope, head_scope, item_scope, variable_of, port_declaration, variables_from, broken_all, broken_ports, broken_from, drivers_by, nets_of, only_name, laid_joins, broken_joins, laid_items, broken_items_from}
+use Rattle.velab.specs.Elaborate.{port_names, declared_names, Outside, Base, Home, Processes, given_by, valueless_by, given_in_head, first_scope, valueless_scope, head_scope, item_scope, variable_of, port_declaration, variables_from, broken_all, broken_ports, broken_from, drivers_by, nets_of, only_name, laid_joins, broken_joins, laid_items, broken_items_from}
 
 -- ---- the instances that a module has (12.1.2)
 
@@ -60,9 +60,9 @@ wanted_from modules known [] = []
 wanted_from modules known (item ∷ more) =
     wanted_by modules known item ++ wanted_from modules (known + length (given_by item)) more
 
--- in the order of the text; the parameters of the head stand before all items
+-- in the order of the text; named events, instances and the parameters of the head are known before all items
 abbrev pub wanted_in : SourceTree → ModuleTree → List Wanted
-wanted_in modules m = wanted_from modules (length (given_in_head m.parameters)) m.items
+wanted_in modules m = wanted_from modules (length (flat_map valueless_by m.items) + length (given_in_head m.parameters)) m.items
 
 -- what is said of parameters and what is connected to ports fits those that there are
 abbrev pub broken_instance : ModuleTree → Option ConnectionsTree → InstanceTree → Option Rule
@@ -165,8 +165,9 @@ broken_names part request =
     option_or (broken_if (has_double (declared_names request.unit)) rule.Doubled)
     (option_or (unless (nat_le (length part.variables + length (declared_names request.unit)) 1024) rule.TooMany)
     (option_or (unless (nat_le part.events 4294967295) rule.TooMany)
-    (option_or (broken_all request.outside (first_scope (base_of part request) request.unit) (given_in_head request.unit.parameters))
-    (broken_all request.outside (head_scope (base_of part request) request.unit) (flat_map given_by request.unit.items)))))
+    (option_or (broken_all request.outside (first_scope (base_of part request) request.unit) (flat_map valueless_by request.unit.items))
+    (option_or (broken_all request.outside (valueless_scope (base_of part request) request.unit) (given_in_head request.unit.parameters))
+    (broken_all request.outside (head_scope (base_of part request) request.unit) (flat_map given_by request.unit.items))))))
 
 -- a design has at most 256 processes, and 1,024 instances below the top
 abbrev pub broken_counts : ℕ → ℕ → Option Rule

@@ -25,7 +25,7 @@ use velab::declared::declared;
 use velab::fault::{ElabFault, Rule};
 use velab::home::Home;
 use velab::join::put_joins;
-use velab::parameter::{Growing, MOST_EVENTS, add_head, add_items};
+use velab::parameter::{Growing, MOST_EVENTS, add_head, add_items, add_valueless};
 use velab::scope::Scope;
 use velab::statement::{Table, put_processes};
 use velab::variable::{put_ports, put_variables};
@@ -39,14 +39,14 @@ pub const MOST_PROCESSES: usize = 256;
 /// The most scopes of a design: the top's, and those of 1,024 instances.
 const MOST_SCOPES: usize = 1025;
 
-/// The names of an instance, and how many of those that are no variables the head of its module has.
+/// The names of an instance, and how many of those that are no variables are known before its first item.
 #[derive(Drop)]
 pub struct Known<'t> {
     pub growing: Growing<'t>,
     pub head: usize,
 }
 
-/// The names of an instance. Errors: E302, E303, E306, E307, E309, E901.
+/// The names of an instance. Errors: E302, E303, E306, E307, E309, E310, E901.
 pub fn known_names<'t>(
     alloc: Global,
     tokens: &Tokens<'t>,
@@ -90,6 +90,8 @@ pub fn known_names<'t>(
         events: part.events,
         others: Vec::new(alloc),
     };
+    let items = &request.unit.items;
+    add_valueless(tokens, request.outside, items, &mut growing)?;
     add_head(
         alloc,
         tokens,
@@ -98,13 +100,7 @@ pub fn known_names<'t>(
         &mut growing,
     )?;
     let head = growing.others.len();
-    add_items(
-        alloc,
-        tokens,
-        request.outside,
-        &request.unit.items,
-        &mut growing,
-    )?;
+    add_items(alloc, tokens, request.outside, items, &mut growing)?;
     Ok(Known { growing, head })
 }
 

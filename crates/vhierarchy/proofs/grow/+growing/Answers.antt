@@ -1,4 +1,4 @@
-use Rattle.std.proofs.Common.{◌≡◌, ◌-◌, ◌^◌, None, List, length, map, ap, refl, sym, subst, ◌∙◌, arith}
+use Rattle.std.proofs.Common.{◌≡◌, ◌+◌, ◌-◌, ◌^◌, None, List, length, map, ap, refl, sym, subst, ◌∙◌, arith}
 use Rattle.basis.specs.Reasons.{Because}
 use Rattle.basis.proofs.Results.{on_ok}
 use Rattle.vast.specs.Words.{Text}
@@ -11,7 +11,8 @@ use Rattle.vmodules.specs.declared.ports.PortForm.{PortForm}
 use Rattle.vmodules.specs.Inner.{units_tree, port_form}
 use Rattle.velab.specs.Rules.{IsBroken}
 use Rattle.velab.specs.Scopes.{Scope, at}
-use Rattle.velab.specs.Elaborate.{given_in_head}
+use Rattle.std.specs.List.{flat_map}
+use Rattle.velab.specs.Elaborate.{given_in_head, valueless_by}
 use Rattle.velab.specs.Inner.{given_in}
 use Rattle.velab.proofs.FaultLemmas.{handed_on}
 use Rattle.vhierarchy.specs.Instances.{Wanted, wanted_in, Request, base_of, inside, broken_names, own_by}
@@ -70,7 +71,8 @@ put_unit-returns-in_err-put_own-clause-err t c =
     ap (wanted_trees words) c.deref-4.ensures.value ∙ c.in_ok-wanted.ensures.ok
     ∙ (λ i. found_in c.args.modules.now ((c.in_ok-known.ensures.head ∙ head_known (base_of c.args.part.now (request_tree (words_of c.tokens-tokens.result.now) c.args.request.now))
     (module_tree (words_of c.tokens-tokens.result.now) c.args.request.now.unit.now)
-    ∙ (λ j. length (given_in_head (module_tree (c.tokens-tokens.ensures j) c.args.request.now.unit.now).parameters))) i) (c.deref-2.ensures.value i)) in
+    ∙ (λ j. length (flat_map valueless_by (module_tree (c.tokens-tokens.ensures j) c.args.request.now.unit.now).items)
+    + length (given_in_head (module_tree (c.tokens-tokens.ensures j) c.args.request.now.unit.now).parameters))) i) (c.deref-2.ensures.value i)) in
     let scope_is : c.at-scope.result ≡ inside c.args.part.now request =
     c.at-scope.ensures ∙ (λ i. at ((c.scope.ensures.same ∙ c.in_ok-known.ensures.whole) i) (c.in_ok-known.ensures.head i))
     ∙ (λ i. inside c.args.part.now (request_tree (c.tokens-tokens.ensures i) c.args.request.now)) in
@@ -95,7 +97,8 @@ put_unit-returns-clause-ok t c =
     ap (wanted_trees words) c.deref-5.ensures.value ∙ c.in_ok-wanted.ensures.ok
     ∙ (λ i. found_in c.args.modules.now ((c.in_ok-known.ensures.head ∙ head_known (base_of c.args.part.now (request_tree (words_of c.tokens-tokens.result.now) c.args.request.now))
     (module_tree (words_of c.tokens-tokens.result.now) c.args.request.now.unit.now)
-    ∙ (λ j. length (given_in_head (module_tree (c.tokens-tokens.ensures j) c.args.request.now.unit.now).parameters))) i) (c.deref-2.ensures.value i)) in
+    ∙ (λ j. length (flat_map valueless_by (module_tree (c.tokens-tokens.ensures j) c.args.request.now.unit.now).items)
+    + length (given_in_head (module_tree (c.tokens-tokens.ensures j) c.args.request.now.unit.now).parameters))) i) (c.deref-2.ensures.value i)) in
     let scope_is : c.at-scope.result ≡ inside c.args.part.now request =
     c.at-scope.ensures ∙ (λ i. at ((c.scope.ensures.same ∙ c.in_ok-known.ensures.whole) i) (c.in_ok-known.ensures.head i))
     ∙ (λ i. inside c.args.part.now (request_tree (c.tokens-tokens.ensures i) c.args.request.now)) in
@@ -122,7 +125,8 @@ put_unit-returns-clause-right t c =
     ap (wanted_trees words) c.deref-5.ensures.value ∙ c.in_ok-wanted.ensures.ok
     ∙ (λ i. found_in c.args.modules.now ((c.in_ok-known.ensures.head ∙ head_known (base_of c.args.part.now (request_tree (words_of c.tokens-tokens.result.now) c.args.request.now))
     (module_tree (words_of c.tokens-tokens.result.now) c.args.request.now.unit.now)
-    ∙ (λ j. length (given_in_head (module_tree (c.tokens-tokens.ensures j) c.args.request.now.unit.now).parameters))) i) (c.deref-2.ensures.value i)) in
+    ∙ (λ j. length (flat_map valueless_by (module_tree (c.tokens-tokens.ensures j) c.args.request.now.unit.now).items)
+    + length (given_in_head (module_tree (c.tokens-tokens.ensures j) c.args.request.now.unit.now).parameters))) i) (c.deref-2.ensures.value i)) in
     let scope_is : c.at-scope.result ≡ inside c.args.part.now request =
     c.at-scope.ensures ∙ (λ i. at ((c.scope.ensures.same ∙ c.in_ok-known.ensures.whole) i) (c.in_ok-known.ensures.head i))
     ∙ (λ i. inside c.args.part.now (request_tree (c.tokens-tokens.ensures i) c.args.request.now)) in
@@ -152,7 +156,8 @@ put_unit-returns-clause-err t c =
     ap (wanted_trees words) c.deref-5.ensures.value ∙ c.in_ok-wanted.ensures.ok
     ∙ (λ i. found_in c.args.modules.now ((c.in_ok-known.ensures.head ∙ head_known (base_of c.args.part.now (request_tree (words_of c.tokens-tokens.result.now) c.args.request.now))
     (module_tree (words_of c.tokens-tokens.result.now) c.args.request.now.unit.now)
-    ∙ (λ j. length (given_in_head (module_tree (c.tokens-tokens.ensures j) c.args.request.now.unit.now).parameters))) i) (c.deref-2.ensures.value i)) in
+    ∙ (λ j. length (flat_map valueless_by (module_tree (c.tokens-tokens.ensures j) c.args.request.now.unit.now).items)
+    + length (given_in_head (module_tree (c.tokens-tokens.ensures j) c.args.request.now.unit.now).parameters))) i) (c.deref-2.ensures.value i)) in
     let scope_is : c.at-scope.result ≡ inside c.args.part.now request =
     c.at-scope.ensures ∙ (λ i. at ((c.scope.ensures.same ∙ c.in_ok-known.ensures.whole) i) (c.in_ok-known.ensures.head i))
     ∙ (λ i. inside c.args.part.now (request_tree (c.tokens-tokens.ensures i) c.args.request.now)) in
