@@ -26,6 +26,18 @@ def counted(program, words, text=b""):
     return int(re.search(rb"Collected : (\d+)", run.stderr).group(1)), run.stdout
 
 
+def counted_in(program, words, text, names):
+    """Instructions by callgrind of these functions of the program, with all that they call; 0 of one that isn't called."""
+    with tempfile.TemporaryDirectory() as folder:
+        subprocess.run(
+            ["valgrind", "--tool=callgrind", f"--callgrind-out-file={folder}/out", program, *words],
+            input=text, capture_output=True, check=False)
+        told = subprocess.run(
+            ["callgrind_annotate", "--inclusive=yes", "--threshold=100", f"{folder}/out"], capture_output=True, text=True, check=True).stdout
+    rows = re.findall(r"^ *([\d,]+) .*\?\?\?:(\S+)", told, re.MULTILINE)
+    return [sum(int(count.replace(",", "")) for count, row in rows if row.startswith(name)) for name in names]
+
+
 def peak_bytes(program, words, text=b""):
     """Bytes of the heap at the peak, by massif."""
     with tempfile.TemporaryDirectory() as folder:

@@ -4,23 +4,23 @@
 Usage: benches/races/measure.py [PATH_OF_vrace_program]
 
 Entries are counted from outside: a search is cut exactly where it has as many as `--entries` says. Choices met are those of the
-entries of the default run, of which a trace tells the widths, and one for each other entry (K = 1). Instructions by callgrind, less
-those of a search that is cut at its first entry, and less the dumps of the ends that the report lists: each is made twice, once to be
-counted, by a replay of the end's log; a step's by replays of twice as many; bytes by massif at the peak. Status 1 where with 16
-processes a choice costs more than 30,000 instructions beside the forced steps of its way, a step more than 6,000, or an entry more
-than 3 times the 65 * 24 bytes of its values.
+entries of the default run, of which a trace tells the widths, and one for each other entry (K = 1). Instructions by callgrind, of
+`explore_alone` with all that it calls, so without the reading of the text and the writing of the report; a step's by replays of
+twice as many, each of which runs twice, once to see how the run ends and once to write; bytes by massif at the peak. Status 1 where
+with 16 processes a choice costs more than 30,000 instructions beside the forced steps of its way, a step more than 6,000, or an
+entry more than 3 times the 65 * 24 bytes of its values.
 """
-import re
 import subprocess
 import sys
 import tempfile
 from pathlib import Path
 
 sys.path.insert(0, str(Path(__file__).resolve().parents[1]))
-from counting import counted, peak_bytes, program_of
+from counting import counted, counted_in, peak_bytes, program_of
 
 TEXT = Path(__file__).resolve().parent / "text"
 MOST = 1_000_000
+SEARCH = "explore::alone::explore_alone", "statebook::way::walk", "vmachine::standing::StandingPartialEq::eq"
 VALUES = 65 * 24
 
 
@@ -58,12 +58,12 @@ def default_run(program, text):
 
 
 def step_cost(program):
-    """Instructions of a plain step: those of twice as many, less those of as many."""
+    """Instructions of a plain step: those of twice as many, less those of as many; a replay takes each twice."""
     def run(count):
         return counted(program, ["replay", "--steps", "1000000"], b"module t; reg [7:0] a, b; initial begin " + b"a = b; " * count + b"end endmodule")[0]
     def read(count):
         return counted(program, ["replay", "--steps", "1"], b"module t; reg [7:0] a, b; initial begin " + b"a = b; " * count + b"end endmodule")[0]
-    return ((run(40_000) - run(20_000)) - (read(40_000) - read(20_000))) / 20_000
+    return ((run(40_000) - run(20_000)) - (read(40_000) - read(20_000))) / 40_000
 
 
 def measured(program, processes):
@@ -71,15 +71,12 @@ def measured(program, processes):
     steps, stations, choices = default_run(program, text)
     entries, first = entries_of(program, text, 1), entries_of(program, text, 0)
     met = choices + entries - first
-    total, report = counted(program, explore(1), text)
-    ends = int(re.search(rb"\nends (\d+)\n", report)[1])
-    dump = counted(program, ["replay"], text)[0] - counted(program, ["replay", "--steps", "1"], text)[0]
-    spent = total - counted(program, explore(1, 1), text)[0] - 2 * ends * dump
+    search, walked, compared = counted_in(program, explore(1), text, SEARCH)
     bytes_at_peak = peak_bytes(program, explore(1), text)
     print("%d processes: %d steps, %d stations; %d entries, %d choices met" % (processes, steps, stations, entries, met))
-    print("  %d instructions in all, %d of them for the dumps of %d ends" % (total, 2 * ends * dump, ends))
-    print("  %.0f a choice with its way; %.1f MB at the peak, %.0f bytes an entry" % (spent / met, bytes_at_peak / 1e6, bytes_at_peak / entries))
-    return spent / met, steps / stations, bytes_at_peak / entries
+    print("  %.0f a choice, of which %.0f for the forced steps of its way, and %.0f for comparing states; %.1f MB at the peak, %.0f bytes an entry" %
+          (search / met, walked / met, compared / met, bytes_at_peak / 1e6, bytes_at_peak / entries))
+    return (search - walked) / met, bytes_at_peak / entries
 
 
 def main():
@@ -87,9 +84,8 @@ def main():
     step = step_cost(program)
     print("a plain step: %.0f instructions (at most 6000)" % step)
     for processes in 4, 8, 16:
-        choice, way, room = measured(program, processes)
-    beside = choice - (way - 1) * step
-    print("with 16 processes: %.0f a choice beside its %.1f forced steps (at most 30000), %.1f times the bytes of the values (at most 3)" % (beside, way - 1, room / VALUES))
+        beside, room = measured(program, processes)
+    print("with 16 processes: %.0f a choice beside the forced steps of its way (at most 30000), %.1f times the bytes of the values (at most 3)" % (beside, room / VALUES))
     return 0 if beside <= 30_000 and step <= 6_000 and room <= 3 * VALUES else 1
 
 
