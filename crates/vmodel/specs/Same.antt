@@ -71,5 +71,5 @@ queue_same q r = stand_same q r && regions_same q r
 
 abbrev pub state_same : State → State → Bool
 state_same s t =
-    ((values_same s.values t.values && pointwise process_same s.processes t.processes) && queue_same s.queue t.queue)
+    ((values_same s.values t.values && queue_same s.queue t.queue) && pointwise process_same s.processes t.processes)
     && option_eq cause_same s.cause t.cause

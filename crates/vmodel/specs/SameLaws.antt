@@ -141,22 +141,22 @@ queues_tell q r = Decides-like (queue_same q r) whole parts
     )
 
 abbrev StateParts : State → State → Type 0
-StateParts s t = (((s.values ≡ t.values) × (s.processes ≡ t.processes)) × (s.queue ≡ t.queue)) × (s.cause ≡ t.cause)
+StateParts s t = (((s.values ≡ t.values) × (s.queue ≡ t.queue)) × (s.processes ≡ t.processes)) × (s.cause ≡ t.cause)
 
 pub states_tell : Tells state_same
 states_tell s t = Decides-like (state_same s t) whole parts
     (Decides-and _ _ (Decides-and _ _ (Decides-and _ _
     (values_tell s.values t.values)
-    (list_tells process_same processes_tell s.processes t.processes))
     (queues_tell s.queue t.queue))
+    (list_tells process_same processes_tell s.processes t.processes))
     (option_tells cause_same causes_tell s.cause t.cause))
   where
     whole : StateParts s t → s ≡ t
-    whole h = λ i. record { values = h.0.0.0 i; processes = h.0.0.1 i; queue = h.0.1 i; cause = h.1 i }
+    whole h = λ i. record { values = h.0.0.0 i; queue = h.0.0.1 i; processes = h.0.1 i; cause = h.1 i }
 
     parts : s ≡ t → StateParts s t
     parts h =
-        (((ap (λ (p : State). p.values) h, ap (λ (p : State). p.processes) h), ap (λ (p : State). p.queue) h), ap (λ (p : State). p.cause) h)
+        (((ap (λ (p : State). p.values) h, ap (λ (p : State). p.queue) h), ap (λ (p : State). p.processes) h), ap (λ (p : State). p.cause) h)
 
 -- ---- so each is an equivalence
 

@@ -50,8 +50,9 @@ impl PartialEq for SlowState {
     ghost laws = { partial_equiv_from_equiv states_equivalent };
 
     fn eq(&self, other: &SlowState) -> bool {
-        let held = (&self.values, &self.processes, &self.queue, &self.cause);
-        held == (&other.values, &other.processes, &other.queue, &other.cause)
+        // What differs most often first: states of one digest mostly have other queues, and processes are long to compare.
+        let held = (&self.values, &self.queue, &self.processes, &self.cause);
+        held == (&other.values, &other.queue, &other.processes, &other.cause)
     }
 }
 
