@@ -11,7 +11,7 @@ const NUMBERS: [(Fault, &str); 27] = [
     (Fault::BadToken(At(None)), "E102"),
     (Fault::Directive(At(None)), "E110"),
     (Fault::NoMacro(At(None)), "E111"),
-    (Fault::Growth(At(None)), "E112"),
+    (Fault::TooLarge(At(None)), "E112"),
     (Fault::LeftOpen(At(None)), "E113"),
     (Fault::Timescales(At(None)), "E114"),
     (Fault::NoTree(At(None)), "E201"),

@@ -1,6 +1,6 @@
 -- Formats of printed lines (IEEE 1364-2005, 17.1.1; docs/LANGUAGE.md, "Printed lines"): what a string prints, and where it shows the
 -- expressions behind it.
-use Rattle.std.specs.Prelude.{ℕ, ◌==◌, ◌||◌, Bool, true, false, cond, List, [], ◌∷◌, ◌++◌, Option, Some, None}
+use Rattle.std.specs.Prelude.{ℕ, ◌==◌, ◌||◌, Bool, true, false, if◌then◌else◌, List, [], ◌∷◌, ◌++◌, Option, Some, None}
 use Rattle.vdesign.specs.declared.print.Form.{Form}
 use Rattle.vdesign.specs.declared.print.Form.TheVariants.{Binary, Hexadecimal, Decimal, ShortDecimal, Time, ShortTime}
 use Rattle.format_text.specs.declared.run.Standing.{Standing}
@@ -10,11 +10,11 @@ use Rattle.format_text.specs.declared.run.Standing.TheVariants.{Outside, Behind,
 
 -- what a letter behind a backslash stands for: `\n` and `\t`; `\\` and `\"` stand for themselves
 abbrev pub escaped : ℕ → ℕ
-escaped c = cond (c == 110) 10 (cond (c == 116) 9 c)
+escaped c = if c == 110 then 10 else if c == 116 then 9 else c
 
 abbrev pub letters_read : Bool → ℕ → List ℕ
 letters_read true c = escaped c ∷ []
-letters_read false c = cond (c == 92) [] (c ∷ [])
+letters_read false c = if c == 92 then [] else c ∷ []
 
 -- whether the letter is a backslash that stands before the next one
 abbrev pub escapes : Bool → ℕ → Bool
@@ -34,12 +34,15 @@ is_letter small large c = c == small || c == large
 -- b, h, d, t behind `%`
 abbrev pub form_of : ℕ → Option Form
 form_of c =
-    cond (is_letter 98 66 c) (Some Binary)
-    (cond (is_letter 104 72 c) (Some Hexadecimal) (cond (is_letter 100 68 c) (Some Decimal) (cond (is_letter 116 84 c) (Some Time) None)))
+    if is_letter 98 66 c then Some Binary
+    else if is_letter 104 72 c then Some Hexadecimal
+    else if is_letter 100 68 c then Some Decimal
+    else if is_letter 116 84 c then Some Time
+    else None
 
 -- d, t behind `%0`
 abbrev pub short_form_of : ℕ → Option Form
-short_form_of c = cond (is_letter 100 68 c) (Some ShortDecimal) (cond (is_letter 116 84 c) (Some ShortTime) None)
+short_form_of c = if is_letter 100 68 c then Some ShortDecimal else if is_letter 116 84 c then Some ShortTime else None
 
 abbrev pub form_at : Standing → ℕ → Option Form
 form_at Outside c = None
@@ -62,9 +65,11 @@ abbrev pub run_by : Standing → List ℕ → List ℕ → Option Run
 run_by Outside run [] = Some (record { letters = run; form = None; rest = [] })
 run_by Behind run [] = None
 run_by Shortened run [] = None
-run_by Outside run (c ∷ cs) = cond (c == 37) (run_by Behind run cs) (run_by Outside (run ++ c ∷ []) cs)
+run_by Outside run (c ∷ cs) = if c == 37 then run_by Behind run cs else run_by Outside (run ++ c ∷ []) cs
 run_by Behind run (c ∷ cs) =
-    cond (c == 48) (run_by Shortened run cs) (cond (c == 37) (run_by Outside (run ++ c ∷ []) cs) (ended run (form_of c) cs))
+    if c == 48 then run_by Shortened run cs
+    else if c == 37 then run_by Outside (run ++ c ∷ []) cs
+    else ended run (form_of c) cs
 run_by Shortened run (c ∷ cs) = ended run (short_form_of c) cs
 
 -- none where a `%` stands in it at its end, or before what names no form

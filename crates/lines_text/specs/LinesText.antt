@@ -1,5 +1,5 @@
 -- `LinesText` (IEEE 1364-2005, 17.1; docs/FORMATS.md, "Lines"): the printed lines of a design and what its run shows.
-use Rattle.std.specs.Prelude.{ℕ, cond, List, [], ◌∷◌, ◌++◌, Option, Some, None}
+use Rattle.std.specs.Prelude.{ℕ, if◌then◌else◌, List, [], ◌∷◌, ◌++◌, Option, Some, None}
 use Rattle.vbits.specs.Vectors.{Vector}
 use Rattle.vdesign.specs.Design.{Design}
 use Rattle.line_text.specs.LineText.{line_of, watched}
@@ -21,7 +21,7 @@ line_at design place time values = line_of (moment_at design values time) (piece
 
 -- one that has printed prints again where an argument differs from what it last showed
 abbrev pub due_again : Design → ℕ → List Vector → ℕ → List Vector → Option ℕ
-due_again design place last time values = cond (values_same last (seen design place time values)) None (Some place)
+due_again design place last time values = if values_same last (seen design place time values) then None else Some place
 
 -- the monitor that prints at the end of a slot, if one does: one that was called in the slot always does
 abbrev pub due : Design → InForce → ℕ → List Vector → Option ℕ

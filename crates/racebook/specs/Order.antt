@@ -1,5 +1,5 @@
 -- The order in which races, and the values of one race, are listed.
-use Rattle.std.specs.Prelude.{◌≡◌, ℕ, ◌+◌, ◌*◌, ◌<◌, ◌⊎◌, cond, List, [], ◌∷◌, length, slice_get, Some}
+use Rattle.std.specs.Prelude.{◌≡◌, ℕ, ◌+◌, ◌*◌, ◌<◌, ◌⊎◌, if◌then◌else◌, List, [], ◌∷◌, length, slice_get, Some}
 use Rattle.vbits.specs.declared.bit4.Bit4.{Bit4}
 use Rattle.vbits.specs.declared.bit4.Bit4.TheVariants.{Zero, One, X, Z}
 use Rattle.vbits.specs.Vectors.{Vector}
@@ -23,7 +23,7 @@ text_number (letter ∷ letters) = digit_of letter + 4 * text_number letters
 
 -- length and sign together; the values of one variable have one shape (4.2.2)
 abbrev pub shape_of : Vector → ℕ
-shape_of value = 2 * length value.letters + cond value.signed 1 0
+shape_of value = 2 * length value.letters + (if value.signed then 1 else 0)
 
 -- in the order of texts, leftmost digit first; those of another shape stand apart
 abbrev pub IsTextBefore : Vector → Vector → Type 0

@@ -4,7 +4,7 @@ use Rattle.std.proofs.lemmas.Bool.{cases_lt}
 use Rattle.std.proofs.lemmas.Option.{same_Some}
 use Rattle.vbits.specs.Vectors.{Vector}
 use Rattle.vmachine.specs.Reads.{slot_in}
-use Rattle.vreport.specs.Values.{value_text}
+use Rattle.vreport.specs.Values.{report_digits}
 use Rattle.sched_core.specs.Rules.{IsRun, NamesBelow, choice_at}
 use Rattle.sched_core.specs.Logs.{IsLogFrom}
 use Rattle.sched_core.specs.Replay.{IsNextChoice}
@@ -25,10 +25,10 @@ AfterAlike setting = (s : Standing) (t : State) (i : ℕ) → Stands setting s t
 
 -- a value that stands there is seen where its text is the one that is told
 pub seen_when : (t : State) (time variable : ℕ) (text : List ℕ) (value : Vector) (answer : Bool) → slot_in t ≡ Some time → slice_get t.values variable ≡ Some value →
-    Decides answer (value_text value ≡ text) → Decides answer (IsSeenAt time variable text t)
+    Decides answer (report_digits value ≡ text) → Decides answer (IsSeenAt time variable text t)
 seen_when t time variable text value answer slot at same = (
   λ h. record { slot_is = slot; value = value; value_is = at; text_is = sym (same.0 h) },
-  λ s. same.1 (ap value_text (same_Some value s.value (sym at ∙ s.value_is)) ∙ sym s.text_is),
+  λ s. same.1 (ap report_digits (same_Some value s.value (sym at ∙ s.value_is)) ∙ sym s.text_is),
 )
 
 module _ (setting : Setting) (log rest later : List (ℕ × ℕ)) (n choice : ℕ) (left : IsLeft log rest n) (taken : IsNextChoice rest n choice later) where

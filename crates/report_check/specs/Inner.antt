@@ -11,7 +11,7 @@ use Rattle.report_text.specs.Report.{End, Report}
 use Rattle.report_text.specs.WellFormed.{Each}
 use Rattle.vreport.specs.Ends.{IsEndAfter}
 use Rattle.vreport.specs.Truth.{AreTrueEnds, IsTrueRace}
-use Rattle.vreport.specs.Values.{value_text, values_line}
+use Rattle.vreport.specs.Values.{report_digits, values_line}
 use Rattle.report_check.specs.FirstBad.{AreFirstEndsTrue, AreFirstRacesTrue, IsFalseEnd, IsFalseRace}
 
 -- ---- ends
@@ -38,7 +38,7 @@ pub record IsSeenAt (time variable : ℕ) (text : List ℕ) (t : State) : Type 0
   pub slot_is : slot_in t ≡ Some time
   pub value : Vector
   pub value_is : slice_get t.values variable ≡ Some value
-  pub text_is : text ≡ value_text value
+  pub text_is : text ≡ report_digits value
 
 -- the answer says whether it is so
 abbrev pub TellsSeen : Setting → Standing → ℕ → ℕ → List ℕ → Bool → Type 0

@@ -9,7 +9,7 @@ fn kind(value: &Expression) -> &'static [u8] {
     match value {
         Expression::Number(_) => b"number",
         Expression::Name(_) => b"name",
-        Expression::Time { .. } => b"time",
+        Expression::Time(_) => b"time",
         Expression::Bit { .. } => b"bit",
         Expression::Part { .. } => b"part",
         Expression::Parentheses(_) => b"parentheses",
@@ -44,7 +44,7 @@ pub fn expression(page: &mut Page<'_>, value: &Expression) -> Result<(), NoMemor
     match value {
         Expression::Number(_) => {}
         Expression::Name(_) => {}
-        Expression::Time { .. } => {}
+        Expression::Time(_) => {}
         Expression::Bit { index, .. } => expression(page, index)?,
         Expression::Part { left, right, .. } => {
             expression(page, left)?;

@@ -1,6 +1,6 @@
 -- Values as printed lines show them (IEEE 1364-2005, 17.1.1.2 to 17.1.1.4). Letters of a vector stand lowest first, those of a text
 -- leftmost first.
-use Rattle.std.specs.Prelude.{ℕ, zero, suc, ◌+◌, ◌-◌, ◌*◌, ◌/◌, ◌^◌, nat_lt, Bool, true, false, cond, List, [], ◌∷◌, ◌++◌, length, map, reverse, take, drop, replicate, Option, Some, None, codes, decimal}
+use Rattle.std.specs.Prelude.{ℕ, zero, suc, ◌+◌, ◌-◌, ◌*◌, ◌/◌, ◌^◌, nat_lt, Bool, true, false, if◌then◌else◌, List, [], ◌∷◌, ◌++◌, length, map, reverse, take, drop, replicate, Option, Some, None, codes, decimal}
 use Rattle.std.specs.List.{list_all, list_any}
 use Rattle.vbits.specs.declared.bit4.Bit4.{Bit4}
 use Rattle.vbits.specs.declared.bit4.Bit4.TheVariants.{Zero, One, X, Z}
@@ -26,7 +26,10 @@ is_z Z = true
 -- else `Z`
 abbrev pub unknown_letter : List Bit4 → ℕ
 unknown_letter letters =
-    cond (list_all is_x letters) 120 (cond (list_all is_z letters) 122 (cond (list_any is_x letters) 88 90))
+    if list_all is_x letters then 120
+    else if list_all is_z letters then 122
+    else if list_any is_x letters then 88
+    else 90
 
 -- ---- binary
 
@@ -43,7 +46,7 @@ binary v = map binary_digit (reverse v.letters)
 -- ---- hexadecimal: bits are taken by fours from the right, the leftmost digit has those that are left
 
 abbrev pub hexadecimal_digit : ℕ → ℕ
-hexadecimal_digit n = cond (nat_lt n 10) (48 + n) (87 + n)
+hexadecimal_digit n = if nat_lt n 10 then 48 + n else 87 + n
 
 abbrev pub digit_by : List Bit4 → Option ℕ → ℕ
 digit_by letters (Some n) = hexadecimal_digit n
@@ -66,11 +69,11 @@ abbrev pub is_negative : Vector → Bool
 is_negative v = is_one (sign_letter v)
 
 abbrev pub minus : Bool → List ℕ
-minus negative = cond negative (codes "-") []
+minus negative = if negative then codes "-" else []
 
 -- a minus before the number of what is negative, negated
 abbrev pub amount_of : Vector → Option ℕ
-amount_of v = number (cond (is_negative v) (neg v) v).letters
+amount_of v = number (if is_negative v then neg v else v).letters
 
 -- in so many units, or one letter where a bit is unknown
 abbrev pub amount_text : Vector → ℕ → Option ℕ → List ℕ
@@ -82,7 +85,7 @@ short_decimal v = amount_text v 1 (amount_of v)
 
 -- the longest text of values of this sign and length: the minus counts
 abbrev pub longest : Bool → ℕ → List ℕ
-longest signed count = cond signed (minus true ++ decimal (2 ^ (count - 1))) (decimal (2 ^ count - 1))
+longest signed count = if signed then minus true ++ decimal (2 ^ (count - 1)) else decimal (2 ^ count - 1)
 
 -- on the right of so many places
 abbrev pub right_in : ℕ → List ℕ → List ℕ

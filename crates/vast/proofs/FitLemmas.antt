@@ -1,7 +1,7 @@
 -- A tree stands, level by level, where it fits and has no more levels.
 use Rattle.std.proofs.Common.{◌≡◌, ◌≢◌, ℕ, suc, ◌+◌, ◌-◌, Bool, true, false, not, List, [], ◌∷◌, Vec, Box, Global, length, nat_eq, ◌&&◌, max, nat_le, nat_lt, true≢false, refl, sym, ap, ◌∙◌, arith}
 use Rattle.std.proofs.lemmas.Bool.Decides.{nat_tests}
-use Rattle.vast.specs.Words.{Text, is_name, is_number}
+use Rattle.vast.specs.Words.{Text, is_name, is_number, is_time}
 use Rattle.vast.specs.Expressions.{ExpressionTree, number, name, time, bit, part, parentheses, concatenation, replication, conversion, apply, combine, conditional, ExpressionTrees, none, first, rank, rank_of, unary_rank, is_some_part, fits_expression, fits_parts, depth, greatest_depth}
 use Rattle.vast.specs.Modules.{fits_value}
 use Rattle.vast.specs.Within.{stands, all_stand, parts_within}
@@ -37,7 +37,7 @@ some_parts words (one ∷ more) = not_empty (length more)
 pub stands_nowhere : (tree : ExpressionTree) → stands 0 tree ≡ false
 stands_nowhere (number digits) = refl
 stands_nowhere (name letters) = refl
-stands_nowhere time = refl
+stands_nowhere (time word) = refl
 stands_nowhere (bit letters index) = refl
 stands_nowhere (part letters left right) = refl
 stands_nowhere (parentheses inner) = refl
@@ -69,7 +69,7 @@ mutual
   pub stands_is : (n : ℕ) (tree : ExpressionTree) → stands n tree ≡ fits_value n tree
   stands_is n (number digits) = leaf n (is_number digits)
   stands_is n (name letters) = leaf n (is_name letters)
-  stands_is n time = refl
+  stands_is n (time word) = leaf n (is_time word)
   stands_is n (bit letters index) =
       ap (λ b. nat_le 1 n && (is_name letters && b)) (stands_is (n - 1) index) ∙ one_deeper n (depth index) (is_name letters) (fits_expression index)
   stands_is n (part letters left right) =

@@ -1,5 +1,16 @@
+pub mod ToldTrees
 pub mod ExpressionLemmas
 pub mod WholeTreeLemmas
 pub mod FitLemmas
 pub mod StatementFitLemmas
 pub mod SpellLemmas
+pub mod LeafRows
+pub mod MappedLists
+pub mod ExpressionWordLemmas
+pub mod StatementWordLemmas
+pub mod ModuleWordLemmas
+pub mod Refilling
+pub mod RefilledExpressions
+pub mod RefilledStatements
+pub mod RefilledModules
+pub mod NumberedTextLemmas

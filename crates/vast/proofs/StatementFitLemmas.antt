@@ -5,7 +5,7 @@ use Rattle.std.proofs.lemmas.Bool.Decides.{nat_tests}
 use Rattle.vast.specs.Words.{Text, is_name}
 use Rattle.vast.specs.Expressions.{fits_expression, depth, fits_parts, greatest_depth, is_some_part}
 use Rattle.vast.specs.Statements.{TargetTree, whole, bit, part, joined, TargetTrees, none, first, target_depth, greatest_target_depth, fits_target, fits_targets, is_some_target, fits_delay, delay_depth, fits_optional_delay, optional_delay_depth, fits_event, event_depth, ArgumentTree, argument_depth, arguments_depth, fits_argument, fits_print, fits_task, task_depth, StatementTree, empty, block, assign, nonblocking, trigger, if_true, if_else, case_of, while_true, repeat_times, forever, for_loop, wait_for, delay, event, task, StatementTrees, no_statement, first_statement, BranchTree, labelled, default, BranchTrees, no_branch, first_branch, ends_in_if, is_some_branch, defaults, fits_statement, fits_statements, statement_depth, statements_depth, fits_branch, branch_depth, fits_branches, branches_depth}
-use Rattle.vast.specs.StatementTrees.{argument_tree, task_tree, target_tree, target_row, target_trees, statement_tree, statement_trees, branch_trees}
+use Rattle.vast.specs.StatementTrees.{argument_tree, task_tree, target_tree, target_trees, statement_tree, statement_trees, branch_trees}
 use Rattle.vast.specs.ExpressionTrees.{tree_of, boxed_tree}
 use Rattle.vast.specs.Modules.{fits_value, fits_body}
 use Rattle.vast.specs.Within.{target_stands, targets_stand, target_within, argument_within, arguments_within, task_within, case_within, setting_within, statement_stands, statements_stand, branch_stands, branches_stand}
@@ -17,10 +17,11 @@ use Rattle.vast.specs.declared.statement.Task.{Task}
 use Rattle.vast.specs.declared.statement.Task.TheVariants.{Print}
 use Rattle.vast.specs.declared.statement.Branch.{Branch}
 use Rattle.vast.specs.declared.statement.Statement.{Statement, Block, Case}
-use Rattle.vast.specs.declared.statement.Target.{Target, Joined, Joined', Row_of-Target, end_of-Target, more_of-Target, items-the_row-Target, items_hidden-the_row-Target-0}
+use Rattle.vast.specs.declared.statement.Target.{Target, Joined}
+use Rattle.vast.specs.TokenTexts.{token_text}
+use Rattle.vast.proofs.ToldTrees.{told_joined}
 use Rattle.vast.proofs.WholeTreeLemmas.{tree_of_whole_block, tree_of_case}
 use Rattle.vast.proofs.FitLemmas.{leaf, bare, one_deeper, two_deeper, first_deeper, some_level}
-use mathlib.Core.Former.{Count}
 
 pub target_nowhere : (tree : TargetTree) → target_stands 0 tree ≡ false
 target_nowhere (whole letters) = refl
@@ -183,10 +184,6 @@ mutual
 not_empty : (n : ℕ) → true ≡ not (nat_eq (suc n) 0)
 not_empty n = grind (arith, nat_tests)
 
-abbrev row_of : Target → (n : Count) × Row_of-Target n
-row_of (Joined' at shape row) = (_, row)
-row_of _ = (_, end_of-Target)
-
 module _ (words : List Text) where
   pub some_targets : (targets : List Target) → is_some_target (target_trees words targets) ≡ not (nat_eq (length targets) 0)
   some_targets [] = refl
@@ -196,15 +193,8 @@ module _ (words : List Text) where
   some_branches [] = refl
   some_branches (one ∷ more) = not_empty (length more)
 
-  trees_of_row : (n : _) (row : Row_of-Target n) → target_row words row ≡ target_trees words (items-the_row-Target n row)
-  trees_of_row n end_of-Target = refl
-  trees_of_row n (more_of-Target one more) = ap (first (target_tree words one)) (trees_of_row _ more)
-
   pub tree_of_joined : (at : ℕ) (targets : Vec Target Global) → target_tree words (Joined at targets) ≡ joined (target_trees words targets.items)
-  tree_of_joined at targets =
-      let row = row_of (Joined at targets) in
-      let same = items_hidden-the_row-Target-0 targets in
-      ap joined (trees_of_row row.0 row.1 ∙ ap (target_trees words) same)
+  tree_of_joined = told_joined (token_text words)
 
   pub print_within : (n : ℕ) (e : Task) (kind : Printing) (arguments : Vec Argument Global) (one two : List Argument) → e ≡ Print kind arguments →
       one ≡ arguments.items → two ≡ arguments.items →

@@ -1,30 +1,38 @@
 -- Expressions of the whole profile (IEEE 1364-2005, clause 5 and A.8, narrowed to this product's profile): their trees, the
 -- words that these spell, how deep they nest, and which stand as the grammar lets them.
 use Rattle.std.specs.Prelude.{◌≡◌, ℕ, ◌+◌, max, nat_le, nat_lt, Bool, true, false, IsTrue, ◌&&◌, if◌then◌else◌, List, [], ◌∷◌, ◌++◌, codes}
-use Rattle.vast.specs.Words.{Text, is_name, is_number}
+use Rattle.vast.specs.Words.{Text, is_name, is_number, is_time}
 use Rattle.vast.specs.declared.expression.UnaryOperator.{UnaryOperator}
 use Rattle.vast.specs.declared.expression.UnaryOperator.TheVariants as unary
 use Rattle.vast.specs.declared.expression.BinaryOperator.{BinaryOperator}
 use Rattle.vast.specs.declared.expression.BinaryOperator.TheVariants as binary
 
 mutual
-  pub data ExpressionTree : Type 0 where
-    number : Text → ExpressionTree
-    name : Text → ExpressionTree
-    time : ExpressionTree  -- $time
-    bit : Text → ExpressionTree → ExpressionTree  -- name [ index ]
-    part : Text → ExpressionTree → ExpressionTree → ExpressionTree  -- name [ left : right ]
-    parentheses : ExpressionTree → ExpressionTree  -- ( inner )
-    concatenation : ExpressionTrees → ExpressionTree  -- { part, .. }
-    replication : ExpressionTree → ExpressionTrees → ExpressionTree  -- { count { part, .. } }
-    conversion : Bool → ExpressionTree → ExpressionTree  -- $signed ( operand ), or $unsigned ( operand )
-    apply : UnaryOperator → ExpressionTree → ExpressionTree  -- - operand
-    combine : BinaryOperator → ExpressionTree → ExpressionTree → ExpressionTree  -- left + right
-    conditional : ExpressionTree → ExpressionTree → ExpressionTree → ExpressionTree  -- condition ? when_true : when_false
+  -- of words that are told so
+  pub data ExpressionOf (W : Type 0) : Type 0 where
+    number : W → ExpressionOf W
+    name : W → ExpressionOf W
+    time : W → ExpressionOf W  -- $time
+    bit : W → ExpressionOf W → ExpressionOf W  -- name [ index ]
+    part : W → ExpressionOf W → ExpressionOf W → ExpressionOf W  -- name [ left : right ]
+    parentheses : ExpressionOf W → ExpressionOf W  -- ( inner )
+    concatenation : ExpressionsOf W → ExpressionOf W  -- { part, .. }
+    replication : ExpressionOf W → ExpressionsOf W → ExpressionOf W  -- { count { part, .. } }
+    conversion : Bool → ExpressionOf W → ExpressionOf W  -- $signed ( operand ), or $unsigned ( operand )
+    apply : UnaryOperator → ExpressionOf W → ExpressionOf W  -- - operand
+    combine : BinaryOperator → ExpressionOf W → ExpressionOf W → ExpressionOf W  -- left + right
+    conditional : ExpressionOf W → ExpressionOf W → ExpressionOf W → ExpressionOf W  -- condition ? when_true : when_false
 
-  pub data ExpressionTrees : Type 0 where
-    none : ExpressionTrees
-    first : ExpressionTree → ExpressionTrees → ExpressionTrees
+  pub data ExpressionsOf (W : Type 0) : Type 0 where
+    none : ExpressionsOf W
+    first : ExpressionOf W → ExpressionsOf W → ExpressionsOf W
+
+-- of words that are told by their letters alone
+abbrev pub ExpressionTree : Type 0
+ExpressionTree = ExpressionOf Text
+
+abbrev pub ExpressionTrees : Type 0
+ExpressionTrees = ExpressionsOf Text
 
 -- A.8.6: what each operator is written as
 
@@ -77,7 +85,7 @@ abbrev mutual
   pub spell_expression : ExpressionTree → List Text
   spell_expression (number digits) = digits ∷ []
   spell_expression (name letters) = letters ∷ []
-  spell_expression time = codes "$time" ∷ []
+  spell_expression (time word) = word ∷ []
   spell_expression (bit letters index) = letters ∷ codes "[" ∷ (spell_expression index ++ codes "]" ∷ [])
   spell_expression (part letters left right) =
       letters ∷ codes "[" ∷ (spell_expression left ++ codes ":" ∷ (spell_expression right ++ codes "]" ∷ []))
@@ -107,7 +115,7 @@ abbrev mutual
   pub depth : ExpressionTree → ℕ
   depth (number digits) = 1
   depth (name letters) = 1
-  depth time = 1
+  depth (time word) = 1
   depth (bit letters index) = 1 + depth index
   depth (part letters left right) = 1 + max (depth left) (depth right)
   depth (parentheses inner) = 1 + depth inner
@@ -159,7 +167,7 @@ rank_of (conditional condition when_true when_false) = 0
 rank_of (combine operator left right) = rank operator
 rank_of (number digits) = unary_rank
 rank_of (name letters) = unary_rank
-rank_of time = unary_rank
+rank_of (time word) = unary_rank
 rank_of (bit letters index) = unary_rank
 rank_of (part letters left right) = unary_rank
 rank_of (parentheses inner) = unary_rank
@@ -179,7 +187,7 @@ abbrev mutual
   pub fits_expression : ExpressionTree → Bool
   fits_expression (number digits) = is_number digits
   fits_expression (name letters) = is_name letters
-  fits_expression time = true
+  fits_expression (time word) = is_time word
   fits_expression (bit letters index) = is_name letters && fits_expression index
   fits_expression (part letters left right) = is_name letters && fits_expression left && fits_expression right
   fits_expression (parentheses inner) = fits_expression inner

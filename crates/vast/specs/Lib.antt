@@ -10,3 +10,11 @@ pub mod StatementTrees
 pub mod ModuleTrees
 pub mod Within
 pub mod Inner
+pub mod Leaves
+pub mod NumberedWords
+pub mod NumberedExpressions
+pub mod NumberedStatements
+pub mod NumberedModules
+pub mod NumberedTrees
+pub mod TreeWords
+pub mod NumberedTexts

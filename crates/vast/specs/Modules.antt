@@ -3,90 +3,138 @@
 use Rattle.std.specs.Prelude.{◌≡◌, IsTrue, ℕ, nat_le, Bool, true, false, ◌&&◌, if◌then◌else◌, List, [], ◌∷◌, ◌++◌, Option, Some, None, length, codes, flat_map}
 use Rattle.std.specs.List.{list_all}
 use Rattle.vast.specs.Words.{Text, is_name}
-use Rattle.vast.specs.Expressions.{ExpressionTree, spell_expression, depth, fits_expression}
-use Rattle.vast.specs.Statements.{StatementTree, listed, in_parentheses, spell_statement, statement_depth, fits_statement}
+use Rattle.vast.specs.Expressions.{ExpressionOf, ExpressionTree, spell_expression, depth, fits_expression}
+use Rattle.vast.specs.Statements.{StatementOf, StatementTree, listed, in_parentheses, spell_statement, statement_depth, fits_statement}
 use Rattle.vast.specs.declared.module.NetKind.{NetKind}
 use Rattle.vast.specs.declared.module.NetKind.TheVariants as net
 
 -- 4.3: [ left : right ]
-pub record RangeTree : Type 0 where
-  pub left : ExpressionTree
-  pub right : ExpressionTree
+pub record RangeOf (W : Type 0) : Type 0 where
+  pub left : ExpressionOf W
+  pub right : ExpressionOf W
 
 -- 4.2, 4.5: signed, and a range
-pub record TypeTree : Type 0 where
+pub record TypeOf (W : Type 0) : Type 0 where
   pub signed : Bool
-  pub range : Option RangeTree
+  pub range : Option (RangeOf W)
 
 -- 4.10.1: the type of a parameter
-pub data ParameterType : Type 0 where
-  integer : ParameterType
-  typed : TypeTree → ParameterType
+pub data ParameterTypeOf (W : Type 0) : Type 0 where
+  integer : ParameterTypeOf W
+  typed : TypeOf W → ParameterTypeOf W
 
 -- name = value
-pub record SettingTree : Type 0 where
-  pub name : Text
-  pub value : ExpressionTree
+pub record SettingOf (W : Type 0) : Type 0 where
+  pub name : W
+  pub value : ExpressionOf W
 
 -- name = value, or name alone
-pub record DeclaredTree : Type 0 where
-  pub name : Text
-  pub value : Option ExpressionTree
+pub record DeclaredOf (W : Type 0) : Type 0 where
+  pub name : W
+  pub value : Option (ExpressionOf W)
 
 -- 12.3.3: which way a port goes, and what kind of variable or net it is, if a word says so
-pub data DirectionTree : Type 0 where
-  input : Bool → TypeTree → DirectionTree  -- input type, or input wire type
-  output : Option NetKind → TypeTree → DirectionTree  -- output type, output wire type or output reg type
+pub data DirectionOf (W : Type 0) : Type 0 where
+  input : Bool → TypeOf W → DirectionOf W  -- input type, or input wire type
+  output : Option NetKind → TypeOf W → DirectionOf W  -- output type, output wire type or output reg type
 
 -- a port; without a direction it has that of the one before it
-pub record PortTree : Type 0 where
-  pub direction : Option DirectionTree
-  pub name : Text
+pub record PortOf (W : Type 0) : Type 0 where
+  pub direction : Option (DirectionOf W)
+  pub name : W
 
 -- 12.2: a parameter of a module's head; without a type of its own it has that of the one before it
-pub record HeadParameter : Type 0 where
-  pub kind : Option ParameterType
-  pub setting : SettingTree
+pub record HeadParameterOf (W : Type 0) : Type 0 where
+  pub kind : Option (ParameterTypeOf W)
+  pub setting : SettingOf W
 
 -- 12.3.6: . name ( value ), or . name ( )
-pub record ConnectionTree : Type 0 where
-  pub name : Text
-  pub value : Option ExpressionTree
+pub record ConnectionOf (W : Type 0) : Type 0 where
+  pub name : W
+  pub value : Option (ExpressionOf W)
 
 -- 12.3.5, 12.3.6: connections by order or by name
-pub data ConnectionsTree : Type 0 where
-  by_order : List ExpressionTree → ConnectionsTree
-  by_name : List ConnectionTree → ConnectionsTree
+pub data ConnectionsOf (W : Type 0) : Type 0 where
+  by_order : List (ExpressionOf W) → ConnectionsOf W
+  by_name : List (ConnectionOf W) → ConnectionsOf W
 
 -- 12.1.2: name ( connections )
-pub record InstanceTree : Type 0 where
-  pub name : Text
-  pub connections : ConnectionsTree
+pub record InstanceOf (W : Type 0) : Type 0 where
+  pub name : W
+  pub connections : ConnectionsOf W
 
 -- what variables or nets are declared as
-pub data DeclarationKind : Type 0 where
-  variables : NetKind → TypeTree → DeclarationKind  -- wire type, or reg type
-  integers : DeclarationKind  -- integer
+pub data DeclarationKindOf (W : Type 0) : Type 0 where
+  variables : NetKind → TypeOf W → DeclarationKindOf W  -- wire type, or reg type
+  integers : DeclarationKindOf W  -- integer
 
 -- A.1.4
-pub data ItemTree : Type 0 where
-  parameters : Bool → ParameterType → List SettingTree → ItemTree  -- parameter type setting, .. ; or localparam ..
-  declaration : DeclarationKind → List DeclaredTree → ItemTree  -- reg type name, name = value, .. ;
-  events : List Text → ItemTree  -- event name, .. ;
-  assignments : List SettingTree → ItemTree  -- assign name = value, .. ;
-  initial : StatementTree → ItemTree  -- initial statement
-  always : StatementTree → ItemTree  -- always statement
-  instances : Text → Option ConnectionsTree → List InstanceTree → ItemTree  -- name #( connections ) instance, .. ;
+pub data ItemOf (W : Type 0) : Type 0 where
+  parameters : Bool → ParameterTypeOf W → List (SettingOf W) → ItemOf W  -- parameter type setting, .. ; or localparam ..
+  declaration : DeclarationKindOf W → List (DeclaredOf W) → ItemOf W  -- reg type name, name = value, .. ;
+  events : List W → ItemOf W  -- event name, .. ;
+  assignments : List (SettingOf W) → ItemOf W  -- assign name = value, .. ;
+  initial : StatementOf W → ItemOf W  -- initial statement
+  always : StatementOf W → ItemOf W  -- always statement
+  instances : W → Option (ConnectionsOf W) → List (InstanceOf W) → ItemOf W  -- name #( connections ) instance, .. ;
 
 -- A.1.2
-pub record ModuleTree : Type 0 where
-  pub name : Text
-  pub parameters : Option (List HeadParameter)  -- #( parameter type setting, .. )
-  pub ports : Option (List PortTree)  -- ( direction name, .. ), or ( )
-  pub items : List ItemTree
+pub record ModuleOf (W : Type 0) : Type 0 where
+  pub name : W
+  pub parameters : Option (List (HeadParameterOf W))  -- #( parameter type setting, .. )
+  pub ports : Option (List (PortOf W))  -- ( direction name, .. ), or ( )
+  pub items : List (ItemOf W)
+
+-- a whole text: its modules in order
+abbrev pub SourceOf : Type 0 → Type 0
+SourceOf W = List (ModuleOf W)
+
+-- Of words that are told by their letters alone
+
+abbrev pub RangeTree : Type 0
+RangeTree = RangeOf Text
+
+abbrev pub TypeTree : Type 0
+TypeTree = TypeOf Text
+
+abbrev pub ParameterType : Type 0
+ParameterType = ParameterTypeOf Text
+
+abbrev pub SettingTree : Type 0
+SettingTree = SettingOf Text
+
+abbrev pub DeclaredTree : Type 0
+DeclaredTree = DeclaredOf Text
+
+abbrev pub DirectionTree : Type 0
+DirectionTree = DirectionOf Text
+
+abbrev pub PortTree : Type 0
+PortTree = PortOf Text
+
+abbrev pub HeadParameter : Type 0
+HeadParameter = HeadParameterOf Text
+
+abbrev pub ConnectionTree : Type 0
+ConnectionTree = ConnectionOf Text
+
+abbrev pub ConnectionsTree : Type 0
+ConnectionsTree = ConnectionsOf Text
+
+abbrev pub InstanceTree : Type 0
+InstanceTree = InstanceOf Text
+
+abbrev pub DeclarationKind : Type 0
+DeclarationKind = DeclarationKindOf Text
+
+abbrev pub ItemTree : Type 0
+ItemTree = ItemOf Text
+
+abbrev pub ModuleTree : Type 0
+ModuleTree = ModuleOf Text
 
 abbrev pub SourceTree : Type 0
-SourceTree = List ModuleTree
+SourceTree = SourceOf Text
 
 -- The words of a tree
 

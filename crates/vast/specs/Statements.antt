@@ -3,7 +3,7 @@
 use Rattle.std.specs.Prelude.{ℕ, ◌+◌, max, nat_le, Bool, true, false, ◌&&◌, not, if◌then◌else◌, List, [], ◌∷◌, ◌++◌, Option, Some, None, length, codes, flat_map}
 use Rattle.std.specs.List.{list_all}
 use Rattle.vast.specs.Words.{Text, is_name, is_number, is_string}
-use Rattle.vast.specs.Expressions.{ExpressionTree, ExpressionTrees, spell_expression, spell_parts, depth, greatest_depth, fits_expression, fits_parts, is_some_part}
+use Rattle.vast.specs.Expressions.{ExpressionOf, ExpressionsOf, ExpressionTree, spell_expression, spell_parts, depth, greatest_depth, fits_expression, fits_parts, is_some_part}
 use Rattle.vast.specs.declared.statement.CaseKind.{CaseKind}
 use Rattle.vast.specs.declared.statement.CaseKind.TheVariants as case_kind
 use Rattle.vast.specs.declared.statement.Edge.{Edge}
@@ -15,90 +15,131 @@ use Rattle.vast.specs.declared.statement.Dumping.TheVariants as dumping
 
 -- A.8.5: what an assignment writes to
 mutual
-  pub data TargetTree : Type 0 where
-    whole : Text → TargetTree  -- name
-    bit : Text → ExpressionTree → TargetTree  -- name [ index ]
-    part : Text → ExpressionTree → ExpressionTree → TargetTree  -- name [ left : right ]
-    joined : TargetTrees → TargetTree  -- { target, .. }
+  pub data TargetOf (W : Type 0) : Type 0 where
+    whole : W → TargetOf W  -- name
+    bit : W → ExpressionOf W → TargetOf W  -- name [ index ]
+    part : W → ExpressionOf W → ExpressionOf W → TargetOf W  -- name [ left : right ]
+    joined : TargetsOf W → TargetOf W  -- { target, .. }
 
-  pub data TargetTrees : Type 0 where
-    none : TargetTrees
-    first : TargetTree → TargetTrees → TargetTrees
+  pub data TargetsOf (W : Type 0) : Type 0 where
+    none : TargetsOf W
+    first : TargetOf W → TargetsOf W → TargetsOf W
 
 -- A.6.5: # number, # name or # ( amount )
-pub data DelayTree : Type 0 where
-  by_number : Text → DelayTree
-  by_name : Text → DelayTree
-  by_value : ExpressionTree → DelayTree
+pub data DelayOf (W : Type 0) : Type 0 where
+  by_number : W → DelayOf W
+  by_name : W → DelayOf W
+  by_value : ExpressionOf W → DelayOf W
 
 -- one of the terms of an event control: a name, behind posedge or negedge or by itself
-pub record TermTree : Type 0 where
+pub record TermOf (W : Type 0) : Type 0 where
   pub edge : Option Edge
-  pub name : Text
+  pub name : W
 
 -- a further term, behind a comma or behind or
-pub record FurtherTerm : Type 0 where
+pub record FurtherOf (W : Type 0) : Type 0 where
   pub by_comma : Bool
-  pub term : TermTree
+  pub term : TermOf W
 
 -- A.6.5: @ name, @ *, @ ( * ) or @ ( term or term, .. )
-pub data EventTree : Type 0 where
-  by_event : Text → EventTree
-  by_any : EventTree
-  by_any_enclosed : EventTree
-  by_terms : TermTree → List FurtherTerm → EventTree
+pub data EventOf (W : Type 0) : Type 0 where
+  by_event : W → EventOf W
+  by_any : EventOf W
+  by_any_enclosed : EventOf W
+  by_terms : TermOf W → List (FurtherOf W) → EventOf W
 
 -- A.6.9: what a printing task is given
-pub data ArgumentTree : Type 0 where
-  quoted : Text → ArgumentTree  -- "letters"
-  printed : ExpressionTree → ArgumentTree
+pub data ArgumentOf (W : Type 0) : Type 0 where
+  quoted : W → ArgumentOf W  -- "letters"
+  printed : ExpressionOf W → ArgumentOf W
 
 -- 18.1.2: levels, and the paths of names behind them
-pub record SelectionTree : Type 0 where
-  pub levels : Text
-  pub paths : List (List Text)
+pub record SelectionOf (W : Type 0) : Type 0 where
+  pub levels : W
+  pub paths : List (List W)
 
 -- A.6.9: a call of a system task
-pub data TaskTree : Type 0 where
-  print : Printing → List ArgumentTree → TaskTree  -- $display ( argument, .. ), or without arguments $display
-  dump_file : Text → TaskTree  -- $dumpfile ( "letters" )
-  dump_vars : Option SelectionTree → TaskTree  -- $dumpvars ( levels, path, .. ), or $dumpvars
-  dump : Dumping → TaskTree  -- $dumpon
-  end_run : Bool → Option Text → TaskTree  -- $stop ( number ), or $finish
+pub data TaskOf (W : Type 0) : Type 0 where
+  print : Printing → List (ArgumentOf W) → TaskOf W  -- $display ( argument, .. ), or without arguments $display
+  dump_file : W → TaskOf W  -- $dumpfile ( "letters" )
+  dump_vars : Option (SelectionOf W) → TaskOf W  -- $dumpvars ( levels, path, .. ), or $dumpvars
+  dump : Dumping → TaskOf W  -- $dumpon
+  end_run : Bool → Option W → TaskOf W  -- $stop ( number ), or $finish
 
 -- A.6.4
 mutual
-  pub data StatementTree : Type 0 where
-    empty : StatementTree  -- ;
-    block : StatementTrees → StatementTree  -- begin .. end
-    assign : TargetTree → Option DelayTree → ExpressionTree → StatementTree  -- target = # delay value ;
-    nonblocking : TargetTree → Option DelayTree → ExpressionTree → StatementTree  -- target <= # delay value ;
-    trigger : Text → StatementTree  -- -> name ;
-    if_true : ExpressionTree → StatementTree → StatementTree  -- if ( condition ) statement
-    if_else : ExpressionTree → StatementTree → StatementTree → StatementTree  -- if ( condition ) statement else statement
-    case_of : CaseKind → ExpressionTree → BranchTrees → StatementTree  -- case ( value ) branch .. endcase
-    while_true : ExpressionTree → StatementTree → StatementTree  -- while ( condition ) statement
-    repeat_times : ExpressionTree → StatementTree → StatementTree  -- repeat ( count ) statement
-    forever : StatementTree → StatementTree  -- forever statement
-    for_loop : TargetTree → ExpressionTree → ExpressionTree → TargetTree → ExpressionTree → StatementTree → StatementTree
+  pub data StatementOf (W : Type 0) : Type 0 where
+    empty : StatementOf W  -- ;
+    block : StatementsOf W → StatementOf W  -- begin .. end
+    assign : TargetOf W → Option (DelayOf W) → ExpressionOf W → StatementOf W  -- target = # delay value ;
+    nonblocking : TargetOf W → Option (DelayOf W) → ExpressionOf W → StatementOf W  -- target <= # delay value ;
+    trigger : W → StatementOf W  -- -> name ;
+    if_true : ExpressionOf W → StatementOf W → StatementOf W  -- if ( condition ) statement
+    if_else : ExpressionOf W → StatementOf W → StatementOf W → StatementOf W  -- if ( condition ) statement else statement
+    case_of : CaseKind → ExpressionOf W → BranchesOf W → StatementOf W  -- case ( value ) branch .. endcase
+    while_true : ExpressionOf W → StatementOf W → StatementOf W  -- while ( condition ) statement
+    repeat_times : ExpressionOf W → StatementOf W → StatementOf W  -- repeat ( count ) statement
+    forever : StatementOf W → StatementOf W  -- forever statement
+    for_loop : TargetOf W → ExpressionOf W → ExpressionOf W → TargetOf W → ExpressionOf W → StatementOf W → StatementOf W
         -- for ( target = value ; condition ; target = value ) statement
-    wait_for : ExpressionTree → StatementTree → StatementTree  -- wait ( condition ) statement
-    delay : DelayTree → StatementTree → StatementTree  -- # delay statement
-    event : EventTree → StatementTree → StatementTree  -- @ event statement
-    task : TaskTree → StatementTree  -- task ;
+    wait_for : ExpressionOf W → StatementOf W → StatementOf W  -- wait ( condition ) statement
+    delay : DelayOf W → StatementOf W → StatementOf W  -- # delay statement
+    event : EventOf W → StatementOf W → StatementOf W  -- @ event statement
+    task : TaskOf W → StatementOf W  -- task ;
 
-  pub data StatementTrees : Type 0 where
-    no_statement : StatementTrees
-    first_statement : StatementTree → StatementTrees → StatementTrees
+  pub data StatementsOf (W : Type 0) : Type 0 where
+    no_statement : StatementsOf W
+    first_statement : StatementOf W → StatementsOf W → StatementsOf W
 
   -- A.6.7: a branch of a case
-  pub data BranchTree : Type 0 where
-    labelled : ExpressionTrees → StatementTree → BranchTree  -- label, .. : statement
-    default : Bool → StatementTree → BranchTree  -- default : statement, or without the colon
+  pub data BranchOf (W : Type 0) : Type 0 where
+    labelled : ExpressionsOf W → StatementOf W → BranchOf W  -- label, .. : statement
+    default : Bool → StatementOf W → BranchOf W  -- default : statement, or without the colon
 
-  pub data BranchTrees : Type 0 where
-    no_branch : BranchTrees
-    first_branch : BranchTree → BranchTrees → BranchTrees
+  pub data BranchesOf (W : Type 0) : Type 0 where
+    no_branch : BranchesOf W
+    first_branch : BranchOf W → BranchesOf W → BranchesOf W
+
+-- Of words that are told by their letters alone
+
+abbrev pub TargetTree : Type 0
+TargetTree = TargetOf Text
+
+abbrev pub TargetTrees : Type 0
+TargetTrees = TargetsOf Text
+
+abbrev pub DelayTree : Type 0
+DelayTree = DelayOf Text
+
+abbrev pub TermTree : Type 0
+TermTree = TermOf Text
+
+abbrev pub FurtherTerm : Type 0
+FurtherTerm = FurtherOf Text
+
+abbrev pub EventTree : Type 0
+EventTree = EventOf Text
+
+abbrev pub ArgumentTree : Type 0
+ArgumentTree = ArgumentOf Text
+
+abbrev pub SelectionTree : Type 0
+SelectionTree = SelectionOf Text
+
+abbrev pub TaskTree : Type 0
+TaskTree = TaskOf Text
+
+abbrev pub StatementTree : Type 0
+StatementTree = StatementOf Text
+
+abbrev pub StatementTrees : Type 0
+StatementTrees = StatementsOf Text
+
+abbrev pub BranchTree : Type 0
+BranchTree = BranchOf Text
+
+abbrev pub BranchTrees : Type 0
+BranchTrees = BranchesOf Text
 
 -- The words of a tree
 

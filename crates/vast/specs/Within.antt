@@ -1,6 +1,6 @@
 -- Whether a tree fits and has so many levels at most, as it is found out on the way down; nothing here has to be believed.
 use Rattle.std.specs.Prelude.{ℕ, ◌-◌, nat_le, nat_lt, Bool, true, ◌&&◌, not, List, Option}
-use Rattle.vast.specs.Words.{is_name, is_number}
+use Rattle.vast.specs.Words.{is_name, is_number, is_time}
 use Rattle.vast.specs.Expressions.{ExpressionTree, number, name, time, bit, part, parentheses, concatenation, replication, conversion, apply, combine, conditional, ExpressionTrees, none, first, rank, rank_of, unary_rank, is_some_part, fits_parts, greatest_depth}
 use Rattle.vast.specs.Statements.{TargetTree, whole, joined, TargetTrees, target_depth, greatest_target_depth, fits_target, fits_targets, is_some_target, DelayTree, delay_depth, fits_delay, optional_delay_depth, fits_optional_delay, EventTree, event_depth, fits_event, ArgumentTree, argument_depth, arguments_depth, fits_argument, TaskTree, task_depth, fits_task, StatementTree, empty, block, assign, nonblocking, trigger, if_true, if_else, case_of, while_true, repeat_times, forever, for_loop, wait_for, delay, event, task, StatementTrees, no_statement, first_statement, BranchTree, labelled, default, BranchTrees, no_branch, first_branch, ends_in_if, is_some_branch, defaults}
 use Rattle.vast.specs.Statements as statements
@@ -13,7 +13,7 @@ abbrev mutual
   pub stands : ℕ → ExpressionTree → Bool
   stands levels (number digits) = nat_le 1 levels && is_number digits
   stands levels (name letters) = nat_le 1 levels && is_name letters
-  stands levels time = nat_le 1 levels
+  stands levels (time word) = nat_le 1 levels && is_time word
   stands levels (bit letters index) = nat_le 1 levels && (is_name letters && stands (levels - 1) index)
   stands levels (part letters left right) =
       nat_le 1 levels && (is_name letters && (stands (levels - 1) left && stands (levels - 1) right))

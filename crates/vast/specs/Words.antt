@@ -55,3 +55,11 @@ is_number (c ∷ cs) = is_ascii_digit c || (c == 39)
 abbrev pub is_string : List ℕ → Bool
 is_string [] = false
 is_string (c ∷ cs) = c == 34
+
+-- 17.7.1
+abbrev pub is_time : List ℕ → Bool
+is_time word = bytes_eq (codes "$time") word
+
+-- the words that a tree keeps: names, numbers, strings, and `$time`; all others it tells by its form
+abbrev pub is_leaf : List ℕ → Bool
+is_leaf word = is_name word || (is_number word || (is_string word || is_time word))

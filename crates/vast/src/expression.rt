@@ -89,10 +89,8 @@ pub enum Expression {
     Number(Token),
     /// `name` (3.7)
     Name(Token),
-    /// `$time`, the token of this number (17.7.1)
-    Time {
-        at: u32,
-    },
+    /// `$time` (17.7.1)
+    Time(Token),
     /// `name[index]` (5.2.1)
     Bit {
         name: Token,

@@ -12,7 +12,7 @@ ghost use Rattle.vast.specs.Within.{stands, all_stand, parts_within};
 use crate::expression::Expression;
 use crate::operators::{UNARY_RANK, rank, rank_of};
 use crate::token::letters;
-use crate::words::{is_name, is_number};
+use crate::words::{is_name, is_number, is_time};
 
 /// Whether there is an expression.
 pub fn is_some(parts: &[Expression]) -> bool
@@ -34,7 +34,7 @@ fn expression_stands(words: &[&[u8]], expression: &Expression, levels: u32) -> b
     match expression {
         Expression::Number(word) => is_number(letters(words, *word)),
         Expression::Name(word) => is_name(letters(words, *word)),
-        Expression::Time { .. } => true,
+        Expression::Time(word) => is_time(letters(words, *word)),
         Expression::Bit { name, index } => {
             is_name(letters(words, *name)) && expression_stands(words, index, below)
         }

@@ -30,7 +30,7 @@ pub fn put_expression<'t>(
     match expression {
         Expression::Number(word) => put_token(out, words, *word),
         Expression::Name(word) => put_token(out, words, *word),
-        Expression::Time { .. } => put(out, b"$time"),
+        Expression::Time(word) => put_token(out, words, *word),
         Expression::Bit { name, index } => {
             put_token(out, words, *name)?;
             put(out, b"[")?;

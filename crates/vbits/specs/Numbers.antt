@@ -1,5 +1,5 @@
 -- The whole numbers that lists of letters stand for, lowest letter first.
-use Rattle.std.specs.Prelude.{Bool, cond, ℕ, zero, suc, ◌*◌, ◌+◌, ◌/◌, ◌%◌, ◌^◌, ◌-◌, ℤ, pos, ◌-ℤ◌, nat_le, List, [], ◌∷◌, Option, Some, None, length, unsigned_abs, option_map}
+use Rattle.std.specs.Prelude.{Bool, if◌then◌else◌, ℕ, zero, suc, ◌*◌, ◌+◌, ◌/◌, ◌%◌, ◌^◌, ◌-◌, ℤ, pos, ◌-ℤ◌, nat_le, List, [], ◌∷◌, Option, Some, None, length, unsigned_abs, option_map}
 use Rattle.std.specs.Int.{int_rem_euclid}
 use Rattle.vbits.specs.declared.bit4.Bit4.{Bit4}
 use Rattle.vbits.specs.declared.bit4.Bit4.TheVariants.{Zero, One, X, Z}
@@ -23,11 +23,11 @@ digits (suc count) n = digit (n % 2) ∷ digits count (n / 2)
 
 -- two's complement: n of this many digits stands for n - 2 ^ count where its leftmost digit is 1
 abbrev pub twos_complement : ℕ → ℕ → ℤ
-twos_complement count n = cond (nat_le (2 ^ (count - 1)) n) (pos n -ℤ pos (2 ^ count)) (pos n)
+twos_complement count n = if nat_le (2 ^ (count - 1)) n then pos n -ℤ pos (2 ^ count) else pos n
 
 -- what a number of this many digits is read as, signed or not
 abbrev pub read : Bool → ℕ → ℕ → ℤ
-read signed count n = cond signed (twos_complement count n) (pos n)
+read signed count n = if signed then twos_complement count n else pos n
 
 -- the integer that the letters stand for, read as signed or not (5.1.6), or None where one is unknown
 abbrev pub integer : Bool → List Bit4 → Option ℤ

@@ -1,5 +1,5 @@
 -- How two words stand for a list of letters: a letter is a bit of each, lowest first.
-use Rattle.std.specs.Prelude.{Bool, true, false, cond, ℤ, pos, neg_ℤ, ℕ, zero, suc, ◌+◌, ◌-◌, ◌*◌, ◌/◌, ◌%◌, ◌^◌, ◌<◌, ◌≤◌, List, [], ◌∷◌}
+use Rattle.std.specs.Prelude.{Bool, true, false, if◌then◌else◌, ℤ, pos, neg_ℤ, ℕ, zero, suc, ◌+◌, ◌-◌, ◌*◌, ◌/◌, ◌%◌, ◌^◌, ◌<◌, ◌≤◌, List, [], ◌∷◌}
 use Rattle.vbits.specs.declared.bit4.Bit4.{Bit4}
 use Rattle.vbits.specs.declared.bit4.Bit4.TheVariants.{Zero, One, X, Z}
 
@@ -50,7 +50,7 @@ run (suc _) count = 2 ^ count - 1
 
 -- what stands above a plane of len bits as it is made longer: its top bit where it is signed, else 0
 abbrev pub sign_bit : ℕ → ℕ → Bool → ℕ
-sign_bit plane len signed = cond signed (plane / 2 ^ (len - 1) % 2) 0
+sign_bit plane len signed = if signed then plane / 2 ^ (len - 1) % 2 else 0
 
 -- the bits from low to high are those of the part
 abbrev pub spliced : ℕ → ℕ → ℕ → ℕ → ℕ

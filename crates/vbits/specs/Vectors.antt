@@ -1,5 +1,5 @@
 -- Four-state vectors and their operators (IEEE 1364-2005, clauses 4 and 5). Letters stand lowest first.
-use Rattle.std.specs.Prelude.{Bool, true, false, cond, ◌&&◌, ◌||◌, ℕ, zero, ◌+◌, ◌-◌, ℤ, pos, ◌+ℤ◌, ◌-ℤ◌, ◌*ℤ◌, neg_ℤ, int_div, int_rem, int_lt, int_le, List, [], ◌∷◌, ◌++◌, map, fold, zip, length, take, drop, replicate, get_or, Option, Some, None, option_map}
+use Rattle.std.specs.Prelude.{Bool, true, false, if◌then◌else◌, ◌&&◌, ◌||◌, ℕ, zero, ◌+◌, ◌-◌, ℤ, pos, ◌+ℤ◌, ◌-ℤ◌, ◌*ℤ◌, neg_ℤ, int_div, int_rem, int_lt, int_le, List, [], ◌∷◌, ◌++◌, map, fold, zip, length, take, drop, replicate, get_or, Option, Some, None, option_map}
 use Rattle.std.specs.Bool.{beq}
 use Rattle.std.specs.List.{list_any, list_all}
 use Rattle.vbits.specs.declared.bit4.Bit4.{Bit4}
@@ -31,7 +31,7 @@ with_sign v mark = record { letters = v.letters; signed = mark }
 
 -- the leftmost letter of a signed vector, 0 of an unsigned one
 unfoldable pub sign_letter : Vector → Bit4
-sign_letter v = cond v.signed (get_or v.letters (length v.letters - 1) Zero) Zero
+sign_letter v = if v.signed then get_or v.letters (length v.letters - 1) Zero else Zero
 
 -- extended by its own sign (5.5.2, 5.5.4), or cut on the left
 unfoldable pub resize : Vector → ℕ → Vector
@@ -88,8 +88,9 @@ complement v = record { letters = map not_letter v.letters; signed = v.signed }
 -- 0 if two known letters differ, else x if a letter is unknown, else 1
 unfoldable pub eq_letter : List Bit4 → List Bit4 → Bit4
 eq_letter xs ys =
-    cond (list_any (λ pair. differ pair.0 pair.1) (zip xs ys)) Zero
-    (cond (list_any is_unknown xs || list_any is_unknown ys) X One)
+    if list_any (λ pair. differ pair.0 pair.1) (zip xs ys) then Zero
+    else if list_any is_unknown xs || list_any is_unknown ys then X
+    else One
 
 unfoldable pub eq : Vector → Vector → Vector
 eq v w = single (eq_letter v.letters w.letters)
@@ -112,18 +113,17 @@ abbrev pub vector_same : Vector → Vector → Bool
 vector_same v w = letters_alike v.letters w.letters && beq v.signed w.signed
 
 unfoldable pub case_eq : Vector → Vector → Vector
-case_eq v w = single (cond (same_letters v.letters w.letters) One Zero)
+case_eq v w = single (if same_letters v.letters w.letters then One else Zero)
 
 unfoldable pub case_ne : Vector → Vector → Vector
-case_ne v w = single (cond (same_letters v.letters w.letters) Zero One)
+case_ne v w = single (if same_letters v.letters w.letters then Zero else One)
 
 -- ---- truth and reductions (5.1.9, 5.1.11)
 
 -- 1 if a letter is 1, else x if one is unknown, else 0
 unfoldable pub truth : Vector → Bit4
 truth v =
-    cond (list_any is_one v.letters) One
-    (cond (list_any is_unknown v.letters) X Zero)
+    if list_any is_one v.letters then One else if list_any is_unknown v.letters then X else Zero
 
 unfoldable pub reduced : Red → List Bit4 → Bit4
 reduced And letters = fold and_letter One letters
@@ -229,7 +229,7 @@ neg v = record {
 }
 
 abbrev pub test_letter : (ℤ → ℤ → Bool) → Option ℤ → Option ℤ → Bit4
-test_letter test (Some x) (Some y) = cond (test x y) One Zero
+test_letter test (Some x) (Some y) = if test x y then One else Zero
 test_letter test _ _ = X
 
 unfoldable pub compared : (ℤ → ℤ → Bool) → Vector → Vector → Vector

@@ -1,5 +1,5 @@
 -- What compares texts with the one that is expected.
-use Rattle.std.proofs.Common.{◌≡◌, ℕ, ◌==◌, Bool, true, cond, List, [], ◌∷◌, ◌++◌, Option, Some, None, refl, sym, ap, ◌∙◌, inl, inr, arith}
+use Rattle.std.proofs.Common.{◌≡◌, ℕ, ◌==◌, Bool, true, if◌then◌else◌, List, [], ◌∷◌, ◌++◌, Option, Some, None, refl, sym, ap, ◌∙◌, inl, inr, arith}
 use Rattle.std.proofs.lemmas.Bool.{cases_Bool}
 use Rattle.std.proofs.lemmas.List.{append-nil}
 use Rattle.std.proofs.lemmas.Bool.Decides.{nat_tests}
@@ -10,7 +10,7 @@ abbrev pub stripped : List ℕ → Option (List ℕ) → Option (List ℕ)
 stripped text None = None
 stripped [] (Some rest) = Some rest
 stripped (c ∷ cs) (Some []) = None
-stripped (c ∷ cs) (Some (d ∷ ds)) = cond (c == d) (stripped cs (Some ds)) None
+stripped (c ∷ cs) (Some (d ∷ ds)) = if c == d then stripped cs (Some ds) else None
 
 abbrev pub Strips : Option (List ℕ) → List ℕ → Option (List ℕ) → Type 0
 Strips old text new = new ≡ stripped text old
@@ -30,11 +30,11 @@ stripped_joins xs ys None = refl
 stripped_joins [] ys (Some rest) = refl
 stripped_joins (x ∷ xs) ys (Some []) = refl
 stripped_joins (x ∷ xs) ys (Some (d ∷ ds)) = elim (cases_Bool (x == d)) [
-  | inl same ↦ ap (λ (b : Bool). cond b (stripped (xs ++ ys) (Some ds)) None) same
+  | inl same ↦ ap (λ (b : Bool). if b then stripped (xs ++ ys) (Some ds) else None) same
       ∙ stripped_joins xs ys (Some ds)
-      ∙ sym (ap (λ (b : Bool). stripped ys (cond b (stripped xs (Some ds)) None)) same)
-  | inr other ↦ ap (λ (b : Bool). cond b (stripped (xs ++ ys) (Some ds)) None) other
-      ∙ sym (ap (λ (b : Bool). stripped ys (cond b (stripped xs (Some ds)) None)) other)
+      ∙ sym (ap (λ (b : Bool). stripped ys (if b then stripped xs (Some ds) else None)) same)
+  | inr other ↦ ap (λ (b : Bool). if b then stripped (xs ++ ys) (Some ds) else None) other
+      ∙ sym (ap (λ (b : Bool). stripped ys (if b then stripped xs (Some ds) else None)) other)
 ]
 
 pub expected_laws : {F : Type 0} → IsOutlet Strips (λ old text (fault : F) new. ⊥)
@@ -50,7 +50,7 @@ pub stripped_front : (text rest : List ℕ) → stripped text (Some (text ++ res
 stripped_front [] rest = refl
 stripped_front (c ∷ cs) rest =
     let same : (c == c) ≡ true = grind (arith, nat_tests) in
-    ap (λ (b : Bool). cond b (stripped cs (Some (cs ++ rest))) None) same ∙ stripped_front cs rest
+    ap (λ (b : Bool). if b then stripped cs (Some (cs ++ rest)) else None) same ∙ stripped_front cs rest
 
 same_when : (c d : ℕ) → (c == d) ≡ true → c ≡ d
 same_when c d h = grind (arith, nat_tests)
@@ -61,8 +61,8 @@ only_front [] expected rest is = cc
 only_front (c ∷ cs) [] rest is = absurd cc
 only_front (c ∷ cs) (d ∷ ds) rest is = elim (cases_Bool (c == d)) [
   | inl same ↦ ap (λ (e : ℕ). e ∷ ds) (sym (same_when c d same))
-      ∙ ap (λ (es : List ℕ). c ∷ es) (only_front cs ds rest (sym (ap (λ (b : Bool). cond b (stripped cs (Some ds)) None) same) ∙ is))
-  | inr other ↦ (let none : None ≡ Some rest = sym (ap (λ (b : Bool). cond b (stripped cs (Some ds)) None) other) ∙ is in absurd cc)
+      ∙ ap (λ (es : List ℕ). c ∷ es) (only_front cs ds rest (sym (ap (λ (b : Bool). if b then stripped cs (Some ds) else None) same) ∙ is))
+  | inr other ↦ (let none : None ≡ Some rest = sym (ap (λ (b : Bool). if b then stripped cs (Some ds) else None) other) ∙ is in absurd cc)
 ]
 
 -- just the expected text leaves nothing

@@ -1,5 +1,5 @@
 -- What a sink writes item by item is the dump of the history.
-use Rattle.std.proofs.Common.{◌≡◌, ℕ, Bool, true, false, cond, List, [], ◌∷◌, ◌++◌, refl, sym, ap, subst, ◌∙◌, append_assoc}
+use Rattle.std.proofs.Common.{◌≡◌, ℕ, Bool, true, false, if◌then◌else◌, List, [], ◌∷◌, ◌++◌, refl, sym, ap, subst, ◌∙◌, append_assoc}
 use Rattle.vdesign.specs.declared.dump.DumpCommand.{DumpCommand}
 use Rattle.vdesign.specs.Design.{Design}
 use Rattle.vbits.specs.Vectors.{Vector}
@@ -37,12 +37,12 @@ module _ (design : Design) (end : ℕ) where
       ++ end_text (progress_over design (Started (last_line p.time q.time text) on marks slot.values []) items) end)
   later_by_text marks p q on slot slots items [] is next =
       let later : List Piece = spoken (later_pieces marks on slot slots) in
-      ap (λ (xs : List ℕ). body (p ∷ cond (is_nothing xs) later (q ∷ later)) end) is ∙ next p
+      ap (λ (xs : List ℕ). body (p ∷ (if is_nothing xs then later else q ∷ later)) end) is ∙ next p
   later_by_text marks p q on slot slots items (c ∷ cs) is next =
       let later : List Piece = spoken (later_pieces marks on slot slots) in
       let added : List ℕ = items_text design (Started q.time on marks slot.values []) items in
       let last : List ℕ = end_text (progress_over design (Started q.time on marks slot.values []) items) end in
-      ap (λ (xs : List ℕ). body (p ∷ cond (is_nothing xs) later (q ∷ later)) end) is
+      ap (λ (xs : List ℕ). body (p ∷ (if is_nothing xs then later else q ∷ later)) end) is
       ∙ ap (λ (more : List ℕ). time_line p.time ++ piece_text p ++ more)
       (next q ∙ ap (λ (xs : List ℕ). time_line q.time ++ xs ++ (added ++ last)) is ∙ sym (append_assoc (time_line q.time ++ (c ∷ cs)) added last))
 
@@ -72,9 +72,9 @@ module _ (design : Design) (end : ℕ) where
       let head : List ℕ = header design (scope_marks design commands) in
       let added : List ℕ = items_text design (Started t on marks values []) items in
       let last : List ℕ = end_text (progress_over design (Started t on marks values []) items) end in
-      ap (λ (b : Bool). cond b (start_text design commands t values) [] ++ items_text design (cond b (Started t on marks values []) (Waiting [])) items
-      ++ end_text (progress_over design (cond b (Started t on marks values []) (Waiting [])) items) end) is
-      ∙ sym (ap (λ (b : Bool). dump_of design (cond b (slot ∷ slots) (dumped slots)) end) is
+      ap (λ (b : Bool). (if b then start_text design commands t values else []) ++ items_text design (if b then Started t on marks values [] else Waiting []) items
+      ++ end_text (progress_over design (if b then Started t on marks values [] else Waiting []) items) end) is
+      ∙ sym (ap (λ (b : Bool). dump_of design (if b then slot ∷ slots else dumped slots) end) is
       ∙ ap (λ (more : List ℕ). head ++ more) (later_text marks (start marks slot) on slot [] items)
       ∙ start_parts head (time_line t) (piece_text (start marks slot)) added last)
   begin_text false commands t values items is later =
@@ -82,10 +82,10 @@ module _ (design : Design) (end : ℕ) where
       let slots : List ToldSlot = slots_after [] items in
       let on : Bool = on_after true commands in
       let marks : List Bool = variable_marks design commands in
-      ap (λ (b : Bool). cond b (start_text design commands t values) [] ++ items_text design (cond b (Started t on marks values []) (Waiting [])) items
-      ++ end_text (progress_over design (cond b (Started t on marks values []) (Waiting [])) items) end) is
+      ap (λ (b : Bool). (if b then start_text design commands t values else []) ++ items_text design (if b then Started t on marks values [] else Waiting []) items
+      ++ end_text (progress_over design (if b then Started t on marks values [] else Waiting []) items) end) is
       ∙ later
-      ∙ sym (ap (λ (b : Bool). dump_of design (cond b (slot ∷ slots) (dumped slots)) end) is)
+      ∙ sym (ap (λ (b : Bool). dump_of design (if b then slot ∷ slots else dumped slots) end) is)
 
   waiting_text : (commands : List DumpCommand) (items : List Item) →
       rest (Waiting commands) items ≡ dump_of design (dumped (slots_after commands items)) end

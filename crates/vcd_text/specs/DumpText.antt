@@ -1,5 +1,5 @@
 -- `DumpText` (IEEE 1364-2005, clause 18; docs/FORMATS.md): the value change dump of a design and a history.
-use Rattle.std.specs.Prelude.{ℕ, zero, suc, ◌+◌, ◌-◌, ◌==◌, nat_lt, ◌&&◌, ◌||◌, not, length, Bool, true, false, cond, List, [], ◌∷◌, ◌++◌, Option, Some, None, map, replicate, reverse, take, drop, slice_get, codes, decimal}
+use Rattle.std.specs.Prelude.{ℕ, zero, suc, ◌+◌, ◌-◌, ◌==◌, nat_lt, ◌&&◌, ◌||◌, not, length, Bool, true, false, if◌then◌else◌, List, [], ◌∷◌, ◌++◌, Option, Some, None, map, replicate, reverse, take, drop, slice_get, codes, decimal}
 use Rattle.std.specs.List.{after_last, list_any}
 use Rattle.vbits.specs.declared.bit4.Bit4.{Bit4}
 use Rattle.vbits.specs.declared.bit4.Bit4.TheVariants.{Zero, One, X, Z}
@@ -27,7 +27,7 @@ line text = text ++ 10 ∷ []
 
 abbrev pub following : List ℕ → List ℕ
 following [] = 33 ∷ []
-following (c ∷ cs) = cond (nat_lt c 126) (suc c ∷ cs) (33 ∷ following cs)
+following (c ∷ cs) = if nat_lt c 126 then suc c ∷ cs else 33 ∷ following cs
 
 abbrev pub code : ℕ → List ℕ
 code zero = 33 ∷ []
@@ -43,13 +43,13 @@ digit Z = 122
 
 -- what a digit is extended with on the left: 0 and 1 with 0, x with x, z with z
 abbrev pub extension : ℕ → ℕ
-extension d = cond (d == 49) 48 d
+extension d = if d == 49 then 48 else d
 
 -- leftmost digits are dropped while the extension of the next one gives them back
 abbrev pub shortened : List ℕ → List ℕ
 shortened [] = []
 shortened (d ∷ []) = d ∷ []
-shortened (d ∷ e ∷ ds) = cond (d == extension e) (shortened (e ∷ ds)) (d ∷ e ∷ ds)
+shortened (d ∷ e ∷ ds) = if d == extension e then shortened (e ∷ ds) else d ∷ e ∷ ds
 
 -- one digit and the code, or b, digits, a space and the code
 abbrev pub change : List ℕ → List ℕ → List ℕ
@@ -58,12 +58,12 @@ change (d ∷ []) name = d ∷ name
 change (d ∷ e ∷ ds) name = 98 ∷ (shortened (d ∷ e ∷ ds) ++ 32 ∷ name)
 
 -- the digits of a value, leftmost first
-abbrev pub digits_of : Vector → List ℕ
-digits_of v = map digit (reverse v.letters)
+abbrev pub dump_digits : Vector → List ℕ
+dump_digits v = map digit (reverse v.letters)
 
 -- the line that says what the variable of a code is worth
 abbrev pub named_line : List ℕ → Vector → List ℕ
-named_line name v = line (change (digits_of v) name)
+named_line name v = line (change (dump_digits v) name)
 
 abbrev pub value_line : ℕ → Vector → List ℕ
 value_line n = named_line (code n)
@@ -72,7 +72,7 @@ value_line n = named_line (code n)
 
 abbrev pub dots : List ℕ → ℕ
 dots [] = 0
-dots (c ∷ cs) = cond (c == 46) (suc (dots cs)) (dots cs)
+dots (c ∷ cs) = if c == 46 then suc (dots cs) else dots cs
 
 -- what stands in a scope's path behind that of another one, where it begins with that: with as many dots the scope stands so many
 -- levels below it. Of n levels are the scope itself and those up to n - 1 levels below it, of 0 levels all below it
@@ -131,7 +131,7 @@ value_lines (entry ∷ told) = value_line entry.0 entry.1 ++ value_lines told
 abbrev pub listed : ℕ → List Bool → List Vector → List (ℕ × Vector)
 listed n marks [] = []
 listed n [] (v ∷ vs) = []
-listed n (mark ∷ marks) (v ∷ vs) = cond mark ((n, v) ∷ listed (suc n) marks vs) (listed (suc n) marks vs)
+listed n (mark ∷ marks) (v ∷ vs) = if mark then (n, v) ∷ listed (suc n) marks vs else listed (suc n) marks vs
 
 -- those from variable 0 on
 abbrev pub all_lines : List Bool → List Vector → List ℕ
@@ -150,7 +150,9 @@ abbrev pub changes : ℕ → List Bool → List Vector → List Vector → List 
 changes n marks us [] = []
 changes n [] us (v ∷ vs) = []
 changes n (mark ∷ marks) [] (v ∷ vs) = []
-changes n (mark ∷ marks) (u ∷ us) (v ∷ vs) = cond (is_news mark u v) ((n, v) ∷ changes (suc n) marks us vs) (changes (suc n) marks us vs)
+changes n (mark ∷ marks) (u ∷ us) (v ∷ vs) =
+    if is_news mark u v then (n, v) ∷ changes (suc n) marks us vs
+    else changes (suc n) marks us vs
 
 abbrev pub time_line : ℕ → List ℕ
 time_line t = line (35 ∷ decimal t)
@@ -200,15 +202,15 @@ is_written mark s marks scopes = mark || is_any_below s.depth marks scopes
 -- a scope that is written, with its variables, of which the first is n, where it is selected; so many scopes are open before it
 abbrev pub scope_text : ℕ → ℕ → Bool → Scope → List Variable → List ℕ
 scope_text around n mark s variables =
-    closings (around - s.depth) ++ scope_line s.name ++ cond mark (variable_lines n variables) []
+    closings (around - s.depth) ++ scope_line s.name ++ (if mark then variable_lines n variables else [])
 
 -- scopes depth first: so many are open, the next variable is n, and these are left
 abbrev pub scope_lines : ℕ → ℕ → List Bool → List Scope → List Variable → List ℕ
 scope_lines around n marks [] variables = closings around
 scope_lines around n [] (s ∷ scopes) variables = closings around
 scope_lines around n (mark ∷ marks) (s ∷ scopes) variables =
-    cond (is_written mark s marks scopes) (scope_text around n mark s (take s.variables variables)) []
-    ++ scope_lines (cond (is_written mark s marks scopes) (suc s.depth) around) (n + s.variables) marks scopes (drop s.variables variables)
+    (if is_written mark s marks scopes then scope_text around n mark s (take s.variables variables) else [])
+    ++ scope_lines (if is_written mark s marks scopes then suc s.depth else around) (n + s.variables) marks scopes (drop s.variables variables)
 
 -- the unit in which times are counted (19.8)
 abbrev pub timescale_line : Span → List ℕ
@@ -252,7 +254,7 @@ has_start = list_any is_start
 -- the slots from the first one with a $dumpvars on: at its end the dump starts (18.1.2)
 abbrev pub dumped : List ToldSlot → List ToldSlot
 dumped [] = []
-dumped (slot ∷ slots) = cond (has_start slot.commands) (slot ∷ slots) (dumped slots)
+dumped (slot ∷ slots) = if has_start slot.commands then slot ∷ slots else dumped slots
 
 -- ---- the body (18.2.1)
 
@@ -289,9 +291,9 @@ on_after on (command ∷ commands) = on_after (on_by on command) commands
 -- values where it is on
 abbrev pub command_part : List Bool → Bool → DumpCommand → List Vector → List Part
 command_part marks on (Vars place) values = []
-command_part marks on Off values = cond on (all_at (codes "$dumpoff") marks (map blanked values) ∷ []) []
-command_part marks on On values = cond on [] (all_at (codes "$dumpon") marks values ∷ [])
-command_part marks on All values = cond on (all_at (codes "$dumpall") marks values ∷ []) []
+command_part marks on Off values = if on then all_at (codes "$dumpoff") marks (map blanked values) ∷ [] else []
+command_part marks on On values = if on then [] else all_at (codes "$dumpon") marks values ∷ []
+command_part marks on All values = if on then all_at (codes "$dumpall") marks values ∷ [] else []
 
 -- what the commands of a slot list, in order, with the values at its end
 abbrev pub command_parts : List Bool → Bool → List DumpCommand → List Vector → List Part
@@ -300,7 +302,7 @@ command_parts marks on (command ∷ commands) values = command_part marks on com
 
 -- the values that differ from those at the end of the slot before, where the slots before left the dump on
 abbrev pub changed_part : List Bool → Bool → List Vector → List Vector → List Part
-changed_part marks on before values = cond on (record { word = []; told = changes 0 marks before values } ∷ []) []
+changed_part marks on before values = if on then record { word = []; told = changes 0 marks before values } ∷ [] else []
 
 -- at the first slot's end all values (18.1.2)
 abbrev pub start : List Bool → ToldSlot → Piece
@@ -343,12 +345,12 @@ is_nothing (c ∷ cs) = false
 -- the pieces that say something
 abbrev pub spoken : List Piece → List Piece
 spoken [] = []
-spoken (p ∷ ps) = cond (is_nothing (piece_text p)) (spoken ps) (p ∷ spoken ps)
+spoken (p ∷ ps) = if is_nothing (piece_text p) then spoken ps else p ∷ spoken ps
 
 -- each behind its time, and last the time of the run's end, unless the last one stands there (docs/FORMATS.md)
 abbrev pub body : List Piece → ℕ → List ℕ
 body [] end = []
-body (p ∷ []) end = time_line p.time ++ piece_text p ++ cond (p.time == end) [] (time_line end)
+body (p ∷ []) end = time_line p.time ++ piece_text p ++ (if p.time == end then [] else time_line end)
 body (p ∷ q ∷ ps) end = time_line p.time ++ piece_text p ++ body (q ∷ ps) end
 
 -- ---- the whole

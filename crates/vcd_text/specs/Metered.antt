@@ -1,5 +1,5 @@
 -- Readers and writers whose failures are counted, and what pieces of text make of such a writer.
-use Rattle.std.specs.Prelude.{◌≡◌, ℕ, zero, suc, ◌+◌, ◌%◌, ◌^◌, Bool, true, false, cond, List, [], ◌∷◌, take, Option, Result, Ok, Err}
+use Rattle.std.specs.Prelude.{◌≡◌, ℕ, zero, suc, ◌+◌, ◌%◌, ◌^◌, Bool, true, false, if◌then◌else◌, List, [], ◌∷◌, take, Option, Result, Ok, Err}
 use Rattle.std.specs.Io.KnownBytes.{Appends, ReadConsumes, WriteAppends}
 use Rattle.vcd_text.specs.declared.metered.Metered.{Metered}
 use Rattle.vcd_text.specs.declared.fault.WriteFault.{WriteFault}
@@ -28,7 +28,7 @@ one_more n = (n + 1) % 2 ^ 64
 
 -- the count after a call that failed or not
 abbrev pub counted : Bool → ℕ → ℕ
-counted failed n = cond failed (one_more n) n
+counted failed n = if failed then one_more n else n
 
 -- the count after this fault: want of memory is no failure of the writer
 abbrev pub count_after : OrMemory WriteFault → ℕ → ℕ

@@ -1,12 +1,12 @@
 -- What a reader of a dump knows.
-use Rattle.std.specs.Prelude.{◌≡◌, ℕ, ◌+◌, ◌-◌, ◌==◌, ◌||◌, Bool, true, cond, List, [], ◌∷◌, ◌++◌, Some, All, get_or, length, map, replicate, slice_get, slice_set, take}
+use Rattle.std.specs.Prelude.{◌≡◌, ℕ, ◌+◌, ◌-◌, ◌==◌, ◌||◌, Bool, true, if◌then◌else◌, List, [], ◌∷◌, ◌++◌, Some, All, get_or, length, map, replicate, slice_get, slice_set, take}
 use Rattle.vbits.specs.declared.bit4.Bit4.{Bit4}
 use Rattle.vbits.specs.Vectors.{Vector}
 use Rattle.vcd_text.specs.DumpText.{Part, Piece, ToldSlot, on_after, pieces, spoken}
 
 -- what a reader puts to the left of the digits that stand written (18.2.2): 0 where the leftmost is 0 or 1, x or z where it is that
 abbrev pub left_fill : ℕ → ℕ
-left_fill d = cond (d == 48 || d == 49) 48 d
+left_fill d = if d == 48 || d == 49 then 48 else d
 
 -- the digits of a value of this width
 abbrev pub extended : ℕ → List ℕ → List ℕ
@@ -34,7 +34,7 @@ letters_of = map (λ v. v.letters)
 abbrev pub picked : {A : Type 0} → List Bool → List A → List A
 picked marks [] = []
 picked [] (x ∷ xs) = []
-picked (mark ∷ marks) (x ∷ xs) = cond mark (x ∷ picked marks xs) (picked marks xs)
+picked (mark ∷ marks) (x ∷ xs) = if mark then x ∷ picked marks xs else picked marks xs
 
 -- each slot has values of so many variables
 abbrev pub AllHave : ℕ → List ToldSlot → Type 0

@@ -1,5 +1,5 @@
 -- A sink that writes the dump: what it keeps from item to item, and what taking them makes of it.
-use Rattle.std.specs.Prelude.{◌≡◌, ℕ, ◌==◌, cond, List, [], ◌∷◌, ◌++◌, codes, true, Bool}
+use Rattle.std.specs.Prelude.{◌≡◌, ℕ, ◌==◌, if◌then◌else◌, List, [], ◌∷◌, ◌++◌, codes, true, Bool}
 use Rattle.vbits.specs.Vectors.{Vector}
 use Rattle.vdesign.specs.Design.{Design}
 use Rattle.vmodel.specs.History.{History}
@@ -54,7 +54,7 @@ line_after_slot last t on marks old commands new = last_line last t (slot_lines 
 
 -- what the first slot ends add: nothing before a $dumpvars
 abbrev pub begun_text : Design → List DumpCommand → ℕ → List Vector → List ℕ
-begun_text design commands t values = cond (has_start commands) (start_text design commands t values) []
+begun_text design commands t values = if has_start commands then start_text design commands t values else []
 
 -- what a slot end adds to the dump of a design; nothing is written once a text failed
 abbrev pub ended_text : Design → Progress → ℕ → List Vector → List ℕ
@@ -72,7 +72,8 @@ item_text design p (Monitor place) = []
 -- the slot ended that asked for the dump, or one before it
 abbrev pub begun : Design → List DumpCommand → ℕ → List Vector → Progress
 begun design commands t values =
-    cond (has_start commands) (Started t (on_after true commands) (variable_marks design commands) values []) (Waiting [])
+    if has_start commands then Started t (on_after true commands) (variable_marks design commands) values []
+    else Waiting []
 
 abbrev pub ended : Design → Progress → ℕ → List Vector → Progress
 ended design (Waiting commands) t values = begun design commands t values
@@ -102,7 +103,7 @@ progress_over design p (item ∷ items) = progress_over design (progress_after d
 
 -- the time of the end, unless the last time line is that
 abbrev pub end_line : ℕ → ℕ → List ℕ
-end_line last t = cond (last == t) [] (time_line t)
+end_line last t = if last == t then [] else time_line t
 
 -- what the end adds
 abbrev pub end_text : Progress → ℕ → List ℕ

@@ -1,6 +1,6 @@
 // The header of a dump (18.2.3).
 
-ghost use Rattle.std.specs.Prelude.{◌≡◌, ◌++◌, ◌==◌, IfOk, OnOk, cond, decimal, length, min, suc};
+ghost use Rattle.std.specs.Prelude.{◌≡◌, ◌++◌, ◌==◌, IfOk, OnOk, if◌then◌else◌, decimal, length, min, suc};
 ghost use Rattle.std.specs.List.{after_last};
 ghost use Rattle.vcd_text.specs.DumpText.{bounds_text, closings, header as header_text, is_written as is_written_before, kind_word, named_variable_line as variable_text, scope_line, timescale_line};
 ghost use Rattle.vcd_text.specs.Headers.{IsCodeAfter, Lists, ListsMarked, ListsScope, all_scopes};
@@ -211,7 +211,7 @@ fn own_count(scope: &Scope, left: usize) -> usize
 
 // How many scopes are open behind a scope, which is written or not.
 fn open_behind(written: bool, scope: &Scope, around: u64) -> u64
-    ensures { result ≡ cond written (suc scope.now.depth) around }
+    ensures { result ≡ if written then suc scope.now.depth else around }
 {
     if written {
         u64::from(scope.depth) + 1

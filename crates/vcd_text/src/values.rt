@@ -1,7 +1,7 @@
 // The lines that say what variables are worth (18.2.2).
 
 ghost use Rattle.std.specs.Prelude.{◌≡◌, ◌<◌, ◌++◌, OnOk, true, false, length, drop, map};
-ghost use Rattle.vcd_text.specs.DumpText.{all_lines, blanked, change, changes, digit as digit_code, digits_of, extension as extension_code, following, is_kept as is_kept_vector, is_news as is_news_of, named_line, shortened, value_lines};
+ghost use Rattle.vcd_text.specs.DumpText.{all_lines, blanked, change, changes, digit as digit_code, dump_digits, extension as extension_code, following, is_kept as is_kept_vector, is_news as is_news_of, named_line, shortened, value_lines};
 
 use basis::NoMemory;
 use std::alloc::Global;
@@ -62,7 +62,7 @@ fn kept(digits: &[u8]) -> &[u8]
 
 /// Puts the digits of a value last, all of them, leftmost first. The error is want of memory, E901.
 pub fn put_digits(text: &mut Vec<u8>, value: Vec4) -> Result<(), NoMemory>
-    ensures { OnOk result (text.new.items ≡ text.old.items ++ digits_of value) }
+    ensures { OnOk result (text.new.items ≡ text.old.items ++ dump_digits value) }
 {
     let mut i = value.len();
     while i > 0 {

@@ -3,18 +3,18 @@ use Rattle.std.proofs.Common.{◌≡◌, ◌<◌, ◌≤◌, ℕ, ◌+◌, Optio
 use Rattle.std.specs.Prelude.{Box}
 use Rattle.std.proofs.Math.ListN.{drop_of_length-le}
 use Rattle.vast.specs.Words.{Text}
-use Rattle.vast.specs.ExpressionTrees.{tree_of}
-use Rattle.vast.specs.Statements.{BranchTrees, case_of, no_branch, first_branch}
-use Rattle.vast.specs.StatementTrees.{statement_tree, branch_tree, branch_trees}
+use Rattle.vast.specs.NumberedTrees.{tree_of}
+use Rattle.vast.specs.NumberedStatements.{BranchTrees, case_of, no_branch, first_branch}
+use Rattle.vast.specs.NumberedTrees.{statement_tree, branch_tree, branch_trees}
 use Rattle.vast.specs.declared.expression.Expression.{Expression}
 use Rattle.vast.specs.declared.statement.CaseKind.{CaseKind}
 use Rattle.vast.specs.declared.statement.Branch.{Branch as WrittenBranch}
 use Rattle.vast.specs.declared.statement.Statement.{Statement, Case}
-use Rattle.vast.proofs.WholeTreeLemmas.{tree_of_case}
-use Rattle.vdesign.specs.declared.action.Action.{Action}
+use Rattle.vast.specs.NumberedWords.{numbered}
+use Rattle.vast.proofs.ToldTrees.{told_case}
 use Rattle.vdesign.specs.declared.action.Branch.{Branch}
-use Rattle.velab.specs.Elaborate.{LaidBranches, laid_branch, laid_branches, broken_branch, broken_branches}
-use Rattle.velab.specs.declared.fault.Rule.{Rule}
+use Rattle.velab.specs.Elaborate.{Table, LaidBranches, laid_branch, laid_branches, broken_branch, broken_branches}
+use Rattle.velab.specs.declared.fault.ElabFault.{ElabFault}
 use Rattle.velab.specs.Scopes.{Scope}
 use Rattle.velab.specs.Inner.{AreBranches}
 use Rattle.velab.proofs.FaultLemmas.{goes_on}
@@ -27,13 +27,13 @@ pub case_tree : (words : List Text) (statement : Statement) (at : ℕ) (kind : C
 case_tree words statement at kind value branches amount items is same these =
     sym
     (
-    ap (statement_tree words) is ∙ tree_of_case words at kind value branches
+    ap (statement_tree words) is ∙ told_case (numbered words) at kind value branches
     ∙ ap (λ (v : Expression). case_of kind (tree_of words v) (branch_trees words branches.items)) (sym same)
     ∙ ap (λ (bs : List WrittenBranch). case_of kind (tree_of words amount) (branch_trees words bs)) (sym these)
     )
 
 -- so many branches are laid: what is left leads to the same as all of them from the start
-pub record LeadsBranches (scope : Scope) (now : List Action) (before : List Branch) (default_before : List ℕ) (left : BranchTrees) (all : LaidBranches) (begun : List Branch) (default_begun : List ℕ) : Type 0 where
+pub record LeadsBranches (scope : Scope) (now : Table) (before : List Branch) (default_before : List ℕ) (left : BranchTrees) (all : LaidBranches) (begun : List Branch) (default_begun : List ℕ) : Type 0 where
   pub table : (laid_branches scope now left).table ≡ all.table
   pub branches : before ++ (laid_branches scope now left).branches ≡ begun ++ all.branches
   pub otherwise : default_before ++ (laid_branches scope now left).otherwise ≡ default_begun ++ all.otherwise
@@ -43,7 +43,7 @@ module _ (words : List Text) (scope : Scope) (xs : List WrittenBranch) (i : ℕ)
     pub branches_opened : branch_trees words (drop i xs) ≡ first_branch (branch_tree words x) (branch_trees words (drop (i + 1) xs))
     branches_opened = ap (branch_trees words) (drop_at xs i x within is)
 
-    pub branches_step : (table table_after : List Action) (before after : List Branch) (places places_after : List ℕ) (all : LaidBranches) (begun : List Branch) (places_begun : List ℕ) →
+    pub branches_step : (table table_after : Table) (before after : List Branch) (places places_after : List ℕ) (all : LaidBranches) (begun : List Branch) (places_begun : List ℕ) →
         AreBranches (laid_branch scope table (branch_tree words x)) before places table_after after places_after →
         LeadsBranches scope table before places (branch_trees words (drop i xs)) all begun places_begun →
         LeadsBranches scope table_after after places_after (branch_trees words (drop (i + 1) xs)) all begun places_begun
@@ -53,23 +53,23 @@ module _ (words : List Text) (scope : Scope) (xs : List WrittenBranch) (i : ℕ)
         let here : LeadsBranches scope table before places (first_branch (branch_tree words x) rest) all begun places_begun =
         subst (λ (t : BranchTrees). LeadsBranches scope table before places t all begun places_begun) branches_opened leads in
         record {
-          table = ap (λ (t : List Action). (laid_branches scope t rest).table) put.table ∙ here.table;
-          branches = ap (λ (t : List Action). after ++ (laid_branches scope t rest).branches) put.table
+          table = ap (λ (t : Table). (laid_branches scope t rest).table) put.table ∙ here.table;
+          branches = ap (λ (t : Table). after ++ (laid_branches scope t rest).branches) put.table
               ∙ ap (λ (p : List Branch). p ++ (laid_branches scope front.table rest).branches) put.branches
               ∙ append_assoc before front.branches (laid_branches scope front.table rest).branches
               ∙ here.branches;
-          otherwise = ap (λ (t : List Action). places_after ++ (laid_branches scope t rest).otherwise) put.table
+          otherwise = ap (λ (t : Table). places_after ++ (laid_branches scope t rest).otherwise) put.table
               ∙ ap (λ (p : List ℕ). p ++ (laid_branches scope front.table rest).otherwise) put.otherwise
               ∙ append_assoc places front.otherwise (laid_branches scope front.table rest).otherwise
               ∙ here.otherwise;
         }
 
-    pub branches_right : (all : Option Rule) → broken_branch scope (branch_tree words x) ≡ None → broken_branches scope (branch_trees words (drop i xs)) ≡ all →
+    pub branches_right : (all : Option ElabFault) → broken_branch scope (branch_tree words x) ≡ None → broken_branches scope (branch_trees words (drop i xs)) ≡ all →
         broken_branches scope (branch_trees words (drop (i + 1) xs)) ≡ all
     branches_right all right same =
         goes_on (broken_branch scope (branch_tree words x)) _ _ all (ap (broken_branches scope) branches_opened) right same
 
-  pub branches_end : (table : List Action) (before : List Branch) (places : List ℕ) (all : LaidBranches) (begun : List Branch) (places_begun : List ℕ) → length xs ≤ i →
+  pub branches_end : (table : Table) (before : List Branch) (places : List ℕ) (all : LaidBranches) (begun : List Branch) (places_begun : List ℕ) → length xs ≤ i →
       LeadsBranches scope table before places (branch_trees words (drop i xs)) all begun places_begun → AreBranches all begun places_begun table before places
   branches_end table before places all begun places_begun end leads =
       let here : LeadsBranches scope table before places no_branch all begun places_begun =

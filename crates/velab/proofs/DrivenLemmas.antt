@@ -1,15 +1,13 @@
 -- The names that are driven, and the nets among them, one after another.
-use Rattle.std.proofs.Common.{◌≡◌, ◌<◌, ℕ, ◌+◌, Bool, true, false, not, if◌then◌else◌, ap, map, filter, Vec, Global, List, [], ◌∷◌, ◌++◌, length, drop, get_or, is_some, Option, None, Some, refl, sym, subst, ◌∙◌}
+use Rattle.std.proofs.Common.{◌≡◌, ℕ, Bool, true, false, not, if◌then◌else◌, ap, map, filter, Vec, Global, List, [], ◌∷◌, ◌++◌, Option, None, refl, sym, ◌∙◌}
 use Rattle.std.specs.Prelude.{option_map}
 use Rattle.std.specs.List.{flat_map}
 use Rattle.std.proofs.lemmas.List.{map-append}
 use Rattle.std.proofs.lemmas.List.Elements.{filter-append}
-use Rattle.basis.specs.Reasons.{Because}
-use Rattle.basis.specs.declared.memory.OrMemory.{OrMemory}
 use Rattle.vast.specs.Words.{Text}
-use Rattle.vast.specs.Modules.{RangeTree, DeclaredTree}
-use Rattle.vast.specs.TokenTexts.{token_text}
-use Rattle.vast.specs.ModuleTrees.{range_tree, declared_tree, item_tree}
+use Rattle.vast.specs.NumberedModules.{RangeTree, DeclaredTree}
+use Rattle.vast.specs.NumberedWords.{Word, numbered}
+use Rattle.vast.specs.NumberedTrees.{range_tree, declared_tree, item_tree}
 use Rattle.vast.specs.declared.module.Declared.{Declared}
 use Rattle.vast.specs.declared.module.DeclarationKind.{DeclarationKind as DeclarationWords}
 use Rattle.vast.specs.declared.module.DeclarationKind.TheVariants as declaring
@@ -20,45 +18,28 @@ use Rattle.vast.specs.declared.module.ModuleItem.{ModuleItem}
 use Rattle.vast.specs.declared.module.ModuleItem.TheVariants.{Declaration}
 use Rattle.vdesign.specs.declared.design.Kind.{Kind}
 use Rattle.vdesign.specs.declared.design.Kind.TheVariants.{Reg, Integer, Wire}
-use Rattle.vmodules.specs.Names.{has_double, is_declared}
+use Rattle.vmodules.specs.Names.{is_declared, letters_of}
 use Rattle.vmodules.specs.Ports.{Port}
 use Rattle.vmodules.specs.Inner.{HoldSame, port_form}
 use Rattle.vmodules.specs.declared.ports.PortForm.{PortForm}
-use Rattle.vmodules.proofs.NameLemmas.{double_at}
 use Rattle.vmodules.proofs.HierarchyLemmas.{append_nil, holds_added}
-use Rattle.velab.specs.declared.fault.ElabFault.{ElabFault}
-use Rattle.velab.specs.declared.fault.Rule.{Rule}
-use Rattle.velab.specs.declared.fault.Rule.TheVariants.{Doubled, Drivers}
 use Rattle.velab.specs.declared.driven.Driver.{Driver}
 use Rattle.velab.specs.Elaborate.{Declaration as Declared_as, declared, all_declared, declarations_of, kind_of, port_declaration, net_names}
-use Rattle.velab.specs.Rules.{broken_if}
-use Rattle.velab.specs.Inner.{BreaksDrivers, driver_names, kind_item, port_nets, item_nets, nets_as, texts_of}
-use Rattle.velab.proofs.ListLemmas.{drop_at, stopped}
-use Rattle.velab.proofs.VariableLemmas.{part_stops}
-use Rattle.velab.proofs.FaultLemmas.{still, if_more}
+use Rattle.velab.specs.Inner.{among, driver_word, driver_names, kind_item, port_nets, item_nets, nets_as, texts_of}
 
 -- ---- drivers
 
-pub names_pushed : (before after : List Driver) (driver : Driver) (text : Text) → after ≡ before ++ driver ∷ [] → driver.net.now ≡ text →
-    driver_names after ≡ driver_names before ++ text ∷ []
-names_pushed before after driver text is named =
-    ap driver_names is ∙ map-append (λ (one : Driver). one.net.now) before (driver ∷ []) ∙ ap (λ (t : Text). driver_names before ++ t ∷ []) named
-
--- a name that can't be added has a driver
-pub driver_twice : (names : List Text) (text : Text) (r : Rule) → broken_if (is_declared names text) Doubled ≡ Some r →
-    broken_if (has_double (names ++ text ∷ [])) Drivers ≡ Some Drivers
-driver_twice names text r b = ap (λ c. broken_if c Drivers) (double_at names [] text (was (is_declared names text) b))
-  where
-    was : (c : Bool) → broken_if c Doubled ≡ Some r → c ≡ true
-    was true h = refl
-    was false h = cc
+pub names_pushed : (before after : List Driver) (driver : Driver) (word : Word) → after ≡ before ++ driver ∷ [] → driver.net.now ≡ word.letters → driver.at ≡ word.number →
+    driver_names after ≡ driver_names before ++ word ∷ []
+names_pushed before after driver word is named at =
+    ap driver_names is ∙ map-append driver_word before (driver ∷ []) ∙ (λ i. driver_names before ++ record { letters = named i; number = at i } ∷ [])
 
 -- ---- nets
 
 nets_split : (xs ys : List Declared_as) → net_names (xs ++ ys) ≡ net_names xs ++ net_names ys
 nets_split xs ys =
-    ap (λ (list : List Declared_as). map (λ (d : Declared_as). d.name) list) (filter-append _ xs ys)
-    ∙ map-append (λ (d : Declared_as). d.name) _ _
+    ap (λ (list : List Declared_as). map (λ (d : Declared_as). d.name.letters) list) (filter-append _ xs ys)
+    ∙ map-append (λ (d : Declared_as). d.name.letters) _ _
 
 pub port_first : (words : List Text) (p : PortForm) (ps : List PortForm) → port_nets words (p ∷ ps) ≡ port_nets words (p ∷ []) ++ port_nets words ps
 port_first words p ps = nets_split (port_declaration (port_form words p) ∷ []) (map port_declaration (map (port_form words) ps))
@@ -73,9 +54,9 @@ pub both_nets : (words : List Text) (ports : List PortForm) (items : List Module
 both_nets words ports items = nets_split (map port_declaration (map (port_form words) ports)) (flat_map declarations_of (map (item_tree words) items))
 
 -- what is declared as wires is nets, and nothing else is
-wires : (signed : Bool) (range : Option RangeTree) (list : List DeclaredTree) → net_names (all_declared Wire signed range list ++ []) ≡ map (λ (one : DeclaredTree). one.name) list
+wires : (signed : Bool) (range : Option RangeTree) (list : List DeclaredTree) → net_names (all_declared Wire signed range list ++ []) ≡ map (λ (one : DeclaredTree). one.name.letters) list
 wires signed range [] = refl
-wires signed range (one ∷ more) = ap (λ (l : List Text). one.name ∷ l) (wires signed range more)
+wires signed range (one ∷ more) = ap (λ (l : List Text). one.name.letters ∷ l) (wires signed range more)
 
 no_regs : (signed : Bool) (range : Option RangeTree) (list : List DeclaredTree) → net_names (all_declared Reg signed range list ++ []) ≡ []
 no_regs signed range [] = refl
@@ -85,20 +66,20 @@ no_integers : (signed : Bool) (range : Option RangeTree) (list : List DeclaredTr
 no_integers signed range [] = refl
 no_integers signed range (one ∷ more) = no_integers signed range more
 
-texts_are : (words : List Text) (list : List Declared) → map (λ (one : DeclaredTree). one.name) (map (declared_tree words) list) ≡ texts_of words list
+texts_are : (words : List Text) (list : List Declared) → map (λ (one : DeclaredTree). one.name.letters) (map (declared_tree words) list) ≡ letters_of (texts_of words list)
 texts_are words [] = refl
-texts_are words (one ∷ more) = ap (λ (l : List Text). token_text words one.name ∷ l) (texts_are words more)
+texts_are words (one ∷ more) = ap (λ (l : List Text). (numbered words one.name).letters ∷ l) (texts_are words more)
 
 module _ (words : List Text) (item : ModuleItem) (at : ℕ) (kind : DeclarationWords) (written : Vec Declared Global) (is : item ≡ Declaration at kind written) where
   opened : (other : DeclarationWords) → kind ≡ other → item_nets words (item ∷ []) ≡ net_names (declarations_of (kind_item words other written.items) ++ [])
   opened other kind_is = ap (λ (m : ModuleItem). item_nets words (m ∷ [])) (is ∙ ap (λ (k : DeclarationWords). Declaration at k written) kind_is)
 
   pub variables_item : (word : NetKind) (type : SignAndRange) (list : List Declared) → kind ≡ declaring.Variables word type → list ≡ written.items →
-      item_nets words (item ∷ []) ≡ nets_as word (texts_of words list)
+      item_nets words (item ∷ []) ≡ nets_as word (letters_of (texts_of words list))
   variables_item net.Wire type list kind_is list_is =
       opened (declaring.Variables net.Wire type) kind_is
       ∙ wires type.signed (option_map (range_tree words) type.range) (map (declared_tree words) written.items)
-      ∙ texts_are words written.items ∙ ap (texts_of words) (sym list_is)
+      ∙ texts_are words written.items ∙ ap (λ (l : List Declared). letters_of (texts_of words l)) (sym list_is)
   variables_item net.Reg type list kind_is list_is =
       opened (declaring.Variables net.Reg type) kind_is
       ∙ no_regs type.signed (option_map (range_tree words) type.range) (map (declared_tree words) written.items)
@@ -106,7 +87,7 @@ module _ (words : List Text) (item : ModuleItem) (at : ℕ) (kind : DeclarationW
   pub integer_item : kind ≡ declaring.Integers → item_nets words (item ∷ []) ≡ []
   integer_item kind_is = opened declaring.Integers kind_is ∙ no_integers true None (map (declared_tree words) written.items)
 
-pub wire_port : (words : List Text) (p : PortForm) → p.net ≡ net.Wire → port_nets words (p ∷ []) ≡ token_text words p.name ∷ []
+pub wire_port : (words : List Text) (p : PortForm) → p.net ≡ net.Wire → port_nets words (p ∷ []) ≡ (numbered words p.name).letters ∷ []
 wire_port words p is =
     let form : Port = port_form words p in
     ap (λ (n : NetKind). net_names (declared (kind_of n) form.type.signed form.type.range form.name ∷ [])) is
@@ -124,19 +105,12 @@ same_added old now more name text new is grows named more_is other =
 
 -- ---- nets that are driven
 
--- two drivers among some are two among all
-twice_among : (part rest all : List Text) → part ++ rest ≡ all → (e : OrMemory ElabFault) → Because (BreaksDrivers part) e → Because (BreaksDrivers all) e
-twice_among part rest all is = still _ _ (if_more (has_double part) (has_double all) Drivers (part_stops part rest all is))
-
 module _ (nets : List Text) where
-  abbrev among : List Driver → List Text
-  among list = filter (is_declared nets) (driver_names list)
+  pub among_first : (x : Driver) (xs : List Driver) → among nets (x ∷ xs) ≡ among nets (x ∷ []) ++ among nets xs
+  among_first x xs = filter-append (λ (word : Word). is_declared nets word.letters) (driver_word x ∷ []) (driver_names xs)
 
-  among_first : (x : Driver) (xs : List Driver) → among (x ∷ xs) ≡ among (x ∷ []) ++ among xs
-  among_first x xs = filter-append (is_declared nets) (x.net.now ∷ []) (driver_names xs)
+  pub one_among : (x : Driver) → is_declared nets x.net.now ≡ true → among nets (x ∷ []) ≡ driver_word x ∷ []
+  one_among x there = ap (λ b. if b then driver_word x ∷ [] else []) there
 
-  pub among_twice : (list : List Driver) (i : ℕ) (x : Driver) (names all : List Text) (e : OrMemory ElabFault) → i < length list → x ≡ get_or list i x →
-      names ++ among (drop i list) ≡ all → Because (BreaksDrivers (names ++ among (x ∷ []))) e → Because (BreaksDrivers all) e
-  among_twice list i x names all e within is same =
-      twice_among (names ++ among (x ∷ [])) (among (drop (i + 1) list)) all
-      (stopped list i x within is among (λ (y : Driver). among (y ∷ [])) among_first names all same) e
+  pub none_among : (x : Driver) → is_declared nets x.net.now ≡ false → among nets (x ∷ []) ≡ []
+  none_among x absent = ap (λ b. if b then driver_word x ∷ [] else []) absent

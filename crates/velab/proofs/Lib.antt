@@ -12,3 +12,5 @@ pub mod ConstantLemmas
 pub mod ParameterLemmas
 pub mod PrintLemmas
 pub mod TargetLemmas
+pub mod TableLemmas
+pub mod FirstLemmas

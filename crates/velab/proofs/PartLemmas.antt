@@ -6,17 +6,17 @@ use Rattle.std.proofs.Math.ListN.{drop_of_length-le}
 use Rattle.basis.specs.declared.memory.OrMemory.{OrMemory}
 use Rattle.basis.specs.Reasons.{Because}
 use Rattle.vast.specs.Words.{Text}
-use Rattle.vast.specs.Expressions.{concatenation, replication}
-use Rattle.vast.specs.ExpressionTrees.{tree_of, trees_of}
+use Rattle.vast.specs.NumberedExpressions.{concatenation, replication}
+use Rattle.vast.specs.NumberedTrees.{tree_of, trees_of}
 use Rattle.vast.specs.declared.expression.Expression.{Expression, Concatenation, Replication}
-use Rattle.vast.proofs.ExpressionLemmas.{tree_of_concatenation, tree_of_replication}
+use Rattle.vast.specs.NumberedWords.{numbered}
+use Rattle.vast.proofs.ToldTrees.{told_concatenation, told_replication}
 use Rattle.vdesign.specs.Nodes.{nodes_of}
 use Rattle.vdesign.specs.declared.expression.Node.{Node}
 use Rattle.vdesign.specs.declared.expression.Node.TheVariants.{Conversion}
 use Rattle.velab.specs.declared.fault.ElabFault.{ElabFault}
 use Rattle.velab.specs.InnerParts.{before_part}
 use Rattle.velab.specs.Resolved.{resolved, resolved_parts, count_of, broken, broken_parts}
-use Rattle.velab.specs.declared.fault.Rule.{Rule}
 use Rattle.velab.specs.Rules.{IsBroken}
 use Rattle.velab.specs.Scopes.{Scope}
 use Rattle.velab.proofs.FaultLemmas.{goes_on, stops_at}
@@ -42,12 +42,12 @@ module _ (words : List Text) where
   module _ (e : Expression) (at : ℕ) (parts : Vec Expression Global) (items : List Expression) (is : e ≡ Concatenation at parts) (same : items ≡ parts.items) where
     pub concatenation_is : concatenation (trees_of words items) ≡ tree_of words e
     concatenation_is =
-        ap (λ (xs : List Expression). concatenation (trees_of words xs)) same ∙ sym (ap (tree_of words) is ∙ tree_of_concatenation words at parts)
+        ap (λ (xs : List Expression). concatenation (trees_of words xs)) same ∙ sym (ap (tree_of words) is ∙ told_concatenation (numbered words) at parts)
 
   module _ (e : Expression) (at : ℕ) (count : Box Expression Global) (parts : Vec Expression Global) (amount : Expression) (items : List Expression) (is : e ≡ Replication at count parts) (counted : amount ≡ count.value) (same : items ≡ parts.items) where
     pub replication_is : replication (tree_of words amount) (trees_of words items) ≡ tree_of words e
     replication_is =
-        (λ i. replication (tree_of words (counted i)) (trees_of words (same i))) ∙ sym (ap (tree_of words) is ∙ tree_of_replication words at count parts)
+        (λ i. replication (tree_of words (counted i)) (trees_of words (same i))) ∙ sym (ap (tree_of words) is ∙ told_replication (numbered words) at count parts)
 
   module _ (scope : Scope) where
     -- the nodes of what is left of the parts
@@ -96,10 +96,10 @@ module _ (words : List Text) where
           option_or (broken fixed scope (tree_of words x)) (broken_parts fixed scope (trees_of words (drop (i + 1) xs)))
       opened_parts fixed = ap (λ (l : List Expression). broken_parts fixed scope (trees_of words l)) (drop_at xs i x within is)
 
-      pub next_right : (fixed : Bool) (all : Option Rule) → broken fixed scope (tree_of words x) ≡ None →
+      pub next_right : (fixed : Bool) (all : Option ElabFault) → broken fixed scope (tree_of words x) ≡ None →
           broken_parts fixed scope (trees_of words (drop i xs)) ≡ all → broken_parts fixed scope (trees_of words (drop (i + 1) xs)) ≡ all
       next_right fixed all right same = goes_on (broken fixed scope (tree_of words x)) _ _ all (opened_parts fixed) right same
 
-      pub part_err : (fixed : Bool) (all : Option Rule) → broken_parts fixed scope (trees_of words (drop i xs)) ≡ all →
+      pub part_err : (fixed : Bool) (all : Option ElabFault) → broken_parts fixed scope (trees_of words (drop i xs)) ≡ all →
           (e : OrMemory ElabFault) → Because (IsBroken (broken fixed scope (tree_of words x))) e → Because (IsBroken all) e
       part_err fixed all same = stops_at (broken fixed scope (tree_of words x)) _ _ all (opened_parts fixed) same

@@ -6,32 +6,30 @@ use Rattle.std.specs.List.{cons_option, flat_map}
 use Rattle.basis.specs.Reasons.{Because}
 use Rattle.basis.specs.declared.memory.OrMemory.{OrMemory}
 use Rattle.vast.specs.Words.{Text}
-use Rattle.vast.specs.Modules.{ItemTree}
-use Rattle.vast.specs.ModuleTrees.{declared_tree, setting_tree, item_tree}
+use Rattle.vast.specs.NumberedModules.{ItemTree}
+use Rattle.vast.specs.NumberedTrees.{declared_tree, setting_tree, item_tree}
 use Rattle.vast.specs.declared.module.Declared.{Declared}
 use Rattle.vast.specs.declared.module.Setting.{Setting}
 use Rattle.vast.specs.declared.module.NetKind.{NetKind}
 use Rattle.vast.specs.declared.module.ModuleItem.{ModuleItem}
-use Rattle.vast.specs.Modules.{ConnectionTree}
+use Rattle.vast.specs.NumberedWords.{Word}
 use Rattle.vmodules.specs.Ports.{Port}
-use Rattle.vmodules.specs.Connected.{value_for}
+use Rattle.vmodules.specs.Connected.{Tied, value_for}
 use Rattle.vmodules.specs.Inner.{port_form}
 use Rattle.vmodules.specs.declared.ports.PortForm.{PortForm}
-use Rattle.velab.specs.Elaborate.{laid_join, laid_joins, broken_join, broken_joins}
+use Rattle.velab.specs.Elaborate.{Table, laid_join, laid_joins, broken_join, broken_joins}
 use Rattle.velab.specs.declared.fault.ElabFault.{ElabFault}
 use Rattle.velab.specs.Elaborate.{ProcessTree, broken_processes, process_of, driven_by, process_trees_by}
-use Rattle.velab.specs.declared.fault.Rule.{Rule}
 use Rattle.velab.specs.Rules.{IsBroken}
 use Rattle.velab.specs.Scopes.{Scope, at}
 use Rattle.velab.specs.Inner.{starts_in, drives_in}
 use Rattle.velab.proofs.FaultLemmas.{goes_on, stops_at}
 use Rattle.velab.proofs.ListLemmas.{drop_at}
-use Rattle.vdesign.specs.declared.action.Action.{Action}
 use Rattle.velab.specs.Elaborate.{Laid, Processes, laid_process, laid_processes, laid_items, broken_process, broken_items_from, given_by}
 use Rattle.velab.specs.Inner.{IsLaid, AreLaid}
 
 -- so many are laid: what is left leads to the same as all of them from the start
-pub record LeadTo (scope : Scope) (now : List Action) (before : List (List ℕ)) (left : List ProcessTree) (all : Processes) : Type 0 where
+pub record LeadTo (scope : Scope) (now : Table) (before : List (List ℕ)) (left : List ProcessTree) (all : Processes) : Type 0 where
   pub table : (laid_processes scope now left).table ≡ all.table
   pub begins : before ++ (laid_processes scope now left).begins ≡ all.begins
 
@@ -40,22 +38,22 @@ abbrev pub behind : List (List ℕ) → Processes → Processes
 behind before what = record { table = what.table; begins = before ++ what.begins }
 
 -- nothing is laid so far
-pub lead_start : (scope : Scope) (table : List Action) (before : List (List ℕ)) (ss : List ProcessTree) →
+pub lead_start : (scope : Scope) (table : Table) (before : List (List ℕ)) (ss : List ProcessTree) →
     LeadTo scope table before ss (behind before (laid_processes scope table ss))
 lead_start scope table before ss = record { table = refl; begins = refl }
 
 -- none is left, behind those that there were
-pub lead_behind : (scope : Scope) (table : List Action) (before begins : List (List ℕ)) (what : Processes) →
+pub lead_behind : (scope : Scope) (table : Table) (before begins : List (List ℕ)) (what : Processes) →
     LeadTo scope table begins [] (behind before what) → AreLaid what before table begins
 lead_behind scope table before begins what lead = record { table = lead.table; begins = sym (append-nil begins) ∙ lead.begins }
 
 -- one item more: it has any number of processes
-pub lead_step : (scope : Scope) (table table_after : List Action) (begins begins_after : List (List ℕ)) (front rest : List ProcessTree) (all : Processes) →
+pub lead_step : (scope : Scope) (table table_after : Table) (begins begins_after : List (List ℕ)) (front rest : List ProcessTree) (all : Processes) →
     AreLaid (laid_processes scope table front) begins table_after begins_after → LeadTo scope table begins (front ++ rest) all →
     LeadTo scope table_after begins_after rest all
 lead_step scope table table_after begins begins_after [] rest all put lead = record {
-  table = ap (λ (t : List Action). (laid_processes scope t rest).table) put.table ∙ lead.table;
-  begins = ap (λ (t : List Action). begins_after ++ (laid_processes scope t rest).begins) put.table
+  table = ap (λ (t : Table). (laid_processes scope t rest).table) put.table ∙ lead.table;
+  begins = ap (λ (t : Table). begins_after ++ (laid_processes scope t rest).begins) put.table
       ∙ ap (λ (b : List (List ℕ)). b ++ (laid_processes scope table rest).begins) (put.begins ∙ append-nil begins)
       ∙ lead.begins;
 }
@@ -69,12 +67,12 @@ lead_step scope table table_after begins begins_after (s ∷ front) rest all put
     })
 
 -- none is left
-pub lead_end : (scope : Scope) (table : List Action) (begins : List (List ℕ)) (all : Processes) → LeadTo scope table begins [] all →
+pub lead_end : (scope : Scope) (table : Table) (begins : List (List ℕ)) (all : Processes) → LeadTo scope table begins [] all →
     AreLaid all [] table begins
 lead_end scope table begins all lead = record { table = lead.table; begins = sym (append-nil begins) ∙ lead.begins }
 
 -- one process was laid
-pub one_laid : (scope : Scope) (table table_after : List Action) (begins begins_after : List (List ℕ)) (s : ProcessTree) (places : List ℕ) →
+pub one_laid : (scope : Scope) (table table_after : Table) (begins begins_after : List (List ℕ)) (s : ProcessTree) (places : List ℕ) →
     IsLaid (laid_process scope table s) [] table_after places → begins_after ≡ begins ++ places ∷ [] →
     AreLaid (laid_processes scope table (s ∷ [])) begins table_after begins_after
 one_laid scope table table_after begins begins_after s places put is = record {
@@ -89,7 +87,7 @@ broken_split scope [] ys = refl
 broken_split scope (x ∷ xs) ys =
     ap (option_or (broken_process scope x)) (broken_split scope xs ys) ∙ assoc (broken_process scope x) (broken_processes scope xs) (broken_processes scope ys)
   where
-    assoc : (a b c : Option Rule) → option_or a (option_or b c) ≡ option_or (option_or a b) c
+    assoc : (a b c : Option ElabFault) → option_or a (option_or b c) ≡ option_or (option_or a b) c
     assoc None b c = refl
     assoc (Some r) b c = refl
 
@@ -112,11 +110,11 @@ module _ (words : List Text) (word : NetKind) (scope : Scope) (list : List Decla
       option_or (broken_processes scope (starts_in words word (x ∷ []))) (broken_processes scope (starts_in words word (drop (i + 1) list)))
   starts_rules = ap (broken_processes scope) (starts_open words word list i x within is) ∙ broken_split scope (starts_in words word (x ∷ [])) (starts_in words word (drop (i + 1) list))
 
-  pub start_right : (all : Option Rule) → broken_processes scope (starts_in words word (x ∷ [])) ≡ None → broken_processes scope (starts_in words word (drop i list)) ≡ all →
+  pub start_right : (all : Option ElabFault) → broken_processes scope (starts_in words word (x ∷ [])) ≡ None → broken_processes scope (starts_in words word (drop i list)) ≡ all →
       broken_processes scope (starts_in words word (drop (i + 1) list)) ≡ all
   start_right all right same = goes_on _ _ _ all starts_rules right same
 
-  pub start_err : (all : Option Rule) → broken_processes scope (starts_in words word (drop i list)) ≡ all → (e : OrMemory ElabFault) →
+  pub start_err : (all : Option ElabFault) → broken_processes scope (starts_in words word (drop i list)) ≡ all → (e : OrMemory ElabFault) →
       Because (IsBroken (broken_processes scope (starts_in words word (x ∷ [])))) e → Because (IsBroken all) e
   start_err all same = stops_at _ _ _ all starts_rules same
 
@@ -125,28 +123,28 @@ module _ (words : List Text) (scope : Scope) (list : List Setting) (i : ℕ) (x 
       option_or (broken_processes scope (drives_in words (x ∷ []))) (broken_processes scope (drives_in words (drop (i + 1) list)))
   drives_rules = ap (broken_processes scope) (drives_open words list i x within is) ∙ broken_split scope (drives_in words (x ∷ [])) (drives_in words (drop (i + 1) list))
 
-  pub drive_right : (all : Option Rule) → broken_processes scope (drives_in words (x ∷ [])) ≡ None → broken_processes scope (drives_in words (drop i list)) ≡ all →
+  pub drive_right : (all : Option ElabFault) → broken_processes scope (drives_in words (x ∷ [])) ≡ None → broken_processes scope (drives_in words (drop i list)) ≡ all →
       broken_processes scope (drives_in words (drop (i + 1) list)) ≡ all
   drive_right all right same = goes_on _ _ _ all drives_rules right same
 
-  pub drive_err : (all : Option Rule) → broken_processes scope (drives_in words (drop i list)) ≡ all → (e : OrMemory ElabFault) →
+  pub drive_err : (all : Option ElabFault) → broken_processes scope (drives_in words (drop i list)) ≡ all → (e : OrMemory ElabFault) →
       Because (IsBroken (broken_processes scope (drives_in words (x ∷ [])))) e → Because (IsBroken all) e
   drive_err all same = stops_at _ _ _ all drives_rules same
 
 -- ---- items, each in the scope of its place
 
 -- so many items are laid: what is left leads to the same as all of them from the start
-pub record LeadItems (scope : Scope) (now : List Action) (before : List (List ℕ)) (left : List ItemTree) (all : Processes) : Type 0 where
+pub record LeadItems (scope : Scope) (now : Table) (before : List (List ℕ)) (left : List ItemTree) (all : Processes) : Type 0 where
   pub table : (laid_items scope now left).table ≡ all.table
   pub begins : before ++ (laid_items scope now left).begins ≡ all.begins
 
 -- nothing is laid so far
-pub items_start : (scope : Scope) (table : List Action) (before : List (List ℕ)) (items : List ItemTree) →
+pub items_start : (scope : Scope) (table : Table) (before : List (List ℕ)) (items : List ItemTree) →
     LeadItems scope table before items (behind before (laid_items scope table items))
 items_start scope table before items = record { table = refl; begins = refl }
 
 -- none is left, behind those that there were
-pub items_behind : (scope : Scope) (table : List Action) (before begins : List (List ℕ)) (what : Processes) →
+pub items_behind : (scope : Scope) (table : Table) (before begins : List (List ℕ)) (what : Processes) →
     LeadItems scope table begins [] (behind before what) → AreLaid what before table begins
 items_behind scope table before begins what lead = record { table = lead.table; begins = sym (append-nil begins) ∙ lead.begins }
 
@@ -154,7 +152,7 @@ module _ (words : List Text) (scope : Scope) (items : List ModuleItem) (i : ℕ)
   items_open : map (item_tree words) (drop i items) ≡ item_tree words x ∷ map (item_tree words) (drop (i + 1) items)
   items_open = ap (λ (l : List ModuleItem). map (item_tree words) l) (drop_at items i x within is)
 
-  pub item_step : (known : ℕ) (now after : List Action) (begins begins_after : List (List ℕ)) (all : Processes) →
+  pub item_step : (known : ℕ) (now after : Table) (begins begins_after : List (List ℕ)) (all : Processes) →
       AreLaid (laid_processes (at scope known) now (process_trees_by (item_tree words x))) begins after begins_after →
       LeadItems (at scope known) now begins (map (item_tree words) (drop i items)) all →
       LeadItems (at scope (known + length (given_by (item_tree words x)))) after begins_after (map (item_tree words) (drop (i + 1) items)) all
@@ -164,19 +162,19 @@ module _ (words : List Text) (scope : Scope) (items : List ModuleItem) (i : ℕ)
       let front : Processes = laid_processes (at scope known) now (process_trees_by (item_tree words x)) in
       let here : LeadItems (at scope known) now begins (item_tree words x ∷ rest) all = subst (λ (l : List ItemTree). LeadItems (at scope known) now begins l all) items_open lead in
       record {
-        table = ap (λ (t : List Action). (laid_items later t rest).table) put.table ∙ here.table;
-        begins = ap (λ (t : List Action). begins_after ++ (laid_items later t rest).begins) put.table
+        table = ap (λ (t : Table). (laid_items later t rest).table) put.table ∙ here.table;
+        begins = ap (λ (t : Table). begins_after ++ (laid_items later t rest).begins) put.table
             ∙ ap (λ (b : List (List ℕ)). b ++ (laid_items later front.table rest).begins) put.begins
             ∙ append_assoc begins front.begins (laid_items later front.table rest).begins
             ∙ here.begins;
       }
 
-  pub item_right : (known : ℕ) (all : Option Rule) → broken_processes (at scope known) (process_trees_by (item_tree words x)) ≡ None →
+  pub item_right : (known : ℕ) (all : Option ElabFault) → broken_processes (at scope known) (process_trees_by (item_tree words x)) ≡ None →
       broken_items_from (at scope known) (map (item_tree words) (drop i items)) ≡ all →
       broken_items_from (at scope (known + length (given_by (item_tree words x)))) (map (item_tree words) (drop (i + 1) items)) ≡ all
   item_right known all right same = goes_on _ _ _ all (ap (broken_items_from (at scope known)) items_open) right same
 
-  pub item_err : (known : ℕ) (all : Option Rule) → broken_items_from (at scope known) (map (item_tree words) (drop i items)) ≡ all → (e : OrMemory ElabFault) →
+  pub item_err : (known : ℕ) (all : Option ElabFault) → broken_items_from (at scope known) (map (item_tree words) (drop i items)) ≡ all → (e : OrMemory ElabFault) →
       Because (IsBroken (broken_processes (at scope known) (process_trees_by (item_tree words x)))) e → Because (IsBroken all) e
   item_err known all same = stops_at _ _ _ all (ap (broken_items_from (at scope known)) items_open) same
 
@@ -190,43 +188,43 @@ module _ (words : List Text) (scope : Scope) (items : List ModuleItem) (i : ℕ)
 
 -- ---- port connections, one after another
 
-pub record LeadJoins (outer inner : Scope) (ties : List ConnectionTree) (now : List Action) (before : List (List ℕ)) (left : List Port) (all : Processes) : Type 0 where
-  pub table : (laid_joins outer inner ties now left).table ≡ all.table
-  pub begins : before ++ (laid_joins outer inner ties now left).begins ≡ all.begins
+pub record LeadJoins (whose : Word) (outer inner : Scope) (ties : List Tied) (now : Table) (before : List (List ℕ)) (left : List Port) (all : Processes) : Type 0 where
+  pub table : (laid_joins whose outer inner ties now left).table ≡ all.table
+  pub begins : before ++ (laid_joins whose outer inner ties now left).begins ≡ all.begins
 
-pub joins_start : (outer inner : Scope) (ties : List ConnectionTree) (table : List Action) (before : List (List ℕ)) (left : List Port) →
-    LeadJoins outer inner ties table before left (behind before (laid_joins outer inner ties table left))
-joins_start outer inner ties table before left = record { table = refl; begins = refl }
+pub joins_start : (whose : Word) (outer inner : Scope) (ties : List Tied) (table : Table) (before : List (List ℕ)) (left : List Port) →
+    LeadJoins whose outer inner ties table before left (behind before (laid_joins whose outer inner ties table left))
+joins_start whose outer inner ties table before left = record { table = refl; begins = refl }
 
-pub joins_behind : (outer inner : Scope) (ties : List ConnectionTree) (table : List Action) (before begins : List (List ℕ)) (what : Processes) →
-    LeadJoins outer inner ties table begins [] (behind before what) → AreLaid what before table begins
-joins_behind outer inner ties table before begins what lead = record { table = lead.table; begins = sym (append-nil begins) ∙ lead.begins }
+pub joins_behind : (whose : Word) (outer inner : Scope) (ties : List Tied) (table : Table) (before begins : List (List ℕ)) (what : Processes) →
+    LeadJoins whose outer inner ties table begins [] (behind before what) → AreLaid what before table begins
+joins_behind whose outer inner ties table before begins what lead = record { table = lead.table; begins = sym (append-nil begins) ∙ lead.begins }
 
-module _ (words : List Text) (outer inner : Scope) (ties : List ConnectionTree) (ports : List PortForm) (i : ℕ) (x : PortForm) (within : i < length ports) (is : x ≡ get_or ports i x) where
+module _ (words : List Text) (whose : Word) (outer inner : Scope) (ties : List Tied) (ports : List PortForm) (i : ℕ) (x : PortForm) (within : i < length ports) (is : x ≡ get_or ports i x) where
   ports_open : map (port_form words) (drop i ports) ≡ port_form words x ∷ map (port_form words) (drop (i + 1) ports)
   ports_open = ap (λ (l : List PortForm). map (port_form words) l) (drop_at ports i x within is)
 
-  pub join_step : (now after : List Action) (begins begins_after : List (List ℕ)) (all : Processes) →
-      AreLaid (laid_join outer inner now (port_form words x) (value_for ties (port_form words x).name)) begins after begins_after →
-      LeadJoins outer inner ties now begins (map (port_form words) (drop i ports)) all →
-      LeadJoins outer inner ties after begins_after (map (port_form words) (drop (i + 1) ports)) all
+  pub join_step : (now after : Table) (begins begins_after : List (List ℕ)) (all : Processes) →
+      AreLaid (laid_join whose outer inner now (port_form words x) (value_for ties (port_form words x).name.letters)) begins after begins_after →
+      LeadJoins whose outer inner ties now begins (map (port_form words) (drop i ports)) all →
+      LeadJoins whose outer inner ties after begins_after (map (port_form words) (drop (i + 1) ports)) all
   join_step now after begins begins_after all put lead =
       let rest : List Port = map (port_form words) (drop (i + 1) ports) in
-      let front : Processes = laid_join outer inner now (port_form words x) (value_for ties (port_form words x).name) in
-      let here : LeadJoins outer inner ties now begins (port_form words x ∷ rest) all = subst (λ (l : List Port). LeadJoins outer inner ties now begins l all) ports_open lead in
+      let front : Processes = laid_join whose outer inner now (port_form words x) (value_for ties (port_form words x).name.letters) in
+      let here : LeadJoins whose outer inner ties now begins (port_form words x ∷ rest) all = subst (λ (l : List Port). LeadJoins whose outer inner ties now begins l all) ports_open lead in
       record {
-        table = ap (λ (t : List Action). (laid_joins outer inner ties t rest).table) put.table ∙ here.table;
-        begins = ap (λ (t : List Action). begins_after ++ (laid_joins outer inner ties t rest).begins) put.table
-            ∙ ap (λ (b : List (List ℕ)). b ++ (laid_joins outer inner ties front.table rest).begins) put.begins
-            ∙ append_assoc begins front.begins (laid_joins outer inner ties front.table rest).begins
+        table = ap (λ (t : Table). (laid_joins whose outer inner ties t rest).table) put.table ∙ here.table;
+        begins = ap (λ (t : Table). begins_after ++ (laid_joins whose outer inner ties t rest).begins) put.table
+            ∙ ap (λ (b : List (List ℕ)). b ++ (laid_joins whose outer inner ties front.table rest).begins) put.begins
+            ∙ append_assoc begins front.begins (laid_joins whose outer inner ties front.table rest).begins
             ∙ here.begins;
       }
 
-  pub join_right : (all : Option Rule) → broken_join outer inner (port_form words x) (value_for ties (port_form words x).name) ≡ None →
-      broken_joins outer inner ties (map (port_form words) (drop i ports)) ≡ all →
-      broken_joins outer inner ties (map (port_form words) (drop (i + 1) ports)) ≡ all
-  join_right all right same = goes_on _ _ _ all (ap (broken_joins outer inner ties) ports_open) right same
+  pub join_right : (all : Option ElabFault) → broken_join whose outer inner (port_form words x) (value_for ties (port_form words x).name.letters) ≡ None →
+      broken_joins whose outer inner ties (map (port_form words) (drop i ports)) ≡ all →
+      broken_joins whose outer inner ties (map (port_form words) (drop (i + 1) ports)) ≡ all
+  join_right all right same = goes_on _ _ _ all (ap (broken_joins whose outer inner ties) ports_open) right same
 
-  pub join_err : (all : Option Rule) → broken_joins outer inner ties (map (port_form words) (drop i ports)) ≡ all → (e : OrMemory ElabFault) →
-      Because (IsBroken (broken_join outer inner (port_form words x) (value_for ties (port_form words x).name))) e → Because (IsBroken all) e
-  join_err all same = stops_at _ _ _ all (ap (broken_joins outer inner ties) ports_open) same
+  pub join_err : (all : Option ElabFault) → broken_joins whose outer inner ties (map (port_form words) (drop i ports)) ≡ all → (e : OrMemory ElabFault) →
+      Because (IsBroken (broken_join whose outer inner (port_form words x) (value_for ties (port_form words x).name.letters))) e → Because (IsBroken all) e
+  join_err all same = stops_at _ _ _ all (ap (broken_joins whose outer inner ties) ports_open) same

@@ -3,50 +3,44 @@ use Rattle.std.proofs.Common.{◌≡◌, ◌<◌, ◌≤◌, ℕ, ◌+◌, None,
 use Rattle.std.proofs.Math.ListN.{drop_of_length-le}
 use Rattle.std.specs.Option.{option_or}
 use Rattle.vast.specs.Words.{Text}
-use Rattle.vast.specs.Statements.{StatementTrees, block, first_statement, no_statement}
-use Rattle.vast.specs.StatementTrees.{statement_tree, statement_trees}
+use Rattle.vast.specs.NumberedStatements.{StatementTrees, block, first_statement, no_statement}
+use Rattle.vast.specs.NumberedTrees.{statement_tree, statement_trees}
 use Rattle.vast.specs.declared.statement.Statement.{Statement, Block}
-use Rattle.vast.proofs.WholeTreeLemmas.{tree_of_whole_block}
+use Rattle.vast.specs.NumberedWords.{Word, numbered}
+use Rattle.vast.proofs.ToldTrees.{told_block}
+use Rattle.velab.specs.declared.fault.ElabFault.{ElabFault}
 use Rattle.vdesign.specs.declared.action.Action.{Action}
 use Rattle.basis.specs.declared.memory.OrMemory.{OrMemory}
-use Rattle.velab.specs.declared.fault.ElabFault.{ElabFault}
-use Rattle.velab.specs.Elaborate.{Laid, placed, nothing_laid, laid, all_laid, broken_in, broken_in_all}
-use Rattle.velab.specs.declared.fault.Rule.{Rule}
+use Rattle.velab.specs.Rules.{number_in}
+use Rattle.velab.specs.Elaborate.{Table, with_numbered, placed, Laid, laid, all_laid, broken_in, broken_in_all}
 use Rattle.velab.specs.Scopes.{Scope}
 use Rattle.velab.specs.Inner.{IsLaid}
 use Rattle.velab.proofs.ListLemmas.{drop_at}
 
 -- one action was put at the next place
-pub put_gives : (result : Result (Unit {0}) (OrMemory ElabFault)) (table after : List Action) (places more : List ℕ) (a : Action) (wanted : Laid) →
-    OnOk result (after ≡ table ++ a ∷ []) → OnOk result (more ≡ places ++ length table ∷ []) → wanted ≡ placed table a →
+pub put_gives : (result : Result (Unit {0}) (OrMemory ElabFault)) (table after : Table) (places more : List ℕ) (number : Option ℕ) (word : Option Word) (a : Action) (wanted : Laid) →
+    OnOk result (after ≡ with_numbered table number a) → OnOk result (more ≡ places ++ length table.actions ∷ []) → number ≡ number_in word → wanted ≡ placed table word a →
     OnOk result (IsLaid wanted places after more)
-put_gives (Ok u) table after places more a wanted is at gives = record {
-  table = is ∙ sym (ap (λ (x : Laid). x.table) gives);
+put_gives (Ok u) table after places more number word a wanted is at numbered gives = record {
+  table = is ∙ ap (λ n. with_numbered table n a) numbered ∙ sym (ap (λ (x : Laid). x.table) gives);
   places = at ∙ sym (ap (λ (x : Laid). places ++ x.places) gives);
 }
-put_gives (Err e) table after places more a wanted is at gives = tt
-
--- nothing was put
-pub nothing_gives : (table : List Action) (places : List ℕ) (wanted : Laid) → wanted ≡ nothing_laid table → IsLaid wanted places table places
-nothing_gives table places wanted gives = record {
-  table = sym (ap (λ (x : Laid). x.table) gives);
-  places = sym (ap (λ (x : Laid). places ++ x.places) gives ∙ append-nil places);
-}
+put_gives (Err e) table after places more number word a wanted is at numbered gives = tt
 
 -- ---- the statements of a block
 
 module _ (words : List Text) (scope : Scope) (statement : Statement) (statements : Vec Statement Global) (items : List Statement) (is : statement ≡ Block statements) (same : items ≡ statements.items) where
   pub block_trees : statement_tree words statement ≡ block (statement_trees words items)
-  block_trees = ap (statement_tree words) is ∙ tree_of_whole_block words statements ∙ ap (λ (xs : List Statement). block (statement_trees words xs)) (sym same)
+  block_trees = ap (statement_tree words) is ∙ told_block (numbered words) statements ∙ ap (λ (xs : List Statement). block (statement_trees words xs)) (sym same)
 
-  pub block_laid : (table : List Action) → all_laid scope table (statement_trees words items) ≡ laid scope table (statement_tree words statement)
+  pub block_laid : (table : Table) → all_laid scope table (statement_trees words items) ≡ laid scope table (statement_tree words statement)
   block_laid table = sym (ap (laid scope table) block_trees)
 
   pub block_broken : broken_in_all scope (statement_trees words items) ≡ broken_in scope (statement_tree words statement)
   block_broken = sym (ap (broken_in scope) block_trees)
 
 -- so much of a block is laid: what is left leads to the same as all of it from the start
-pub record Leads (scope : Scope) (now : List Action) (before : List ℕ) (left : StatementTrees) (all : Laid) (begun : List ℕ) : Type 0 where
+pub record Leads (scope : Scope) (now : Table) (before : List ℕ) (left : StatementTrees) (all : Laid) (begun : List ℕ) : Type 0 where
   pub table : (all_laid scope now left).table ≡ all.table
   pub places : before ++ (all_laid scope now left).places ≡ begun ++ all.places
 
@@ -55,7 +49,7 @@ module _ (words : List Text) (scope : Scope) (xs : List Statement) (i : ℕ) whe
     pub opened : statement_trees words (drop i xs) ≡ first_statement (statement_tree words x) (statement_trees words (drop (i + 1) xs))
     opened = ap (statement_trees words) (drop_at xs i x within is)
 
-    pub laid_step : (table table_after : List Action) (places places_after : List ℕ) (all : Laid) (begun : List ℕ) →
+    pub laid_step : (table table_after : Table) (places places_after : List ℕ) (all : Laid) (begun : List ℕ) →
         IsLaid (laid scope table (statement_tree words x)) places table_after places_after →
         Leads scope table places (statement_trees words (drop i xs)) all begun →
         Leads scope table_after places_after (statement_trees words (drop (i + 1) xs)) all begun
@@ -64,18 +58,18 @@ module _ (words : List Text) (scope : Scope) (xs : List Statement) (i : ℕ) whe
         let front : Laid = laid scope table (statement_tree words x) in
         let here : Leads scope table places (first_statement (statement_tree words x) rest) all begun = subst (λ (t : StatementTrees). Leads scope table places t all begun) opened leads in
         record {
-          table = ap (λ (t : List Action). (all_laid scope t rest).table) put.table ∙ here.table;
-          places = ap (λ (t : List Action). places_after ++ (all_laid scope t rest).places) put.table
+          table = ap (λ (t : Table). (all_laid scope t rest).table) put.table ∙ here.table;
+          places = ap (λ (t : Table). places_after ++ (all_laid scope t rest).places) put.table
               ∙ ap (λ (p : List ℕ). p ++ (all_laid scope front.table rest).places) put.places
               ∙ append_assoc places front.places (all_laid scope front.table rest).places
               ∙ here.places;
         }
 
-    pub right_step : (all : Option Rule) → broken_in scope (statement_tree words x) ≡ None → broken_in_all scope (statement_trees words (drop i xs)) ≡ all → broken_in_all scope (statement_trees words (drop (i + 1) xs)) ≡ all
+    pub right_step : (all : Option ElabFault) → broken_in scope (statement_tree words x) ≡ None → broken_in_all scope (statement_trees words (drop i xs)) ≡ all → broken_in_all scope (statement_trees words (drop (i + 1) xs)) ≡ all
     right_step all right same =
         sym (ap (λ b. option_or b (broken_in_all scope (statement_trees words (drop (i + 1) xs)))) right) ∙ sym (ap (broken_in_all scope) opened) ∙ same
 
-  pub laid_end : (table : List Action) (places : List ℕ) (all : Laid) (begun : List ℕ) → length xs ≤ i →
+  pub laid_end : (table : Table) (places : List ℕ) (all : Laid) (begun : List ℕ) → length xs ≤ i →
       Leads scope table places (statement_trees words (drop i xs)) all begun → IsLaid all begun table places
   laid_end table places all begun end leads =
       let here : Leads scope table places no_statement all begun =

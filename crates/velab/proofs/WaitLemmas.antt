@@ -1,7 +1,7 @@
 -- What a block reads is what its statements read.
 use Rattle.std.proofs.Common.{◌≡◌, List, Vec, Global, sym, ap}
 use Rattle.vast.specs.Words.{Text}
-use Rattle.vast.specs.StatementTrees.{statement_tree, statement_trees}
+use Rattle.vast.specs.NumberedTrees.{statement_tree, statement_trees}
 use Rattle.vast.specs.declared.statement.Statement.{Statement, Block}
 use Rattle.velab.specs.Scopes.{Scope}
 use Rattle.velab.specs.Waits.{read_by, read_by_all}

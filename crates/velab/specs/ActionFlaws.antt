@@ -1,5 +1,5 @@
 -- What is wrong with the expressions of actions (IEEE 1364-2005, 5.1.14, 5.2.1): their sizes, and bits of what has none.
-use Rattle.std.specs.Prelude.{List, [], ◌∷◌, map, Option, None}
+use Rattle.std.specs.Prelude.{ℕ, List, [], ◌∷◌, map, drop, slice_get, Option, None, option_map, option_and_then}
 use Rattle.std.specs.Option.{option_or}
 use Rattle.vbits.specs.declared.bit4.Bit4.TheVariants.{X}
 use Rattle.vbits.specs.Vectors.{Vector, filled}
@@ -14,6 +14,9 @@ use Rattle.vdesign.specs.Expressions.{ExpressionTree}
 use Rattle.vvalue.specs.Value.{Moment}
 use Rattle.vvalue.specs.Flaws.{flaw_of, targets_flaw}
 use Rattle.vvalue.specs.declared.flaw.Flaw.{Flaw}
+use Rattle.velab.specs.Rules.{rule_of}
+use Rattle.velab.specs.declared.fault.Rule.{Rule}
+use Rattle.velab.specs.declared.fault.ElabFault.{ElabFault}
 
 -- each of its bits is x: a size never depends on a value
 abbrev pub blank : Variable → Vector
@@ -60,5 +63,15 @@ action_flaw now Pass = None
 action_flaw now Finish = None
 action_flaw now Stop = None
 
-abbrev pub table_flaw : Moment → List Action → Option Flaw
-table_flaw now table = first_of (action_flaw now) table
+-- ---- faults of a table, each told by the word of its action
+
+-- the first action that breaks a rule; beside the actions stand the numbers of their words
+abbrev pub table_fault : (Action → Option Rule) → List Action → List (Option ℕ) → Option ElabFault
+table_fault rule [] words = None
+table_fault rule (action ∷ more) words =
+    option_or (option_map (λ r. record { rule = r; at = option_and_then (λ w. w) (slice_get words 0) }) (rule action))
+    (table_fault rule more (drop 1 words))
+
+-- whether an expression of it is wrong
+abbrev pub flaw_rule : Moment → Action → Option Rule
+flaw_rule now action = option_map rule_of (action_flaw now action)

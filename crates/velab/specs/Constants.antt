@@ -1,5 +1,5 @@
 -- Constants that bounds and counts are (IEEE 1364-2005, 4.3.1, 4.10, 5.1.14, 5.2.1): expressions without variables.
-use Rattle.std.specs.Prelude.{ℕ, nat_le, Bool, cond, [], Option, None, Some, unwrap_or, option_and_then}
+use Rattle.std.specs.Prelude.{ℕ, nat_le, Bool, if◌then◌else◌, [], Option, None, Some, unwrap_or, option_and_then}
 use Rattle.std.specs.Option.{option_or}
 use Rattle.vbits.specs.Letters.{is_one}
 use Rattle.vbits.specs.Numbers as numbers
@@ -8,8 +8,9 @@ use Rattle.vdesign.specs.Expressions.{ExpressionTree}
 use Rattle.vdesign.specs.declared.expression.Bounds.{Bounds}
 use Rattle.vvalue.specs.Value.{Moment, by_itself}
 use Rattle.vvalue.specs.Flaws.{flaw_of}
-use Rattle.velab.specs.Rules.{flaw_rule}
-use Rattle.velab.specs.declared.fault.Rule.{Rule}
+use Rattle.vast.specs.NumberedWords.{Word}
+use Rattle.velab.specs.Rules.{flaw_fault}
+use Rattle.velab.specs.declared.fault.ElabFault.{ElabFault}
 
 -- there are no variables
 abbrev pub nothing : Moment
@@ -19,9 +20,9 @@ nothing = record { values = []; variables = []; time = 0; factor = 1 }
 abbrev pub worth : ExpressionTree → Vector
 worth tree = by_itself nothing tree
 
--- the rule that an expression breaks by its names, or else by its sizes
-abbrev pub also_flawed : Option Rule → ExpressionTree → Option Rule
-also_flawed rule tree = option_or rule (flaw_rule (flaw_of nothing tree))
+-- what an expression breaks by its names, or else by its sizes, which is told by its first word
+abbrev pub also_flawed : Option ElabFault → Option Word → ExpressionTree → Option ElabFault
+also_flawed broken word tree = option_or broken (flaw_fault (flaw_of nothing tree) word)
 
 abbrev pub is_negative : Vector → Bool
 is_negative value = is_one (sign_letter value)
@@ -29,8 +30,8 @@ is_negative value = is_one (sign_letter value)
 -- 0 to 65535, where the value is known and not negative
 abbrev pub bound_in : Vector → Option ℕ
 bound_in value =
-    cond (is_negative value) None
-    (option_and_then (λ n. cond (nat_le n 65535) (Some n) None) (numbers.number value.letters))
+    if is_negative value then None
+    else option_and_then (λ n. if nat_le n 65535 then Some n else None) (numbers.number value.letters)
 
 -- of a part: 65536, which is no bound, stands for what is none
 abbrev pub part_bounds : Vector → Vector → Bounds

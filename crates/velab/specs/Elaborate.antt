@@ -1,5 +1,5 @@
 -- What an instance of a module adds to a design (IEEE 1364-2005, clause 12): its names, its variables and its processes.
-use Rattle.std.specs.Prelude.{◌≡◌, ℕ, ◌+◌, ◌-◌, max, min, nat_le, nat_lt, Bool, true, false, ◌||◌, cond, List, [], ◌∷◌, ◌++◌, map, length, Option, None, Some, is_some, unwrap_or, option_map}
+use Rattle.std.specs.Prelude.{◌≡◌, ℕ, ◌+◌, ◌-◌, max, min, nat_le, nat_lt, Bool, true, false, ◌||◌, if◌then◌else◌, List, [], ◌∷◌, ◌++◌, map, length, Option, None, Some, is_some, unwrap_or, option_map}
 use Rattle.std.specs.List.{filter, list_any, list_all, flat_map, filter_map, find}
 use Rattle.std.specs.Option.{option_or}
 use Rattle.std.specs.Borrow.{Bor}
@@ -7,14 +7,15 @@ use Rattle.std.specs.Str.{bytes_eq}
 use Rattle.vbits.specs.declared.bit4.Bit4.TheVariants.{X, Z}
 use Rattle.vbits.specs.declared.bit4.Bit4.{Bit4}
 use Rattle.vast.specs.Words.{Text}
-use Rattle.vast.specs.Expressions as text
-use Rattle.vast.specs.Statements.{TargetTree, DelayTree, by_number, by_name, by_value, TaskTree, print, dump_file, dump_vars, dump, end_run, StatementTree, StatementTrees, empty, block, assign, nonblocking, trigger, if_true, if_else, case_of, while_true, repeat_times, forever, for_loop, wait_for, delay, event, task, no_statement, first_statement, BranchTree, BranchTrees, labelled, default, no_branch, first_branch}
-use Rattle.vast.specs.Statements as written
+use Rattle.vast.specs.NumberedWords.{Word}
+use Rattle.vast.specs.NumberedExpressions as text
+use Rattle.vast.specs.NumberedStatements.{TargetTree, DelayTree, by_number, by_name, by_value, TaskTree, print, dump_file, dump_vars, dump, end_run, StatementTree, StatementTrees, empty, block, assign, nonblocking, trigger, if_true, if_else, case_of, while_true, repeat_times, forever, for_loop, wait_for, delay, event, task, no_statement, first_statement, BranchTree, BranchTrees, labelled, default, no_branch, first_branch}
+use Rattle.vast.specs.NumberedStatements as written
 use Rattle.vbits.specs.Vectors.{Vector, with_sign}
 use Rattle.vmodules.specs.Ports.{Port, ports_of}
-use Rattle.vmodules.specs.Connected.{value_for}
-use Rattle.vmodules.specs.Names.{is_declared}
-use Rattle.vast.specs.Modules.{ConnectionTree, RangeTree, ParameterType, integer, typed, HeadParameter, DeclarationKind, variables, integers, SettingTree, DeclaredTree, ItemTree, parameters, declaration, events, assignments, initial, always, instances, ModuleTree, SourceTree}
+use Rattle.vmodules.specs.Connected.{Tied, value_for}
+use Rattle.vmodules.specs.Names.{is_declared, letters_of}
+use Rattle.vast.specs.NumberedModules.{RangeTree, ParameterType, integer, typed, HeadParameter, DeclarationKind, variables, integers, SettingTree, DeclaredTree, ItemTree, parameters, declaration, events, assignments, initial, always, instances, ModuleTree, SourceTree}
 use Rattle.vast.specs.declared.module.NetKind.{NetKind}
 use Rattle.vast.specs.declared.module.NetKind.TheVariants as net
 use Rattle.vdesign.specs.Design as design
@@ -33,30 +34,29 @@ use Rattle.vdesign.specs.declared.expression.Bounds.{Bounds}
 use Rattle.vdesign.specs.Expressions.{ExpressionTree}
 use Rattle.vvalue.specs.Value.{right_side}
 use Rattle.vvalue.specs.declared.flaw.Flaw.{Flaw}
-use Rattle.velab.specs.declared.fault.Rule.{Rule}
+use Rattle.velab.specs.declared.fault.ElabFault.{ElabFault}
 use Rattle.velab.specs.declared.fault.Rule.TheVariants as rule
 use Rattle.velab.specs.declared.scope.Meaning.{Meaning}
 use Rattle.velab.specs.declared.scope.Meaning.TheVariants.{Parameter, Event, Instance}
-use Rattle.velab.specs.Rules.{unless, broken_if, flaw_rule}
+use Rattle.velab.specs.FirstWords.{first_in, first_target, first_delay, first_argument}
+use Rattle.velab.specs.Rules.{told, number_in, unless, broken_if}
 use Rattle.velab.specs.Scopes.{Scope, at, number_of, event_of, broken_name, broken_variable, broken_event}
 use Rattle.velab.specs.Constants.{nothing, worth, bound_in}
 use Rattle.velab.specs.Resolved.{resolved, broken_expression, broken_constant}
 use Rattle.velab.specs.Written.{row_of, broken_target}
 use Rattle.velab.specs.Prints.{when_of, pieces_in, broken_line}
-use Rattle.velab.specs.Right.{writes_rightly}
-use Rattle.velab.specs.ActionFlaws.{blank_moment, table_flaw}
 use Rattle.velab.specs.Waits.{any_of, names_in, terms_of, broken_control}
 
 -- ---- variables (4.2, 4.3.1, 4.8)
 
 pub record Declaration : Type 0 where
-  pub name : Text
+  pub name : Word
   pub kind : Kind
   pub signed : Bool
   pub range : Option RangeTree
 
-abbrev pub declared : Kind → Bool → Option RangeTree → Text → Declaration
-declared kind signed range text = record { name = text; kind = kind; signed = signed; range = range }
+abbrev pub declared : Kind → Bool → Option RangeTree → Word → Declaration
+declared kind signed range name = record { name = name; kind = kind; signed = signed; range = range }
 
 -- the name of each, declared as of this kind, with this sign and this range
 abbrev pub all_declared : Kind → Bool → Option RangeTree → List DeclaredTree → List Declaration
@@ -84,11 +84,11 @@ declarations_of (instances letters overrides list) = []
 abbrev pub declarations : ModuleTree → List Declaration
 declarations m = flat_map declarations_of m.items
 
-abbrev pub port_names : ModuleTree → List Text
+abbrev pub port_names : ModuleTree → List Word
 port_names m = map (λ p. p.name) (ports_of m)
 
 -- those of its ports, and then of what its items declare
-abbrev pub declared_names : ModuleTree → List Text
+abbrev pub declared_names : ModuleTree → List Word
 declared_names m = port_names m ++ map (λ d. d.name) (declarations m)
 
 -- 12.3.3: a port is declared where it stands
@@ -107,21 +107,21 @@ abbrev pub bounds_of : Scope → RangeTree → Bounds
 bounds_of scope range = record { left = bound_of scope range.left; right = bound_of scope range.right }
 
 -- 4.3.1
-abbrev pub broken_bound : Scope → text.ExpressionTree → Option Rule
-broken_bound scope tree = option_or (broken_constant scope tree) (unless (is_some (bound_in (worth (resolved scope tree)))) rule.Width)
+abbrev pub broken_bound : Scope → text.ExpressionTree → Option ElabFault
+broken_bound scope tree = option_or (broken_constant scope tree) (unless (is_some (bound_in (worth (resolved scope tree)))) rule.Width (first_in tree))
 
 -- two bounds, and at most 64 bits from one to the other
-abbrev pub broken_range : Scope → Option RangeTree → Option Rule
+abbrev pub broken_range : Scope → Option RangeTree → Option ElabFault
 broken_range scope None = None
 broken_range scope (Some range) =
     option_or (broken_bound scope range.left)
-    (option_or (broken_bound scope range.right) (unless (nat_le (span (bounds_of scope range)) 64) rule.Width))
+    (option_or (broken_bound scope range.right) (unless (nat_le (span (bounds_of scope range)) 64) rule.Width (first_in range.left)))
 
-abbrev pub broken_kind : Scope → DeclarationKind → Option Rule
+abbrev pub broken_kind : Scope → DeclarationKind → Option ElabFault
 broken_kind scope (variables word type) = broken_range scope type.range
 broken_kind scope integers = None
 
-abbrev pub broken_declaration : Scope → ItemTree → Option Rule
+abbrev pub broken_declaration : Scope → ItemTree → Option ElabFault
 broken_declaration scope (parameters local type settings) = None
 broken_declaration scope (declaration kind list) = broken_kind scope kind
 broken_declaration scope (events names) = None
@@ -130,7 +130,7 @@ broken_declaration scope (initial statement) = None
 broken_declaration scope (always statement) = None
 broken_declaration scope (instances letters overrides list) = None
 
-abbrev pub broken_ports : Scope → List Port → Option Rule
+abbrev pub broken_ports : Scope → List Port → Option ElabFault
 broken_ports scope [] = None
 broken_ports scope (p ∷ more) = option_or (broken_range scope p.type.range) (broken_ports scope more)
 
@@ -150,7 +150,7 @@ pub record Home : Type 0 where
 abbrev pub start_by : Home → Kind → Text → Bit4
 start_by home Reg text = X
 start_by home Integer text = X
-start_by home Wire text = cond (is_declared home.driven text) X Z
+start_by home Wire text = if is_declared home.driven text then X else Z
 
 -- its name stands behind its instance's and a dot
 abbrev pub variable_by : Home → Kind → Bool → Option Bounds → Text → design.Variable
@@ -164,19 +164,19 @@ variable_by home kind signed bounds text = record {
 }
 
 abbrev pub variable_of : Home → Scope → Declaration → design.Variable
-variable_of home scope d = variable_by home d.kind d.signed (option_map (bounds_of scope) d.range) d.name
+variable_of home scope d = variable_by home d.kind d.signed (option_map (bounds_of scope) d.range) d.name.letters
 
 -- a net that is declared with a value is driven by it (6.1.1)
-abbrev pub driver_of : DeclaredTree → Option Text
+abbrev pub driver_of : DeclaredTree → Option Word
 driver_of declared = option_map (λ value. declared.name) declared.value
 
-abbrev pub drivers_as : DeclarationKind → List DeclaredTree → List Text
+abbrev pub drivers_as : DeclarationKind → List DeclaredTree → List Word
 drivers_as (variables net.Wire type) list = filter_map driver_of list
 drivers_as (variables net.Reg type) list = []
 drivers_as integers list = []
 
 -- the names that an item drives, as often as it does (6.1)
-abbrev pub drivers_by : ItemTree → List Text
+abbrev pub drivers_by : ItemTree → List Word
 drivers_by (parameters local type settings) = []
 drivers_by (declaration kind list) = drivers_as kind list
 drivers_by (events names) = []
@@ -192,7 +192,7 @@ is_wire Wire = true
 
 -- the nets among what is declared (4.2.1)
 abbrev pub net_names : List Declaration → List Text
-net_names list = map (λ d. d.name) (filter (λ d. is_wire d.kind) list)
+net_names list = map (λ d. d.name.letters) (filter (λ d. is_wire d.kind) list)
 
 -- those of ports, and of what items declare
 abbrev pub nets_of : List Port → List ItemTree → List Text
@@ -203,13 +203,13 @@ nets_of ports items = net_names (map port_declaration ports ++ flat_map declarat
 -- a parameter as it is written, with its type where one is; a named event; an instance
 pub data Given : Type 0 where
   given : Option ParameterType → SettingTree → Given
-  event_given : Text → Given
-  instance_given : Text → Given
+  event_given : Word → Given
+  instance_given : Word → Given
 
 -- what is said of the parameters of an instance from outside, by their names, and what names mean there (12.2.2)
 pub record Outside : Type 0 where
   pub scope : Scope
-  pub values : List ConnectionTree
+  pub values : List Tied
 
 -- in the head of a module one without a type has that of the one before it
 abbrev pub given_behind : Option ParameterType → List HeadParameter → List Given
@@ -256,7 +256,7 @@ parameter_by None bounds value = worth value
 parameter_by (Some integer) bounds value = with_sign (right_side nothing 32 value) true
 parameter_by (Some (typed type)) bounds value = typed_value type.signed bounds value
 
-abbrev pub broken_type : Scope → Option ParameterType → Option Rule
+abbrev pub broken_type : Scope → Option ParameterType → Option ElabFault
 broken_type scope None = None
 broken_type scope (Some integer) = None
 broken_type scope (Some (typed type)) = broken_range scope type.range
@@ -270,15 +270,15 @@ abbrev pub valued : Scope → Scope → text.ExpressionTree → Option text.Expr
 valued outer scope value None = resolved scope value
 valued outer scope value (Some other) = resolved outer other
 
-abbrev pub broken_valued : Scope → Scope → text.ExpressionTree → Option text.ExpressionTree → Option Rule
+abbrev pub broken_valued : Scope → Scope → text.ExpressionTree → Option text.ExpressionTree → Option ElabFault
 broken_valued outer scope value None = broken_constant scope value
 broken_valued outer scope value (Some other) = option_or (broken_constant scope value) (broken_constant outer other)
 
 abbrev pub value_of : Outside → Scope → SettingTree → ExpressionTree
-value_of outside scope setting = valued outside.scope scope setting.value (value_for outside.values setting.name)
+value_of outside scope setting = valued outside.scope scope setting.value (value_for outside.values setting.name.letters)
 
-abbrev pub broken_value : Outside → Scope → SettingTree → Option Rule
-broken_value outside scope setting = broken_valued outside.scope scope setting.value (value_for outside.values setting.name)
+abbrev pub broken_value : Outside → Scope → SettingTree → Option ElabFault
+broken_value outside scope setting = broken_valued outside.scope scope setting.value (value_for outside.values setting.name.letters)
 
 -- events are numbered through the whole design
 abbrev pub meaning_in : Outside → Scope → Given → Meaning
@@ -286,7 +286,7 @@ meaning_in outside scope (given type setting) = parameter_of scope type (value_o
 meaning_in outside scope (event_given name) = Event scope.events
 meaning_in outside scope (instance_given name) = Instance
 
-abbrev pub name_in : Given → Text
+abbrev pub name_in : Given → Word
 name_in (given type setting) = setting.name
 name_in (event_given name) = name
 name_in (instance_given name) = name
@@ -300,7 +300,7 @@ events_in (instance_given name) = 0
 abbrev pub with_given : Outside → Scope → Given → Scope
 with_given outside scope one = record {
   top = scope.top;
-  names = scope.names ++ name_in one ∷ [];
+  names = scope.names ++ (name_in one).letters ∷ [];
   first = scope.first;
   variables = scope.variables;
   events = scope.events + events_in one;
@@ -313,17 +313,17 @@ with_all outside scope [] = scope
 with_all outside scope (one ∷ more) = with_all outside (with_given outside scope one) more
 
 -- the range of a parameter is right, and its value constant where it stands; a design has fewer than 2^32 named events (own)
-abbrev pub broken_setting : Outside → Scope → Given → Option Rule
+abbrev pub broken_setting : Outside → Scope → Given → Option ElabFault
 broken_setting outside scope (given type setting) = option_or (broken_type scope type) (broken_value outside scope setting)
-broken_setting outside scope (event_given name) = unless (nat_lt scope.events 4294967295) rule.TooMany
+broken_setting outside scope (event_given name) = unless (nat_lt scope.events 4294967295) rule.TooMany (Some name)
 broken_setting outside scope (instance_given name) = None
 
 -- and its name is new
-abbrev pub broken_given : Outside → Scope → Given → Option Rule
+abbrev pub broken_given : Outside → Scope → Given → Option ElabFault
 broken_given outside scope one =
-    option_or (broken_setting outside scope one) (broken_if (is_declared scope.names (name_in one)) rule.Doubled)
+    option_or (broken_setting outside scope one) (broken_if (is_declared scope.names (name_in one).letters) rule.Doubled (Some (name_in one)))
 
-abbrev pub broken_all : Outside → Scope → List Given → Option Rule
+abbrev pub broken_all : Outside → Scope → List Given → Option ElabFault
 broken_all outside scope [] = None
 broken_all outside scope (one ∷ more) = option_or (broken_given outside scope one) (broken_all outside (with_given outside scope one) more)
 
@@ -343,7 +343,7 @@ pub record Base : Type 0 where
 abbrev pub first_scope : Base → ModuleTree → Scope
 first_scope base m = record {
   top = base.top;
-  names = declared_names m;
+  names = letters_of (declared_names m);
   first = base.first;
   variables = length (declared_names m);
   events = base.events;
@@ -373,22 +373,35 @@ variables_from home scope [] = []
 variables_from home scope (item ∷ more) =
     map (variable_of home scope) (declarations_of item) ++ variables_from home (behind_item scope item) more
 
-abbrev pub broken_from : Scope → List ItemTree → Option Rule
+abbrev pub broken_from : Scope → List ItemTree → Option ElabFault
 broken_from scope [] = None
 broken_from scope (item ∷ more) = option_or (broken_declaration scope item) (broken_from (behind_item scope item) more)
 
 -- ---- processes (9.9.1)
 
+-- actions, and beside each the number of the first word of what tells its worth, if there is one: by it a fault is told
+pub record Table : Type 0 where
+  pub actions : List Action
+  pub words : List (Option ℕ)
+
+-- one action more, at the next place
+abbrev pub with_numbered : Table → Option ℕ → Action → Table
+with_numbered table number action =
+    record { actions = table.actions ++ action ∷ []; words = table.words ++ number ∷ [] }
+
+abbrev pub with_action : Table → Option Word → Action → Table
+with_action table word action = with_numbered table (number_in word) action
+
 -- the table of actions so far, with what a statement adds to it, and the places at which the statement begins
 pub record Laid : Type 0 where
-  pub table : List Action
+  pub table : Table
   pub places : List ℕ
 
 -- an action goes by the next place
-abbrev pub placed : List Action → Action → Laid
-placed table action = record { table = table ++ action ∷ []; places = length table ∷ [] }
+abbrev pub placed : Table → Option Word → Action → Laid
+placed table word action = record { table = with_action table word action; places = length table.actions ∷ [] }
 
-abbrev pub nothing_laid : List Action → Laid
+abbrev pub nothing_laid : Table → Laid
 nothing_laid table = record { table = table; places = [] }
 
 -- an assignment of either kind (9.2), by the amount of its own delay, if it has one (9.7.7)
@@ -403,9 +416,9 @@ amount_of scope (by_number digits) = resolved scope (text.number digits)
 amount_of scope (by_name letters) = resolved scope (text.name letters)
 amount_of scope (by_value amount) = resolved scope amount
 
-abbrev pub laid_assignment : Bool → Scope → List Action → TargetTree → Option DelayTree → text.ExpressionTree → Laid
+abbrev pub laid_assignment : Bool → Scope → Table → TargetTree → Option DelayTree → text.ExpressionTree → Laid
 laid_assignment blocking scope table target amount value =
-    placed table (assigning blocking (option_map (amount_of scope) amount) (row_of scope target) (resolved scope value))
+    placed table (first_target target) (assigning blocking (option_map (amount_of scope) amount) (row_of scope target) (resolved scope value))
 
 -- 18.1.3, 18.1.4, 18.1.6: `$dumpflush` does nothing more
 abbrev pub dumping_by : Dumping → Action
@@ -416,18 +429,18 @@ dumping_by dumps.Flush = Pass
 
 -- 17.4
 abbrev pub ending : Bool → Action
-ending stops = cond stops Stop Finish
+ending stops = if stops then Stop else Finish
 
-abbrev pub laid_task : Scope → List Action → TaskTree → Laid
-laid_task scope table (print kind arguments) = placed table (Print (when_of kind) (pieces_in scope arguments))  -- 17.1
-laid_task scope table (dump_file letters) = placed table Pass  -- 18.1.1
-laid_task scope table (dump_vars selection) = placed table (DumpVars (selected scope selection))  -- 18.1.2
-laid_task scope table (dump kind) = placed table (dumping_by kind)
-laid_task scope table (end_run stops digits) = placed table (ending stops)
+abbrev pub laid_task : Scope → Table → TaskTree → Laid
+laid_task scope table (print kind arguments) = placed table (first_argument arguments) (Print (when_of kind) (pieces_in scope arguments))  -- 17.1
+laid_task scope table (dump_file letters) = placed table None Pass  -- 18.1.1
+laid_task scope table (dump_vars selection) = placed table (option_map (λ s. s.levels) selection) (DumpVars (selected scope selection))  -- 18.1.2
+laid_task scope table (dump kind) = placed table None (dumping_by kind)
+laid_task scope table (end_run stops digits) = placed table None (ending stops)
 
 -- the table of actions so far, with what the branches of a `case` add to it: the branches, and the places of the `default`
 pub record LaidBranches : Type 0 where
-  pub table : List Action
+  pub table : Table
   pub branches : List Branch
   pub otherwise : List ℕ
 
@@ -438,50 +451,50 @@ branches_by scope places (text.first item more) = record { item = resolved scope
 
 -- a statement behind what the table has: `begin`, `end` and `;` are no action, and what stands inside is laid first
 abbrev mutual
-  pub laid : Scope → List Action → StatementTree → Laid
+  pub laid : Scope → Table → StatementTree → Laid
   laid scope table empty = nothing_laid table
   laid scope table (block statements) = all_laid scope table statements
   laid scope table (assign target amount value) = laid_assignment true scope table target amount value
   laid scope table (nonblocking target amount value) = laid_assignment false scope table target amount value
-  laid scope table (trigger letters) = placed table (Trigger (event_of scope letters))  -- 9.7.3
+  laid scope table (trigger letters) = placed table None (Trigger (event_of scope letters))  -- 9.7.3
   laid scope table (if_true condition body) =
-      let inner = laid scope table body in placed inner.table (Test (resolved scope condition) inner.places [])
+      let inner = laid scope table body in placed inner.table (first_in condition) (Test (resolved scope condition) inner.places [])
   laid scope table (if_else condition body other) =
       let one = laid scope table body in
       let two = laid scope one.table other in
-      placed two.table (Test (resolved scope condition) one.places two.places)
+      placed two.table (first_in condition) (Test (resolved scope condition) one.places two.places)
   laid scope table (case_of kind value branches) =  -- 9.5
       let inner = laid_branches scope table branches in
-      placed inner.table (Case kind (resolved scope value) inner.branches inner.otherwise)
+      placed inner.table (first_in value) (Case kind (resolved scope value) inner.branches inner.otherwise)
   laid scope table (while_true condition body) =
-      let inner = laid scope table body in placed inner.table (Again (resolved scope condition) inner.places)
+      let inner = laid scope table body in placed inner.table (first_in condition) (Again (resolved scope condition) inner.places)
   laid scope table (repeat_times count body) =
-      let inner = laid scope table body in placed inner.table (Repeat (resolved scope count) inner.places)
+      let inner = laid scope table body in placed inner.table (first_in count) (Repeat (resolved scope count) inner.places)
   laid scope table (forever body) =
-      let inner = laid scope table body in placed inner.table (Forever inner.places)
+      let inner = laid scope table body in placed inner.table None (Forever inner.places)
   laid scope table (for_loop target value condition next_target next_value body) =
       let first = laid_assignment true scope table target None value in
       let inner = laid scope first.table body in
       let next = laid_assignment true scope inner.table next_target None next_value in
-      let turn = placed next.table (Again (resolved scope condition) (inner.places ++ next.places)) in
+      let turn = placed next.table (first_in condition) (Again (resolved scope condition) (inner.places ++ next.places)) in
       record { table = turn.table; places = first.places ++ turn.places }
   laid scope table (wait_for condition body) =  -- 9.7.6
       let inner = laid scope table body in
-      placed inner.table (Until (resolved scope condition) (any_of scope (names_in condition)) inner.places)
+      placed inner.table (first_in condition) (Until (resolved scope condition) (any_of scope (names_in condition)) inner.places)
   laid scope table (delay amount body) =
-      let inner = laid scope table body in placed inner.table (Delay (amount_of scope amount) inner.places)
+      let inner = laid scope table body in placed inner.table (first_delay amount) (Delay (amount_of scope amount) inner.places)
   laid scope table (event control body) =  -- 9.7.2
-      let inner = laid scope table body in placed inner.table (On (terms_of scope control body) inner.places)
+      let inner = laid scope table body in placed inner.table None (On (terms_of scope control body) inner.places)
   laid scope table (task call) = laid_task scope table call
 
-  pub all_laid : Scope → List Action → StatementTrees → Laid
+  pub all_laid : Scope → Table → StatementTrees → Laid
   all_laid scope table no_statement = nothing_laid table
   all_laid scope table (first_statement statement rest) =
       let front = laid scope table statement in
       let behind = all_laid scope front.table rest in
       record { table = behind.table; places = front.places ++ behind.places }
 
-  pub laid_branch : Scope → List Action → BranchTree → LaidBranches
+  pub laid_branch : Scope → Table → BranchTree → LaidBranches
   laid_branch scope table (labelled items body) =
       let inner = laid scope table body in
       record { table = inner.table; branches = branches_by scope inner.places items; otherwise = [] }
@@ -489,7 +502,7 @@ abbrev mutual
       let inner = laid scope table body in record { table = inner.table; branches = []; otherwise = inner.places }
 
   -- the `default` may stand anywhere among them; a case has one at most
-  pub laid_branches : Scope → List Action → BranchTrees → LaidBranches
+  pub laid_branches : Scope → Table → BranchTrees → LaidBranches
   laid_branches scope table no_branch = record { table = table; branches = []; otherwise = [] }
   laid_branches scope table (first_branch branch rest) =
       let front = laid_branch scope table branch in
@@ -503,42 +516,42 @@ abbrev mutual
 -- what a process does: a statement, or it drives the net of this name (6.1)
 pub data ProcessTree : Type 0 where
   does : StatementTree → ProcessTree
-  drives : Text → text.ExpressionTree → ProcessTree
+  drives : Word → text.ExpressionTree → ProcessTree
 
 -- 6.1: it writes, and it writes again at any change of a name that is read
-abbrev pub driving : Scope → Text → text.ExpressionTree → Action
+abbrev pub driving : Scope → Word → text.ExpressionTree → Action
 driving scope letters value = Drive (number_of scope letters) (resolved scope value) (any_of scope (names_in value))
 
-abbrev pub laid_process : Scope → List Action → ProcessTree → Laid
+abbrev pub laid_process : Scope → Table → ProcessTree → Laid
 laid_process scope table (does statement) = laid scope table statement
-laid_process scope table (drives letters value) = placed table (driving scope letters value)
+laid_process scope table (drives letters value) = placed table (Some letters) (driving scope letters value)
 
 -- the table of several processes, and where each of them begins
 pub record Processes : Type 0 where
-  pub table : List Action
+  pub table : Table
   pub begins : List (List ℕ)
 
-abbrev pub laid_processes : Scope → List Action → List ProcessTree → Processes
+abbrev pub laid_processes : Scope → Table → List ProcessTree → Processes
 laid_processes scope table [] = record { table = table; begins = [] }
 laid_processes scope table (process ∷ rest) =
     let front = laid_process scope table process in
     let behind = laid_processes scope front.table rest in
     record { table = behind.table; begins = front.places ∷ behind.begins }
 
-abbrev pub broken_amount : Scope → DelayTree → Option Rule
+abbrev pub broken_amount : Scope → DelayTree → Option ElabFault
 broken_amount scope (by_number digits) = None
 broken_amount scope (by_name letters) = broken_name false scope letters
 broken_amount scope (by_value amount) = broken_expression scope amount
 
-abbrev pub broken_own : Scope → Option DelayTree → Option Rule
+abbrev pub broken_own : Scope → Option DelayTree → Option ElabFault
 broken_own scope None = None
 broken_own scope (Some amount) = broken_amount scope amount
 
-abbrev pub broken_assignment : Scope → TargetTree → Option DelayTree → text.ExpressionTree → Option Rule
+abbrev pub broken_assignment : Scope → TargetTree → Option DelayTree → text.ExpressionTree → Option ElabFault
 broken_assignment scope target amount value =
     option_or (broken_target scope target) (option_or (broken_own scope amount) (broken_expression scope value))
 
-abbrev pub broken_task : Scope → TaskTree → Option Rule
+abbrev pub broken_task : Scope → TaskTree → Option ElabFault
 broken_task scope (print kind arguments) = broken_line scope arguments
 broken_task scope (dump_file letters) = None
 broken_task scope (dump_vars selection) = broken_selection selection
@@ -546,13 +559,13 @@ broken_task scope (dump kind) = None
 broken_task scope (end_run stops digits) = None
 
 -- the items in front of one statement of a `case`
-abbrev pub broken_items : Scope → text.ExpressionTrees → Option Rule
+abbrev pub broken_items : Scope → text.ExpressionTrees → Option ElabFault
 broken_items scope text.none = None
 broken_items scope (text.first item more) = option_or (broken_expression scope item) (broken_items scope more)
 
 -- the first rule that is broken in a statement
 abbrev mutual
-  pub broken_in : Scope → StatementTree → Option Rule
+  pub broken_in : Scope → StatementTree → Option ElabFault
   broken_in scope empty = None
   broken_in scope (block statements) = broken_in_all scope statements
   broken_in scope (assign target amount value) = broken_assignment scope target amount value
@@ -574,31 +587,31 @@ abbrev mutual
   broken_in scope (event control body) = option_or (broken_control scope control) (broken_in scope body)
   broken_in scope (task call) = broken_task scope call
 
-  pub broken_in_all : Scope → StatementTrees → Option Rule
+  pub broken_in_all : Scope → StatementTrees → Option ElabFault
   broken_in_all scope no_statement = None
   broken_in_all scope (first_statement statement rest) = option_or (broken_in scope statement) (broken_in_all scope rest)
 
-  pub broken_branch : Scope → BranchTree → Option Rule
+  pub broken_branch : Scope → BranchTree → Option ElabFault
   broken_branch scope (labelled items body) = option_or (broken_in scope body) (broken_items scope items)
   broken_branch scope (default colon body) = broken_in scope body
 
-  pub broken_branches : Scope → BranchTrees → Option Rule
+  pub broken_branches : Scope → BranchTrees → Option ElabFault
   broken_branches scope no_branch = None
   broken_branches scope (first_branch branch rest) = option_or (broken_branch scope branch) (broken_branches scope rest)
 
-abbrev pub broken_drive : Scope → Text → text.ExpressionTree → Option Rule
+abbrev pub broken_drive : Scope → Word → text.ExpressionTree → Option ElabFault
 broken_drive scope letters value = option_or (broken_variable scope letters) (broken_expression scope value)
 
-abbrev pub broken_process : Scope → ProcessTree → Option Rule
+abbrev pub broken_process : Scope → ProcessTree → Option ElabFault
 broken_process scope (does statement) = broken_in scope statement
 broken_process scope (drives letters value) = broken_drive scope letters value
 
-abbrev pub broken_processes : Scope → List ProcessTree → Option Rule
+abbrev pub broken_processes : Scope → List ProcessTree → Option ElabFault
 broken_processes scope [] = None
 broken_processes scope (process ∷ rest) = option_or (broken_process scope process) (broken_processes scope rest)
 
 -- `reg a = e` is an `initial a = e` at its place (6.2.1), and `wire a = e` drives a (6.1.1)
-abbrev pub process_by : NetKind → Text → text.ExpressionTree → ProcessTree
+abbrev pub process_by : NetKind → Word → text.ExpressionTree → ProcessTree
 process_by net.Wire letters value = drives letters value
 process_by net.Reg letters value = does (assign (written.whole letters) None value)
 
@@ -624,14 +637,14 @@ process_trees_by (always statement) = does (forever statement) ∷ []  -- 9.9.2
 process_trees_by (instances letters overrides list) = []
 
 -- the processes of items, each in the scope of its place
-abbrev pub laid_items : Scope → List Action → List ItemTree → Processes
+abbrev pub laid_items : Scope → Table → List ItemTree → Processes
 laid_items scope table [] = record { table = table; begins = [] }
 laid_items scope table (item ∷ more) =
     let front = laid_processes scope table (process_trees_by item) in
     let behind = laid_items (behind_item scope item) front.table more in
     record { table = behind.table; begins = front.begins ++ behind.begins }
 
-abbrev pub broken_items_from : Scope → List ItemTree → Option Rule
+abbrev pub broken_items_from : Scope → List ItemTree → Option ElabFault
 broken_items_from scope [] = None
 broken_items_from scope (item ∷ more) =
     option_or (broken_processes scope (process_trees_by item)) (broken_items_from (behind_item scope item) more)
@@ -639,14 +652,14 @@ broken_items_from scope (item ∷ more) =
 -- ---- port connections (12.3.9.2)
 
 -- an input is driven by what stands outside
-abbrev pub driven_in : Scope → Scope → Text → text.ExpressionTree → Action
+abbrev pub driven_in : Scope → Scope → Word → text.ExpressionTree → Action
 driven_in outer inner port value = Drive (number_of inner port) (resolved outer value) (any_of outer (names_in value))
 
 -- the name that an expression is, alone
-abbrev pub only_name : text.ExpressionTree → Option Text
+abbrev pub only_name : text.ExpressionTree → Option Word
 only_name (text.number digits) = None
 only_name (text.name letters) = Some letters
-only_name text.time = None
+only_name (text.time word) = None
 only_name (text.bit letters index) = None
 only_name (text.part letters left right) = None
 only_name (text.parentheses inner) = None
@@ -658,44 +671,47 @@ only_name (text.combine operator left right) = None
 only_name (text.conditional condition when_true when_false) = None
 
 -- an output drives a whole net outside
-abbrev pub driven_out : Scope → Scope → Text → Option Text → Action
+abbrev pub driven_out : Scope → Scope → Word → Option Word → Action
 driven_out outer inner port None = Pass
 driven_out outer inner port (Some net) =
     Drive (number_of outer net) (resolved inner (text.name port)) (any_of inner (port ∷ []))
 
 abbrev pub joining : Scope → Scope → Port → text.ExpressionTree → Action
-joining outer inner p value = cond p.output (driven_out outer inner p.name (only_name value)) (driven_in outer inner p.name value)
+joining outer inner p value =
+    if p.output then driven_out outer inner p.name (only_name value)
+    else driven_in outer inner p.name value
 
 -- a process of one action
-abbrev pub one_process : List Action → Action → Processes
-one_process table action = record { table = table ++ action ∷ []; begins = (length table ∷ []) ∷ [] }
+abbrev pub one_process : Table → Option Word → Action → Processes
+one_process table word action =
+    record { table = with_action table word action; begins = (length table.actions ∷ []) ∷ [] }
 
--- a port that nothing is connected to makes no process
-abbrev pub laid_join : Scope → Scope → List Action → Port → Option text.ExpressionTree → Processes
-laid_join outer inner table p None = record { table = table; begins = [] }
-laid_join outer inner table p (Some value) = one_process table (joining outer inner p value)
+-- a port that nothing is connected to makes no process; the others are told by the name of the instance
+abbrev pub laid_join : Word → Scope → Scope → Table → Port → Option text.ExpressionTree → Processes
+laid_join whose outer inner table p None = record { table = table; begins = [] }
+laid_join whose outer inner table p (Some value) = one_process table (Some whose) (joining outer inner p value)
 
-abbrev pub laid_joins : Scope → Scope → List ConnectionTree → List Action → List Port → Processes
-laid_joins outer inner ties table [] = record { table = table; begins = [] }
-laid_joins outer inner ties table (p ∷ more) =
-    let front = laid_join outer inner table p (value_for ties p.name) in
-    let behind = laid_joins outer inner ties front.table more in
+abbrev pub laid_joins : Word → Scope → Scope → List Tied → Table → List Port → Processes
+laid_joins whose outer inner ties table [] = record { table = table; begins = [] }
+laid_joins whose outer inner ties table (p ∷ more) =
+    let front = laid_join whose outer inner table p (value_for ties p.name.letters) in
+    let behind = laid_joins whose outer inner ties front.table more in
     record { table = behind.table; begins = front.begins ++ behind.begins }
 
 -- a port is a variable of its instance, and what an output is connected to is a name alone
-abbrev pub broken_input : Scope → Scope → Text → text.ExpressionTree → Option Rule
+abbrev pub broken_input : Scope → Scope → Word → text.ExpressionTree → Option ElabFault
 broken_input outer inner port value = option_or (broken_variable inner port) (broken_expression outer value)
 
-abbrev pub broken_output : Scope → Scope → Text → Option Text → Option Rule
-broken_output outer inner port None = Some rule.Ports
-broken_output outer inner port (Some net) = option_or (broken_variable outer net) (broken_expression inner (text.name port))
+abbrev pub broken_output : Word → Scope → Scope → Word → Option Word → Option ElabFault
+broken_output whose outer inner port None = Some (told rule.Ports (Some whose))
+broken_output whose outer inner port (Some net) = option_or (broken_variable outer net) (broken_expression inner (text.name port))
 
-abbrev pub broken_join : Scope → Scope → Port → Option text.ExpressionTree → Option Rule
-broken_join outer inner p None = None
-broken_join outer inner p (Some value) =
-    cond p.output (broken_output outer inner p.name (only_name value)) (broken_input outer inner p.name value)
+abbrev pub broken_join : Word → Scope → Scope → Port → Option text.ExpressionTree → Option ElabFault
+broken_join whose outer inner p None = None
+broken_join whose outer inner p (Some value) =
+    if p.output then broken_output whose outer inner p.name (only_name value) else broken_input outer inner p.name value
 
-abbrev pub broken_joins : Scope → Scope → List ConnectionTree → List Port → Option Rule
-broken_joins outer inner ties [] = None
-broken_joins outer inner ties (p ∷ more) =
-    option_or (broken_join outer inner p (value_for ties p.name)) (broken_joins outer inner ties more)
+abbrev pub broken_joins : Word → Scope → Scope → List Tied → List Port → Option ElabFault
+broken_joins whose outer inner ties [] = None
+broken_joins whose outer inner ties (p ∷ more) =
+    option_or (broken_join whose outer inner p (value_for ties p.name.letters)) (broken_joins whose outer inner ties more)

@@ -1,24 +1,24 @@
 -- What the steps of elaboration are told by and answer; nothing here has to be believed.
-use Rattle.std.specs.Prelude.{◌≡◌, ◌≤◌, ℕ, ◌-◌, cond, List, [], ◌++◌, Vec, map, take, Option, None, Some, option_map, Result, OnOk, Bool, true, false}
+use Rattle.std.specs.Prelude.{◌≡◌, ◌≤◌, ℕ, ◌-◌, if◌then◌else◌, List, [], ◌++◌, Vec, map, take, Option, None, Some, option_map, Result, OnOk, Bool, true, false}
 use Rattle.std.specs.Borrow.{Bor}
-use Rattle.std.specs.List.{flat_map, filter_map}
+use Rattle.std.specs.List.{filter, flat_map, filter_map}
 use Rattle.vbits.specs.declared.bit4.Bit4.{Bit4}
 use Rattle.vdesign.specs.declared.expression.Bounds.{Bounds}
 use Rattle.vdesign.specs.Design as design
 use Rattle.vlex.specs.Bytes.{is_underscore}
 use Rattle.vast.specs.Words.{Text}
-use Rattle.vast.specs.TokenTexts.{token_text}
+use Rattle.vast.specs.NumberedWords.{Word, numbered}
 use Rattle.vast.specs.declared.statement.Path.{Path}
 use Rattle.vdesign.specs.declared.dump.Chosen.{Chosen}
 use Rattle.velab.specs.Selections.{chosen, dotted}
-use Rattle.vast.specs.StatementTrees.{path_tree, statement_tree, statement_trees, branch_tree, branch_trees}
-use Rattle.vast.specs.Modules.{ParameterType, ItemTree, declaration, variables, integers}
-use Rattle.vmodules.specs.Names.{has_double}
+use Rattle.vast.specs.NumberedTrees.{path_tree, statement_tree, statement_trees, branch_tree, branch_trees}
+use Rattle.vast.specs.NumberedModules.{ParameterType, ItemTree, declaration, variables, integers}
+use Rattle.vmodules.specs.Names.{is_declared, again_behind}
 use Rattle.vmodules.specs.Connected.{value_for}
 use Rattle.vmodules.specs.Inner.{Tie, ties_tree, port_form}
 use Rattle.vmodules.specs.declared.ports.PortForm.{PortForm}
 use Rattle.vast.specs.declared.module.Instance.{Instance}
-use Rattle.vast.specs.ModuleTrees.{instance_tree, range_tree, parameter_type, head_parameter, type_tree, declaration_kind, declared_tree, setting_tree, item_tree}
+use Rattle.vast.specs.NumberedTrees.{instance_tree, range_tree, parameter_type, head_parameter, type_tree, declaration_kind, declared_tree, setting_tree, item_tree}
 use Rattle.vast.specs.declared.module.DeclarationKind.{DeclarationKind as DeclarationWords}
 use Rattle.vast.specs.declared.module.NetKind.{NetKind}
 use Rattle.vast.specs.declared.module.NetKind.TheVariants.{Reg, Wire}
@@ -32,41 +32,39 @@ use Rattle.vast.specs.declared.token.Token.{Token}
 use Rattle.vast.specs.declared.module.Bounds.{Bounds as Written}
 use Rattle.vast.specs.declared.module.HeadParameter.{HeadParameter as HeadWords}
 use Rattle.vast.specs.declared.module.ParameterType.{ParameterType as ParameterWords}
-use Rattle.velab.specs.declared.fault.Rule.{Rule}
 use Rattle.velab.specs.declared.fault.Rule.TheVariants.{Doubled, Drivers}
 use Rattle.velab.specs.declared.fault.ElabFault.{ElabFault}
-use Rattle.velab.specs.Rules.{IsBroken, broken_if}
+use Rattle.velab.specs.Rules.{IsBroken, broken_at}
 use Rattle.velab.specs.Scopes.{Scope}
 use Rattle.velab.specs.Literals.{digit_letters}
 use Rattle.velab.specs.declared.variable.Form.{Form}
 use Rattle.velab.specs.declared.driven.Driver.{Driver}
 use Rattle.format_text.specs.Pieces.{Argument, Printed, pieces_with}
-use Rattle.vdesign.specs.declared.action.Action.{Action}
-use Rattle.velab.specs.Elaborate.{Laid, Processes, Outside, instance_given, port_declaration, net_names, laid_join, laid_joins, broken_join, broken_joins, declarations_of, laid, all_laid, laid_processes, laid_items, bounds_of, span, variable_by, variable_of, LaidBranches, laid_branch, laid_branches, process_trees_by, ProcessTree, process_of, driven_by, broken_processes, Home, driver_of, drivers_by, Given, given, event_given, given_by, valueless_by, given_in_head}
+use Rattle.velab.specs.Elaborate.{Table, Laid, Processes, Outside, instance_given, port_declaration, net_names, laid_join, laid_joins, broken_join, broken_joins, declarations_of, laid, all_laid, laid_processes, laid_items, bounds_of, span, variable_by, variable_of, LaidBranches, laid_branch, laid_branches, process_trees_by, ProcessTree, process_of, driven_by, broken_processes, Home, driver_of, drivers_by, Given, given, event_given, given_by, valueless_by, given_in_head}
 use Rattle.vdesign.specs.declared.action.Branch.{Branch}
 
 -- ---- parts of a module
 
 -- the names that an item declares, and those that items do
-abbrev pub names_of : ItemTree → List Text
+abbrev pub names_of : ItemTree → List Word
 names_of item = map (λ d. d.name) (declarations_of item)
 
-abbrev pub names_in : List ItemTree → List Text
+abbrev pub names_in : List ItemTree → List Word
 names_in items = map (λ d. d.name) (flat_map declarations_of items)
 
 -- the table was laid on, and these places put behind others
-pub record IsLaid (what : Laid) (before : List ℕ) (table_after : List Action) (places_after : List ℕ) : Type 0 where
+pub record IsLaid (what : Laid) (before : List ℕ) (table_after : Table) (places_after : List ℕ) : Type 0 where
   pub table : table_after ≡ what.table
   pub places : places_after ≡ before ++ what.places
 
 -- the same of the branches of a `case`, and of its `default`
-pub record AreBranches (what : LaidBranches) (before : List Branch) (default_before : List ℕ) (table_after : List Action) (after : List Branch) (default_after : List ℕ) : Type 0 where
+pub record AreBranches (what : LaidBranches) (before : List Branch) (default_before : List ℕ) (table_after : Table) (after : List Branch) (default_after : List ℕ) : Type 0 where
   pub table : table_after ≡ what.table
   pub branches : after ≡ before ++ what.branches
   pub otherwise : default_after ≡ default_before ++ what.otherwise
 
 -- the same of processes
-pub record AreLaid (what : Processes) (before : List (List ℕ)) (table_after : List Action) (begins_after : List (List ℕ)) : Type 0 where
+pub record AreLaid (what : Processes) (before : List (List ℕ)) (table_after : Table) (begins_after : List (List ℕ)) : Type 0 where
   pub table : table_after ≡ what.table
   pub begins : begins_after ≡ before ++ what.begins
 
@@ -74,17 +72,17 @@ pub record AreLaid (what : Processes) (before : List (List ℕ)) (table_after : 
 
 -- the letters of 64 bits after those of one digit more came in on the right
 abbrev pub shifted_letters : ℕ → ℕ → List Bit4 → List Bit4
-shifted_letters count c letters = cond (is_underscore c) letters (digit_letters count c ++ take (64 - count) letters)
+shifted_letters count c letters = if is_underscore c then letters else digit_letters count c ++ take (64 - count) letters
 
 -- ---- why a part of a text has no design
 
--- a name stands twice among these
-abbrev pub DoublesIn : List Text → ElabFault → Type 0
-DoublesIn names = IsBroken (broken_if (has_double names) Doubled)
+-- one of these words stands again, behind these names
+abbrev pub DoublesIn : List Text → List Word → ElabFault → Type 0
+DoublesIn names words = IsBroken (broken_at Doubled (again_behind names words))
 
--- a net is driven twice
-abbrev pub BreaksDrivers : List Text → ElabFault → Type 0
-BreaksDrivers driven = IsBroken (broken_if (has_double driven) Drivers)
+-- one of these nets is driven again, behind those of these names
+abbrev pub BreaksDrivers : List Text → List Word → ElabFault → Type 0
+BreaksDrivers names words = IsBroken (broken_at Drivers (again_behind names words))
 
 -- bounds that are at most 64 bits apart
 abbrev pub IsNarrow : Option Bounds → Type 0
@@ -119,7 +117,7 @@ abbrev pub instances_given : List Text → List Instance → List Given
 instances_given words list = map (λ one. instance_given one.name) (map (instance_tree words) list)
 
 abbrev pub events_given : List Text → List Token → List Given
-events_given words names = map event_given (map (token_text words) names)
+events_given words names = map event_given (map (numbered words) names)
 
 abbrev pub given_in : List Text → List ModuleItem → List Given
 given_in words items = flat_map given_by (map (item_tree words) items)
@@ -131,30 +129,30 @@ abbrev pub given_at_head : {X : Type 0} → List Text → Option (Vec HeadWords 
 given_at_head {X = X} words list = given_in_head (option_map (λ (heads : Vec HeadWords X). map (head_parameter words) heads.items) list)
 
 -- the names that are declared together, in the words of a text
-abbrev pub texts_of : List Text → List Declared → List Text
-texts_of words list = map (λ one. token_text words one.name) list
+abbrev pub texts_of : List Text → List Declared → List Word
+texts_of words list = map (λ one. numbered words one.name) list
 
 -- the names of ports, and those behind them that items declare
-abbrev pub port_texts : List Text → List PortForm → List Text
+abbrev pub port_texts : List Text → List PortForm → List Word
 port_texts words ports = map (λ p. p.name) (map (port_form words) ports)
 
-abbrev pub names_before : List Text → List PortForm → List ModuleItem → List Text
+abbrev pub names_before : List Text → List PortForm → List ModuleItem → List Word
 names_before words ports items = port_texts words ports ++ names_in (map (item_tree words) items)
 
 -- a statement laid on a table, statements, and the statement of an item
-abbrev pub laid_of : List Text → Scope → List Action → Statement → Laid
+abbrev pub laid_of : List Text → Scope → Table → Statement → Laid
 laid_of words scope table statement = laid scope table (statement_tree words statement)
 
-abbrev pub all_laid_of : List Text → Scope → List Action → List Statement → Laid
+abbrev pub all_laid_of : List Text → Scope → Table → List Statement → Laid
 all_laid_of words scope table statements = all_laid scope table (statement_trees words statements)
 
-abbrev pub branch_laid_of : List Text → Scope → List Action → WrittenBranch → LaidBranches
+abbrev pub branch_laid_of : List Text → Scope → Table → WrittenBranch → LaidBranches
 branch_laid_of words scope table branch = laid_branch scope table (branch_tree words branch)
 
-abbrev pub branches_laid_of : List Text → Scope → List Action → List WrittenBranch → LaidBranches
+abbrev pub branches_laid_of : List Text → Scope → Table → List WrittenBranch → LaidBranches
 branches_laid_of words scope table branches = laid_branches scope table (branch_trees words branches)
 
-abbrev pub laid_of_item : List Text → Scope → List Action → ModuleItem → Processes
+abbrev pub laid_of_item : List Text → Scope → Table → ModuleItem → Processes
 laid_of_item words scope table item = laid_processes scope table (process_trees_by (item_tree words item))
 
 -- the processes by which names are declared with a value, and those of an `assign`
@@ -165,7 +163,7 @@ abbrev pub drives_in : List Text → List Setting → List ProcessTree
 drives_in words list = map driven_by (map (setting_tree words) list)
 
 -- the processes of items
-abbrev pub processes_of : List Text → Scope → List Action → List ModuleItem → Processes
+abbrev pub processes_of : List Text → Scope → Table → List ModuleItem → Processes
 processes_of words scope table items = laid_items scope table (map (item_tree words) items)
 
 -- the scopes of paths, each with so many levels
@@ -173,32 +171,32 @@ abbrev pub all_chosen : List Text → ℕ → List Path → List Chosen
 all_chosen words levels paths = map (λ names. chosen levels (dotted names)) (map (path_tree words) paths)
 
 -- a name that was found
-abbrev pub name_of : List Text → Option Token → Option Text
-name_of words = option_map (token_text words)
+abbrev pub name_of : List Text → Option Token → Option Word
+name_of words = option_map (numbered words)
 
 -- those of port connections
-abbrev pub joins_of : List Text → Scope → Scope → List Tie → List Action → List PortForm → Processes
-joins_of words outer inner ties table ports = laid_joins outer inner (ties_tree words ties) table (map (port_form words) ports)
+abbrev pub joins_of : List Text → Token → Scope → Scope → List Tie → Table → List PortForm → Processes
+joins_of words whose outer inner ties table ports = laid_joins (numbered words whose) outer inner (ties_tree words ties) table (map (port_form words) ports)
 
-abbrev pub join_of : List Text → Scope → Scope → List Tie → List Action → PortForm → Processes
-join_of words outer inner ties table port =
-    laid_join outer inner table (port_form words port) (value_for (ties_tree words ties) (port_form words port).name)
+abbrev pub join_of : List Text → Token → Scope → Scope → List Tie → Table → PortForm → Processes
+join_of words whose outer inner ties table port =
+    laid_join (numbered words whose) outer inner table (port_form words port) (value_for (ties_tree words ties) (port_form words port).name.letters)
 
-abbrev pub broken_joins_of : List Text → Scope → Scope → List Tie → List PortForm → Option Rule
-broken_joins_of words outer inner ties ports = broken_joins outer inner (ties_tree words ties) (map (port_form words) ports)
+abbrev pub broken_joins_of : List Text → Token → Scope → Scope → List Tie → List PortForm → Option ElabFault
+broken_joins_of words whose outer inner ties ports = broken_joins (numbered words whose) outer inner (ties_tree words ties) (map (port_form words) ports)
 
-abbrev pub broken_join_of : List Text → Scope → Scope → List Tie → PortForm → Option Rule
-broken_join_of words outer inner ties port =
-    broken_join outer inner (port_form words port) (value_for (ties_tree words ties) (port_form words port).name)
+abbrev pub broken_join_of : List Text → Token → Scope → Scope → List Tie → PortForm → Option ElabFault
+broken_join_of words whose outer inner ties port =
+    broken_join (numbered words whose) outer inner (port_form words port) (value_for (ties_tree words ties) (port_form words port).name.letters)
 
 -- where there was no fault, these were laid
-abbrev pub HasLaid : {A B T E : Type 0} → Result T E → Laid → Vec ℕ A → List Action → Vec ℕ B → Type 0
+abbrev pub HasLaid : {A B T E : Type 0} → Result T E → Laid → Vec ℕ A → Table → Vec ℕ B → Type 0
 HasLaid result what before table after = OnOk result (IsLaid what before.items table after.items)
 
-abbrev pub HasBranches : {A B C D T E : Type 0} → Result T E → LaidBranches → Vec Branch A → Vec ℕ B → List Action → Vec Branch C → Vec ℕ D → Type 0
+abbrev pub HasBranches : {A B C D T E : Type 0} → Result T E → LaidBranches → Vec Branch A → Vec ℕ B → Table → Vec Branch C → Vec ℕ D → Type 0
 HasBranches result what before default_before table after default_after = OnOk result (AreBranches what before.items default_before.items table after.items default_after.items)
 
-abbrev pub HaveLaid : {A B T E : Type 0} → Result T E → Processes → Vec (List ℕ) A → List Action → Vec (List ℕ) B → Type 0
+abbrev pub HaveLaid : {A B T E : Type 0} → Result T E → Processes → Vec (List ℕ) A → Table → Vec (List ℕ) B → Type 0
 HaveLaid result what before table after = OnOk result (AreLaid what before.items table after.items)
 
 -- the bounds of a range, where there is one
@@ -211,7 +209,7 @@ variable_in scope form = variable_by scope form.kind form.signed form.bounds
 
 -- the variables of names declared in this form, of an item, and of items
 abbrev pub variables_by : List Text → Home → Form → List Declared → List design.Variable
-variables_by words scope form list = map (variable_in scope form) (texts_of words list)
+variables_by words scope form list = map (λ one. variable_in scope form one.letters) (texts_of words list)
 
 -- a declaration, as an item
 abbrev pub kind_item : List Text → DeclarationWords → List Declared → ItemTree
@@ -230,18 +228,25 @@ port_variables words home scope ports = map (variable_of home scope) (map port_d
 abbrev pub variables_for : List Text → Home → Scope → ModuleItem → List design.Variable
 variables_for words home scope item = map (variable_of home scope) (declarations_of (item_tree words item))
 
--- the names that are driven, one driver each
-abbrev pub driver_names : List Driver → List Text
-driver_names list = map (λ one. one.net.now) list
+-- the words that are driven, one driver each
+abbrev pub driver_word : Driver → Word
+driver_word driver = record { letters = driver.net.now; number = driver.at }
+
+abbrev pub driver_names : List Driver → List Word
+driver_names list = map driver_word list
 
 -- those that are driven by the values that they are declared with, by an `assign`, and by items
-abbrev pub declared_drivers : List Text → List Declared → List Text
+-- those that are among these nets
+abbrev pub among : List Text → List Driver → List Word
+among nets list = filter (λ word. is_declared nets word.letters) (driver_names list)
+
+abbrev pub declared_drivers : List Text → List Declared → List Word
 declared_drivers words list = filter_map driver_of (map (declared_tree words) list)
 
-abbrev pub set_drivers : List Text → List Setting → List Text
+abbrev pub set_drivers : List Text → List Setting → List Word
 set_drivers words list = map (λ setting. setting.name) (map (setting_tree words) list)
 
-abbrev pub item_drivers : List Text → List ModuleItem → List Text
+abbrev pub item_drivers : List Text → List ModuleItem → List Word
 item_drivers words items = flat_map drivers_by (map (item_tree words) items)
 
 -- the nets among ports, and among what an item and items declare

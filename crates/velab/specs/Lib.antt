@@ -1,4 +1,5 @@
 pub mod Literals
+pub mod FirstWords
 pub mod Rules
 pub mod Scopes
 pub mod Constants

@@ -1,6 +1,6 @@
 -- What a number of the text stands for (IEEE 1364-2005, 3.5.1). The letters of a vector stand lowest first, the
 -- digits of a number highest first. A text that is no number has a value too, which stands nowhere.
-use Rattle.std.specs.Prelude.{ℕ, ◌+◌, ◌-◌, ◌==◌, ◌&&◌, ◌||◌, nat_lt, min, max, not, Bool, true, false, cond, List, [], ◌∷◌, ◌++◌, length, take, drop, replicate, get_or, Option, Some, None, position}
+use Rattle.std.specs.Prelude.{ℕ, ◌+◌, ◌-◌, ◌==◌, ◌&&◌, ◌||◌, nat_lt, min, max, not, Bool, true, false, if◌then◌else◌, List, [], ◌∷◌, ◌++◌, length, take, drop, replicate, get_or, Option, Some, None, position}
 use Rattle.vbits.specs.declared.bit4.Bit4.{Bit4}
 use Rattle.vbits.specs.declared.bit4.Bit4.TheVariants.{Zero, X, Z}
 use Rattle.vbits.specs.Letters.{is_unknown}
@@ -13,21 +13,21 @@ use Rattle.vdesign.specs.declared.expression.Constant.{Constant}
 
 -- 0 to 9, and a to f in either case
 abbrev pub digit_value : ℕ → ℕ
-digit_value c = cond (nat_lt c 65) (c - 48) (cond (nat_lt c 97) (c - 65 + 10) (c - 97 + 10))
+digit_value c = if nat_lt c 65 then c - 48 else if nat_lt c 97 then c - 65 + 10 else c - 97 + 10
 
 -- the letters of one digit, where each digit of the base stands for so many
 abbrev pub digit_letters : ℕ → ℕ → List Bit4
 digit_letters count c =
-    cond (is_x_digit c) (replicate count X)
-    (cond (is_z_digit c) (replicate count Z)
-    (digits count (digit_value c)))
+    if is_x_digit c then replicate count X
+    else if is_z_digit c then replicate count Z
+    else digits count (digit_value c)
 
 -- the letters that digits spell: those further right are lower
 abbrev pub spelled_letters : ℕ → Text → List Bit4
 spelled_letters count [] = []
 spelled_letters count (c ∷ cs) =
-    cond (is_underscore c) (spelled_letters count cs)
-    (spelled_letters count cs ++ digit_letters count c)
+    if is_underscore c then spelled_letters count cs
+    else spelled_letters count cs ++ digit_letters count c
 
 -- 0 where there is none
 abbrev pub first_byte : Text → ℕ
@@ -35,18 +35,18 @@ first_byte text = get_or text 0 0
 
 -- what a number is filled with on the left: x or z where its leftmost digit is that, else 0
 abbrev pub filling : Text → Bit4
-filling ds = cond (is_x_digit (first_byte ds)) X (cond (is_z_digit (first_byte ds)) Z Zero)
+filling ds = if is_x_digit (first_byte ds) then X else if is_z_digit (first_byte ds) then Z else Zero
 
 abbrev pub is_decimal_base : ℕ → Bool
 is_decimal_base c = c == 100 || c == 68
 
 -- for how many letters a digit of base b, o or h stands
 abbrev pub letters_per_digit : ℕ → ℕ
-letters_per_digit c = cond (c == 98 || c == 66) 1 (cond (c == 111 || c == 79) 3 4)
+letters_per_digit c = if c == 98 || c == 66 then 1 else if c == 111 || c == 79 then 3 else 4
 
 -- base d: x and z stand alone, and the bits of a number that doesn't fit are lost on the left
 abbrev pub decimal_value : ℕ → Text → Vector
-decimal_value size ds = cond (is_unknown (filling ds)) (filled size (filling ds)) (of_number size (spelled_number ds))
+decimal_value size ds = if is_unknown (filling ds) then filled size (filling ds) else of_number size (spelled_number ds)
 
 -- bases b, o and h: filled on the left, or what is too long lost there
 abbrev pub lettered_value : ℕ → ℕ → Text → Vector
@@ -57,11 +57,12 @@ lettered_value size count ds = record {
 
 abbrev pub based_value : ℕ → ℕ → Text → Vector
 based_value size base ds =
-    cond (is_decimal_base base) (decimal_value size ds) (lettered_value size (letters_per_digit base) ds)
+    if is_decimal_base base then decimal_value size ds
+    else lettered_value size (letters_per_digit base) ds
 
 -- 1 to 64; 32 where none is written
 abbrev pub size_of : Text → ℕ
-size_of ds = cond (length ds == 0) 32 (max 1 (min 64 (spelled_number ds)))
+size_of ds = if length ds == 0 then 32 else max 1 (min 64 (spelled_number ds))
 
 -- a decimal number without base: signed, 32 bits
 abbrev pub plain_constant : Text → Constant
@@ -73,7 +74,7 @@ is_marked text = first_byte text == 115 || first_byte text == 83
 
 -- the base and what stands behind it
 abbrev pub unmarked : Text → Text
-unmarked text = cond (is_marked text) (drop 1 text) text
+unmarked text = if is_marked text then drop 1 text else text
 
 abbrev pub is_unknown_at : Vector → ℕ → Bool
 is_unknown_at value place = is_unknown (get_or value.letters place Zero)

@@ -3,16 +3,18 @@ use Rattle.std.specs.Prelude.{ℕ, ◌+◌, nat_le, Bool, true, false, not, Opti
 use Rattle.std.specs.Option.{option_or}
 use Rattle.vbits.specs.declared.bit4.Bit4.TheVariants.{X}
 use Rattle.vbits.specs.Vectors.{Vector, filled}
-use Rattle.vast.specs.Expressions as text
+use Rattle.vast.specs.NumberedWords.{Word}
+use Rattle.vast.specs.NumberedExpressions as text
 use Rattle.vdesign.specs.Expressions.{ExpressionTree, constant, variable, bit, bit_of, part, time, conversion, apply, combine, conditional, joined, repeated}
 use Rattle.vdesign.specs.declared.expression.Bounds.{Bounds}
 use Rattle.vvalue.specs.Value.{part_of, part_size}
 use Rattle.vvalue.specs.Flaws.{is_part}
 use Rattle.velab.specs.Literals.{constant_of}
+use Rattle.velab.specs.FirstWords.{first_in, first_among}
 use Rattle.velab.specs.Rules.{unless}
 use Rattle.velab.specs.Scopes.{Scope, meaning_of, broken_name, bounds_for}
 use Rattle.velab.specs.Constants.{worth, also_flawed, part_bounds, count_in}
-use Rattle.velab.specs.declared.fault.Rule.{Rule}
+use Rattle.velab.specs.declared.fault.ElabFault.{ElabFault}
 use Rattle.velab.specs.declared.fault.Rule.TheVariants.{Width, Constant}
 use Rattle.velab.specs.declared.scope.Meaning.{Meaning}
 use Rattle.velab.specs.declared.scope.Meaning.TheVariants.{Variable, Parameter, Event, Instance}
@@ -57,9 +59,9 @@ resolved_part (Some Instance) selected = no_parts
 -- a variable goes by its number; parentheses have done their work
 abbrev mutual
   pub resolved : Scope → text.ExpressionTree → ExpressionTree
-  resolved scope (text.number digits) = constant (constant_of digits)
+  resolved scope (text.number digits) = constant (constant_of digits.letters)
   resolved scope (text.name letters) = resolved_name (meaning_of scope letters)
-  resolved scope text.time = time
+  resolved scope (text.time word) = time
   resolved scope (text.bit letters index) = resolved_bit (meaning_of scope letters) (resolved scope index)
   resolved scope (text.part letters left right) =
       resolved_part (meaning_of scope letters) (part_bounds (worth (resolved scope left)) (worth (resolved scope right)))
@@ -78,12 +80,12 @@ abbrev mutual
   resolved_parts scope (text.first one more) = in_front (resolved scope one) more (resolved_parts scope more)
 
 -- the part of a variable is looked at in the finished design
-abbrev pub part_rule : Option Meaning → Bounds → Option Rule
-part_rule None selected = None
-part_rule (Some (Variable number)) selected = None
-part_rule (Some (Parameter value bounds before)) selected = unless (is_part (bounds_for value bounds) selected) Width
-part_rule (Some (Event number)) selected = None
-part_rule (Some Instance) selected = None
+abbrev pub part_rule : Option Meaning → Bounds → Word → Option ElabFault
+part_rule None selected name = None
+part_rule (Some (Variable number)) selected name = None
+part_rule (Some (Parameter value bounds before)) selected name = unless (is_part (bounds_for value bounds) selected) Width (Some name)
+part_rule (Some (Event number)) selected name = None
+part_rule (Some Instance) selected name = None
 
 -- how many parts a concatenation has
 abbrev pub count_of : text.ExpressionTrees → ℕ
@@ -91,25 +93,25 @@ count_of text.none = 0
 count_of (text.first one more) = count_of more + 1
 
 -- a vector has at most 64 bits, and each part has one at least
-abbrev pub too_many_parts : text.ExpressionTrees → Option Rule
-too_many_parts parts = unless (nat_le (count_of parts) 64) Width
+abbrev pub too_many_parts : text.ExpressionTrees → Option ElabFault
+too_many_parts parts = unless (nat_le (count_of parts) 64) Width (first_among parts)
 
--- The first rule that a name in an expression breaks, or a constant in it. An expression may itself have to be constant.
+-- What a name in an expression breaks first, or a constant in it. An expression may itself have to be constant.
 abbrev mutual
-  pub broken : Bool → Scope → text.ExpressionTree → Option Rule
+  pub broken : Bool → Scope → text.ExpressionTree → Option ElabFault
   broken fixed scope (text.number digits) = None
   broken fixed scope (text.name letters) = broken_name fixed scope letters
-  broken fixed scope text.time = unless (not fixed) Constant
+  broken fixed scope (text.time word) = unless (not fixed) Constant (Some word)
   broken fixed scope (text.bit letters index) = option_or (broken_name fixed scope letters) (broken fixed scope index)
   broken fixed scope (text.part letters left right) =
       option_or (broken_name fixed scope letters)
-      (option_or (also_flawed (broken true scope left) (resolved scope left))
-      (option_or (also_flawed (broken true scope right) (resolved scope right))
-      (part_rule (meaning_of scope letters) (part_bounds (worth (resolved scope left)) (worth (resolved scope right))))))
+      (option_or (also_flawed (broken true scope left) (first_in left) (resolved scope left))
+      (option_or (also_flawed (broken true scope right) (first_in right) (resolved scope right))
+      (part_rule (meaning_of scope letters) (part_bounds (worth (resolved scope left)) (worth (resolved scope right))) letters)))
   broken fixed scope (text.parentheses inner) = broken fixed scope inner
   broken fixed scope (text.concatenation parts) = option_or (too_many_parts parts) (broken_parts fixed scope parts)
   broken fixed scope (text.replication count parts) =
-      option_or (also_flawed (broken true scope count) (resolved scope count))
+      option_or (also_flawed (broken true scope count) (first_in count) (resolved scope count))
       (option_or (too_many_parts parts) (broken_parts fixed scope parts))
   broken fixed scope (text.conversion signed inner) = broken fixed scope inner
   broken fixed scope (text.apply operator inner) = broken fixed scope inner
@@ -117,18 +119,18 @@ abbrev mutual
   broken fixed scope (text.conditional condition when_true when_false) =
       option_or (broken fixed scope condition) (option_or (broken fixed scope when_true) (broken fixed scope when_false))
 
-  pub broken_parts : Bool → Scope → text.ExpressionTrees → Option Rule
+  pub broken_parts : Bool → Scope → text.ExpressionTrees → Option ElabFault
   broken_parts fixed scope text.none = None
   broken_parts fixed scope (text.first one more) = option_or (broken fixed scope one) (broken_parts fixed scope more)
 
 -- the parts of a concatenation
-abbrev pub broken_joined : Bool → Scope → text.ExpressionTrees → Option Rule
+abbrev pub broken_joined : Bool → Scope → text.ExpressionTrees → Option ElabFault
 broken_joined fixed scope parts = option_or (too_many_parts parts) (broken_parts fixed scope parts)
 
 -- an expression of any kind
-abbrev pub broken_expression : Scope → text.ExpressionTree → Option Rule
+abbrev pub broken_expression : Scope → text.ExpressionTree → Option ElabFault
 broken_expression scope tree = broken false scope tree
 
 -- a constant: its names are right, and its sizes
-abbrev pub broken_constant : Scope → text.ExpressionTree → Option Rule
-broken_constant scope tree = also_flawed (broken true scope tree) (resolved scope tree)
+abbrev pub broken_constant : Scope → text.ExpressionTree → Option ElabFault
+broken_constant scope tree = also_flawed (broken true scope tree) (first_in tree) (resolved scope tree)

@@ -1,10 +1,12 @@
 -- What may be written (IEEE 1364-2005, 6.1, 6.2, table 6-1): variables by processes, nets by continuous assignments.
-use Rattle.std.specs.Prelude.{Bool, true, false, not, List, Option, None, Some, slice_get}
+use Rattle.std.specs.Prelude.{if◌then◌else◌, Bool, true, false, not, List, Option, None, Some, slice_get}
 use Rattle.std.specs.List.{list_all}
 use Rattle.vdesign.specs.Design.{Variable}
 use Rattle.vdesign.specs.declared.design.Kind.{Kind}
 use Rattle.vdesign.specs.declared.design.Kind.TheVariants.{Reg, Integer, Wire}
 use Rattle.vdesign.specs.declared.action.Target.{Target}
+use Rattle.velab.specs.declared.fault.Rule.{Rule}
+use Rattle.velab.specs.declared.fault.Rule.TheVariants as rule
 use Rattle.vdesign.specs.declared.action.Target.TheVariants.{Whole, Bit, Part}
 use Rattle.vdesign.specs.declared.action.Action.{Action}
 use Rattle.vdesign.specs.declared.action.Action.TheVariants.{Assign, Nonblocking, Held, Posted, Trigger, Test, Case, Again, Repeat, Forever, Delay, On, Until, Drive, Print, DumpVars, Dump, Pass, Finish, Stop}
@@ -51,3 +53,7 @@ writes_rightly variables (Dump switch) = true
 writes_rightly variables Pass = true
 writes_rightly variables Finish = true
 writes_rightly variables Stop = true
+
+-- the rule that an action breaks by what it writes
+abbrev pub kind_rule : List Variable → Action → Option Rule
+kind_rule variables action = if writes_rightly variables action then None else Some rule.Kind

@@ -1,15 +1,20 @@
 // Constants: what bounds, counts and parameters are worth (IEEE 1364-2005, 4.3.1, 4.10, 5.1.14, 5.2.1).
 
-ghost use Rattle.std.specs.Prelude.{◌≡◌, ◌≤◌, [], IfOk, IfSome, OnOk};
+ghost use Rattle.std.specs.Prelude.{◌≡◌, ◌≤◌, [], List, None, IfOk, IfSome, OnOk};
 ghost use Rattle.basis.specs.Reasons.{IfFault};
 ghost use Rattle.vbits.specs.Letters as letters;
 ghost use Rattle.vvalue.specs.Flaws.{flaw_of};
 ghost use Rattle.velab.specs.Constants as spec;
 ghost use Rattle.velab.specs.Rules as rules;
-ghost use Rattle.velab.specs.Rules.{flaw_rule, IsBroken};
+ghost use Rattle.vast.specs.NumberedTrees.{tree_of};
+ghost use Rattle.vast.specs.Words.{Text};
+ghost use Rattle.velab.specs.FirstWords.{first_in};
+ghost use Rattle.velab.specs.Rules.{flaw_fault, IsBroken};
 
 use crate::fault::{ElabFault, Rule};
+use crate::first::first_in;
 use basis::OrMemory;
+use vast::expression::Expression as Written;
 use vbits::{Bit4, Vec4};
 use vdesign::expression::{Bounds, Expression};
 use vvalue::asked::by_itself;
@@ -43,18 +48,22 @@ pub fn rule_of(flaw: Flaw) -> Rule
     }
 }
 
-/// What a constant expression is worth. E306 where its sizes are wrong.
-pub fn worth_of(expression: &Expression, at: Option<u32>) -> Result<Vec4, OrMemory<ElabFault>>
+/// What a constant expression is worth, which is written so. E306, or E310, where its sizes are wrong, at the first word that is written.
+pub fn worth_of(expression: &Expression, written: &Written) -> Result<Vec4, OrMemory<ElabFault>>
     ensures ok { IfOk result (λ value. value ≡ spec.worth expression.now) }
-    ensures right { OnOk result (flaw_rule (flaw_of spec.nothing expression.now) ≡ None) }
-    ensures err { IfFault result (IsBroken (flaw_rule (flaw_of spec.nothing expression.now))) }
+    ensures right { (words : List Text) → OnOk result (flaw_fault
+        (flaw_of spec.nothing expression.now) (first_in (tree_of words written.now)) ≡ None) }
+    ensures err { (words : List Text) → IfFault result (IsBroken (flaw_fault
+        (flaw_of spec.nothing expression.now) (first_in (tree_of words written.now)))) }
 {
     let moment = nothing();
     match flaw_of(expression, &moment) {
         None => Ok(by_itself(expression, &moment)),
         Some(flaw) => {
-            let rule = rule_of(flaw);
-            Err(OrMemory::Fault(ElabFault { rule, at }))
+            Err(OrMemory::Fault(ElabFault {
+                rule: rule_of(flaw),
+                at: first_in(written),
+            }))
         }
     }
 }

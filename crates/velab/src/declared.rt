@@ -1,10 +1,10 @@
 // The names of a module's variables: its ports, and what its items declare (IEEE 1364-2005, 3.7, 4.2, 12.3.3).
-ghost use Rattle.std.specs.Prelude.{◌≡◌, ◌≤◌, [], ◌++◌, ◌∷◌, false, length, map, IfOk, OnOk};
+ghost use Rattle.std.specs.Prelude.{◌≡◌, [], None, false, map, IfOk, OnOk};
 ghost use Rattle.basis.specs.Reasons.{IfFault};
-ghost use Rattle.vast.specs.TokenTexts.{token_text};
-ghost use Rattle.vast.specs.ModuleTrees.{item_tree};
+ghost use Rattle.vast.specs.NumberedTrees.{item_tree};
 ghost use Rattle.vexpr_parse.specs.Texts.{words_of};
-ghost use Rattle.vmodules.specs.Names.{has_double};
+ghost use Rattle.vmodules.specs.Names.{again_behind, first_again, has_double, letters_of};
+ghost use Rattle.vmodules.specs.Inner.{with_words};
 ghost use Rattle.velab.specs.Inner.{names_in, names_of, names_before, port_texts, texts_of, DoublesIn};
 
 use crate::fault::ElabFault;
@@ -23,8 +23,11 @@ fn add_all<'t>(
     list: &[Declared],
     into: &mut Names<'t>,
 ) -> Result<(), OrMemory<ElabFault>>
-    ensures ok { OnOk result (into.new ≡ into.old ++ texts_of (words_of tokens.now) list.now) }
-    ensures err { IfFault result (DoublesIn (into.old ++ texts_of (words_of tokens.now) list.now)) }
+    ensures ok { OnOk result (into.new ≡ with_words into.old (texts_of
+        (words_of tokens.now) list.now)) }
+    ensures right { OnOk result (again_behind into.old (texts_of
+        (words_of tokens.now) list.now) ≡ None) }
+    ensures err { IfFault result (DoublesIn into.old (texts_of (words_of tokens.now) list.now)) }
 {
     for one in list {
         note(into, letters(tokens, one.name), one.name.number)?;
@@ -38,10 +41,12 @@ fn add_item<'t>(
     item: &ModuleItem,
     into: &mut Names<'t>,
 ) -> Result<(), OrMemory<ElabFault>>
-    ensures ok { OnOk result (into.new ≡ into.old ++ names_of
-        (item_tree (words_of tokens.now) item.now)) }
-    ensures err { IfFault result
-        (DoublesIn (into.old ++ names_of (item_tree (words_of tokens.now) item.now))) }
+    ensures ok { OnOk result (into.new ≡ with_words into.old (names_of (item_tree
+        (words_of tokens.now) item.now))) }
+    ensures right { OnOk result (again_behind into.old (names_of (item_tree
+        (words_of tokens.now) item.now)) ≡ None) }
+    ensures err { IfFault result (DoublesIn into.old (names_of (item_tree
+        (words_of tokens.now) item.now))) }
 {
     match item {
         ModuleItem::Declaration { declared, .. } => add_all(tokens, declared, into),
@@ -60,9 +65,11 @@ fn add_ports<'t>(
     ports: &[PortForm<'_>],
     into: &mut Names<'t>,
 ) -> Result<(), OrMemory<ElabFault>>
-    ensures ok { OnOk result (into.new ≡ into.old ++ port_texts (words_of tokens.now) ports.now) }
-    ensures err { IfFault result (DoublesIn (into.old ++ port_texts (words_of tokens.now)
-        ports.now)) }
+    ensures ok { OnOk result (into.new ≡ with_words into.old (port_texts
+        (words_of tokens.now) ports.now)) }
+    ensures right { OnOk result (again_behind into.old (port_texts
+        (words_of tokens.now) ports.now) ≡ None) }
+    ensures err { IfFault result (DoublesIn into.old (port_texts (words_of tokens.now) ports.now)) }
 {
     for port in ports {
         note(into, letters(tokens, port.name), port.name.number)?;
@@ -76,9 +83,11 @@ pub fn port_names<'t>(
     tokens: &Tokens<'t>,
     ports: &[PortForm<'_>],
 ) -> Result<Names<'t>, OrMemory<ElabFault>>
-    ensures ok { IfOk result (λ names. names ≡ port_texts (words_of tokens.now) ports.now) }
-    ensures once { OnOk result (has_double (port_texts (words_of tokens.now) ports.now) ≡ false) }
-    ensures err { IfFault result (DoublesIn (port_texts (words_of tokens.now) ports.now)) }
+    ensures ok { IfOk result (λ names. names ≡ letters_of (port_texts
+        (words_of tokens.now) ports.now)) }
+    ensures right { OnOk result (first_again (port_texts (words_of tokens.now) ports.now) ≡ None) }
+    ensures once { IfOk result (λ names. has_double names ≡ false) }
+    ensures err { IfFault result (DoublesIn [] (port_texts (words_of tokens.now) ports.now)) }
 {
     let mut names = Names::new(alloc);
     add_ports(tokens, ports, &mut names)?;
@@ -92,10 +101,12 @@ fn add_items<'t>(
     items: &[ModuleItem],
     into: &mut Names<'t>,
 ) -> Result<(), OrMemory<ElabFault>>
-    ensures ok { OnOk result
-        (into.new ≡ into.old ++ names_in (map (item_tree (words_of tokens.now)) items.now)) }
-    ensures err { IfFault result
-        (DoublesIn (into.old ++ names_in (map (item_tree (words_of tokens.now)) items.now))) }
+    ensures ok { OnOk result (into.new ≡ with_words into.old (names_in (map (item_tree
+        (words_of tokens.now)) items.now))) }
+    ensures right { OnOk result (again_behind into.old (names_in (map (item_tree
+        (words_of tokens.now)) items.now)) ≡ None) }
+    ensures err { IfFault result (DoublesIn into.old (names_in (map (item_tree
+        (words_of tokens.now)) items.now))) }
 {
     for item in items {
         add_item(tokens, item, into)?;
@@ -110,12 +121,13 @@ pub fn declared<'t>(
     ports: &[PortForm<'_>],
     items: &[ModuleItem],
 ) -> Result<Names<'t>, OrMemory<ElabFault>>
-    ensures ok { IfOk result (λ names. names ≡ names_before (words_of tokens.now) ports.now
-        items.now) }
-    ensures once { OnOk result
-        (has_double (names_before (words_of tokens.now) ports.now items.now) ≡ false) }
-    ensures err { IfFault result
-        (DoublesIn (names_before (words_of tokens.now) ports.now items.now)) }
+    ensures ok { IfOk result (λ names. names ≡ letters_of (names_before
+        (words_of tokens.now) ports.now items.now)) }
+    ensures right { OnOk result (first_again (names_before
+        (words_of tokens.now) ports.now items.now) ≡ None) }
+    ensures once { IfOk result (λ names. has_double names ≡ false) }
+    ensures err { IfFault result (DoublesIn [] (names_before
+        (words_of tokens.now) ports.now items.now)) }
 {
     let mut names = Names::new(alloc);
     add_ports(tokens, ports, &mut names)?;

@@ -1,7 +1,7 @@
 // Names that are driven: by a continuous assignment, or by the value that a net is declared with (IEEE 1364-2005, 6.1).
 ghost use Rattle.std.specs.Prelude.{◌≡◌, ◌++◌, ◌∷◌, [], OnOk};
-ghost use Rattle.vast.specs.TokenTexts.{token_text};
-ghost use Rattle.vast.specs.ModuleTrees.{item_tree};
+ghost use Rattle.vast.specs.NumberedWords.{numbered};
+ghost use Rattle.vast.specs.NumberedTrees.{item_tree};
 ghost use Rattle.vexpr_parse.specs.Texts.{words_of};
 ghost use Rattle.velab.specs.Elaborate.{drivers_by};
 ghost use Rattle.velab.specs.Inner.{driver_names, declared_drivers, set_drivers, item_drivers};
@@ -26,7 +26,7 @@ pub fn add_driver<'t>(
     into: &mut Vec<Driver<'t>>,
 ) -> Result<(), NoMemory>
     ensures { OnOk result (driver_names into.new.items ≡
-        driver_names into.old.items ++ token_text (words_of tokens.now) net ∷ []) }
+        driver_names into.old.items ++ numbered (words_of tokens.now) net ∷ []) }
 {
     into.push(Driver {
         net: letters(tokens, net),

@@ -1,10 +1,11 @@
 // Expressions of the text, their names resolved (IEEE 1364-2005, clause 5, 12.7).
 
-ghost use Rattle.std.specs.Prelude.{◌≡◌, ◌≤◌, [], ◌∷◌, ◌++◌, true, false, Some, None, length, IfOk, OnOk};
+ghost use Rattle.std.specs.Prelude.{◌≡◌, ◌≤◌, [], ◌∷◌, ◌++◌, true, false, List, Some, None, length, IfOk, OnOk};
 ghost use Rattle.basis.specs.Reasons.{IfFault};
-ghost use Rattle.vast.specs.ExpressionTrees as text;
-ghost use Rattle.vast.specs.Expressions.{bit};
-ghost use Rattle.vast.specs.TokenTexts.{token_text};
+ghost use Rattle.vast.specs.NumberedTrees as text;
+ghost use Rattle.vast.specs.NumberedExpressions.{bit};
+ghost use Rattle.vast.specs.NumberedWords.{numbered};
+ghost use Rattle.vast.specs.Words.{Text};
 ghost use Rattle.vdesign.specs.Expressions.{ExpressionTree};
 ghost use Rattle.vdesign.specs.Nodes.{nodes_of};
 ghost use Rattle.vexpr_parse.specs.Texts.{words_of};
@@ -17,6 +18,7 @@ ghost use Rattle.velab.specs.Rules.{IsBroken};
 
 use crate::constant::{count_in, part_bounds, worth_of};
 use crate::fault::{ElabFault, Rule};
+use crate::first::first_among;
 use crate::number::constant_of;
 use crate::scope::{Meaning, Scope, named};
 use basis::OrMemory;
@@ -96,8 +98,10 @@ fn bounds_for(value: Vec4, bounds: Option<Bounds>) -> Bounds
 fn part_node(meaning: Meaning, selected: Bounds, at: Token) -> Result<Node, OrMemory<ElabFault>>
     ensures ok { IfOk result (λ node.
         node ∷ [] ≡ nodes_of (spec.resolved_part (Some meaning) selected)) }
-    ensures right { OnOk result (spec.part_rule (Some meaning) selected ≡ None) }
-    ensures err { IfFault result (IsBroken (spec.part_rule (Some meaning) selected)) }
+    ensures right { (words : List Text) →
+        OnOk result (spec.part_rule (Some meaning) selected (numbered words at) ≡ None) }
+    ensures err { (words : List Text) →
+        IfFault result (IsBroken (spec.part_rule (Some meaning) selected (numbered words at))) }
 {
     match meaning {
         Meaning::Variable(variable) => Ok(Node::Part {
@@ -149,14 +153,13 @@ fn put_parts(
     Ok(())
 }
 
-/// What a constant expression is worth, which stands behind this token. E303, E306 or E307 where it is none.
+/// What a constant expression is worth. E303, E306 or E307 where it is none.
 #[cycle(expressions)]
 pub fn worth(
     alloc: Global,
     scope: &Scope<'_, '_>,
     tokens: &Tokens<'_>,
     expression: &Value,
-    at: Option<u32>,
 ) -> Result<Vec4, OrMemory<ElabFault>>
     ensures ok { IfOk result (λ value. value ≡
         constants.worth (resolved scope.now (text.tree_of (words_of tokens.now) expression.now))) }
@@ -168,7 +171,7 @@ pub fn worth(
     let mut nodes = Vec::new(alloc);
     put_expression(alloc, scope, true, tokens, expression, &mut nodes)?;
     let resolved = Expression::new(nodes);
-    worth_of(&resolved, at)
+    worth_of(&resolved, expression)
 }
 
 // `name[index]`
@@ -183,13 +186,13 @@ fn put_bit(
     nodes: &mut Vec<Node>,
 ) -> Result<(), OrMemory<ElabFault>>
     ensures ok { OnOk result (nodes.new.items ≡ nodes.old.items ++ nodes_of (resolved scope.now
-        (bit (token_text (words_of tokens.now) name) (text.tree_of (words_of tokens.now)
+        (bit (numbered (words_of tokens.now) name) (text.tree_of (words_of tokens.now)
         index.now)))) }
     ensures right { OnOk result (broken fixed scope.now
-        (bit (token_text (words_of tokens.now) name) (text.tree_of (words_of tokens.now) index.now))
+        (bit (numbered (words_of tokens.now) name) (text.tree_of (words_of tokens.now) index.now))
         ≡ None) }
     ensures err { IfFault result (IsBroken (broken fixed scope.now
-        (bit (token_text (words_of tokens.now) name) (text.tree_of (words_of tokens.now)
+        (bit (numbered (words_of tokens.now) name) (text.tree_of (words_of tokens.now)
         index.now)))) }
 {
     match named(scope, fixed, tokens, name)? {
@@ -207,7 +210,7 @@ fn put_bit(
     }
 }
 
-// The parts of a concatenation, behind the token of this number. E306 where there are more than 64, as each has a bit at least.
+// The parts of a concatenation. E306 where there are more than 64, as each has a bit at least.
 #[cycle(expressions)]
 #[tactic(auto, using(crate::proofs::PartLemmas::parts_counted))]
 fn put_joined(
@@ -215,7 +218,6 @@ fn put_joined(
     scope: &Scope<'_, '_>,
     fixed: bool,
     tokens: &Tokens<'_>,
-    at: u32,
     parts: &[Value],
     nodes: &mut Vec<Node>,
 ) -> Result<(), OrMemory<ElabFault>>
@@ -229,7 +231,7 @@ fn put_joined(
     if parts.len() > MOST_PARTS {
         return Err(OrMemory::Fault(ElabFault {
             rule: Rule::Width,
-            at: Some(at),
+            at: first_among(parts),
         }));
     }
     put_parts(alloc, scope, fixed, tokens, parts, nodes)
@@ -242,7 +244,6 @@ fn put_repeated(
     scope: &Scope<'_, '_>,
     fixed: bool,
     tokens: &Tokens<'_>,
-    at: u32,
     parts: &[Value],
     count: Vec4,
     nodes: &mut Vec<Node>,
@@ -256,7 +257,7 @@ fn put_repeated(
         (IsBroken (broken_joined fixed scope.now (text.trees_of (words_of tokens.now) parts.now))) }
 {
     put(nodes, Node::Repeated(count_in(count)))?;
-    put_joined(alloc, scope, fixed, tokens, at, parts, nodes)
+    put_joined(alloc, scope, fixed, tokens, parts, nodes)
 }
 
 // Puts the nodes that an expression of the text stands for behind others.
@@ -282,11 +283,11 @@ fn put_expression(
             let meaning = named(scope, fixed, tokens, *word)?;
             put(nodes, name_node(meaning))
         }
-        Value::Time { at } => {
+        Value::Time(word) => {
             if fixed {
                 return Err(OrMemory::Fault(ElabFault {
                     rule: Rule::Constant,
-                    at: Some(*at),
+                    at: Some(word.number),
                 }));
             }
             put(nodes, Node::Time)
@@ -295,17 +296,17 @@ fn put_expression(
         Value::Bit { name, index } => put_bit(alloc, scope, fixed, tokens, index, *name, nodes),
         Value::Part { name, left, right } => {
             let meaning = named(scope, fixed, tokens, *name)?;
-            let left = worth(alloc, scope, tokens, left, Some(name.number))?;
-            let right = worth(alloc, scope, tokens, right, Some(name.number))?;
+            let left = worth(alloc, scope, tokens, left)?;
+            let right = worth(alloc, scope, tokens, right)?;
             let node = part_node(meaning, part_bounds(left, right), *name)?;
             put(nodes, node)
         }
-        Value::Concatenation { at, parts } => {
-            put_joined(alloc, scope, fixed, tokens, *at, parts, nodes)
+        Value::Concatenation { parts, .. } => {
+            put_joined(alloc, scope, fixed, tokens, parts, nodes)
         }
-        Value::Replication { at, count, parts } => {
-            let count = worth(alloc, scope, tokens, count, Some(*at))?;
-            put_repeated(alloc, scope, fixed, tokens, *at, parts, count, nodes)
+        Value::Replication { count, parts, .. } => {
+            let count = worth(alloc, scope, tokens, count)?;
+            put_repeated(alloc, scope, fixed, tokens, parts, count, nodes)
         }
         Value::Conversion { signed, operand } => {
             put(nodes, Node::Conversion(*signed))?;
@@ -366,11 +367,11 @@ pub fn expression_of_name(
     name: Token,
 ) -> Result<Expression, OrMemory<ElabFault>>
     ensures ok { IfOk result (λ e.
-        e ≡ spec.resolved_name (meaning_of scope.now (token_text (words_of tokens.now) name))) }
+        e ≡ spec.resolved_name (meaning_of scope.now (numbered (words_of tokens.now) name))) }
     ensures right { OnOk result
-        (broken_name false scope.now (token_text (words_of tokens.now) name) ≡ None) }
+        (broken_name false scope.now (numbered (words_of tokens.now) name) ≡ None) }
     ensures err { IfFault result
-        (IsBroken (broken_name false scope.now (token_text (words_of tokens.now) name))) }
+        (IsBroken (broken_name false scope.now (numbered (words_of tokens.now) name))) }
 {
     let meaning = named(scope, false, tokens, name)?;
     let mut nodes = Vec::new(alloc);
@@ -395,7 +396,7 @@ pub fn constant_expression(
     let mut nodes = Vec::new(alloc);
     put_expression(alloc, scope, true, tokens, expression, &mut nodes)?;
     let resolved = Expression::new(nodes);
-    worth_of(&resolved, None)?;
+    worth_of(&resolved, expression)?;
     Ok(resolved)
 }
 

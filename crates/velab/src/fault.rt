@@ -7,7 +7,7 @@ pub enum Rule {
     Top,
     /// E302: two modules, two names of a module, or two paths are alike.
     Doubled,
-    /// E303: a name that the module doesn't declare, in a constant a name that stands later, or a path of `$dumpvars` to nothing.
+    /// E303: a name that the module doesn't declare, in a constant a parameter that stands later, or a path of `$dumpvars` to nothing.
     Unknown,
     /// E304: a net that is driven twice: by continuous assignments, its own value, outputs of instances, or a connection of an input.
     Drivers,

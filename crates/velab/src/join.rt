@@ -3,8 +3,8 @@
 ghost use Rattle.std.specs.Prelude.{◌≡◌, [], ◌∷◌, None, Some, option_map, List, map, IfOk, OnOk};
 ghost use Rattle.basis.specs.Reasons.{IfFault};
 ghost use Rattle.vast.specs.Words.{Text};
-ghost use Rattle.vast.specs.ExpressionTrees.{tree_of as text_tree};
-ghost use Rattle.vast.specs.TokenTexts.{token_text};
+ghost use Rattle.vast.specs.NumberedTrees.{tree_of as text_tree};
+ghost use Rattle.vast.specs.NumberedWords.{numbered};
 ghost use Rattle.vexpr_parse.specs.Texts.{words_of};
 ghost use Rattle.vmodules.specs.Inner.{port_form, value_tree};
 ghost use Rattle.velab.specs.Elaborate as spec;
@@ -37,19 +37,20 @@ pub fn only_name(value: &Value) -> Option<Token>
     }
 }
 
-// One process of one action, behind those that there are; `at` is the number of the token that its statement begins with.
+// One process of one action, behind those that there are, told by this token.
 fn put_process(
     alloc: Global,
-    at: u32,
+    whose: Token,
     action: Action,
     table: &mut Table,
     into: &mut Vec<Places>,
 ) -> Result<(), OrMemory<ElabFault>>
-    ensures ok { HaveLaid result (spec.one_process table.old action) into.old table.new into.new }
+    ensures ok { (words : List Text) → HaveLaid result (spec.one_process table.old
+        (Some (numbered words whose)) action) into.old table.new into.new }
     ensures err { IfFault result (IsBroken None) }
 {
     let mut begins = Vec::new(alloc);
-    put(table, &mut begins, at, action)?;
+    put(table, &mut begins, whose.number, Some(whose.number), action)?;
     into.push(Places::new(begins))?;
     Ok(())
 }
@@ -60,25 +61,32 @@ fn lay_input(
     outer: &Scope<'_, '_>,
     inner: &Scope<'_, '_>,
     tokens: &Tokens<'_>,
-    at: u32,
+    whose: Token,
     port: Token,
     value: &Value,
     table: &mut Table,
     into: &mut Vec<Places>,
 ) -> Result<(), OrMemory<ElabFault>>
-    ensures ok { HaveLaid result (spec.one_process table.old (spec.driven_in outer.now inner.now
-        (token_text (words_of tokens.now) port) (text_tree (words_of tokens.now) value.now)))
+    ensures ok { HaveLaid result (spec.one_process table.old (Some
+        (numbered (words_of tokens.now) whose)) (spec.driven_in outer.now inner.now
+        (numbered (words_of tokens.now) port) (text_tree (words_of tokens.now) value.now)))
         into.old table.new into.new }
     ensures right { OnOk result (spec.broken_input outer.now inner.now
-        (token_text (words_of tokens.now) port) (text_tree (words_of tokens.now) value.now)
+        (numbered (words_of tokens.now) port) (text_tree (words_of tokens.now) value.now)
         ≡ None) }
     ensures err { IfFault result (IsBroken (spec.broken_input outer.now inner.now
-        (token_text (words_of tokens.now) port) (text_tree (words_of tokens.now) value.now))) }
+        (numbered (words_of tokens.now) port) (text_tree (words_of tokens.now) value.now))) }
 {
     let net = number_of(inner, tokens, port)?;
     let terms = condition_terms(alloc, outer, tokens, value)?;
     let value = expression_of(alloc, outer, tokens, value)?;
-    put_process(alloc, at, Action::Drive { net, value, terms }, table, into)
+    put_process(
+        alloc,
+        whose,
+        Action::Drive { net, value, terms },
+        table,
+        into,
+    )
 }
 
 // What an output drives outside: a net of this name.
@@ -87,25 +95,34 @@ fn lay_output(
     outer: &Scope<'_, '_>,
     inner: &Scope<'_, '_>,
     tokens: &Tokens<'_>,
-    at: u32,
+    whose: Token,
     port: Token,
     net: Token,
     table: &mut Table,
     into: &mut Vec<Places>,
 ) -> Result<(), OrMemory<ElabFault>>
-    ensures ok { HaveLaid result (spec.one_process table.old (spec.driven_out outer.now inner.now
-        (token_text (words_of tokens.now) port) (Some (token_text (words_of tokens.now) net))))
+    ensures ok { HaveLaid result (spec.one_process table.old (Some
+        (numbered (words_of tokens.now) whose)) (spec.driven_out outer.now inner.now
+        (numbered (words_of tokens.now) port) (Some (numbered (words_of tokens.now) net))))
         into.old table.new into.new }
-    ensures right { OnOk result (spec.broken_output outer.now inner.now
-        (token_text (words_of tokens.now) port) (Some (token_text (words_of tokens.now) net))
+    ensures right { OnOk result (spec.broken_output (numbered
+        (words_of tokens.now) whose) outer.now inner.now
+        (numbered (words_of tokens.now) port) (Some (numbered (words_of tokens.now) net))
         ≡ None) }
-    ensures err { IfFault result (IsBroken (spec.broken_output outer.now inner.now
-        (token_text (words_of tokens.now) port) (Some (token_text (words_of tokens.now) net)))) }
+    ensures err { IfFault result (IsBroken (spec.broken_output (numbered
+        (words_of tokens.now) whose) outer.now inner.now
+        (numbered (words_of tokens.now) port) (Some (numbered (words_of tokens.now) net)))) }
 {
     let net = number_of(outer, tokens, net)?;
     let terms = name_terms(alloc, inner, tokens, port)?;
     let value = expression_of_name(alloc, inner, tokens, port)?;
-    put_process(alloc, at, Action::Drive { net, value, terms }, table, into)
+    put_process(
+        alloc,
+        whose,
+        Action::Drive { net, value, terms },
+        table,
+        into,
+    )
 }
 
 // The process of a port that is connected to this. E305 where it is an output and this is no name alone.
@@ -114,33 +131,38 @@ fn lay_tied(
     outer: &Scope<'_, '_>,
     inner: &Scope<'_, '_>,
     tokens: &Tokens<'_>,
-    at: u32,
+    whose: Token,
     port: &PortForm<'_>,
     value: &Value,
     table: &mut Table,
     into: &mut Vec<Places>,
 ) -> Result<(), OrMemory<ElabFault>>
-    ensures ok { HaveLaid result (spec.laid_join outer.now inner.now table.old
+    ensures ok { HaveLaid result (spec.laid_join (numbered (words_of tokens.now) whose)
+        outer.now inner.now table.old
         (port_form (words_of tokens.now) port.now) (Some
         (text_tree (words_of tokens.now) value.now)))
         into.old table.new into.new }
-    ensures right { OnOk result (spec.broken_join outer.now inner.now
+    ensures right { OnOk result (spec.broken_join (numbered (words_of tokens.now) whose)
+        outer.now inner.now
         (port_form (words_of tokens.now) port.now) (Some
         (text_tree (words_of tokens.now) value.now)) ≡ None) }
-    ensures err { IfFault result (IsBroken (spec.broken_join outer.now inner.now
+    ensures err { IfFault result (IsBroken (spec.broken_join (numbered (words_of tokens.now) whose)
+        outer.now inner.now
         (port_form (words_of tokens.now) port.now) (Some
         (text_tree (words_of tokens.now) value.now)))) }
 {
     if !port.output {
         return lay_input(
-            alloc, outer, inner, tokens, at, port.name, value, table, into,
+            alloc, outer, inner, tokens, whose, port.name, value, table, into,
         );
     }
     match only_name(value) {
-        Some(net) => lay_output(alloc, outer, inner, tokens, at, port.name, net, table, into),
+        Some(net) => lay_output(
+            alloc, outer, inner, tokens, whose, port.name, net, table, into,
+        ),
         None => Err(OrMemory::Fault(ElabFault {
             rule: Rule::Ports,
-            at: Some(at),
+            at: Some(whose.number),
         })),
     }
 }
@@ -151,50 +173,53 @@ fn lay_join(
     outer: &Scope<'_, '_>,
     inner: &Scope<'_, '_>,
     tokens: &Tokens<'_>,
-    at: u32,
+    whose: Token,
     ties: &Ties<'_, '_>,
     port: &PortForm<'_>,
     table: &mut Table,
     into: &mut Vec<Places>,
 ) -> Result<(), OrMemory<ElabFault>>
     ensures ok { HaveLaid result
-        (join_of (words_of tokens.now) outer.now inner.now ties.now table.old port.now)
+        (join_of (words_of tokens.now) whose outer.now inner.now ties.now table.old port.now)
         into.old table.new into.new }
     ensures right { OnOk result
-        (broken_join_of (words_of tokens.now) outer.now inner.now ties.now port.now ≡ None) }
+        (broken_join_of (words_of tokens.now) whose outer.now inner.now ties.now port.now ≡ None) }
     ensures err { IfFault result
-        (IsBroken (broken_join_of (words_of tokens.now) outer.now inner.now ties.now port.now)) }
+        (IsBroken (broken_join_of
+        (words_of tokens.now) whose outer.now inner.now ties.now port.now)) }
 {
     match ties.value(letters(tokens, port.name)) {
         None => Ok(()),
-        Some(value) => lay_tied(alloc, outer, inner, tokens, at, port, value, table, into),
+        Some(value) => lay_tied(alloc, outer, inner, tokens, whose, port, value, table, into),
     }
 }
 
 /// A process for each port that is connected, in the order of the ports, behind the processes that there are. `outer` are the names
-/// where the instance stands, `inner` its own, `ties` what its ports are connected to, `at` the number of its token. E303 or E310 where
+/// where the instance stands, `inner` its own, `ties` what its ports are connected to, `whose` the token of its name. E303 or E310 where
 /// a name that is connected is wrong, E305 where an output isn't connected to a name alone; E901.
 pub fn put_joins(
     alloc: Global,
     outer: &Scope<'_, '_>,
     inner: &Scope<'_, '_>,
     tokens: &Tokens<'_>,
-    at: u32,
+    whose: Token,
     ties: &Ties<'_, '_>,
     ports: &[PortForm<'_>],
     table: &mut Table,
     into: &mut Vec<Places>,
 ) -> Result<(), OrMemory<ElabFault>>
     ensures ok { HaveLaid result
-        (joins_of (words_of tokens.now) outer.now inner.now ties.now table.old ports.now)
+        (joins_of (words_of tokens.now) whose outer.now inner.now ties.now table.old ports.now)
         into.old table.new into.new }
     ensures right { OnOk result
-        (broken_joins_of (words_of tokens.now) outer.now inner.now ties.now ports.now ≡ None) }
+        (broken_joins_of
+        (words_of tokens.now) whose outer.now inner.now ties.now ports.now ≡ None) }
     ensures err { IfFault result
-        (IsBroken (broken_joins_of (words_of tokens.now) outer.now inner.now ties.now ports.now)) }
+        (IsBroken (broken_joins_of
+        (words_of tokens.now) whose outer.now inner.now ties.now ports.now)) }
 {
     for port in ports {
-        lay_join(alloc, outer, inner, tokens, at, ties, port, table, into)?;
+        lay_join(alloc, outer, inner, tokens, whose, ties, port, table, into)?;
     }
     Ok(())
 }

@@ -9,6 +9,7 @@ pub mod declared;
 pub mod driven;
 mod expression;
 pub mod fault;
+mod first;
 pub mod home;
 pub mod join;
 pub mod names;

@@ -1,9 +1,8 @@
 // Names of a module, no two alike (IEEE 1364-2005, 3.7, 12.7).
 
-ghost use Rattle.std.specs.Prelude.{◌≡◌, ◌++◌, ◌∷◌, [], false, OnOk};
+ghost use Rattle.std.specs.Prelude.{◌≡◌, ◌++◌, ◌∷◌, [], Some, true, false, OnOk};
 ghost use Rattle.basis.specs.Reasons.{IfFault};
 ghost use Rattle.vmodules.specs.Names.{has_double, is_declared};
-ghost use Rattle.velab.specs.Rules.{broken_if, IsBroken};
 
 use crate::fault::{ElabFault, Rule};
 use basis::OrMemory;
@@ -14,8 +13,8 @@ pub fn note<'t>(names: &mut Names<'t>, text: &'t [u8], at: u32) -> Result<(), Or
     ensures added { OnOk result (names.new ≡ names.old ++ text.now ∷ []) }
     ensures unique { has_double names.new ≡ false }
     ensures fresh { OnOk result (is_declared names.old text.now ≡ false) }
-    ensures err { IfFault result (IsBroken (broken_if (is_declared names.old text.now)
-        Rule.Doubled)) }
+    ensures err { IfFault result (λ fault. (is_declared names.old text.now ≡ true)
+        × (fault ≡ record { rule = Rule.Doubled; at = Some at })) }
 {
     let new = names.add(text)?;
     if !new {

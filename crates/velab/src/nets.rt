@@ -1,17 +1,15 @@
 // The nets of an instance, and those of them that something drives (IEEE 1364-2005, 4.2.1, 6.1).
-ghost use Rattle.std.specs.Prelude.{◌≡◌, ◌++◌, ◌∷◌, [], map, IfOk, OnOk};
-ghost use Rattle.std.specs.List.{filter};
+ghost use Rattle.std.specs.Prelude.{◌≡◌, ◌++◌, ◌∷◌, [], None, Some, true, false, map, IfOk, OnOk};
 ghost use Rattle.basis.specs.Reasons.{IfFault};
-ghost use Rattle.vast.specs.ModuleTrees.{item_tree};
+ghost use Rattle.vast.specs.NumberedTrees.{item_tree};
 ghost use Rattle.vexpr_parse.specs.Texts.{words_of};
-ghost use Rattle.vmodules.specs.Names.{is_declared};
-ghost use Rattle.vmodules.specs.Inner.{HoldSame, port_form};
+ghost use Rattle.vmodules.specs.Names.{is_declared, again_behind, first_again, letters_of};
+ghost use Rattle.vmodules.specs.Inner.{HoldSame, port_form, with_words};
 ghost use Rattle.velab.specs.Elaborate.{nets_of as spec_nets_of};
-ghost use Rattle.velab.specs.Inner.{BreaksDrivers, driver_names, item_nets, nets_as, port_nets, texts_of};
+ghost use Rattle.velab.specs.Inner.{BreaksDrivers, among, item_nets, nets_as, port_nets, texts_of};
 
 use crate::driven::Driver;
 use crate::fault::{ElabFault, Rule};
-use crate::names::note;
 use basis::{NoMemory, OrMemory};
 use std::alloc::Global;
 use vast::module::{DeclarationKind, Declared, ModuleItem, NetKind};
@@ -60,7 +58,7 @@ fn add_declared<'t>(
     into: &mut Names<'t>,
 ) -> Result<(), NoMemory>
     ensures { OnOk result
-        (HoldSame into.new (into.old ++ texts_of (words_of tokens.now) list.now)) }
+        (HoldSame into.new (with_words into.old (texts_of (words_of tokens.now) list.now))) }
 {
     for one in list {
         into.add(letters(tokens, one.name))?;
@@ -76,7 +74,8 @@ fn add_variables<'t>(
     into: &mut Names<'t>,
 ) -> Result<(), NoMemory>
     ensures { OnOk result
-        (HoldSame into.new (into.old ++ nets_as net (texts_of (words_of tokens.now) list.now))) }
+        (HoldSame into.new (into.old
+        ++ nets_as net (letters_of (texts_of (words_of tokens.now) list.now)))) }
 {
     match net {
         NetKind::Reg => Ok(()),
@@ -142,16 +141,18 @@ pub fn nets_of<'t>(
 // A net that something drives. E304 where something else does.
 fn add_net<'t>(driver: &Driver<'t>, into: &mut Names<'t>) -> Result<(), OrMemory<ElabFault>>
     ensures ok { OnOk result (into.new ≡ into.old ++ driver.now.net.now ∷ []) }
-    ensures err { IfFault result (BreaksDrivers (into.old ++ driver.now.net.now ∷ [])) }
+    ensures fresh { OnOk result (is_declared into.old driver.now.net.now ≡ false) }
+    ensures err { IfFault result (λ fault. (is_declared into.old driver.now.net.now ≡ true)
+        × (fault ≡ record { rule = Rule.Drivers; at = Some driver.now.at })) }
 {
-    match note(into, driver.net, driver.at) {
-        Ok(()) => Ok(()),
-        Err(OrMemory::Memory(none)) => Err(OrMemory::Memory(none)),
-        Err(OrMemory::Fault(_)) => Err(OrMemory::Fault(ElabFault {
+    let new = into.add(driver.net)?;
+    if !new {
+        return Err(OrMemory::Fault(ElabFault {
             rule: Rule::Drivers,
             at: Some(driver.at),
-        })),
+        }));
     }
+    Ok(())
 }
 
 // What one driver drives, where that is among these nets. E304 where something else does.
@@ -161,9 +162,9 @@ fn add_among<'t>(
     into: &mut Names<'t>,
 ) -> Result<(), OrMemory<ElabFault>>
     ensures ok { OnOk result
-        (into.new ≡ into.old ++ filter (is_declared nets.now) (driver.now.net.now ∷ [])) }
-    ensures err { IfFault result
-        (BreaksDrivers (into.old ++ filter (is_declared nets.now) (driver.now.net.now ∷ []))) }
+        (into.new ≡ with_words into.old (among nets.now (driver.now ∷ []))) }
+    ensures right { OnOk result (again_behind into.old (among nets.now (driver.now ∷ [])) ≡ None) }
+    ensures err { IfFault result (BreaksDrivers into.old (among nets.now (driver.now ∷ []))) }
 {
     if nets.place(driver.net).is_none() {
         return Ok(());
@@ -171,16 +172,15 @@ fn add_among<'t>(
     add_net(driver, into)
 }
 
-/// Those of these nets that something drives. E304 where two drivers drive one.
+/// Those of these nets that something drives. E304 where two drivers drive one, at the second.
 pub fn driven_nets<'t>(
     alloc: Global,
     nets: &Names<'_>,
     drivers: &[Driver<'t>],
 ) -> Result<Names<'t>, OrMemory<ElabFault>>
-    ensures ok { IfOk result (λ names.
-        names ≡ filter (is_declared nets.now) (driver_names drivers.now)) }
-    ensures err { IfFault result
-        (BreaksDrivers (filter (is_declared nets.now) (driver_names drivers.now))) }
+    ensures ok { IfOk result (λ names. names ≡ letters_of (among nets.now drivers.now)) }
+    ensures right { OnOk result (first_again (among nets.now drivers.now) ≡ None) }
+    ensures err { IfFault result (BreaksDrivers [] (among nets.now drivers.now)) }
 {
     let mut names = Names::new(alloc);
     for driver in drivers {

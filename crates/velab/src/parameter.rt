@@ -4,8 +4,8 @@ ghost use Rattle.std.specs.Prelude.{◌≡◌, ◌<◌, ◌≤◌, ◌^◌, List
 ghost use Rattle.std.specs.Option.{option_or};
 ghost use Rattle.basis.specs.Reasons.{IfFault};
 ghost use Rattle.vast.specs.Words.{Text};
-ghost use Rattle.vast.specs.TokenTexts.{token_text};
-ghost use Rattle.vast.specs.ModuleTrees.{head_parameter, item_tree, parameter_type, setting_tree};
+ghost use Rattle.vast.specs.NumberedWords.{numbered};
+ghost use Rattle.vast.specs.NumberedTrees.{head_parameter, item_tree, parameter_type, setting_tree};
 ghost use Rattle.vexpr_parse.specs.Texts.{words_of};
 ghost use Rattle.velab.specs.Elaborate as spec;
 ghost use Rattle.velab.specs.Elaborate.{with_given, with_all, broken_given, broken_all, broken_type, given, given_by, given_behind, valueless_by, event_given, instance_given};
@@ -245,14 +245,14 @@ fn add_event<'t>(
 ) -> Result<(), OrMemory<ElabFault>>
     ensures ok { OnOk result
         (into.new ≡ with_given (outside_tree (words_of tokens.now) outside.now)
-        into.old (event_given (token_text (words_of tokens.now) name))) }
+        into.old (event_given (numbered (words_of tokens.now) name))) }
     ensures variables { into.new.variables ≡ into.old.variables }
     ensures right { OnOk result
         (broken_given (outside_tree (words_of tokens.now) outside.now)
-        into.old (event_given (token_text (words_of tokens.now) name)) ≡ None) }
+        into.old (event_given (numbered (words_of tokens.now) name)) ≡ None) }
     ensures err { IfFault result
         (IsBroken (broken_given (outside_tree (words_of tokens.now) outside.now)
-        into.old (event_given (token_text (words_of tokens.now) name)))) }
+        into.old (event_given (numbered (words_of tokens.now) name)))) }
 {
     if into.events >= MOST_EVENTS {
         return Err(OrMemory::Fault(ElabFault {
@@ -299,14 +299,14 @@ fn add_instance<'t>(
 ) -> Result<(), OrMemory<ElabFault>>
     ensures ok { OnOk result (into.new ≡
         with_given (outside_tree (words_of tokens.now) outside.now)
-        into.old (instance_given (token_text (words_of tokens.now) name))) }
+        into.old (instance_given (numbered (words_of tokens.now) name))) }
     ensures variables { into.new.variables ≡ into.old.variables }
     ensures right { OnOk result (broken_given (outside_tree (words_of tokens.now) outside.now)
         into.old
-        (instance_given (token_text (words_of tokens.now) name)) ≡ None) }
+        (instance_given (numbered (words_of tokens.now) name)) ≡ None) }
     ensures err { IfFault result (IsBroken (broken_given
         (outside_tree (words_of tokens.now) outside.now)
-        into.old (instance_given (token_text (words_of tokens.now) name)))) }
+        into.old (instance_given (numbered (words_of tokens.now) name)))) }
 {
     note(&mut into.names, letters(tokens, name), name.number)?;
     into.others.push(Meaning::Instance)?;

@@ -2,17 +2,19 @@
 
 ghost use Rattle.std.specs.Prelude.{◌≡◌, ◌≤◌, [], List, map, true, None, Some, IfOk, OnOk};
 ghost use Rattle.basis.specs.Reasons.{IfFault};
-ghost use Rattle.vast.specs.ExpressionTrees.{tree_of as text_tree};
-ghost use Rattle.vast.specs.StatementTrees.{argument_tree};
+ghost use Rattle.vast.specs.NumberedTrees.{tree_of as text_tree};
+ghost use Rattle.vast.specs.NumberedTrees.{argument_tree};
 ghost use Rattle.vast.specs.Words.{Text};
 ghost use Rattle.vexpr_parse.specs.Texts.{words_of};
 ghost use Rattle.format_text.specs.Pieces.{TakesArgument};
 ghost use Rattle.velab.specs.Inner.{Prints};
-ghost use Rattle.velab.specs.Rules.{IsBroken};
+ghost use Rattle.velab.specs.FirstWords.{first_argument};
+ghost use Rattle.velab.specs.Rules.{told, IsBroken};
 ghost use Rattle.velab.specs.Prints as spec;
 
 use crate::expression::expression_of;
 use crate::fault::{ElabFault, Rule};
+use crate::first::first_argument;
 use crate::scope::Scope;
 use basis::{NoMemory, OrMemory};
 use format_text::Printer;
@@ -52,7 +54,7 @@ fn is_watched(value: &Value) -> bool
     ensures { (words : List Text) → result ≡ spec.is_watched (text_tree words value.now) }
 {
     match value {
-        Value::Time { .. } => false,
+        Value::Time(_) => false,
         _ => true,
     }
 }
@@ -110,27 +112,30 @@ fn put_arguments(
 }
 
 // The pieces of a line, where all its formats are right: else E310.
-fn line_of(is_right: bool, pieces: Option<Pieces>, at: u32) -> Result<Pieces, OrMemory<ElabFault>>
+fn line_of(
+    is_right: bool,
+    pieces: Option<Pieces>,
+    arguments: &[Argument],
+) -> Result<Pieces, OrMemory<ElabFault>>
     ensures ok { IfOk result (λ line. (is_right ≡ true) × (pieces ≡ Some line)) }
-    ensures err { IfFault result (λ fault. (fault.rule ≡ Rule.Kind) ×
-        (is_right ≡ true → pieces ≡ None)) }
+    ensures err { IfFault result (λ _. is_right ≡ true → pieces ≡ None) }
+    ensures told { (words : List Text) → IfFault result (λ fault. fault ≡
+        told Rule.Kind (first_argument (map (argument_tree words) arguments.now))) }
 {
     match pieces {
         Some(line) if is_right => Ok(line),
         _ => Err(OrMemory::Fault(ElabFault {
             rule: Rule::Kind,
-            at: Some(at),
+            at: first_argument(arguments),
         })),
     }
 }
 
-/// The pieces of a line (17.1.1), of a print task that begins with this token. E310 where a format isn't right; E303, E306 and E307 as
-/// its expressions have them.
+/// The pieces of a line (17.1.1). E310 where a format isn't right; E303, E306 and E307 as its expressions have them.
 pub fn pieces_in(
     alloc: Global,
     scope: &Scope<'_, '_>,
     tokens: &Tokens<'_>,
-    at: u32,
     arguments: &[Argument],
 ) -> Result<Pieces, OrMemory<ElabFault>>
     ensures ok { IfOk result (λ pieces. pieces ≡ spec.pieces_in scope.now
@@ -143,5 +148,5 @@ pub fn pieces_in(
     let mut printer = Printer::new(alloc);
     let is_right = put_arguments(alloc, scope, tokens, &mut printer, arguments)?;
     let pieces = printer.finish()?;
-    line_of(is_right, pieces, at)
+    line_of(is_right, pieces, arguments)
 }

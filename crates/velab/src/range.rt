@@ -1,8 +1,8 @@
 // Ranges: the bounds that vectors are declared with (IEEE 1364-2005, 4.3.1).
 ghost use Rattle.std.specs.Prelude.{◌≡◌, ◌≤◌, Some, None, option_map, IfOk, OnOk};
 ghost use Rattle.basis.specs.Reasons.{IfFault};
-ghost use Rattle.vast.specs.ExpressionTrees.{tree_of};
-ghost use Rattle.vast.specs.ModuleTrees.{range_tree};
+ghost use Rattle.vast.specs.NumberedTrees.{tree_of};
+ghost use Rattle.vast.specs.NumberedTrees.{range_tree};
 ghost use Rattle.vexpr_parse.specs.Texts.{words_of};
 ghost use Rattle.velab.specs.Elaborate as spec;
 ghost use Rattle.velab.specs.Inner.{bounds_for, IsNarrow};
@@ -11,6 +11,7 @@ ghost use Rattle.velab.specs.Rules.{IsBroken};
 use crate::constant::{bound_in, nothing};
 use crate::expression::constant_expression;
 use crate::fault::{ElabFault, Rule};
+use crate::first::first_in;
 use crate::number::WIDEST;
 use crate::scope::Scope;
 use basis::OrMemory;
@@ -20,15 +21,6 @@ use vast::module::Bounds as Written;
 use vdesign::expression::Bounds;
 use vlex::Tokens;
 use vvalue::asked::by_itself;
-
-// The number of the token that a bound is, where it is one.
-fn token_of(bound: &Expression) -> Option<u32> {
-    match bound {
-        Expression::Number(word) => Some(word.number),
-        Expression::Name(word) => Some(word.number),
-        _ => None,
-    }
-}
 
 // E306 where it isn't 0 to 65,535.
 fn right_bound(
@@ -50,7 +42,7 @@ fn right_bound(
         Some(bound) => Ok(bound),
         None => Err(OrMemory::Fault(ElabFault {
             rule: Rule::Width,
-            at: token_of(bound),
+            at: first_in(bound),
         })),
     }
 }
@@ -85,7 +77,7 @@ fn bounds_of(
     if span(bounds) > WIDEST {
         return Err(OrMemory::Fault(ElabFault {
             rule: Rule::Width,
-            at: token_of(&range.left),
+            at: first_in(&range.left),
         }));
     }
     Ok(bounds)

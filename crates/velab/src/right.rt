@@ -1,14 +1,15 @@
 // Whether processes write variables, and continuous assignments nets (6.1, 6.2).
-ghost use Rattle.std.specs.Prelude.{◌≡◌, true, OnOk, slice_get};
-ghost use Rattle.std.specs.List.{list_all};
+ghost use Rattle.std.specs.Prelude.{◌≡◌, None, OnOk, slice_get};
 ghost use Rattle.basis.specs.Reasons.{IfFault};
+ghost use Rattle.velab.specs.ActionFlaws.{table_fault};
 ghost use Rattle.velab.specs.Right as spec;
-ghost use Rattle.velab.specs.Rules.{unless, IsBroken};
+ghost use Rattle.velab.specs.Rules.{IsBroken};
 
 use crate::fault::{ElabFault, Rule};
+use crate::width::word_at;
 use basis::OrMemory;
 use vdesign::action::{Action, Target};
-use vdesign::design::{Design, Kind, Variable};
+use vdesign::design::{Kind, Variable};
 
 fn is_net(kind: Kind) -> bool
     ensures { result ≡ spec.is_net kind }
@@ -78,40 +79,38 @@ fn writes_rightly(variables: &[Variable], action: &Action) -> bool
     }
 }
 
-fn all_write_rightly(variables: &[Variable], actions: &[Action]) -> bool
-    ensures { result ≡ list_all (spec.writes_rightly variables.now) actions.now }
+// The first action that doesn't write rightly, told by its word.
+fn first_wrong(
+    variables: &[Variable],
+    actions: &[Action],
+    words: &[Option<u32>],
+) -> Option<ElabFault>
+    ensures { result ≡ table_fault (spec.kind_rule variables.now) actions.now words.now }
 {
-    for action in actions {
-        if !writes_rightly(variables, action) {
-            return false;
-        }
-    }
-    true
-}
-
-// The token of the first action that doesn't write rightly.
-fn wrong(design: &Design) -> Option<u32> {
-    for place in 0..design.actions.len() {
-        if !writes_rightly(&design.variables, &design.actions[place]) {
-            return design.origins.get(place).copied();
+    for place in 0..actions.len() {
+        if !writes_rightly(variables, &actions[place]) {
+            return Some(ElabFault {
+                rule: Rule::Kind,
+                at: word_at(words, place),
+            });
         }
     }
     None
 }
 
-/// E310 where a process assigns to a net, or where what is driven is no net.
-pub fn check_kinds(design: &Design) -> Result<(), OrMemory<ElabFault>>
-    ensures ok { OnOk result
-        (list_all (spec.writes_rightly design.now.variables) design.now.actions ≡ true) }
+/// E310 where one of these actions assigns to a net in a process, or drives what is no net; `words` are the numbers of their words.
+pub fn check_kinds(
+    variables: &[Variable],
+    actions: &[Action],
+    words: &[Option<u32>],
+) -> Result<(), OrMemory<ElabFault>>
+    ensures right { OnOk result
+        (table_fault (spec.kind_rule variables.now) actions.now words.now ≡ None) }
     ensures err { IfFault result
-        (IsBroken (unless (list_all (spec.writes_rightly design.now.variables) design.now.actions)
-        Rule.Kind)) }
+        (IsBroken (table_fault (spec.kind_rule variables.now) actions.now words.now)) }
 {
-    if all_write_rightly(&design.variables, &design.actions) {
-        return Ok(());
+    match first_wrong(variables, actions, words) {
+        None => Ok(()),
+        Some(fault) => Err(OrMemory::Fault(fault)),
     }
-    Err(OrMemory::Fault(ElabFault {
-        rule: Rule::Kind,
-        at: wrong(design),
-    }))
 }

@@ -2,7 +2,7 @@
 
 ghost use Rattle.std.specs.Prelude.{◌≡◌, ◌≤◌, Some, None, IfOk, OnOk};
 ghost use Rattle.basis.specs.Reasons.{IfFault};
-ghost use Rattle.vast.specs.TokenTexts.{token_text};
+ghost use Rattle.vast.specs.NumberedWords.{numbered};
 ghost use Rattle.vexpr_parse.specs.Texts.{words_of};
 ghost use Rattle.velab.specs.Rules.{IsBroken};
 ghost use Rattle.velab.specs.Scopes as spec;
@@ -98,7 +98,7 @@ fn meaning_at(scope: &Scope<'_, '_>, place: usize) -> Option<Meaning>
 
 /// What a name stands for, where it is declared.
 pub fn meaning_of(scope: &Scope<'_, '_>, tokens: &Tokens<'_>, token: Token) -> Option<Meaning>
-    ensures { result ≡ spec.meaning_of scope.now (token_text (words_of tokens.now) token) }
+    ensures { result ≡ spec.meaning_of scope.now (numbered (words_of tokens.now) token) }
 {
     match scope.names.place(letters(tokens, token)) {
         Some(place) => meaning_at(scope, place),
@@ -115,9 +115,9 @@ fn check_name(
     token: Token,
 ) -> Result<(), OrMemory<ElabFault>>
     ensures right { OnOk result
-        (spec.broken_name fixed scope.now (token_text (words_of tokens.now) token) ≡ None) }
+        (spec.broken_name fixed scope.now (numbered (words_of tokens.now) token) ≡ None) }
     ensures err { IfFault result
-        (IsBroken (spec.broken_name fixed scope.now (token_text (words_of tokens.now) token))) }
+        (IsBroken (spec.broken_name fixed scope.now (numbered (words_of tokens.now) token))) }
 {
     match meaning_of(scope, tokens, token) {
         None => Err(OrMemory::Fault(ElabFault {
@@ -162,11 +162,11 @@ pub fn named(
     token: Token,
 ) -> Result<Meaning, OrMemory<ElabFault>>
     ensures ok { IfOk result (λ m.
-        spec.meaning_of scope.now (token_text (words_of tokens.now) token) ≡ Some m) }
+        spec.meaning_of scope.now (numbered (words_of tokens.now) token) ≡ Some m) }
     ensures right { OnOk result
-        (spec.broken_name fixed scope.now (token_text (words_of tokens.now) token) ≡ None) }
+        (spec.broken_name fixed scope.now (numbered (words_of tokens.now) token) ≡ None) }
     ensures err { IfFault result
-        (IsBroken (spec.broken_name fixed scope.now (token_text (words_of tokens.now) token))) }
+        (IsBroken (spec.broken_name fixed scope.now (numbered (words_of tokens.now) token))) }
 {
     check_name(scope, fixed, tokens, token)?;
     match meaning_of(scope, tokens, token) {
@@ -185,11 +185,11 @@ pub fn number_of(
     token: Token,
 ) -> Result<u32, OrMemory<ElabFault>>
     ensures ok { IfOk result (λ n. n ≡ spec.number_of scope.now
-        (token_text (words_of tokens.now) token)) }
+        (numbered (words_of tokens.now) token)) }
     ensures right { OnOk result
-        (broken_variable scope.now (token_text (words_of tokens.now) token) ≡ None) }
+        (broken_variable scope.now (numbered (words_of tokens.now) token) ≡ None) }
     ensures err { IfFault result
-        (IsBroken (broken_variable scope.now (token_text (words_of tokens.now) token))) }
+        (IsBroken (broken_variable scope.now (numbered (words_of tokens.now) token))) }
 {
     match meaning_of(scope, tokens, token) {
         None => Err(OrMemory::Fault(ElabFault {
@@ -219,11 +219,11 @@ pub fn event_of(
     token: Token,
 ) -> Result<usize, OrMemory<ElabFault>>
     ensures ok { IfOk result (λ n. n ≡ spec.event_of scope.now
-        (token_text (words_of tokens.now) token)) }
+        (numbered (words_of tokens.now) token)) }
     ensures right { OnOk result
-        (broken_event scope.now (token_text (words_of tokens.now) token) ≡ None) }
+        (broken_event scope.now (numbered (words_of tokens.now) token) ≡ None) }
     ensures err { IfFault result
-        (IsBroken (broken_event scope.now (token_text (words_of tokens.now) token))) }
+        (IsBroken (broken_event scope.now (numbered (words_of tokens.now) token))) }
 {
     match meaning_of(scope, tokens, token) {
         None => Err(OrMemory::Fault(ElabFault {

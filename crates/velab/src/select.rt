@@ -1,13 +1,14 @@
 // What a `$dumpvars` selects (IEEE 1364-2005, 12.5, 18.1.2).
 
-ghost use Rattle.std.specs.Prelude.{◌≡◌, ◌++◌, ◌∷◌, None, map, option_map, IfOk, OnOk};
+ghost use Rattle.std.specs.Prelude.{◌≡◌, ◌++◌, ◌∷◌, List, None, map, option_map, IfOk, OnOk};
 ghost use Rattle.std.specs.List.{flat_map};
 ghost use Rattle.basis.specs.Reasons.{IfFault};
-ghost use Rattle.vast.specs.StatementTrees.{path_tree, selection_tree};
-ghost use Rattle.vast.specs.TokenTexts.{token_text};
+ghost use Rattle.vast.specs.NumberedTrees.{path_tree, selection_tree};
+ghost use Rattle.vast.specs.NumberedWords.{numbered};
 ghost use Rattle.vexpr_parse.specs.Texts.{words_of};
 ghost use Rattle.velab.specs.Inner.{all_chosen};
-ghost use Rattle.velab.specs.Rules.{IsBroken};
+ghost use Rattle.vast.specs.Words.{Text as TextLetters};
+ghost use Rattle.velab.specs.Rules.{number_in, IsBroken};
 ghost use Rattle.velab.specs.Selections as spec;
 
 use crate::fault::{ElabFault, Rule};
@@ -25,7 +26,7 @@ use vmodules::letters::letters;
 // Names, a dot before each.
 fn put_names(tokens: &Tokens<'_>, names: &[Token], into: &mut Vec<u8>) -> Result<(), NoMemory>
     ensures { OnOk result (into.new.items ≡
-        into.old.items ++ flat_map (λ one. 46 ∷ one) (map (token_text (words_of tokens.now))
+        into.old.items ++ flat_map (λ one. 46 ∷ one.letters) (map (numbered (words_of tokens.now))
         names.now)) }
 {
     for name in names {
@@ -38,7 +39,7 @@ fn put_names(tokens: &Tokens<'_>, names: &[Token], into: &mut Vec<u8>) -> Result
 // A path: its names, joined by dots.
 fn dotted(alloc: Global, tokens: &Tokens<'_>, names: &[Token]) -> Result<Text, NoMemory>
     ensures { IfOk result (λ text.
-        text ≡ spec.dotted (map (token_text (words_of tokens.now)) names.now)) }
+        text ≡ spec.dotted (map (numbered (words_of tokens.now)) names.now)) }
 {
     match names.split_first() {
         None => Ok(Text::new(Vec::new(alloc))),
@@ -87,6 +88,17 @@ fn chosen_by(
         put_chosen(alloc, tokens, levels, paths, &mut list)?;
     }
     Ok(Selection::new(list))
+}
+
+/// The token of the number of levels, where there is one.
+pub fn levels_of(selection: &Option<Written>) -> Option<u32>
+    ensures { (words : List TextLetters) → result ≡ number_in
+        (option_map (λ s. s.levels) (option_map (selection_tree words) selection.now)) }
+{
+    match selection {
+        None => None,
+        Some(selection) => Some(selection.levels.number),
+    }
 }
 
 /// What a `$dumpvars` selects. E310 where the number of levels has an unknown bit.

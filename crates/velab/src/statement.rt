@@ -2,15 +2,14 @@
 ghost use Rattle.std.specs.Prelude.{None, ◌≡◌, ◌<◌, ◌≤◌, ◌+◌, ◌^◌, [], ◌++◌, ◌∷◌, true, false, length, map, option_map, List, IfOk, OnOk};
 ghost use Rattle.basis.specs.Reasons.{IfFault};
 ghost use Rattle.vast.specs.Words.{Text};
-ghost use Rattle.vast.specs.ExpressionTrees.{tree_of as text_tree, trees_of};
-ghost use Rattle.vast.specs.StatementTrees.{target_tree, delay_tree, task_tree, statement_tree, statement_trees, branch_tree, branch_trees};
-ghost use Rattle.vast.specs.ModuleTrees.{item_tree};
-ghost use Rattle.vast.specs.TokenTexts.{token_text};
+ghost use Rattle.vast.specs.NumberedTrees.{tree_of as text_tree, trees_of};
+ghost use Rattle.vast.specs.NumberedTrees.{target_tree, delay_tree, task_tree, statement_tree, statement_trees, branch_tree, branch_trees};
+ghost use Rattle.vast.specs.NumberedTrees.{item_tree};
+ghost use Rattle.vast.specs.NumberedWords.{numbered};
 ghost use Rattle.vexpr_parse.specs.Texts.{words_of};
 ghost use Rattle.velab.specs.Elaborate as spec;
 ghost use Rattle.velab.specs.Prints.{when_of};
-ghost use Rattle.vast.specs.Statements.{forever, case_of, assign, whole};
-ghost use Rattle.vast.specs.TokenTexts.{token_text};
+ghost use Rattle.vast.specs.NumberedStatements.{forever, case_of, assign, whole};
 ghost use Rattle.velab.specs.Elaborate.{does, drives, laid, laid_process, laid_processes, broken_process, broken_processes, broken_items_from, branches_by, broken_in, broken_in_all, broken_items, broken_branch, broken_branches, process_trees_by};
 ghost use Rattle.velab.specs.Inner.{laid_of, all_laid_of, branch_laid_of, branches_laid_of, laid_of_item, processes_of, starts_in, drives_in, AreRight, given_in, AreLaid, HasLaid, HasBranches, HaveLaid};
 ghost use Rattle.velab.specs.Resolved.{resolved, broken_expression};
@@ -18,11 +17,12 @@ ghost use Rattle.velab.specs.Rules.{IsBroken};
 
 use crate::expression::{alone, expression_of, expression_of_name};
 use crate::fault::ElabFault;
+use crate::first::{first_argument, first_delay, first_in, first_target};
 use crate::number::constant_of;
 use crate::parameter::given_count;
 use crate::print::{pieces_in, when_of};
 use crate::scope::{Scope, event_of, number_of};
-use crate::select::selected;
+use crate::select::{levels_of, selected};
 use crate::target::{first_token, targets_of};
 use crate::wait::{condition_terms, event_terms};
 use basis::{NoMemory, OrMemory};
@@ -41,40 +41,43 @@ use vdesign::print::Pieces;
 use vlex::Tokens;
 use vmodules::letters::letters;
 
-/// Actions in the order in which they are come to, and for each the number of the token that its statement begins with. A
-/// clause sees the actions.
+/// Actions in the order in which they are come to; for each the number of the token that its statement begins with, by which a trace finds
+/// its line, and that of the first token in what it is worth, by which a fault is told. A clause sees all but the first numbers.
 #[derive(Drop)]
 pub struct Table {
     pub actions: Vec<Action>,
     pub origins: Vec<u32>,
+    pub words: Vec<Option<u32>>,
 }
 
 impl Model for Table {
-    ghost use Rattle.std.specs.Prelude.{List};
     ghost use Rattle.std.specs.Coded.{codes};
     ghost use Rattle.vdesign.specs.contracts.expression.Expression as expression;
-    ghost use Rattle.vdesign.specs.declared.action.Action as declared;
+    ghost use Rattle.velab.specs.Elaborate as elaborate;
 
-    ghost Value = { List declared.Action };
+    ghost Value = { elaborate.Table };
 
     ghost coded = { Prim.hlevel (codes, expression.the_row.coded) };
 
-    ghost view = { λ t. t.actions.items };
+    ghost view = { λ t. record { actions = t.actions.items; words = t.words.items } };
 }
 
-/// One action more, at the next place; `at` is the number of the token that its statement begins with.
+/// One action more, at the next place; `at` is the number of the token that its statement begins with, `word` that of the first in what it is
+/// worth.
 pub fn put(
     table: &mut Table,
     into: &mut Vec<usize>,
     at: u32,
+    word: Option<u32>,
     action: Action,
 ) -> Result<(), OrMemory<ElabFault>>
-    ensures table { OnOk result (table.new ≡ table.old ++ action ∷ []) }
-    ensures place { OnOk result (into.new.items ≡ into.old.items ++ length table.old ∷ []) }
+    ensures table { OnOk result (table.new ≡ spec.with_numbered table.old word action) }
+    ensures place { OnOk result (into.new.items ≡ into.old.items ++ length table.old.actions ∷ []) }
     ensures err { IfFault result (IsBroken None) }
 {
     into.push(table.actions.len())?;
     table.origins.push(at)?;
+    table.words.push(word)?;
     table.actions.push(action)?;
     Ok(())
 }
@@ -197,7 +200,13 @@ fn lay_assignment(
     let amount = own_amount(alloc, scope, tokens, amount)?;
     let value = expression_of(alloc, scope, tokens, value)?;
     let action = assigning(blocking, amount, targets, value);
-    put(table, into, first_token(target), action)
+    put(
+        table,
+        into,
+        first_token(target),
+        first_target(target),
+        action,
+    )
 }
 
 // What an `if` does.
@@ -275,6 +284,16 @@ fn put_labels(
     Ok(())
 }
 
+// What a loop with a condition does.
+fn turning(condition: Expression, body: Vec<usize>) -> Action
+    ensures { result ≡ Action.Again condition body.items }
+{
+    Action::Again {
+        condition,
+        body: Places::new(body),
+    }
+}
+
 // What a `wait` does.
 fn waiting(condition: Expression, terms: Terms, body: Vec<usize>) -> Action
     ensures { result ≡ Action.Until condition terms body.items }
@@ -334,16 +353,23 @@ fn lay_task(
 {
     match task {
         Task::Print { kind, arguments } => {
-            let pieces = pieces_in(alloc, scope, tokens, at, arguments)?;
-            put(table, into, at, printing(*kind, pieces))
+            let pieces = pieces_in(alloc, scope, tokens, arguments)?;
+            put(
+                table,
+                into,
+                at,
+                first_argument(arguments),
+                printing(*kind, pieces),
+            )
         }
-        Task::DumpFile(_) => put(table, into, at, Action::Pass),
+        Task::DumpFile(_) => put(table, into, at, None, Action::Pass),
         Task::DumpVars(selection) => {
+            let word = levels_of(selection);
             let selection = selected(alloc, scope, tokens, selection)?;
-            put(table, into, at, Action::DumpVars(selection))
+            put(table, into, at, word, Action::DumpVars(selection))
         }
-        Task::Dump(dumping) => put(table, into, at, dumping_by(*dumping)),
-        Task::End { stops, .. } => put(table, into, at, ending(*stops)),
+        Task::Dump(dumping) => put(table, into, at, None, dumping_by(*dumping)),
+        Task::End { stops, .. } => put(table, into, at, None, ending(*stops)),
     }
 }
 
@@ -388,22 +414,29 @@ fn lay(
             let mut inner = Vec::new(alloc);
             lay(alloc, scope, tokens, body, table, &mut inner)?;
             let body = Places::new(inner);
-            put(table, into, *at, Action::Delay { amount, body })
+            put(
+                table,
+                into,
+                *at,
+                first_delay(delay),
+                Action::Delay { amount, body },
+            )
         }
         Statement::Task { at, task } => { lay_task(alloc, scope, tokens, *at, task, table, into) },
         Statement::Trigger { at, name } => {
             let event = event_of(scope, tokens, *name)?;
-            put(table, into, *at, Action::Trigger(event))
+            put(table, into, *at, None, Action::Trigger(event))
         }
         Statement::If {
             at,
             condition,
             body,
         } => {
-            let condition = expression_of(alloc, scope, tokens, condition)?;
+            let tested = expression_of(alloc, scope, tokens, condition)?;
             let mut inner = Vec::new(alloc);
             lay(alloc, scope, tokens, body, table, &mut inner)?;
-            put(table, into, *at, testing(condition, inner, Vec::new(alloc)))
+            let action = testing(tested, inner, Vec::new(alloc));
+            put(table, into, *at, first_in(condition), action)
         }
         Statement::IfElse {
             at,
@@ -411,12 +444,18 @@ fn lay(
             body,
             other,
         } => {
-            let condition = expression_of(alloc, scope, tokens, condition)?;
+            let tested = expression_of(alloc, scope, tokens, condition)?;
             let mut inner = Vec::new(alloc);
             lay(alloc, scope, tokens, body, table, &mut inner)?;
             let mut outer = Vec::new(alloc);
             lay(alloc, scope, tokens, other, table, &mut outer)?;
-            put(table, into, *at, testing(condition, inner, outer))
+            put(
+                table,
+                into,
+                *at,
+                first_in(condition),
+                testing(tested, inner, outer),
+            )
         }
         Statement::Case {
             at,
@@ -431,24 +470,32 @@ fn lay(
             condition,
             body,
         } => {
-            let condition = expression_of(alloc, scope, tokens, condition)?;
+            let tested = expression_of(alloc, scope, tokens, condition)?;
             let mut inner = Vec::new(alloc);
             lay(alloc, scope, tokens, body, table, &mut inner)?;
-            let body = Places::new(inner);
-            put(table, into, *at, Action::Again { condition, body })
+            put(
+                table,
+                into,
+                *at,
+                first_in(condition),
+                turning(tested, inner),
+            )
         }
         Statement::Repeat { at, count, body } => {
-            let count = expression_of(alloc, scope, tokens, count)?;
+            let repeated = expression_of(alloc, scope, tokens, count)?;
             let mut inner = Vec::new(alloc);
             lay(alloc, scope, tokens, body, table, &mut inner)?;
-            let body = Places::new(inner);
-            put(table, into, *at, Action::Repeat { count, body })
+            let action = Action::Repeat {
+                count: repeated,
+                body: Places::new(inner),
+            };
+            put(table, into, *at, first_in(count), action)
         }
         Statement::Forever { at, body } => {
             let mut inner = Vec::new(alloc);
             lay(alloc, scope, tokens, body, table, &mut inner)?;
             let body = Places::new(inner);
-            put(table, into, *at, Action::Forever { body })
+            put(table, into, *at, None, Action::Forever { body })
         }
         Statement::For {
             at,
@@ -462,7 +509,7 @@ fn lay(
             lay_assignment(
                 alloc, scope, tokens, true, target, &None, value, table, into,
             )?;
-            let condition = expression_of(alloc, scope, tokens, condition)?;
+            let tested = expression_of(alloc, scope, tokens, condition)?;
             let mut inner = Vec::new(alloc);
             lay(alloc, scope, tokens, body, table, &mut inner)?;
             lay_assignment(
@@ -476,8 +523,13 @@ fn lay(
                 table,
                 &mut inner,
             )?;
-            let body = Places::new(inner);
-            put(table, into, *at, Action::Again { condition, body })
+            put(
+                table,
+                into,
+                *at,
+                first_in(condition),
+                turning(tested, inner),
+            )
         }
         Statement::Wait {
             at,
@@ -488,14 +540,20 @@ fn lay(
             let terms = condition_terms(alloc, scope, tokens, condition)?;
             let mut inner = Vec::new(alloc);
             lay(alloc, scope, tokens, body, table, &mut inner)?;
-            put(table, into, *at, waiting(awaited, terms, inner))
+            put(
+                table,
+                into,
+                *at,
+                first_in(condition),
+                waiting(awaited, terms, inner),
+            )
         }
         Statement::OnEvent { at, event, body } => {
             let terms = event_terms(alloc, scope, tokens, event, body)?;
             let mut inner = Vec::new(alloc);
             lay(alloc, scope, tokens, body, table, &mut inner)?;
             let body = Places::new(inner);
-            put(table, into, *at, Action::On { terms, body })
+            put(table, into, *at, None, Action::On { terms, body })
         }
     }
 }
@@ -546,7 +604,7 @@ fn lay_case(
         (case_of kind (text_tree (words_of tokens.now) value.now)
         (branch_trees (words_of tokens.now) branches.now)))) }
 {
-    let value = expression_of(alloc, scope, tokens, value)?;
+    let chosen = expression_of(alloc, scope, tokens, value)?;
     let mut choices = Vec::new(alloc);
     let mut otherwise = Vec::new(alloc);
     lay_branches(
@@ -558,7 +616,13 @@ fn lay_case(
         &mut choices,
         &mut otherwise,
     )?;
-    put(table, into, at, choosing(kind, value, choices, otherwise))
+    put(
+        table,
+        into,
+        at,
+        first_in(value),
+        choosing(kind, chosen, choices, otherwise),
+    )
 }
 
 // The branches of a `case`, and the places of its `default`.
@@ -635,7 +699,7 @@ fn lay_forever(
     let mut inner = Vec::new(alloc);
     lay(alloc, scope, tokens, statement, table, &mut inner)?;
     let body = Places::new(inner);
-    put(table, into, at, Action::Forever { body })
+    put(table, into, at, None, Action::Forever { body })
 }
 
 // What drives a net.
@@ -649,13 +713,13 @@ fn lay_drive(
     into: &mut Vec<usize>,
 ) -> Result<(), OrMemory<ElabFault>>
     ensures ok { HasLaid result (laid_process scope.now table.old (drives
-        (token_text (words_of tokens.now) net) (text_tree (words_of tokens.now) value.now)))
+        (numbered (words_of tokens.now) net) (text_tree (words_of tokens.now) value.now)))
         into.old table.new into.new }
     ensures right { OnOk result (broken_process scope.now (drives
-        (token_text (words_of tokens.now) net) (text_tree (words_of tokens.now) value.now))
+        (numbered (words_of tokens.now) net) (text_tree (words_of tokens.now) value.now))
         ≡ None) }
     ensures err { IfFault result (IsBroken (broken_process scope.now (drives
-        (token_text (words_of tokens.now) net) (text_tree (words_of tokens.now) value.now)))) }
+        (numbered (words_of tokens.now) net) (text_tree (words_of tokens.now) value.now)))) }
 {
     let number = number_of(scope, tokens, net)?;
     let terms = condition_terms(alloc, scope, tokens, value)?;
@@ -665,7 +729,7 @@ fn lay_drive(
         value,
         terms,
     };
-    put(table, into, net.number, action)
+    put(table, into, net.number, Some(net.number), action)
 }
 
 // The process that drives a net.
@@ -679,12 +743,12 @@ fn lay_net(
     into: &mut Vec<Places>,
 ) -> Result<(), OrMemory<ElabFault>>
     ensures ok { HaveLaid result (laid_processes scope.now table.old (drives
-        (token_text (words_of tokens.now) net) (text_tree (words_of tokens.now) value.now) ∷ []))
+        (numbered (words_of tokens.now) net) (text_tree (words_of tokens.now) value.now) ∷ []))
         into.old table.new into.new }
     ensures right { OnOk result (AreRight scope.now (drives
-        (token_text (words_of tokens.now) net) (text_tree (words_of tokens.now) value.now) ∷ [])) }
+        (numbered (words_of tokens.now) net) (text_tree (words_of tokens.now) value.now) ∷ [])) }
     ensures err { IfFault result (IsBroken (broken_processes scope.now (drives
-        (token_text (words_of tokens.now) net) (text_tree (words_of tokens.now) value.now) ∷ []))) }
+        (numbered (words_of tokens.now) net) (text_tree (words_of tokens.now) value.now) ∷ []))) }
 {
     let mut begins = Vec::new(alloc);
     lay_drive(alloc, scope, tokens, net, value, table, &mut begins)?;
@@ -703,13 +767,13 @@ fn lay_variable(
     into: &mut Vec<Places>,
 ) -> Result<(), OrMemory<ElabFault>>
     ensures ok { HaveLaid result (laid_processes scope.now table.old (does (assign
-        (whole (token_text (words_of tokens.now) name)) None
+        (whole (numbered (words_of tokens.now) name)) None
         (text_tree (words_of tokens.now) value.now)) ∷ [])) into.old table.new into.new }
     ensures right { OnOk result (AreRight scope.now (does (assign
-        (whole (token_text (words_of tokens.now) name)) None
+        (whole (numbered (words_of tokens.now) name)) None
         (text_tree (words_of tokens.now) value.now)) ∷ [])) }
     ensures err { IfFault result (IsBroken (broken_processes scope.now (does (assign
-        (whole (token_text (words_of tokens.now) name)) None
+        (whole (numbered (words_of tokens.now) name)) None
         (text_tree (words_of tokens.now) value.now)) ∷ []))) }
 {
     let target = Written::Whole(name);

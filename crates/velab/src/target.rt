@@ -2,8 +2,8 @@
 
 ghost use Rattle.std.specs.Prelude.{◌≡◌, ◌≤◌, ◌∷◌, [], ◌++◌, None, IfOk, OnOk};
 ghost use Rattle.basis.specs.Reasons.{IfFault};
-ghost use Rattle.vast.specs.ExpressionTrees.{tree_of as text_tree};
-ghost use Rattle.vast.specs.StatementTrees.{target_tree, target_trees};
+ghost use Rattle.vast.specs.NumberedTrees.{tree_of as text_tree};
+ghost use Rattle.vast.specs.NumberedTrees.{target_tree, target_trees};
 ghost use Rattle.vexpr_parse.specs.Texts.{words_of};
 ghost use Rattle.velab.specs.Constants as constants;
 ghost use Rattle.velab.specs.Resolved.{resolved};
@@ -51,7 +51,6 @@ fn bounds_of(
     tokens: &Tokens<'_>,
     left: &Expression,
     right: &Expression,
-    at: u32,
 ) -> Result<Bounds, OrMemory<ElabFault>>
     ensures ok { IfOk result (λ bounds. bounds ≡ constants.part_bounds
         (constants.worth (resolved scope.now (text_tree (words_of tokens.now) left.now)))
@@ -62,8 +61,8 @@ fn bounds_of(
     ensures err { IfFault result (IsBroken (spec.broken_bounds scope.now
         (text_tree (words_of tokens.now) left.now) (text_tree (words_of tokens.now) right.now))) }
 {
-    let left = worth(alloc, scope, tokens, left, Some(at))?;
-    let right = worth(alloc, scope, tokens, right, Some(at))?;
+    let left = worth(alloc, scope, tokens, left)?;
+    let right = worth(alloc, scope, tokens, right)?;
     Ok(part_bounds(left, right))
 }
 
@@ -95,7 +94,7 @@ fn put_target(
         }
         Written::Part { name, left, right } => {
             let variable = number_of(scope, tokens, *name)?;
-            let bounds = bounds_of(alloc, scope, tokens, left, right, name.number)?;
+            let bounds = bounds_of(alloc, scope, tokens, left, right)?;
             put(into, Target::Part { variable, bounds })
         }
         Written::Joined { targets, .. } => put_targets(alloc, scope, tokens, targets, into),

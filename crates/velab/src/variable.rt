@@ -1,8 +1,8 @@
 // Variables and nets: ports, and what a module declares by `reg`, by `integer` and by `wire` (4.2, 4.3, 4.8, 12.3.3).
 ghost use Rattle.std.specs.Prelude.{◌≡◌, ◌<◌, ◌≤◌, ◌+◌, ◌^◌, [], ◌++◌, ◌∷◌, ℕ, List, Some, None, true, false, length, map, option_map, IfOk, OnOk};
 ghost use Rattle.basis.specs.Reasons.{IfFault};
-ghost use Rattle.vast.specs.TokenTexts.{token_text};
-ghost use Rattle.vast.specs.ModuleTrees.{item_tree};
+ghost use Rattle.vast.specs.NumberedWords.{numbered};
+ghost use Rattle.vast.specs.NumberedTrees.{item_tree};
 ghost use Rattle.vexpr_parse.specs.Texts.{words_of};
 ghost use Rattle.velab.specs.Elaborate as spec;
 ghost use Rattle.velab.specs.Elaborate.{variable_of, declarations_of, variables_from, broken_declaration, broken_from, broken_ports, broken_range, length_of};

@@ -1,12 +1,13 @@
 // What event controls and `wait` listen to (IEEE 1364-2005, clause 9.7).
 
-ghost use Rattle.std.specs.Prelude.{◌≡◌, ◌≤◌, None, Some, [], ◌∷◌, ◌++◌, length, map, option_map, IfOk, OnOk};
+ghost use Rattle.std.specs.Prelude.{◌≡◌, ◌≤◌, List, None, Some, [], ◌∷◌, ◌++◌, length, map, option_map, IfOk, OnOk};
 ghost use Rattle.basis.specs.Reasons.{IfFault};
-ghost use Rattle.vast.specs.ExpressionTrees.{tree_of as text_tree, trees_of as text_trees};
-ghost use Rattle.vast.specs.TokenTexts.{token_text};
-ghost use Rattle.vast.specs.StatementTrees.{target_tree, target_trees, argument_tree, task_tree, delay_tree, further_term, event_tree, statement_tree, statement_trees, branch_tree, branch_trees};
+ghost use Rattle.vast.specs.NumberedTrees.{tree_of as text_tree, trees_of as text_trees};
+ghost use Rattle.vast.specs.NumberedWords.{numbered};
+ghost use Rattle.vast.specs.NumberedTrees.{target_tree, target_trees, argument_tree, task_tree, delay_tree, further_term, event_tree, statement_tree, statement_trees, branch_tree, branch_trees};
+ghost use Rattle.vast.specs.Words.{Text};
 ghost use Rattle.vexpr_parse.specs.Texts.{words_of};
-ghost use Rattle.vast.specs.Statements.{case_of};
+ghost use Rattle.vast.specs.NumberedStatements.{case_of};
 ghost use Rattle.velab.specs.Rules.{IsBroken};
 ghost use Rattle.velab.specs.declared.scope.Meaning.{Meaning};
 ghost use Rattle.velab.specs.Scopes.{meaning_of as spec_meaning};
@@ -36,17 +37,19 @@ fn edge_of(side: Option<Side>) -> Edge
 }
 
 // What a named event is heard by. E310 where it has an edge.
-fn event_term(edge: Edge, number: usize, at: u32) -> Result<Term, OrMemory<ElabFault>>
+fn event_term(edge: Edge, number: usize, name: Token) -> Result<Term, OrMemory<ElabFault>>
     ensures ok { IfOk result (λ term. term ≡ spec.term_for edge (Some (Meaning.Event number))) }
-    ensures right { OnOk result (spec.edge_rule edge ≡ None) }
-    ensures err { IfFault result (IsBroken (spec.edge_rule edge)) }
+    ensures right { (words : List Text) →
+        OnOk result (spec.edge_rule edge (numbered words name) ≡ None) }
+    ensures err { (words : List Text) →
+        IfFault result (IsBroken (spec.edge_rule edge (numbered words name))) }
 {
     if edge == Edge::Any {
         return Ok(Term::Event(number));
     }
     Err(OrMemory::Fault(ElabFault {
         rule: Rule::Kind,
-        at: Some(at),
+        at: Some(name.number),
     }))
 }
 
@@ -58,11 +61,11 @@ fn term_of(
     name: Token,
 ) -> Result<Term, OrMemory<ElabFault>>
     ensures ok { IfOk result (λ term.
-        term ≡ spec.term_by scope.now edge (token_text (words_of tokens.now) name)) }
+        term ≡ spec.term_by scope.now edge (numbered (words_of tokens.now) name)) }
     ensures right { OnOk result
-        (broken_by scope.now edge (token_text (words_of tokens.now) name) ≡ None) }
+        (broken_by scope.now edge (numbered (words_of tokens.now) name) ≡ None) }
     ensures err { IfFault result
-        (IsBroken (broken_by scope.now edge (token_text (words_of tokens.now) name))) }
+        (IsBroken (broken_by scope.now edge (numbered (words_of tokens.now) name))) }
 {
     match meaning_of(scope, tokens, name) {
         None => Err(OrMemory::Fault(ElabFault {
@@ -74,7 +77,7 @@ fn term_of(
             rule: Rule::Kind,
             at: Some(name.number),
         })),
-        Some(Meaning::Event(number)) => event_term(edge, number, name.number),
+        Some(Meaning::Event(number)) => event_term(edge, number, name),
         Some(Meaning::Instance) => Err(OrMemory::Fault(ElabFault {
             rule: Rule::Kind,
             at: Some(name.number),
@@ -91,11 +94,11 @@ fn put_term(
     terms: &mut Vec<Term>,
 ) -> Result<(), OrMemory<ElabFault>>
     ensures ok { OnOk result (terms.new.items ≡ terms.old.items
-        ++ spec.term_by scope.now edge (token_text (words_of tokens.now) name) ∷ []) }
+        ++ spec.term_by scope.now edge (numbered (words_of tokens.now) name) ∷ []) }
     ensures right { OnOk result
-        (broken_by scope.now edge (token_text (words_of tokens.now) name) ≡ None) }
+        (broken_by scope.now edge (numbered (words_of tokens.now) name) ≡ None) }
     ensures err { IfFault result
-        (IsBroken (broken_by scope.now edge (token_text (words_of tokens.now) name))) }
+        (IsBroken (broken_by scope.now edge (numbered (words_of tokens.now) name))) }
 {
     let term = term_of(scope, tokens, edge, name)?;
     terms.push(term)?;
@@ -110,7 +113,7 @@ fn put_name(
     terms: &mut Vec<Term>,
 ) -> Result<(), NoMemory>
     ensures { OnOk result (terms.new.items ≡ terms.old.items
-        ++ heard (spec_meaning scope.now (token_text (words_of tokens.now) name))) }
+        ++ heard (spec_meaning scope.now (numbered (words_of tokens.now) name))) }
 {
     match meaning_of(scope, tokens, name) {
         Some(Meaning::Variable(variable)) => {
@@ -158,7 +161,7 @@ fn put_names(
     match expression {
         Value::Number(_) => Ok(()),
         Value::Name(word) => put_name(scope, tokens, *word, terms),
-        Value::Time { .. } => Ok(()),
+        Value::Time(_) => Ok(()),
         Value::Parentheses(inner) => put_names(scope, tokens, inner, terms),
         Value::Bit { name, index } => {
             put_name(scope, tokens, *name, terms)?;
@@ -614,7 +617,7 @@ pub fn name_terms(
     name: Token,
 ) -> Result<Terms, NoMemory>
     ensures { IfOk result (λ terms. terms ≡ any_of scope.now
-        (token_text (words_of tokens.now) name ∷ [])) }
+        (numbered (words_of tokens.now) name ∷ [])) }
 {
     let mut terms = Vec::new(alloc);
     put_name(scope, tokens, name, &mut terms)?;

@@ -1,11 +1,11 @@
 // What is wrong with the expressions of actions (IEEE 1364-2005, 5.1.14, 5.2.1).
 
-ghost use Rattle.std.specs.Prelude.{◌≡◌, map, None, Some, IfOk, OnOk};
+ghost use Rattle.std.specs.Prelude.{◌≡◌, map, slice_get, option_and_then, None, IfOk, OnOk};
 ghost use Rattle.basis.specs.Reasons.{IfFault};
 ghost use Rattle.std.specs.Option.{option_or};
 ghost use Rattle.vvalue.specs.Flaws.{flaw_of as spec_flaw_of};
 ghost use Rattle.velab.specs.ActionFlaws as spec;
-ghost use Rattle.velab.specs.Rules.{flaw_rule, IsBroken};
+ghost use Rattle.velab.specs.Rules.{IsBroken};
 
 use crate::constant::rule_of;
 use crate::fault::ElabFault;
@@ -13,7 +13,7 @@ use basis::{NoMemory, OrMemory};
 use std::alloc::Global;
 use vbits::Vec4;
 use vdesign::action::{Action, Branch, Targets};
-use vdesign::design::{Design, Variable};
+use vdesign::design::Variable;
 use vdesign::expression::Expression;
 use vdesign::print::Piece;
 use vvalue::flaw::{Flaw, flaw_of, targets_flaw};
@@ -123,48 +123,52 @@ fn action_flaw(action: &Action, moment: &Moment<'_>) -> Option<Flaw>
     }
 }
 
-fn table_flaw(actions: &[Action], moment: &Moment<'_>) -> Option<Flaw>
-    ensures { result ≡ spec.table_flaw moment.now actions.now }
+/// The number of the word at this place, if there is one.
+pub fn word_at(words: &[Option<u32>], place: usize) -> Option<u32>
+    ensures { result ≡ option_and_then (λ w. w) (slice_get words.now place) }
 {
-    for action in actions {
-        if let Some(flaw) = action_flaw(action, moment) {
-            return Some(flaw);
+    match words.get(place) {
+        None => None,
+        Some(word) => *word,
+    }
+}
+
+// The first action of which an expression is wrong, told by its word.
+fn first_flawed(actions: &[Action], words: &[Option<u32>], moment: &Moment<'_>) -> Option<ElabFault>
+    ensures { result ≡ spec.table_fault (spec.flaw_rule moment.now) actions.now words.now }
+{
+    for place in 0..actions.len() {
+        if let Some(flaw) = action_flaw(&actions[place], moment) {
+            return Some(ElabFault {
+                rule: rule_of(flaw),
+                at: word_at(words, place),
+            });
         }
     }
     None
 }
 
-// The token that the statement of the first action begins with of which an expression is wrong.
-fn token_of(design: &Design, moment: &Moment<'_>) -> Option<u32> {
-    for (action, origin) in design.actions.iter().zip(&design.origins) {
-        if action_flaw(action, moment).is_some() {
-            return Some(*origin);
-        }
-    }
-    None
-}
-
-/// E306 or E310 where an expression of an action is wrong.
-pub fn check_flaws(alloc: Global, design: &Design) -> Result<(), OrMemory<ElabFault>>
-    ensures ok { OnOk result
-        (spec.table_flaw (spec.blank_moment design.now.variables) design.now.actions ≡ None) }
-    ensures err { IfFault result
-        (IsBroken (flaw_rule (spec.table_flaw (spec.blank_moment design.now.variables)
-        design.now.actions))) }
+/// E306 or E310 where an expression of one of these actions is wrong; `words` are the numbers of their words.
+pub fn check_flaws(
+    alloc: Global,
+    variables: &[Variable],
+    actions: &[Action],
+    words: &[Option<u32>],
+) -> Result<(), OrMemory<ElabFault>>
+    ensures right { OnOk result (spec.table_fault
+        (spec.flaw_rule (spec.blank_moment variables.now)) actions.now words.now ≡ None) }
+    ensures err { IfFault result (IsBroken (spec.table_fault
+        (spec.flaw_rule (spec.blank_moment variables.now)) actions.now words.now)) }
 {
-    let values = blanks(alloc, &design.variables)?;
+    let values = blanks(alloc, variables)?;
     let moment = Moment {
         values: &values,
-        variables: &design.variables,
+        variables,
         time: 0,
         factor: 1,
     };
-    match table_flaw(&design.actions, &moment) {
+    match first_flawed(actions, words, &moment) {
         None => Ok(()),
-        Some(flaw) => {
-            let at = token_of(design, &moment);
-            let rule = rule_of(flaw);
-            Err(OrMemory::Fault(ElabFault { rule, at }))
-        }
+        Some(fault) => Err(OrMemory::Fault(fault)),
     }
 }

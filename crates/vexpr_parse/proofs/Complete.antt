@@ -7,7 +7,7 @@ use Rattle.std.proofs.lemmas.Bool.{cases_Bool}
 use Rattle.std.proofs.lemmas.List.{append-nil}
 use Rattle.std.proofs.lemmas.Bool.Decides.{nat_tests}
 use Rattle.basis.proofs.Bools.{and_left, and_right, and_both}
-use Rattle.vast.specs.Words.{Text, is_name, is_number, begins_name, is_in_name, is_reserved}
+use Rattle.vast.specs.Words.{Text, is_name, is_number, is_time, begins_name, is_in_name, is_reserved}
 use Rattle.vast.specs.Expressions.{ExpressionTree, number, name, time, bit, part, parentheses, concatenation, replication, conversion, apply, combine, conditional, ExpressionTrees, none, first, spell_expression, spell_parts, spell_more_parts, fits_expression, fits_parts, depth, greatest_depth, rank, rank_of, unary_rank, unary_word, binary_word, conversion_word}
 use Rattle.vast.specs.declared.expression.UnaryOperator.{UnaryOperator}
 use Rattle.vast.specs.declared.expression.UnaryOperator.TheVariants as unary
@@ -21,7 +21,7 @@ use Rattle.vexpr_parse.specs.Readers.{got, Reader, front, is_front, and_then, go
 use Rattle.vexpr_parse.specs.Words.{beginning_of, unary_of, binary_of, is_ranked, is_joined, is_asked, ends_primary, ends_operators, ends}
 use Rattle.vexpr_parse.specs.Reading.{trees_in, one_more, parts, repeated, joined, braces, enclosed, part_of, index_lead, selected, primary_by, primary, operator_by, operator_lead, operator, branches, question, onward, expression_by, expression}
 use Rattle.vexpr_parse.specs.Lawful.{Rule}
-use Rattle.vexpr_parse.proofs.ReaderRules.{chosen, passed_over, text_same, true_or_false, then_got}
+use Rattle.vexpr_parse.proofs.ReaderRules.{chosen, passed_over, same_text, text_same, true_or_false, then_got}
 use Rattle.vexpr_parse.proofs.ReaderLoops.{turns_end, turns_on}
 use Rattle.vexpr_parse.proofs.Sound.{some_rank}
 use Rattle.vexpr_parse.proofs.ExpressionRules.{example, ranked_higher, ends_parts, not_joined, not_asked, not_true, operators_ended, primary_ended, unary_ends, more_eats, operator_eats, expression_rule}
@@ -47,9 +47,9 @@ start_number : (word : Text) → is_number word ≡ true → beginning_of word �
 unfolding beginning_of
 start_number word e = passed_over (is_name word) _ _ (number_no_name word e) ∙ chosen (is_number word) _ _ e
 
-start_time : beginning_of (codes "$time") ≡ start.Time
+start_time : (word : Text) → is_time word ≡ true → beginning_of word ≡ start.Time
 unfolding beginning_of
-start_time = refl
+start_time word e = subst (λ w. beginning_of w ≡ start.Time) (same_text (codes "$time") word e) refl
 
 start_parenthesis : beginning_of (codes "(") ≡ start.Round round.Parenthesis
 unfolding beginning_of
@@ -249,8 +249,9 @@ leaf_complete_name letters =
     (λ below rest fit within ended. led_to below letters rest start.Name (start_name letters fit)
     ∙ passed_over (is_front (codes "[") (front rest)) _ _ (not_true (is_front (codes "[") (front rest)) ended))
 
-leaf_complete_time : Complete time
-leaf_complete_time = primary_complete time refl (λ below rest fit within ended. led_to below (codes "$time") rest start.Time start_time)
+leaf_complete_time : (word : Text) → Complete (time word)
+leaf_complete_time word =
+    primary_complete (time word) refl (λ below rest fit within ended. led_to below word rest start.Time (start_time word fit))
 
 parentheses_complete : (tree : ExpressionTree) → Complete tree → Complete (parentheses tree)
 parentheses_complete tree c =
@@ -589,7 +590,7 @@ mutual
   complete : (tree : ExpressionTree) → Complete tree
   complete (number digits) = leaf_complete_number digits
   complete (name letters) = leaf_complete_name letters
-  complete time = leaf_complete_time
+  complete (time word) = leaf_complete_time word
   complete (bit letters index) = bit_complete letters index (complete index)
   complete (part letters left right) = part_complete letters left right (complete left) (complete right)
   complete (parentheses inside) = parentheses_complete inside (complete inside)

@@ -1,15 +1,18 @@
 -- What is left at a place of the tokens.
-use Rattle.std.proofs.Common.{◌≡◌, ℕ, zero, suc, ◌+◌, ◌-◌, ◌≤◌, List, [], ◌∷◌, length, Some, slice_get, drop, map, option_map, refl, sym, ap, ◌∙◌, arith, subst}
-use Rattle.std.proofs.lemmas.List.{length-drop, length-map}
+use Rattle.std.proofs.Common.{◌≡◌, ℕ, zero, suc, ◌+◌, ◌-◌, ◌≤◌, true, false, List, [], ◌∷◌, ◌++◌, length, Some, slice_get, drop, take, map, option_map, refl, sym, ap, ◌∙◌, arith, subst}
+use Rattle.std.proofs.lemmas.List.{length-drop, length-map, append-nil}
 use Rattle.std.proofs.Math.ListN.{drop_of_length-le}
 use Rattle.basis.proofs.Lists.{passed}
 use Rattle.vlex.specs.Lexed.{Piece}
 use Rattle.vlex.specs.Tokenized.{Tokenized, pieces_of, text_at}
-use Rattle.vast.specs.Words.{Text}
-use Rattle.vast.specs.TokenTexts.{letters}
+use Rattle.vast.specs.Words.{Text, is_leaf}
+use Rattle.vast.specs.TokenTexts.{letters, leaf_at, leaves_from}
+use Rattle.vast.specs.declared.token.Token.{Token}
 use Rattle.vexpr_parse.specs.Texts.{words_of}
 use Rattle.vexpr_parse.specs.declared.cursor.Cursor.{Cursor}
-use Rattle.vexpr_parse.specs.Answers.{ahead}
+use Rattle.vexpr_parse.specs.Answers.{ahead, leaves_ahead, leaf_here}
+use Rattle.vexpr_parse.specs.Readers.{front, is_front}
+use Rattle.vexpr_parse.proofs.ReaderRules.{chosen, passed_over, same_text}
 
 -- the text at a place stands before what is left behind it
 text_here : (pieces : List Piece) (at : ℕ) (text : Text) → option_map (λ piece. piece.text) (slice_get pieces at) ≡ Some text →
@@ -61,3 +64,59 @@ ahead_ended tokens cursor e = ended (ahead tokens cursor) (ahead_none tokens cur
 pub ahead_start : (tokens : Tokenized) (cursor : Cursor) → cursor.at ≡ 0 → ahead tokens cursor ≡ words_of tokens
 unfolding ahead
 ahead_start tokens cursor e = ap (λ n. drop n (words_of tokens)) e
+
+-- the tokens that trees keep
+
+-- those of all words are that of the first one, and those of the words behind it
+one_on : (n : ℕ) (words : List Text) → leaves_from n words ≡ leaves_from n (take 1 words) ++ leaves_from (suc n) (drop 1 words)
+one_on n [] = refl
+one_on n (word ∷ words) = ap (λ ts. ts ++ leaves_from (suc n) words) (sym (append-nil (leaf_at n word)))
+
+pub leaves_passed : (tokens : Tokenized) (cursor next : Cursor) → next.at ≡ cursor.at + 1 →
+    leaves_ahead tokens cursor ≡ leaf_here tokens cursor ++ leaves_ahead tokens next
+unfolding leaves_ahead leaf_here
+leaves_passed tokens cursor next e =
+    one_on cursor.at (drop cursor.at (words_of tokens))
+    ∙ ap (λ ts. leaves_from cursor.at (take 1 (drop cursor.at (words_of tokens))) ++ ts)
+    (sym (ap (λ n. leaves_from n (drop n (words_of tokens))) e
+    ∙ ap (λ ws. leaves_from (cursor.at + 1) ws) (passed cursor.at (words_of tokens))
+    ∙ ap (λ n. leaves_from n (drop 1 (drop cursor.at (words_of tokens)))) (one_more cursor.at)))
+  where
+    one_more : (n : ℕ) → n + 1 ≡ suc n
+    one_more n = omega arith
+
+-- nothing is passed where nothing is left
+pub leaves_ended : (tokens : Tokenized) (cursor : Cursor) → length (pieces_of tokens) ≤ cursor.at →
+    leaves_ahead tokens cursor ≡ leaf_here tokens cursor ++ leaves_ahead tokens cursor
+unfolding leaves_ahead leaf_here ahead
+leaves_ended tokens cursor e = ended (drop cursor.at (words_of tokens)) (ahead_none tokens cursor e)
+  where
+    ended : (words : List Text) → words ≡ [] → leaves_from cursor.at words ≡ leaves_from cursor.at (take 1 words) ++ leaves_from cursor.at words
+    ended words none =
+        subst (λ ws. leaves_from cursor.at ws ≡ leaves_from cursor.at (take 1 ws) ++ leaves_from cursor.at ws) (sym none) refl
+
+pub leaf_none : (tokens : Tokenized) (cursor : Cursor) → length (pieces_of tokens) ≤ cursor.at → leaf_here tokens cursor ≡ []
+unfolding leaf_here ahead
+leaf_none tokens cursor e = ap (λ ws. leaves_from cursor.at (take 1 ws)) (ahead_none tokens cursor e)
+
+pub leaf_text : (tokens : Tokenized) (cursor : Cursor) (text : Text) → text_at tokens cursor.at ≡ Some text →
+    leaf_here tokens cursor ≡ leaf_at cursor.at text
+unfolding leaf_here
+leaf_text tokens cursor text e =
+    ap (λ ws. leaves_from cursor.at (take 1 ws)) (text_here (pieces_of tokens) cursor.at text e) ∙ append-nil (leaf_at cursor.at text)
+
+-- a word that no tree keeps
+
+pub no_leaf : (n : ℕ) (word : Text) → is_leaf word ≡ false → leaf_at n word ≡ []
+no_leaf n word e = passed_over (is_leaf word) (record { number = n } ∷ []) [] e
+
+blank : (n : ℕ) (text : Text) (words : List Text) → is_front text (front words) ≡ true → is_leaf text ≡ false →
+    leaves_from n (take 1 words) ≡ []
+blank n text [] e f = refl
+blank n text (word ∷ words) e f =
+    append-nil (leaf_at n word) ∙ no_leaf n word (subst (λ t. is_leaf t ≡ false) (same_text text word e) f)
+
+pub leaf_blank : (tokens : Tokenized) (cursor : Cursor) (text : Text) → is_front text (front (ahead tokens cursor)) ≡ true →
+    is_leaf text ≡ false → leaf_here tokens cursor ≡ []
+unfolding leaf_here ahead
+leaf_blank tokens cursor text e f = blank cursor.at text (drop cursor.at (words_of tokens)) e f

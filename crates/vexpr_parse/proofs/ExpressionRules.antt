@@ -294,7 +294,7 @@ module _ (below : ℕ) (read : Below) (rules : nat_le 1 below ≡ true → (leas
   primary_leads_by : (word : Text) (b : Beginning) → IsLead ends_primary (primary_by below read word b)
   primary_leads_by word start.Number = rule_lead (got (number word)) ends_primary [] (got_rule (number word) ends_primary)
   primary_leads_by word start.Name = rule_lead (named below read word) ends_primary [] (named_rule word)
-  primary_leads_by word start.Time = rule_lead (got time) ends_primary [] (got_rule time ends_primary)
+  primary_leads_by word start.Time = rule_lead (got (time word)) ends_primary [] (got_rule (time word) ends_primary)
   primary_leads_by word (start.Round round.Parenthesis) =
       lead_room ends_primary below 1 (goes (enclosed read parentheses))
       (λ e. rule_lead (enclosed read parentheses) ends_primary (example ++ codes ")" ∷ []) (enclosed_rule read (rules e) parentheses))

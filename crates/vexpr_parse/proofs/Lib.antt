@@ -8,3 +8,5 @@ pub mod Grows
 pub mod Places
 pub mod Turning
 pub mod FirstBytes
+pub mod Kept
+pub mod LeafWords

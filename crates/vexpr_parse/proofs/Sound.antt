@@ -5,7 +5,7 @@ use Rattle.std.proofs.lemmas.Bool.{cases_Bool}
 use Rattle.std.proofs.lemmas.List.{append-nil}
 use Rattle.std.proofs.lemmas.Bool.Decides.{nat_tests}
 use Rattle.basis.proofs.Bools.{and_left, and_right, and_both}
-use Rattle.vast.specs.Words.{Text, is_name, is_number}
+use Rattle.vast.specs.Words.{Text, is_name, is_number, is_time}
 use Rattle.vast.specs.Expressions.{ExpressionTree, number, name, time, bit, part, parentheses, concatenation, replication, conversion, apply, combine, conditional, spell_expression, spell_parts, spell_more_parts, fits_expression, fits_parts, is_some_part, depth, greatest_depth, rank, rank_of, unary_rank, unary_word, binary_word, conversion_word}
 use Rattle.vast.specs.declared.expression.UnaryOperator.{UnaryOperator}
 use Rattle.vast.specs.declared.expression.BinaryOperator.{BinaryOperator}
@@ -153,7 +153,7 @@ binary_written word operator e = operator_written binary_word binary_operators w
 abbrev Told : Beginning → Text → Type 0
 Told start.Number word = is_number word ≡ true
 Told start.Name word = is_name word ≡ true
-Told start.Time word = codes "$time" ≡ word
+Told start.Time word = is_time word ≡ true
 Told (start.Round round.Parenthesis) word = codes "(" ≡ word
 Told (start.Round round.Brace) word = codes "{" ≡ word
 Told (start.Round (round.Conversion signed)) word = conversion_word signed ≡ word
@@ -176,7 +176,7 @@ told word =
     (told_by (is_number word) start.Number _ word (λ e. e)
     (told_by (bytes_eq (codes "(") word) (start.Round round.Parenthesis) _ word (same_text _ word)
     (told_by (bytes_eq (codes "{") word) (start.Round round.Brace) _ word (same_text _ word)
-    (told_by (bytes_eq (codes "$time") word) start.Time _ word (same_text _ word)
+    (told_by (is_time word) start.Time _ word (λ e. e)
     (told_by (bytes_eq (codes "$signed") word) (start.Round (round.Conversion true)) _ word (same_text _ word)
     (told_by (bytes_eq (codes "$unsigned") word) (start.Round (round.Conversion false)) _ word (same_text _ word)
     (told_operator (unary_of word) word (unary_written word))))))))
@@ -590,8 +590,8 @@ module _ (below : ℕ) (read : Below) (stops : (least : ℕ) → Stops least (re
   primary_found_by word start.Number e = found_got (λ tree after. Q tree (word ∷ after)) (number word)
       (leaf (number word) (word ∷ []) refl e refl refl)
   primary_found_by word start.Name e = named_found word e
-  primary_found_by word start.Time e = found_got (λ tree after. Q tree (word ∷ after)) time
-      (leaf time (word ∷ []) (ap (λ w. w ∷ []) e) refl refl refl)
+  primary_found_by word start.Time e = found_got (λ tree after. Q tree (word ∷ after)) (time word)
+      (leaf (time word) (word ∷ []) refl e refl refl)
   primary_found_by word (start.Round round.Parenthesis) e =
       room_found Q word below 1 _
       (λ f. enclosed_found parentheses (λ ws. word ∷ ws)

@@ -4,7 +4,7 @@ use Rattle.std.specs.Str.{bytes_eq}
 use Rattle.std.proofs.lemmas.Bool.Decides.{nat_tests}
 use Rattle.std.proofs.lemmas.List.{map-append}
 use Rattle.vast.specs.Words.{Text}
-use Rattle.vast.specs.Expressions.{ExpressionTree, name, time, concatenation, replication, first, combine, depth, greatest_depth, rank}
+use Rattle.vast.specs.Expressions.{ExpressionTree, name, concatenation, replication, first, combine, depth, greatest_depth, rank}
 use Rattle.vast.specs.ExpressionTrees.{tree_of, trees_of}
 use Rattle.vast.specs.declared.expression.Expression.{Expression}
 use Rattle.vast.specs.declared.expression.BinaryOperator.{BinaryOperator}
@@ -12,11 +12,9 @@ use Rattle.basis.specs.declared.memory.OrMemory.{OrMemory}
 use Rattle.basis.specs.declared.memory.OrMemory.TheVariants.{Fault, Memory}
 use Rattle.vexpr_parse.specs.declared.stop.Stop.{Stop}
 use Rattle.vexpr_parse.specs.declared.stop.Stop.TheVariants.{NoTree, TooDeep}
-use Rattle.vexpr_parse.specs.declared.beginning.Beginning.{Beginning}
-use Rattle.vexpr_parse.specs.declared.beginning.Beginning.TheVariants as start
 use Rattle.vexpr_parse.specs.Readers.{Answer, got, stop, Reader, front, is_front, and_then, goes, refused, lower, follow, room, past, turns}
-use Rattle.vexpr_parse.specs.Words.{beginning_of, binary_of, is_ranked, is_joined, is_asked}
-use Rattle.vexpr_parse.specs.Reading.{trees_in, one_more, named, primary_by, primary, joined, repeated, operator_by, operator, branches, question, expression_by, expression}
+use Rattle.vexpr_parse.specs.Words.{binary_of, is_ranked, is_joined, is_asked}
+use Rattle.vexpr_parse.specs.Reading.{trees_in, one_more, named, joined, repeated, operator_by, operator, branches, question, expression_by, expression}
 use Rattle.vexpr_parse.specs.declared.found.Found.{Found}
 use Rattle.vexpr_parse.specs.Answers.{joining, ranked, Stops, IsMade, IsMeasured, Finds}
 use Rattle.vexpr_parse.proofs.ReaderRules.{Eats, chosen, passed_over, stop_got}
@@ -42,15 +40,6 @@ pub named_alone : (below : ℕ) (letters : Text) (words : List Text) (tree : Exp
     named below (expression below) letters words ≡ got tree words
 named_alone below letters words tree seen is none made =
     passed_over (is_front (codes "[") (front words)) _ _ (sym is ∙ none) ∙ ap (λ t. got t words) (sym made)
-
-pub time_alone : (below : ℕ) (text : Text) (words left : List Text) (tree : ExpressionTree) (begun : Beginning) →
-    words ≡ text ∷ drop 1 words → begun ≡ beginning_of text → begun ≡ start.Time → left ≡ drop 1 words → tree ≡ time →
-    primary below (expression below) words ≡ got tree left
-time_alone below text words left tree begun here is at passed made =
-    ap (primary below (expression below)) here
-    ∙ ap (λ b. follow (primary_by below (expression below) text b) text (drop 1 words)) (sym is ∙ at)
-    ∙ ap (got time) (sym passed)
-    ∙ ap (λ t. got t left) (sym made)
 
 pub one_level : (below : ℕ) → 1 ≤ 1 + below
 one_level below = omega arith

@@ -1,9 +1,12 @@
 -- What the cursor passes, and which trees are made of those that were read. Nothing here has to be believed.
-use Rattle.std.specs.Prelude.{◌≡◌, ℕ, ◌+◌, ◌<◌, ◌≤◌, ◌^◌, max, nat_le, true, false, if◌then◌else◌, List, ◌∷◌, drop, map, Option, Some, None, Result, Ok, Err}
+use Rattle.std.specs.Prelude.{◌≡◌, ℕ, ◌+◌, ◌<◌, ◌≤◌, ◌^◌, max, nat_le, true, false, if◌then◌else◌, List, [], ◌∷◌, ◌++◌, drop, take, map, Option, Some, None, Result, Ok, Err, IfOk}
 use Rattle.std.specs.Borrow.{MutBor}
-use Rattle.vast.specs.TokenTexts.{token_text}
+use Rattle.std.specs.List.{flat_map}
+use Rattle.vast.specs.TokenTexts.{token_text, leaves_from}
+use Rattle.vast.specs.Leaves.{leaves_of}
+use Rattle.vast.specs.declared.token.Token.{Token}
 use Rattle.vast.specs.declared.expression.BinaryOperator.{BinaryOperator}
-use Rattle.vast.specs.Words.{Text}
+use Rattle.vast.specs.Words.{Text, is_leaf}
 use Rattle.vast.specs.Expressions.{ExpressionTree, conditional, concatenation, replication, depth, greatest_depth, rank}
 use Rattle.vast.specs.ExpressionTrees.{tree_of, trees_of}
 use Rattle.vlex.specs.Tokenized.{Tokenized}
@@ -28,6 +31,35 @@ ahead tokens cursor = drop cursor.at (words_of tokens)
 abbrev pub Heads : Tokenized → Cursor → Word → Type 0
 Heads tokens cursor word =
     (ahead tokens cursor ≡ word.text.now ∷ drop 1 (ahead tokens cursor)) × (token_text (words_of tokens) word.token ≡ word.text.now)
+
+-- the tokens that trees keep of the words left behind a place, of the word at it, and of a word
+unfoldable pub leaves_ahead : Tokenized → Cursor → List Token
+leaves_ahead tokens cursor = leaves_from cursor.at (drop cursor.at (words_of tokens))
+
+unfoldable pub leaf_here : Tokenized → Cursor → List Token
+leaf_here tokens cursor = leaves_from cursor.at (take 1 (drop cursor.at (words_of tokens)))
+
+abbrev pub leaf_of : Word → List Token
+leaf_of word = if is_leaf word.text.now then word.token ∷ [] else []
+
+-- what was read keeps the tokens of the words that were passed, with these before them, and with none
+abbrev pub KeepsBehind : {T : Type 0} → List Token → (T → List Token) → Tokenized → Cursor → Cursor → T → Type 0
+KeepsBehind before leaves tokens old new value = before ++ leaves_ahead tokens old ≡ leaves value ++ leaves_ahead tokens new
+
+abbrev pub Keeps : {T : Type 0} → (T → List Token) → Tokenized → Cursor → Cursor → T → Type 0
+Keeps leaves tokens old new value = leaves_ahead tokens old ≡ leaves value ++ leaves_ahead tokens new
+
+abbrev pub found_leaves : Found → List Token
+found_leaves found = leaves_of found.tree
+
+abbrev pub parts_leaves : Parts → List Token
+parts_leaves parts = flat_map leaves_of parts.trees.items
+
+-- each call keeps the tokens that it passes
+abbrev pub KeepsEach : Tokenized → (MutBor Cursor → ℕ → Result Found (OrMemory Stop) → MutBor Cursor → Type 0) → Type 0
+KeepsEach tokens call =
+    (old new : MutBor Cursor) (least : ℕ) (result : Result Found (OrMemory Stop)) → call old least result new →
+    IfOk result (Keeps found_leaves tokens old.now new.now)
 
 -- this very word is passed, or the words are left as they were
 abbrev pub Passes : {T : Type 0} → Text → List Text → List Text → Result T (OrMemory Stop) → Type 0

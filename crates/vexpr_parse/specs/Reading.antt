@@ -81,7 +81,7 @@ round_by read (round.Operator operator) = λ words. and_then (read unary_rank wo
 abbrev pub primary_by : ℕ → Below → Text → Beginning → Lead ExpressionTree
 primary_by below read word start.Number = goes (got (number word))
 primary_by below read word start.Name = goes (named below read word)
-primary_by below read word start.Time = goes (got time)
+primary_by below read word start.Time = goes (got (time word))
 primary_by below read word (start.Round kind) = room below 1 (goes (round_by read kind))
 primary_by below read word start.Other = refused
 

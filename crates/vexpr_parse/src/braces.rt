@@ -1,7 +1,7 @@
 // Concatenations and replications (IEEE 1364-2005, 5.1.14).
 
-ghost use Rattle.std.specs.Prelude.{◌≡◌, ◌+◌, ◌<◌, ◌^◌};
-ghost use Rattle.vexpr_parse.specs.Answers.{Reads};
+ghost use Rattle.std.specs.Prelude.{◌≡◌, ◌+◌, ◌<◌, ◌^◌, ◌∷◌, [], IfOk};
+ghost use Rattle.vexpr_parse.specs.Answers.{Reads, Keeps, KeepsBehind, KeepsEach, found_leaves, parts_leaves};
 ghost use Rattle.vexpr_parse.specs.Rules.{FindsAt, IsMeasuredIn, FindsMore, FindsJoined, FindsRepeated, braces_at};
 
 use crate::cursor::Cursor;
@@ -23,8 +23,11 @@ fn more_parts<F: Fn(&mut Cursor, u32) -> Result<Found, OrMemory<Stop>>>(
 ) -> Result<Parts, OrMemory<Stop>>
     requires callable { F.IsAlwaysCallable read.now }
     requires reads { Reads tokens.now below (F.post read.now) }
+    requires keeps { KeepsEach tokens.now (F.post read.now) }
     requires first { IsMeasuredIn tokens.now below first }
-    ensures { FindsMore tokens.now below first cursor.old cursor.new result }
+    ensures finds { FindsMore tokens.now below first cursor.old cursor.new result }
+    ensures kept { IfOk result (KeepsBehind (found_leaves first) parts_leaves
+        tokens.now cursor.old cursor.new) }
 {
     let mut depth = first.depth;
     let mut trees: Vec<Expression> = Vec::new(alloc);
@@ -50,8 +53,11 @@ fn join<F: Fn(&mut Cursor, u32) -> Result<Found, OrMemory<Stop>>>(
 ) -> Result<Found, OrMemory<Stop>>
     requires callable { F.IsAlwaysCallable read.now }
     requires reads { Reads tokens.now below (F.post read.now) }
+    requires keeps { KeepsEach tokens.now (F.post read.now) }
     requires first { IsMeasuredIn tokens.now below first }
-    ensures { FindsJoined tokens.now below first cursor.old cursor.new result }
+    ensures finds { FindsJoined tokens.now below first cursor.old cursor.new result }
+    ensures kept { IfOk result (KeepsBehind (found_leaves first) found_leaves
+        tokens.now cursor.old cursor.new) }
 {
     let parts = more_parts(alloc, read, below, tokens, cursor, first)?;
     cursor.symbol(tokens, b"}")?;
@@ -70,8 +76,11 @@ fn repeat<F: Fn(&mut Cursor, u32) -> Result<Found, OrMemory<Stop>>>(
 ) -> Result<Found, OrMemory<Stop>>
     requires callable { F.IsAlwaysCallable read.now }
     requires reads { Reads tokens.now below (F.post read.now) }
+    requires keeps { KeepsEach tokens.now (F.post read.now) }
     requires count { IsMeasuredIn tokens.now below count }
-    ensures { FindsRepeated tokens.now below count cursor.old cursor.new result }
+    ensures finds { FindsRepeated tokens.now below count cursor.old cursor.new result }
+    ensures kept { IfOk result (KeepsBehind (found_leaves count) found_leaves
+        tokens.now cursor.old cursor.new) }
 {
     cursor.symbol(tokens, b"{")?;
     let first = read(cursor, 0)?;
@@ -92,7 +101,9 @@ pub fn braces<F: Fn(&mut Cursor, u32) -> Result<Found, OrMemory<Stop>>>(
 ) -> Result<Found, OrMemory<Stop>>
     requires callable { F.IsAlwaysCallable read.now }
     requires reads { Reads tokens.now below (F.post read.now) }
-    ensures { FindsAt tokens.now below (braces_at below) cursor.old cursor.new result }
+    requires keeps { KeepsEach tokens.now (F.post read.now) }
+    ensures finds { FindsAt tokens.now below (braces_at below) cursor.old cursor.new result }
+    ensures kept { IfOk result (Keeps found_leaves tokens.now cursor.old cursor.new) }
 {
     let one = read(cursor, 0)?;
     if cursor.begins(tokens, b"{") {

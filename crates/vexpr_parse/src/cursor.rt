@@ -1,11 +1,12 @@
 // A place between two tokens, and what stands at it.
 
-ghost use Rattle.std.specs.Prelude.{◌≡◌, [], length, drop, codes, MatchOption};
+ghost use Rattle.std.specs.Prelude.{◌≡◌, ◌++◌, [], true, false, length, drop, codes, MatchOption, OnOk};
+ghost use Rattle.vast.specs.Words.{is_leaf};
 ghost use Rattle.vlex.specs.Tokenized.{Tokenized};
 ghost use Rattle.vexpr_parse.specs.Texts.{words_of};
 ghost use Rattle.vexpr_parse.specs.Readers.{front, is_front};
 ghost use Rattle.vexpr_parse.specs.Words.{is_asked as is_asked_word};
-ghost use Rattle.vexpr_parse.specs.Answers.{ahead, Heads, PassesAt, EntersAt, joining};
+ghost use Rattle.vexpr_parse.specs.Answers.{ahead, leaves_ahead, leaf_here, leaf_of, Heads, PassesAt, EntersAt, joining};
 
 use crate::stop::Stop;
 use crate::words::{binary_of, is};
@@ -45,7 +46,10 @@ impl Cursor {
 
     /// The word here, if there is one.
     pub fn word<'t>(&self, tokens: &Tokens<'t>) -> Option<Word<'t>>
-        ensures { MatchOption result (ahead tokens.now self.now ≡ []) (Heads tokens.now self.now) }
+        ensures word { MatchOption result (ahead tokens.now self.now ≡ [])
+            (Heads tokens.now self.now) }
+        ensures leaf { MatchOption result (leaf_here tokens.now self.now ≡ [])
+            (λ word. leaf_here tokens.now self.now ≡ leaf_of word) }
     {
         if (self.at as usize) < tokens.len() {
             Some(Word {
@@ -59,7 +63,9 @@ impl Cursor {
 
     /// Passes the word here, if there is one.
     pub fn pass(&mut self, tokens: &Tokens<'_>)
-        ensures { ahead tokens.now self.new ≡ drop 1 (ahead tokens.now self.old) }
+        ensures left { ahead tokens.now self.new ≡ drop 1 (ahead tokens.now self.old) }
+        ensures kept { leaves_ahead tokens.now self.old ≡
+            leaf_here tokens.now self.old ++ leaves_ahead tokens.now self.new }
     {
         if (self.at as usize) < tokens.len() {
             self.at += 1;
@@ -68,7 +74,9 @@ impl Cursor {
 
     /// Whether this very word stands here.
     pub fn begins(&self, tokens: &Tokens<'_>, text: &[u8]) -> bool
-        ensures { result ≡ is_front text.now (front (ahead tokens.now self.now)) }
+        ensures front { result ≡ is_front text.now (front (ahead tokens.now self.now)) }
+        ensures kept { result ≡ true → is_leaf text.now ≡ false → leaf_here tokens.now self.now ≡
+            [] }
     {
         match self.word(tokens) {
             None => false,
@@ -104,7 +112,9 @@ impl Cursor {
 
     /// Passes this very word.
     pub fn symbol(&mut self, tokens: &Tokens<'_>, text: &[u8]) -> Result<(), OrMemory<Stop>>
-        ensures { PassesAt tokens.now text.now self.old self.new result }
+        ensures passes { PassesAt tokens.now text.now self.old self.new result }
+        ensures kept { is_leaf text.now ≡ false → OnOk result
+            (leaves_ahead tokens.now self.old ≡ leaves_ahead tokens.now self.new) }
     {
         if self.begins(tokens, text) {
             self.pass(tokens);
@@ -121,7 +131,9 @@ impl Cursor {
         below: u32,
         levels: u64,
     ) -> Result<(), OrMemory<Stop>>
-        ensures { EntersAt tokens.now below levels self.old self.new result }
+        ensures enters { EntersAt tokens.now below levels self.old self.new result }
+        ensures kept { OnOk result (leaves_ahead tokens.now self.old ≡
+            leaf_here tokens.now self.old ++ leaves_ahead tokens.now self.new) }
     {
         if levels <= below as u64 {
             self.pass(tokens);

@@ -1,11 +1,12 @@
 // What readers of expressions hand on: a tree, and how deep it nests.
 
-ghost use Rattle.std.specs.Prelude.{◌≡◌, List, max, IfOk};
+ghost use Rattle.std.specs.Prelude.{◌≡◌, ◌∷◌, ◌++◌, List, max, IfOk};
 ghost use Rattle.vast.specs.Words.{Text};
 ghost use Rattle.vast.specs.TokenTexts.{token_text};
 ghost use Rattle.vast.specs.Expressions.{bit, part, parentheses, conversion, apply, combine};
 ghost use Rattle.vast.specs.ExpressionTrees.{tree_of};
-ghost use Rattle.vexpr_parse.specs.Answers.{IsShallow, IsMade, IsRound, IsRoundBoth, IsChosen, IsJoined, IsRepeated};
+ghost use Rattle.vast.specs.Leaves.{leaves_of};
+ghost use Rattle.vexpr_parse.specs.Answers.{found_leaves, parts_leaves, IsShallow, IsMade, IsRound, IsRoundBoth, IsChosen, IsJoined, IsRepeated};
 
 use basis::NoMemory;
 use std::alloc::Global;
@@ -35,7 +36,8 @@ pub fn larger(a: u64, b: u64) -> u64
 
 /// A tree round no other.
 pub fn leaf(tree: Expression) -> Found
-    ensures { (words : List Text) → IsMade words (tree_of words tree) 1 result }
+    ensures made { (words : List Text) → IsMade words (tree_of words tree) 1 result }
+    ensures kept { found_leaves result ≡ leaves_of tree }
 {
     Found { tree, depth: 1 }
 }
@@ -43,7 +45,8 @@ pub fn leaf(tree: Expression) -> Found
 /// `(inner)`
 pub fn in_parentheses(alloc: Global, inner: Found) -> Result<Found, NoMemory>
     requires { IsShallow inner.depth }
-    ensures { (words : List Text) → IfOk result (IsRound words parentheses inner) }
+    ensures made { (words : List Text) → IfOk result (IsRound words parentheses inner) }
+    ensures kept { IfOk result (λ found. found_leaves found ≡ found_leaves inner) }
 {
     Ok(Found {
         depth: 1 + inner.depth,
@@ -54,7 +57,8 @@ pub fn in_parentheses(alloc: Global, inner: Found) -> Result<Found, NoMemory>
 /// `$signed(operand)`, or `$unsigned(operand)` (5.5)
 pub fn converted(alloc: Global, signed: bool, operand: Found) -> Result<Found, NoMemory>
     requires { IsShallow operand.depth }
-    ensures { (words : List Text) → IfOk result (IsRound words (conversion signed) operand) }
+    ensures made { (words : List Text) → IfOk result (IsRound words (conversion signed) operand) }
+    ensures kept { IfOk result (λ found. found_leaves found ≡ found_leaves operand) }
 {
     Ok(Found {
         depth: 1 + operand.depth,
@@ -68,7 +72,8 @@ pub fn converted(alloc: Global, signed: bool, operand: Found) -> Result<Found, N
 /// An operator before its operand (5.1).
 pub fn applied(alloc: Global, operator: UnaryOperator, operand: Found) -> Result<Found, NoMemory>
     requires { IsShallow operand.depth }
-    ensures { (words : List Text) → IfOk result (IsRound words (apply operator) operand) }
+    ensures made { (words : List Text) → IfOk result (IsRound words (apply operator) operand) }
+    ensures kept { IfOk result (λ found. found_leaves found ≡ found_leaves operand) }
 {
     Ok(Found {
         depth: 1 + operand.depth,
@@ -87,7 +92,10 @@ pub fn combined(
     right: Found,
 ) -> Result<Found, NoMemory>
     requires { IsShallow left.depth × IsShallow right.depth }
-    ensures { (words : List Text) → IfOk result (IsRoundBoth words (combine operator) left right) }
+    ensures made { (words : List Text) →
+        IfOk result (IsRoundBoth words (combine operator) left right) }
+    ensures kept { IfOk result (λ found.
+        found_leaves found ≡ found_leaves left ++ found_leaves right) }
 {
     Ok(Found {
         depth: 1 + larger(left.depth, right.depth),
@@ -107,7 +115,10 @@ pub fn chosen(
     when_false: Found,
 ) -> Result<Found, NoMemory>
     requires { IsShallow condition.depth × IsShallow when_true.depth × IsShallow when_false.depth }
-    ensures { (words : List Text) → IfOk result (IsChosen words condition when_true when_false) }
+    ensures made { (words : List Text) →
+        IfOk result (IsChosen words condition when_true when_false) }
+    ensures kept { IfOk result (λ found. found_leaves found ≡
+        found_leaves condition ++ (found_leaves when_true ++ found_leaves when_false)) }
 {
     Ok(Found {
         depth: 1 + larger(condition.depth, larger(when_true.depth, when_false.depth)),
@@ -122,8 +133,9 @@ pub fn chosen(
 /// `name[index]` (5.2.1)
 pub fn selected(alloc: Global, name: Token, index: Found) -> Result<Found, NoMemory>
     requires { IsShallow index.depth }
-    ensures { (words : List Text) →
+    ensures made { (words : List Text) →
         IfOk result (IsRound words (bit (token_text words name)) index) }
+    ensures kept { IfOk result (λ found. found_leaves found ≡ name ∷ found_leaves index) }
 {
     Ok(Found {
         depth: 1 + index.depth,
@@ -142,8 +154,10 @@ pub fn part_selected(
     right: Found,
 ) -> Result<Found, NoMemory>
     requires { IsShallow left.depth × IsShallow right.depth }
-    ensures { (words : List Text) →
+    ensures made { (words : List Text) →
         IfOk result (IsRoundBoth words (part (token_text words name)) left right) }
+    ensures kept { IfOk result (λ found.
+        found_leaves found ≡ name ∷ (found_leaves left ++ found_leaves right)) }
 {
     Ok(Found {
         depth: 1 + larger(left.depth, right.depth),
@@ -158,7 +172,8 @@ pub fn part_selected(
 /// `{part, ..}` (5.1.14)
 pub fn joined(at: u32, parts: Parts) -> Found
     requires { IsShallow parts.depth }
-    ensures { (words : List Text) → IsJoined words parts result }
+    ensures made { (words : List Text) → IsJoined words parts result }
+    ensures kept { found_leaves result ≡ parts_leaves parts }
 {
     Found {
         depth: 1 + parts.depth,
@@ -172,7 +187,9 @@ pub fn joined(at: u32, parts: Parts) -> Found
 /// `{count{part, ..}}` (5.1.14)
 pub fn repeated(alloc: Global, at: u32, count: Found, parts: Parts) -> Result<Found, NoMemory>
     requires { IsShallow count.depth × IsShallow parts.depth }
-    ensures { (words : List Text) → IfOk result (IsRepeated words count parts) }
+    ensures made { (words : List Text) → IfOk result (IsRepeated words count parts) }
+    ensures kept { IfOk result (λ found.
+        found_leaves found ≡ found_leaves count ++ parts_leaves parts) }
 {
     Ok(Found {
         depth: 1 + larger(count.depth, parts.depth),

@@ -2,7 +2,7 @@
 
 ghost use Rattle.std.specs.Prelude.{IfOk, ◌≡◌, ◌+◌, ◌-◌, ◌<◌, ◌^◌};
 ghost use Rattle.basis.specs.Reasons.{IfFault};
-ghost use Rattle.vexpr_parse.specs.Answers.{Reads};
+ghost use Rattle.vexpr_parse.specs.Answers.{Reads, Keeps, KeepsEach, found_leaves};
 ghost use Rattle.vexpr_parse.specs.Rules.{FindsAt, FindsRanked, IsFoundAt, IsStoppedAt, expression_at};
 
 use crate::cursor::Cursor;
@@ -25,7 +25,10 @@ fn at_level<F: Fn(&mut Cursor, u32) -> Result<Found, OrMemory<Stop>>>(
 ) -> Result<Found, OrMemory<Stop>>
     requires callable { F.IsAlwaysCallable read }
     requires reads { Reads tokens.now below (F.post read) }
-    ensures { FindsAt tokens.now below (expression_at below least) cursor.old cursor.new result }
+    requires keeps { KeepsEach tokens.now (F.post read) }
+    ensures kept { IfOk result (Keeps found_leaves tokens.now cursor.old cursor.new) }
+    ensures finds { FindsAt tokens.now below
+        (expression_at below least) cursor.old cursor.new result }
 {
     let first = primary(alloc, &read, below, tokens, cursor)?;
     let left = operators(alloc, &read, below, tokens, cursor, least, first)?;
@@ -41,7 +44,8 @@ fn of_rank(
     levels: u32,
     least: u32,
 ) -> Result<Found, OrMemory<Stop>>
-    ensures { FindsRanked tokens.now levels least cursor.old cursor.new result }
+    ensures finds { FindsRanked tokens.now levels least cursor.old cursor.new result }
+    ensures kept { IfOk result (Keeps found_leaves tokens.now cursor.old cursor.new) }
 {
     if levels == 0 {
         return Err(OrMemory::Fault(Stop::NoTree));
@@ -50,7 +54,10 @@ fn of_rank(
     at_level(
         alloc,
         |cursor, least|
-            ensures { FindsRanked tokens.entry.now below least cursor.entry.now cursor.exit.now result }
+            ensures finds { FindsRanked tokens.entry.now below least cursor.entry.now
+                cursor.exit.now result }
+            ensures kept { IfOk result
+                (Keeps found_leaves tokens.entry.now cursor.entry.now cursor.exit.now) }
         { of_rank(alloc, tokens, cursor, below, least) },
         below,
         tokens,
@@ -69,6 +76,7 @@ pub fn expression(
     levels: u32,
 ) -> Result<Found, OrMemory<Stop>>
     requires { 0 < levels }
+    ensures kept { IfOk result (Keeps found_leaves tokens.now cursor.old cursor.new) }
     ensures reads { FindsRanked tokens.now levels 0 cursor.old cursor.new result }
     ensures found { IfOk result (IsFoundAt tokens.now levels cursor.old cursor.new) }
     ensures stop { IfFault result (IsStoppedAt tokens.now levels cursor.old cursor.new) }

@@ -1,8 +1,8 @@
 // What follows a left side: binary operators, and a conditional (IEEE 1364-2005, 5.1.2 and 5.1.13).
 
-ghost use Rattle.std.specs.Prelude.{◌≡◌, ◌+◌, ◌<◌, ◌^◌, Some, true};
+ghost use Rattle.std.specs.Prelude.{◌≡◌, ◌+◌, ◌<◌, ◌^◌, Some, true, ◌∷◌, [], IfOk};
 ghost use Rattle.vexpr_parse.specs.Readers.{front};
-ghost use Rattle.vexpr_parse.specs.Answers.{Reads, ahead, joining};
+ghost use Rattle.vexpr_parse.specs.Answers.{Reads, ahead, joining, Keeps, KeepsBehind, KeepsEach, found_leaves};
 ghost use Rattle.vexpr_parse.specs.Rules.{IsMeasuredIn, FindsTurn, FindsTurns, FindsBranches, FindsQuestion};
 
 use crate::cursor::Cursor;
@@ -15,7 +15,7 @@ use vast::operators::rank;
 use vlex::Tokens;
 
 // The operator here, of this rank at least, and its right side.
-#[tactic(auto, using(crate::proofs::Turning::turn_enters, crate::proofs::Turning::turn_low))]
+#[tactic(auto, using(crate::proofs::Turning::turn_enters, crate::proofs::Turning::turn_low, crate::proofs::LeafWords::operator_leaf))]
 fn turn<F: Fn(&mut Cursor, u32) -> Result<Found, OrMemory<Stop>>>(
     alloc: Global,
     read: &F,
@@ -28,9 +28,12 @@ fn turn<F: Fn(&mut Cursor, u32) -> Result<Found, OrMemory<Stop>>>(
 ) -> Result<Found, OrMemory<Stop>>
     requires callable { F.IsAlwaysCallable read.now }
     requires reads { Reads tokens.now below (F.post read.now) }
+    requires keeps { KeepsEach tokens.now (F.post read.now) }
     requires here { joining least (front (ahead tokens.now cursor.old)) ≡ Some operator }
     requires left { IsMeasuredIn tokens.now (1 + below) left }
-    ensures { FindsTurn tokens.now below least left cursor.old cursor.new result }
+    ensures finds { FindsTurn tokens.now below least left cursor.old cursor.new result }
+    ensures kept { IfOk result (KeepsBehind (found_leaves left) found_leaves
+        tokens.now cursor.old cursor.new) }
 {
     cursor.enter(tokens, below, left.depth)?;
     let right = read(cursor, rank(operator) + 1)?;
@@ -49,8 +52,11 @@ pub fn operators<F: Fn(&mut Cursor, u32) -> Result<Found, OrMemory<Stop>>>(
 ) -> Result<Found, OrMemory<Stop>>
     requires callable { F.IsAlwaysCallable read.now }
     requires reads { Reads tokens.now below (F.post read.now) }
+    requires keeps { KeepsEach tokens.now (F.post read.now) }
     requires first { IsMeasuredIn tokens.now (1 + below) first }
-    ensures { FindsTurns tokens.now below least first cursor.old cursor.new result }
+    ensures finds { FindsTurns tokens.now below least first cursor.old cursor.new result }
+    ensures kept { IfOk result (KeepsBehind (found_leaves first) found_leaves
+        tokens.now cursor.old cursor.new) }
 {
     let mut left = first;
     'turns: while let Some(operator) = cursor.operator(tokens, least) {
@@ -70,8 +76,11 @@ fn branches<F: Fn(&mut Cursor, u32) -> Result<Found, OrMemory<Stop>>>(
 ) -> Result<Found, OrMemory<Stop>>
     requires callable { F.IsAlwaysCallable read.now }
     requires reads { Reads tokens.now below (F.post read.now) }
+    requires keeps { KeepsEach tokens.now (F.post read.now) }
     requires condition { IsMeasuredIn tokens.now below condition }
-    ensures { FindsBranches tokens.now below condition cursor.old cursor.new result }
+    ensures finds { FindsBranches tokens.now below condition cursor.old cursor.new result }
+    ensures kept { IfOk result (KeepsBehind (found_leaves condition) found_leaves
+        tokens.now cursor.old cursor.new) }
 {
     let when_true = read(cursor, 0)?;
     cursor.symbol(tokens, b":")?;
@@ -80,7 +89,7 @@ fn branches<F: Fn(&mut Cursor, u32) -> Result<Found, OrMemory<Stop>>>(
 }
 
 /// The tree itself, or a conditional of it, where the rank lets one stand.
-#[tactic(auto, using(crate::proofs::Turning::asked_enters, crate::proofs::Turning::asked_low))]
+#[tactic(auto, using(crate::proofs::Turning::asked_enters, crate::proofs::Turning::asked_low, crate::proofs::LeafWords::asked_leaf))]
 pub fn question<F: Fn(&mut Cursor, u32) -> Result<Found, OrMemory<Stop>>>(
     alloc: Global,
     read: &F,
@@ -92,8 +101,11 @@ pub fn question<F: Fn(&mut Cursor, u32) -> Result<Found, OrMemory<Stop>>>(
 ) -> Result<Found, OrMemory<Stop>>
     requires callable { F.IsAlwaysCallable read.now }
     requires reads { Reads tokens.now below (F.post read.now) }
+    requires keeps { KeepsEach tokens.now (F.post read.now) }
     requires left { IsMeasuredIn tokens.now (1 + below) left }
-    ensures { FindsQuestion tokens.now below least left cursor.old cursor.new result }
+    ensures finds { FindsQuestion tokens.now below least left cursor.old cursor.new result }
+    ensures kept { IfOk result (KeepsBehind (found_leaves left) found_leaves
+        tokens.now cursor.old cursor.new) }
 {
     if cursor.is_asked(tokens, least) {
         cursor.enter(tokens, below, left.depth)?;

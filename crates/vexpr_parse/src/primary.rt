@@ -1,7 +1,7 @@
 // Expressions that no binary operator makes (IEEE 1364-2005, A.8.4).
 
-ghost use Rattle.std.specs.Prelude.{◌≡◌, ◌+◌, ◌<◌, ◌^◌};
-ghost use Rattle.vexpr_parse.specs.Answers.{Heads, Reads};
+ghost use Rattle.std.specs.Prelude.{◌≡◌, ◌+◌, ◌<◌, ◌^◌, ◌∷◌, [], IfOk};
+ghost use Rattle.vexpr_parse.specs.Answers.{Heads, leaf_here, leaf_of, Reads, Keeps, KeepsBehind, KeepsEach, found_leaves};
 ghost use Rattle.vexpr_parse.specs.Rules.{FindsAt, enclosed_at, converted_at, operand_at, round_at, FindsIndex, FindsNamed, primary_at};
 
 use crate::beginning::{Beginning, Round};
@@ -27,7 +27,9 @@ fn enclosed<F: Fn(&mut Cursor, u32) -> Result<Found, OrMemory<Stop>>>(
 ) -> Result<Found, OrMemory<Stop>>
     requires callable { F.IsAlwaysCallable read.now }
     requires reads { Reads tokens.now below (F.post read.now) }
-    ensures { FindsAt tokens.now below (enclosed_at below) cursor.old cursor.new result }
+    requires keeps { KeepsEach tokens.now (F.post read.now) }
+    ensures finds { FindsAt tokens.now below (enclosed_at below) cursor.old cursor.new result }
+    ensures kept { IfOk result (Keeps found_leaves tokens.now cursor.old cursor.new) }
 {
     let inner = read(cursor, 0)?;
     cursor.symbol(tokens, b")")?;
@@ -45,7 +47,10 @@ fn conversion<F: Fn(&mut Cursor, u32) -> Result<Found, OrMemory<Stop>>>(
 ) -> Result<Found, OrMemory<Stop>>
     requires callable { F.IsAlwaysCallable read.now }
     requires reads { Reads tokens.now below (F.post read.now) }
-    ensures { FindsAt tokens.now below (converted_at below signed) cursor.old cursor.new result }
+    requires keeps { KeepsEach tokens.now (F.post read.now) }
+    ensures finds { FindsAt tokens.now below
+        (converted_at below signed) cursor.old cursor.new result }
+    ensures kept { IfOk result (Keeps found_leaves tokens.now cursor.old cursor.new) }
 {
     cursor.symbol(tokens, b"(")?;
     let operand = read(cursor, 0)?;
@@ -64,7 +69,10 @@ fn operand<F: Fn(&mut Cursor, u32) -> Result<Found, OrMemory<Stop>>>(
 ) -> Result<Found, OrMemory<Stop>>
     requires callable { F.IsAlwaysCallable read.now }
     requires reads { Reads tokens.now below (F.post read.now) }
-    ensures { FindsAt tokens.now below (operand_at below operator) cursor.old cursor.new result }
+    requires keeps { KeepsEach tokens.now (F.post read.now) }
+    ensures finds { FindsAt tokens.now below
+        (operand_at below operator) cursor.old cursor.new result }
+    ensures kept { IfOk result (Keeps found_leaves tokens.now cursor.old cursor.new) }
 {
     let operand = read(cursor, UNARY_RANK)?;
     Ok(applied(alloc, operator, operand)?)
@@ -82,7 +90,9 @@ fn round<F: Fn(&mut Cursor, u32) -> Result<Found, OrMemory<Stop>>>(
 ) -> Result<Found, OrMemory<Stop>>
     requires callable { F.IsAlwaysCallable read.now }
     requires reads { Reads tokens.now below (F.post read.now) }
-    ensures { FindsAt tokens.now below (round_at below kind) cursor.old cursor.new result }
+    requires keeps { KeepsEach tokens.now (F.post read.now) }
+    ensures finds { FindsAt tokens.now below (round_at below kind) cursor.old cursor.new result }
+    ensures kept { IfOk result (Keeps found_leaves tokens.now cursor.old cursor.new) }
 {
     match kind {
         Round::Parenthesis => enclosed(alloc, read, below, tokens, cursor),
@@ -103,7 +113,10 @@ fn index<F: Fn(&mut Cursor, u32) -> Result<Found, OrMemory<Stop>>>(
 ) -> Result<Found, OrMemory<Stop>>
     requires callable { F.IsAlwaysCallable read.now }
     requires reads { Reads tokens.now below (F.post read.now) }
-    ensures { FindsIndex tokens.now below name cursor.old cursor.new result }
+    requires keeps { KeepsEach tokens.now (F.post read.now) }
+    ensures finds { FindsIndex tokens.now below name cursor.old cursor.new result }
+    ensures kept { IfOk result (KeepsBehind (name ∷ []) found_leaves
+        tokens.now cursor.old cursor.new) }
 {
     let index = read(cursor, 0)?;
     if cursor.begins(tokens, b"]") {
@@ -127,7 +140,10 @@ fn named<F: Fn(&mut Cursor, u32) -> Result<Found, OrMemory<Stop>>>(
 ) -> Result<Found, OrMemory<Stop>>
     requires callable { F.IsAlwaysCallable read.now }
     requires reads { Reads tokens.now below (F.post read.now) }
-    ensures { FindsNamed tokens.now below name cursor.old cursor.new result }
+    requires keeps { KeepsEach tokens.now (F.post read.now) }
+    ensures finds { FindsNamed tokens.now below name cursor.old cursor.new result }
+    ensures kept { IfOk result (KeepsBehind (name ∷ []) found_leaves
+        tokens.now cursor.old cursor.new) }
 {
     if cursor.begins(tokens, b"[") {
         cursor.enter(tokens, below, 1)?;
@@ -147,7 +163,9 @@ pub fn primary<F: Fn(&mut Cursor, u32) -> Result<Found, OrMemory<Stop>>>(
 ) -> Result<Found, OrMemory<Stop>>
     requires callable { F.IsAlwaysCallable read.now }
     requires reads { Reads tokens.now below (F.post read.now) }
-    ensures { FindsAt tokens.now below (primary_at below) cursor.old cursor.new result }
+    requires keeps { KeepsEach tokens.now (F.post read.now) }
+    ensures finds { FindsAt tokens.now below (primary_at below) cursor.old cursor.new result }
+    ensures kept { IfOk result (Keeps found_leaves tokens.now cursor.old cursor.new) }
 {
     match cursor.word(tokens) {
         None => Err(OrMemory::Fault(Stop::NoTree)),
@@ -156,6 +174,7 @@ pub fn primary<F: Fn(&mut Cursor, u32) -> Result<Found, OrMemory<Stop>>>(
 }
 
 // The tree that begins with the word here.
+#[tactic(auto, using(crate::proofs::LeafWords::name_leads, crate::proofs::LeafWords::number_leads, crate::proofs::LeafWords::time_leads, crate::proofs::LeafWords::round_leads, crate::proofs::LeafWords::kept_leaf, crate::proofs::LeafWords::no_kept_leaf))]
 fn led<F: Fn(&mut Cursor, u32) -> Result<Found, OrMemory<Stop>>>(
     alloc: Global,
     read: &F,
@@ -166,8 +185,11 @@ fn led<F: Fn(&mut Cursor, u32) -> Result<Found, OrMemory<Stop>>>(
 ) -> Result<Found, OrMemory<Stop>>
     requires callable { F.IsAlwaysCallable read.now }
     requires reads { Reads tokens.now below (F.post read.now) }
+    requires keeps { KeepsEach tokens.now (F.post read.now) }
     requires here { Heads tokens.now cursor.old word }
-    ensures { FindsAt tokens.now below (primary_at below) cursor.old cursor.new result }
+    requires leaf { leaf_here tokens.now cursor.old ≡ leaf_of word }
+    ensures finds { FindsAt tokens.now below (primary_at below) cursor.old cursor.new result }
+    ensures kept { IfOk result (Keeps found_leaves tokens.now cursor.old cursor.new) }
 {
     match beginning_of(word.text) {
         Beginning::Number => {
@@ -180,9 +202,7 @@ fn led<F: Fn(&mut Cursor, u32) -> Result<Found, OrMemory<Stop>>>(
         }
         Beginning::Time => {
             cursor.pass(tokens);
-            Ok(leaf(Expression::Time {
-                at: word.token.number,
-            }))
+            Ok(leaf(Expression::Time(word.token)))
         }
         Beginning::Round(kind) => {
             cursor.enter(tokens, below, 1)?;

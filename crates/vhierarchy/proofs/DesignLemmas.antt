@@ -1,41 +1,38 @@
 -- Faults of the modules' names, of the top and of the whole, and what they say of a text.
-use Rattle.std.proofs.Common.{◌≡◌, ◌<◌, ℕ, ◌+◌, length, drop, get_or, List, [], ◌∷◌, ◌++◌, inl, Option, Some, None, false, Result, Ok, Err, IfOk, OnOk, IsErrAnd, refl, sym, ap, subst, ◌∙◌}
+use Rattle.std.proofs.Common.{◌≡◌, ◌<◌, ℕ, ◌+◌, length, drop, get_or, List, [], ◌∷◌, ◌++◌, inl, Option, Some, None, true, Result, Ok, Err, IfOk, OnOk, IsErrAnd, refl, sym, ap, subst, ◌∙◌}
 use Rattle.vast.specs.Words.{Text}
-use Rattle.vast.specs.Modules.{ConnectionTree, ModuleTree, SourceTree}
+use Rattle.vast.specs.NumberedModules.{ModuleTree, SourceTree}
 use Rattle.basis.specs.declared.memory.OrMemory.{OrMemory}
 use Rattle.basis.specs.declared.memory.OrMemory.TheVariants.{Fault, Memory}
 use Rattle.basis.specs.declared.timescale.Timescale.{Timescale}
-use Rattle.std.specs.List.{list_all}
 use Rattle.std.specs.Option.{option_or}
 use Rattle.basis.specs.Reasons.{Because, IfFault}
 use Rattle.vdesign.specs.Design.{Design, Variable, Scope as Room}
-use Rattle.vmodules.specs.Names.{has_double, is_declared}
-use Rattle.vmodules.specs.Hierarchy.{top_of, module_names}
-use Rattle.velab.specs.declared.fault.Rule.{Rule}
-use Rattle.velab.specs.declared.fault.Rule.TheVariants.{Doubled, Kind, Top}
+use Rattle.vmodules.specs.Names.{has_double, is_declared, first_again}
+use Rattle.vmodules.specs.Connected.{Tied}
+use Rattle.vmodules.proofs.NameLemmas.{doubles}
+use Rattle.vmodules.specs.Hierarchy.{top_of, module_names, rival_of}
+use Rattle.velab.specs.declared.fault.Rule.TheVariants.{Doubled, Top}
 use Rattle.velab.specs.declared.fault.ElabFault.{ElabFault}
-use Rattle.velab.specs.Rules.{broken_if, unless, flaw_rule, IsBroken}
-use Rattle.velab.specs.Right.{writes_rightly}
-use Rattle.velab.specs.ActionFlaws.{blank_moment, table_flaw}
+use Rattle.velab.specs.Rules.{told, broken_at, IsBroken}
+use Rattle.velab.specs.Right.{kind_rule}
+use Rattle.velab.specs.ActionFlaws.{blank_moment, flaw_rule, table_fault}
 use Rattle.velab.proofs.ListLemmas.{drop_at}
-use Rattle.velab.proofs.VariableLemmas.{name_stops}
-use Rattle.velab.proofs.FaultLemmas.{still, if_more, first_breaks, then_breaks, both_right, same_rule}
+use Rattle.velab.proofs.FaultLemmas.{first_breaks, then_breaks, both_right, same_rule}
 use Rattle.vhierarchy.specs.Instances.{Part, Request, nothing, top_request, grown, broken_grown, broken_rule, broken_top, broken_whole, whole_of, design_by, Elaborates}
 use Rattle.vhierarchy.specs.Reasons.{IsDesignReason}
 use Rattle.vhierarchy.specs.Inner.{variable_names, scope_names}
 
--- a path that can't be added stands twice among all
-pub paths_err : (list : List Variable) (i : ℕ) (v : Variable) (names all : List Text) (e : OrMemory ElabFault) → i < length list → v ≡ get_or list i v → names ++ variable_names (drop i list) ≡ all →
-    Because (IsBroken (broken_if (is_declared names v.name) Doubled)) e → Because (IsBroken (broken_if (has_double all) Doubled)) e
-paths_err list i v names all e within at same =
-    still _ _ (if_more (is_declared names v.name) (has_double all) Doubled
-    (name_stops names (variable_names (drop (i + 1) list)) all v.name (ap (λ (vs : List Variable). names ++ variable_names vs) (sym (drop_at list i v within at)) ∙ same))) e
+-- a path that stands before stands twice among all
+pub paths_again : (list : List Variable) (i : ℕ) (v : Variable) (names all : List Text) → i < length list → v ≡ get_or list i v → names ++ variable_names (drop i list) ≡ all →
+    is_declared names v.name ≡ true → has_double all ≡ true
+paths_again list i v names all within at same =
+    doubles names (variable_names (drop (i + 1) list)) all v.name (ap (λ (vs : List Variable). names ++ variable_names vs) (sym (drop_at list i v within at)) ∙ same)
 
-pub scopes_err : (list : List Room) (i : ℕ) (s : Room) (names all : List Text) (e : OrMemory ElabFault) → i < length list → s ≡ get_or list i s → names ++ scope_names (drop i list) ≡ all →
-    Because (IsBroken (broken_if (is_declared names s.path) Doubled)) e → Because (IsBroken (broken_if (has_double all) Doubled)) e
-scopes_err list i s names all e within at same =
-    still _ _ (if_more (is_declared names s.path) (has_double all) Doubled
-    (name_stops names (scope_names (drop (i + 1) list)) all s.path (ap (λ (ss : List Room). names ++ scope_names ss) (sym (drop_at list i s within at)) ∙ same))) e
+pub scopes_again : (list : List Room) (i : ℕ) (s : Room) (names all : List Text) → i < length list → s ≡ get_or list i s → names ++ scope_names (drop i list) ≡ all →
+    is_declared names s.path ≡ true → has_double all ≡ true
+scopes_again list i s names all within at same =
+    doubles names (scope_names (drop (i + 1) list)) all s.path (ap (λ (ss : List Room). names ++ scope_names ss) (sym (drop_at list i s within at)) ∙ same)
 
 -- ---- the whole
 
@@ -53,11 +50,11 @@ no_ok P (Ok x) e h = absurd h
 no_ok P (Err y) e h = tt
 
 -- the top, told of the program's values
-pub top_is : (m : ModuleTree) (name : Text) (names : List Text) (ties : List ConnectionTree) → name ≡ m.name → names ≡ [] → ties ≡ [] →
+pub top_is : (m : ModuleTree) (name : Text) (names : List Text) (ties : List Tied) → name ≡ m.name.letters → names ≡ [] → ties ≡ [] →
     record {
       top = name;
       path = name;
-      name = name;
+      name = m.name;
       depth = 0;
       unit = m;
       outside = record { scope = record { top = []; names = names; first = 0; variables = 0; events = 0; others = []; known = 0 }; values = ties };
@@ -66,7 +63,7 @@ pub top_is : (m : ModuleTree) (name : Text) (names : List Text) (ties : List Con
 top_is m name names ties named none nothing_tied = λ i. record {
   top = named i;
   path = named i;
-  name = named i;
+  name = m.name;
   depth = 0;
   unit = m;
   outside = record { scope = record { top = []; names = none i; first = 0; variables = 0; events = 0; others = []; known = 0 }; values = nothing_tied i };
@@ -74,13 +71,13 @@ top_is m name names ties named none nothing_tied = λ i. record {
 }
 
 -- what is looked at behind the count of processes: what is written, and sizes
-abbrev pub broken_kinds : Part → Option Rule
-broken_kinds part = unless (list_all (writes_rightly part.variables) part.table) Kind
+abbrev pub broken_kinds : Part → Option ElabFault
+broken_kinds part = table_fault (kind_rule part.variables) part.table.actions part.table.words
 
-abbrev pub broken_sizes : Part → Option Rule
-broken_sizes part = flaw_rule (table_flaw (blank_moment part.variables) part.table)
+abbrev pub broken_sizes : Part → Option ElabFault
+broken_sizes part = table_fault (flaw_rule (blank_moment part.variables)) part.table.actions part.table.words
 
-abbrev pub behind_counts : Part → Option Rule
+abbrev pub behind_counts : Part → Option ElabFault
 behind_counts part = option_or (broken_kinds part) (broken_sizes part)
 
 -- ---- the text
@@ -94,31 +91,31 @@ one_design tree top scale design other d e =
     d.describes ∙ ap (λ (m : ModuleTree). design_by scale m (whole_of tree m)) (same_top d.unit e.unit (sym d.is_top ∙ e.is_top)) ∙ sym e.describes
 
 -- a rule that the names of modules break is the first that the text breaks
-pub names_reason : (tree : SourceTree) (top : Option Text) (e : OrMemory ElabFault) → Because (IsBroken (broken_if (has_double (module_names tree)) Doubled)) e →
+pub names_reason : (tree : SourceTree) (top : Option Text) (e : OrMemory ElabFault) → Because (IsBroken (broken_at Doubled (first_again (module_names tree)))) e →
     Because (IsDesignReason tree top) e
-names_reason tree top = first_breaks (broken_if (has_double (module_names tree)) Doubled) (broken_top tree (top_of tree top))
+names_reason tree top = first_breaks (broken_at Doubled (first_again (module_names tree))) (broken_top tree top (top_of tree top))
 
 -- where those differ
-module _ (tree : SourceTree) (top : Option Text) (differ : has_double (module_names tree) ≡ false) where
-  names_right : broken_if (has_double (module_names tree)) Doubled ≡ None
-  names_right = ap (λ b. broken_if b Doubled) differ
+module _ (tree : SourceTree) (top : Option Text) (differ : first_again (module_names tree) ≡ None) where
+  names_right : broken_at Doubled (first_again (module_names tree)) ≡ None
+  names_right = ap (broken_at Doubled) differ
 
-  pub missing : top_of tree top ≡ None → broken_rule tree top ≡ Some Top
-  missing is = ap (λ o. option_or o (broken_top tree (top_of tree top))) names_right ∙ ap (broken_top tree) is
+  pub missing : top_of tree top ≡ None → broken_rule tree top ≡ Some (told Top (rival_of tree top))
+  missing is = ap (λ o. option_or o (broken_top tree top (top_of tree top))) names_right ∙ ap (broken_top tree top) is
 
   module _ (m : ModuleTree) (is : top_of tree top ≡ Some m) where
     -- the first rule that the top breaks is the first that the text breaks
-    pub top_reason : {T : Type 0} (result : Result T (OrMemory ElabFault)) → IfFault result (IsBroken (broken_top tree (Some m))) → IfFault result (IsDesignReason tree top)
+    pub top_reason : {T : Type 0} (result : Result T (OrMemory ElabFault)) → IfFault result (IsBroken (broken_top tree top (Some m))) → IfFault result (IsDesignReason tree top)
     top_reason (Ok x) h = tt
     top_reason (Err e) h =
-        then_breaks (broken_if (has_double (module_names tree)) Doubled) (broken_top tree (top_of tree top)) names_right e (same_rule _ _ (ap (broken_top tree) (sym is)) e h)
+        then_breaks (broken_at Doubled (first_again (module_names tree))) (broken_top tree top (top_of tree top)) names_right e (same_rule _ _ (ap (broken_top tree top) (sym is)) e h)
 
     -- nothing is broken where the top is right
-    nothing_broken : broken_top tree (Some m) ≡ None → broken_rule tree top ≡ None
+    nothing_broken : broken_top tree top (Some m) ≡ None → broken_rule tree top ≡ None
     nothing_broken right =
-        both_right (broken_if (has_double (module_names tree)) Doubled) (broken_top tree (top_of tree top)) names_right (ap (broken_top tree) is ∙ right)
+        both_right (broken_at Doubled (first_again (module_names tree))) (broken_top tree top (top_of tree top)) names_right (ap (broken_top tree top) is ∙ right)
 
     pub top_elaborates : (result : Result Design (OrMemory ElabFault)) (scale : Timescale) → IfOk result (λ design. design ≡ design_by scale m (whole_of tree m)) →
-        OnOk result (broken_top tree (Some m) ≡ None) → IfOk result (Elaborates tree top scale)
+        OnOk result (broken_top tree top (Some m) ≡ None) → IfOk result (Elaborates tree top scale)
     top_elaborates (Ok design) scale describes right = record { right = nothing_broken right; unit = m; is_top = is; describes = describes }
     top_elaborates (Err e) scale describes right = tt

@@ -5,13 +5,12 @@ use Rattle.std.specs.Option.{option_or}
 use Rattle.basis.specs.Reasons.{Because, IfFault}
 use Rattle.basis.specs.declared.memory.OrMemory.{OrMemory}
 use Rattle.basis.specs.declared.memory.OrMemory.TheVariants.{Fault, Memory}
-use Rattle.vast.specs.Modules.{ModuleTree, SourceTree}
+use Rattle.vast.specs.NumberedModules.{ModuleTree, SourceTree}
 use Rattle.vmodules.specs.Ports.{Port, ports_of}
 use Rattle.vmodules.specs.Inner.{Units, units_tree}
-use Rattle.velab.specs.declared.fault.Rule.{Rule}
 use Rattle.velab.specs.declared.fault.Rule.TheVariants.{Depth}
 use Rattle.velab.specs.declared.fault.ElabFault.{ElabFault}
-use Rattle.velab.specs.Rules.{IsBroken}
+use Rattle.velab.specs.Rules.{told, IsBroken}
 use Rattle.velab.specs.Scopes.{Scope}
 use Rattle.velab.specs.Elaborate.{Outside, Base, Given, given_by, valueless_by, given_in_head, with_given, with_all, first_scope, valueless_scope, head_scope, whole_scope}
 use Rattle.velab.proofs.ListLemmas.{drop_at}
@@ -30,7 +29,7 @@ module _ (units : Units) (levels : ℕ) (request : Asked) (scope : Scope) (list 
   abbrev grow : Part → Wanted → Part
   grow so_far one = grown levels (units_tree units) so_far (asked scope (request_tree units.words request) one)
 
-  abbrev rule : Part → Wanted → Option Rule
+  abbrev rule : Part → Wanted → Option ElabFault
   rule so_far one = broken_grown levels (units_tree units) so_far (asked scope (request_tree units.words request) one)
 
   pub each_step : (part next all : Part) → next ≡ one_grown units levels request scope part x → each_grown units levels request scope part (drop i list) ≡ all →
@@ -42,14 +41,14 @@ module _ (units : Units) (levels : ℕ) (request : Asked) (scope : Scope) (list 
       option_or (one_broken units levels request scope part x) (broken_each grow rule (grow part (wanted_tree units.words x)) (wanted_trees units.words (drop (i + 1) list)))
   each_opens part = ap (broken_each grow rule part) opens
 
-  pub each_right : (part next : Part) (all : Option Rule) → next ≡ one_grown units levels request scope part x → one_broken units levels request scope part x ≡ None →
+  pub each_right : (part next : Part) (all : Option ElabFault) → next ≡ one_grown units levels request scope part x → one_broken units levels request scope part x ≡ None →
       each_broken_grown units levels request scope part (drop i list) ≡ all → each_broken_grown units levels request scope next (drop (i + 1) list) ≡ all
   each_right part next all put right same =
       ap (λ (p : Part). broken_each grow rule p (wanted_trees units.words (drop (i + 1) list))) put
-      ∙ ap (λ (r : Option Rule). option_or r (broken_each grow rule (grow part (wanted_tree units.words x)) (wanted_trees units.words (drop (i + 1) list)))) (sym right)
+      ∙ ap (λ (r : Option ElabFault). option_or r (broken_each grow rule (grow part (wanted_tree units.words x)) (wanted_trees units.words (drop (i + 1) list)))) (sym right)
       ∙ sym (each_opens part) ∙ same
 
-  pub each_err : (part : Part) (all : Option Rule) → each_broken_grown units levels request scope part (drop i list) ≡ all → (e : OrMemory ElabFault) →
+  pub each_err : (part : Part) (all : Option ElabFault) → each_broken_grown units levels request scope part (drop i list) ≡ all → (e : OrMemory ElabFault) →
       Because (IsBroken (one_broken units levels request scope part x)) e → Because (IsBroken all) e
   each_err part all same e h =
       same_rule _ all (sym (each_opens part) ∙ same) e
@@ -91,7 +90,7 @@ module _ (modules : SourceTree) (part : Part) (request : Request) (levels below 
   broken_opened : broken_grown (suc below) modules part request ≡ broken_grown levels modules part request
   broken_opened = ap (λ n. broken_grown n modules part request) (sym deep)
 
-  abbrev broken_below : Option Rule
+  abbrev broken_below : Option ElabFault
   broken_below =
       broken_each (λ (so_far : Part) (one : Wanted). grown below modules so_far (asked (inside part request) request one))
       (λ (so_far : Part) (one : Wanted). broken_grown below modules so_far (asked (inside part request) request one))
@@ -100,10 +99,10 @@ module _ (modules : SourceTree) (part : Part) (request : Request) (levels below 
   own_breaks : (e : OrMemory ElabFault) → Because (IsBroken (broken_own modules part request)) e → Because (IsBroken (broken_grown levels modules part request)) e
   own_breaks e h = same_rule _ _ broken_opened e (first_breaks (broken_own modules part request) broken_below e h)
 
-  abbrev among : Option Rule
+  abbrev among : Option ElabFault
   among = broken_among modules 0 request.unit.items
 
-  abbrev others : Option Rule
+  abbrev others : Option ElabFault
   others = broken_own_by request (ports_of request.unit) (wanted_in modules request.unit) (inside part request) part
 
   pub names_err : (e : OrMemory ElabFault) → Because (IsBroken (broken_names part request)) e → Because (IsBroken (broken_grown levels modules part request)) e
@@ -154,5 +153,5 @@ module _ (modules : SourceTree) (part : Part) (request : Request) (levels below 
           unit_right each = sym broken_opened ∙ both_right (broken_own modules part request) broken_below own_right (sym broken_here ∙ each)
 
 -- no level is left
-pub too_deep : (modules : SourceTree) (part : Part) (request : Request) (levels : ℕ) → levels ≡ 0 → broken_grown levels modules part request ≡ Some Depth
+pub too_deep : (modules : SourceTree) (part : Part) (request : Request) (levels : ℕ) → levels ≡ 0 → broken_grown levels modules part request ≡ Some (told Depth (Some request.name))
 too_deep modules part request levels none = ap (λ n. broken_grown n modules part request) none

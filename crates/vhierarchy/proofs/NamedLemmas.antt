@@ -1,6 +1,6 @@
 -- The names of a design are names where those of its text are: paths of the grammar's names, one for each variable.
 use Rattle.std.proofs.Common.{◌≡◌, ◌≢◌, ℕ, zero, suc, ◌<◌, ◌+◌, Bool, true, false, ◌&&◌, ◌||◌, ◌==◌, not, List, [], ◌∷◌, ◌++◌, map, length, Option, Some, None, refl, sym, ap, subst, ◌∙◌, true≢false, arith}
-use Rattle.std.specs.Prelude.{slice_get, cond, nat_le, filter}
+use Rattle.std.specs.Prelude.{slice_get, cond, nat_le, filter, option_map}
 use Rattle.std.specs.List.{fold, list_all, find}
 use Rattle.std.specs.Option.{option_or}
 use Rattle.std.specs.Str.{bytes_eq}
@@ -10,8 +10,12 @@ use Rattle.basis.proofs.Bools.{and_left, and_right, and_both, or_left, or_right,
 use Rattle.basis.specs.declared.timescale.Timescale.{Timescale}
 use Rattle.vast.specs.Words.{Text, begins_name, is_in_name, is_name, is_reserved}
 use Rattle.vast.specs.Names.{has_letters_of_name, is_path_from, is_path}
-use Rattle.vast.specs.Modules.{ConnectionsTree, InstanceTree, ItemTree, parameters, declaration, variables, integers, events, assignments, initial, always, instances, DeclarationKind, DirectionTree, input, output, PortTree, ModuleTree, SourceTree, DerivesText, DeclaredTree, fits, fits_module, fits_item, fits_declared, fits_optional, fits_optional_parameters, fits_optional_ports, fits_port, fits_direction, fits_declaration_kind, fits_overrides, fits_instance, fits_connections, is_directed, are_some}
-use Rattle.vmodules.specs.Names.{has_double, is_declared}
+use Rattle.vast.specs.Modules.{DerivesText, SourceTree as PlainTree, fits, fits_module, fits_item, fits_declared, fits_optional, fits_optional_parameters, fits_optional_ports, fits_port, fits_direction, fits_declaration_kind, fits_overrides, fits_instance, fits_connections, is_directed, are_some}
+use Rattle.vast.specs.NumberedWords.{Word}
+use Rattle.vast.specs.NumberedModules.{ConnectionsTree, InstanceTree, ItemTree, parameters, declaration, variables, integers, events, assignments, initial, always, instances, DeclarationKind, DirectionTree, input, output, PortTree, ModuleTree, SourceTree, DeclaredTree}
+use Rattle.vast.specs.NumberedTexts.{IsNumbered}
+use Rattle.vast.specs.TreeWords.{declared_with, instance_with, item_with, declaration_kind_with, connections_with, port_with, module_with, source_with}
+use Rattle.vmodules.specs.Names.{has_double, is_declared, first_again}
 use Rattle.vmodules.specs.Hierarchy.{instantiated, module_names, module_of, roots, only_of, top_of}
 use Rattle.vmodules.specs.Ports.{Port, port_by, ports_behind, ports_listed, ports_of}
 use Rattle.vdesign.specs.Named.{AreNamed}
@@ -19,9 +23,8 @@ use Rattle.vdesign.specs.Design.{Variable, Design}
 use Rattle.vdesign.specs.declared.design.Kind.TheVariants.{Integer}
 use Rattle.velab.specs.Scopes.{Scope}
 use Rattle.velab.specs.Elaborate.{Home, Declaration, all_declared, kind_of, declared_as, declarations_of, port_declaration, variable_of, variables_from, behind_item, given_by}
-use Rattle.velab.specs.declared.fault.Rule.{Rule}
 use Rattle.velab.specs.declared.fault.Rule.TheVariants.{Doubled}
-use Rattle.velab.specs.Rules.{broken_if}
+use Rattle.velab.specs.Rules.{broken_if, broken_at}
 use Rattle.velab.proofs.FaultLemmas.{first_right, then_right}
 use Rattle.vhierarchy.specs.Instances.{Wanted, wanted_one, wanted_of, wanted_by, wanted_from, wanted_in, Part, Request, own_by, home_by, with_own, inside, asked, grown, nothing, top_request, whole_of, variable_paths, design_by, broken_paths, broken_table, broken_design, broken_whole, broken_top, broken_rule, Elaborates}
 
@@ -71,7 +74,7 @@ dotted_is_path scope text e h = goes_on false scope text e (name_is_path text (l
 -- ---- declared names, and those of instances
 
 abbrev names : List Declaration → List Text
-names = map (λ d. d.name)
+names = map (λ d. d.name.letters)
 
 abbrev instance_names : ItemTree → List Text
 instance_names (parameters local type settings) = []
@@ -80,7 +83,7 @@ instance_names (events list) = []
 instance_names (assignments settings) = []
 instance_names (initial statement) = []
 instance_names (always statement) = []
-instance_names (instances text overrides list) = map (λ one. one.name) list
+instance_names (instances text overrides list) = map (λ one. one.name.letters) list
 
 abbrev item_is_named : ItemTree → Bool
 item_is_named item = list_all is_name (names (declarations_of item)) && list_all is_name (instance_names item)
@@ -89,93 +92,101 @@ abbrev ports_are_named : ModuleTree → Bool
 ports_are_named m = list_all is_name (names (map port_declaration (ports_of m)))
 
 abbrev is_named : ModuleTree → Bool
-is_named m = is_name m.name && (ports_are_named m && list_all item_is_named m.items)
+is_named m = is_name m.name.letters && (ports_are_named m && list_all item_is_named m.items)
 
 abbrev wanted_is_named : Wanted → Bool
-wanted_is_named w = is_name w.name && is_named w.child
+wanted_is_named w = is_name w.name.letters && is_named w.child
 
--- ---- what the grammar derives has its names
+-- ---- what the grammar derives has its names; it knows trees without numbers
 
-passes : {A : Type 0} (p q : A → Bool) → ((one : A) → p one ≡ true → q one ≡ true) → (list : List A) → list_all p list ≡ true → list_all q list ≡ true
-passes p q step [] all = refl
-passes p q step (one ∷ more) all =
-    and_both (q one) (list_all q more) (step one (and_left (p one) (list_all p more) all)) (passes p q step more (and_right (p one) (list_all p more) all))
+abbrev letters_in : Word → Text
+letters_in word = word.letters
+
+passes : {A B : Type 0} (f : A → B) (p : B → Bool) (q : A → Bool) → ((one : A) → p (f one) ≡ true → q one ≡ true) →
+    (list : List A) → list_all p (map f list) ≡ true → list_all q list ≡ true
+passes f p q step [] all = refl
+passes f p q step (one ∷ more) all =
+    and_both (q one) (list_all q more) (step one (and_left (p (f one)) (list_all p (map f more)) all)) (passes f p q step more (and_right (p (f one)) (list_all p (map f more)) all))
 
 all_declared_named : (kind : _) (signed : _) (range : _) (list : List DeclaredTree) →
-    list_all (fits_declared 64) list ≡ true → list_all is_name (names (all_declared kind signed range list)) ≡ true
+    list_all (fits_declared 64) (map (declared_with letters_in) list) ≡ true → list_all is_name (names (all_declared kind signed range list)) ≡ true
 all_declared_named kind signed range [] fit = refl
 all_declared_named kind signed range (one ∷ more) fit =
-    and_both (is_name one.name) (list_all is_name (names (all_declared kind signed range more)))
-    (and_left (is_name one.name) (fits_optional 64 one.value) (and_left (fits_declared 64 one) (list_all (fits_declared 64) more) fit))
-    (all_declared_named kind signed range more (and_right (fits_declared 64 one) (list_all (fits_declared 64) more) fit))
+    let plain = declared_with letters_in one in
+    let rest = map (declared_with letters_in) more in
+    and_both (is_name one.name.letters) (list_all is_name (names (all_declared kind signed range more)))
+    (and_left (is_name one.name.letters) (fits_optional 64 plain.value) (and_left (fits_declared 64 plain) (list_all (fits_declared 64) rest) fit))
+    (all_declared_named kind signed range more (and_right (fits_declared 64 plain) (list_all (fits_declared 64) rest) fit))
 
-kind_named : (kind : DeclarationKind) (list : List DeclaredTree) → list_all (fits_declared 64) list ≡ true → list_all is_name (names (declared_as kind list)) ≡ true
+kind_named : (kind : DeclarationKind) (list : List DeclaredTree) → list_all (fits_declared 64) (map (declared_with letters_in) list) ≡ true → list_all is_name (names (declared_as kind list)) ≡ true
 kind_named (variables word type) list fit = all_declared_named (kind_of word) type.signed type.range list fit
 kind_named integers list fit = all_declared_named Integer true None list fit
 
-instances_named : (list : List InstanceTree) → list_all (fits_instance 64) list ≡ true → list_all is_name (map (λ (one : InstanceTree). one.name) list) ≡ true
+instances_named : (list : List InstanceTree) → list_all (fits_instance 64) (map (instance_with letters_in) list) ≡ true → list_all is_name (map (λ (one : InstanceTree). one.name.letters) list) ≡ true
 instances_named [] fit = refl
 instances_named (one ∷ more) fit =
-    and_both (is_name one.name) (list_all is_name (map (λ (x : InstanceTree). x.name) more))
-    (and_left (is_name one.name) (fits_connections 64 one.connections) (and_left (fits_instance 64 one) (list_all (fits_instance 64) more) fit))
-    (instances_named more (and_right (fits_instance 64 one) (list_all (fits_instance 64) more) fit))
+    let plain = instance_with letters_in one in
+    let rest = map (instance_with letters_in) more in
+    and_both (is_name one.name.letters) (list_all is_name (map (λ (x : InstanceTree). x.name.letters) more))
+    (and_left (is_name one.name.letters) (fits_connections 64 plain.connections) (and_left (fits_instance 64 plain) (list_all (fits_instance 64) rest) fit))
+    (instances_named more (and_right (fits_instance 64 plain) (list_all (fits_instance 64) rest) fit))
 
-item_named : (item : ItemTree) → fits_item 64 item ≡ true → item_is_named item ≡ true
+item_named : (item : ItemTree) → fits_item 64 (item_with letters_in item) ≡ true → item_is_named item ≡ true
 item_named (parameters local type settings) fit = refl
 item_named (declaration kind declared) fit =
+    let plain = map (declared_with letters_in) declared in
     and_both (list_all is_name (names (declared_as kind declared))) true
     (kind_named kind declared
-    (and_right (nat_le 1 (length declared)) (list_all (fits_declared 64) declared)
-    (and_right (fits_declaration_kind 64 kind) (are_some (fits_declared 64) declared) fit)))
+    (and_right (nat_le 1 (length plain)) (list_all (fits_declared 64) plain)
+    (and_right (fits_declaration_kind 64 (declaration_kind_with letters_in kind)) (are_some (fits_declared 64) plain) fit)))
     refl
 item_named (events list) fit = refl
 item_named (assignments list) fit = refl
 item_named (initial statement) fit = refl
 item_named (always statement) fit = refl
 item_named (instances text overrides list) fit =
+    let plain = map (instance_with letters_in) list in
     instances_named list
-    (and_right (nat_le 1 (length list)) (list_all (fits_instance 64) list)
-    (and_right (is_name text && fits_overrides 64 overrides) (are_some (fits_instance 64) list) fit))
+    (and_right (nat_le 1 (length plain)) (list_all (fits_instance 64) plain)
+    (and_right (is_name text.letters && fits_overrides 64 (option_map (connections_with letters_in) overrides)) (are_some (fits_instance 64) plain) fit))
 
-port_name : (direction : Option DirectionTree) (text : Text) → (port_by direction text).name ≡ text
+port_name : (direction : Option DirectionTree) (text : Word) → (port_by direction text).name ≡ text
 port_name None text = refl
 port_name (Some (input wire type)) text = refl
 port_name (Some (output net type)) text = refl
 
-ports_named : (before : Option DirectionTree) (list : List PortTree) → list_all (fits_port 64) list ≡ true →
+ports_named : (before : Option DirectionTree) (list : List PortTree) → list_all (fits_port 64) (map (port_with letters_in) list) ≡ true →
     list_all is_name (names (map port_declaration (ports_behind before list))) ≡ true
 ports_named before [] fit = refl
 ports_named before (port ∷ more) fit =
-    and_both (is_name (port_by (option_or port.direction before) port.name).name)
+    let plain = port_with letters_in port in
+    let rest = map (port_with letters_in) more in
+    and_both (is_name (port_by (option_or port.direction before) port.name).name.letters)
     (list_all is_name (names (map port_declaration (ports_behind (option_or port.direction before) more))))
-    (ap is_name (port_name (option_or port.direction before) port.name)
-    ∙ and_right (fits_direction 64 port.direction) (is_name port.name) (and_left (fits_port 64 port) (list_all (fits_port 64) more) fit))
-    (ports_named (option_or port.direction before) more (and_right (fits_port 64 port) (list_all (fits_port 64) more) fit))
+    (ap (λ (w : Word). is_name w.letters) (port_name (option_or port.direction before) port.name)
+    ∙ and_right (fits_direction 64 plain.direction) (is_name port.name.letters) (and_left (fits_port 64 plain) (list_all (fits_port 64) rest) fit))
+    (ports_named (option_or port.direction before) more (and_right (fits_port 64 plain) (list_all (fits_port 64) rest) fit))
 
-listed_named : (list : Option (List PortTree)) → fits_optional_ports 64 list ≡ true → list_all is_name (names (map port_declaration (ports_listed list))) ≡ true
+listed_named : (list : Option (List PortTree)) → fits_optional_ports 64 (option_map (map (port_with letters_in)) list) ≡ true → list_all is_name (names (map port_declaration (ports_listed list))) ≡ true
 listed_named None fit = refl
 listed_named (Some []) fit = refl
 listed_named (Some (port ∷ more)) fit =
-    ports_named None (port ∷ more) (and_right (is_directed port.direction) (list_all (fits_port 64) (port ∷ more)) fit)
+    let plain = map (port_with letters_in) (port ∷ more) in
+    ports_named None (port ∷ more) (and_right (is_directed (port_with letters_in port).direction) (list_all (fits_port 64) plain) fit)
 
-module_fits : (m : ModuleTree) → fits_module 64 m ≡ true → is_named m ≡ true
+module_fits : (m : ModuleTree) → fits_module 64 (module_with letters_in m) ≡ true → is_named m ≡ true
 module_fits m fit =
-    and_both (is_name m.name) (ports_are_named m && list_all item_is_named m.items)
-    (and_left (is_name m.name) heads (and_left (is_name m.name && heads) ports_fit front))
-    (and_both (ports_are_named m) (list_all item_is_named m.items) (listed_named m.ports (and_right (is_name m.name && heads) ports_fit front))
-    (passes (fits_item 64) item_is_named item_named m.items (and_right (is_name m.name && heads && ports_fit) (list_all (fits_item 64) m.items) fit)))
-  where
-    heads : Bool
-    heads = fits_optional_parameters 64 m.parameters
+    let plain = module_with letters_in m in
+    let heads = fits_optional_parameters 64 plain.parameters in
+    let ports_fit = fits_optional_ports 64 plain.ports in
+    let front : (is_name m.name.letters && heads && ports_fit) ≡ true = and_left (is_name m.name.letters && heads && ports_fit) (list_all (fits_item 64) plain.items) fit in
+    and_both (is_name m.name.letters) (ports_are_named m && list_all item_is_named m.items)
+    (and_left (is_name m.name.letters) heads (and_left (is_name m.name.letters && heads) ports_fit front))
+    (and_both (ports_are_named m) (list_all item_is_named m.items) (listed_named m.ports (and_right (is_name m.name.letters && heads) ports_fit front))
+    (passes (item_with letters_in) (fits_item 64) item_is_named item_named m.items (and_right (is_name m.name.letters && heads && ports_fit) (list_all (fits_item 64) plain.items) fit)))
 
-    ports_fit : Bool
-    ports_fit = fits_optional_ports 64 m.ports
-
-    front : (is_name m.name && heads && ports_fit) ≡ true
-    front = and_left (is_name m.name && heads && ports_fit) (list_all (fits_item 64) m.items) fit
-
-all_named : (tree : SourceTree) → fits 64 tree ≡ true → list_all is_named tree ≡ true
-all_named tree fit = passes (fits_module 64) is_named module_fits tree fit
+all_named : (tree : SourceTree) → fits 64 (source_with letters_in tree) ≡ true → list_all is_named tree ≡ true
+all_named tree fit = passes (module_with letters_in) (fits_module 64) is_named module_fits tree fit
 
 -- ---- modules that are found
 
@@ -201,22 +212,22 @@ only_passes q (x ∷ []) m all is = let same : x ≡ m = cc in subst (λ (y : Mo
 only_passes q (x ∷ y ∷ more) m all is = cc
 
 top_named : (tree : SourceTree) (top : Option Text) (m : ModuleTree) → list_all is_named tree ≡ true → top_of tree top ≡ Some m → is_named m ≡ true
-top_named tree (Some text) m all is = found_passes (λ x. bytes_eq x.name text) is_named tree m all is
+top_named tree (Some text) m all is = found_passes (λ x. bytes_eq x.name.letters text) is_named tree m all is
 top_named tree None m all is =
-    only_passes is_named (roots tree) m (kept_pass (λ x. not (is_declared (instantiated tree) x.name)) is_named tree all) is
+    only_passes is_named (roots tree) m (kept_pass (λ x. not (is_declared (instantiated tree) x.name.letters)) is_named tree all) is
 
 -- ---- the instances of a module are named
 
 each_named : (child : ModuleTree) (known : ℕ) (overrides : Option ConnectionsTree) (list : List InstanceTree) → is_named child ≡ true →
-    list_all is_name (map (λ (one : InstanceTree). one.name) list) ≡ true → list_all wanted_is_named (map (wanted_one child known overrides) list) ≡ true
+    list_all is_name (map (λ (one : InstanceTree). one.name.letters) list) ≡ true → list_all wanted_is_named (map (wanted_one child known overrides) list) ≡ true
 each_named child known overrides [] e all = refl
 each_named child known overrides (one ∷ more) e all =
     and_both (wanted_is_named (wanted_one child known overrides one)) (list_all wanted_is_named (map (wanted_one child known overrides) more))
-    (and_both (is_name one.name) (is_named child) (and_left (is_name one.name) (list_all is_name (map (λ (x : InstanceTree). x.name) more)) all) e)
-    (each_named child known overrides more e (and_right (is_name one.name) (list_all is_name (map (λ (x : InstanceTree). x.name) more)) all))
+    (and_both (is_name one.name.letters) (is_named child) (and_left (is_name one.name.letters) (list_all is_name (map (λ (x : InstanceTree). x.name.letters) more)) all) e)
+    (each_named child known overrides more e (and_right (is_name one.name.letters) (list_all is_name (map (λ (x : InstanceTree). x.name.letters) more)) all))
 
 of_named : (child : Option ModuleTree) (known : ℕ) (overrides : Option ConnectionsTree) (list : List InstanceTree) →
-    ((m : ModuleTree) → child ≡ Some m → is_named m ≡ true) → list_all is_name (map (λ (one : InstanceTree). one.name) list) ≡ true →
+    ((m : ModuleTree) → child ≡ Some m → is_named m ≡ true) → list_all is_name (map (λ (one : InstanceTree). one.name.letters) list) ≡ true →
     list_all wanted_is_named (wanted_of child known overrides list) ≡ true
 of_named None known overrides list e all = refl
 of_named (Some child) known overrides list e all = each_named child known overrides list (e child refl) all
@@ -230,7 +241,7 @@ module _ (modules : SourceTree) (named : list_all is_named modules ≡ true) whe
   by_named known (initial statement) e = refl
   by_named known (always statement) e = refl
   by_named known (instances text overrides list) e =
-      of_named (module_of modules text) known overrides list (λ m is. found_passes (λ x. bytes_eq x.name text) is_named modules m named is) e
+      of_named (module_of modules text.letters) known overrides list (λ m is. found_passes (λ x. bytes_eq x.name.letters text.letters) is_named modules m named is) e
 
   from_named : (known : ℕ) (items : List ItemTree) → list_all item_is_named items ≡ true → list_all wanted_is_named (wanted_from modules known items) ≡ true
   from_named known [] e = refl
@@ -249,9 +260,9 @@ module _ (home : Home) (e : is_path home.name ≡ true) where
   paths_of : (scope : Scope) (ds : List Declaration) → list_all is_name (names ds) ≡ true → all_paths (map (variable_of home scope) ds) ≡ true
   paths_of scope [] all = refl
   paths_of scope (d ∷ ds) all =
-      and_both (is_path (home.name ++ 46 ∷ d.name)) (all_paths (map (variable_of home scope) ds))
-      (dotted_is_path home.name d.name e (and_left (is_name d.name) (list_all is_name (names ds)) all))
-      (paths_of scope ds (and_right (is_name d.name) (list_all is_name (names ds)) all))
+      and_both (is_path (home.name ++ 46 ∷ d.name.letters)) (all_paths (map (variable_of home scope) ds))
+      (dotted_is_path home.name d.name.letters e (and_left (is_name d.name.letters) (list_all is_name (names ds)) all))
+      (paths_of scope ds (and_right (is_name d.name.letters) (list_all is_name (names ds)) all))
 
   paths_from : (scope : Scope) (items : List ItemTree) → list_all item_is_named items ≡ true → all_paths (variables_from home scope items) ≡ true
   paths_from scope [] all = refl
@@ -288,16 +299,16 @@ module _ (modules : SourceTree) (named : list_all is_named modules ≡ true) whe
   grown_paths zero part request e unit before = before
   grown_paths (suc levels) part request e unit before =
       let scope : Scope = inside part request in
-      let inner = and_right (is_name request.unit.name) (ports_are_named request.unit && list_all item_is_named request.unit.items) unit in
+      let inner = and_right (is_name request.unit.name.letters) (ports_are_named request.unit && list_all item_is_named request.unit.items) unit in
       let ports = and_left (ports_are_named request.unit) (list_all item_is_named request.unit.items) inner in
       let items = and_right (ports_are_named request.unit) (list_all item_is_named request.unit.items) inner in
       fold_keeps (λ (so_far : Part) (one : Wanted). grown levels modules so_far (asked scope request one)) wanted_is_named
-      (λ so_far one good. grown_paths levels so_far (asked scope request one) (dotted_is_path request.path one.name e (and_left (is_name one.name) (is_named one.child) good))
-      (and_right (is_name one.name) (is_named one.child) good))
+      (λ so_far one good. grown_paths levels so_far (asked scope request one) (dotted_is_path request.path one.name.letters e (and_left (is_name one.name.letters) (is_named one.child) good))
+      (and_right (is_name one.name.letters) (is_named one.child) good))
       (wanted_in modules request.unit) (with_own modules part request) (from_named modules named _ request.unit.items items)
       (own_paths request (ports_of request.unit) (wanted_in modules request.unit) scope part e ports items before)
 
-whole_paths : (modules : SourceTree) → list_all is_named modules ≡ true → (m : ModuleTree) → is_path m.name ≡ true → is_named m ≡ true →
+whole_paths : (modules : SourceTree) → list_all is_named modules ≡ true → (m : ModuleTree) → is_path m.name.letters ≡ true → is_named m ≡ true →
     all_paths (whole_of modules m).variables ≡ true
 unfolding whole_of
 whole_paths modules named m e unit = grown_paths modules named 16 nothing (top_request m) e unit refl
@@ -338,28 +349,28 @@ distinct_at (x ∷ vs) none (suc i) (suc j) v w lt first second =
 design_named : (scale : Timescale) (m : ModuleTree) (part : Part) → is_named m ≡ true → all_paths part.variables ≡ true →
     has_double (variable_paths part) ≡ false → AreNamed (design_by scale m part)
 design_named scale m part e paths none = record {
-  top = letters m.name (and_left (is_name m.name) (ports_are_named m && list_all item_is_named m.items) e);
+  top = letters m.name.letters (and_left (is_name m.name.letters) (ports_are_named m && list_all item_is_named m.items) e);
   paths = path_at part.variables paths;
   distinct = distinct_at part.variables none;
 }
 
-none_doubled : (b : Bool) → broken_if b Doubled ≡ None → b ≡ false
-none_doubled true e = cc
-none_doubled false e = refl
+none_doubled : (b : Bool) (top : Option Word) → broken_if b Doubled top ≡ None → b ≡ false
+none_doubled true top e = cc
+none_doubled false top e = refl
 
-design_right : (tree : SourceTree) (top : Option Text) (m : ModuleTree) → top_of tree top ≡ Some m → broken_rule tree top ≡ None → broken_design (whole_of tree m) ≡ None
+design_right : (tree : SourceTree) (top : Option Text) (m : ModuleTree) → top_of tree top ≡ Some m → broken_rule tree top ≡ None → broken_design m.name (whole_of tree m) ≡ None
 design_right tree top m is e =
-    then_right (broken_whole tree m) (broken_design (whole_of tree m))
-    (sym (ap (broken_top tree) is) ∙ then_right (broken_if (has_double (module_names tree)) Doubled) (broken_top tree (top_of tree top)) e)
+    then_right (broken_whole tree m) (broken_design m.name (whole_of tree m))
+    (sym (ap (broken_top tree top) is) ∙ then_right (broken_at Doubled (first_again (module_names tree))) (broken_top tree top (top_of tree top)) e)
 
-pub named_by : (words : List Text) (tree : SourceTree) (top : Option Text) (scale : Timescale) (design : Design) →
-    DerivesText words tree → Elaborates tree top scale design → AreNamed design
-named_by words tree top scale design derives elaborates =
+pub named_by : (words : List Text) (plain : PlainTree) (tree : SourceTree) (top : Option Text) (scale : Timescale) (design : Design) →
+    DerivesText words plain → IsNumbered words plain tree → Elaborates tree top scale design → AreNamed design
+named_by words plain tree top scale design derives numbered elaborates =
     let m : ModuleTree = elaborates.unit in
-    let all = all_named tree derives.fitting in
+    let all = all_named tree (ap (fits 64) numbered.is_tree ∙ derives.fitting) in
     let unit = top_named tree top m all elaborates.is_top in
     let part : Part = whole_of tree m in
     subst AreNamed (sym elaborates.describes)
     (design_named scale m part unit
-    (whole_paths tree all m (name_is_path m.name (letters m.name (and_left (is_name m.name) (ports_are_named m && list_all item_is_named m.items) unit))) unit)
-    (none_doubled (has_double (variable_paths part)) (first_right _ _ (first_right (broken_paths part) (broken_table part) (design_right tree top m elaborates.is_top elaborates.right)))))
+    (whole_paths tree all m (name_is_path m.name.letters (letters m.name.letters (and_left (is_name m.name.letters) (ports_are_named m && list_all item_is_named m.items) unit))) unit)
+    (none_doubled (has_double (variable_paths part)) _ (first_right _ _ (first_right (broken_paths m.name part) (broken_table m.name part) (design_right tree top m elaborates.is_top elaborates.right)))))

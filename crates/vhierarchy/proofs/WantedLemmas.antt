@@ -3,12 +3,12 @@ use Rattle.std.proofs.Common.{◌≡◌, ◌<◌, ℕ, ◌+◌, List, ◌∷◌,
 use Rattle.std.proofs.lemmas.List.{length-map}
 use Rattle.std.specs.Option.{option_or}
 use Rattle.vast.specs.Words.{Text}
-use Rattle.vast.specs.Modules.{ConnectionsTree, InstanceTree, ItemTree, parameters, declaration, events, assignments, initial, always, instances, ModuleTree, SourceTree}
-use Rattle.vast.specs.ModuleTrees.{item_tree}
+use Rattle.vast.specs.NumberedModules.{ConnectionsTree, InstanceTree, ItemTree, parameters, declaration, events, assignments, initial, always, instances, ModuleTree, SourceTree}
+use Rattle.vast.specs.NumberedTrees.{item_tree}
 use Rattle.vast.specs.declared.module.ModuleItem.{ModuleItem}
 use Rattle.vmodules.specs.Hierarchy.{module_of}
 use Rattle.vmodules.specs.Inner.{Units, units_tree}
-use Rattle.velab.specs.declared.fault.Rule.{Rule}
+use Rattle.velab.specs.declared.fault.ElabFault.{ElabFault}
 use Rattle.velab.specs.Elaborate.{Given, given_by}
 use Rattle.velab.specs.Inner.{given_in}
 use Rattle.velab.proofs.ListLemmas.{drop_at}
@@ -30,7 +30,7 @@ by_count modules known other (events names) = refl
 by_count modules known other (assignments settings) = refl
 by_count modules known other (initial statement) = refl
 by_count modules known other (always statement) = refl
-by_count modules known other (instances letters overrides list) = of_count known other (module_of modules letters) overrides list
+by_count modules known other (instances name overrides list) = of_count known other (module_of modules name.letters) overrides list
 
 module _ (units : Units) (items : List ModuleItem) (i : ℕ) (x : ModuleItem) (within : i < length items) (is : x ≡ get_or items i x) where
   abbrev rest : List ModuleItem
@@ -56,11 +56,11 @@ module _ (units : Units) (items : List ModuleItem) (i : ℕ) (x : ModuleItem) (w
         ∙ length-append (wanted_trees units.words old) (wanted_by (units_tree units) known item)
         ∙ (λ j. length-map old (wanted_tree units.words) j + by_count (units_tree units) known 0 item j)
 
-    pub broken_step : (all : Option Rule) → broken_wanted (units_tree units) (length old) item ≡ None → broken_in units (length old) (drop i items) ≡ all →
+    pub broken_step : (all : Option ElabFault) → broken_wanted (units_tree units) (length old) item ≡ None → broken_in units (length old) (drop i items) ≡ all →
         broken_in units (length new) rest ≡ all
     broken_step all right same =
         ap (λ n. broken_in units n rest) many
-        ∙ ap (λ (r : Option Rule). option_or r (broken_in units (length old + length (wanted_by (units_tree units) 0 item)) rest)) (sym right)
+        ∙ ap (λ (r : Option ElabFault). option_or r (broken_in units (length old + length (wanted_by (units_tree units) 0 item)) rest)) (sym right)
         ∙ ap (broken_in units (length old)) (sym opens) ∙ same
 
   pub small_step : (known count bound : ℕ) → count ≡ length (given_by item) → known + length (given_in units.words (drop i items)) < bound →

@@ -1,7 +1,9 @@
 -- Laws of the definitions, which functions of `law` prove.
 use Rattle.std.specs.Prelude.{◌≡◌, List, Option}
 use Rattle.vast.specs.Words.{Text}
-use Rattle.vast.specs.Modules.{SourceTree, DerivesText}
+use Rattle.vast.specs.Modules.{DerivesText, SourceTree as PlainTree}
+use Rattle.vast.specs.NumberedModules.{SourceTree}
+use Rattle.vast.specs.NumberedTexts.{IsNumbered}
 use Rattle.basis.specs.declared.timescale.Timescale.{Timescale}
 use Rattle.vdesign.specs.Design.{Design}
 use Rattle.vdesign.specs.Named.{AreNamed}
@@ -14,5 +16,5 @@ ElaboratesOneWay = (tree : SourceTree) (top : Option Text) (scale : Timescale) (
 
 -- 3.7: where the words of a text derive a tree, the names of its design are names
 abbrev pub ElaboratesNamed : Type 0
-ElaboratesNamed = (words : List Text) (tree : SourceTree) (top : Option Text) (scale : Timescale) (design : Design) →
-    DerivesText words tree → Elaborates tree top scale design → AreNamed design
+ElaboratesNamed = (words : List Text) (plain : PlainTree) (tree : SourceTree) (top : Option Text) (scale : Timescale) (design : Design) →
+    DerivesText words plain → IsNumbered words plain tree → Elaborates tree top scale design → AreNamed design

@@ -1,7 +1,7 @@
 -- Why a text has no design: the rule that a fault says is broken (IEEE 1364-2005, clause 12).
 use Rattle.std.specs.Prelude.{◌≡◌, Option}
 use Rattle.vast.specs.Words.{Text}
-use Rattle.vast.specs.Modules.{SourceTree}
+use Rattle.vast.specs.NumberedModules.{SourceTree}
 use Rattle.basis.specs.declared.timescale.Timescale.{Timescale}
 use Rattle.vdesign.specs.Design.{Design}
 use Rattle.velab.specs.declared.fault.ElabFault.{ElabFault}

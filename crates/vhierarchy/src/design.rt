@@ -1,15 +1,18 @@
 // The design of a text.
 
-ghost use Rattle.std.specs.Prelude.{◌≡◌, false, None, Some, length, nat_le, IfOk, OnOk};
+ghost use Rattle.std.specs.Prelude.{◌≡◌, ◌≤◌, [], false, List, Option, None, Some, length, IfOk, OnOk};
 ghost use Rattle.basis.specs.Reasons.{IfFault};
 ghost use Rattle.vdesign.specs.Design.{Design};
-ghost use Rattle.vast.specs.ModuleTrees.{source_tree, module_tree};
+ghost use Rattle.vast.specs.NumberedTrees.{source_tree, module_tree};
+ghost use Rattle.vast.specs.NumberedWords.{numbered};
+ghost use Rattle.vast.specs.Words.{Text};
 ghost use Rattle.vexpr_parse.specs.Texts.{words_of};
-ghost use Rattle.vmodules.specs.Names.{has_double};
+ghost use Rattle.vmodules.specs.Names.{first_again, has_double};
 ghost use Rattle.vmodules.specs.Inner.{unit_names, units_tree, named_text};
-ghost use Rattle.velab.specs.Rules.{broken_if, unless, IsBroken};
+ghost use Rattle.velab.specs.Inner.{DoublesIn};
+ghost use Rattle.velab.specs.Rules.{broken_if, IsBroken};
 ghost use Rattle.vhierarchy.specs.Instances as spec;
-ghost use Rattle.vhierarchy.specs.Instances.{Elaborates, broken_paths, broken_whole, whole_of};
+ghost use Rattle.vhierarchy.specs.Instances.{Elaborates, broken_paths, broken_table, broken_whole, whole_of};
 ghost use Rattle.vhierarchy.specs.Reasons.{IsDesignReason, IsOnlyDesign, HasNoDesign};
 ghost use Rattle.vhierarchy.specs.Inner.{named_design, scope_names, variable_names};
 
@@ -21,6 +24,7 @@ use crate::select::check_selections;
 use basis::{NoMemory, OrMemory, Timescale};
 use std::alloc::Global;
 use vast::module::{ModuleTree, TextTree};
+use vast::token::Token;
 use vdesign::design::{Design, Scope as Room, Variable};
 use velab::fault::{ElabFault, Rule};
 use velab::names::note;
@@ -31,7 +35,7 @@ use velab::statement::Table;
 use velab::width::check_flaws;
 use vlex::Tokens;
 use vmodules::connect::Ties;
-use vmodules::hierarchy::{Modules, modules_of, second_root, top_of};
+use vmodules::hierarchy::{Modules, modules_of, rival_of, top_of};
 use vmodules::letters::letters;
 use vmodules::names::Names;
 
@@ -73,8 +77,7 @@ fn whole_part<'t, 'u>(
     let request = Request {
         top: name,
         path: name,
-        name,
-        at: unit.name.number,
+        name: unit.name,
         depth: 0,
         unit,
         outside: &outside,
@@ -89,16 +92,16 @@ fn whole_part<'t, 'u>(
 fn paths_of<'p>(
     alloc: Global,
     variables: &'p [Variable],
-    at: u32,
+    top: Token,
 ) -> Result<Names<'p>, OrMemory<ElabFault>>
     ensures ok { IfOk result (λ names. names ≡ variable_names variables.now) }
     ensures once { OnOk result (has_double (variable_names variables.now) ≡ false) }
-    ensures err { IfFault result
-        (IsBroken (broken_if (has_double (variable_names variables.now)) Rule.Doubled)) }
+    ensures err { (words : List Text) → IfFault result (IsBroken (broken_if
+        (has_double (variable_names variables.now)) Rule.Doubled (Some (numbered words top)))) }
 {
     let mut names = Names::new(alloc);
     for variable in variables {
-        note(&mut names, &variable.name, at)?;
+        note(&mut names, &variable.name, top.number)?;
     }
     let _count = names.len();
     Ok(names)
@@ -108,44 +111,56 @@ fn paths_of<'p>(
 fn scopes_of<'p>(
     alloc: Global,
     scopes: &'p [Room],
-    at: u32,
+    top: Token,
 ) -> Result<Names<'p>, OrMemory<ElabFault>>
     ensures ok { IfOk result (λ names. names ≡ scope_names scopes.now) }
     ensures once { OnOk result (has_double (scope_names scopes.now) ≡ false) }
-    ensures err { IfFault result
-        (IsBroken (broken_if (has_double (scope_names scopes.now)) Rule.Doubled)) }
+    ensures err { (words : List Text) → IfFault result (IsBroken (broken_if
+        (has_double (scope_names scopes.now)) Rule.Doubled (Some (numbered words top)))) }
 {
     let mut names = Names::new(alloc);
     for scope in scopes {
-        note(&mut names, &scope.path, at)?;
+        note(&mut names, &scope.path, top.number)?;
     }
     let _count = names.len();
     Ok(names)
 }
 
 // What the paths of a part break. E302 where two are alike, E303 or E310 where what is dumped is no scope.
-fn check_paths(alloc: Global, part: &Part, at: u32) -> Result<(), OrMemory<ElabFault>>
-    ensures right { OnOk result (broken_paths part.now ≡ None) }
-    ensures err { IfFault result (IsBroken (broken_paths part.now)) }
+fn check_paths(alloc: Global, part: &Part, top: Token) -> Result<(), OrMemory<ElabFault>>
+    ensures right { (words : List Text) →
+        OnOk result (broken_paths (numbered words top) part.now ≡ None) }
+    ensures err { (words : List Text) →
+        IfFault result (IsBroken (broken_paths (numbered words top) part.now)) }
 {
-    let variables = paths_of(alloc, &part.variables, at)?;
-    let scopes = scopes_of(alloc, &part.scopes, at)?;
+    let variables = paths_of(alloc, &part.variables, top)?;
+    let scopes = scopes_of(alloc, &part.scopes, top)?;
     let table = &part.table;
-    check_selections(&scopes, &variables, &table.actions, &table.origins)
+    check_selections(&scopes, &variables, &table.actions, &table.words)
 }
 
-// A part as a design. E309 where it has too many processes.
-fn design_by(
-    alloc: Global,
-    name: &[u8],
-    at: u32,
-    scale: Timescale,
-    part: Part,
-) -> Result<Design, OrMemory<ElabFault>>
-    ensures ok { IfOk result (λ design. design ≡ named_design name.now scale part) }
-    ensures right { OnOk result (unless (nat_le (length part.begins) 256) Rule.TooMany ≡ None) }
-    ensures err { IfFault result (IsBroken (unless (nat_le (length part.begins) 256)
-        Rule.TooMany)) }
+// What the table of a part breaks. E309 where it has too many processes, E306 or E310 where an action is wrong.
+fn check_table(alloc: Global, part: &Part, top: Token) -> Result<(), OrMemory<ElabFault>>
+    ensures right { (words : List Text) →
+        OnOk result (broken_table (numbered words top) part.now ≡ None) }
+    ensures err { (words : List Text) →
+        IfFault result (IsBroken (broken_table (numbered words top) part.now)) }
+{
+    if part.begins.len() > MOST_PROCESSES {
+        return Err(OrMemory::Fault(ElabFault {
+            rule: Rule::TooMany,
+            at: Some(top.number),
+        }));
+    }
+    let table = &part.table;
+    check_kinds(&part.variables, &table.actions, &table.words)?;
+    check_flaws(alloc, &part.variables, &table.actions, &table.words)
+}
+
+// A part as a design.
+fn design_by(alloc: Global, name: &[u8], scale: Timescale, part: Part) -> Result<Design, NoMemory>
+    requires few { length part.begins ≤ 256 }
+    ensures { IfOk result (λ design. design ≡ named_design name.now scale part) }
 {
     let Part {
         variables,
@@ -154,13 +169,11 @@ fn design_by(
         begins,
         ..
     } = part;
-    let Table { actions, origins } = table;
-    if begins.len() > MOST_PROCESSES {
-        return Err(OrMemory::Fault(ElabFault {
-            rule: Rule::TooMany,
-            at: Some(at),
-        }));
-    }
+    let Table {
+        actions,
+        origins,
+        ..
+    } = table;
     Ok(Design {
         top: Vec::from_slice(alloc, name)?,
         scale,
@@ -172,7 +185,7 @@ fn design_by(
     })
 }
 
-// The design of a part, where it is right. Errors: E302, E306, E309, E310, E901.
+// The design of a part, where it is right. Errors: E302, E303, E306, E309, E310, E901.
 fn checked(
     alloc: Global,
     tokens: &Tokens<'_>,
@@ -182,14 +195,14 @@ fn checked(
 ) -> Result<Design, OrMemory<ElabFault>>
     ensures ok { IfOk result (λ design.
         design ≡ spec.design_by scale (module_tree (words_of tokens.now) unit.now) part) }
-    ensures right { OnOk result (spec.broken_design part ≡ None) }
-    ensures err { IfFault result (IsBroken (spec.broken_design part)) }
+    ensures right { OnOk result
+        (spec.broken_design (numbered (words_of tokens.now) unit.now.name) part ≡ None) }
+    ensures err { IfFault result
+        (IsBroken (spec.broken_design (numbered (words_of tokens.now) unit.now.name) part)) }
 {
-    let at = unit.name.number;
-    check_paths(alloc, &part, at)?;
-    let design = design_by(alloc, letters(tokens, unit.name), at, scale, part)?;
-    check_kinds(&design)?;
-    check_flaws(alloc, &design)?;
+    check_paths(alloc, &part, unit.name)?;
+    check_table(alloc, &part, unit.name)?;
+    let design = design_by(alloc, letters(tokens, unit.name), scale, part)?;
     Ok(design)
 }
 
@@ -203,10 +216,10 @@ fn design_of<'t, 'u>(
     ensures ok { IfOk result (λ design. design ≡ spec.design_by scale
         (module_tree modules.now.words unit.now)
         (whole_of (units_tree modules.now) (module_tree modules.now.words unit.now))) }
-    ensures right { OnOk result (spec.broken_top (units_tree modules.now)
+    ensures right { (top : Option Text) → OnOk result (spec.broken_top (units_tree modules.now) top
         (Some (module_tree modules.now.words unit.now)) ≡ None) }
-    ensures err { IfFault result (IsBroken (spec.broken_top (units_tree modules.now)
-        (Some (module_tree modules.now.words unit.now)))) }
+    ensures err { (top : Option Text) → IfFault result (IsBroken (spec.broken_top
+        (units_tree modules.now) top (Some (module_tree modules.now.words unit.now)))) }
 {
     let part = whole_part(alloc, modules, unit)?;
     checked(alloc, modules.tokens(), unit, scale, part)
@@ -220,9 +233,8 @@ fn modules_by<'t, 'u>(
 ) -> Result<Modules<'t, 'u>, OrMemory<ElabFault>>
     ensures ok { IfOk result (λ modules.
         modules ≡ record { words = words_of tokens.now; list = list.now }) }
-    ensures once { OnOk result (has_double (unit_names (words_of tokens.now) list.now) ≡ false) }
-    ensures err { IfFault result (IsBroken
-        (broken_if (has_double (unit_names (words_of tokens.now) list.now)) Rule.Doubled)) }
+    ensures right { OnOk result (first_again (unit_names (words_of tokens.now) list.now) ≡ None) }
+    ensures err { IfFault result (DoublesIn [] (unit_names (words_of tokens.now) list.now)) }
 {
     match modules_of(alloc, tokens, list) {
         Ok(modules) => Ok(modules),
@@ -258,23 +270,11 @@ pub fn elaborate(
     match top_of(alloc, &modules, top)? {
         Some(unit) => design_of(alloc, &modules, unit, scale),
         None => {
-            let at = one_too_many(alloc, &modules, top)?;
+            let at = rival_of(alloc, &modules, top)?;
             Err(OrMemory::Fault(ElabFault {
                 rule: Rule::Top,
                 at,
             }))
         }
-    }
-}
-
-// The token of the name that is one too many, where no top was asked for.
-fn one_too_many(
-    alloc: Global,
-    modules: &Modules<'_, '_>,
-    top: Option<&[u8]>,
-) -> Result<Option<u32>, NoMemory> {
-    match top {
-        Some(_) => Ok(None),
-        None => second_root(alloc, modules),
     }
 }

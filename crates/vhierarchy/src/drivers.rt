@@ -1,10 +1,10 @@
 // What is driven: by connected inputs, by the items of a module, and by the outputs of its instances (IEEE 1364-2005, 6.1, 12.3.9.2).
 
-ghost use Rattle.std.specs.Prelude.{◌≡◌, ◌++◌, ◌∷◌, [], false, map, IfOk, OnOk};
+ghost use Rattle.std.specs.Prelude.{◌≡◌, ◌++◌, ◌∷◌, [], None, map, IfOk, OnOk};
 ghost use Rattle.basis.specs.Reasons.{IfFault};
-ghost use Rattle.vast.specs.ModuleTrees.{item_tree};
+ghost use Rattle.vast.specs.NumberedTrees.{item_tree};
 ghost use Rattle.vexpr_parse.specs.Texts.{words_of};
-ghost use Rattle.vmodules.specs.Names.{has_double};
+ghost use Rattle.vmodules.specs.Names.{first_again, letters_of};
 ghost use Rattle.velab.specs.Inner.{BreaksDrivers, driver_names};
 ghost use Rattle.vhierarchy.specs.Inner.{inputs_of, outputs_of, outputs_by, driven_by, nets_driven};
 
@@ -158,16 +158,14 @@ pub fn driven_names<'t>(
     items: &[ModuleItem],
     wanted: &[Wanted<'_, '_>],
 ) -> Result<Names<'t>, OrMemory<ElabFault>>
-    ensures ok { IfOk result (λ names. names ≡
-        nets_driven (words_of tokens.now) ties.now ports.now items.now wanted.now) }
-    ensures once { OnOk result (has_double
-        (nets_driven (words_of tokens.now) ties.now ports.now items.now wanted.now) ≡ false) }
-    ensures err { IfFault result (BreaksDrivers
+    ensures ok { IfOk result (λ names. names ≡ letters_of
+        (nets_driven (words_of tokens.now) ties.now ports.now items.now wanted.now)) }
+    ensures right { OnOk result (first_again
+        (nets_driven (words_of tokens.now) ties.now ports.now items.now wanted.now) ≡ None) }
+    ensures err { IfFault result (BreaksDrivers []
         (nets_driven (words_of tokens.now) ties.now ports.now items.now wanted.now)) }
 {
     let drivers = drivers_of(alloc, tokens, ties, ports, items, wanted)?;
     let nets = nets_of(alloc, tokens, ports, items)?;
-    let names = driven_nets(alloc, &nets, &drivers)?;
-    let _count = names.len();
-    Ok(names)
+    driven_nets(alloc, &nets, &drivers)
 }

@@ -42,7 +42,7 @@ pub fn put_unit<'t, 'u>(
     if levels == 0 {
         return Err(OrMemory::Fault(ElabFault {
             rule: Rule::Depth,
-            at: Some(request.at),
+            at: Some(request.name.number),
         }));
     }
     let tokens = modules.tokens();
@@ -98,8 +98,7 @@ fn put_asked<'t, 'u>(
     ensures err { IfFault result
         (IsBroken (one_broken modules.now levels request.now scope.now part.old one.now)) }
 {
-    let name = letters(modules.tokens(), one.name);
-    let path = dotted(alloc, request.path, name)?;
+    let path = dotted(alloc, request.path, letters(modules.tokens(), one.name))?;
     let outside = Outside {
         scope: scope.at(one.known),
         values: &one.values,
@@ -107,8 +106,7 @@ fn put_asked<'t, 'u>(
     let asked = Request {
         top: request.top,
         path: &path,
-        name,
-        at: one.name.number,
+        name: one.name,
         depth: request.depth + 1,
         unit: one.child,
         outside: &outside,

@@ -2,7 +2,9 @@
 
 ghost use Rattle.std.specs.Prelude.{◌≡◌, ◌<◌, ◌≤◌, ◌+◌, ◌^◌, ◌++◌, ◌∷◌, [], List, None, length, map, IfOk, OnOk};
 ghost use Rattle.basis.specs.Reasons.{IfFault};
-ghost use Rattle.vast.specs.ModuleTrees.{module_tree};
+ghost use Rattle.vast.specs.NumberedTrees.{module_tree};
+ghost use Rattle.vast.specs.NumberedWords.{numbered};
+ghost use Rattle.vast.specs.Words.{Text};
 ghost use Rattle.vexpr_parse.specs.Texts.{words_of};
 ghost use Rattle.vmodules.specs.Ports.{ports_of};
 ghost use Rattle.vmodules.specs.Inner.{port_form};
@@ -19,6 +21,7 @@ use crate::request::Request;
 use crate::wanted::Wanted;
 use basis::{NoMemory, OrMemory};
 use std::alloc::Global;
+use vast::token::Token;
 use vdesign::action::Places;
 use vdesign::design::{Scope as Room, Variable};
 use velab::declared::declared;
@@ -30,6 +33,7 @@ use velab::scope::Scope;
 use velab::statement::{Table, put_processes};
 use velab::variable::{put_ports, put_variables};
 use vlex::Tokens;
+use vmodules::letters::letters;
 use vmodules::ports::PortForm;
 
 /// The most variables of a design.
@@ -73,13 +77,13 @@ pub fn known_names<'t>(
     if first > MOST_VARIABLES || variables > MOST_VARIABLES - first {
         return Err(OrMemory::Fault(ElabFault {
             rule: Rule::TooMany,
-            at: Some(request.at),
+            at: Some(request.name.number),
         }));
     }
     if part.events > MOST_EVENTS {
         return Err(OrMemory::Fault(ElabFault {
             rule: Rule::TooMany,
-            at: Some(request.at),
+            at: Some(request.name.number),
         }));
     }
     let mut growing = Growing {
@@ -164,7 +168,7 @@ fn put_own_processes(
         &outside.scope,
         scope,
         tokens,
-        request.at,
+        request.name,
         request.ties,
         ports,
         table,
@@ -203,15 +207,16 @@ fn put_scope(
 }
 
 // E309, where there are too many processes or scopes.
-fn check_counts(begins: &[Places], scopes: &[Room], at: u32) -> Result<(), OrMemory<ElabFault>>
-    ensures right { OnOk result (broken_counts (length begins.now) (length scopes.now) ≡ None) }
-    ensures err { IfFault result
-        (IsBroken (broken_counts (length begins.now) (length scopes.now))) }
+fn check_counts(begins: &[Places], scopes: &[Room], name: Token) -> Result<(), OrMemory<ElabFault>>
+    ensures right { (words : List Text) → OnOk result
+        (broken_counts (numbered words name) (length begins.now) (length scopes.now) ≡ None) }
+    ensures err { (words : List Text) → IfFault result (IsBroken
+        (broken_counts (numbered words name) (length begins.now) (length scopes.now))) }
 {
     if begins.len() > MOST_PROCESSES || scopes.len() > MOST_SCOPES {
         return Err(OrMemory::Fault(ElabFault {
             rule: Rule::TooMany,
-            at: Some(at),
+            at: Some(name.number),
         }));
     }
     Ok(())
@@ -247,7 +252,7 @@ pub fn put_own(
     )?;
     put_scope(
         alloc,
-        request.name,
+        letters(tokens, request.name),
         request.path,
         request.depth,
         scope.variables,
@@ -262,7 +267,7 @@ pub fn put_own(
         &mut part.table,
         &mut part.begins,
     )?;
-    check_counts(&part.begins, &part.scopes, request.at)?;
+    check_counts(&part.begins, &part.scopes, request.name)?;
     part.events = scope.events;
     Ok(())
 }

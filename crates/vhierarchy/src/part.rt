@@ -48,6 +48,7 @@ impl Part {
             table: Table {
                 actions: Vec::new(alloc),
                 origins: Vec::new(alloc),
+                words: Vec::new(alloc),
             },
             begins: Vec::new(alloc),
             events: 0,

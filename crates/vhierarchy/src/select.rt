@@ -2,6 +2,7 @@
 
 ghost use Rattle.std.specs.Prelude.{◌≡◌, None, OnOk};
 ghost use Rattle.basis.specs.Reasons.{IfFault};
+ghost use Rattle.velab.specs.ActionFlaws.{table_fault};
 ghost use Rattle.velab.specs.Rules.{IsBroken};
 ghost use Rattle.vhierarchy.specs.Instances as spec;
 
@@ -9,131 +10,97 @@ use basis::OrMemory;
 use vdesign::action::Action;
 use vdesign::dump::Chosen;
 use velab::fault::{ElabFault, Rule};
+use velab::width::word_at;
 use vmodules::names::Names;
 
 // E303 where there is nothing of this path, E310 where it is a variable's.
-fn check_path(
-    scopes: &Names<'_>,
-    variables: &Names<'_>,
-    path: &[u8],
-) -> Result<(), OrMemory<ElabFault>>
-    ensures right { OnOk result (spec.broken_path scopes.now variables.now path.now ≡ None) }
-    ensures err { IfFault result (IsBroken (spec.broken_path scopes.now variables.now path.now)) }
+fn path_rule(scopes: &Names<'_>, variables: &Names<'_>, path: &[u8]) -> Option<Rule>
+    ensures { result ≡ spec.broken_path scopes.now variables.now path.now }
 {
     if scopes.place(path).is_some() {
-        return Ok(());
+        return None;
     }
     if variables.place(path).is_some() {
-        return Err(OrMemory::Fault(ElabFault {
-            rule: Rule::Kind,
-            at: None,
-        }));
+        return Some(Rule::Kind);
     }
-    Err(OrMemory::Fault(ElabFault {
-        rule: Rule::Unknown,
-        at: None,
-    }))
+    Some(Rule::Unknown)
 }
 
 // The same of each that is chosen.
-fn check_chosen(
-    scopes: &Names<'_>,
-    variables: &Names<'_>,
-    list: &[Chosen],
-) -> Result<(), OrMemory<ElabFault>>
-    ensures right { OnOk result (spec.broken_chosen scopes.now variables.now list.now ≡ None) }
-    ensures err { IfFault result (IsBroken (spec.broken_chosen scopes.now variables.now list.now)) }
+fn chosen_rule(scopes: &Names<'_>, variables: &Names<'_>, list: &[Chosen]) -> Option<Rule>
+    ensures { result ≡ spec.broken_chosen scopes.now variables.now list.now }
 {
     for one in list {
-        check_path(scopes, variables, one.path.as_bytes())?;
-    }
-    Ok(())
-}
-
-// The same of an action.
-fn check_action(
-    scopes: &Names<'_>,
-    variables: &Names<'_>,
-    action: &Action,
-) -> Result<(), OrMemory<ElabFault>>
-    ensures right { OnOk result (spec.broken_selection scopes.now variables.now action.now ≡ None) }
-    ensures err { IfFault result
-        (IsBroken (spec.broken_selection scopes.now variables.now action.now)) }
-{
-    match action {
-        Action::DumpVars(selection) => check_chosen(scopes, variables, selection.as_slice()),
-        Action::Assign { .. } => Ok(()),
-        Action::Nonblocking { .. } => Ok(()),
-        Action::Held { .. } => Ok(()),
-        Action::Posted { .. } => Ok(()),
-        Action::Trigger(_) => Ok(()),
-        Action::Test { .. } => Ok(()),
-        Action::Case { .. } => Ok(()),
-        Action::Again { .. } => Ok(()),
-        Action::Repeat { .. } => Ok(()),
-        Action::Forever { .. } => Ok(()),
-        Action::Delay { .. } => Ok(()),
-        Action::On { .. } => Ok(()),
-        Action::Until { .. } => Ok(()),
-        Action::Drive { .. } => Ok(()),
-        Action::Print { .. } => Ok(()),
-        Action::Dump(_) => Ok(()),
-        Action::Pass => Ok(()),
-        Action::Finish => Ok(()),
-        Action::Stop => Ok(()),
-    }
-}
-
-// The same of all actions.
-fn check_actions(
-    scopes: &Names<'_>,
-    variables: &Names<'_>,
-    actions: &[Action],
-) -> Result<(), OrMemory<ElabFault>>
-    ensures right { OnOk result
-        (spec.broken_selections scopes.now variables.now actions.now ≡ None) }
-    ensures err { IfFault result
-        (IsBroken (spec.broken_selections scopes.now variables.now actions.now)) }
-{
-    for action in actions {
-        check_action(scopes, variables, action)?;
-    }
-    Ok(())
-}
-
-// The token of the first action that names what is no scope.
-fn wrong(
-    scopes: &Names<'_>,
-    variables: &Names<'_>,
-    actions: &[Action],
-    origins: &[u32],
-) -> Option<u32> {
-    for place in 0..actions.len() {
-        if check_action(scopes, variables, &actions[place]).is_err() {
-            return origins.get(place).copied();
+        if let Some(rule) = path_rule(scopes, variables, one.path.as_bytes()) {
+            return Some(rule);
         }
     }
     None
 }
 
-/// E303 where a `$dumpvars` names what isn't there, E310 where it names a variable; `origins` are the numbers of the actions' tokens.
+// The same of an action.
+fn action_rule(scopes: &Names<'_>, variables: &Names<'_>, action: &Action) -> Option<Rule>
+    ensures { result ≡ spec.broken_selection scopes.now variables.now action.now }
+{
+    match action {
+        Action::DumpVars(selection) => chosen_rule(scopes, variables, selection.as_slice()),
+        Action::Assign { .. } => None,
+        Action::Nonblocking { .. } => None,
+        Action::Held { .. } => None,
+        Action::Posted { .. } => None,
+        Action::Trigger(_) => None,
+        Action::Test { .. } => None,
+        Action::Case { .. } => None,
+        Action::Again { .. } => None,
+        Action::Repeat { .. } => None,
+        Action::Forever { .. } => None,
+        Action::Delay { .. } => None,
+        Action::On { .. } => None,
+        Action::Until { .. } => None,
+        Action::Drive { .. } => None,
+        Action::Print { .. } => None,
+        Action::Dump(_) => None,
+        Action::Pass => None,
+        Action::Finish => None,
+        Action::Stop => None,
+    }
+}
+
+// The first action that selects what is no scope, told by its word.
+fn first_wrong(
+    scopes: &Names<'_>,
+    variables: &Names<'_>,
+    actions: &[Action],
+    words: &[Option<u32>],
+) -> Option<ElabFault>
+    ensures { result ≡ table_fault (spec.broken_selection scopes.now variables.now)
+        actions.now words.now }
+{
+    for place in 0..actions.len() {
+        if let Some(rule) = action_rule(scopes, variables, &actions[place]) {
+            return Some(ElabFault {
+                rule,
+                at: word_at(words, place),
+            });
+        }
+    }
+    None
+}
+
+/// E303 where a `$dumpvars` names what isn't there, E310 where it names a variable; `words` are the numbers of the actions' words.
 pub fn check_selections(
     scopes: &Names<'_>,
     variables: &Names<'_>,
     actions: &[Action],
-    origins: &[u32],
+    words: &[Option<u32>],
 ) -> Result<(), OrMemory<ElabFault>>
-    ensures right { OnOk result
-        (spec.broken_selections scopes.now variables.now actions.now ≡ None) }
-    ensures err { IfFault result
-        (IsBroken (spec.broken_selections scopes.now variables.now actions.now)) }
+    ensures right { OnOk result (table_fault (spec.broken_selection scopes.now variables.now)
+        actions.now words.now ≡ None) }
+    ensures err { IfFault result (IsBroken (table_fault
+        (spec.broken_selection scopes.now variables.now) actions.now words.now)) }
 {
-    match check_actions(scopes, variables, actions) {
-        Ok(()) => Ok(()),
-        Err(OrMemory::Memory(none)) => Err(OrMemory::Memory(none)),
-        Err(OrMemory::Fault(fault)) => Err(OrMemory::Fault(ElabFault {
-            rule: fault.rule,
-            at: wrong(scopes, variables, actions, origins),
-        })),
+    match first_wrong(scopes, variables, actions, words) {
+        None => Ok(()),
+        Some(fault) => Err(OrMemory::Fault(fault)),
     }
 }

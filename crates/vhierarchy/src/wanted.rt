@@ -1,16 +1,17 @@
 // The instances that a module has, with what is said of their parameters and connected to their ports (IEEE 1364-2005, 12.1.2, 12.2.2,
 // 12.3).
 
-ghost use Rattle.std.specs.Prelude.{◌≡◌, ◌<◌, ◌+◌, ◌^◌, ◌++◌, true, false, None, length, map, option_map, IfOk, OnOk};
+ghost use Rattle.std.specs.Prelude.{◌≡◌, ◌<◌, ◌+◌, ◌^◌, ◌++◌, [], None, length, map, option_map, IfOk, OnOk};
 ghost use Rattle.basis.specs.Reasons.{IfFault};
-ghost use Rattle.vast.specs.ModuleTrees.{connections_tree, instance_tree, item_tree, module_tree};
+ghost use Rattle.vast.specs.NumberedTrees.{connections_tree, instance_tree, item_tree, module_tree};
+ghost use Rattle.vast.specs.NumberedWords.{numbered};
 ghost use Rattle.vexpr_parse.specs.Texts.{words_of};
-ghost use Rattle.vmodules.specs.Names.{has_double};
-ghost use Rattle.vmodules.specs.Connected.{fits_if, fits_names, matched as spec_matched, matched_if as spec_matched_if, open_names as spec_open_names};
+ghost use Rattle.vmodules.specs.Names.{first_again, letters_of};
+ghost use Rattle.vmodules.specs.Connected.{misfit_if, misfit, matched as spec_matched, matched_if as spec_matched_if, open_names as spec_open_names};
 ghost use Rattle.vmodules.specs.Inner.{ties_tree, units_tree, unit_tree};
 ghost use Rattle.velab.specs.Elaborate.{port_names as spec_port_names};
-ghost use Rattle.velab.specs.Inner.{given_in};
-ghost use Rattle.velab.specs.Rules.{IsBroken, broken_if, unless};
+ghost use Rattle.velab.specs.Inner.{given_in, DoublesIn};
+ghost use Rattle.velab.specs.Rules.{IsBroken, broken_at};
 ghost use Rattle.vhierarchy.specs.Instances as spec;
 ghost use Rattle.vhierarchy.specs.Inner.{IsOpen, each_wanted, each_broken, wanted_tree, wanted_trees, found_in, broken_in};
 
@@ -58,12 +59,11 @@ fn values_of<'t>(
     child: &ModuleTree,
 ) -> Result<Names<'t>, OrMemory<ElabFault>>
     ensures ok { IfOk result (λ names.
-        names ≡ spec_open_names (module_tree (words_of tokens.now) child.now)) }
-    ensures once { OnOk result
-        (has_double (spec_open_names (module_tree (words_of tokens.now) child.now)) ≡ false) }
-    ensures err { IfFault result (IsBroken (broken_if
-        (has_double (spec_open_names (module_tree (words_of tokens.now) child.now)))
-        Rule.Doubled)) }
+        names ≡ letters_of (spec_open_names (module_tree (words_of tokens.now) child.now))) }
+    ensures right { OnOk result
+        (first_again (spec_open_names (module_tree (words_of tokens.now) child.now)) ≡ None) }
+    ensures err { IfFault result (DoublesIn []
+        (spec_open_names (module_tree (words_of tokens.now) child.now))) }
 {
     match open_names(alloc, tokens, child) {
         Ok(names) => Ok(names),
@@ -82,12 +82,11 @@ fn ports_for<'t>(
     child: &ModuleTree,
 ) -> Result<Names<'t>, OrMemory<ElabFault>>
     ensures ok { IfOk result (λ names.
-        names ≡ spec_port_names (module_tree (words_of tokens.now) child.now)) }
-    ensures once { OnOk result
-        (has_double (spec_port_names (module_tree (words_of tokens.now) child.now)) ≡ false) }
-    ensures err { IfFault result (IsBroken (broken_if
-        (has_double (spec_port_names (module_tree (words_of tokens.now) child.now)))
-        Rule.Doubled)) }
+        names ≡ letters_of (spec_port_names (module_tree (words_of tokens.now) child.now))) }
+    ensures right { OnOk result
+        (first_again (spec_port_names (module_tree (words_of tokens.now) child.now)) ≡ None) }
+    ensures err { IfFault result (DoublesIn []
+        (spec_port_names (module_tree (words_of tokens.now) child.now))) }
 {
     let ports = ports_of(alloc, child)?;
     port_names(alloc, tokens, &ports)
@@ -118,23 +117,25 @@ fn open_of<'t, 'u>(
 fn values_by<'t, 'u>(
     alloc: Global,
     tokens: &Tokens<'t>,
+    whose: Token,
     names: &Names<'t>,
     overrides: &'u Option<Connections>,
 ) -> Result<Ties<'t, 'u>, OrMemory<ElabFault>>
     ensures ok { IfOk result (λ ties. ties_tree (words_of tokens.now) ties
         ≡ spec_matched_if names.now
         (option_map (connections_tree (words_of tokens.now)) overrides.now)) }
-    ensures fits { OnOk result (fits_if names.now
-        (option_map (connections_tree (words_of tokens.now)) overrides.now) ≡ true) }
-    ensures err { IfFault result (IsBroken (unless (fits_if names.now
-        (option_map (connections_tree (words_of tokens.now)) overrides.now)) Rule.Ports)) }
+    ensures fits { OnOk result (misfit_if (numbered (words_of tokens.now) whose) names.now
+        (option_map (connections_tree (words_of tokens.now)) overrides.now) ≡ None) }
+    ensures err { IfFault result (IsBroken (broken_at Rule.Ports
+        (misfit_if (numbered (words_of tokens.now) whose) names.now
+        (option_map (connections_tree (words_of tokens.now)) overrides.now)))) }
 {
-    match matched_if(alloc, tokens, names, overrides) {
+    match matched_if(alloc, tokens, whose, names, overrides) {
         Ok(ties) => Ok(ties),
         Err(OrMemory::Memory(none)) => Err(OrMemory::Memory(none)),
         Err(OrMemory::Fault(misfit)) => Err(OrMemory::Fault(ElabFault {
             rule: Rule::Ports,
-            at: misfit.at,
+            at: Some(misfit.at),
         })),
     }
 }
@@ -143,22 +144,24 @@ fn values_by<'t, 'u>(
 fn ties_by<'t, 'u>(
     alloc: Global,
     tokens: &Tokens<'t>,
+    whose: Token,
     names: &Names<'t>,
     connections: &'u Connections,
 ) -> Result<Ties<'t, 'u>, OrMemory<ElabFault>>
     ensures ok { IfOk result (λ ties. ties_tree (words_of tokens.now) ties ≡
         spec_matched names.now (connections_tree (words_of tokens.now) connections.now)) }
-    ensures fits { OnOk result
-        (fits_names names.now (connections_tree (words_of tokens.now) connections.now) ≡ true) }
-    ensures err { IfFault result (IsBroken (unless (fits_names names.now
-        (connections_tree (words_of tokens.now) connections.now)) Rule.Ports)) }
+    ensures fits { OnOk result (misfit (numbered (words_of tokens.now) whose) names.now
+        (connections_tree (words_of tokens.now) connections.now) ≡ None) }
+    ensures err { IfFault result (IsBroken (broken_at Rule.Ports
+        (misfit (numbered (words_of tokens.now) whose) names.now
+        (connections_tree (words_of tokens.now) connections.now)))) }
 {
-    match matched(alloc, tokens, names, connections) {
+    match matched(alloc, tokens, whose, names, connections) {
         Ok(ties) => Ok(ties),
         Err(OrMemory::Memory(none)) => Err(OrMemory::Memory(none)),
         Err(OrMemory::Fault(misfit)) => Err(OrMemory::Fault(ElabFault {
             rule: Rule::Ports,
-            at: misfit.at,
+            at: Some(misfit.at),
         })),
     }
 }
@@ -186,8 +189,8 @@ fn wanted_one<'t, 'u>(
         (option_map (connections_tree (words_of tokens.now)) overrides.now)
         (instance_tree (words_of tokens.now) one.now))) }
 {
-    let values = values_by(alloc, tokens, &offered.values, overrides)?;
-    let ties = ties_by(alloc, tokens, &offered.ports, &one.connections)?;
+    let values = values_by(alloc, tokens, one.name, &offered.values, overrides)?;
+    let ties = ties_by(alloc, tokens, one.name, &offered.ports, &one.connections)?;
     Ok(Wanted {
         child: offered.child,
         name: one.name,
@@ -223,13 +226,13 @@ fn put_each<'t, 'u>(
     Ok(())
 }
 
-// The instances of a module that an item has, behind others, `at` being the number of the token that names the module. E301 where
+// The instances of a module that an item has, behind others, `name` being the token that names the module. E301 where
 // there is no such module, E309 where there are more than 1,024 with those before.
 fn put_instances<'t, 'u>(
     alloc: Global,
     tokens: &Tokens<'t>,
     child: Option<&'u ModuleTree>,
-    at: u32,
+    name: Token,
     known: usize,
     overrides: &'u Option<Connections>,
     list: &'u [Instance],
@@ -240,11 +243,13 @@ fn put_instances<'t, 'u>(
         ++ spec.wanted_of (unit_tree (words_of tokens.now) child.entry) known
         (option_map (connections_tree (words_of tokens.now)) overrides.now)
         (map (instance_tree (words_of tokens.now)) list.now)) }
-    ensures right { OnOk result (spec.broken_of (length into.old.items)
+    ensures right { OnOk result (spec.broken_of (numbered (words_of tokens.now) name)
+        (length into.old.items)
         (unit_tree (words_of tokens.now) child.entry)
         (option_map (connections_tree (words_of tokens.now)) overrides.now)
         (map (instance_tree (words_of tokens.now)) list.now) ≡ None) }
-    ensures err { IfFault result (IsBroken (spec.broken_of (length into.old.items)
+    ensures err { IfFault result (IsBroken (spec.broken_of (numbered (words_of tokens.now) name)
+        (length into.old.items)
         (unit_tree (words_of tokens.now) child.entry)
         (option_map (connections_tree (words_of tokens.now)) overrides.now)
         (map (instance_tree (words_of tokens.now)) list.now))) }
@@ -252,13 +257,13 @@ fn put_instances<'t, 'u>(
     match child {
         None => Err(OrMemory::Fault(ElabFault {
             rule: Rule::Top,
-            at: Some(at),
+            at: Some(name.number),
         })),
         Some(child) => {
             if into.len() + list.len() > MOST_INSTANCES {
                 return Err(OrMemory::Fault(ElabFault {
                     rule: Rule::TooMany,
-                    at: Some(at),
+                    at: Some(name.number),
                 }));
             }
             let offered = open_of(alloc, tokens, child)?;
@@ -298,14 +303,7 @@ fn put_item<'t, 'u>(
             let tokens = modules.tokens();
             let child = modules.module_of(letters(tokens, *module));
             put_instances(
-                alloc,
-                tokens,
-                child,
-                module.number,
-                known,
-                overrides,
-                instances,
-                into,
+                alloc, tokens, child, *module, known, overrides, instances, into,
             )
         }
     }

@@ -11,10 +11,10 @@ use Rattle.vmodel.specs.declared.part.Part.{Part}
 use Rattle.vmodel.specs.declared.process.Spot.{Spot}
 use Rattle.vmodel.specs.declared.choice.Choice.{Choice}
 use Rattle.vmodel.specs.declared.choice.Choice.TheVariants.{Run, Update, Advance}
-use Rattle.vmodel.specs.Queue.{Slot, Queue, without_process}
+use Rattle.vmodel.specs.Queue.{Later, Queue, without_process}
 use Rattle.vmodel.specs.State.{State}
 use Rattle.vmodel.specs.Choices.{in_order, first_update, or_advance, active_choices, offered, queue_choices, choices}
-use Rattle.vmodel.specs.Step.{moment_of, Did, does_at, held_of, place_of, going, closed_by, woken, closed, acted, strobing, process_by, turned, takes, goes_from, without_update, updated, advanced_to, turn_of, turn_by, next}
+use Rattle.vmodel.specs.Step.{moment_of, Did, does_at, held_of, place_of, going, with_moves_by, woken, with_moves, acted, strobing, process_by, turned, takes, goes_from, without_update, updated, advanced_to, turn_of, turn_by, next}
 use Rattle.vmodel.specs.Run.{Setting, busy_from, opening_process, opening_of, state_after}
 use Rattle.vmodel.specs.Played.{opening_is, after_is}
 use Rattle.vmodel.specs.Kept.{RisesFrom, IsInOrder, count_in, asleep, IsInPlace, IsIdle, IsKept}
@@ -26,8 +26,8 @@ use Rattle.vbits.specs.Vectors.{Vector}
 
 -- ---- the region moves
 
-closed-kept : (s : State) → IsInOrder s.queue → IsInPlace s.queue s.processes → IsKept (closed s)
-closed-kept s order place = by_cause s.cause refl
+with_moves-kept : (s : State) → IsInOrder s.queue → IsInPlace s.queue s.processes → IsKept (with_moves s)
+with_moves-kept s order place = by_cause s.cause refl
   where
     -- what was inactive is active now, and what was active before is nothing
     moved_on : (i : ℕ) (is : List ℕ) → s.queue.active ≡ [] → s.queue.inactive ≡ i ∷ is →
@@ -38,7 +38,7 @@ closed-kept s order place = by_cause s.cause refl
       last = λ p e. absurd (omega (arith, place.last p e, ap (count_in p) none));
     }
 
-    by_cause : (cause : Option Cause) → s.cause ≡ cause → IsKept (closed_by cause s)
+    by_cause : (cause : Option Cause) → s.cause ≡ cause → IsKept (with_moves_by cause s)
     by_cause (Some cause) is = record { order = order; place = place; moves = λ none. let no : None ≡ Some cause = sym none ∙ is in cc }
     by_cause None is = record {
       order = settled_by IsInOrder s.queue (λ moves. order)
@@ -97,7 +97,7 @@ open_offered q Process (Some p) is active = open_one q (Run p) [] (active p is) 
 open_offered q Process None is active = open_choices q active
 open_offered q Statement last is active = open_choices q active
 
-open_advance : (q : Queue) (cs : List Choice) (future : List (ℕ × Slot)) → q.future ≡ future → AreOpen q cs → (length cs ≡ 0 → IsIdle q) →
+open_advance : (q : Queue) (cs : List Choice) (future : List (ℕ × Later)) → q.future ≡ future → AreOpen q cs → (length cs ≡ 0 → IsIdle q) →
     AreOpen q (or_advance cs future)
 open_advance q [] [] is offers idle = open_none q
 open_advance q [] (e ∷ es) is offers idle =
@@ -120,9 +120,9 @@ open_choice s i c active e = by_cause s.cause refl e
     )
 
 woken-kept : (design : Design) (before : List Vector) (triggered : Option ℕ) (s : State) → IsInOrder s.queue → IsInPlace s.queue s.processes →
-    IsKept (closed (woken design before triggered s))
+    IsKept (with_moves (woken design before triggered s))
 woken-kept design before triggered s order place =
-    closed-kept (woken design before triggered s) (order-woken design before triggered s order) (place-woken design before triggered s place)
+    with_moves-kept (woken design before triggered s) (order-woken design before triggered s order) (place-woken design before triggered s place)
 
 -- ---- the steps
 
@@ -134,7 +134,7 @@ updated-kept s (u ∷ us) kept = (
   record { once = kept.place.once; waiting = kept.place.waiting; last = nobody_last (record s.queue { last = None; activated = us }) refl },
 )
 
-advanced-kept : (s : State) (future : List (ℕ × Slot)) → s.queue.future ≡ future → IsKept s →
+advanced-kept : (s : State) (future : List (ℕ × Later)) → s.queue.future ≡ future → IsKept s →
     IsInOrder (advanced_to future s.queue) × IsInPlace (advanced_to future s.queue) s.processes
 advanced-kept s [] is kept = (kept.order, kept.place)
 advanced-kept s (e ∷ es) is kept =
@@ -174,7 +174,7 @@ turn-kept design Update s kept allowed =
     let h = updated-kept s s.queue.activated kept in woken-kept design s.values None (updated s) h.0 h.1
 turn-kept design Advance s kept allowed =
     let h = advanced-kept s s.queue.future refl kept in
-    closed-kept (record s { queue = advanced_to s.queue.future s.queue }) h.0 h.1
+    with_moves-kept (record s { queue = advanced_to s.queue.future s.queue }) h.0 h.1
 
 pub next-kept : (design : Design) (s : State) (i : ℕ) → IsKept s → IsKept (next design s i).state
 next-kept design s i kept = by_choice (slice_get (choices s) i) refl

@@ -9,14 +9,14 @@ use Rattle.vmodel.specs.declared.deed.Fate.TheVariants.{GoesOn, Sleeps, Waits}
 use Rattle.vmodel.specs.declared.part.Part.{Part}
 use Rattle.vmodel.specs.declared.process.Spot.{Spot}
 use Rattle.vmodel.specs.State.{Process}
-use Rattle.vmodel.specs.Queue.{Slot, Queue, with_process, waking, updating, later_at, later}
+use Rattle.vmodel.specs.Queue.{Later, Queue, with_process, waking, updating, later_at, later}
 use Rattle.vmodel.specs.Step.{leaves, going, goes_on, sleeps, fares, posts_after, posts, regions, settled, left_of, waits_by}
 use Rattle.vmodel.specs.Kept.{IsInOrder, count_in, places, most_places, HasRest, waits_of, IsInPlace, IsIdle}
 use Rattle.vmodel.proofs.PlaceLemmas.{alike, count-other, count-self, count-without_self, count-without, count-with, asleep-wake, asleep-update, without_rises, with_rises, wake_rises, update_rises}
 
 -- ---- what holds of a queue after a move, by the cases of the move
 
-later_by : (P : Queue → Type 0) (d : ℕ) (put : Slot → Slot) (q : Queue) → 0 < d → P (record q { beyond = true }) →
+later_by : (P : Queue → Type 0) (d : ℕ) (put : Later → Later) (q : Queue) → 0 < d → P (record q { beyond = true }) →
     ((t : ℕ) → q.time < t → t ≤ q.until → P (record q { future = later_at t put q.future })) →
     P (later d put q)
 later_by P d put q some past puts = by_limit (nat_lt q.until (q.time + d)) refl

@@ -2,7 +2,7 @@
 use Rattle.std.proofs.Common.{◌≡◌, ◌≢◌, ◌⊎◌, inl, inr, ℕ, suc, ◌+◌, ◌≤◌, List, [], ◌∷◌, Option, Some, None, option_to_list, refl, sym, ap, subst, ◌∙◌, arith}
 use Rattle.std.proofs.lemmas.Bool.Decides.{eqb_tells}
 use Rattle.vmodel.specs.declared.part.Part.{Part}
-use Rattle.vmodel.specs.Queue.{Slot, with_process, without_process, empty_slot, waking, updating, later_at}
+use Rattle.vmodel.specs.Queue.{Later, with_process, without_process, empty_slot, waking, updating, later_at}
 use Rattle.vmodel.specs.Kept.{RisesFrom, FutureFrom, count_in, asleep}
 use Rattle.vmodel.proofs.ProcessLemmas.{less, equal, more, compared, same, differs, with_less, with_same, with_more, without_other, without_same}
 use Rattle.vmodel.proofs.FutureLemmas.{earlier, here, sooner}
@@ -59,14 +59,14 @@ count-keeps p r (q ∷ qs) = elim (compared p q) [
   | more gt ↦ omega (arith, count-keeps p r qs, ap (count_in r) (with_more p q qs gt), count-cons r q qs, count-cons r q (with_process p qs))
 ]
 
-pub count-waking : (r : ℕ) (sleeper : Option ℕ) (slot : Slot) →
+pub count-waking : (r : ℕ) (sleeper : Option ℕ) (slot : Later) →
     count_in r (waking sleeper slot).processes ≤ count_in r slot.processes + count_in r (option_to_list sleeper)
 count-waking r None slot = omega arith
 count-waking r (Some p) slot = count-with p r slot.processes
 
 -- where no more than so much is put to what a time holds
-asleep-later : (r t most : ℕ) (put : Slot → Slot) (es : List (ℕ × Slot)) →
-    ((slot : Slot) → count_in r (put slot).processes ≤ count_in r slot.processes + most) →
+asleep-later : (r t most : ℕ) (put : Later → Later) (es : List (ℕ × Later)) →
+    ((slot : Later) → count_in r (put slot).processes ≤ count_in r slot.processes + most) →
     asleep r (later_at t put es) ≤ asleep r es + most
 asleep-later r t most put [] few = omega (arith, few empty_slot)
 asleep-later r t most put (e ∷ es) few = elim (compared t e.0) [
@@ -75,11 +75,11 @@ asleep-later r t most put (e ∷ es) few = elim (compared t e.0) [
   | more gt ↦ omega (arith, asleep-later r t most put es few, ap (asleep r) (earlier t put e es gt))
 ]
 
-pub asleep-wake : (r t : ℕ) (sleeper : Option ℕ) (es : List (ℕ × Slot)) →
+pub asleep-wake : (r t : ℕ) (sleeper : Option ℕ) (es : List (ℕ × Later)) →
     asleep r (later_at t (waking sleeper) es) ≤ asleep r es + count_in r (option_to_list sleeper)
 asleep-wake r t sleeper es = asleep-later r t (count_in r (option_to_list sleeper)) (waking sleeper) es (count-waking r sleeper)
 
-pub asleep-update : (r t : ℕ) (u : List Part) (es : List (ℕ × Slot)) → asleep r (later_at t (updating u) es) ≤ asleep r es
+pub asleep-update : (r t : ℕ) (u : List Part) (es : List (ℕ × Later)) → asleep r (later_at t (updating u) es) ≤ asleep r es
 asleep-update r t u es = omega (arith, asleep-later r t 0 (updating u) es (λ slot. omega arith))
 
 -- ---- rising lists
@@ -105,12 +105,12 @@ with_rises p low (q ∷ qs) h le = elim (compared p q) [
   | more gt ↦ subst (RisesFrom low) (sym (with_more p q qs gt)) (h.0, with_rises p (suc q) qs h.1 gt)
 ]
 
-waking_rises : (sleeper : Option ℕ) (slot : Slot) → RisesFrom 0 slot.processes → RisesFrom 0 (waking sleeper slot).processes
+waking_rises : (sleeper : Option ℕ) (slot : Later) → RisesFrom 0 slot.processes → RisesFrom 0 (waking sleeper slot).processes
 waking_rises None slot h = h
 waking_rises (Some p) slot h = with_rises p 0 slot.processes h (omega arith)
 
-later_rises : (t low until : ℕ) (put : Slot → Slot) (es : List (ℕ × Slot)) → FutureFrom low until es → low ≤ t → t ≤ until →
-    ((slot : Slot) → RisesFrom 0 slot.processes → RisesFrom 0 (put slot).processes) →
+later_rises : (t low until : ℕ) (put : Later → Later) (es : List (ℕ × Later)) → FutureFrom low until es → low ≤ t → t ≤ until →
+    ((slot : Later) → RisesFrom 0 slot.processes → RisesFrom 0 (put slot).processes) →
     FutureFrom low until (later_at t put es)
 later_rises t low until put [] h le within keeps = (le, within, keeps empty_slot tt, tt)
 later_rises t low until put (e ∷ es) h le within keeps = elim (compared t e.0) [
@@ -121,10 +121,10 @@ later_rises t low until put (e ∷ es) h le within keeps = elim (compared t e.0)
       (h.0, h.1, h.2, later_rises t (suc e.0) until put es h.3 gt within keeps)
 ]
 
-pub wake_rises : (t low until : ℕ) (sleeper : Option ℕ) (es : List (ℕ × Slot)) → FutureFrom low until es → low ≤ t → t ≤ until →
+pub wake_rises : (t low until : ℕ) (sleeper : Option ℕ) (es : List (ℕ × Later)) → FutureFrom low until es → low ≤ t → t ≤ until →
     FutureFrom low until (later_at t (waking sleeper) es)
 wake_rises t low until sleeper es h le within = later_rises t low until (waking sleeper) es h le within (waking_rises sleeper)
 
-pub update_rises : (t low until : ℕ) (u : List Part) (es : List (ℕ × Slot)) → FutureFrom low until es → low ≤ t → t ≤ until →
+pub update_rises : (t low until : ℕ) (u : List Part) (es : List (ℕ × Later)) → FutureFrom low until es → low ≤ t → t ≤ until →
     FutureFrom low until (later_at t (updating u) es)
 update_rises t low until u es h le within = later_rises t low until (updating u) es h le within (λ slot rises. rises)

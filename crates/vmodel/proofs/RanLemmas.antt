@@ -16,7 +16,7 @@ use Rattle.vmodel.specs.Waking.{wakes, awake, with_awake}
 use Rattle.vmodel.specs.InnerWaking.{AreChanges, comes, with_active}
 use Rattle.vmodel.specs.Inner.{first_action}
 use Rattle.vmodel.specs.InnerStep.{did_so, left_in, held_in, moved, moved_by, moved_on, ended, turn_to}
-use Rattle.vmodel.specs.Step.{Did, does_at, moment_of, woken, closed, turned, takes, goes_from, process_turn}
+use Rattle.vmodel.specs.Step.{Did, does_at, moment_of, woken, with_moves, turned, takes, goes_from, process_turn}
 use Rattle.vmodel.proofs.WakingLemmas.{woken_none, comes_is}
 
 -- ---- what is written
@@ -66,7 +66,7 @@ awoken_is design wrote s values processes queue actions news is differ acts ps q
 
 -- a state with what the step wrote, and what becomes of the run
 abbrev finished : Design → Deed → State → State → State
-finished design deed before s = closed (ended deed.cause (woken design before.values deed.triggered (with_values s (written deed.wrote before.values))))
+finished design deed before s = with_moves (ended deed.cause (woken design before.values deed.triggered (with_values s (written deed.wrote before.values))))
 
 ran_from : (design : Design) (p : ℕ) (spot : Spot) (action : Action) (then : Option Spot) (next : List ℕ) (deed : Deed) (s : State) (left : List Spot) →
     left_in s.processes p ≡ left → slice_get left 0 ≡ Some spot → first_action design.actions left ≡ Some action →
@@ -87,7 +87,7 @@ pub ran : (design : Design) (p : ℕ) (spot : Spot) (action : Action) (held : Op
     slice_get (left_in s.processes p) 0 ≡ Some spot → first_action design.actions (left_in s.processes p) ≡ Some action →
     held ≡ held_in s.processes p → now ≡ moment_of design s →
     ((after : List Spot) → does_at spot action after held now ≡ did_so then next after deed) →
-    process_turn design p s ≡ turn_to (closed (ended deed.cause (woken design s.values deed.triggered (with_values (moved_on p then next deed s) (written deed.wrote s.values))))) deed
+    process_turn design p s ≡ turn_to (with_moves (ended deed.cause (woken design s.values deed.triggered (with_values (moved_on p then next deed s) (written deed.wrote s.values))))) deed
 ran design p spot action held now then next deed s at act holds is h =
     ran_from design p spot action then next deed s (left_in s.processes p) refl at act
     (λ after. (λ i. does_at spot action after (sym holds i) (sym is i)) ∙ h after)

@@ -31,10 +31,10 @@ use Rattle.vvalue.specs.Targets.{target_size, targets_size, place_at, leftwards}
 use Rattle.vmodel.proofs.PartLemmas.{part_length, spliced_length}
 use Rattle.vmodel.specs.Value.{some_bits, bits_at, parts_of, shared, given, assigned, resumed}
 use Rattle.vmodel.specs.Parts.{value_in, with_bits, written}
-use Rattle.vmodel.specs.Queue.{Slot, Queue, waking, updating, empty_slot, later_at}
+use Rattle.vmodel.specs.Queue.{Later, Queue, waking, updating, empty_slot, later_at}
 use Rattle.vmodel.specs.State.{State}
 use Rattle.vmodel.specs.Choices.{choices}
-use Rattle.vmodel.specs.Step.{moment_of, Did, post_after, does, turns, resumes, does_at, place_of, going, leaves, fares, posts, strobing, regions, closed_by, woken, closed, acted, takes, goes_from, left_of, held_of, first_of, without_update, updated, advanced_to, turn_of, turn_by, next}
+use Rattle.vmodel.specs.Step.{moment_of, Did, post_after, does, turns, resumes, does_at, place_of, going, leaves, fares, posts, strobing, regions, with_moves_by, woken, with_moves, acted, takes, goes_from, left_of, held_of, first_of, without_update, updated, advanced_to, turn_of, turn_by, next}
 use Rattle.vmodel.specs.Run.{Setting, opening_value, state_after}
 use Rattle.vmodel.specs.Played.{opening_is, after_is}
 use Rattle.vmodel.specs.Kept.{HasShape, AreShaped}
@@ -55,7 +55,7 @@ abbrev UpdatesSuit : List Variable → List (List Part) → Type 0
 UpdatesSuit variables [] = Unit {0}
 UpdatesSuit variables (u ∷ us) = AllSuit variables u × UpdatesSuit variables us
 
-abbrev FutureSuits : List Variable → List (ℕ × Slot) → Type 0
+abbrev FutureSuits : List Variable → List (ℕ × Later) → Type 0
 FutureSuits variables [] = Unit {0}
 FutureSuits variables (e ∷ es) = UpdatesSuit variables e.1.updates × FutureSuits variables es
 
@@ -192,13 +192,13 @@ suits-behind : (variables : List Variable) (us : List (List Part)) (u : List Par
 suits-behind variables [] u h suit = (suit, tt)
 suits-behind variables (first ∷ us) u h suit = (h.0, suits-behind variables us u h.1 suit)
 
-waking-suits : (variables : List Variable) (sleeper : Option ℕ) (slot : Slot) → UpdatesSuit variables slot.updates →
+waking-suits : (variables : List Variable) (sleeper : Option ℕ) (slot : Later) → UpdatesSuit variables slot.updates →
     UpdatesSuit variables (waking sleeper slot).updates
 waking-suits variables None slot h = h
 waking-suits variables (Some p) slot h = h
 
-later-suits : (variables : List Variable) (t : ℕ) (put : Slot → Slot) (es : List (ℕ × Slot)) → FutureSuits variables es →
-    ((slot : Slot) → UpdatesSuit variables slot.updates → UpdatesSuit variables (put slot).updates) →
+later-suits : (variables : List Variable) (t : ℕ) (put : Later → Later) (es : List (ℕ × Later)) → FutureSuits variables es →
+    ((slot : Later) → UpdatesSuit variables slot.updates → UpdatesSuit variables (put slot).updates) →
     FutureSuits variables (later_at t put es)
 later-suits variables t put [] h suits = (suits empty_slot tt, tt)
 later-suits variables t put (e ∷ es) h suits = by (nat_lt t e.0) (t == e.0) (later-suits variables t put es h.1 suits)
@@ -213,11 +213,11 @@ later-suits variables t put (e ∷ es) h suits = by (nat_lt t e.0) (t == e.0) (l
     by false true rest = (suits e.1 h.0, h.1)
     by false false rest = (h.0, rest)
 
-wake-suits : (variables : List Variable) (t : ℕ) (sleeper : Option ℕ) (es : List (ℕ × Slot)) → FutureSuits variables es →
+wake-suits : (variables : List Variable) (t : ℕ) (sleeper : Option ℕ) (es : List (ℕ × Later)) → FutureSuits variables es →
     FutureSuits variables (later_at t (waking sleeper) es)
 wake-suits variables t sleeper es h = later-suits variables t (waking sleeper) es h (waking-suits variables sleeper)
 
-update-suits : (variables : List Variable) (t : ℕ) (u : List Part) (es : List (ℕ × Slot)) → FutureSuits variables es → AllSuit variables u →
+update-suits : (variables : List Variable) (t : ℕ) (u : List Part) (es : List (ℕ × Later)) → FutureSuits variables es → AllSuit variables u →
     FutureSuits variables (later_at t (updating u) es)
 update-suits variables t u es h suit =
     later-suits variables t (updating u) es h (λ slot updates. suits-behind variables slot.updates u updates suit)
@@ -255,10 +255,10 @@ regions-suit variables [] [] (i ∷ is) posts q h waits = record { activated = h
 regions-suit variables [] [] [] (u ∷ us) q h waits = record { activated = waits; posted = tt; future = h.future }
 regions-suit variables [] [] [] [] q h waits = h
 
-closed-shaped : (variables : List Variable) (s : State) → IsShaped variables s → IsShaped variables (closed s)
-closed-shaped variables s h = by_cause s.cause
+with_moves-shaped : (variables : List Variable) (s : State) → IsShaped variables s → IsShaped variables (with_moves s)
+with_moves-shaped variables s h = by_cause s.cause
   where
-    by_cause : (cause : Option Cause) → IsShaped variables (closed_by cause s)
+    by_cause : (cause : Option Cause) → IsShaped variables (with_moves_by cause s)
     by_cause (Some cause) = h
     by_cause None = record {
       values = h.values;
@@ -266,9 +266,9 @@ closed-shaped variables s h = by_cause s.cause
     }
 
 woken-shaped : (variables : List Variable) (design : Design) (before : List Vector) (triggered : Option ℕ) (s : State) → IsShaped variables s →
-    IsShaped variables (closed (woken design before triggered s))
+    IsShaped variables (with_moves (woken design before triggered s))
 woken-shaped variables design before triggered s h =
-    closed-shaped variables (woken design before triggered s)
+    with_moves-shaped variables (woken design before triggered s)
     (record { values = h.values; queue = record { activated = h.queue.activated; posted = h.queue.posted; future = h.queue.future } })
 
 -- what a step writes and posts
@@ -362,7 +362,7 @@ updated-shaped variables (u ∷ us) s suit h = record {
   queue = record { activated = suit.1; posted = h.queue.posted; future = h.queue.future };
 }
 
-advanced-suits : (variables : List Variable) (future : List (ℕ × Slot)) (q : Queue) → FutureSuits variables future → QueueSuits variables q →
+advanced-suits : (variables : List Variable) (future : List (ℕ × Later)) (q : Queue) → FutureSuits variables future → QueueSuits variables q →
     QueueSuits variables (advanced_to future q)
 advanced-suits variables [] q suit h = h
 advanced-suits variables (e ∷ es) q suit h = record { activated = h.activated; posted = suit.0; future = suit.1 }
@@ -371,7 +371,7 @@ turn-shaped : (variables : List Variable) (design : Design) (c : Choice) (s : St
 turn-shaped variables design (Run p) s h = process-shaped variables design p (left_of (slice_get s.processes p)) s h
 turn-shaped variables design Update s h = woken-shaped variables design s.values None (updated s) (updated-shaped variables s.queue.activated s h.queue.activated h)
 turn-shaped variables design Advance s h =
-    closed-shaped variables (record s { queue = advanced_to s.queue.future s.queue })
+    with_moves-shaped variables (record s { queue = advanced_to s.queue.future s.queue })
     (record { values = h.values; queue = advanced-suits variables s.queue.future s.queue h.queue.future h.queue })
 
 next-shaped : (variables : List Variable) (design : Design) (s : State) (i : ℕ) → IsShaped variables s → IsShaped variables (next design s i).state

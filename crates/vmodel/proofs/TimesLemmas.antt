@@ -17,10 +17,10 @@ use Rattle.vmodel.specs.declared.deed.Fate.TheVariants.{GoesOn, Sleeps, Waits}
 use Rattle.vmodel.specs.declared.process.Spot.{Spot}
 use Rattle.vmodel.specs.declared.choice.Choice.{Choice}
 use Rattle.vmodel.specs.declared.choice.Choice.TheVariants.{Run, Update, Advance}
-use Rattle.vmodel.specs.Queue.{Slot, Queue}
+use Rattle.vmodel.specs.Queue.{Later, Queue}
 use Rattle.vmodel.specs.State.{State}
 use Rattle.vmodel.specs.Choices.{choices}
-use Rattle.vmodel.specs.Step.{moment_of, Turn, Did, does_at, place_of, going, goes_on, fares, posts, strobing, settled, closed_by, woken, closed, acted, turned, takes, goes_from, left_of, held_of, without_update, updated, advanced_to, turn_of, turn_by, next, shown_items, idle_items, slot_end_by, slot_end_of, strobe_items, before_end, end_items, items_of}
+use Rattle.vmodel.specs.Step.{moment_of, Turn, Did, does_at, place_of, going, goes_on, fares, posts, strobing, settled, with_moves_by, woken, with_moves, acted, turned, takes, goes_from, left_of, held_of, without_update, updated, advanced_to, turn_of, turn_by, next, shown_items, idle_items, slot_end_by, slot_end_of, strobe_items, before_end, end_items, items_of}
 use Rattle.vmodel.specs.Run.{Setting, rules_of, opening_of, state_after, given_by}
 use Rattle.vmodel.specs.Played.{opening_is, after_is, width_is}
 use Rattle.vmodel.specs.Kept.{RisesFrom, IsIdle, IsKept, slot_times, count_in}
@@ -113,10 +113,10 @@ timed_turn design times turn rises le =
 time-settled : (q : Queue) → (settled q).time ≡ q.time
 time-settled q = settled_by (λ (r : Queue). r.time ≡ q.time) q (λ moves. refl) (λ i is a b. refl) (λ u us. refl)
 
-time-closed : (s : State) → (closed s).queue.time ≡ s.queue.time
-time-closed s = by_cause s.cause
+time-with_moves : (s : State) → (with_moves s).queue.time ≡ s.queue.time
+time-with_moves s = by_cause s.cause
   where
-    by_cause : (cause : Option Cause) → (closed_by cause s).queue.time ≡ s.queue.time
+    by_cause : (cause : Option Cause) → (with_moves_by cause s).queue.time ≡ s.queue.time
     by_cause (Some cause) = refl
     by_cause None = time-settled s.queue
 
@@ -134,7 +134,7 @@ time-posts posted q = posts_by (λ (r : Queue). r.time ≡ q.time) posted q refl
 
 time-turned : (design : Design) (p : ℕ) (did : Did) (s : State) → (turned design p did s).state.queue.time ≡ s.queue.time
 time-turned design p did s =
-    time-closed (woken design s.values did.deed.triggered (acted p did s))
+    time-with_moves (woken design s.values did.deed.triggered (acted p did s))
     ∙ time-fares p did.deed.fate (going p did.left) (posts did.deed.posted (strobing did.deed.strobed s.queue))
     ∙ time-posts did.deed.posted (strobing did.deed.strobed s.queue)
 
@@ -150,7 +150,7 @@ time-updated : (us : List (List Part)) (q : Queue) → (without_update us q).tim
 time-updated [] q = refl
 time-updated (u ∷ us) q = refl
 
-time-advanced : (times : List ℕ) (s : State) (future : List (ℕ × Slot)) → s.queue.future ≡ future → IsKept s → ¬ (future ≡ []) →
+time-advanced : (times : List ℕ) (s : State) (future : List (ℕ × Later)) → s.queue.future ≡ future → IsKept s → ¬ (future ≡ []) →
     free_from 0 times ≤ suc s.queue.time → free_from 0 times ≤ (advanced_to future s.queue).time
 time-advanced times s [] is kept some le = absurd (some refl)
 time-advanced times s (e ∷ es) is kept some le =
@@ -167,13 +167,13 @@ turn-timed design times (Run p) s kept none active timed =
     ))
 turn-timed design times Update s kept none some timed =
     timed_turn design times (turn_of design Update s) timed.rises
-    (omega (arith, timed.before none (λ idle. some idle.1), time-closed (woken design s.values None (updated s)), time-updated s.queue.activated s.queue))
+    (omega (arith, timed.before none (λ idle. some idle.1), time-with_moves (woken design s.values None (updated s)), time-updated s.queue.activated s.queue))
 turn-timed design times Advance s kept none allowed timed =
     timed_turn design times (turn_of design Advance s) timed.rises
     (omega (
       arith,
       time-advanced times s s.queue.future refl kept allowed.1 timed.within,
-      time-closed (record s { queue = advanced_to s.queue.future s.queue }),
+      time-with_moves (record s { queue = advanced_to s.queue.future s.queue }),
     ))
 
 next-timed : (design : Design) (times : List ℕ) (s : State) (i : ℕ) → IsKept s → IsTimed times s → i < length (choices s) →

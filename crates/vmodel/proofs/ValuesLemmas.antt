@@ -20,7 +20,7 @@ use Rattle.vmodel.specs.declared.choice.Choice.TheVariants.{Run, Update, Advance
 use Rattle.vmodel.specs.State.{State}
 use Rattle.vmodel.specs.Choices.{choices}
 use Rattle.vmodel.specs.Parts.{value_in, with_bits, written}
-use Rattle.vmodel.specs.Step.{moment_of, Turn, does_at, place_of, closed_by, woken, closed, acted, takes, goes_from, left_of, held_of, first_of, updated, advanced_to, turn_of, turn_by, next, line_item, shown_items, idle_items, slot_end_by, slot_end_of, strobe_items, before_end, end_items, items_of}
+use Rattle.vmodel.specs.Step.{moment_of, Turn, does_at, place_of, with_moves_by, woken, with_moves, acted, takes, goes_from, left_of, held_of, first_of, updated, advanced_to, turn_of, turn_by, next, line_item, shown_items, idle_items, slot_end_by, slot_end_of, strobe_items, before_end, end_items, items_of}
 use Rattle.vmodel.specs.Run.{Setting, opening_value, opening_of, state_after, given_by}
 use Rattle.vmodel.specs.Played.{opening_is, after_is}
 use Rattle.vmodel.specs.Kept.{HasValues}
@@ -35,10 +35,10 @@ length-written (Bits variable low value ∷ parts) values =
     let new = with_bits (value_in values variable) low value in
     length-written parts (slice_set values variable new) ∙ length-set values variable new
 
-length-closed : (s : State) → length (closed s).values ≡ length s.values
-length-closed s = by_cause s.cause
+length-with_moves : (s : State) → length (with_moves s).values ≡ length s.values
+length-with_moves s = by_cause s.cause
   where
-    by_cause : (cause : Option Cause) → length (closed_by cause s).values ≡ length s.values
+    by_cause : (cause : Option Cause) → length (with_moves_by cause s).values ≡ length s.values
     by_cause (Some cause) = refl
     by_cause None = refl
 
@@ -46,7 +46,7 @@ takes-full : (design : Design) (p : ℕ) (spot : Spot) (action : Option Action) 
 takes-full design p spot None after s = refl
 takes-full design p spot (Some action) after s =
     let did = does_at spot action after (held_of (slice_get s.processes p)) (moment_of design s) in
-    length-closed (woken design s.values did.deed.triggered (acted p did s)) ∙ length-written did.deed.wrote s.values
+    length-with_moves (woken design s.values did.deed.triggered (acted p did s)) ∙ length-written did.deed.wrote s.values
 
 process-full : (design : Design) (p : ℕ) (left : List Spot) (s : State) → length (goes_from design p left s).state.values ≡ length s.values
 process-full design p [] s = refl
@@ -54,8 +54,8 @@ process-full design p (spot ∷ after) s = takes-full design p spot (slice_get d
 
 turn-full : (design : Design) (c : Choice) (s : State) → length (turn_of design c s).state.values ≡ length s.values
 turn-full design (Run p) s = process-full design p (left_of (slice_get s.processes p)) s
-turn-full design Update s = length-closed (woken design s.values None (updated s)) ∙ length-written (first_of s.queue.activated) s.values
-turn-full design Advance s = length-closed (record s { queue = advanced_to s.queue.future s.queue })
+turn-full design Update s = length-with_moves (woken design s.values None (updated s)) ∙ length-written (first_of s.queue.activated) s.values
+turn-full design Advance s = length-with_moves (record s { queue = advanced_to s.queue.future s.queue })
 
 next-full : (design : Design) (s : State) (i : ℕ) → length (next design s i).state.values ≡ length s.values
 next-full design s i = by_choice (slice_get (choices s) i)

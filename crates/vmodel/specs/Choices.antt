@@ -1,9 +1,9 @@
 -- `Choices` (IEEE 1364-2005, 11.4.1, 11.4.2): what may be taken next, choice 0 by default.
-use Rattle.std.specs.Prelude.{ℕ, ◌<◌, cond, is_some, List, [], ◌∷◌, ◌++◌, Option, Some, None, map}
+use Rattle.std.specs.Prelude.{ℕ, ◌<◌, if◌then◌else◌, is_some, List, [], ◌∷◌, ◌++◌, Option, Some, None, map}
 use Rattle.vmodel.specs.declared.part.Part.{Part}
 use Rattle.vmodel.specs.declared.choice.Choice.{Choice}
 use Rattle.vmodel.specs.declared.choice.Choice.TheVariants.{Run, Update, Advance}
-use Rattle.vmodel.specs.Queue.{Slot, Queue, without_process}
+use Rattle.vmodel.specs.Queue.{Later, Queue, without_process}
 use Rattle.vmodel.specs.State.{State}
 use Rattle.vmodel.specs.declared.history.Grain.{Grain}
 use Rattle.vmodel.specs.declared.history.Grain.TheVariants.{Process, Statement}
@@ -17,12 +17,12 @@ abbrev pub first_update : List (List Part) → List Choice
 first_update [] = []
 first_update (u ∷ us) = Update ∷ []
 
-abbrev pub next_time : List (ℕ × Slot) → List Choice
+abbrev pub next_time : List (ℕ × Later) → List Choice
 next_time [] = []
 next_time (e ∷ es) = Advance ∷ []
 
 -- at a slot end, where nothing is active, the advance if there is a future time within the limit
-abbrev pub or_advance : List Choice → List (ℕ × Slot) → List Choice
+abbrev pub or_advance : List Choice → List (ℕ × Later) → List Choice
 or_advance [] future = next_time future
 or_advance (c ∷ cs) future = c ∷ cs
 
@@ -40,7 +40,7 @@ queue_choices q = or_advance (offered q q.grain q.last) q.future
 
 -- once `$finish` or `$stop` was taken there is no choice at all
 abbrev pub choices : State → List Choice
-choices s = cond (is_some s.cause) [] (queue_choices s.queue)
+choices s = if is_some s.cause then [] else queue_choices s.queue
 
 -- a process goes by a number below 256
 abbrev pub IsWithin : Choice → Type 0

@@ -1,5 +1,5 @@
 -- How the program keeps what the definitions see as lists: words for the contracts of parts within.
-use Rattle.std.specs.Prelude.{◌≡◌, ◌==◌, ℕ, zero, suc, ◌+◌, ◌-◌, cond, nat_lt, List, [], ◌∷◌, length, take, Option, Some, None}
+use Rattle.std.specs.Prelude.{◌≡◌, ◌==◌, ℕ, zero, suc, ◌+◌, ◌-◌, if◌then◌else◌, nat_lt, List, [], ◌∷◌, length, take, Option, Some, None}
 use Rattle.vmodel.specs.declared.part.Part.{Part}
 use Rattle.vmodel.specs.declared.part.Part.TheVariants.{Whole, Bits}
 use Rattle.vbits.specs.Vectors.{Vector}
@@ -10,7 +10,7 @@ use Rattle.std.specs.Prelude.{slice_get}
 use Rattle.std.specs.Borrow.{Bor}
 use Rattle.vdesign.specs.declared.action.Action.{Action}
 use Rattle.vmodel.specs.declared.process.Spot.{Spot}
-use Rattle.vmodel.specs.Queue.{Slot, Queue}
+use Rattle.vmodel.specs.Queue.{Later, Queue}
 use Rattle.vmodel.specs.Step.{place_of}
 
 -- ---- parts
@@ -32,7 +32,7 @@ value_over (Bits variable low value) old = with_bits old low value
 
 -- and of another variable's: nothing
 abbrev pub over_one : Part → ℕ → Vector → Vector
-over_one part n old = cond (variable_of part == n) (value_over part old) old
+over_one part n old = if variable_of part == n then value_over part old else old
 
 -- what the parts make of a variable's value, from left to right
 abbrev pub over_all : List Part → ℕ → Vector → Vector
@@ -46,21 +46,21 @@ kept_parts (Many list) = list.now
 -- ---- the future
 
 -- how many future times are below this one
-abbrev pub place_of_time : ℕ → List (ℕ × Slot) → ℕ
+abbrev pub place_of_time : ℕ → List (ℕ × Later) → ℕ
 place_of_time t [] = zero
-place_of_time t (e ∷ es) = cond (nat_lt e.0 t) (suc (place_of_time t es)) zero
+place_of_time t (e ∷ es) = if nat_lt e.0 t then suc (place_of_time t es) else zero
 
 -- the time after a delay, within the limit
 abbrev pub time_after : ℕ → Queue → Option ℕ
-time_after d q = cond (nat_lt q.until (q.time + d)) None (Some (q.time + d))
+time_after d q = if nat_lt q.until (q.time + d) then None else Some (q.time + d)
 
 -- there is an entry, and the fact holds of it
-abbrev pub SomeIs : (ℕ × Slot → Type 0) → Option (ℕ × Slot) → Type 0
+abbrev pub SomeIs : (ℕ × Later → Type 0) → Option (ℕ × Later) → Type 0
 SomeIs P None = ⊥
 SomeIs P (Some e) = P e
 
 -- there is no entry of which the fact holds
-abbrev pub NoneIs : (ℕ × Slot → Type 0) → Option (ℕ × Slot) → Type 0
+abbrev pub NoneIs : (ℕ × Later → Type 0) → Option (ℕ × Later) → Type 0
 NoneIs P None = Unit {0}
 NoneIs P (Some e) = ¬ P e
 

@@ -1,5 +1,5 @@
 -- How the parts of a step are told: words for the contracts of parts within.
-use Rattle.std.specs.Prelude.{ℕ, Bool, cond, ◌∷◌, List, Option, Some, None, drop, slice_get, slice_set}
+use Rattle.std.specs.Prelude.{ℕ, Bool, if◌then◌else◌, ◌∷◌, List, Option, Some, None, drop, slice_get, slice_set}
 use Rattle.vbits.specs.Vectors.{Vector}
 use Rattle.vmodel.specs.declared.process.Spot.{Spot}
 use Rattle.vmodel.specs.declared.process.Spot.TheVariants.{Doing}
@@ -25,22 +25,22 @@ behind (Some spot) rest = spot ∷ rest
 
 -- a process that had so much left, behind a step after which these places come
 abbrev pub moved : List Spot → Option Spot → List ℕ → Deed → Process
-moved left then next deed = process_by (record { left = spots next (behind then (drop 1 left)); deed = deed })
+moved left spot next deed = process_by (record { left = spots next (behind spot (drop 1 left)); deed = deed })
 
 -- and the queue
 abbrev pub moved_by : ℕ → List Spot → Option Spot → List ℕ → Deed → Queue → Queue
-moved_by number left then next deed q =
-    fares number deed.fate (going number (spots next (behind then (drop 1 left)))) (posts deed.posted (strobing deed.strobed q))
+moved_by number left spot next deed q =
+    fares number deed.fate (going number (spots next (behind spot (drop 1 left)))) (posts deed.posted (strobing deed.strobed q))
 
 abbrev pub with_moved : ℕ → List Process → Option Spot → List ℕ → Deed → List Process
-with_moved number processes then next deed =
-    slice_set processes number (moved (left_in processes number) then next deed)
+with_moved number processes spot next deed =
+    slice_set processes number (moved (left_in processes number) spot next deed)
 
 -- the state after a process is placed and the queue has it
 abbrev pub moved_on : ℕ → Option Spot → List ℕ → Deed → State → State
-moved_on number then next deed s = record s {
-  processes = with_moved number s.processes then next deed;
-  queue = moved_by number (left_in s.processes number) then next deed s.queue;
+moved_on number spot next deed s = record s {
+  processes = with_moved number s.processes spot next deed;
+  queue = moved_by number (left_in s.processes number) spot next deed s.queue;
 }
 
 -- the state where the run ends for a reason, or goes on
@@ -49,16 +49,17 @@ ended cause s = record s { cause = cause }
 
 -- what a step did, after which these places come, and then this spot where one is given
 abbrev pub did_so : Option Spot → List ℕ → List Spot → Deed → Did
-did_so then next after deed = record { left = spots next (behind then after); deed = deed }
+did_so spot next after deed = record { left = spots next (behind spot after); deed = deed }
 
 -- what a loop at a place does where its condition holds, and where it does not
 abbrev pub loops : ℕ → Bool → List ℕ → List Spot → Did
-loops place holds body after = record { left = cond holds (spots body (Doing place ∷ after)) after; deed = quiet }
+loops place holds body after = record { left = if holds then spots body (Doing place ∷ after) else after; deed = quiet }
 
 -- what a `wait` at a place does where its condition holds, and where it does not
 abbrev pub awaits : ℕ → Bool → List ℕ → List Spot → Did
 awaits place holds body after =
-    cond holds (record { left = spots body after; deed = quiet }) (record { left = Doing place ∷ after; deed = record quiet { fate = Waits place } })
+    if holds then record { left = spots body after; deed = quiet }
+    else record { left = Doing place ∷ after; deed = record quiet { fate = Waits place } }
 
 -- the state after a step, and what the step did
 abbrev pub turn_to : State → Deed → Turn

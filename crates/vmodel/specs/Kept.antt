@@ -1,8 +1,8 @@
 -- What every state of a run keeps, under every log (IEEE 1364-2005, 11.3, 11.4; docs/SCHEDULING.md).
-use Rattle.std.specs.Prelude.{◌≡◌, ℕ, suc, ◌+◌, ◌≤◌, ◌==◌, cond, List, [], ◌∷◌, length, slice_get, Option, Some, None}
+use Rattle.std.specs.Prelude.{◌≡◌, ℕ, suc, ◌+◌, ◌≤◌, ◌==◌, if◌then◌else◌, List, [], ◌∷◌, length, slice_get, Option, Some, None}
 use Rattle.std.specs.Option.{ForSome}
 use Rattle.vmodel.specs.declared.process.Spot.{Spot}
-use Rattle.vmodel.specs.Queue.{Slot, Queue}
+use Rattle.vmodel.specs.Queue.{Later, Queue}
 use Rattle.vmodel.specs.State.{Process, State}
 use Rattle.vmodel.specs.Step.{left_of}
 use Rattle.vmodel.specs.Run.{Setting, state_after}
@@ -17,7 +17,7 @@ RisesFrom low [] = Unit {0}
 RisesFrom low (n ∷ ns) = (low ≤ n) × RisesFrom (suc n) ns
 
 -- the times rise, from low on and up to the limit; the processes of each stand in the order of their numbers
-abbrev pub FutureFrom : ℕ → ℕ → List (ℕ × Slot) → Type 0
+abbrev pub FutureFrom : ℕ → ℕ → List (ℕ × Later) → Type 0
 FutureFrom low until [] = Unit {0}
 FutureFrom low until (e ∷ es) = (low ≤ e.0) × (e.0 ≤ until) × RisesFrom 0 e.1.processes × FutureFrom (suc e.0) until es
 
@@ -30,9 +30,9 @@ pub record IsInOrder (q : Queue) : Type 0 where
 -- how often a number stands in a list
 abbrev pub count_in : ℕ → List ℕ → ℕ
 count_in p [] = 0
-count_in p (q ∷ qs) = cond (p == q) (suc (count_in p qs)) (count_in p qs)
+count_in p (q ∷ qs) = if p == q then suc (count_in p qs) else count_in p qs
 
-abbrev pub asleep : ℕ → List (ℕ × Slot) → ℕ
+abbrev pub asleep : ℕ → List (ℕ × Later) → ℕ
 asleep p [] = 0
 asleep p (e ∷ es) = count_in p e.1.processes + asleep p es
 

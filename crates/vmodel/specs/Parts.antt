@@ -1,5 +1,5 @@
 -- What a step writes (IEEE 1364-2005, clause 6): parts of variables with their new letters, in order.
-use Rattle.std.specs.Prelude.{ℕ, ◌+◌, nat_le, cond, List, [], ◌∷◌, ◌++◌, length, take, drop, slice_get, slice_set, unwrap_or}
+use Rattle.std.specs.Prelude.{ℕ, ◌+◌, nat_le, if◌then◌else◌, List, [], ◌∷◌, ◌++◌, length, take, drop, slice_get, slice_set, unwrap_or}
 use Rattle.vbits.specs.declared.bit4.Bit4.TheVariants.{X}
 use Rattle.vbits.specs.Vectors.{Vector, filled}
 use Rattle.vmodel.specs.declared.part.Part.{Part}
@@ -12,7 +12,8 @@ value_in values variable = unwrap_or (slice_get values variable) (filled 1 X)
 abbrev pub with_bits : Vector → ℕ → Vector → Vector
 with_bits old low value =
     let high = low + length value.letters in
-    cond (nat_le high (length old.letters)) (record old { letters = take low old.letters ++ value.letters ++ drop high old.letters }) old
+    if nat_le high (length old.letters) then record old { letters = take low old.letters ++ value.letters ++ drop high old.letters }
+    else old
 
 -- the values after one part is written; a part of no variable writes nothing
 abbrev pub write : Part → List Vector → List Vector

@@ -1,13 +1,13 @@
 -- The stratified event queue (IEEE 1364-2005, 11.3; docs/SCHEDULING.md): what stands in which region, and what
 -- comes later. Processes go by number and stand in the order of their numbers (specs/Kept.antt); updates stand in the
 -- order in which they were posted.
-use Rattle.std.specs.Prelude.{ℕ, ◌+◌, ◌==◌, nat_lt, Bool, true, cond, not, List, [], ◌∷◌, ◌++◌, Option, Some, None, filter}
+use Rattle.std.specs.Prelude.{ℕ, ◌+◌, ◌==◌, nat_lt, Bool, true, if◌then◌else◌, not, List, [], ◌∷◌, ◌++◌, Option, Some, None, filter}
 use Rattle.vmodel.specs.declared.history.Grain.{Grain}
 use Rattle.vmodel.specs.declared.part.Part.{Part}
 
 -- what a future time holds: processes to wake, and updates, each a list of written parts; it may hold nothing, where a
 -- process that slept to it has ended
-pub record Slot : Type 0 where
+pub record Later : Type 0 where
   pub processes : List ℕ
   pub updates : List (List Part)
 
@@ -21,38 +21,39 @@ pub record Queue : Type 0 where
   pub activated : List (List Part)  -- nonblocking updates that are active
   pub posted : List (List Part)
   pub strobes : List ℕ  -- monitor events, by the places of their actions, in order of creation (17.1.2)
-  pub future : List (ℕ × Slot)  -- in order of time, later than now and within the limit
+  pub future : List (ℕ × Later)  -- in order of time, later than now and within the limit
   pub beyond : Bool  -- something is past the limit
 
 -- a set of processes with one more
 abbrev pub with_process : ℕ → List ℕ → List ℕ
 with_process p [] = p ∷ []
-with_process p (q ∷ qs) = cond (nat_lt p q) (p ∷ q ∷ qs) (cond (p == q) (q ∷ qs) (q ∷ with_process p qs))
+with_process p (q ∷ qs) = if nat_lt p q then p ∷ q ∷ qs else if p == q then q ∷ qs else q ∷ with_process p qs
 
 abbrev pub without_process : ℕ → List ℕ → List ℕ
 without_process p = filter (λ q. not (p == q))
 
-abbrev pub empty_slot : Slot
+abbrev pub empty_slot : Later
 empty_slot = record { processes = []; updates = [] }
 
 -- what a time holds, with one more process to wake, or none more
-abbrev pub waking : Option ℕ → Slot → Slot
+abbrev pub waking : Option ℕ → Later → Later
 waking None slot = slot
 waking (Some p) slot = record slot { processes = with_process p slot.processes }
 
 -- 11.4: the same with one more update, behind the others
-abbrev pub updating : List Part → Slot → Slot
+abbrev pub updating : List Part → Later → Later
 updating parts slot = record slot { updates = slot.updates ++ parts ∷ [] }
 
 -- the future where more is put to what a time holds, which becomes a future time also where nothing is there
-abbrev pub later_at : ℕ → (Slot → Slot) → List (ℕ × Slot) → List (ℕ × Slot)
+abbrev pub later_at : ℕ → (Later → Later) → List (ℕ × Later) → List (ℕ × Later)
 later_at t put [] = (t, put empty_slot) ∷ []
 later_at t put (e ∷ es) =
-    cond (nat_lt t e.0) ((t, put empty_slot) ∷ e ∷ es)
-    (cond (t == e.0) ((e.0, put e.1) ∷ es) (e ∷ later_at t put es))
+    if nat_lt t e.0 then (t, put empty_slot) ∷ e ∷ es
+    else if t == e.0 then (e.0, put e.1) ∷ es
+    else e ∷ later_at t put es
 
 -- the same for the time after a delay. Past the limit nothing is kept but that something is there
-abbrev pub later : ℕ → (Slot → Slot) → Queue → Queue
+abbrev pub later : ℕ → (Later → Later) → Queue → Queue
 later d put q =
-    cond (nat_lt q.until (q.time + d)) (record q { beyond = true })
-    (record q { future = later_at (q.time + d) put q.future })
+    if nat_lt q.until (q.time + d) then record q { beyond = true }
+    else record q { future = later_at (q.time + d) put q.future }

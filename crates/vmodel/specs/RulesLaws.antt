@@ -1,5 +1,5 @@
 -- The rules of a run are lawful (a law with its proof).
-use Rattle.std.proofs.Common.{◌≡◌, ℕ, ◌==◌, Bool, true, cond, ◌&&◌, ◌||◌, is_some, List, [], ◌∷◌, ◌++◌, map, Option, Some, None, length, refl, ap, subst, arith}
+use Rattle.std.proofs.Common.{◌≡◌, ℕ, ◌==◌, Bool, true, if◌then◌else◌, ◌&&◌, ◌||◌, is_some, List, [], ◌∷◌, ◌++◌, map, Option, Some, None, length, refl, ap, subst, arith}
 use Rattle.sched_core.specs.Rules.{IsLawful}
 use Rattle.vmodel.specs.declared.choice.Choice.{Choice}
 use Rattle.vmodel.specs.declared.choice.Choice.TheVariants.{Run}
@@ -7,7 +7,7 @@ use Rattle.vmodel.specs.declared.history.Cause.{Cause}
 use Rattle.vmodel.specs.declared.history.Grain.{Grain}
 use Rattle.vmodel.specs.declared.history.Grain.TheVariants.{Process, Statement}
 use Rattle.vmodel.specs.declared.part.Part.{Part}
-use Rattle.vmodel.specs.Queue.{Slot, Queue}
+use Rattle.vmodel.specs.Queue.{Later, Queue}
 use Rattle.vmodel.specs.State.{State}
 use Rattle.vmodel.specs.Choices.{in_order, first_update, or_advance, active_choices, offered, queue_choices, choices}
 use Rattle.vmodel.specs.Step.{next}
@@ -32,14 +32,14 @@ nothing_offered q Statement last h = h
 pub idle_when : (q : Queue) → length (offered q q.grain q.last) ≡ 0 → IsIdle q
 idle_when q h = nothing_active q.last q.active q.activated (nothing_offered q q.grain q.last h)
 
-no_advance : (cs : List Choice) (future : List (ℕ × Slot)) → length (or_advance cs future) ≡ 0 → length cs ≡ 0
+no_advance : (cs : List Choice) (future : List (ℕ × Later)) → length (or_advance cs future) ≡ 0 → length cs ≡ 0
 no_advance [] future h = refl
 no_advance (c ∷ cs) future h = h
 
-ended_or : (cause : Option Cause) (cs : List Choice) (b : Bool) → length (cond (is_some cause) [] cs) ≡ 0 → (length cs ≡ 0 → b ≡ true) →
+ended_or : (cause : Option Cause) (cs : List Choice) (b : Bool) → length (if is_some cause then [] else cs) ≡ 0 → (length cs ≡ 0 → b ≡ true) →
     (is_some cause || b) ≡ true
-ended_or None cs b h else = else h
-ended_or (Some cause) cs b h else = refl
+ended_or None cs b h otherwise = otherwise h
+ended_or (Some cause) cs b h otherwise = refl
 
 end_is_mark : (s : State) → length (choices s) ≡ 0 → is_mark s ≡ true
 end_is_mark s h =

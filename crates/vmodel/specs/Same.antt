@@ -12,7 +12,7 @@ use Rattle.vmodel.specs.declared.part.Part.{Part}
 use Rattle.vmodel.specs.declared.part.Part.TheVariants.{Whole, Bits}
 use Rattle.vmodel.specs.declared.process.Spot.{Spot}
 use Rattle.vmodel.specs.declared.process.Spot.TheVariants.{Doing, Turning, Writing}
-use Rattle.vmodel.specs.Queue.{Slot, Queue}
+use Rattle.vmodel.specs.Queue.{Later, Queue}
 use Rattle.vmodel.specs.State.{Process, State}
 
 abbrev pub values_same : List Vector → List Vector → Bool
@@ -49,7 +49,7 @@ part_same _ _ = false
 abbrev pub parts_same : List Part → List Part → Bool
 parts_same = pointwise part_same
 
-abbrev pub slot_same : ℕ × Slot → ℕ × Slot → Bool
+abbrev pub slot_same : ℕ × Later → ℕ × Later → Bool
 slot_same e f = (nat_eq e.0 f.0 && pointwise nat_eq e.1.processes f.1.processes) && pointwise parts_same e.1.updates f.1.updates
 
 -- the limits of the queue, and where the run stands

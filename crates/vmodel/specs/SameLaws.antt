@@ -12,7 +12,7 @@ use Rattle.vmodel.specs.declared.history.Cause.TheVariants.{Finish, Stop, Quiet,
 use Rattle.vmodel.specs.declared.history.Grain.TheVariants.{Process as ByProcess, Statement}
 use Rattle.vmodel.specs.declared.part.Part.TheVariants.{Whole, Bits}
 use Rattle.vmodel.specs.declared.process.Spot.TheVariants.{Doing, Turning, Writing}
-use Rattle.vmodel.specs.Queue.{Slot, Queue}
+use Rattle.vmodel.specs.Queue.{Later, Queue}
 use Rattle.vmodel.specs.State.{Process, State}
 use Rattle.vmodel.specs.Same.{values_same, spot_same, process_same, grain_same, cause_same, part_same, parts_same, slot_same, stand_same, regions_same, queue_same, state_same}
 
@@ -77,7 +77,7 @@ pub slots_tell : Tells slot_same
 slots_tell e f = Decides-like (slot_same e f)
     (λ (h : ((e.0 ≡ f.0) × (e.1.processes ≡ f.1.processes)) × (e.1.updates ≡ f.1.updates)).
     λ i. (h.0.0 i, record { processes = h.0.1 i; updates = h.1 i }))
-    (λ h. ((ap (λ (x : ℕ × Slot). x.0) h, ap (λ (x : ℕ × Slot). x.1.processes) h), ap (λ (x : ℕ × Slot). x.1.updates) h))
+    (λ h. ((ap (λ (x : ℕ × Later). x.0) h, ap (λ (x : ℕ × Later). x.1.processes) h), ap (λ (x : ℕ × Later). x.1.updates) h))
     (Decides-and _ _ (Decides-and _ _ (unsigned_Decides e.0 f.0) (list_tells nat_eq unsigned_Decides e.1.processes f.1.processes))
     (list_tells parts_same parts_tell e.1.updates f.1.updates))
 

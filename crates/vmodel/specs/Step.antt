@@ -1,5 +1,5 @@
 -- `Step` (IEEE 1364-2005, 11.3, 11.4, 11.6; docs/SCHEDULING.md): the one step of a choice, then the region moves.
-use Rattle.std.specs.Prelude.{ℕ, zero, suc, ◌-◌, List, [], ◌∷◌, ◌++◌, Option, Some, None, map, slice_get, slice_set, ◌/◌, cond}
+use Rattle.std.specs.Prelude.{ℕ, zero, suc, ◌-◌, List, [], ◌∷◌, ◌++◌, Option, Some, None, map, slice_get, slice_set, ◌/◌, if◌then◌else◌}
 use Rattle.std.specs.Option.{option_to_list}
 use Rattle.vbits.specs.Vectors.{Vector}
 use Rattle.basis.specs.Timescales.{factor}
@@ -32,7 +32,7 @@ use Rattle.vvalue.specs.Cases.{places_of_case, turns_of}
 use Rattle.line_text.specs.LineText.{line_of}
 use Rattle.vmodel.specs.Value.{assigned, held_value, resumed}
 use Rattle.vmodel.specs.Parts.{written}
-use Rattle.vmodel.specs.Queue.{Slot, Queue, with_process, without_process, waking, updating, later}
+use Rattle.vmodel.specs.Queue.{Later, Queue, with_process, without_process, waking, updating, later}
 use Rattle.vmodel.specs.State.{Process, State}
 use Rattle.vmodel.specs.Waking.{wakes, awake, with_awake}
 use Rattle.vmodel.specs.declared.choice.Choice.{Choice}
@@ -102,13 +102,13 @@ does place (Posted amount targets value) after now =
 does place (Trigger event) after now = record { left = after; deed = record quiet { triggered = Some event } }
 -- 9.4: `if (condition) .. else ..`
 does place (Test condition when_true otherwise) after now =
-    record { left = spots (cond (holds now condition) when_true otherwise) after; deed = quiet }
+    record { left = spots (if holds now condition then when_true else otherwise) after; deed = quiet }
 -- 9.5: `case (value) ..`
 does place (Case kind value branches otherwise) after now =
     record { left = spots (places_of_case now kind value branches otherwise) after; deed = quiet }
 -- 9.6: `while (condition) ..` tests once more behind its body
 does place (Again condition body) after now =
-    record { left = cond (holds now condition) (spots body (Doing place ∷ after)) after; deed = quiet }
+    record { left = if holds now condition then spots body (Doing place ∷ after) else after; deed = quiet }
 -- 9.6: `repeat (count) ..` takes its count
 does place (Repeat count body) after now = record { left = turning place (turns_of now count) after; deed = quiet }
 -- 9.6: `forever ..` comes again behind its body
@@ -119,8 +119,8 @@ does place (Delay amount body) after now = record { left = spots body after; dee
 does place (On terms body) after now = record { left = spots body after; deed = record quiet { fate = Waits place } }
 -- 9.7.6: `wait (condition)` goes on to its body, or waits and then tests once more
 does place (Until condition terms body) after now =
-    cond (holds now condition) (record { left = spots body after; deed = quiet })
-    (record { left = Doing place ∷ after; deed = record quiet { fate = Waits place } })
+    if holds now condition then record { left = spots body after; deed = quiet }
+    else record { left = Doing place ∷ after; deed = record quiet { fate = Waits place } }
 -- 6.1: `assign net = value` writes, waits for a change, and writes again
 does place (Drive net value terms) after now =
     record { left = Doing place ∷ after; deed = record quiet { wrote = assigned now (WholeTarget net ∷ []) value; fate = Waits place } }
@@ -217,12 +217,12 @@ abbrev pub settled : Queue → Queue
 settled q = regions q.active q.activated q.inactive q.posted q
 
 -- after `$finish` and `$stop` there are none
-abbrev pub closed_by : Option Cause → State → State
-closed_by (Some cause) s = s
-closed_by None s = record s { queue = settled s.queue }
+abbrev pub with_moves_by : Option Cause → State → State
+with_moves_by (Some cause) s = s
+with_moves_by None s = record s { queue = settled s.queue }
 
-abbrev pub closed : State → State
-closed s = closed_by s.cause s
+abbrev pub with_moves : State → State
+with_moves s = with_moves_by s.cause s
 
 -- ---- the step
 
@@ -262,7 +262,7 @@ woken design before triggered s =
     }
 
 abbrev pub turned : Design → ℕ → Did → State → Turn
-turned design p did s = record { state = closed (woken design s.values did.deed.triggered (acted p did s)); deed = did.deed }
+turned design p did s = record { state = with_moves (woken design s.values did.deed.triggered (acted p did s)); deed = did.deed }
 
 -- nothing happens
 abbrev pub unmoved : State → Turn
@@ -322,7 +322,7 @@ updated s = record s {
 
 -- the time goes on to the next future time, whose processes become active and whose updates are posted in their order; the monitor
 -- events ran at the end of the slot
-abbrev pub advanced_to : List (ℕ × Slot) → Queue → Queue
+abbrev pub advanced_to : List (ℕ × Later) → Queue → Queue
 advanced_to [] q = q
 advanced_to (e ∷ es) q =
     record q { time = e.0; last = None; active = e.1.processes; posted = e.1.updates; strobes = []; future = es }
@@ -330,9 +330,9 @@ advanced_to (e ∷ es) q =
 abbrev pub turn_of : Design → Choice → State → Turn
 turn_of design (Run p) s = process_turn design p s
 turn_of design Update s =
-    record { state = closed (woken design s.values None (updated s)); deed = record quiet { wrote = first_of s.queue.activated } }
+    record { state = with_moves (woken design s.values None (updated s)); deed = record quiet { wrote = first_of s.queue.activated } }
 turn_of design Advance s =
-    record { state = closed (record s { queue = advanced_to s.queue.future s.queue }); deed = quiet }
+    record { state = with_moves (record s { queue = advanced_to s.queue.future s.queue }); deed = quiet }
 
 abbrev pub turn_by : Design → Option Choice → State → Turn
 turn_by design None s = unmoved s

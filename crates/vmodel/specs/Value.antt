@@ -1,5 +1,5 @@
 -- What assignments write (IEEE 1364-2005, 5.1.14, 5.2.1, 5.4.1, 6.2).
-use Rattle.std.specs.Prelude.{ℕ, ◌-◌, nat_le, min, max, false, cond, List, [], ◌∷◌, ◌++◌, length, take, drop, Option, None, Some}
+use Rattle.std.specs.Prelude.{ℕ, ◌-◌, nat_le, min, max, false, if◌then◌else◌, List, [], ◌∷◌, ◌++◌, length, take, drop, Option, None, Some}
 use Rattle.vbits.specs.declared.bit4.Bit4.{Bit4}
 use Rattle.vbits.specs.Vectors.{Vector, resize}
 use Rattle.vdesign.specs.Expressions.{ExpressionTree}
@@ -41,7 +41,7 @@ shared now (target ∷ more) letters =
 -- what the targets get of a value of as many bits as they have together. More than 64 bits are no design's (E306), and are not
 -- written
 abbrev pub given : Moment → List Target → Vector → List Part
-given now targets value = cond (nat_le (targets_size now targets) 64) (shared now targets value.letters) []
+given now targets value = if nat_le (targets_size now targets) 64 then shared now targets value.letters else []
 
 -- 5.4.1, 5.5.3, 6.2: the parts that an assignment writes: the right side, cut or extended to the bits of all targets together, is
 -- shared among them

@@ -1,6 +1,6 @@
 -- What wakes a process that waits (IEEE 1364-2005, 9.7.2, 9.7.3): a change, which is the difference of a variable before and after
 -- a step, or that the step triggers a named event.
-use Rattle.std.specs.Prelude.{ℕ, suc, Bool, false, not, ◌||◌, cond, ◌==◌, nat_lt, List, [], ◌∷◌, Option, Some, None, slice_get, unwrap_or}
+use Rattle.std.specs.Prelude.{ℕ, suc, Bool, false, not, ◌||◌, if◌then◌else◌, ◌==◌, nat_lt, List, [], ◌∷◌, Option, Some, None, slice_get, unwrap_or}
 use Rattle.vbits.specs.declared.bit4.Bit4.{Bit4}
 use Rattle.vbits.specs.declared.bit4.Bit4.TheVariants.{Zero, One, X, Z}
 use Rattle.vbits.specs.Vectors.{Vector, vector_same}
@@ -61,9 +61,9 @@ wakes actions before after triggered process = wakes_at actions before after tri
 
 -- one that wakes doesn't wait any more
 abbrev pub awake : (Process → Bool) → Process → Process
-awake wakes process = cond (wakes process) (record process { waits = None }) process
+awake wakes process = if wakes process then record process { waits = None } else process
 
 -- the active processes with those that wake, of processes that are numbered from n on
 abbrev pub with_awake : (Process → Bool) → ℕ → List Process → List ℕ → List ℕ
 with_awake wakes n [] active = active
-with_awake wakes n (process ∷ rest) active = with_awake wakes (suc n) rest (cond (wakes process) (with_process n active) active)
+with_awake wakes n (process ∷ rest) active = with_awake wakes (suc n) rest (if wakes process then with_process n active else active)

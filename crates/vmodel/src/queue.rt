@@ -22,9 +22,9 @@ pub(crate) struct Future {
 
 impl Model for Future {
     ghost use Rattle.std.specs.Prelude.{ℕ};
-    ghost use Rattle.vmodel.specs.Queue.{Slot};
+    ghost use Rattle.vmodel.specs.Queue.{Later};
 
-    ghost Value = { ℕ × Slot };
+    ghost Value = { ℕ × Later };
 
     ghost view = { λ f. (f.time, record { processes = f.processes; updates = f.updates.items }) };
 }

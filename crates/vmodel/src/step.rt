@@ -2,7 +2,7 @@
 
 ghost use Rattle.std.specs.Prelude.{◌≡◌, ℕ, List, ◌<◌, ◌++◌, [], IfOk, OnOk, OnErr, IfSome, IfNone, length, slice_get, slice_set, drop};
 ghost use Rattle.std.specs.Option.{option_to_list};
-ghost use Rattle.vmodel.specs.Step.{spots, going, process_by, fares, posts, woken, closed, left_of, moment_of, process_turn, turn_of, next, slot_end_of, items_of};
+ghost use Rattle.vmodel.specs.Step.{spots, going, process_by, fares, posts, woken, with_moves, left_of, moment_of, process_turn, turn_of, next, slot_end_of, items_of};
 ghost use Rattle.vmodel.specs.Parts.{write, written};
 ghost use Rattle.vmodel.specs.declared.process.Spot.{Spot};
 ghost use Rattle.vdesign.specs.Design.{Design};
@@ -147,7 +147,7 @@ pub fn moment_at<'m>(design: &'m Design, values: &'m [Vec4], time: u64) -> Momen
 impl SlowState {
     // The region moves; after `$finish` and `$stop` there are none.
     fn close(&mut self)
-        ensures { self.new ≡ closed self.old }
+        ensures { self.new ≡ with_moves self.old }
     {
         if self.cause.is_none() {
             self.queue.settle();
@@ -263,7 +263,7 @@ impl SlowState {
 
     // What the step wrote is written, it may end the run, and the regions move.
     fn finish(&mut self, design: &Design, deed: &Deed)
-        ensures { self.new ≡ closed (ended deed.now.cause
+        ensures { self.new ≡ with_moves (ended deed.now.cause
             (woken design.now self.old.values deed.now.triggered
             (record self.old { values = written deed.now.wrote self.old.values }))) }
     {
@@ -351,7 +351,8 @@ pub fn slow_width(state: &SlowState) -> u32
 }
 
 /// The state after the step of choice `i`, with what the step gives to the history, in order. Where there is no such
-/// choice nothing happens. The state is copied; E901 is the only refusal.
+/// choice the state stays, and at a slot's end, or a run's, the items that stand there come again. The state is copied;
+/// E901 is the only refusal.
 pub fn slow_step(
     alloc: Global,
     design: &Design,

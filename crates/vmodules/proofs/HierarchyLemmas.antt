@@ -10,12 +10,13 @@ use Rattle.std.proofs.lemmas.Bool.Decides.{nat_tests}
 use Rattle.std.proofs.lemmas.List.Folds.{list_any-append, find_at}
 use Rattle.std.proofs.lemmas.Slice.Eq.{bytes_eq-Decides}
 use Rattle.vast.specs.Words.{Text}
-use Rattle.vast.specs.Modules.{ModuleTree, SourceTree}
-use Rattle.vast.specs.ModuleTrees.{module_tree}
+use Rattle.vast.specs.NumberedWords.{Word}
+use Rattle.vast.specs.NumberedModules.{ModuleTree, SourceTree}
+use Rattle.vast.specs.NumberedTrees.{module_tree}
 use Rattle.vast.specs.declared.module.ModuleTree.{ModuleTree as Parsed}
-use Rattle.vmodules.specs.Names.{is_declared}
-use Rattle.vmodules.specs.Hierarchy.{module_names, module_of, instantiated, roots, only_of}
-use Rattle.vmodules.specs.Inner.{Units, units_tree, unit_tree, HoldSame}
+use Rattle.vmodules.specs.Names.{is_declared, letters_of}
+use Rattle.vmodules.specs.Hierarchy.{module_names, module_of, instantiated, roots, only_of, second_of}
+use Rattle.vmodules.specs.Inner.{Units, units_tree, unit_tree, second_behind, HoldSame}
 
 -- ---- modules by name
 
@@ -39,21 +40,24 @@ slice_map f [] (suc i) = refl
 slice_map f (x ∷ xs) zero = refl
 slice_map f (x ∷ xs) (suc i) = slice_map f xs i
 
-prefix_names : (letters : Text) (modules : SourceTree) → prefix_len (λ t. not (bytes_eq letters t)) (module_names modules) ≡ position_or_len (λ (m : ModuleTree). bytes_eq m.name letters) modules
+prefix_names : (letters : Text) (modules : SourceTree) → prefix_len (λ t. not (bytes_eq letters t)) (letters_of (module_names modules)) ≡ position_or_len (λ (m : ModuleTree). bytes_eq m.name.letters letters) modules
 prefix_names letters [] = refl
-prefix_names letters (m ∷ ms) = λ i. cond (not (nat_list_eq_equiv.symm letters m.name i)) (1 + prefix_names letters ms i) 0
+prefix_names letters (m ∷ ms) = λ i. cond (not (nat_list_eq_equiv.symm letters m.name.letters i)) (1 + prefix_names letters ms i) 0
 
 -- the first of a name stands at the first place of that name
-module_at : (letters : Text) (modules : SourceTree) → option_and_then (slice_get modules) (position (bytes_eq letters) (module_names modules)) ≡ module_of modules letters
+module_at : (letters : Text) (modules : SourceTree) → option_and_then (slice_get modules) (position (bytes_eq letters) (letters_of (module_names modules))) ≡ module_of modules letters
 module_at letters modules =
-    ap (option_and_then (slice_get modules)) (λ i. found (prefix_names letters modules i) (length-map modules (λ (m : ModuleTree). m.name) i))
-    ∙ slice_within (position_or_len (λ (m : ModuleTree). bytes_eq m.name letters) modules) modules
-    ∙ sym (find_at (λ (m : ModuleTree). bytes_eq m.name letters) modules)
+    ap (option_and_then (slice_get modules)) (λ i. found (prefix_names letters modules i) (count i))
+    ∙ slice_within (position_or_len (λ (m : ModuleTree). bytes_eq m.name.letters letters) modules) modules
+    ∙ sym (find_at (λ (m : ModuleTree). bytes_eq m.name.letters letters) modules)
   where
     found : ℕ → ℕ → Option ℕ
     found n m = cond (nat_lt n m) (Some n) None
 
-pub found_unit : (units : Units) (names : List Text) (name : Text) (place : Option ℕ) → names ≡ module_names (units_tree units) → place ≡ position (bytes_eq name) names →
+    count : length (letters_of (module_names modules)) ≡ length modules
+    count = length-map (module_names modules) (λ (w : Word). w.letters) ∙ length-map modules (λ (m : ModuleTree). m.name)
+
+pub found_unit : (units : Units) (names : List Text) (name : Text) (place : Option ℕ) → names ≡ letters_of (module_names (units_tree units)) → place ≡ position (bytes_eq name) names →
     option_and_then (slice_get (units_tree units)) place ≡ module_of (units_tree units) name
 found_unit units names name place are is =
     ap (option_and_then (slice_get (units_tree units))) (is ∙ ap (position (bytes_eq name)) are) ∙ module_at name (units_tree units)
@@ -113,16 +117,47 @@ holds_all done left all none same text = ap (λ l. is_declared l text) (sym (app
 -- ---- the only module outside
 
 pub outside_same : (xs ys : List Text) (modules : List ModuleTree) → HoldSame xs ys →
-    filter (λ m. not (is_declared xs m.name)) modules ≡ filter (λ m. not (is_declared ys m.name)) modules
-outside_same xs ys modules same = λ i. filter (λ m. not (same m.name i)) modules
+    filter (λ m. not (is_declared xs m.name.letters)) modules ≡ filter (λ m. not (is_declared ys m.name.letters)) modules
+outside_same xs ys modules same = λ i. filter (λ m. not (same m.name.letters i)) modules
 
 -- the only module outside the names that have instances
 pub root_is : (words same_words : List Text) (list same_list : List Parsed) (names : List Text) (unit : Option (Bor Parsed)) → same_words ≡ words → same_list ≡ list →
     HoldSame names (instantiated (map (module_tree same_words) same_list)) →
-    unit_tree same_words unit ≡ only_of (filter (λ m. not (is_declared names m.name)) (map (module_tree same_words) same_list)) →
+    unit_tree same_words unit ≡ only_of (filter (λ m. not (is_declared names m.name.letters)) (map (module_tree same_words) same_list)) →
     unit_tree words unit ≡ only_of (roots (map (module_tree words) list))
 root_is words same_words list same_list names unit e d same is =
     sym (ap (λ (w : List Text). unit_tree w unit) e)
     ∙ is
     ∙ ap only_of (outside_same names (instantiated (map (module_tree same_words) same_list)) (map (module_tree same_words) same_list) same)
     ∙ (λ i. only_of (roots (map (module_tree (e i)) (d i))))
+
+-- ---- the second module outside
+
+-- a module that is outside, and one that isn't
+pub one_outside : (m : ModuleTree) (more : List ModuleTree) → second_behind false (m ∷ more) ≡ second_behind true more
+one_outside m [] = refl
+one_outside m (other ∷ more) = refl
+
+pub kept_outside : (names : List Text) (m : ModuleTree) (more : List ModuleTree) → is_declared names m.name.letters ≡ false →
+    filter (λ m. not (is_declared names m.name.letters)) (m ∷ more) ≡ m ∷ filter (λ m. not (is_declared names m.name.letters)) more
+kept_outside names m more e = ap (λ b. if not b then m ∷ rest else rest) e
+  where
+    rest : List ModuleTree
+    rest = filter (λ m. not (is_declared names m.name.letters)) more
+
+pub left_inside : (names : List Text) (m : ModuleTree) (more : List ModuleTree) → is_declared names m.name.letters ≡ true →
+    filter (λ m. not (is_declared names m.name.letters)) (m ∷ more) ≡ filter (λ m. not (is_declared names m.name.letters)) more
+left_inside names m more e = ap (λ b. if not b then m ∷ rest else rest) e
+  where
+    rest : List ModuleTree
+    rest = filter (λ m. not (is_declared names m.name.letters)) more
+
+-- the second module outside the names that have instances
+pub second_is : (words same_words : List Text) (list same_list : List Parsed) (names : List Text) (at : Option ℕ) → same_words ≡ words → same_list ≡ list →
+    HoldSame names (instantiated (map (module_tree same_words) same_list)) →
+    at ≡ option_map (λ (w : Word). w.number) (second_of (filter (λ m. not (is_declared names m.name.letters)) (map (module_tree same_words) same_list))) →
+    at ≡ option_map (λ (w : Word). w.number) (second_of (roots (map (module_tree words) list)))
+second_is words same_words list same_list names at e d same is =
+    is
+    ∙ ap (λ l. option_map (λ (w : Word). w.number) (second_of l)) (outside_same names (instantiated (map (module_tree same_words) same_list)) (map (module_tree same_words) same_list) same)
+    ∙ (λ i. option_map (λ (w : Word). w.number) (second_of (roots (map (module_tree (e i)) (d i)))))

@@ -1,9 +1,13 @@
 -- A loop over a list that builds another: what was done and what is left to do make the whole. And faults that `?` hands on.
-use Rattle.std.proofs.Common.{◌≡◌, ◌<◌, ℕ, ◌+◌, true, List, ◌∷◌, ◌++◌, length, drop, get_or, Result, Ok, Err, IsErrAnd, sym, ap, subst, ◌∙◌, append_assoc}
+use Rattle.std.proofs.Common.{◌≡◌, ◌<◌, ◌≤◌, ℕ, ◌+◌, true, false, List, [], ◌∷◌, ◌++◌, Option, None, Some, option_map, refl, length, drop, get_or, Result, Ok, Err, IsErrAnd, sym, ap, subst, ◌∙◌, append_assoc}
 use Rattle.basis.proofs.Lists.{left_from}
 use Rattle.vast.specs.Words.{Text}
-use Rattle.vmodules.specs.Names.{is_declared, has_double}
-use Rattle.vmodules.proofs.NameLemmas.{doubles, doubles_in}
+use Rattle.std.specs.Option.{option_or}
+use Rattle.std.proofs.lemmas.List.{map-append, drop_all}
+use Rattle.vast.specs.NumberedWords.{Word}
+use Rattle.vmodules.specs.Names.{is_declared, letters_of, again_behind}
+use Rattle.vmodules.specs.Inner.{with_words, IsTold}
+use Rattle.vmodules.proofs.NameLemmas.{again_here, again_next, again_append}
 use Rattle.basis.specs.declared.memory.OrMemory.{OrMemory}
 use Rattle.basis.specs.declared.memory.OrMemory.TheVariants.{Fault, Memory}
 use Rattle.basis.specs.Reasons.{Because, IfFault}
@@ -23,16 +27,72 @@ module _ {A : Type 0} (xs : List A) (i : ℕ) (x : A) (within : i < length xs) (
         ∙ append_assoc done (h x) (F (drop (i + 1) xs))
         ∙ opened done all same
 
-  module _ (F : List A → List Text) (names all : List Text) (same : names ++ F (drop i xs) ≡ all) where
-    -- the next name stands before
-    pub next_doubles : (g : A → Text) → ((y : A) (ys : List A) → F (y ∷ ys) ≡ g y ∷ F ys) → (name : Text) → name ≡ g x → is_declared names name ≡ true → has_double all ≡ true
-    next_doubles g splits name e there =
-        doubles names (F (drop (i + 1) xs)) all name
-        (ap (λ n. names ++ n ∷ F (drop (i + 1) xs)) e ∙ sym (ap (λ l. names ++ l) (ap F drop_at ∙ splits x (drop (i + 1) xs))) ∙ same) there
+  -- words, one for each
+  module _ (F : List A → List Word) (g : A → Word) (opens : (y : A) (ys : List A) → F (y ∷ ys) ≡ g y ∷ F ys) (names : List Text) (text : Text) (is_text : text ≡ (g x).letters) where
+    -- the letters of this one stand behind the names
+    pub word_names : (next all : List Text) → next ≡ names ++ text ∷ [] → with_words names (F (drop i xs)) ≡ all → with_words next (F (drop (i + 1) xs)) ≡ all
+    word_names next all added same =
+        ap (λ l. l ++ letters_of (F (drop (i + 1) xs))) (added ∙ ap (λ t. names ++ t ∷ []) is_text)
+        ∙ append_assoc names ((g x).letters ∷ []) (letters_of (F (drop (i + 1) xs)))
+        ∙ ap (λ l. names ++ letters_of l) (sym (ap F drop_at ∙ opens x (drop (i + 1) xs)))
+        ∙ same
 
-    -- the next names make one stand twice
-    pub part_doubles : (h : A → List Text) → ((y : A) (ys : List A) → F (y ∷ ys) ≡ h y ++ F ys) → has_double (names ++ h x) ≡ true → has_double all ≡ true
-    part_doubles h splits twice = doubles_in names (h x) (F (drop (i + 1) xs)) all (opened F h splits names all same) twice
+    -- it is new
+    pub word_new : (next : List Text) (told : Option Word) → next ≡ names ++ text ∷ [] → is_declared names text ≡ false →
+        again_behind names (F (drop i xs)) ≡ told → again_behind next (F (drop (i + 1) xs)) ≡ told
+    word_new next told added new same =
+        ap (λ l. again_behind l (F (drop (i + 1) xs))) (added ∙ ap (λ t. names ++ t ∷ []) is_text)
+        ∙ sym (again_next names (g x) (F (drop (i + 1) xs)) (ap (is_declared names) (sym is_text) ∙ new))
+        ∙ ap (again_behind names) (sym (ap F drop_at ∙ opens x (drop (i + 1) xs)))
+        ∙ same
+
+    -- it stands before
+    pub word_again : (told : Option Word) (number : ℕ) → number ≡ (g x).number → is_declared names text ≡ true →
+        again_behind names (F (drop i xs)) ≡ told → IsTold told number
+    word_again told number is there same =
+        ap (option_map (λ (w : Word). w.number)) (sym same ∙ ap (again_behind names) (ap F drop_at ∙ opens x (drop (i + 1) xs)) ∙ again_here names (g x) (F (drop (i + 1) xs)) (ap (is_declared names) (sym is_text) ∙ there))
+        ∙ ap Some (sym is)
+
+  -- words, several for each
+  module _ (F : List A → List Word) (h : A → List Word) (opens : (y : A) (ys : List A) → F (y ∷ ys) ≡ h y ++ F ys) (names : List Text) where
+    pub opened_again : (told : Option Word) → again_behind names (F (drop i xs)) ≡ told →
+        option_or (again_behind names (h x)) (again_behind (with_words names (h x)) (F (drop (i + 1) xs))) ≡ told
+    opened_again told same =
+        sym (ap (again_behind names) (ap F drop_at ∙ opens x (drop (i + 1) xs)) ∙ again_append names (h x) (F (drop (i + 1) xs))) ∙ same
+
+    pub words_names : (next all : List Text) → next ≡ with_words names (h x) → with_words names (F (drop i xs)) ≡ all → with_words next (F (drop (i + 1) xs)) ≡ all
+    words_names next all added same =
+        ap (λ l. l ++ letters_of (F (drop (i + 1) xs))) added
+        ∙ append_assoc names (letters_of (h x)) (letters_of (F (drop (i + 1) xs)))
+        ∙ ap (λ l. names ++ l) (sym (map-append (λ (w : Word). w.letters) (h x) (F (drop (i + 1) xs))))
+        ∙ ap (λ l. names ++ letters_of l) (sym (ap F drop_at ∙ opens x (drop (i + 1) xs)))
+        ∙ same
+
+    pub words_new : (next : List Text) (told : Option Word) → next ≡ with_words names (h x) → again_behind names (h x) ≡ None →
+        again_behind names (F (drop i xs)) ≡ told → again_behind next (F (drop (i + 1) xs)) ≡ told
+    words_new next told added none same =
+        ap (λ l. again_behind l (F (drop (i + 1) xs))) added
+        ∙ sym (ap (λ o. option_or o (again_behind (with_words names (h x)) (F (drop (i + 1) xs)))) none)
+        ∙ opened_again told same
+
+    pub words_again : (told : Option Word) (number : ℕ) → IsTold (again_behind names (h x)) number → again_behind names (F (drop i xs)) ≡ told → IsTold told number
+    words_again told number is same = by (again_behind names (h x)) is (opened_again told same)
+      where
+        by : (o : Option Word) → IsTold o number → option_or o (again_behind (with_words names (h x)) (F (drop (i + 1) xs))) ≡ told → IsTold told number
+        by None e f = absurd cc
+        by (Some w) e f = ap (option_map (λ (w : Word). w.number)) (sym f) ∙ e
+
+-- nothing is left
+module _ {A : Type 0} (xs : List A) (i : ℕ) (done : length xs ≤ i) (F : List A → List Word) (empty : F [] ≡ []) (names : List Text) where
+  pub words_all : (all : List Text) → with_words names (F (drop i xs)) ≡ all → names ≡ all
+  words_all all same = sym (nothing_behind names) ∙ sym (ap (with_words names) (ap F (drop_all i xs done) ∙ empty)) ∙ same
+    where
+      nothing_behind : (l : List Text) → l ++ [] ≡ l
+      nothing_behind [] = refl
+      nothing_behind (x ∷ xs) = ap (λ l. x ∷ l) (nothing_behind xs)
+
+  pub none_again : (told : Option Word) → again_behind names (F (drop i xs)) ≡ told → told ≡ None
+  none_again told same = sym same ∙ ap (again_behind names) (ap F (drop_all i xs done) ∙ empty)
 
 -- a fault that `?` hands on
 pub handed_on : {T F : Type 0} (P Q : F → Type 0) (result : Result T (OrMemory F)) (e : OrMemory F) → IsErrAnd result (λ y. y ≡ e) →

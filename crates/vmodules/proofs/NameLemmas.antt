@@ -5,9 +5,11 @@ use Rattle.std.specs.Str.{bytes_eq}
 use Rattle.std.specs.Cmp.Lexicographic.{nat_list_eq_equiv}
 use Rattle.std.proofs.lemmas.List.{length-map, map-append}
 use Rattle.std.proofs.lemmas.List.Folds.{list_any-append}
-use Rattle.basis.proofs.Bools.{or_first, or_second, or_left, or_right}
+use Rattle.basis.proofs.Bools.{or_second, or_left, or_right}
 use Rattle.vast.specs.Words.{Text}
-use Rattle.vmodules.specs.Names.{is_declared, has_double}
+use Rattle.std.specs.Option.{option_or}
+use Rattle.vast.specs.NumberedWords.{Word}
+use Rattle.vmodules.specs.Names.{is_declared, has_double, letters_of, again_behind}
 
 abbrev pub texts : List (Bor Text) → List Text
 texts = map (λ key. key.now)
@@ -70,21 +72,33 @@ no_double-inserted keys new key none is = by (list_any (λ (k : Bor Text). bytes
         ∙ ap has_double (map-append (λ (k : Bor Text). k.now) keys (key ∷ []))
         ∙ no_double-push (texts keys) key.now none (sym (any-texts (bytes_eq key.now) keys) ∙ e)
 
--- what stands twice in a list stands twice where more follows
-pub double_front : (xs ys : List Text) → has_double xs ≡ true → has_double (xs ++ ys) ≡ true
-double_front [] ys twice = absurd (true≢false (sym twice))
-double_front (x ∷ xs) ys twice = by (list_any (bytes_eq x) xs) refl (double_front xs ys)
-  where
-    by : (b : Bool) → list_any (bytes_eq x) xs ≡ b → (has_double xs ≡ true → has_double (xs ++ ys) ≡ true) →
-        (list_any (bytes_eq x) (xs ++ ys) || has_double (xs ++ ys)) ≡ true
-    by true e later = or_first (list_any (bytes_eq x) (xs ++ ys)) (has_double (xs ++ ys)) (list_any-append (bytes_eq x) xs ys ∙ or_first (list_any (bytes_eq x) xs) (list_any (bytes_eq x) ys) e)
-    by false e later = or_second (list_any (bytes_eq x) (xs ++ ys)) (has_double (xs ++ ys)) (later (sym (ap (λ b. b || has_double xs) e) ∙ twice))
-
 -- the next name stands before
 pub doubles : (names rest all : List Text) (name : Text) → names ++ name ∷ rest ≡ all → is_declared names name ≡ true → has_double all ≡ true
 doubles names rest all name is there = subst (λ l. has_double l ≡ true) is (double_at names rest name there)
 
--- the next names make one stand twice
-pub doubles_in : (names piece rest all : List Text) → names ++ (piece ++ rest) ≡ all → has_double (names ++ piece) ≡ true → has_double all ≡ true
-doubles_in names piece rest all is twice =
-    subst (λ l. has_double l ≡ true) (append_assoc names piece rest ∙ is) (double_front (names ++ piece) rest twice)
+-- ---- words that stand again
+
+-- the next word stands before
+pub again_here : (names : List Text) (word : Word) (more : List Word) → is_declared names word.letters ≡ true → again_behind names (word ∷ more) ≡ Some word
+again_here names word more there = ap (λ b. if b then Some word else again_behind (names ++ word.letters ∷ []) more) there
+
+-- the next word is new
+pub again_next : (names : List Text) (word : Word) (more : List Word) → is_declared names word.letters ≡ false →
+    again_behind names (word ∷ more) ≡ again_behind (names ++ word.letters ∷ []) more
+again_next names word more new = ap (λ b. if b then Some word else again_behind (names ++ word.letters ∷ []) more) new
+
+-- words in front of others
+pub again_append : (names : List Text) (words more : List Word) →
+    again_behind names (words ++ more) ≡ option_or (again_behind names words) (again_behind (names ++ letters_of words) more)
+again_append names [] more = ap (λ l. again_behind l more) (sym (nothing_behind names))
+  where
+    nothing_behind : (l : List Text) → l ++ [] ≡ l
+    nothing_behind [] = refl
+    nothing_behind (x ∷ xs) = ap (λ l. x ∷ l) (nothing_behind xs)
+again_append names (word ∷ words) more = by (is_declared names word.letters) (again_append (names ++ word.letters ∷ []) words more)
+  where
+    by : (b : Bool) → again_behind (names ++ word.letters ∷ []) (words ++ more) ≡ option_or (again_behind (names ++ word.letters ∷ []) words) (again_behind ((names ++ word.letters ∷ []) ++ letters_of words) more) →
+        (if b then Some word else again_behind (names ++ word.letters ∷ []) (words ++ more))
+        ≡ option_or (if b then Some word else again_behind (names ++ word.letters ∷ []) words) (again_behind (names ++ word.letters ∷ letters_of words) more)
+    by true later = refl
+    by false later = later ∙ ap (λ l. option_or (again_behind (names ++ word.letters ∷ []) words) (again_behind l more)) (append_assoc names (word.letters ∷ []) (letters_of words))

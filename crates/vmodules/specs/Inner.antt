@@ -1,13 +1,13 @@
 -- What the calls are told by and answer, in the words of a text; nothing here has to be believed.
-use Rattle.std.specs.Prelude.{◌≡◌, List, [], ◌∷◌, map, Option, None, Some, option_map, Bool, if◌then◌else◌}
+use Rattle.std.specs.Prelude.{◌≡◌, ℕ, ◌++◌, List, [], ◌∷◌, map, Option, None, Some, option_map, Bool, true, false, if◌then◌else◌}
 use Rattle.std.specs.Borrow.{Bor}
 use Rattle.std.specs.List.{flat_map}
 use Rattle.vast.specs.Words.{Text}
-use Rattle.vast.specs.TokenTexts.{token_text}
-use Rattle.vast.specs.Expressions.{ExpressionTree}
-use Rattle.vast.specs.ExpressionTrees.{tree_of}
-use Rattle.vast.specs.Modules.{TypeTree, DirectionTree, ConnectionTree, ModuleTree, SourceTree}
-use Rattle.vast.specs.ModuleTrees.{module_tree, type_tree, direction_tree, setting_tree, head_parameter, item_tree}
+use Rattle.vast.specs.NumberedWords.{Word, numbered}
+use Rattle.vast.specs.NumberedExpressions.{ExpressionTree}
+use Rattle.vast.specs.NumberedTrees.{tree_of}
+use Rattle.vast.specs.NumberedModules.{TypeTree, DirectionTree, ModuleTree, SourceTree}
+use Rattle.vast.specs.NumberedTrees.{module_tree, type_tree, direction_tree, setting_tree, head_parameter, item_tree}
 use Rattle.vast.specs.declared.expression.Expression.{Expression}
 use Rattle.vast.specs.declared.module.ModuleTree.{ModuleTree as Parsed}
 use Rattle.vast.specs.declared.module.SignAndRange.{SignAndRange}
@@ -15,9 +15,9 @@ use Rattle.vast.specs.declared.module.Direction.{Direction}
 use Rattle.vast.specs.declared.module.HeadParameter.{HeadParameter}
 use Rattle.vast.specs.declared.module.Setting.{Setting}
 use Rattle.vast.specs.declared.module.ModuleItem.{ModuleItem}
-use Rattle.vmodules.specs.Names.{is_declared}
-use Rattle.vmodules.specs.Hierarchy.{module_names}
-use Rattle.vmodules.specs.Connected.{open_by}
+use Rattle.vmodules.specs.Names.{is_declared, letters_of}
+use Rattle.vmodules.specs.Hierarchy.{module_names, second_of}
+use Rattle.vmodules.specs.Connected.{Tied, open_by}
 use Rattle.vmodules.specs.Ports.{Port, bare}
 use Rattle.vmodules.specs.declared.ports.PortForm.{PortForm}
 
@@ -26,7 +26,7 @@ pub record Units : Type 0 where
   pub words : List Text
   pub list : List Parsed
 
-abbrev pub unit_names : List Text → List Parsed → List Text
+abbrev pub unit_names : List Text → List Parsed → List Word
 unit_names words list = module_names (map (module_tree words) list)
 
 -- their trees
@@ -36,6 +36,14 @@ units_tree units = map (module_tree units.words) units.list
 -- the tree of a module that was found
 abbrev pub unit_tree : List Text → Option (Bor Parsed) → Option ModuleTree
 unit_tree words = option_map (λ unit. module_tree words unit.now)
+
+-- a word is told of by this number
+abbrev pub IsTold : Option Word → ℕ → Type 0
+IsTold word number = option_map (λ (w : Word). w.number) word ≡ Some number
+
+-- the names behind which words were put
+abbrev pub with_words : List Text → List Word → List Text
+with_words names words = names ++ letters_of words
 
 -- one or none, as a list
 abbrev pub all_of : {A : Type 0} → Option A → List A
@@ -61,7 +69,7 @@ direction_of words = option_map (λ direction. direction_tree words direction.no
 
 -- the port of a form
 abbrev pub port_form : List Text → PortForm → Port
-port_form words form = record { name = token_text words form.name; output = form.output; net = form.net; type = type_for words form.kind }
+port_form words form = record { name = numbered words form.name; output = form.output; net = form.net; type = type_for words form.kind }
 
 -- a name, with what is connected to it
 abbrev pub Tie : Type 0
@@ -71,25 +79,31 @@ Tie = Text × Option (Bor Expression)
 abbrev pub value_tree : List Text → Option (Bor Expression) → Option ExpressionTree
 value_tree words = option_map (λ value. tree_of words value.now)
 
-abbrev pub tie_tree : List Text → Tie → ConnectionTree
+abbrev pub tie_tree : List Text → Tie → Tied
 tie_tree words tie = record { name = tie.0; value = value_tree words tie.1 }
 
-abbrev pub ties_tree : List Text → List Tie → List ConnectionTree
+abbrev pub ties_tree : List Text → List Tie → List Tied
 ties_tree words = map (tie_tree words)
 
 abbrev pub tie_names : List Tie → List Text
 tie_names = map (λ tie. tie.0)
 
 -- the names of parameters
-abbrev pub setting_names : List Text → List Setting → List Text
+abbrev pub setting_names : List Text → List Setting → List Word
 setting_names words settings = map (λ setting. setting.name) (map (setting_tree words) settings)
 
-abbrev pub head_names : List Text → List HeadParameter → List Text
+abbrev pub head_names : List Text → List HeadParameter → List Word
 head_names words list = map (λ head. head.setting.name) (map (head_parameter words) list)
 
-abbrev pub open_settings : List Text → Bool → List Setting → List Text
+abbrev pub open_settings : List Text → Bool → List Setting → List Word
 open_settings words local settings = if local then [] else setting_names words settings
 
 -- those that items open to overrides
-abbrev pub open_in : List Text → List ModuleItem → List Text
+abbrev pub open_in : List Text → List ModuleItem → List Word
 open_in words items = flat_map open_by (map (item_tree words) items)
+
+-- the name of the second of these modules, where one may stand before them
+abbrev pub second_behind : Bool → List ModuleTree → Option Word
+second_behind true [] = None
+second_behind true (m ∷ more) = Some m.name
+second_behind false modules = second_of modules

@@ -1,13 +1,13 @@
 -- The ports of a module, each with its whole direction (IEEE 1364-2005, 12.3.3, 12.3.4).
 use Rattle.std.specs.Prelude.{Bool, true, false, List, [], ◌∷◌, Option, None, Some, unwrap_or}
 use Rattle.std.specs.Option.{option_or}
-use Rattle.vast.specs.Words.{Text}
-use Rattle.vast.specs.Modules.{TypeTree, DirectionTree, input, output, PortTree, ModuleTree}
+use Rattle.vast.specs.NumberedWords.{Word}
+use Rattle.vast.specs.NumberedModules.{TypeTree, DirectionTree, input, output, PortTree, ModuleTree}
 use Rattle.vast.specs.declared.module.NetKind.{NetKind}
 use Rattle.vast.specs.declared.module.NetKind.TheVariants.{Wire}
 
 pub record Port : Type 0 where
-  pub name : Text
+  pub name : Word
   pub output : Bool
   pub net : NetKind
   pub type : TypeTree
@@ -17,7 +17,7 @@ abbrev pub bare : TypeTree
 bare = record { signed = false; range = None }
 
 -- 12.3.3: a port that goes this way is a net, save where a word says `reg`; without any direction it is an input
-abbrev pub port_by : Option DirectionTree → Text → Port
+abbrev pub port_by : Option DirectionTree → Word → Port
 port_by None name = record { name = name; output = false; net = Wire; type = bare }
 port_by (Some (input wire type)) name = record { name = name; output = false; net = Wire; type = type }
 port_by (Some (output net type)) name = record { name = name; output = true; net = unwrap_or net Wire; type = type }

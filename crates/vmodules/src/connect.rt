@@ -1,16 +1,16 @@
 // What is connected by order or by name (IEEE 1364-2005, 12.2.2, 12.3.5, 12.3.6).
 
-ghost use Rattle.std.specs.Prelude.{◌≡◌, ◌++◌, ◌∷◌, [], List, map, true, false, option_map, Some, IfOk, OnOk};
+ghost use Rattle.std.specs.Prelude.{◌≡◌, ◌++◌, ◌∷◌, [], List, map, true, false, option_map, None, Some, IfOk, OnOk};
 ghost use Rattle.basis.specs.Reasons.{IfFault};
 ghost use Rattle.vast.specs.Words.{Text};
-ghost use Rattle.vast.specs.Modules.{by_order, by_name};
-ghost use Rattle.vast.specs.ExpressionTrees.{tree_of};
-ghost use Rattle.vast.specs.ModuleTrees.{connection_tree, connections_tree};
+ghost use Rattle.vast.specs.NumberedWords.{numbered};
+ghost use Rattle.vast.specs.NumberedModules.{by_order, by_name};
+ghost use Rattle.vast.specs.NumberedTrees.{tree_of, connection_tree, connections_tree};
 ghost use Rattle.vexpr_parse.specs.Texts.{words_of};
 ghost use Rattle.vmodules.specs.Names.{is_declared};
 ghost use Rattle.vmodules.specs.Connected as spec;
-ghost use Rattle.vmodules.specs.Connected.{fits_names, fits_if, value_for};
-ghost use Rattle.vmodules.specs.Inner.{ties_tree, tie_names, value_tree};
+ghost use Rattle.vmodules.specs.Connected.{misfit, misfit_behind, misfit_if, value_for};
+ghost use Rattle.vmodules.specs.Inner.{ties_tree, tie_names, value_tree, IsTold};
 
 use crate::letters::letters;
 use crate::names::Names;
@@ -20,12 +20,13 @@ use std::alloc::Global;
 use std::marker::Model;
 use vast::expression::Expression;
 use vast::module::{Connection, Connections};
+use vast::token::Token;
 use vlex::Tokens;
 
-/// What is connected does not fit; `at` is the number of the token where that shows, if there is one.
+/// What is connected does not fit; `at` is the number of the token where that shows.
 #[derive(Clone, Copy, Debug, PartialEq, Eq)]
 pub struct Misfit {
-    pub at: Option<u32>,
+    pub at: u32,
 }
 
 /// Names with what is connected to each, where something is. A name is found by its bytes, at once.
@@ -62,11 +63,12 @@ impl<'t, 'u> Ties<'t, 'u> {
         &mut self,
         name: &'t [u8],
         value: Option<&'u Expression>,
-        at: Option<u32>,
+        at: u32,
     ) -> Result<(), OrMemory<Misfit>>
         ensures added { OnOk result (self.new ≡ self.old ++ (name.now, value.entry) ∷ []) }
         ensures fresh { OnOk result (is_declared (tie_names self.old) name.now ≡ false) }
-        ensures err { IfFault result (λ _. is_declared (tie_names self.old) name.now ≡ true) }
+        ensures err { IfFault result (λ misfit.
+            (is_declared (tie_names self.old) name.now ≡ true) × (misfit.at ≡ at)) }
     {
         let before = self.tied.insert(name, value)?;
         if before.is_some() {
@@ -90,22 +92,23 @@ impl<'t, 'u> Ties<'t, 'u> {
 // The first value for the first name, and so on.
 fn by_order<'t, 'u>(
     alloc: Global,
+    whose: Token,
     names: &Names<'t>,
     values: &'u [Expression],
 ) -> Result<Ties<'t, 'u>, OrMemory<Misfit>>
     ensures ok { (words : List Text) → IfOk result (λ ties.
         ties_tree words ties ≡ spec.matched names.now (by_order (map (tree_of words) values.now))) }
-    ensures fits { (words : List Text) → OnOk result
-        (fits_names names.now (by_order (map (tree_of words) values.now)) ≡ true) }
-    ensures err { (words : List Text) → IfFault result (λ _.
-        fits_names names.now (by_order (map (tree_of words) values.now)) ≡ false) }
+    ensures fits { (words : List Text) → OnOk result (misfit (numbered words whose) names.now
+        (by_order (map (tree_of words) values.now)) ≡ None) }
+    ensures err { (words : List Text) → IfFault result (λ f. IsTold (misfit
+        (numbered words whose) names.now (by_order (map (tree_of words) values.now))) f.at) }
 {
     let mut ties = Ties::new(alloc);
     if values.len() > names.len() {
-        return Err(OrMemory::Fault(Misfit { at: None }));
+        return Err(OrMemory::Fault(Misfit { at: whose.number }));
     }
     for place in 0..values.len() {
-        ties.add(names.name(place), Some(&values[place]), None)?;
+        ties.add(names.name(place), Some(&values[place]), whose.number)?;
     }
     Ok(ties)
 }
@@ -130,40 +133,41 @@ fn by_name<'t, 'u>(
 ) -> Result<Ties<'t, 'u>, OrMemory<Misfit>>
     ensures ok { IfOk result (λ ties. ties_tree (words_of tokens.now) ties ≡ spec.matched names.now
         (by_name (map (connection_tree (words_of tokens.now)) list.now))) }
-    ensures fits { OnOk result (fits_names names.now
-        (by_name (map (connection_tree (words_of tokens.now)) list.now)) ≡ true) }
-    ensures err { IfFault result (λ _. fits_names names.now
-        (by_name (map (connection_tree (words_of tokens.now)) list.now)) ≡ false) }
+    ensures fits { OnOk result (misfit_behind names.now []
+        (map (connection_tree (words_of tokens.now)) list.now) ≡ None) }
+    ensures err { IfFault result (λ f. IsTold (misfit_behind names.now []
+        (map (connection_tree (words_of tokens.now)) list.now)) f.at) }
 {
     let mut ties = Ties::new(alloc);
     for connection in list {
         let name = letters(tokens, connection.name);
         if names.place(name).is_none() {
             return Err(OrMemory::Fault(Misfit {
-                at: Some(connection.name.number),
+                at: connection.name.number,
             }));
         }
-        ties.add(name, value_of(connection), Some(connection.name.number))?;
+        ties.add(name, value_of(connection), connection.name.number)?;
     }
     Ok(ties)
 }
 
-/// What is connected to these names.
+/// What is connected to these names; more values than names are told of by the token of whose they are.
 pub fn matched<'t, 'u>(
     alloc: Global,
     tokens: &Tokens<'t>,
+    whose: Token,
     names: &Names<'t>,
     connections: &'u Connections,
 ) -> Result<Ties<'t, 'u>, OrMemory<Misfit>>
     ensures ok { IfOk result (λ ties. ties_tree (words_of tokens.now) ties ≡
         spec.matched names.now (connections_tree (words_of tokens.now) connections.now)) }
-    ensures fits { OnOk result
-        (fits_names names.now (connections_tree (words_of tokens.now) connections.now) ≡ true) }
-    ensures err { IfFault result (λ _.
-        fits_names names.now (connections_tree (words_of tokens.now) connections.now) ≡ false) }
+    ensures fits { OnOk result (misfit (numbered (words_of tokens.now) whose) names.now
+        (connections_tree (words_of tokens.now) connections.now) ≡ None) }
+    ensures err { IfFault result (λ f. IsTold (misfit (numbered (words_of tokens.now) whose)
+        names.now (connections_tree (words_of tokens.now) connections.now)) f.at) }
 {
     match connections {
-        Connections::ByOrder(values) => by_order(alloc, names, values),
+        Connections::ByOrder(values) => by_order(alloc, whose, names, values),
         Connections::ByName(list) => by_name(alloc, tokens, names, list),
     }
 }
@@ -172,18 +176,19 @@ pub fn matched<'t, 'u>(
 pub fn matched_if<'t, 'u>(
     alloc: Global,
     tokens: &Tokens<'t>,
+    whose: Token,
     names: &Names<'t>,
     overrides: &'u Option<Connections>,
 ) -> Result<Ties<'t, 'u>, OrMemory<Misfit>>
     ensures ok { IfOk result (λ ties. ties_tree (words_of tokens.now) ties ≡ spec.matched_if
         names.now (option_map (connections_tree (words_of tokens.now)) overrides.now)) }
-    ensures fits { OnOk result (fits_if names.now
-        (option_map (connections_tree (words_of tokens.now)) overrides.now) ≡ true) }
-    ensures err { IfFault result (λ _. fits_if names.now
-        (option_map (connections_tree (words_of tokens.now)) overrides.now) ≡ false) }
+    ensures fits { OnOk result (misfit_if (numbered (words_of tokens.now) whose) names.now
+        (option_map (connections_tree (words_of tokens.now)) overrides.now) ≡ None) }
+    ensures err { IfFault result (λ f. IsTold (misfit_if (numbered (words_of tokens.now) whose)
+        names.now (option_map (connections_tree (words_of tokens.now)) overrides.now)) f.at) }
 {
     match overrides {
         None => Ok(Ties::new(alloc)),
-        Some(connections) => matched(alloc, tokens, names, connections),
+        Some(connections) => matched(alloc, tokens, whose, names, connections),
     }
 }

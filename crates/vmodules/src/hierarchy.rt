@@ -1,16 +1,16 @@
 // The modules of a text by name, and which of them is the top (IEEE 1364-2005, 12.1).
 
-ghost use Rattle.std.specs.Prelude.{◌≡◌, ◌++◌, true, false, not, map, filter, slice_get, IfOk, OnOk};
+ghost use Rattle.std.specs.Prelude.{◌≡◌, ◌++◌, None, false, not, map, option_map, filter, slice_get, IfOk, OnOk};
 ghost use Rattle.std.specs.Option.{option_copied};
 ghost use Rattle.std.specs.List.{flat_map};
 ghost use Rattle.basis.specs.Reasons.{IfFault};
 ghost use Rattle.vast.specs.Words.{Text};
-ghost use Rattle.vast.specs.ModuleTrees.{item_tree, module_tree};
+ghost use Rattle.vast.specs.NumberedTrees.{item_tree, module_tree};
 ghost use Rattle.vexpr_parse.specs.Texts.{words_of};
-ghost use Rattle.vmodules.specs.Names.{has_double, is_declared};
+ghost use Rattle.vmodules.specs.Names.{first_again, has_double, is_declared, letters_of};
 ghost use Rattle.vmodules.specs.Hierarchy as spec;
-ghost use Rattle.vmodules.specs.Hierarchy.{instantiated, instantiated_by, only_of};
-ghost use Rattle.vmodules.specs.Inner.{unit_names, unit_tree, units_tree, named_text, HoldSame};
+ghost use Rattle.vmodules.specs.Hierarchy.{instantiated, instantiated_by, only_of, second_of};
+ghost use Rattle.vmodules.specs.Inner.{unit_names, unit_tree, units_tree, named_text, second_behind, HoldSame, IsTold};
 
 use crate::letters::letters;
 use crate::names::{Doubled, Names};
@@ -33,6 +33,7 @@ impl<'t, 'u> Model for Modules<'t, 'u> {
     ghost use Rattle.vexpr_parse.specs.Texts.{words_of};
     ghost use Rattle.std.specs.Coded.{codes};
     ghost use Rattle.vast.specs.contracts.module.ModuleTree as parsed;
+    ghost use Rattle.vmodules.specs.Names.{letters_of};
     ghost use Rattle.vmodules.specs.Inner.{Units, unit_names};
 
     ghost Value = { Units };
@@ -41,7 +42,7 @@ impl<'t, 'u> Model for Modules<'t, 'u> {
 
     ghost view = { λ m. record { words = words_of m.tokens.now; list = m.list.now } };
 
-    ghost invariant = { λ m. m.names ≡ unit_names (words_of m.tokens.now) m.list.now };
+    ghost invariant = { λ m. m.names ≡ letters_of (unit_names (words_of m.tokens.now) m.list.now) };
 }
 
 // The module at this place, where the list is long enough.
@@ -72,7 +73,7 @@ impl<'t, 'u> Modules<'t, 'u> {
     /// The modules in the order of the text.
     pub fn list(&self) -> &'u [ModuleTree]
         ensures list { result.now ≡ self.now.list }
-        ensures once { has_double (unit_names self.now.words self.now.list) ≡ false }
+        ensures once { has_double (letters_of (unit_names self.now.words self.now.list)) ≡ false }
     {
         let _count = self.names.len();
         self.list
@@ -85,10 +86,11 @@ fn names_of<'t>(
     tokens: &Tokens<'t>,
     list: &[ModuleTree],
 ) -> Result<Names<'t>, OrMemory<Doubled>>
-    ensures ok { IfOk result (λ names. names ≡ unit_names (words_of tokens.now) list.now) }
-    ensures once { OnOk result (has_double (unit_names (words_of tokens.now) list.now) ≡ false) }
-    ensures err { IfFault result (λ _.
-        has_double (unit_names (words_of tokens.now) list.now) ≡ true) }
+    ensures ok { IfOk result (λ names.
+        names ≡ letters_of (unit_names (words_of tokens.now) list.now)) }
+    ensures once { OnOk result (first_again (unit_names (words_of tokens.now) list.now) ≡ None) }
+    ensures err { IfFault result (λ doubled.
+        IsTold (first_again (unit_names (words_of tokens.now) list.now)) doubled.at) }
 {
     let mut names = Names::new(alloc);
     for unit in list {
@@ -105,9 +107,9 @@ pub fn modules_of<'t, 'u>(
 ) -> Result<Modules<'t, 'u>, OrMemory<Doubled>>
     ensures ok { IfOk result (λ modules.
         modules ≡ record { words = words_of tokens.now; list = list.now }) }
-    ensures once { OnOk result (has_double (unit_names (words_of tokens.now) list.now) ≡ false) }
-    ensures err { IfFault result (λ _.
-        has_double (unit_names (words_of tokens.now) list.now) ≡ true) }
+    ensures once { OnOk result (first_again (unit_names (words_of tokens.now) list.now) ≡ None) }
+    ensures err { IfFault result (λ doubled.
+        IsTold (first_again (unit_names (words_of tokens.now) list.now)) doubled.at) }
 {
     let names = names_of(alloc, tokens, list)?;
     Ok(Modules {
@@ -178,7 +180,7 @@ fn only_outside<'u>(
     names: &Names<'_>,
 ) -> Option<&'u ModuleTree>
     ensures { unit_tree (words_of tokens.now) result ≡ only_of
-        (filter (λ m. not (is_declared names.now m.name))
+        (filter (λ m. not (is_declared names.now m.name.letters))
         (map (module_tree (words_of tokens.now)) list.now)) }
 {
     let mut found: Option<&'u ModuleTree> = None;
@@ -222,20 +224,46 @@ pub fn top_of<'u>(
     }
 }
 
-/// The token of the name of the second module that has no instances, where there are two: it is one too many for a top. No clause says
-/// which it is.
-pub fn second_root(alloc: Global, modules: &Modules<'_, '_>) -> Result<Option<u32>, NoMemory> {
-    let tokens = modules.tokens();
-    let list = modules.list();
-    let names = instantiated(alloc, tokens, list)?;
+// The token of the name of the second module whose name is not among these.
+fn second_outside(tokens: &Tokens<'_>, list: &[ModuleTree], names: &Names<'_>) -> Option<u32>
+    ensures { result ≡ option_map (λ w. w.number) (second_of
+        (filter (λ m. not (is_declared names.now m.name.letters))
+        (map (module_tree (words_of tokens.now)) list.now))) }
+{
     let mut has_one = false;
     for unit in list {
         if names.place(letters(tokens, unit.name)).is_none() {
             if has_one {
-                return Ok(Some(unit.name.number));
+                return Some(unit.name.number);
             }
             has_one = true;
         }
     }
-    Ok(None)
+    None
+}
+
+// The token of the name of the second module that has no instances.
+fn second_root(alloc: Global, modules: &Modules<'_, '_>) -> Result<Option<u32>, NoMemory>
+    ensures { IfOk result (λ at. at ≡
+        option_map (λ w. w.number) (second_of (spec.roots (units_tree modules.now)))) }
+{
+    let tokens = modules.tokens();
+    let list = modules.list();
+    let names = instantiated(alloc, tokens, list)?;
+    Ok(second_outside(tokens, list, &names))
+}
+
+/// Where no name is asked for: the token of the name of the second module that could be the top.
+pub fn rival_of(
+    alloc: Global,
+    modules: &Modules<'_, '_>,
+    top: Option<&[u8]>,
+) -> Result<Option<u32>, NoMemory>
+    ensures { IfOk result (λ at. at ≡ option_map (λ w. w.number) (spec.rival_of
+        (units_tree modules.now) (named_text top.entry))) }
+{
+    match top {
+        None => second_root(alloc, modules),
+        Some(_) => Ok(None),
+    }
 }

@@ -68,7 +68,8 @@ impl<'t> Names<'t> {
         ensures added { OnOk result (self.new ≡ self.old ++ text.now ∷ []) }
         ensures unique { has_double self.new ≡ false }
         ensures fresh { OnOk result (is_declared self.old text.now ≡ false) }
-        ensures err { IfFault result (λ _. is_declared self.old text.now ≡ true) }
+        ensures err { IfFault result (λ doubled.
+            (is_declared self.old text.now ≡ true) × (doubled.at ≡ at)) }
     {
         let new = self.add(text)?;
         if !new {

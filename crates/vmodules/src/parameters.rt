@@ -1,13 +1,13 @@
 // The parameters of a module that can be overridden (IEEE 1364-2005, 4.10.1, 12.2).
 
-ghost use Rattle.std.specs.Prelude.{◌≡◌, ◌++◌, List, map, true, false, IfOk, OnOk};
+ghost use Rattle.std.specs.Prelude.{◌≡◌, [], None, false, IfOk, OnOk};
 ghost use Rattle.basis.specs.Reasons.{IfFault};
-ghost use Rattle.vast.specs.ModuleTrees.{item_tree, module_tree};
+ghost use Rattle.vast.specs.NumberedTrees.{item_tree, module_tree};
 ghost use Rattle.vexpr_parse.specs.Texts.{words_of};
-ghost use Rattle.vmodules.specs.Names.{has_double};
+ghost use Rattle.vmodules.specs.Names.{again_behind, first_again, has_double, letters_of};
 ghost use Rattle.vmodules.specs.Connected as spec;
 ghost use Rattle.vmodules.specs.Connected.{open_by};
-ghost use Rattle.vmodules.specs.Inner.{head_names, setting_names, open_settings, open_in};
+ghost use Rattle.vmodules.specs.Inner.{head_names, setting_names, open_settings, open_in, with_words, IsTold};
 
 use crate::letters::letters;
 use crate::names::{Doubled, Names};
@@ -22,10 +22,13 @@ fn add_settings<'t>(
     settings: &[Setting],
     into: &mut Names<'t>,
 ) -> Result<(), OrMemory<Doubled>>
-    ensures ok { OnOk result
-        (into.new ≡ into.old ++ setting_names (words_of tokens.now) settings.now) }
-    ensures err { IfFault result (λ _.
-        has_double (into.old ++ setting_names (words_of tokens.now) settings.now) ≡ true) }
+    ensures ok { OnOk result (into.new ≡ with_words into.old (setting_names
+        (words_of tokens.now) settings.now)) }
+    ensures once { OnOk result (again_behind into.old (setting_names
+        (words_of tokens.now) settings.now) ≡ None) }
+    ensures err { IfFault result (λ doubled.
+        IsTold (again_behind into.old (setting_names
+        (words_of tokens.now) settings.now)) doubled.at) }
 {
     for setting in settings {
         into.add_new(letters(tokens, setting.name), setting.name.number)?;
@@ -39,9 +42,12 @@ fn add_head<'t>(
     list: &[HeadParameter],
     into: &mut Names<'t>,
 ) -> Result<(), OrMemory<Doubled>>
-    ensures ok { OnOk result (into.new ≡ into.old ++ head_names (words_of tokens.now) list.now) }
-    ensures err { IfFault result (λ _.
-        has_double (into.old ++ head_names (words_of tokens.now) list.now) ≡ true) }
+    ensures ok { OnOk result (into.new ≡ with_words into.old (head_names
+        (words_of tokens.now) list.now)) }
+    ensures once { OnOk result (again_behind into.old (head_names
+        (words_of tokens.now) list.now) ≡ None) }
+    ensures err { IfFault result (λ doubled.
+        IsTold (again_behind into.old (head_names (words_of tokens.now) list.now)) doubled.at) }
 {
     for head in list {
         into.add_new(letters(tokens, head.setting.name), head.setting.name.number)?;
@@ -56,10 +62,13 @@ fn add_open<'t>(
     settings: &[Setting],
     into: &mut Names<'t>,
 ) -> Result<(), OrMemory<Doubled>>
-    ensures ok { OnOk result
-        (into.new ≡ into.old ++ open_settings (words_of tokens.now) local settings.now) }
-    ensures err { IfFault result (λ _.
-        has_double (into.old ++ open_settings (words_of tokens.now) local settings.now) ≡ true) }
+    ensures ok { OnOk result (into.new ≡ with_words into.old (open_settings
+        (words_of tokens.now) local settings.now)) }
+    ensures once { OnOk result (again_behind into.old (open_settings
+        (words_of tokens.now) local settings.now) ≡ None) }
+    ensures err { IfFault result (λ doubled.
+        IsTold (again_behind into.old (open_settings
+        (words_of tokens.now) local settings.now)) doubled.at) }
 {
     if local {
         Ok(())
@@ -74,10 +83,13 @@ fn add_item<'t>(
     item: &ModuleItem,
     into: &mut Names<'t>,
 ) -> Result<(), OrMemory<Doubled>>
-    ensures ok { OnOk result
-        (into.new ≡ into.old ++ open_by (item_tree (words_of tokens.now) item.now)) }
-    ensures err { IfFault result (λ _.
-        has_double (into.old ++ open_by (item_tree (words_of tokens.now) item.now)) ≡ true) }
+    ensures ok { OnOk result (into.new ≡ with_words into.old (open_by (item_tree
+        (words_of tokens.now) item.now))) }
+    ensures once { OnOk result (again_behind into.old (open_by (item_tree
+        (words_of tokens.now) item.now)) ≡ None) }
+    ensures err { IfFault result (λ doubled.
+        IsTold (again_behind into.old (open_by (item_tree
+        (words_of tokens.now) item.now))) doubled.at) }
 {
     match item {
         ModuleItem::Parameters {
@@ -100,10 +112,12 @@ fn add_items<'t>(
     items: &[ModuleItem],
     into: &mut Names<'t>,
 ) -> Result<(), OrMemory<Doubled>>
-    ensures ok { OnOk result
-        (into.new ≡ into.old ++ open_in (words_of tokens.now) items.now) }
-    ensures err { IfFault result (λ _.
-        has_double (into.old ++ open_in (words_of tokens.now) items.now) ≡ true) }
+    ensures ok { OnOk result (into.new ≡ with_words into.old (open_in
+        (words_of tokens.now) items.now)) }
+    ensures once { OnOk result (again_behind into.old (open_in
+        (words_of tokens.now) items.now) ≡ None) }
+    ensures err { IfFault result (λ doubled.
+        IsTold (again_behind into.old (open_in (words_of tokens.now) items.now)) doubled.at) }
 {
     for item in items {
         add_item(tokens, item, into)?;
@@ -117,10 +131,13 @@ fn add_module<'t>(
     unit: &ModuleTree,
     into: &mut Names<'t>,
 ) -> Result<(), OrMemory<Doubled>>
-    ensures ok { OnOk result
-        (into.new ≡ into.old ++ spec.open_names (module_tree (words_of tokens.now) unit.now)) }
-    ensures err { IfFault result (λ _. has_double
-        (into.old ++ spec.open_names (module_tree (words_of tokens.now) unit.now)) ≡ true) }
+    ensures ok { OnOk result (into.new ≡ with_words into.old (spec.open_names (module_tree
+        (words_of tokens.now) unit.now))) }
+    ensures once { OnOk result (again_behind into.old (spec.open_names (module_tree
+        (words_of tokens.now) unit.now)) ≡ None) }
+    ensures err { IfFault result (λ doubled.
+        IsTold (again_behind into.old (spec.open_names (module_tree
+        (words_of tokens.now) unit.now))) doubled.at) }
 {
     match &unit.parameters {
         None => add_items(tokens, &unit.items, into),
@@ -135,11 +152,12 @@ pub fn open_names<'t>(
     unit: &ModuleTree,
 ) -> Result<Names<'t>, OrMemory<Doubled>>
     ensures ok { IfOk result (λ names.
-        names ≡ spec.open_names (module_tree (words_of tokens.now) unit.now)) }
+        names ≡ letters_of (spec.open_names (module_tree (words_of tokens.now) unit.now))) }
     ensures once { OnOk result
-        (has_double (spec.open_names (module_tree (words_of tokens.now) unit.now)) ≡ false) }
-    ensures err { IfFault result (λ _.
-        has_double (spec.open_names (module_tree (words_of tokens.now) unit.now)) ≡ true) }
+        (first_again (spec.open_names (module_tree (words_of tokens.now) unit.now)) ≡ None) }
+    ensures unique { IfOk result (λ names. has_double names ≡ false) }
+    ensures err { IfFault result (λ doubled. IsTold
+        (first_again (spec.open_names (module_tree (words_of tokens.now) unit.now))) doubled.at) }
 {
     let mut names = Names::new(alloc);
     add_module(tokens, unit, &mut names)?;

@@ -3,8 +3,8 @@
 ghost use Rattle.std.specs.Prelude.{◌≡◌, List, map, None, unwrap_or, IfOk};
 ghost use Rattle.std.specs.Option.{option_or};
 ghost use Rattle.vast.specs.Words.{Text};
-ghost use Rattle.vast.specs.TokenTexts.{token_text};
-ghost use Rattle.vast.specs.ModuleTrees.{module_tree, port_tree};
+ghost use Rattle.vast.specs.NumberedWords.{numbered};
+ghost use Rattle.vast.specs.NumberedTrees.{module_tree, port_tree};
 ghost use Rattle.vmodules.specs.Ports as spec;
 ghost use Rattle.vmodules.specs.Ports.{port_by, ports_behind};
 ghost use Rattle.vmodules.specs.Inner.{port_form, direction_of};
@@ -47,7 +47,7 @@ fn net_of(net: Option<NetKind>) -> NetKind
 // A port that goes this way.
 fn form_by<'u>(direction: Option<&'u Direction>, name: Token) -> PortForm<'u>
     ensures { (words : List Text) → port_form words result ≡
-        port_by (direction_of words direction.entry) (token_text words name) }
+        port_by (direction_of words direction.entry) (numbered words name) }
 {
     match direction {
         None => PortForm {

@@ -302,7 +302,7 @@ module _ (below : ℕ) (read : Below) (s : (least : ℕ) → Safe (read least)) 
   begun_safe : (word : Text) (b : Beginning) → (is_round b ≡ true → Inside word) → LeadFine word (primary_by below read word b)
   begun_safe word start.Number i = got_safe (number word)
   begun_safe word start.Name i = name_safe word
-  begun_safe word start.Time i = got_safe time
+  begun_safe word start.Time i = got_safe (time word)
   begun_safe word (start.Round kind) i = room_fine word below 1 (round_by read kind) (i refl) (round_safe kind)
   begun_safe word start.Other i = tt
 

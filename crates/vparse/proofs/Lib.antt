@@ -4,6 +4,10 @@ mod ListKinds
 mod ModuleForms
 mod ConnectionParts
 mod ItemTurns
+mod PlainWords
+mod KeptLists
+mod KeptParts
+mod KeptTexts
 mod RefusalLaws
 mod DeepWords
 mod DeepSources

@@ -1,6 +1,7 @@
 -- What the program's functions answer that read modules. Nothing here has to be believed.
-use Rattle.std.specs.Prelude.{◌≡◌, ◌≤◌, ◌⊎◌, Bool, true, false, not, List, [], ◌∷◌, Option, Some, None, Result, Ok, Err, Box, Vec, length, map, drop, option_map, codes}
+use Rattle.std.specs.Prelude.{◌≡◌, ◌≤◌, ◌⊎◌, Bool, true, false, not, List, [], ◌∷◌, ◌++◌, Option, Some, None, Result, Ok, Err, Box, Vec, length, map, drop, option_map, codes, IfOk}
 use Rattle.std.specs.Borrow.{MutBor}
+use Rattle.std.specs.List.{flat_map}
 use Rattle.basis.specs.declared.memory.OrMemory.{OrMemory}
 use Rattle.basis.specs.declared.memory.OrMemory.TheVariants.{Fault}
 use Rattle.basis.specs.Reasons.{Because}
@@ -8,6 +9,7 @@ use Rattle.vast.specs.Words.{Text}
 use Rattle.vast.specs.Expressions.{ExpressionTree}
 use Rattle.vast.specs.ExpressionTrees.{boxed_tree}
 use Rattle.vast.specs.Modules.{RangeTree, ParameterType, DirectionTree, PortTree, HeadParameter, ConnectionsTree, by_order, by_name, variables, integers, ItemTree, parameters, declaration, events, assignments, initial, always, instances, ModuleTree}
+use Rattle.vast.specs.Leaves.{head_leaves, if_some, port_leaves}
 use Rattle.vast.specs.ModuleTrees.{head_parameter as head_tree, port_tree, module_tree as tree_of_module}
 use Rattle.vast.specs.TokenTexts.{token_text}
 use Rattle.vast.specs.declared.expression.Expression.{Expression}
@@ -21,7 +23,7 @@ use Rattle.vexpr_parse.specs.declared.cursor.Cursor.{Cursor}
 use Rattle.vexpr_parse.specs.declared.stop.Stop.{Stop}
 use Rattle.vexpr_parse.specs.declared.stop.Stop.TheVariants.{NoTree}
 use Rattle.vexpr_parse.specs.Readers.{Reader, got, and_then, front, is_front, past, choose, turns}
-use Rattle.vexpr_parse.specs.Answers.{ahead}
+use Rattle.vexpr_parse.specs.Answers.{Keeps, KeepsBehind, ahead, leaves_ahead}
 use Rattle.vexpr_parse.specs.Texts.{words_of}
 use Rattle.vstatement_parse.specs.Gives.{Gives}
 use Rattle.vgrammar.specs.Parts.{both, one_way, other_way, made, paired, maybe, many, worded, one_behind}
@@ -141,6 +143,25 @@ all_of view words list = map (view words) list.items
 
 abbrev pub optional_of : {A T : Type 0} → (List Text → T → A) → List Text → Option T → Option A
 optional_of view words = option_map (view words)
+
+-- the tokens that what stands in a list keeps
+abbrev pub all_leaves : {T R : Type 0} → (T → List Token) → Vec T R → List Token
+all_leaves leaves list = flat_map leaves list.items
+
+-- each call keeps the tokens that it passes
+abbrev pub KeepsCalls : {T : Type 0} → (T → List Token) → Tokenized → Calls T → Type 0
+KeepsCalls {T = T} leaves tokens call =
+    (old new : MutBor Cursor) (result : Result T (OrMemory Stop)) → call old result new →
+    IfOk result (Keeps leaves tokens old.now new.now)
+
+-- a list with its first one keeps the tokens that were passed behind that one, whatever is said to be kept of its members
+abbrev pub KeepsList : {T : Type 0} → Tokenized → Calls T → T → Cursor → Cursor → List T → Type 0
+KeepsList {T = T} tokens call first old new list =
+    (leaves : T → List Token) → KeepsCalls leaves tokens call → KeepsBehind (leaves first) (flat_map leaves) tokens old new list
+
+abbrev pub KeepsListed : {T R : Type 0} → Tokenized → Calls T → T → Cursor → Cursor →
+    Result (Vec T R) (OrMemory Stop) → Type 0
+KeepsListed tokens call first old new result = IfOk result (λ all. KeepsList tokens call first old new all.items)
 
 -- What is read, in the order in which it is read
 
@@ -281,6 +302,17 @@ GivesWith name heads list tokens =
     (module_with (token_text (words_of tokens) name) (optional_of (all_of head_tree) (words_of tokens) heads)
     (optional_of (all_of port_tree) (words_of tokens) list))
     tokens
+
+-- the tokens that these parts keep
+abbrev pub leaves_headed : {R : Type 0} → Token → Option (Vec HeadWords R) → List Token
+leaves_headed name heads = name ∷ if_some (all_leaves head_leaves) heads
+
+abbrev pub leaves_with : {R S : Type 0} → Token → Option (Vec HeadWords R) → Option (Vec Port S) → List Token
+leaves_with name heads list = leaves_headed name heads ++ if_some (all_leaves port_leaves) list
+
+-- the modules keep all tokens that were left
+abbrev pub KeepsAllAhead : {T R : Type 0} → (T → List Token) → Tokenized → Cursor → Vec T R → Type 0
+KeepsAllAhead leaves tokens cursor list = leaves_ahead tokens cursor ≡ all_leaves leaves list
 
 -- the modules behind those that were read
 abbrev pub modules_from : List ModuleTree → Reader (List ModuleTree)

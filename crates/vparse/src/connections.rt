@@ -1,9 +1,11 @@
 // What instances are connected to (IEEE 1364-2005, 12.1.2, 12.3.5 and 12.3.6).
 
-ghost use Rattle.std.specs.Prelude.{◌≡◌, ◌<◌, codes};
+ghost use Rattle.std.specs.Prelude.{◌≡◌, ◌<◌, codes, IfOk};
+ghost use Rattle.vast.specs.Leaves.{boxed_leaves, connection_leaves, connections_leaves, if_some, instance_leaves};
 ghost use Rattle.vast.specs.ModuleTrees.{connection_tree, connections_tree, instance_tree};
+ghost use Rattle.vexpr_parse.specs.Answers.{Keeps};
 ghost use Rattle.vstatement_parse.specs.Gives.{Gives};
-ghost use Rattle.vparse.specs.ModuleGives.{all_of, connections_in, optional_of, value_part};
+ghost use Rattle.vparse.specs.ModuleGives.{all_leaves, all_of, connections_in, optional_of, value_part};
 ghost use Rattle.vparse.specs.TextReaders as reading;
 ghost use Rattle.vgrammar.specs.Lists.{all_until};
 
@@ -25,7 +27,8 @@ fn value_in(
     tokens: &Tokens<'_>,
     cursor: &mut Cursor,
 ) -> Result<Option<Box<Expression>>, OrMemory<Stop>>
-    ensures { Gives value_part reading.value_in tokens.now cursor.old cursor.new result }
+    ensures gives { Gives value_part reading.value_in tokens.now cursor.old cursor.new result }
+    ensures kept { IfOk result (Keeps (if_some boxed_leaves) tokens.now cursor.old cursor.new) }
 {
     if cursor.begins(tokens, b")") {
         cursor.pass(tokens);
@@ -42,7 +45,9 @@ fn connection(
     tokens: &Tokens<'_>,
     cursor: &mut Cursor,
 ) -> Result<Connection, OrMemory<Stop>>
-    ensures { Gives connection_tree reading.connection tokens.now cursor.old cursor.new result }
+    ensures gives { Gives connection_tree reading.connection
+        tokens.now cursor.old cursor.new result }
+    ensures kept { IfOk result (Keeps connection_leaves tokens.now cursor.old cursor.new) }
 {
     cursor.symbol(tokens, b".")?;
     let name = named(tokens, cursor)?;
@@ -58,15 +63,19 @@ fn all_connections(
     tokens: &Tokens<'_>,
     cursor: &mut Cursor,
 ) -> Result<Vec<Connection>, OrMemory<Stop>>
-    ensures { Gives (all_of connection_tree) (all_until (codes ")") reading.connection)
+    ensures gives { Gives (all_of connection_tree) (all_until (codes ")") reading.connection)
         tokens.now cursor.old cursor.new result }
+    ensures kept { IfOk result (Keeps (all_leaves connection_leaves)
+        tokens.now cursor.old cursor.new) }
 {
     let first = connection(alloc, tokens, cursor)?;
     list_until(
         alloc,
         &|cursor|
-            ensures { Gives connection_tree reading.connection
+            ensures gives { Gives connection_tree reading.connection
                 tokens.entry.now cursor.entry.now cursor.exit.now result }
+            ensures kept { IfOk result (Keeps connection_leaves
+                tokens.entry.now cursor.entry.now cursor.exit.now) }
         { connection(alloc, tokens, cursor) },
         tokens,
         cursor,
@@ -81,7 +90,8 @@ fn connected(
     tokens: &Tokens<'_>,
     cursor: &mut Cursor,
 ) -> Result<Connections, OrMemory<Stop>>
-    ensures { Gives connections_tree connections_in tokens.now cursor.old cursor.new result }
+    ensures gives { Gives connections_tree connections_in tokens.now cursor.old cursor.new result }
+    ensures kept { IfOk result (Keeps connections_leaves tokens.now cursor.old cursor.new) }
 {
     if cursor.begins(tokens, b".") {
         Ok(Connections::ByName(all_connections(alloc, tokens, cursor)?))
@@ -100,7 +110,9 @@ pub fn connections(
     tokens: &Tokens<'_>,
     cursor: &mut Cursor,
 ) -> Result<Connections, OrMemory<Stop>>
-    ensures { Gives connections_tree reading.connections tokens.now cursor.old cursor.new result }
+    ensures gives { Gives connections_tree reading.connections
+        tokens.now cursor.old cursor.new result }
+    ensures kept { IfOk result (Keeps connections_leaves tokens.now cursor.old cursor.new) }
 {
     cursor.symbol(tokens, b"(")?;
     connected(alloc, tokens, cursor)
@@ -112,8 +124,10 @@ pub fn overrides(
     tokens: &Tokens<'_>,
     cursor: &mut Cursor,
 ) -> Result<Option<Connections>, OrMemory<Stop>>
-    ensures { Gives (optional_of connections_tree) reading.overrides
+    ensures gives { Gives (optional_of connections_tree) reading.overrides
         tokens.now cursor.old cursor.new result }
+    ensures kept { IfOk result (Keeps (if_some connections_leaves)
+        tokens.now cursor.old cursor.new) }
 {
     if cursor.begins(tokens, b"#") {
         cursor.pass(tokens);
@@ -129,7 +143,9 @@ fn instance(
     tokens: &Tokens<'_>,
     cursor: &mut Cursor,
 ) -> Result<Instance, OrMemory<Stop>>
-    ensures { Gives instance_tree reading.instance_behind tokens.now cursor.old cursor.new result }
+    ensures gives { Gives instance_tree reading.instance_behind
+        tokens.now cursor.old cursor.new result }
+    ensures kept { IfOk result (Keeps instance_leaves tokens.now cursor.old cursor.new) }
 {
     let name = named(tokens, cursor)?;
     let connections = connections(alloc, tokens, cursor)?;
@@ -143,15 +159,19 @@ pub fn instances(
     tokens: &Tokens<'_>,
     cursor: &mut Cursor,
 ) -> Result<Vec<Instance>, OrMemory<Stop>>
-    ensures { Gives (all_of instance_tree) (all_until (codes ";") reading.instance_behind)
+    ensures gives { Gives (all_of instance_tree) (all_until (codes ";") reading.instance_behind)
         tokens.now cursor.old cursor.new result }
+    ensures kept { IfOk result (Keeps (all_leaves instance_leaves)
+        tokens.now cursor.old cursor.new) }
 {
     let first = instance(alloc, tokens, cursor)?;
     list_until(
         alloc,
         &|cursor|
-            ensures { Gives instance_tree reading.instance_behind
+            ensures gives { Gives instance_tree reading.instance_behind
                 tokens.entry.now cursor.entry.now cursor.exit.now result }
+            ensures kept { IfOk result (Keeps instance_leaves
+                tokens.entry.now cursor.entry.now cursor.exit.now) }
         { instance(alloc, tokens, cursor) },
         tokens,
         cursor,

@@ -1,7 +1,9 @@
 // Names with their values (IEEE 1364-2005, 4.2 and 4.10).
 
-ghost use Rattle.std.specs.Prelude.{◌≡◌, ◌<◌};
+ghost use Rattle.std.specs.Prelude.{◌≡◌, ◌<◌, IfOk};
+ghost use Rattle.vast.specs.Leaves.{boxed_leaves, declared_leaves, if_some, setting_leaves};
 ghost use Rattle.vast.specs.ModuleTrees.{setting_tree, declared_tree};
+ghost use Rattle.vexpr_parse.specs.Answers.{Keeps};
 ghost use Rattle.vstatement_parse.specs.Gives.{Gives, value_tree};
 ghost use Rattle.vparse.specs.ModuleGives.{optional_of, optional_value};
 ghost use Rattle.vparse.specs.TextReaders as reading;
@@ -22,7 +24,8 @@ pub fn setting(
     tokens: &Tokens<'_>,
     cursor: &mut Cursor,
 ) -> Result<Setting, OrMemory<Stop>>
-    ensures { Gives setting_tree reading.setting tokens.now cursor.old cursor.new result }
+    ensures gives { Gives setting_tree reading.setting tokens.now cursor.old cursor.new result }
+    ensures kept { IfOk result (Keeps setting_leaves tokens.now cursor.old cursor.new) }
 {
     let name = named(tokens, cursor)?;
     cursor.symbol(tokens, b"=")?;
@@ -36,8 +39,9 @@ fn optional_value(
     tokens: &Tokens<'_>,
     cursor: &mut Cursor,
 ) -> Result<Option<Box<Expression>>, OrMemory<Stop>>
-    ensures { Gives (optional_of value_tree) optional_value
+    ensures gives { Gives (optional_of value_tree) optional_value
         tokens.now cursor.old cursor.new result }
+    ensures kept { IfOk result (Keeps (if_some boxed_leaves) tokens.now cursor.old cursor.new) }
 {
     if cursor.begins(tokens, b"=") {
         cursor.pass(tokens);
@@ -53,7 +57,8 @@ pub fn declared(
     tokens: &Tokens<'_>,
     cursor: &mut Cursor,
 ) -> Result<Declared, OrMemory<Stop>>
-    ensures { Gives declared_tree reading.declared tokens.now cursor.old cursor.new result }
+    ensures gives { Gives declared_tree reading.declared tokens.now cursor.old cursor.new result }
+    ensures kept { IfOk result (Keeps declared_leaves tokens.now cursor.old cursor.new) }
 {
     let name = named(tokens, cursor)?;
     let value = optional_value(alloc, tokens, cursor)?;

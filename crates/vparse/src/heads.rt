@@ -1,9 +1,11 @@
 // Parameters in the heads of modules (IEEE 1364-2005, 12.2).
 
-ghost use Rattle.std.specs.Prelude.{◌≡◌, codes};
+ghost use Rattle.std.specs.Prelude.{◌≡◌, codes, IfOk};
+ghost use Rattle.vast.specs.Leaves.{head_leaves, if_some, parameter_type_leaves};
 ghost use Rattle.vast.specs.ModuleTrees.{head_parameter as head_tree, parameter_type as type_tree};
+ghost use Rattle.vexpr_parse.specs.Answers.{Keeps};
 ghost use Rattle.vstatement_parse.specs.Gives.{Gives};
-ghost use Rattle.vparse.specs.ModuleGives.{all_of, heads_in, optional_heads, optional_of, optional_type};
+ghost use Rattle.vparse.specs.ModuleGives.{all_leaves, all_of, heads_in, optional_heads, optional_of, optional_type};
 ghost use Rattle.vgrammar.specs.Modules as parts;
 ghost use Rattle.vparse.specs.TextReaders as reading;
 ghost use Rattle.vgrammar.specs.Parts.{made};
@@ -18,12 +20,15 @@ use vexpr_parse::{Cursor, Stop};
 use vlex::Tokens;
 
 // `parameter type name = value`
+#[tactic(auto, using(crate::proofs::PlainWords::parameter_plain))]
 fn first_parameter(
     alloc: Global,
     tokens: &Tokens<'_>,
     cursor: &mut Cursor,
 ) -> Result<HeadParameter, OrMemory<Stop>>
-    ensures { Gives head_tree reading.first_parameter tokens.now cursor.old cursor.new result }
+    ensures gives { Gives head_tree reading.first_parameter
+        tokens.now cursor.old cursor.new result }
+    ensures kept { IfOk result (Keeps head_leaves tokens.now cursor.old cursor.new) }
 {
     cursor.symbol(tokens, b"parameter")?;
     let kind = parameter_type(alloc, tokens, cursor)?;
@@ -35,12 +40,16 @@ fn first_parameter(
 }
 
 // `parameter type`, if it stands there.
+#[tactic(auto, using(crate::proofs::PlainWords::parameter_plain))]
 fn optional_type(
     alloc: Global,
     tokens: &Tokens<'_>,
     cursor: &mut Cursor,
 ) -> Result<Option<ParameterType>, OrMemory<Stop>>
-    ensures { Gives (optional_of type_tree) optional_type tokens.now cursor.old cursor.new result }
+    ensures gives { Gives (optional_of type_tree) optional_type
+        tokens.now cursor.old cursor.new result }
+    ensures kept { IfOk result (Keeps (if_some parameter_type_leaves)
+        tokens.now cursor.old cursor.new) }
 {
     if cursor.begins(tokens, b"parameter") {
         cursor.pass(tokens);
@@ -56,7 +65,8 @@ fn head_parameter(
     tokens: &Tokens<'_>,
     cursor: &mut Cursor,
 ) -> Result<HeadParameter, OrMemory<Stop>>
-    ensures { Gives head_tree reading.head_parameter tokens.now cursor.old cursor.new result }
+    ensures gives { Gives head_tree reading.head_parameter tokens.now cursor.old cursor.new result }
+    ensures kept { IfOk result (Keeps head_leaves tokens.now cursor.old cursor.new) }
 {
     let kind = optional_type(alloc, tokens, cursor)?;
     let setting = setting(alloc, tokens, cursor)?;
@@ -70,14 +80,17 @@ fn heads_in(
     tokens: &Tokens<'_>,
     cursor: &mut Cursor,
 ) -> Result<Vec<HeadParameter>, OrMemory<Stop>>
-    ensures { Gives (all_of head_tree) heads_in tokens.now cursor.old cursor.new result }
+    ensures gives { Gives (all_of head_tree) heads_in tokens.now cursor.old cursor.new result }
+    ensures kept { IfOk result (Keeps (all_leaves head_leaves) tokens.now cursor.old cursor.new) }
 {
     let first = first_parameter(alloc, tokens, cursor)?;
     list_until(
         alloc,
         &|cursor|
-            ensures { Gives head_tree reading.head_parameter
+            ensures gives { Gives head_tree reading.head_parameter
                 tokens.entry.now cursor.entry.now cursor.exit.now result }
+            ensures kept { IfOk result (Keeps head_leaves
+                tokens.entry.now cursor.entry.now cursor.exit.now) }
         { head_parameter(alloc, tokens, cursor) },
         tokens,
         cursor,
@@ -93,8 +106,9 @@ fn head_parameters(
     tokens: &Tokens<'_>,
     cursor: &mut Cursor,
 ) -> Result<Vec<HeadParameter>, OrMemory<Stop>>
-    ensures { Gives (all_of head_tree) (made parts.head_list_of reading.head_parameters)
+    ensures gives { Gives (all_of head_tree) (made parts.head_list_of reading.head_parameters)
         tokens.now cursor.old cursor.new result }
+    ensures kept { IfOk result (Keeps (all_leaves head_leaves) tokens.now cursor.old cursor.new) }
 {
     cursor.symbol(tokens, b"(")?;
     heads_in(alloc, tokens, cursor)
@@ -106,8 +120,10 @@ pub fn optional_heads(
     tokens: &Tokens<'_>,
     cursor: &mut Cursor,
 ) -> Result<Option<Vec<HeadParameter>>, OrMemory<Stop>>
-    ensures { Gives (optional_of (all_of head_tree)) optional_heads
+    ensures gives { Gives (optional_of (all_of head_tree)) optional_heads
         tokens.now cursor.old cursor.new result }
+    ensures kept { IfOk result (Keeps (if_some (all_leaves head_leaves))
+        tokens.now cursor.old cursor.new) }
 {
     if cursor.begins(tokens, b"#") {
         cursor.pass(tokens);

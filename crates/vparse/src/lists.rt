@@ -1,7 +1,8 @@
 // Lists with commas.
 
-ghost use Rattle.std.specs.Prelude.{◌≡◌, length};
-ghost use Rattle.vparse.specs.ModuleGives.{Lists, ListsUntil, NeverMore};
+ghost use Rattle.std.specs.Prelude.{◌≡◌, false, length};
+ghost use Rattle.vast.specs.Words.{is_leaf};
+ghost use Rattle.vparse.specs.ModuleGives.{KeepsListed, Lists, ListsUntil, NeverMore};
 
 use basis::OrMemory;
 use std::alloc::Global;
@@ -18,7 +19,8 @@ pub fn list_behind<T: Drop, F: Fn(&mut Cursor) -> Result<T, OrMemory<Stop>>>(
 ) -> Result<Vec<T>, OrMemory<Stop>>
     requires callable { F.IsAlwaysCallable read.now }
     requires fewer { NeverMore tokens.now (F.post read.now) }
-    ensures { Lists tokens.now (F.post read.now) first cursor.old cursor.new result }
+    ensures lists { Lists tokens.now (F.post read.now) first cursor.old cursor.new result }
+    ensures kept { KeepsListed tokens.now (F.post read.now) first cursor.old cursor.new result }
 {
     let mut list: Vec<T> = Vec::new(alloc);
     list.push(first)?;
@@ -41,7 +43,10 @@ pub fn list_until<T: Drop, F: Fn(&mut Cursor) -> Result<T, OrMemory<Stop>>>(
 ) -> Result<Vec<T>, OrMemory<Stop>>
     requires callable { F.IsAlwaysCallable read.now }
     requires fewer { NeverMore tokens.now (F.post read.now) }
-    ensures { ListsUntil tokens.now (F.post read.now) first text.now cursor.old cursor.new result }
+    ensures lists { ListsUntil tokens.now (F.post read.now) first text.now
+        cursor.old cursor.new result }
+    ensures kept { is_leaf text.now ≡ false →
+        KeepsListed tokens.now (F.post read.now) first cursor.old cursor.new result }
 {
     let list = list_behind(alloc, read, tokens, cursor, first)?;
     cursor.symbol(tokens, text)?;

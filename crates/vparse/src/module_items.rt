@@ -1,10 +1,12 @@
 // What modules hold (IEEE 1364-2005, A.1.4).
 
-ghost use Rattle.std.specs.Prelude.{◌≡◌, codes};
+ghost use Rattle.std.specs.Prelude.{◌≡◌, ◌∷◌, [], codes, IfOk};
+ghost use Rattle.vast.specs.Leaves.{item_leaves};
 ghost use Rattle.vast.specs.ModuleTrees.{item_tree};
 ghost use Rattle.vast.specs.TokenTexts.{token_text};
+ghost use Rattle.vexpr_parse.specs.Answers.{Keeps, KeepsBehind, leaves_ahead};
 ghost use Rattle.vexpr_parse.specs.Texts.{words_of};
-ghost use Rattle.vstatement_parse.specs.Gives.{Gives, ReadsStatements};
+ghost use Rattle.vstatement_parse.specs.Gives.{Gives, KeepsStatements, ReadsStatements};
 ghost use Rattle.vparse.specs.ModuleGives.{ReadsAt, any_item, assignments_at, events_at, instances_at, instances_item, integers_at, listed_item, optional_local as local_reader, parameters_at, process_item, variables_at, variables_item};
 ghost use Rattle.vparse.specs.TextReaders as reading;
 
@@ -29,7 +31,8 @@ fn parameters(
     at: u32,
     local: bool,
 ) -> Result<ModuleItem, OrMemory<Stop>>
-    ensures { Gives item_tree (parameters_at local) tokens.now cursor.old cursor.new result }
+    ensures gives { Gives item_tree (parameters_at local) tokens.now cursor.old cursor.new result }
+    ensures kept { IfOk result (Keeps item_leaves tokens.now cursor.old cursor.new) }
 {
     let kind = parameter_type(alloc, tokens, cursor)?;
     let settings = settings(alloc, tokens, cursor)?;
@@ -49,7 +52,8 @@ fn variables(
     at: u32,
     net: NetKind,
 ) -> Result<ModuleItem, OrMemory<Stop>>
-    ensures { Gives item_tree (variables_at net) tokens.now cursor.old cursor.new result }
+    ensures gives { Gives item_tree (variables_at net) tokens.now cursor.old cursor.new result }
+    ensures kept { IfOk result (Keeps item_leaves tokens.now cursor.old cursor.new) }
 {
     let kind = sign_and_range(alloc, tokens, cursor)?;
     let declared = all_declared(alloc, tokens, cursor)?;
@@ -67,7 +71,8 @@ fn integers(
     cursor: &mut Cursor,
     at: u32,
 ) -> Result<ModuleItem, OrMemory<Stop>>
-    ensures { Gives item_tree integers_at tokens.now cursor.old cursor.new result }
+    ensures gives { Gives item_tree integers_at tokens.now cursor.old cursor.new result }
+    ensures kept { IfOk result (Keeps item_leaves tokens.now cursor.old cursor.new) }
 {
     let declared = all_declared(alloc, tokens, cursor)?;
     Ok(ModuleItem::Declaration {
@@ -84,7 +89,8 @@ fn events(
     cursor: &mut Cursor,
     at: u32,
 ) -> Result<ModuleItem, OrMemory<Stop>>
-    ensures { Gives item_tree events_at tokens.now cursor.old cursor.new result }
+    ensures gives { Gives item_tree events_at tokens.now cursor.old cursor.new result }
+    ensures kept { IfOk result (Keeps item_leaves tokens.now cursor.old cursor.new) }
 {
     let names = names(alloc, tokens, cursor)?;
     Ok(ModuleItem::Events { at, names })
@@ -97,7 +103,8 @@ fn assignments(
     cursor: &mut Cursor,
     at: u32,
 ) -> Result<ModuleItem, OrMemory<Stop>>
-    ensures { Gives item_tree assignments_at tokens.now cursor.old cursor.new result }
+    ensures gives { Gives item_tree assignments_at tokens.now cursor.old cursor.new result }
+    ensures kept { IfOk result (Keeps item_leaves tokens.now cursor.old cursor.new) }
 {
     let settings = settings(alloc, tokens, cursor)?;
     Ok(ModuleItem::Assignments { at, settings })
@@ -110,8 +117,10 @@ fn instances_of(
     cursor: &mut Cursor,
     taken: Token,
 ) -> Result<ModuleItem, OrMemory<Stop>>
-    ensures { Gives item_tree (instances_at (token_text (words_of tokens.now) taken))
+    ensures gives { Gives item_tree (instances_at (token_text (words_of tokens.now) taken))
         tokens.now cursor.old cursor.new result }
+    ensures kept { IfOk result (KeepsBehind (taken ∷ []) item_leaves
+        tokens.now cursor.old cursor.new) }
 {
     let overrides = overrides(alloc, tokens, cursor)?;
     let instances = instances(alloc, tokens, cursor)?;
@@ -127,13 +136,15 @@ fn instances_item(
     tokens: &Tokens<'_>,
     cursor: &mut Cursor,
 ) -> Result<ModuleItem, OrMemory<Stop>>
-    ensures { Gives item_tree instances_item tokens.now cursor.old cursor.new result }
+    ensures gives { Gives item_tree instances_item tokens.now cursor.old cursor.new result }
+    ensures kept { IfOk result (Keeps item_leaves tokens.now cursor.old cursor.new) }
 {
     let taken = named(tokens, cursor)?;
     instances_of(alloc, tokens, cursor, taken)
 }
 
 // A process, or instances.
+#[tactic(auto, using(crate::proofs::PlainWords::initial_plain, crate::proofs::PlainWords::always_plain))]
 fn process_item<F: Fn(&mut Cursor) -> Result<Statement, OrMemory<Stop>>>(
     alloc: Global,
     read: &F,
@@ -143,7 +154,9 @@ fn process_item<F: Fn(&mut Cursor) -> Result<Statement, OrMemory<Stop>>>(
 ) -> Result<ModuleItem, OrMemory<Stop>>
     requires callable { F.IsAlwaysCallable read.now }
     requires reads { ReadsStatements tokens.now 64 (F.post read.now) }
-    ensures { Gives item_tree process_item tokens.now cursor.old cursor.new result }
+    requires keeps { KeepsStatements tokens.now (F.post read.now) }
+    ensures gives { Gives item_tree process_item tokens.now cursor.old cursor.new result }
+    ensures kept { IfOk result (Keeps item_leaves tokens.now cursor.old cursor.new) }
 {
     if cursor.begins(tokens, b"initial") {
         cursor.pass(tokens);
@@ -159,6 +172,7 @@ fn process_item<F: Fn(&mut Cursor) -> Result<Statement, OrMemory<Stop>>>(
 }
 
 // A list behind one word, or what `process_item` reads.
+#[tactic(auto, using(crate::proofs::PlainWords::integer_plain, crate::proofs::PlainWords::event_plain, crate::proofs::PlainWords::assign_plain))]
 fn listed_item<F: Fn(&mut Cursor) -> Result<Statement, OrMemory<Stop>>>(
     alloc: Global,
     read: &F,
@@ -168,7 +182,9 @@ fn listed_item<F: Fn(&mut Cursor) -> Result<Statement, OrMemory<Stop>>>(
 ) -> Result<ModuleItem, OrMemory<Stop>>
     requires callable { F.IsAlwaysCallable read.now }
     requires reads { ReadsStatements tokens.now 64 (F.post read.now) }
-    ensures { Gives item_tree listed_item tokens.now cursor.old cursor.new result }
+    requires keeps { KeepsStatements tokens.now (F.post read.now) }
+    ensures gives { Gives item_tree listed_item tokens.now cursor.old cursor.new result }
+    ensures kept { IfOk result (Keeps item_leaves tokens.now cursor.old cursor.new) }
 {
     if cursor.begins(tokens, b"integer") {
         cursor.pass(tokens);
@@ -194,7 +210,9 @@ fn variables_item<F: Fn(&mut Cursor) -> Result<Statement, OrMemory<Stop>>>(
 ) -> Result<ModuleItem, OrMemory<Stop>>
     requires callable { F.IsAlwaysCallable read.now }
     requires reads { ReadsStatements tokens.now 64 (F.post read.now) }
-    ensures { Gives item_tree variables_item tokens.now cursor.old cursor.new result }
+    requires keeps { KeepsStatements tokens.now (F.post read.now) }
+    ensures gives { Gives item_tree variables_item tokens.now cursor.old cursor.new result }
+    ensures kept { IfOk result (Keeps item_leaves tokens.now cursor.old cursor.new) }
 {
     match optional_net(tokens, cursor) {
         Some(net) => variables(alloc, tokens, cursor, at, net),
@@ -203,8 +221,10 @@ fn variables_item<F: Fn(&mut Cursor) -> Result<Statement, OrMemory<Stop>>>(
 }
 
 // `parameter` or `localparam`, if one stands there: whether it is the latter.
+#[tactic(auto, using(crate::proofs::PlainWords::parameter_plain, crate::proofs::PlainWords::localparam_plain))]
 fn optional_local(tokens: &Tokens<'_>, cursor: &mut Cursor) -> Option<bool>
-    ensures { ReadsAt local_reader tokens.now cursor.old cursor.new result }
+    ensures reads { ReadsAt local_reader tokens.now cursor.old cursor.new result }
+    ensures kept { leaves_ahead tokens.now cursor.old ≡ leaves_ahead tokens.now cursor.new }
 {
     if cursor.begins(tokens, b"parameter") {
         cursor.pass(tokens);
@@ -227,7 +247,9 @@ fn any_item<F: Fn(&mut Cursor) -> Result<Statement, OrMemory<Stop>>>(
 ) -> Result<ModuleItem, OrMemory<Stop>>
     requires callable { F.IsAlwaysCallable read.now }
     requires reads { ReadsStatements tokens.now 64 (F.post read.now) }
-    ensures { Gives item_tree any_item tokens.now cursor.old cursor.new result }
+    requires keeps { KeepsStatements tokens.now (F.post read.now) }
+    ensures gives { Gives item_tree any_item tokens.now cursor.old cursor.new result }
+    ensures kept { IfOk result (Keeps item_leaves tokens.now cursor.old cursor.new) }
 {
     match optional_local(tokens, cursor) {
         Some(local) => parameters(alloc, tokens, cursor, at, local),
@@ -253,7 +275,9 @@ pub fn item<F: Fn(&mut Cursor) -> Result<Statement, OrMemory<Stop>>>(
 ) -> Result<ModuleItem, OrMemory<Stop>>
     requires callable { F.IsAlwaysCallable read.now }
     requires reads { ReadsStatements tokens.now 64 (F.post read.now) }
-    ensures { Gives item_tree reading.item tokens.now cursor.old cursor.new result }
+    requires keeps { KeepsStatements tokens.now (F.post read.now) }
+    ensures gives { Gives item_tree reading.item tokens.now cursor.old cursor.new result }
+    ensures kept { IfOk result (Keeps item_leaves tokens.now cursor.old cursor.new) }
 {
     let at = number_here(tokens, cursor);
     any_item(alloc, read, tokens, cursor, at)

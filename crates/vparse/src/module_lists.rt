@@ -1,11 +1,13 @@
 // Lists with commas in modules, up to what ends them.
 
-ghost use Rattle.std.specs.Prelude.{◌≡◌, codes};
+ghost use Rattle.std.specs.Prelude.{◌≡◌, ◌∷◌, [], codes, IfOk};
 ghost use Rattle.vast.specs.ExpressionTrees.{tree_of};
+ghost use Rattle.vast.specs.Leaves.{declared_leaves, leaves_of, setting_leaves};
 ghost use Rattle.vast.specs.ModuleTrees.{declared_tree, setting_tree};
 ghost use Rattle.vast.specs.TokenTexts.{token_text};
+ghost use Rattle.vexpr_parse.specs.Answers.{Keeps};
 ghost use Rattle.vstatement_parse.specs.Gives.{Gives};
-ghost use Rattle.vparse.specs.ModuleGives.{all_of};
+ghost use Rattle.vparse.specs.ModuleGives.{all_leaves, all_of};
 ghost use Rattle.vparse.specs.TextReaders as reading;
 ghost use Rattle.vgrammar.specs.Statements as reading_words;
 ghost use Rattle.vgrammar.specs.Lists.{all_until};
@@ -28,7 +30,8 @@ fn value(
     tokens: &Tokens<'_>,
     cursor: &mut Cursor,
 ) -> Result<Expression, OrMemory<Stop>>
-    ensures { Gives tree_of reading.free_value tokens.now cursor.old cursor.new result }
+    ensures gives { Gives tree_of reading.free_value tokens.now cursor.old cursor.new result }
+    ensures kept { IfOk result (Keeps leaves_of tokens.now cursor.old cursor.new) }
 {
     Ok(expression(alloc, tokens, cursor, LEVELS)?.tree)
 }
@@ -40,15 +43,19 @@ pub fn settings(
     tokens: &Tokens<'_>,
     cursor: &mut Cursor,
 ) -> Result<Vec<Setting>, OrMemory<Stop>>
-    ensures { Gives (all_of setting_tree) (all_until (codes ";") reading.setting)
+    ensures gives { Gives (all_of setting_tree) (all_until (codes ";") reading.setting)
         tokens.now cursor.old cursor.new result }
+    ensures kept { IfOk result (Keeps (all_leaves setting_leaves)
+        tokens.now cursor.old cursor.new) }
 {
     let first = setting(alloc, tokens, cursor)?;
     list_until(
         alloc,
         &|cursor|
-            ensures { Gives setting_tree reading.setting
+            ensures gives { Gives setting_tree reading.setting
                 tokens.entry.now cursor.entry.now cursor.exit.now result }
+            ensures kept { IfOk result (Keeps setting_leaves
+                tokens.entry.now cursor.entry.now cursor.exit.now) }
         { setting(alloc, tokens, cursor) },
         tokens,
         cursor,
@@ -64,15 +71,19 @@ pub fn all_declared(
     tokens: &Tokens<'_>,
     cursor: &mut Cursor,
 ) -> Result<Vec<Declared>, OrMemory<Stop>>
-    ensures { Gives (all_of declared_tree) (all_until (codes ";") reading.declared)
+    ensures gives { Gives (all_of declared_tree) (all_until (codes ";") reading.declared)
         tokens.now cursor.old cursor.new result }
+    ensures kept { IfOk result (Keeps (all_leaves declared_leaves)
+        tokens.now cursor.old cursor.new) }
 {
     let first = declared(alloc, tokens, cursor)?;
     list_until(
         alloc,
         &|cursor|
-            ensures { Gives declared_tree reading.declared
+            ensures gives { Gives declared_tree reading.declared
                 tokens.entry.now cursor.entry.now cursor.exit.now result }
+            ensures kept { IfOk result (Keeps declared_leaves
+                tokens.entry.now cursor.entry.now cursor.exit.now) }
         { declared(alloc, tokens, cursor) },
         tokens,
         cursor,
@@ -88,15 +99,18 @@ pub fn names(
     tokens: &Tokens<'_>,
     cursor: &mut Cursor,
 ) -> Result<Vec<Token>, OrMemory<Stop>>
-    ensures { Gives (all_of token_text) (all_until (codes ";") reading_words.named)
+    ensures gives { Gives (all_of token_text) (all_until (codes ";") reading_words.named)
         tokens.now cursor.old cursor.new result }
+    ensures kept { IfOk result (Keeps (λ names. names.items) tokens.now cursor.old cursor.new) }
 {
     let first = named(tokens, cursor)?;
     list_until(
         alloc,
         &|cursor|
-            ensures { Gives token_text reading_words.named
+            ensures gives { Gives token_text reading_words.named
                 tokens.entry.now cursor.entry.now cursor.exit.now result }
+            ensures kept { IfOk result (Keeps (λ word. word ∷ [])
+                tokens.entry.now cursor.entry.now cursor.exit.now) }
         { named(tokens, cursor) },
         tokens,
         cursor,
@@ -112,15 +126,18 @@ pub fn values(
     tokens: &Tokens<'_>,
     cursor: &mut Cursor,
 ) -> Result<Vec<Expression>, OrMemory<Stop>>
-    ensures { Gives (all_of tree_of) (all_until (codes ")") reading.free_value)
+    ensures gives { Gives (all_of tree_of) (all_until (codes ")") reading.free_value)
         tokens.now cursor.old cursor.new result }
+    ensures kept { IfOk result (Keeps (all_leaves leaves_of) tokens.now cursor.old cursor.new) }
 {
     let first = value(alloc, tokens, cursor)?;
     list_until(
         alloc,
         &|cursor|
-            ensures { Gives tree_of reading.free_value
+            ensures gives { Gives tree_of reading.free_value
                 tokens.entry.now cursor.entry.now cursor.exit.now result }
+            ensures kept { IfOk result (Keeps leaves_of
+                tokens.entry.now cursor.entry.now cursor.exit.now) }
         { value(alloc, tokens, cursor) },
         tokens,
         cursor,

@@ -1,11 +1,12 @@
 // Modules (IEEE 1364-2005, 12.1).
 
-ghost use Rattle.std.specs.Prelude.{◌≡◌, codes, not};
+ghost use Rattle.std.specs.Prelude.{◌≡◌, codes, not, IfOk};
+ghost use Rattle.vast.specs.Leaves.{item_leaves, module_leaves};
 ghost use Rattle.vast.specs.ModuleTrees.{item_tree, module_tree};
 ghost use Rattle.vexpr_parse.specs.Readers.{front, is_front};
-ghost use Rattle.vexpr_parse.specs.Answers.{ahead};
-ghost use Rattle.vstatement_parse.specs.Gives.{Gives, ReadsStatements};
-ghost use Rattle.vparse.specs.ModuleGives.{all_items, all_of, module_body, GivesHeaded, GivesWith};
+ghost use Rattle.vexpr_parse.specs.Answers.{Keeps, KeepsBehind, ahead};
+ghost use Rattle.vstatement_parse.specs.Gives.{Gives, KeepsStatements, ReadsStatements};
+ghost use Rattle.vparse.specs.ModuleGives.{all_items, all_leaves, all_of, leaves_headed, leaves_with, module_body, GivesHeaded, GivesWith};
 ghost use Rattle.vparse.specs.TextReaders as reading;
 
 use crate::heads::optional_heads;
@@ -37,7 +38,9 @@ fn all_items<F: Fn(&mut Cursor) -> Result<Statement, OrMemory<Stop>>>(
 ) -> Result<Vec<ModuleItem>, OrMemory<Stop>>
     requires callable { F.IsAlwaysCallable read.now }
     requires reads { ReadsStatements tokens.now 64 (F.post read.now) }
-    ensures { Gives (all_of item_tree) all_items tokens.now cursor.old cursor.new result }
+    requires keeps { KeepsStatements tokens.now (F.post read.now) }
+    ensures gives { Gives (all_of item_tree) all_items tokens.now cursor.old cursor.new result }
+    ensures kept { IfOk result (Keeps (all_leaves item_leaves) tokens.now cursor.old cursor.new) }
 {
     let mut items: Vec<ModuleItem> = Vec::new(alloc);
     'items: while goes_on(tokens, cursor) {
@@ -48,7 +51,7 @@ fn all_items<F: Fn(&mut Cursor) -> Result<Statement, OrMemory<Stop>>>(
 }
 
 // Items and `endmodule`, behind a semicolon.
-#[tactic(auto, using(crate::proofs::ListTurns::past_not))]
+#[tactic(auto, using(crate::proofs::ListTurns::past_not, crate::proofs::PlainWords::endmodule_plain))]
 fn module_body<F: Fn(&mut Cursor) -> Result<Statement, OrMemory<Stop>>>(
     alloc: Global,
     read: &F,
@@ -57,7 +60,9 @@ fn module_body<F: Fn(&mut Cursor) -> Result<Statement, OrMemory<Stop>>>(
 ) -> Result<Vec<ModuleItem>, OrMemory<Stop>>
     requires callable { F.IsAlwaysCallable read.now }
     requires reads { ReadsStatements tokens.now 64 (F.post read.now) }
-    ensures { Gives (all_of item_tree) module_body tokens.now cursor.old cursor.new result }
+    requires keeps { KeepsStatements tokens.now (F.post read.now) }
+    ensures gives { Gives (all_of item_tree) module_body tokens.now cursor.old cursor.new result }
+    ensures kept { IfOk result (Keeps (all_leaves item_leaves) tokens.now cursor.old cursor.new) }
 {
     cursor.symbol(tokens, b";")?;
     let items = all_items(alloc, read, tokens, cursor)?;
@@ -77,8 +82,11 @@ fn module_with<F: Fn(&mut Cursor) -> Result<Statement, OrMemory<Stop>>>(
 ) -> Result<ModuleTree, OrMemory<Stop>>
     requires callable { F.IsAlwaysCallable read.now }
     requires reads { ReadsStatements tokens.now 64 (F.post read.now) }
-    ensures { GivesWith name parameters ports
+    requires keeps { KeepsStatements tokens.now (F.post read.now) }
+    ensures gives { GivesWith name parameters ports
         tokens.now cursor.old cursor.new result }
+    ensures kept { IfOk result (KeepsBehind (leaves_with name parameters ports) module_leaves
+        tokens.now cursor.old cursor.new) }
 {
     let items = module_body(alloc, read, tokens, cursor)?;
     Ok(ModuleTree {
@@ -100,15 +108,18 @@ fn module_headed<F: Fn(&mut Cursor) -> Result<Statement, OrMemory<Stop>>>(
 ) -> Result<ModuleTree, OrMemory<Stop>>
     requires callable { F.IsAlwaysCallable read.now }
     requires reads { ReadsStatements tokens.now 64 (F.post read.now) }
-    ensures { GivesHeaded name parameters
+    requires keeps { KeepsStatements tokens.now (F.post read.now) }
+    ensures gives { GivesHeaded name parameters
         tokens.now cursor.old cursor.new result }
+    ensures kept { IfOk result (KeepsBehind (leaves_headed name parameters) module_leaves
+        tokens.now cursor.old cursor.new) }
 {
     let ports = optional_ports(alloc, tokens, cursor)?;
     module_with(alloc, read, tokens, cursor, name, parameters, ports)
 }
 
 /// A module, where this reads statements.
-#[tactic(auto, using(crate::proofs::ModuleForms::module_is))]
+#[tactic(auto, using(crate::proofs::ModuleForms::module_is, crate::proofs::PlainWords::module_plain))]
 pub fn module_tree<F: Fn(&mut Cursor) -> Result<Statement, OrMemory<Stop>>>(
     alloc: Global,
     read: &F,
@@ -117,7 +128,9 @@ pub fn module_tree<F: Fn(&mut Cursor) -> Result<Statement, OrMemory<Stop>>>(
 ) -> Result<ModuleTree, OrMemory<Stop>>
     requires callable { F.IsAlwaysCallable read.now }
     requires reads { ReadsStatements tokens.now 64 (F.post read.now) }
-    ensures { Gives module_tree reading.module_tree tokens.now cursor.old cursor.new result }
+    requires keeps { KeepsStatements tokens.now (F.post read.now) }
+    ensures gives { Gives module_tree reading.module_tree tokens.now cursor.old cursor.new result }
+    ensures kept { IfOk result (Keeps module_leaves tokens.now cursor.old cursor.new) }
 {
     cursor.symbol(tokens, b"module")?;
     let name = named(tokens, cursor)?;

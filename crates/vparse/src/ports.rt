@@ -1,11 +1,12 @@
 // Ports of modules (IEEE 1364-2005, 12.3.3 and 12.3.4).
 
-ghost use Rattle.std.specs.Prelude.{◌≡◌, codes};
+ghost use Rattle.std.specs.Prelude.{◌≡◌, codes, IfOk};
+ghost use Rattle.vast.specs.Leaves.{direction_leaves, if_some, port_leaves};
 ghost use Rattle.vast.specs.ModuleTrees.{direction_tree, port_tree};
 ghost use Rattle.vexpr_parse.specs.Readers.{front};
-ghost use Rattle.vexpr_parse.specs.Answers.{ahead};
+ghost use Rattle.vexpr_parse.specs.Answers.{Keeps, ahead, leaves_ahead};
 ghost use Rattle.vstatement_parse.specs.Gives.{Gives};
-ghost use Rattle.vparse.specs.ModuleGives.{ReadsAt, all_of, input_parts, optional_direction, optional_net as net_reader, optional_of, optional_ports, output_parts, ports_in, some_ports};
+ghost use Rattle.vparse.specs.ModuleGives.{ReadsAt, all_leaves, all_of, input_parts, optional_direction, optional_net as net_reader, optional_of, optional_ports, output_parts, ports_in, some_ports};
 ghost use Rattle.vgrammar.specs.Modules as parts;
 ghost use Rattle.vparse.specs.TextReaders as reading;
 ghost use Rattle.vgrammar.specs.Parts.{made};
@@ -20,8 +21,10 @@ use vlex::Tokens;
 use vstatement_parse::words::named;
 
 /// `wire` or `reg`, if one stands there.
+#[tactic(auto, using(crate::proofs::PlainWords::wire_plain, crate::proofs::PlainWords::reg_plain))]
 pub fn optional_net(tokens: &Tokens<'_>, cursor: &mut Cursor) -> Option<NetKind>
-    ensures { ReadsAt net_reader tokens.now cursor.old cursor.new result }
+    ensures reads { ReadsAt net_reader tokens.now cursor.old cursor.new result }
+    ensures kept { leaves_ahead tokens.now cursor.old ≡ leaves_ahead tokens.now cursor.new }
 {
     if cursor.begins(tokens, b"wire") {
         cursor.pass(tokens);
@@ -35,13 +38,15 @@ pub fn optional_net(tokens: &Tokens<'_>, cursor: &mut Cursor) -> Option<NetKind>
 }
 
 // What stands behind `input`.
+#[tactic(auto, using(crate::proofs::PlainWords::wire_plain))]
 fn input(
     alloc: Global,
     tokens: &Tokens<'_>,
     cursor: &mut Cursor,
 ) -> Result<Direction, OrMemory<Stop>>
-    ensures { Gives direction_tree (made parts.direction_of input_parts)
+    ensures gives { Gives direction_tree (made parts.direction_of input_parts)
         tokens.now cursor.old cursor.new result }
+    ensures kept { IfOk result (Keeps direction_leaves tokens.now cursor.old cursor.new) }
 {
     let wire = optional(tokens, cursor, b"wire");
     let kind = sign_and_range(alloc, tokens, cursor)?;
@@ -54,20 +59,23 @@ fn output(
     tokens: &Tokens<'_>,
     cursor: &mut Cursor,
 ) -> Result<Direction, OrMemory<Stop>>
-    ensures { Gives direction_tree (made parts.direction_of output_parts)
+    ensures gives { Gives direction_tree (made parts.direction_of output_parts)
         tokens.now cursor.old cursor.new result }
+    ensures kept { IfOk result (Keeps direction_leaves tokens.now cursor.old cursor.new) }
 {
     let net = optional_net(tokens, cursor);
     let kind = sign_and_range(alloc, tokens, cursor)?;
     Ok(Direction::Output { net, kind })
 }
 
+#[tactic(auto, using(crate::proofs::PlainWords::input_plain, crate::proofs::PlainWords::output_plain))]
 fn direction(
     alloc: Global,
     tokens: &Tokens<'_>,
     cursor: &mut Cursor,
 ) -> Result<Direction, OrMemory<Stop>>
-    ensures { Gives direction_tree reading.direction tokens.now cursor.old cursor.new result }
+    ensures gives { Gives direction_tree reading.direction tokens.now cursor.old cursor.new result }
+    ensures kept { IfOk result (Keeps direction_leaves tokens.now cursor.old cursor.new) }
 {
     if cursor.begins(tokens, b"input") {
         cursor.pass(tokens);
@@ -91,8 +99,9 @@ fn optional_direction(
     tokens: &Tokens<'_>,
     cursor: &mut Cursor,
 ) -> Result<Option<Direction>, OrMemory<Stop>>
-    ensures { Gives (optional_of direction_tree) optional_direction
+    ensures gives { Gives (optional_of direction_tree) optional_direction
         tokens.now cursor.old cursor.new result }
+    ensures kept { IfOk result (Keeps (if_some direction_leaves) tokens.now cursor.old cursor.new) }
 {
     if is_direction(tokens, cursor) {
         Ok(Some(direction(alloc, tokens, cursor)?))
@@ -107,7 +116,8 @@ fn first_port(
     tokens: &Tokens<'_>,
     cursor: &mut Cursor,
 ) -> Result<Port, OrMemory<Stop>>
-    ensures { Gives port_tree reading.first_port tokens.now cursor.old cursor.new result }
+    ensures gives { Gives port_tree reading.first_port tokens.now cursor.old cursor.new result }
+    ensures kept { IfOk result (Keeps port_leaves tokens.now cursor.old cursor.new) }
 {
     let direction = direction(alloc, tokens, cursor)?;
     let name = named(tokens, cursor)?;
@@ -119,7 +129,8 @@ fn first_port(
 
 // A port behind a comma.
 fn port(alloc: Global, tokens: &Tokens<'_>, cursor: &mut Cursor) -> Result<Port, OrMemory<Stop>>
-    ensures { Gives port_tree reading.port tokens.now cursor.old cursor.new result }
+    ensures gives { Gives port_tree reading.port tokens.now cursor.old cursor.new result }
+    ensures kept { IfOk result (Keeps port_leaves tokens.now cursor.old cursor.new) }
 {
     let direction = optional_direction(alloc, tokens, cursor)?;
     let name = named(tokens, cursor)?;
@@ -133,14 +144,17 @@ fn some_ports(
     tokens: &Tokens<'_>,
     cursor: &mut Cursor,
 ) -> Result<Vec<Port>, OrMemory<Stop>>
-    ensures { Gives (all_of port_tree) some_ports tokens.now cursor.old cursor.new result }
+    ensures gives { Gives (all_of port_tree) some_ports tokens.now cursor.old cursor.new result }
+    ensures kept { IfOk result (Keeps (all_leaves port_leaves) tokens.now cursor.old cursor.new) }
 {
     let first = first_port(alloc, tokens, cursor)?;
     list_until(
         alloc,
         &|cursor|
-            ensures { Gives port_tree reading.port
+            ensures gives { Gives port_tree reading.port
                 tokens.entry.now cursor.entry.now cursor.exit.now result }
+            ensures kept { IfOk result (Keeps port_leaves
+                tokens.entry.now cursor.entry.now cursor.exit.now) }
         { port(alloc, tokens, cursor) },
         tokens,
         cursor,
@@ -155,7 +169,8 @@ fn ports_in(
     tokens: &Tokens<'_>,
     cursor: &mut Cursor,
 ) -> Result<Vec<Port>, OrMemory<Stop>>
-    ensures { Gives (all_of port_tree) ports_in tokens.now cursor.old cursor.new result }
+    ensures gives { Gives (all_of port_tree) ports_in tokens.now cursor.old cursor.new result }
+    ensures kept { IfOk result (Keeps (all_leaves port_leaves) tokens.now cursor.old cursor.new) }
 {
     if cursor.begins(tokens, b")") {
         cursor.pass(tokens);
@@ -172,7 +187,8 @@ fn ports(
     tokens: &Tokens<'_>,
     cursor: &mut Cursor,
 ) -> Result<Vec<Port>, OrMemory<Stop>>
-    ensures { Gives (all_of port_tree) reading.ports tokens.now cursor.old cursor.new result }
+    ensures gives { Gives (all_of port_tree) reading.ports tokens.now cursor.old cursor.new result }
+    ensures kept { IfOk result (Keeps (all_leaves port_leaves) tokens.now cursor.old cursor.new) }
 {
     cursor.symbol(tokens, b"(")?;
     ports_in(alloc, tokens, cursor)
@@ -184,8 +200,10 @@ pub fn optional_ports(
     tokens: &Tokens<'_>,
     cursor: &mut Cursor,
 ) -> Result<Option<Vec<Port>>, OrMemory<Stop>>
-    ensures { Gives (optional_of (all_of port_tree)) optional_ports
+    ensures gives { Gives (optional_of (all_of port_tree)) optional_ports
         tokens.now cursor.old cursor.new result }
+    ensures kept { IfOk result (Keeps (if_some (all_leaves port_leaves))
+        tokens.now cursor.old cursor.new) }
 {
     if cursor.begins(tokens, b"(") {
         Ok(Some(ports(alloc, tokens, cursor)?))

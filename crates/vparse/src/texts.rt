@@ -2,14 +2,16 @@
 
 ghost use Rattle.std.specs.Prelude.{◌≡◌, slice_get, IfOk};
 ghost use Rattle.basis.specs.Reasons.{IfFault};
+ghost use Rattle.vast.specs.Leaves.{module_leaves, statement_leaves, text_leaves};
+ghost use Rattle.vast.specs.TokenTexts.{leaves_from};
 ghost use Rattle.vast.specs.StatementTrees.{statement_tree};
 ghost use Rattle.vast.specs.ModuleTrees.{module_tree, source_tree};
 ghost use Rattle.vast.specs.Modules.{DerivesText};
 ghost use Rattle.vexpr_parse.specs.Readers.{front, stop};
-ghost use Rattle.vexpr_parse.specs.Answers.{ahead};
+ghost use Rattle.vexpr_parse.specs.Answers.{Keeps, ahead};
 ghost use Rattle.vexpr_parse.specs.Texts.{words_of};
-ghost use Rattle.vstatement_parse.specs.Gives.{Gives, ReadsStatements};
-ghost use Rattle.vparse.specs.ModuleGives.{all_of};
+ghost use Rattle.vstatement_parse.specs.Gives.{Gives, KeepsStatements, ReadsStatements};
+ghost use Rattle.vparse.specs.ModuleGives.{KeepsAllAhead, all_of};
 ghost use Rattle.vparse.specs.Profile.{is_any_outside};
 ghost use Rattle.vparse.specs.Refusals.{HasNoText, IsOnlyText, IsRefusal};
 ghost use Rattle.vgrammar.specs.Modules.{is_some_word};
@@ -48,7 +50,9 @@ fn source<F: Fn(&mut Cursor) -> Result<Statement, OrMemory<Stop>>>(
 ) -> Result<Vec<ModuleTree>, OrMemory<Stop>>
     requires callable { F.IsAlwaysCallable read.now }
     requires reads { ReadsStatements tokens.now 64 (F.post read.now) }
-    ensures { Gives (all_of module_tree) source tokens.now cursor.old cursor.new result }
+    requires keeps { KeepsStatements tokens.now (F.post read.now) }
+    ensures gives { Gives (all_of module_tree) source tokens.now cursor.old cursor.new result }
+    ensures kept { IfOk result (KeepsAllAhead module_leaves tokens.now cursor.old) }
 {
     let mut modules: Vec<ModuleTree> = Vec::new(alloc);
     'modules: while is_left(tokens, cursor) {
@@ -97,10 +101,12 @@ fn text<F: Fn(&mut Cursor) -> Result<Statement, OrMemory<Stop>>>(
 ) -> Result<TextTree, OrMemory<SyntaxFault>>
     requires callable { F.IsAlwaysCallable read.now }
     requires reads { ReadsStatements tokens.now 64 (F.post read.now) }
+    requires keeps { KeepsStatements tokens.now (F.post read.now) }
     ensures derives { IfOk result (λ text. DerivesText (words_of tokens.now)
         (source_tree (words_of tokens.now) text)) }
     ensures only { IfOk result (λ text. IsOnlyText (words_of tokens.now)
         (source_tree (words_of tokens.now) text)) }
+    ensures leaves { IfOk result (λ text. text_leaves text ≡ leaves_from 0 (words_of tokens.now)) }
     ensures none { IfFault result (λ fault. HasNoText (words_of tokens.now)) }
     ensures reason { IfFault result (λ fault. IsRefusal tokens.now fault) }
 {
@@ -115,20 +121,24 @@ fn text<F: Fn(&mut Cursor) -> Result<Statement, OrMemory<Stop>>>(
 /// The tree of the tokens: the one that derives their words (IEEE 1364-2005, annex A; docs/LANGUAGE.md, "Grammar"). The
 /// first token whose word can't follow those before it, or the text's end, decides of the fault: E203 where it could with
 /// more than 64 levels, else E202 where the word stands outside the profile, and E201 where it doesn't. E901 where a
-/// growth was refused.
+/// growth was refused. The tree keeps the text's names, numbers, strings and each `$time`, each by its own number, in the
+/// order of the text.
 pub fn parse(alloc: Global, tokens: &Tokens<'_>) -> Result<TextTree, OrMemory<SyntaxFault>>
     ensures derives { IfOk result (λ text. DerivesText (words_of tokens.now)
         (source_tree (words_of tokens.now) text)) }
     ensures only { IfOk result (λ text. IsOnlyText (words_of tokens.now)
         (source_tree (words_of tokens.now) text)) }
+    ensures leaves { IfOk result (λ text. text_leaves text ≡ leaves_from 0 (words_of tokens.now)) }
     ensures none { IfFault result (λ fault. HasNoText (words_of tokens.now)) }
     ensures reason { IfFault result (λ fault. IsRefusal tokens.now fault) }
 {
     text(
         alloc,
         &|cursor|
-            ensures { Gives statement_tree (statements.statement 64)
+            ensures gives { Gives statement_tree (statements.statement 64)
                 tokens.entry.now cursor.entry.now cursor.exit.now result }
+            ensures kept { IfOk result (Keeps statement_leaves
+                tokens.entry.now cursor.entry.now cursor.exit.now) }
         { statement(alloc, tokens, cursor, LEVELS) },
         tokens,
     )

@@ -1,7 +1,10 @@
 // Types of parameters, ports, nets and variables (IEEE 1364-2005, 4.2, 4.3 and 4.10).
 
-ghost use Rattle.std.specs.Prelude.{◌≡◌, ◌<◌, codes};
+ghost use Rattle.std.specs.Prelude.{◌≡◌, ◌<◌, false, codes, IfOk};
+ghost use Rattle.vast.specs.Words.{is_leaf};
+ghost use Rattle.vast.specs.Leaves.{if_some, range_leaves, type_leaves, parameter_type_leaves};
 ghost use Rattle.vast.specs.ModuleTrees.{range_tree, type_tree, parameter_type};
+ghost use Rattle.vexpr_parse.specs.Answers.{Keeps, leaves_ahead};
 ghost use Rattle.vstatement_parse.specs.Gives.{Gives};
 ghost use Rattle.vparse.specs.ModuleGives.{TellsAt, optional_of, optional_range};
 ghost use Rattle.vparse.specs.TextReaders as reading;
@@ -17,7 +20,8 @@ use vstatement_parse::values::{ended, value};
 pub const LEVELS: u32 = 64;
 
 fn range(alloc: Global, tokens: &Tokens<'_>, cursor: &mut Cursor) -> Result<Bounds, OrMemory<Stop>>
-    ensures { Gives range_tree reading.range tokens.now cursor.old cursor.new result }
+    ensures gives { Gives range_tree reading.range tokens.now cursor.old cursor.new result }
+    ensures kept { IfOk result (Keeps range_leaves tokens.now cursor.old cursor.new) }
 {
     cursor.symbol(tokens, b"[")?;
     let left = value(alloc, tokens, cursor, LEVELS)?;
@@ -31,8 +35,9 @@ fn optional_range(
     tokens: &Tokens<'_>,
     cursor: &mut Cursor,
 ) -> Result<Option<Bounds>, OrMemory<Stop>>
-    ensures { Gives (optional_of range_tree) optional_range
+    ensures gives { Gives (optional_of range_tree) optional_range
         tokens.now cursor.old cursor.new result }
+    ensures kept { IfOk result (Keeps (if_some range_leaves) tokens.now cursor.old cursor.new) }
 {
     if cursor.begins(tokens, b"[") {
         Ok(Some(range(alloc, tokens, cursor)?))
@@ -43,7 +48,9 @@ fn optional_range(
 
 /// Whether this very word stands here, which is passed then.
 pub fn optional(tokens: &Tokens<'_>, cursor: &mut Cursor, text: &[u8]) -> bool
-    ensures { TellsAt tokens.now text.now cursor.old cursor.new result }
+    ensures tells { TellsAt tokens.now text.now cursor.old cursor.new result }
+    ensures kept { is_leaf text.now ≡ false →
+        leaves_ahead tokens.now cursor.old ≡ leaves_ahead tokens.now cursor.new }
 {
     if cursor.begins(tokens, text) {
         cursor.pass(tokens);
@@ -54,12 +61,14 @@ pub fn optional(tokens: &Tokens<'_>, cursor: &mut Cursor, text: &[u8]) -> bool
 }
 
 /// A sign and a range, each if it stands there.
+#[tactic(auto, using(crate::proofs::PlainWords::signed_plain))]
 pub fn sign_and_range(
     alloc: Global,
     tokens: &Tokens<'_>,
     cursor: &mut Cursor,
 ) -> Result<SignAndRange, OrMemory<Stop>>
-    ensures { Gives type_tree reading.type tokens.now cursor.old cursor.new result }
+    ensures gives { Gives type_tree reading.type tokens.now cursor.old cursor.new result }
+    ensures kept { IfOk result (Keeps type_leaves tokens.now cursor.old cursor.new) }
 {
     let signed = optional(tokens, cursor, b"signed");
     let range = optional_range(alloc, tokens, cursor)?;
@@ -67,12 +76,15 @@ pub fn sign_and_range(
 }
 
 /// The type of a parameter.
+#[tactic(auto, using(crate::proofs::PlainWords::integer_plain))]
 pub fn parameter_type(
     alloc: Global,
     tokens: &Tokens<'_>,
     cursor: &mut Cursor,
 ) -> Result<ParameterType, OrMemory<Stop>>
-    ensures { Gives parameter_type reading.parameter_type tokens.now cursor.old cursor.new result }
+    ensures gives { Gives parameter_type reading.parameter_type
+        tokens.now cursor.old cursor.new result }
+    ensures kept { IfOk result (Keeps parameter_type_leaves tokens.now cursor.old cursor.new) }
 {
     if cursor.begins(tokens, b"integer") {
         cursor.pass(tokens);

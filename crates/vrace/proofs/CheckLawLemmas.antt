@@ -13,7 +13,7 @@ use Rattle.vrace.specs.Checks.{Checked, HasNoSetting, IsCheckReason, IsFalseAt, 
 use Rattle.vrace.specs.Refusals.{IsOfMemory}
 use Rattle.vrace.specs.Replays.{IsDesignOfFiles}
 use Rattle.vrace.specs.declared.fault.Fault.{Fault}
-use Rattle.vrace.specs.declared.fault.Fault.TheVariants.{NotEnded, BadToken, Directive, NoMacro, Growth, LeftOpen, Timescales, NoTree, Outside, TooDeep, NoDesign, BadLog, NoSuchChoice, TooManySteps, OutOfLimit, BadReport, FalseEnd, FalseRace, FalseHead, Memory, Write, Read, TooLong}
+use Rattle.vrace.specs.declared.fault.Fault.TheVariants.{NotEnded, BadToken, Directive, NoMacro, TooLarge, LeftOpen, Timescales, NoTree, Outside, TooDeep, NoDesign, BadLog, NoSuchChoice, TooManySteps, OutOfLimit, BadReport, FalseEnd, FalseRace, FalseHead, Memory, Write, Read, TooLong}
 use Rattle.vrace.proofs.LawLemmas.{Laws, not_for_design, one_design_of}
 
 -- of a list of true ends each is true, with its dump
@@ -71,7 +71,7 @@ module _ (laws : Laws) (one_report : OneReportForText) (files : List (List ℕ))
     not_for_report (BadToken at) r = absurd r
     not_for_report (Directive at) r = absurd r
     not_for_report (NoMacro at) r = absurd r
-    not_for_report (Growth at) r = absurd r
+    not_for_report (TooLarge at) r = absurd r
     not_for_report (LeftOpen at) r = absurd r
     not_for_report (Timescales at) r = absurd r
     not_for_report (NoTree at) r = absurd r

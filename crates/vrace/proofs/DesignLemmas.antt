@@ -1,10 +1,20 @@
 -- A rule that the only tree of a text breaks leaves the text without a design.
 use Rattle.std.proofs.Common.{◌≡◌, inr, ℕ, List, Option, Result, Ok, Err, IfErr, sym, ap, subst, ◌∙◌}
+use Rattle.std.specs.Prelude.{option_and_then}
 use Rattle.vsrc.specs.Source.{Source}
 use Rattle.vsrc.specs.Expansion.{expansion}
 use Rattle.vsrc.specs.declared.fault.SrcFault.{SrcFault}
 use Rattle.vlex.specs.Tokenized.{Tokenized, pieces_of}
-use Rattle.vast.specs.Modules.{SourceTree, DerivesText}
+use Rattle.vast.specs.Words.{Text}
+use Rattle.vast.specs.Modules.{DerivesText}
+use Rattle.vast.specs.ModuleTrees.{source_tree}
+use Rattle.vast.specs.TokenTexts.{leaves_from}
+use Rattle.vast.specs.Leaves.{text_leaves}
+use Rattle.vast.specs.declared.module.TextTree.{TextTree}
+use Rattle.vast.specs.NumberedModules.{SourceTree}
+use Rattle.vast.specs.NumberedTexts.{IsNumbered}
+use Rattle.vast.specs.NumberedTrees.{source_tree as numbered_tree}
+use Rattle.vast.proofs.NumberedTextLemmas.{numbered_text, numbered_once}
 use Rattle.vexpr_parse.specs.Texts.{words_of}
 use Rattle.vparse.specs.Refusals.{HasNoText, IsOnlyText}
 use Rattle.vhierarchy.specs.Instances.{Elaborates}
@@ -12,31 +22,38 @@ use Rattle.vhierarchy.specs.Reasons.{IsDesignReason, HasNoDesign}
 use Rattle.velab.specs.declared.fault.ElabFault.{ElabFault}
 use Rattle.vrace.specs.Replays.{AreRead, IsTreeOf, texts_of}
 use Rattle.vrace.specs.Unique.{IsCut, IsReadAs}
-use Rattle.vrace.specs.Refusals.{Breaks, IsTextReason, IsDesignFault, IsTreeless}
+use Rattle.vrace.specs.declared.fault.At.{At}
+use Rattle.vrace.specs.Refusals.{Breaks, word_place, IsTextReason, IsDesignFault, IsTreeless}
 use Rattle.vrace.specs.declared.fault.Fault.{Fault}
 
 module _ (source : Source) (tokens : Tokenized) (cut : IsCut source tokens) where
   -- the words of any tree of the text are those of its tokens
-  at_words : (tree : SourceTree) → IsTreeOf source.text tree → DerivesText (words_of tokens) tree
+  at_words : (tree : SourceTree) (is : IsTreeOf source.text tree) → DerivesText (words_of tokens) is.plain × IsNumbered (words_of tokens) is.plain tree
   at_words tree is =
-      subst (λ pieces. DerivesText (texts_of pieces) tree) (cut.only is.pieces is.lexed) is.derived
+      subst (λ pieces. DerivesText (texts_of pieces) is.plain × IsNumbered (texts_of pieces) is.plain tree) (cut.only is.pieces is.lexed) (is.derived, is.numbered)
 
   pub treeless : HasNoText (words_of tokens) → IsTreeless source.text
-  treeless none tree is = none tree (at_words tree is)
+  treeless none tree is = none is.plain (at_words tree is).0
 
-  pub read_as : (tree : SourceTree) → DerivesText (words_of tokens) tree → IsOnlyText (words_of tokens) tree → IsReadAs source.text tree
-  read_as tree derived only = record {
-    is_tree = record { pieces = pieces_of tokens; lexed = cut.are_tokens.lexed; derived = derived };
-    only = λ other is. only other (at_words other is);
-  }
+  pub read_as : (text : TextTree) → DerivesText (words_of tokens) (source_tree (words_of tokens) text) → IsOnlyText (words_of tokens) (source_tree (words_of tokens) text) →
+      text_leaves text ≡ leaves_from 0 (words_of tokens) → IsReadAs source.text (numbered_tree (words_of tokens) text)
+  read_as text derived only kept =
+      let words : List Text = words_of tokens in
+      let here : IsNumbered words (source_tree words text) (numbered_tree words text) = numbered_text words text kept in
+      record {
+        is_tree = record { pieces = pieces_of tokens; lexed = cut.are_tokens.lexed; plain = source_tree words text; derived = derived; numbered = here };
+        only = λ other is.
+            numbered_once words (source_tree words text) other (numbered_tree words text)
+            (subst (λ plain. IsNumbered words plain other) (only is.plain (at_words other is).0) (at_words other is).1) here;
+      }
 
-pub breaks : (text : List ℕ) (tree : SourceTree) (top : Option (List ℕ)) (fault : ElabFault) → IsReadAs text tree →
-    IsDesignReason tree top fault → HasNoDesign tree top → Breaks text top fault.rule
-breaks text tree top fault read reason none = (
-  (λ scale design is.
-      none scale design (subst (λ t. Elaborates t top scale design) (read.only is.tree is.is_tree) is.elaborated)),
-  record { tree = tree; is_tree = read.is_tree; broken = reason },
-)
+  pub breaks : (tree : SourceTree) (top : Option (List ℕ)) (fault : ElabFault) (at : At) → IsReadAs source.text tree →
+      IsDesignReason tree top fault → HasNoDesign tree top → at ≡ record { 0 = option_and_then (word_place tokens) fault.at } → Breaks source top fault.rule at
+  breaks tree top fault at read reason none placed = (
+    (λ scale design is.
+        none scale design (subst (λ t. Elaborates t top scale design) (read.only is.tree is.is_tree) is.elaborated)),
+    record { tokens = tokens; are_tokens = cut.are_tokens; tree = tree; is_tree = read.is_tree; word = fault.at; broken = reason; place = placed },
+  )
 
 abbrev source_in : Source → Result Source SrcFault → Source
 source_in other (Ok source) = source

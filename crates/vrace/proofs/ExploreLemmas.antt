@@ -21,7 +21,7 @@ use Rattle.vrace.specs.Refusals.{IsOfWriting}
 use Rattle.vrace.specs.RunDumps.{failures_after, fault_of}
 use Rattle.vrace.specs.declared.exploring.Status.{Status}
 use Rattle.vrace.specs.declared.fault.Fault.{Fault}
-use Rattle.vrace.specs.declared.fault.Fault.TheVariants.{NotEnded, BadToken, Directive, NoMacro, Growth, LeftOpen, Timescales, NoTree, Outside, TooDeep, NoDesign, BadLog, NoSuchChoice, TooManySteps, OutOfLimit, BadReport, FalseEnd, FalseRace, FalseHead, Memory, Write, Read, TooLong}
+use Rattle.vrace.specs.declared.fault.Fault.TheVariants.{NotEnded, BadToken, Directive, NoMacro, TooLarge, LeftOpen, Timescales, NoTree, Outside, TooDeep, NoDesign, BadLog, NoSuchChoice, TooManySteps, OutOfLimit, BadReport, FalseEnd, FalseRace, FalseHead, Memory, Write, Read, TooLong}
 
 of_writing : (cause : OrMemory WriteFault) → IsOfWriting (fault_of cause)
 of_writing (or.Memory m) = tt
@@ -61,7 +61,7 @@ module _ (files : List (List ℕ)) (asked : Asked) (searched : Searched files as
   files_have status has = (searched, subst (λ (s : Setting). HasEntriesWhereCut s limits status) same has)
 
   search_reason : (fault : Fault) → IsSearchFault setting limits fault → IsSearchReason files asked limits fault
-  search_reason (Growth at) p = (searched, subst (λ (s : Setting). HasSomeLongDump s limits) same p)
+  search_reason (TooLarge at) p = (searched, subst (λ (s : Setting). HasSomeLongDump s limits) same p.0, p.1)
   search_reason (Memory m) p = tt
   search_reason (NotEnded at) p = absurd p
   search_reason (BadToken at) p = absurd p
@@ -86,7 +86,7 @@ module _ (files : List (List ℕ)) (asked : Asked) (searched : Searched files as
   search_reason TooLong p = absurd p
 
   no_failure : (fault : Fault) (n : ℕ) → IsSearchFault setting limits fault → n ≡ failures_after fault n
-  no_failure (Growth at) n p = refl
+  no_failure (TooLarge at) n p = refl
   no_failure (Memory m) n p = refl
   no_failure (NotEnded at) n p = absurd p
   no_failure (BadToken at) n p = absurd p

@@ -6,7 +6,10 @@ use Rattle.vsrc.specs.Expansion.{expansion, text_of, expanded_text, expanded_tim
 use Rattle.vsrc.specs.declared.fault.SrcFault.{SrcFault}
 use Rattle.vlex.specs.Laws.{CutsOneWay}
 use Rattle.vast.specs.Words.{Text}
-use Rattle.vast.specs.Modules.{SourceTree, DerivesText}
+use Rattle.vast.specs.Modules.{DerivesText}
+use Rattle.vast.specs.NumberedModules.{SourceTree}
+use Rattle.vast.specs.NumberedTexts.{IsNumbered}
+use Rattle.vast.proofs.NumberedTextLemmas.{numbered_once}
 use Rattle.vdesign.specs.Design.{Design}
 use Rattle.vgrammar.specs.SourcePlaces.{IsOnly}
 use Rattle.vhierarchy.specs.Instances.{Elaborates}
@@ -19,7 +22,7 @@ use Rattle.vrace.specs.Replays.{AreRead, texts_of, IsTreeOf, IsDesignOf, IsDesig
 use Rattle.vrace.specs.declared.replay.Show.{Show}
 use Rattle.vrace.specs.Refusals.{IsDesignFault, IsFileReason, IsTextReason, IsRunReason, IsReason, IsOfMemory, IsOfWriting}
 use Rattle.vrace.specs.declared.fault.Fault.{Fault}
-use Rattle.vrace.specs.declared.fault.Fault.TheVariants.{NotEnded, BadToken, Directive, NoMacro, Growth, LeftOpen, Timescales, NoTree, Outside, TooDeep, NoDesign, BadLog, NoSuchChoice, TooManySteps, OutOfLimit, BadReport, FalseEnd, FalseRace, FalseHead, Memory, Write, Read, TooLong}
+use Rattle.vrace.specs.declared.fault.Fault.TheVariants.{NotEnded, BadToken, Directive, NoMacro, TooLarge, LeftOpen, Timescales, NoTree, Outside, TooDeep, NoDesign, BadLog, NoSuchChoice, TooManySteps, OutOfLimit, BadReport, FalseEnd, FalseRace, FalseHead, Memory, Write, Read, TooLong}
 use Rattle.vreport.specs.RunLaws.{same_end, never_missing, never_more}
 
 pub record Laws : Type 0 where
@@ -36,7 +39,7 @@ module _ (laws : Laws) (files : List (List ℕ)) (read : AreRead files) where
   not_for_files : (fault : Fault) → IsFileReason files fault → IsOfMemory fault
   not_for_files (Directive at) (within, (place, told, refused)) = absurd (expands _ refused)
   not_for_files (NoMacro at) (within, (place, told, refused)) = absurd (expands _ refused)
-  not_for_files (Growth at) (within, (place, told, refused)) = absurd (expands _ refused)
+  not_for_files (TooLarge at) (within, (place, told, refused)) = absurd (expands _ refused)
   not_for_files (LeftOpen at) (within, (place, told, refused)) = absurd (expands _ refused)
   not_for_files (Timescales at) (within, (place, told, refused)) = absurd (expands _ refused)
   not_for_files (Memory m) r = tt
@@ -74,7 +77,7 @@ module _ (laws : Laws) (files : List (List ℕ)) (read : AreRead files) where
       not_for_text (Memory m) r = tt
       not_for_text (Directive at) r = absurd r
       not_for_text (NoMacro at) r = absurd r
-      not_for_text (Growth at) r = absurd r
+      not_for_text (TooLarge at) r = absurd r
       not_for_text (LeftOpen at) r = absurd r
       not_for_text (Timescales at) r = absurd r
       not_for_text BadLog r = absurd r
@@ -99,7 +102,7 @@ of_writing (NotEnded at) r = absurd r
 of_writing (BadToken at) r = absurd r
 of_writing (Directive at) r = absurd r
 of_writing (NoMacro at) r = absurd r
-of_writing (Growth at) r = absurd r
+of_writing (TooLarge at) r = absurd r
 of_writing (LeftOpen at) r = absurd r
 of_writing (Timescales at) r = absurd r
 of_writing (NoTree at) r = absurd r
@@ -122,8 +125,10 @@ module _ (laws : Laws) where
   same_tree : (text : List ℕ) (t u : SourceTree) → IsTreeOf text t → IsTreeOf text u → t ≡ u
   same_tree text t u a b =
       let pieces = laws.one_list text a.pieces b.pieces a.lexed b.lexed in
-      let here = subst (λ ps. DerivesText (texts_of ps) t) pieces a.derived in
-      laws.one_tree 64 64 (texts_of b.pieces) t u here b.derived
+      let here : DerivesText (texts_of b.pieces) a.plain × IsNumbered (texts_of b.pieces) a.plain t =
+      subst (λ ps. DerivesText (texts_of ps) a.plain × IsNumbered (texts_of ps) a.plain t) pieces (a.derived, a.numbered) in
+      numbered_once (texts_of b.pieces) b.plain t u
+      (subst (λ plain. IsNumbered (texts_of b.pieces) plain t) (laws.one_tree 64 64 (texts_of b.pieces) a.plain b.plain here.0 b.derived) here.1) b.numbered
 
   pub one_design_of : (text : List ℕ) (scale : Timescale) (top : Option Text) (d e : Design) →
       IsDesignOf text scale top d → IsDesignOf text scale top e → d ≡ e
@@ -167,7 +172,7 @@ module _ (laws : Laws) where
       not_for_run (BadToken at) r = absurd r
       not_for_run (Directive at) r = absurd r
       not_for_run (NoMacro at) r = absurd r
-      not_for_run (Growth at) r = absurd r
+      not_for_run (TooLarge at) r = absurd r
       not_for_run (LeftOpen at) r = absurd r
       not_for_run (Timescales at) r = absurd r
       not_for_run (NoTree at) r = absurd r

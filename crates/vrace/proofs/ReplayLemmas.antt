@@ -22,7 +22,7 @@ use Rattle.vreport.specs.Dumps.{IsRunDump}
 use Rattle.vrace.proofs.DumpLemmas.{the_dump}
 use Rattle.vrace.specs.RunDumps.{IsRunFault, IsRunShown, Ends, fault_of, failures_after}
 use Rattle.vrace.specs.declared.fault.Fault.{Fault}
-use Rattle.vrace.specs.declared.fault.Fault.TheVariants.{NotEnded, BadToken, Directive, NoMacro, Growth, LeftOpen, Timescales, NoTree, Outside, TooDeep, NoDesign, BadLog, NoSuchChoice, TooManySteps, OutOfLimit, BadReport, FalseEnd, FalseRace, FalseHead, Memory, Write, Read, TooLong}
+use Rattle.vrace.specs.declared.fault.Fault.TheVariants.{NotEnded, BadToken, Directive, NoMacro, TooLarge, LeftOpen, Timescales, NoTree, Outside, TooDeep, NoDesign, BadLog, NoSuchChoice, TooManySteps, OutOfLimit, BadReport, FalseEnd, FalseRace, FalseHead, Memory, Write, Read, TooLong}
 
 of_writing : (cause : OrMemory WriteFault) → IsOfWriting (fault_of cause)
 of_writing (or.Memory m) = tt
@@ -68,7 +68,7 @@ module _ (files : List (List ℕ)) (asked : Asked) (log : List ℕ) (played : Pl
   run_reason (BadToken at) p = absurd p
   run_reason (Directive at) p = absurd p
   run_reason (NoMacro at) p = absurd p
-  run_reason (Growth at) p = absurd p
+  run_reason (TooLarge at) p = absurd p
   run_reason (LeftOpen at) p = absurd p
   run_reason (Timescales at) p = absurd p
   run_reason (NoTree at) p = absurd p

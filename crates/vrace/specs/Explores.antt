@@ -1,5 +1,5 @@
 -- What an exploration writes, from the bytes of the files to the report; and when it is refused.
-use Rattle.std.specs.Prelude.{◌≡◌, ℕ, ◌<◌, ◌≤◌, ◌⊎◌, List, [], Option, length, take}
+use Rattle.std.specs.Prelude.{◌≡◌, ℕ, ◌<◌, ◌≤◌, ◌⊎◌, List, [], Option, None, length, take}
 use Rattle.std.specs.Io.KnownBytes.{Appends}
 use Rattle.basis.specs.Reasons.{Because}
 use Rattle.basis.specs.declared.memory.OrMemory.{OrMemory}
@@ -27,8 +27,9 @@ use Rattle.vrace.specs.Replays.{AreRead, IsDesignOfFiles}
 use Rattle.vrace.specs.RunDumps.{fault_of}
 use Rattle.vrace.specs.declared.exploring.Status.{Status}
 use Rattle.vrace.specs.declared.exploring.Status.TheVariants.{NoRace, Raced, Cut}
+use Rattle.vrace.specs.declared.fault.At.{At}
 use Rattle.vrace.specs.declared.fault.Fault.{Fault}
-use Rattle.vrace.specs.declared.fault.Fault.TheVariants.{Growth, Memory, OutOfLimit, Write}
+use Rattle.vrace.specs.declared.fault.Fault.TheVariants.{TooLarge, Memory, OutOfLimit, Write}
 
 -- What a report says in one word: no race was found and nothing was missed; or a race was found, and so the exploration went;
 -- or none was found, and for this reason the exploration was cut.
@@ -63,9 +64,13 @@ pub record Reports {W : Type 0} (contents : W → Option (List ℕ)) (setting : 
 abbrev pub HasEntriesWhereCut : Setting → Limits → Status → Type 0
 HasEntriesWhereCut setting limits status = IsCutForEntries status → HasEntries (rules_of setting) limits
 
+-- no file and line is told
+abbrev pub HasNoPlace : At → Type 0
+HasNoPlace at = at ≡ record { 0 = None }
+
 -- why there is no report
 abbrev pub IsSearchFault : Setting → Limits → Fault → Type 0
-IsSearchFault setting limits (Growth at) = HasSomeLongDump setting limits
+IsSearchFault setting limits (TooLarge at) = HasSomeLongDump setting limits × HasNoPlace at
 IsSearchFault setting limits (Memory m) = Unit {0}
 IsSearchFault setting limits other = ⊥
 
@@ -114,7 +119,8 @@ FilesHaveEntriesWhereCut files asked limits status =
 
 -- what a fault of the search or of its report says
 abbrev pub IsSearchReason : List (List ℕ) → Asked → Limits → Fault → Type 0
-IsSearchReason files asked limits (Growth at) = (searched : Searched files asked) × HasSomeLongDump (setting_for files asked searched) limits
+IsSearchReason files asked limits (TooLarge at) =
+    (searched : Searched files asked) × HasSomeLongDump (setting_for files asked searched) limits × HasNoPlace at
 IsSearchReason files asked limits (Memory m) = Unit {0}
 IsSearchReason files asked limits Write =
     (searched : Searched files asked) × (report : Report) × (dumps : List (List ℕ)) × IsReported (setting_for files asked searched) limits report dumps

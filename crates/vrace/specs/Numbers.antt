@@ -6,7 +6,7 @@ use Rattle.vrace.specs.declared.fault.Detail.TheVariants.{Nothing, Place, Item}
 use Rattle.velab.specs.declared.fault.Rule.{Rule}
 use Rattle.velab.specs.declared.fault.Rule.TheVariants.{Top, Doubled, Unknown, Drivers, Ports, Width, Constant, Depth, TooMany, Kind}
 use Rattle.vrace.specs.declared.fault.Fault.{Fault}
-use Rattle.vrace.specs.declared.fault.Fault.TheVariants.{NotEnded, BadToken, Directive, NoMacro, Growth, LeftOpen, Timescales, NoTree, Outside, TooDeep, NoDesign, BadLog, NoSuchChoice, TooManySteps, OutOfLimit, BadReport, FalseEnd, FalseRace, FalseHead, Memory, Write, Read, TooLong}
+use Rattle.vrace.specs.declared.fault.Fault.TheVariants.{NotEnded, BadToken, Directive, NoMacro, TooLarge, LeftOpen, Timescales, NoTree, Outside, TooDeep, NoDesign, BadLog, NoSuchChoice, TooManySteps, OutOfLimit, BadReport, FalseEnd, FalseRace, FalseHead, Memory, Write, Read, TooLong}
 
 -- a rule that a text without a design breaks
 abbrev pub rule_number : Rule → ℕ
@@ -26,7 +26,7 @@ number_of (NotEnded at) = 101
 number_of (BadToken at) = 102
 number_of (Directive at) = 110
 number_of (NoMacro at) = 111
-number_of (Growth at) = 112
+number_of (TooLarge at) = 112
 number_of (LeftOpen at) = 113
 number_of (Timescales at) = 114
 number_of (NoTree at) = 201
@@ -52,7 +52,7 @@ detail_of (NotEnded at) = Place at
 detail_of (BadToken at) = Place at
 detail_of (Directive at) = Place at
 detail_of (NoMacro at) = Place at
-detail_of (Growth at) = Place at
+detail_of (TooLarge at) = Place at
 detail_of (LeftOpen at) = Place at
 detail_of (Timescales at) = Place at
 detail_of (NoTree at) = Place at

@@ -1,16 +1,17 @@
 -- When a replay is refused, and what then stands written.
-use Rattle.std.specs.Prelude.{◌≡◌, ℕ, ◌<◌, ◌≤◌, ◌⊎◌, List, Option, Some, Err, take}
+use Rattle.std.specs.Prelude.{◌≡◌, ℕ, ◌<◌, ◌≤◌, nat_le, if◌then◌else◌, ◌⊎◌, List, length, Option, None, Some, option_and_then, Err, take}
 use Rattle.std.specs.Io.KnownBytes.{Appends}
 use Rattle.basis.specs.declared.timescale.Timescale.{Timescale}
-use Rattle.vsrc.specs.Source.{Source}
+use Rattle.vsrc.specs.Source.{Source, place_of}
 use Rattle.vsrc.specs.Expansion.{expansion}
 use Rattle.vsrc.specs.declared.fault.SrcFault.{SrcFault}
 use Rattle.vsrc.specs.declared.fault.SrcFault.TheVariants as source
 use Rattle.vsrc.specs.declared.expanded.Place.{Place}
 use Rattle.vlex.specs.Lexed.{HasNoTokens, IsTokenReason}
-use Rattle.vlex.specs.Tokenized.{Tokenized}
+use Rattle.vlex.specs.Tokenized.{Tokenized, start_of}
+use Rattle.vexpr_parse.specs.Texts.{words_of}
 use Rattle.vlex.specs.declared.fault.LexFault.TheVariants as pieces
-use Rattle.vast.specs.Modules.{SourceTree}
+use Rattle.vast.specs.NumberedModules.{SourceTree}
 use Rattle.vdesign.specs.Design.{Design}
 use Rattle.vparse.specs.Refusals.{IsRefusal}
 use Rattle.vparse.specs.declared.fault.SyntaxFault.{SyntaxFault}
@@ -26,7 +27,7 @@ use Rattle.vrace.specs.declared.replay.Show.{Show}
 use Rattle.vrace.specs.declared.fault.At.{At}
 use Rattle.velab.specs.declared.fault.Rule.{Rule}
 use Rattle.vrace.specs.declared.fault.Fault.{Fault}
-use Rattle.vrace.specs.declared.fault.Fault.TheVariants.{NotEnded, BadToken, Directive, NoMacro, Growth, LeftOpen, Timescales, NoTree, Outside, TooDeep, NoDesign, BadLog, NoSuchChoice, TooManySteps, Memory, Write, TooLong}
+use Rattle.vrace.specs.declared.fault.Fault.TheVariants.{NotEnded, BadToken, Directive, NoMacro, TooLarge, LeftOpen, Timescales, NoTree, Outside, TooDeep, NoDesign, BadLog, NoSuchChoice, TooManySteps, Memory, Write, TooLong}
 
 -- where a fault was found is told: this holds of its place
 abbrev pub IsAt : At → (Place → Type 0) → Type 0
@@ -42,14 +43,23 @@ IsDesignless text top = (scale : Timescale) (design : Design) → IsDesignOf tex
 abbrev pub HasRefusal : Source → SyntaxFault → Type 0
 HasRefusal source fault = (tokens : Tokenized) × AreTokens source tokens × IsRefusal tokens fault
 
--- the text has a tree, of which this is the first rule that is broken
-pub record IsBroken (text : List ℕ) (top : Option (List ℕ)) (rule : Rule) : Type 0 where
-  pub tree : SourceTree
-  pub is_tree : IsTreeOf text tree
-  pub broken : broken_rule tree top ≡ Some rule
+-- where the word of this number stands
+abbrev pub word_place : Tokenized → ℕ → Option Place
+word_place tokens number =
+    if nat_le number (length (words_of tokens)) then Some (place_of tokens.source (start_of tokens number)) else None
 
-abbrev pub Breaks : List ℕ → Option (List ℕ) → Rule → Type 0
-Breaks text top rule = IsDesignless text top × IsBroken text top rule
+-- the text has a tree, of which this is the first rule that is broken, at the place of the word where it is, if there is one
+pub record IsBroken (source : Source) (top : Option (List ℕ)) (rule : Rule) (at : At) : Type 0 where
+  pub tokens : Tokenized
+  pub are_tokens : AreTokens source tokens
+  pub tree : SourceTree
+  pub is_tree : IsTreeOf source.text tree
+  pub word : Option ℕ
+  pub broken : broken_rule tree top ≡ Some (record { rule = rule; at = word })
+  pub place : at ≡ record { 0 = option_and_then (word_place tokens) word }
+
+abbrev pub Breaks : Source → Option (List ℕ) → Rule → At → Type 0
+Breaks source top rule at = IsDesignless source.text top × IsBroken source top rule at
 
 -- the directives and macros of the files have this fault, at this place
 abbrev pub IsRefusedBy : (Place → SrcFault) → List (List ℕ) → At → Type 0
@@ -59,7 +69,7 @@ IsRefusedBy fault files at = (total files ≤ limit) × IsAt at (λ place. expan
 abbrev pub IsFileReason : List (List ℕ) → Fault → Type 0
 IsFileReason files (Directive at) = IsRefusedBy source.Directive files at
 IsFileReason files (NoMacro at) = IsRefusedBy source.NoMacro files at
-IsFileReason files (Growth at) = IsRefusedBy source.Growth files at
+IsFileReason files (TooLarge at) = IsRefusedBy source.Growth files at
 IsFileReason files (LeftOpen at) = IsRefusedBy source.LeftOpen files at
 IsFileReason files (Timescales at) = IsRefusedBy source.Timescales files at
 IsFileReason files (Memory m) = Unit {0}
@@ -67,14 +77,14 @@ IsFileReason files TooLong = limit < total files
 IsFileReason files other = ⊥
 
 -- What a fault of the text says of it. The place of E101, E102 and E2xx is that of what can't be read; that of E3xx is
--- shown, and not told.
+-- of the word at which the rule is broken.
 abbrev pub IsTextReason : Source → Option (List ℕ) → Fault → Type 0
 IsTextReason source top (NotEnded at) = HasNoTokens source.text × IsAt at (λ place. IsTokenReason source (pieces.NotEnded place))
 IsTextReason source top (BadToken at) = HasNoTokens source.text × IsAt at (λ place. IsTokenReason source (pieces.BadToken place))
 IsTextReason source top (NoTree at) = IsTreeless source.text × IsAt at (λ place. HasRefusal source (words.NoTree place))
 IsTextReason source top (Outside at) = IsTreeless source.text × IsAt at (λ place. HasRefusal source (words.Outside place))
 IsTextReason source top (TooDeep at) = IsTreeless source.text × IsAt at (λ place. HasRefusal source (words.TooDeep place))
-IsTextReason source top (NoDesign rule at) = Breaks source.text top rule
+IsTextReason source top (NoDesign rule at) = Breaks source top rule at
 IsTextReason source top (Memory m) = Unit {0}
 IsTextReason source top other = ⊥
 

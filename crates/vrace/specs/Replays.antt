@@ -6,7 +6,9 @@ use Rattle.vsrc.specs.Expansion.{expansion, expanded_text, expanded_timescale}
 use Rattle.vlex.specs.Lexed.{Lexed, Piece}
 use Rattle.vlex.specs.Tokenized.{Tokenized, pieces_of, IsTokenAt, AreInOrder}
 use Rattle.vast.specs.Words.{Text}
-use Rattle.vast.specs.Modules.{SourceTree, DerivesText}
+use Rattle.vast.specs.Modules.{DerivesText, SourceTree as PlainTree}
+use Rattle.vast.specs.NumberedModules.{SourceTree}
+use Rattle.vast.specs.NumberedTexts.{IsNumbered}
 use Rattle.vdesign.specs.Design.{Design}
 use Rattle.vhierarchy.specs.Instances.{Elaborates}
 use Rattle.sched_core.specs.Logs.{IsLog}
@@ -41,11 +43,13 @@ pub record AreRead (files : List (List ℕ)) : Type 0 where
 abbrev pub texts_of : List Piece → List Text
 texts_of = map (λ piece. piece.text)
 
--- A text stands for a tree: its tokens derive it.
+-- A text stands for a tree: its tokens derive it, and its words have their numbers among them.
 pub record IsTreeOf (text : List ℕ) (tree : SourceTree) : Type 0 where
   pub pieces : List Piece
   pub lexed : Lexed text pieces
-  pub derived : DerivesText (texts_of pieces) tree
+  pub plain : PlainTree
+  pub derived : DerivesText (texts_of pieces) plain
+  pub numbered : IsNumbered (texts_of pieces) plain tree
 
 -- these are the tokens of a text, each told where it stands
 pub record AreTokens (source : Source) (tokens : Tokenized) : Type 0 where

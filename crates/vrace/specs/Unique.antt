@@ -3,7 +3,7 @@ use Rattle.std.specs.Prelude.{◌≡◌, ℕ, List}
 use Rattle.vsrc.specs.Source.{Source}
 use Rattle.vlex.specs.Lexed.{IsOnlyLexed}
 use Rattle.vlex.specs.Tokenized.{Tokenized, pieces_of}
-use Rattle.vast.specs.Modules.{SourceTree}
+use Rattle.vast.specs.NumberedModules.{SourceTree}
 use Rattle.vrace.specs.Replays.{AreTokens, IsTreeOf}
 
 pub record IsCut (source : Source) (tokens : Tokenized) : Type 0 where

@@ -1,12 +1,12 @@
 // From the bytes of the files to the design that they stand for.
 
-ghost use Rattle.std.specs.Prelude.{◌≡◌, ◌≤◌, ℕ, nat_lt, List, Option, IfOk, OnOk, IfErr, option_map, true, false, None, Some, Ok, Err};
+ghost use Rattle.std.specs.Prelude.{◌≡◌, ◌≤◌, ℕ, nat_lt, List, Option, IfOk, OnOk, IfErr, option_map, option_and_then, true, false, None, Some, Ok, Err};
 ghost use Rattle.vsrc.specs.Source.{Source, file_bytes};
 ghost use Rattle.vsrc.specs.Expansion.{expansion, expanded_text, expanded_timescale};
 ghost use Rattle.vlex.specs.Lexed.{HasNoTokens, IsTokenReason};
 ghost use Rattle.vlex.specs.Tokenized.{Tokenized};
-ghost use Rattle.vast.specs.Modules.{SourceTree};
-ghost use Rattle.vast.specs.ModuleTrees.{source_tree};
+ghost use Rattle.vast.specs.NumberedModules.{SourceTree};
+ghost use Rattle.vast.specs.NumberedTrees.{source_tree};
 ghost use Rattle.vexpr_parse.specs.Texts.{words_of};
 ghost use Rattle.vparse.specs.Refusals.{HasNoText, IsRefusal};
 ghost use Rattle.vhierarchy.specs.Instances.{Elaborates};
@@ -14,7 +14,7 @@ ghost use Rattle.vmodules.specs.Inner.{named_text};
 ghost use Rattle.vhierarchy.specs.Reasons.{IsDesignReason, HasNoDesign};
 ghost use Rattle.vrace.specs.Replays.{limit, total, AreRead, IsDesignOf, IsDesignOfFiles};
 ghost use Rattle.vrace.specs.Unique.{IsCut, IsReadAs};
-ghost use Rattle.vrace.specs.Refusals.{IsFileReason, IsTextReason, IsDesignFault};
+ghost use Rattle.vrace.specs.Refusals.{word_place, IsFileReason, IsTextReason, IsDesignFault};
 
 use crate::fault::{At, Fault};
 use crate::read::LIMIT;
@@ -37,7 +37,9 @@ fn at(place: Place) -> At
 }
 
 // The place of the token of this number, if there is one.
-fn place_of(tokens: &Tokens<'_>, number: u32) -> Option<Place> {
+fn place_of(tokens: &Tokens<'_>, number: u32) -> Option<Place>
+    ensures { result ≡ word_place tokens.now number }
+{
     if number as usize <= tokens.len() {
         Some(tokens.place(number as usize))
     } else {
@@ -46,7 +48,9 @@ fn place_of(tokens: &Tokens<'_>, number: u32) -> Option<Place> {
 }
 
 // The place of the token of this number, if a number is known.
-fn at_token(tokens: &Tokens<'_>, number: Option<u32>) -> At {
+fn at_token(tokens: &Tokens<'_>, number: Option<u32>) -> At
+    ensures { result ≡ record { 0 = option_and_then (word_place tokens.now) number } }
+{
     match number {
         None => At(None),
         Some(number) => At(place_of(tokens, number)),
@@ -87,7 +91,7 @@ fn of_source(fault: SrcFault) -> Fault
     match fault {
         SrcFault::Directive { place } => Fault::Directive(at(place)),
         SrcFault::NoMacro { place } => Fault::NoMacro(at(place)),
-        SrcFault::Growth { place } => Fault::Growth(at(place)),
+        SrcFault::Growth { place } => Fault::TooLarge(at(place)),
         SrcFault::LeftOpen { place } => Fault::LeftOpen(at(place)),
         SrcFault::Timescales { place } => Fault::Timescales(at(place)),
     }
@@ -120,8 +124,8 @@ fn of_tree(fault: SyntaxFault) -> Fault
 // What stops the elaboration of the tree.
 fn of_design(tokens: &Tokens<'_>, fault: ElabFault) -> Fault
     ensures { (source : Source) (tree : SourceTree) (top : Option (List ℕ)) →
-        IsReadAs source.text tree → IsDesignReason tree top fault → HasNoDesign tree top →
-        IsTextReason source top result }
+        IsCut source tokens.now → IsReadAs source.text tree → IsDesignReason tree top fault →
+        HasNoDesign tree top → IsTextReason source top result }
 {
     Fault::NoDesign(fault.rule, at_token(tokens, fault.at))
 }
@@ -176,7 +180,7 @@ fn design_of_tree(
 ) -> Result<Design, Fault>
     ensures ok { IfOk result
         (Elaborates (source_tree (words_of tokens.now) tree.now) (named_text top.entry) scale) }
-    ensures err { (source : Source) →
+    ensures err { (source : Source) → IsCut source tokens.now →
         IsReadAs source.text (source_tree (words_of tokens.now) tree.now) →
         IfErr result (IsTextReason source (named_text top.entry)) }
 {

@@ -60,7 +60,7 @@ fn of_search(fault: OrMemory<TooMany>) -> Fault
     ensures { TellsSearchFault fault result }
 {
     match fault {
-        OrMemory::Fault(_) => Fault::Growth(At(None)),
+        OrMemory::Fault(_) => Fault::TooLarge(At(None)),
         OrMemory::Memory(refused) => Fault::Memory(refused),
     }
 }

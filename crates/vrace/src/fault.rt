@@ -59,7 +59,7 @@ pub enum Fault {
     /// The name behind a backtick has no macro.
     NoMacro(At),
     /// Macros or conditionals nest too deep, or the text or the number of uses grows too large.
-    Growth(At),
+    TooLarge(At),
     /// A conditional is left open.
     LeftOpen(At),
     /// A second timescale differs from the first.
@@ -119,7 +119,7 @@ impl Fault {
             Fault::BadToken(_) => 102,
             Fault::Directive(_) => 110,
             Fault::NoMacro(_) => 111,
-            Fault::Growth(_) => 112,
+            Fault::TooLarge(_) => 112,
             Fault::LeftOpen(_) => 113,
             Fault::Timescales(_) => 114,
             Fault::NoTree(_) => 201,
@@ -150,7 +150,7 @@ impl Fault {
             Fault::BadToken(at) => Detail::Place(*at),
             Fault::Directive(at) => Detail::Place(*at),
             Fault::NoMacro(at) => Detail::Place(*at),
-            Fault::Growth(at) => Detail::Place(*at),
+            Fault::TooLarge(at) => Detail::Place(*at),
             Fault::LeftOpen(at) => Detail::Place(*at),
             Fault::Timescales(at) => Detail::Place(*at),
             Fault::NoTree(at) => Detail::Place(*at),

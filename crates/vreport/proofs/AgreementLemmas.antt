@@ -11,7 +11,7 @@ use Rattle.report_text.specs.declared.report.Outcome.TheVariants.{Exhausted}
 use Rattle.report_text.specs.Report.{Race, Report}
 use Rattle.vreport.specs.Agreement.{ExhaustedAgree, HasEnd, HasRaced, IsPartOf}
 use Rattle.vreport.specs.Reports.{IsExploration, told_race, told_value}
-use Rattle.vreport.specs.Values.{value_text}
+use Rattle.vreport.specs.Values.{report_digits}
 use Rattle.vreport.proofs.MappedLemmas.{of_mapped}
 
 -- what two or more values of a race show, each by a run of so many departures
@@ -64,7 +64,7 @@ module _ (setting : Setting) (limits others : Limits) (one other : Report) (x : 
         value_place = listed.value_place;
         seen = told_value listed.sighting;
         value_at = slice_get-map told_value listed.race.values listed.value_place ∙ ap (option_map told_value) listed.value_at;
-        digits_are = ap value_text listed.value_is ∙ ap (λ (v : List ℕ × List (ℕ × ℕ)). v.0) seen.2 ∙ has.digits_are;
+        digits_are = ap report_digits listed.value_is ∙ ap (λ (v : List ℕ × List (ℕ × ℕ)). v.0) seen.2 ∙ has.digits_are;
       }
 
   is_part : IsPartOf one other

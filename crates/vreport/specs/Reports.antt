@@ -21,7 +21,7 @@ use Rattle.report_text.specs.WellFormed.{Each, EachTwo, IsEndBefore}
 use Rattle.vreport.specs.Ends.{HasBytes, IsTrueEnd, ListsEveryEnd}
 use Rattle.vreport.specs.Formed.{IsFormed}
 use Rattle.vreport.specs.Truth.{IsTrueHead}
-use Rattle.vreport.specs.Values.{value_text}
+use Rattle.vreport.specs.Values.{report_digits}
 use Rattle.vreport.specs.declared.explored.Explored.{Explored}
 
 -- how the exploration went
@@ -45,7 +45,7 @@ pub record IsHeadOf (setting : Setting) (limits : Limits) (report : Report) : Ty
 
 -- a value as its digits, with its log
 abbrev pub told_value : Vector × List (ℕ × ℕ) → List ℕ × List (ℕ × ℕ)
-told_value seen = (value_text seen.0, seen.1)
+told_value seen = (report_digits seen.0, seen.1)
 
 abbrev pub told_race : found.Race → Race
 told_race race = record { time = race.time; variable = race.variable; values = map told_value race.values }

@@ -1,7 +1,7 @@
 // Values as a report tells them.
 
 ghost use Rattle.std.specs.Prelude.{◌≡◌, ◌++◌, IfOk, OnOk};
-ghost use Rattle.vreport.specs.Values.{more_values, value_text, values_line};
+ghost use Rattle.vreport.specs.Values.{more_values, report_digits, values_line};
 
 use basis::NoMemory;
 use std::alloc::Global;
@@ -10,7 +10,7 @@ use vcd_text::put_digits;
 
 /// The digits of a value, leftmost first.
 pub fn text_of_value(alloc: Global, value: Vec4) -> Result<Vec<u8>, NoMemory>
-    ensures { IfOk result (λ text. text.items ≡ value_text value) }
+    ensures { IfOk result (λ text. text.items ≡ report_digits value) }
 {
     let mut text = Vec::with_capacity(alloc, value.len() as usize)?;
     put_digits(&mut text, value)?;

@@ -3,3 +3,5 @@ pub mod StatementTurns
 pub mod CaseTurns
 pub mod PrintTurns
 pub mod LevelTurns
+pub mod KeptLists
+pub mod LeafWords

@@ -1,6 +1,9 @@
 -- What is read of a case: its labels, its branches. Nothing here has to be believed.
 use Rattle.std.specs.Prelude.{ℕ, Bool, not, List, [], ◌∷◌, Option, Vec, map, codes}
+use Rattle.std.specs.List.{flat_map}
 use Rattle.vast.specs.Words.{Text}
+use Rattle.vast.specs.Leaves.{leaves_of, branch_leaves}
+use Rattle.vast.specs.declared.token.Token.{Token}
 use Rattle.vast.specs.Expressions.{ExpressionTree}
 use Rattle.vast.specs.ExpressionTrees.{tree_of}
 use Rattle.vast.specs.Statements.{StatementTree, BranchTree, labelled, case_of}
@@ -79,3 +82,10 @@ case_whole below kind = past (codes "(") (case_inner below kind)
 
 abbrev pub case_at : ℕ → CaseKind → Reader StatementTree
 case_at below kind = made (case_parts_of kind) (case_parts below (statement below))
+
+-- the tokens that are kept of labels, and of branches
+abbrev pub all_label_leaves : {T : Type 0} → Vec Expression T → List Token
+all_label_leaves labels = flat_map leaves_of labels.items
+
+abbrev pub all_branch_leaves : {T : Type 0} → Vec BranchWords T → List Token
+all_branch_leaves branches = flat_map branch_leaves branches.items

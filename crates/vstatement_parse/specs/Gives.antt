@@ -1,17 +1,19 @@
 -- What the program's functions answer that read by the definitions. Nothing here has to be believed.
-use Rattle.std.specs.Prelude.{◌≡◌, ℕ, Bool, not, List, [], ◌∷◌, Option, Some, Box, Vec, map, option_map, codes, Result, Ok, Err}
+use Rattle.std.specs.Prelude.{◌≡◌, ℕ, Bool, not, List, [], ◌∷◌, ◌++◌, Option, Some, Box, Vec, map, option_map, codes, Result, Ok, Err, IfOk}
+use Rattle.std.specs.List.{flat_map}
 use Rattle.vast.specs.Words.{Text}
 use Rattle.vast.specs.Expressions.{ExpressionTree}
 use Rattle.std.specs.Borrow.{MutBor}
 use Rattle.vast.specs.ExpressionTrees.{boxed_tree}
 use Rattle.vast.specs.StatementTrees.{target_tree, statement_tree, path_tree, argument_tree, delay_tree, selection_tree, term_tree, further_term as further_tree}
+use Rattle.vast.specs.Leaves.{target_leaves, pair_leaves, term_leaves, further_leaves, argument_leaves, path_leaves, statement_leaves}
 use Rattle.vast.specs.declared.statement.Statement.{Statement}
 use Rattle.vast.specs.declared.statement.Target.{Target}
 use Rattle.vast.specs.declared.expression.Expression.{Expression}
 use Rattle.basis.specs.declared.memory.OrMemory.{OrMemory}
 use Rattle.vexpr_parse.specs.declared.stop.Stop.{Stop}
 use Rattle.vexpr_parse.specs.Readers.{Answer, Reader, got, and_then, led, past, is_front, turns}
-use Rattle.vexpr_parse.specs.Answers.{Stops, ahead}
+use Rattle.vexpr_parse.specs.Answers.{Stops, Keeps, ahead}
 use Rattle.vexpr_parse.specs.Texts.{words_of}
 use Rattle.vexpr_parse.specs.declared.cursor.Cursor.{Cursor}
 use Rattle.vlex.specs.Tokenized.{Tokenized}
@@ -63,6 +65,12 @@ ReadsTargets tokens below call =
     (old new : MutBor Cursor) (result : Result Target (OrMemory Stop)) → call old result new →
     Gives target_tree (target below) tokens old.now new.now result
 
+-- each call keeps the tokens that it passes
+abbrev pub KeepsTargets : Tokenized → (MutBor Cursor → Result Target (OrMemory Stop) → MutBor Cursor → Type 0) → Type 0
+KeepsTargets tokens call =
+    (old new : MutBor Cursor) (result : Result Target (OrMemory Stop)) → call old result new →
+    IfOk result (Keeps target_leaves tokens old.now new.now)
+
 -- the trees of targets
 abbrev pub all_targets : {T : Type 0} → List Text → Vec Target T → List TargetTree
 all_targets words targets = map (target_tree words) targets.items
@@ -99,6 +107,12 @@ abbrev pub ReadsStatements : Tokenized → ℕ →
 ReadsStatements tokens below call =
     (old new : MutBor Cursor) (result : Result Statement (OrMemory Stop)) → call old result new →
     Gives statement_tree (statement below) tokens old.now new.now result
+
+-- each call keeps the tokens that it passes
+abbrev pub KeepsStatements : Tokenized → (MutBor Cursor → Result Statement (OrMemory Stop) → MutBor Cursor → Type 0) → Type 0
+KeepsStatements tokens call =
+    (old new : MutBor Cursor) (result : Result Statement (OrMemory Stop)) → call old result new →
+    IfOk result (Keeps statement_leaves tokens old.now new.now)
 
 -- what a for writes
 abbrev pub setting_tree : List Text → Setting → Both TargetTree ExpressionTree
@@ -226,3 +240,38 @@ optional_delay_tree words amount = option_map (delay_tree words) amount
 
 abbrev pub optional_selection_tree : List Text → Option Selection → Option SelectionTree
 optional_selection_tree words selected = option_map (selection_tree words) selected
+
+-- The tokens that are kept of what is read
+
+-- of a word that is kept, and of one that is told by what it means
+abbrev pub word_leaves : Token → List Token
+word_leaves word = word ∷ []
+
+abbrev pub no_leaves : {A : Type 0} → A → List Token
+no_leaves meant = []
+
+-- of lists
+abbrev pub all_target_leaves : {T : Type 0} → Vec Target T → List Token
+all_target_leaves targets = flat_map target_leaves targets.items
+
+abbrev pub all_further_leaves : {T : Type 0} → Vec FurtherWords T → List Token
+all_further_leaves further = flat_map further_leaves further.items
+
+abbrev pub all_statement_leaves : {T : Type 0} → Vec Statement T → List Token
+all_statement_leaves statements = flat_map statement_leaves statements.items
+
+abbrev pub all_name_leaves : {T : Type 0} → Vec Token T → List Token
+all_name_leaves names = names.items
+
+abbrev pub all_path_leaves : {T : Type 0} → Vec Path T → List Token
+all_path_leaves paths = flat_map path_leaves paths.items
+
+abbrev pub all_argument_leaves : {T : Type 0} → Vec Argument T → List Token
+all_argument_leaves arguments = flat_map argument_leaves arguments.items
+
+-- of what a for writes, and of the names whose changes are waited for
+abbrev pub setting_leaves : Setting → List Token
+setting_leaves setting = pair_leaves setting.target setting.value
+
+abbrev pub names_leaves : Names → List Token
+names_leaves names = term_leaves names.term ++ all_further_leaves names.further

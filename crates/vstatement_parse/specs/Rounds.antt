@@ -1,8 +1,10 @@
 -- What is read of statements round others: of an if, and of a for. Nothing here has to be believed.
-use Rattle.std.specs.Prelude.{ℕ, List, Option, option_map, Box, codes}
+use Rattle.std.specs.Prelude.{ℕ, List, ◌++◌, Option, option_map, Box, codes}
 use Rattle.vast.specs.Words.{Text}
 use Rattle.vast.specs.Expressions.{ExpressionTree}
 use Rattle.vast.specs.ExpressionTrees.{boxed_tree}
+use Rattle.vast.specs.Leaves.{boxed_leaves, statement_leaves, if_some}
+use Rattle.vast.specs.declared.token.Token.{Token}
 use Rattle.vast.specs.Statements.{TargetTree, StatementTree}
 use Rattle.vast.specs.StatementTrees.{statement_tree}
 use Rattle.vexpr_parse.specs.Readers.{Reader, past, is_front}
@@ -12,7 +14,7 @@ use Rattle.vast.specs.declared.statement.Statement.{Statement}
 use Rattle.vstatement_parse.specs.declared.conditions.Choice.{Choice}
 use Rattle.vstatement_parse.specs.declared.loops.Step.{Step}
 use Rattle.vstatement_parse.specs.declared.loops.Going.{Going}
-use Rattle.vstatement_parse.specs.Gives.{setting_tree}
+use Rattle.vstatement_parse.specs.Gives.{setting_tree, setting_leaves}
 
 -- the tree of a statement behind a pointer
 abbrev pub body_tree : {A : Type 0} → List Text → Box Statement A → StatementTree
@@ -49,3 +51,16 @@ going_tree words going = both (boxed_tree words going.condition) (step_tree word
 -- behind for
 abbrev pub for_at : ℕ → Reader StatementTree
 for_at below = made for_of (for_parts below (statement below))
+
+-- the tokens that are kept of a statement behind a pointer, and of what stands round one
+abbrev pub body_leaves : {A : Type 0} → Box Statement A → List Token
+body_leaves body = statement_leaves body.value
+
+abbrev pub choice_leaves : Choice → List Token
+choice_leaves choice = body_leaves choice.body ++ if_some body_leaves choice.other
+
+abbrev pub step_leaves : Step → List Token
+step_leaves step = setting_leaves step.next ++ body_leaves step.body
+
+abbrev pub going_leaves : Going → List Token
+going_leaves going = boxed_leaves going.condition ++ step_leaves going.step

@@ -1,6 +1,8 @@
 // How long is waited (IEEE 1364-2005, 9.7.1).
 
-ghost use Rattle.std.specs.Prelude.{◌≡◌, ◌<◌};
+ghost use Rattle.std.specs.Prelude.{◌≡◌, ◌<◌, IfOk};
+ghost use Rattle.vexpr_parse.specs.Answers.{Keeps};
+ghost use Rattle.vast.specs.Leaves.{delay_leaves};
 ghost use Rattle.vast.specs.StatementTrees.{delay_tree};
 ghost use Rattle.vstatement_parse.specs.Gives.{Gives};
 ghost use Rattle.vgrammar.specs.Statements as reading;
@@ -14,6 +16,7 @@ use vexpr_parse::{Cursor, Stop};
 use vlex::Tokens;
 
 /// What stands behind `#`.
+#[tactic(auto, using(crate::proofs::LeafWords::number_leaf, crate::proofs::LeafWords::name_leaf))]
 pub fn amount(
     alloc: Global,
     tokens: &Tokens<'_>,
@@ -21,7 +24,9 @@ pub fn amount(
     below: u32,
 ) -> Result<Delay, OrMemory<Stop>>
     requires { 0 < below }
-    ensures { Gives delay_tree (reading.amount below) tokens.now cursor.old cursor.new result }
+    ensures gives { Gives delay_tree (reading.amount below)
+        tokens.now cursor.old cursor.new result }
+    ensures kept { IfOk result (Keeps delay_leaves tokens.now cursor.old cursor.new) }
 {
     if let Some(word) = cursor.word(tokens) {
         if is_number(word.text) {

@@ -1,9 +1,11 @@
 // What printing tasks are given (IEEE 1364-2005, 17.1.1).
 
-ghost use Rattle.std.specs.Prelude.{◌≡◌, ◌<◌, codes};
+ghost use Rattle.std.specs.Prelude.{◌≡◌, ◌<◌, codes, IfOk};
+ghost use Rattle.vexpr_parse.specs.Answers.{Keeps, KeepsBehind};
+ghost use Rattle.vast.specs.Leaves.{argument_leaves};
 ghost use Rattle.vast.specs.StatementTrees.{argument_tree};
 ghost use Rattle.vexpr_parse.specs.Readers.{past};
-ghost use Rattle.vstatement_parse.specs.Gives.{Gives, all_arguments, arguments_behind, arguments_within};
+ghost use Rattle.vstatement_parse.specs.Gives.{Gives, all_arguments, arguments_behind, arguments_within, all_argument_leaves};
 ghost use Rattle.vgrammar.specs.Statements as reading;
 ghost use Rattle.vexpr_parse.specs.Texts.{words_of};
 
@@ -16,6 +18,7 @@ use vexpr_parse::{Cursor, Stop};
 use vlex::Tokens;
 
 // A string, or an expression.
+#[tactic(auto, using(crate::proofs::LeafWords::string_leaf))]
 fn argument(
     alloc: Global,
     tokens: &Tokens<'_>,
@@ -23,7 +26,9 @@ fn argument(
     below: u32,
 ) -> Result<Argument, OrMemory<Stop>>
     requires { 0 < below }
-    ensures { Gives argument_tree (reading.argument below) tokens.now cursor.old cursor.new result }
+    ensures gives { Gives argument_tree (reading.argument below)
+        tokens.now cursor.old cursor.new result }
+    ensures kept { IfOk result (Keeps argument_leaves tokens.now cursor.old cursor.new) }
 {
     if let Some(word) = cursor.word(tokens) {
         if is_string(word.text) {
@@ -42,8 +47,9 @@ fn further_argument(
     below: u32,
 ) -> Result<Argument, OrMemory<Stop>>
     requires { 0 < below }
-    ensures { Gives argument_tree (past (codes ",") (reading.argument below))
+    ensures gives { Gives argument_tree (past (codes ",") (reading.argument below))
         tokens.now cursor.old cursor.new result }
+    ensures kept { IfOk result (Keeps argument_leaves tokens.now cursor.old cursor.new) }
 {
     cursor.symbol(tokens, b",")?;
     argument(alloc, tokens, cursor, below)
@@ -58,9 +64,11 @@ fn more_arguments(
     first: Argument,
 ) -> Result<Vec<Argument>, OrMemory<Stop>>
     requires some { 0 < below }
-    ensures { Gives all_arguments
+    ensures gives { Gives all_arguments
         (arguments_behind below (argument_tree (words_of tokens.now) first))
         tokens.now cursor.old cursor.new result }
+    ensures kept { IfOk result (KeepsBehind (argument_leaves first) all_argument_leaves
+        tokens.now cursor.old cursor.new) }
 {
     let mut list: Vec<Argument> = Vec::new(alloc);
     list.push(first)?;
@@ -79,7 +87,9 @@ pub fn arguments(
     below: u32,
 ) -> Result<Vec<Argument>, OrMemory<Stop>>
     requires { 0 < below }
-    ensures { Gives all_arguments (arguments_within below) tokens.now cursor.old cursor.new result }
+    ensures gives { Gives all_arguments (arguments_within below)
+        tokens.now cursor.old cursor.new result }
+    ensures kept { IfOk result (Keeps all_argument_leaves tokens.now cursor.old cursor.new) }
 {
     let first = argument(alloc, tokens, cursor, below)?;
     let list = more_arguments(alloc, tokens, cursor, below, first)?;

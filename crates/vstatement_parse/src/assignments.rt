@@ -1,8 +1,10 @@
 // Assignments (IEEE 1364-2005, 9.2).
 
-ghost use Rattle.std.specs.Prelude.{◌≡◌, ◌<◌};
+ghost use Rattle.std.specs.Prelude.{◌≡◌, ◌<◌, IfOk};
+ghost use Rattle.vast.specs.Leaves.{if_some, delay_leaves, statement_leaves};
+ghost use Rattle.vexpr_parse.specs.Answers.{Keeps};
 ghost use Rattle.vast.specs.StatementTrees.{statement_tree};
-ghost use Rattle.vstatement_parse.specs.Gives.{Gives, itself, optional_delay_tree, trigger_at};
+ghost use Rattle.vstatement_parse.specs.Gives.{Gives, itself, optional_delay_tree, trigger_at, no_leaves};
 ghost use Rattle.vgrammar.specs.Parts.{worded};
 ghost use Rattle.vgrammar.specs.Starts.{sign_of};
 ghost use Rattle.vgrammar.specs.Statements as reading;
@@ -19,7 +21,8 @@ use vlex::Tokens;
 
 // `=`, or `<=`: whether it is the later one.
 fn sign(tokens: &Tokens<'_>, cursor: &mut Cursor) -> Result<bool, OrMemory<Stop>>
-    ensures { Gives itself (worded sign_of) tokens.now cursor.old cursor.new result }
+    ensures gives { Gives itself (worded sign_of) tokens.now cursor.old cursor.new result }
+    ensures kept { IfOk result (Keeps no_leaves tokens.now cursor.old cursor.new) }
 {
     if cursor.begins(tokens, b"=") {
         cursor.pass(tokens);
@@ -40,8 +43,9 @@ fn optional_delay(
     below: u32,
 ) -> Result<Option<Delay>, OrMemory<Stop>>
     requires { 0 < below }
-    ensures { Gives optional_delay_tree (reading.optional_delay below)
+    ensures gives { Gives optional_delay_tree (reading.optional_delay below)
         tokens.now cursor.old cursor.new result }
+    ensures kept { IfOk result (Keeps (if_some delay_leaves) tokens.now cursor.old cursor.new) }
 {
     if cursor.begins(tokens, b"#") {
         cursor.pass(tokens);
@@ -60,8 +64,9 @@ pub fn assignment(
     at: u32,
 ) -> Result<Statement, OrMemory<Stop>>
     requires { 0 < below }
-    ensures { Gives statement_tree (reading.assignment below)
+    ensures gives { Gives statement_tree (reading.assignment below)
         tokens.now cursor.old cursor.new result }
+    ensures kept { IfOk result (Keeps statement_leaves tokens.now cursor.old cursor.new) }
 {
     let target = target(alloc, tokens, cursor, below)?;
     let later = sign(tokens, cursor)?;
@@ -90,7 +95,8 @@ pub fn trigger(
     cursor: &mut Cursor,
     at: u32,
 ) -> Result<Statement, OrMemory<Stop>>
-    ensures { Gives statement_tree trigger_at tokens.now cursor.old cursor.new result }
+    ensures gives { Gives statement_tree trigger_at tokens.now cursor.old cursor.new result }
+    ensures kept { IfOk result (Keeps statement_leaves tokens.now cursor.old cursor.new) }
 {
     let name = named(tokens, cursor)?;
     cursor.symbol(tokens, b";")?;

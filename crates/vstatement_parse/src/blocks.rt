@@ -1,8 +1,10 @@
 // Blocks (IEEE 1364-2005, 9.8.1).
 
-ghost use Rattle.std.specs.Prelude.{◌≡◌};
+ghost use Rattle.std.specs.Prelude.{◌≡◌, IfOk};
+ghost use Rattle.vast.specs.Leaves.{statement_leaves};
+ghost use Rattle.vexpr_parse.specs.Answers.{Keeps};
 ghost use Rattle.vast.specs.StatementTrees.{statement_tree};
-ghost use Rattle.vstatement_parse.specs.Gives.{Gives, ReadsStatements, all_statements, block_at, block_list, ended_list};
+ghost use Rattle.vstatement_parse.specs.Gives.{Gives, ReadsStatements, all_statements, block_at, block_list, ended_list, all_statement_leaves, KeepsStatements};
 ghost use Rattle.vgrammar.specs.Statements as reading;
 
 use basis::OrMemory;
@@ -21,7 +23,10 @@ fn list<F: Fn(&mut Cursor) -> Result<Statement, OrMemory<Stop>>>(
 ) -> Result<Vec<Statement>, OrMemory<Stop>>
     requires callable { F.IsAlwaysCallable read.now }
     requires reads { ReadsStatements tokens.now below (F.post read.now) }
-    ensures { Gives all_statements (block_list below) tokens.now cursor.old cursor.new result }
+    requires keeps { KeepsStatements tokens.now (F.post read.now) }
+    ensures gives { Gives all_statements (block_list below)
+        tokens.now cursor.old cursor.new result }
+    ensures kept { IfOk result (Keeps all_statement_leaves tokens.now cursor.old cursor.new) }
 {
     let mut list: Vec<Statement> = Vec::new(alloc);
     'list: while !cursor.begins(tokens, b"end") {
@@ -32,6 +37,7 @@ fn list<F: Fn(&mut Cursor) -> Result<Statement, OrMemory<Stop>>>(
 }
 
 // The statements, and `end` behind them.
+#[tactic(auto, using(crate::proofs::LeafWords::end_plain))]
 fn within<F: Fn(&mut Cursor) -> Result<Statement, OrMemory<Stop>>>(
     alloc: Global,
     read: &F,
@@ -41,8 +47,10 @@ fn within<F: Fn(&mut Cursor) -> Result<Statement, OrMemory<Stop>>>(
 ) -> Result<Vec<Statement>, OrMemory<Stop>>
     requires callable { F.IsAlwaysCallable read.now }
     requires reads { ReadsStatements tokens.now below (F.post read.now) }
-    ensures { Gives ended_list (reading.block_parts (reading.statement below))
+    requires keeps { KeepsStatements tokens.now (F.post read.now) }
+    ensures gives { Gives ended_list (reading.block_parts (reading.statement below))
         tokens.now cursor.old cursor.new result }
+    ensures kept { IfOk result (Keeps all_statement_leaves tokens.now cursor.old cursor.new) }
 {
     let list = list(alloc, read, below, tokens, cursor)?;
     cursor.symbol(tokens, b"end")?;
@@ -59,7 +67,9 @@ pub fn block<F: Fn(&mut Cursor) -> Result<Statement, OrMemory<Stop>>>(
 ) -> Result<Statement, OrMemory<Stop>>
     requires callable { F.IsAlwaysCallable read.now }
     requires reads { ReadsStatements tokens.now below (F.post read.now) }
-    ensures { Gives statement_tree (block_at below) tokens.now cursor.old cursor.new result }
+    requires keeps { KeepsStatements tokens.now (F.post read.now) }
+    ensures gives { Gives statement_tree (block_at below) tokens.now cursor.old cursor.new result }
+    ensures kept { IfOk result (Keeps statement_leaves tokens.now cursor.old cursor.new) }
 {
     let statements = within(alloc, read, below, tokens, cursor)?;
     Ok(Statement::Block(statements))

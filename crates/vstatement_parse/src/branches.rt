@@ -1,12 +1,13 @@
 // Branches of a case (IEEE 1364-2005, 9.5).
 
-ghost use Rattle.std.specs.Prelude.{◌≡◌, ◌<◌, ◌||◌, [], ◌∷◌, codes};
+ghost use Rattle.std.specs.Prelude.{◌≡◌, ◌<◌, ◌||◌, [], ◌∷◌, codes, IfOk};
+ghost use Rattle.vast.specs.Leaves.{branch_leaves};
 ghost use Rattle.vexpr_parse.specs.Readers.{front, is_front};
 ghost use Rattle.vast.specs.StatementTrees.{branch_tree};
-ghost use Rattle.vstatement_parse.specs.Gives.{Gives, ReadsStatements};
-ghost use Rattle.vstatement_parse.specs.Cases.{all_branches, branch_behind, branches_behind, branches_within as branches_within_at, default_at, labelled_at};
+ghost use Rattle.vstatement_parse.specs.Gives.{Gives, ReadsStatements, KeepsStatements};
+ghost use Rattle.vstatement_parse.specs.Cases.{all_branches, branch_behind, branches_behind, branches_within as branches_within_at, default_at, labelled_at, all_branch_leaves};
 ghost use Rattle.vgrammar.specs.Statements.{has_default};
-ghost use Rattle.vexpr_parse.specs.Answers.{ahead};
+ghost use Rattle.vexpr_parse.specs.Answers.{ahead, Keeps, KeepsBehind};
 ghost use Rattle.vexpr_parse.specs.Texts.{words_of};
 
 use crate::labels::labels;
@@ -27,7 +28,9 @@ fn labelled<F: Fn(&mut Cursor) -> Result<Statement, OrMemory<Stop>>>(
     requires some { 0 < below }
     requires callable { F.IsAlwaysCallable read.now }
     requires reads { ReadsStatements tokens.now below (F.post read.now) }
-    ensures { Gives branch_tree (labelled_at below) tokens.now cursor.old cursor.new result }
+    requires keeps { KeepsStatements tokens.now (F.post read.now) }
+    ensures gives { Gives branch_tree (labelled_at below) tokens.now cursor.old cursor.new result }
+    ensures kept { IfOk result (Keeps branch_leaves tokens.now cursor.old cursor.new) }
 {
     let labels = labels(alloc, tokens, cursor, below)?;
     let body = read(cursor)?;
@@ -35,6 +38,7 @@ fn labelled<F: Fn(&mut Cursor) -> Result<Statement, OrMemory<Stop>>>(
 }
 
 // `default`, and its statement.
+#[tactic(auto, using(crate::proofs::LeafWords::default_plain))]
 fn default_branch<F: Fn(&mut Cursor) -> Result<Statement, OrMemory<Stop>>>(
     read: &F,
     below: u32,
@@ -43,7 +47,9 @@ fn default_branch<F: Fn(&mut Cursor) -> Result<Statement, OrMemory<Stop>>>(
 ) -> Result<Branch, OrMemory<Stop>>
     requires callable { F.IsAlwaysCallable read.now }
     requires reads { ReadsStatements tokens.now below (F.post read.now) }
-    ensures { Gives branch_tree (default_at below) tokens.now cursor.old cursor.new result }
+    requires keeps { KeepsStatements tokens.now (F.post read.now) }
+    ensures gives { Gives branch_tree (default_at below) tokens.now cursor.old cursor.new result }
+    ensures kept { IfOk result (Keeps branch_leaves tokens.now cursor.old cursor.new) }
 {
     cursor.symbol(tokens, b"default")?;
     if cursor.begins(tokens, b":") {
@@ -69,7 +75,10 @@ fn read_branch<F: Fn(&mut Cursor) -> Result<Statement, OrMemory<Stop>>>(
     requires some { 0 < below }
     requires callable { F.IsAlwaysCallable read.now }
     requires reads { ReadsStatements tokens.now below (F.post read.now) }
-    ensures { Gives branch_tree (branch_behind below seen) tokens.now cursor.old cursor.new result }
+    requires keeps { KeepsStatements tokens.now (F.post read.now) }
+    ensures gives { Gives branch_tree (branch_behind below seen)
+        tokens.now cursor.old cursor.new result }
+    ensures kept { IfOk result (Keeps branch_leaves tokens.now cursor.old cursor.new) }
 {
     if cursor.begins(tokens, b"default") {
         if seen {
@@ -109,8 +118,12 @@ fn more_branches<F: Fn(&mut Cursor) -> Result<Statement, OrMemory<Stop>>>(
     requires first { seen ≡ has_default (branch_tree (words_of tokens.now) first ∷ []) }
     requires callable { F.IsAlwaysCallable read.now }
     requires reads { ReadsStatements tokens.now below (F.post read.now) }
-    ensures { Gives all_branches (branches_behind below (branch_tree (words_of tokens.now) first))
+    requires keeps { KeepsStatements tokens.now (F.post read.now) }
+    ensures gives { Gives all_branches
+        (branches_behind below (branch_tree (words_of tokens.now) first))
         tokens.now cursor.old cursor.new result }
+    ensures kept { IfOk result (KeepsBehind (branch_leaves first) all_branch_leaves
+        tokens.now cursor.old cursor.new) }
 {
     let mut branches: Vec<Branch> = Vec::new(alloc);
     branches.push(first)?;
@@ -125,7 +138,7 @@ fn more_branches<F: Fn(&mut Cursor) -> Result<Statement, OrMemory<Stop>>>(
 }
 
 /// The branches, and `endcase` behind them.
-#[tactic(auto, using(crate::proofs::CaseTurns::first_seen))]
+#[tactic(auto, using(crate::proofs::CaseTurns::first_seen, crate::proofs::LeafWords::endcase_plain))]
 pub fn branches_within<F: Fn(&mut Cursor) -> Result<Statement, OrMemory<Stop>>>(
     alloc: Global,
     read: &F,
@@ -136,8 +149,10 @@ pub fn branches_within<F: Fn(&mut Cursor) -> Result<Statement, OrMemory<Stop>>>(
     requires some { 0 < below }
     requires callable { F.IsAlwaysCallable read.now }
     requires reads { ReadsStatements tokens.now below (F.post read.now) }
-    ensures { Gives all_branches (branches_within_at below)
+    requires keeps { KeepsStatements tokens.now (F.post read.now) }
+    ensures gives { Gives all_branches (branches_within_at below)
         tokens.now cursor.old cursor.new result }
+    ensures kept { IfOk result (Keeps all_branch_leaves tokens.now cursor.old cursor.new) }
 {
     let default = begins_default(tokens, cursor);
     let first = read_branch(alloc, read, below, tokens, cursor, false)?;

@@ -1,11 +1,13 @@
 // Statements behind `case` (IEEE 1364-2005, 9.5).
 
-ghost use Rattle.std.specs.Prelude.{List, ◌≡◌, ◌<◌};
+ghost use Rattle.std.specs.Prelude.{List, ◌≡◌, ◌<◌, ◌++◌, IfOk};
+ghost use Rattle.vexpr_parse.specs.Answers.{Keeps};
+ghost use Rattle.vast.specs.Leaves.{statement_leaves, boxed_leaves};
 ghost use Rattle.vast.specs.ExpressionTrees.{boxed_tree};
 ghost use Rattle.vast.specs.Statements.{case_of};
 ghost use Rattle.vast.specs.StatementTrees.{statement_tree};
-ghost use Rattle.vstatement_parse.specs.Gives.{Gives, ReadsStatements};
-ghost use Rattle.vstatement_parse.specs.Cases.{all_branches, case_at, case_whole};
+ghost use Rattle.vstatement_parse.specs.Gives.{Gives, ReadsStatements, KeepsStatements};
+ghost use Rattle.vstatement_parse.specs.Cases.{all_branches, case_at, case_whole, all_branch_leaves};
 ghost use Rattle.vgrammar.specs.Statements as reading;
 ghost use Rattle.vast.specs.Words.{Text};
 
@@ -20,9 +22,10 @@ use vlex::Tokens;
 
 // The statement of all that was read.
 fn of_branches(at: u32, kind: CaseKind, value: Box<Expression>, branches: Vec<Branch>) -> Statement
-    ensures { (words : List Text) → statement_tree words result
+    ensures gives { (words : List Text) → statement_tree words result
         ≡ case_of kind (boxed_tree words value)
         (reading.branches_in (all_branches words branches)) }
+    ensures kept { statement_leaves result ≡ boxed_leaves value ++ all_branch_leaves branches }
 {
     Statement::Case {
         at,
@@ -45,7 +48,10 @@ fn behind_word<F: Fn(&mut Cursor) -> Result<Statement, OrMemory<Stop>>>(
     requires some { 0 < below }
     requires callable { F.IsAlwaysCallable read.now }
     requires reads { ReadsStatements tokens.now below (F.post read.now) }
-    ensures { Gives statement_tree (case_whole below kind) tokens.now cursor.old cursor.new result }
+    requires keeps { KeepsStatements tokens.now (F.post read.now) }
+    ensures gives { Gives statement_tree (case_whole below kind)
+        tokens.now cursor.old cursor.new result }
+    ensures kept { IfOk result (Keeps statement_leaves tokens.now cursor.old cursor.new) }
 {
     cursor.symbol(tokens, b"(")?;
     let value = read_value(alloc, tokens, cursor, below)?;
@@ -67,7 +73,10 @@ pub fn selected<F: Fn(&mut Cursor) -> Result<Statement, OrMemory<Stop>>>(
     requires some { 0 < below }
     requires callable { F.IsAlwaysCallable read.now }
     requires reads { ReadsStatements tokens.now below (F.post read.now) }
-    ensures { Gives statement_tree (case_at below kind) tokens.now cursor.old cursor.new result }
+    requires keeps { KeepsStatements tokens.now (F.post read.now) }
+    ensures gives { Gives statement_tree (case_at below kind)
+        tokens.now cursor.old cursor.new result }
+    ensures kept { IfOk result (Keeps statement_leaves tokens.now cursor.old cursor.new) }
 {
     behind_word(alloc, read, below, tokens, cursor, at, kind)
 }

@@ -1,10 +1,12 @@
 // Statements behind `if` (IEEE 1364-2005, 9.4).
 
-ghost use Rattle.std.specs.Prelude.{List, ◌≡◌, ◌<◌};
+ghost use Rattle.std.specs.Prelude.{List, ◌≡◌, ◌<◌, IfOk, ◌++◌};
+ghost use Rattle.vast.specs.Leaves.{if_some, statement_leaves, boxed_leaves};
+ghost use Rattle.vexpr_parse.specs.Answers.{Keeps};
 ghost use Rattle.vast.specs.ExpressionTrees.{boxed_tree};
 ghost use Rattle.vast.specs.StatementTrees.{statement_tree};
-ghost use Rattle.vstatement_parse.specs.Gives.{Gives, ReadsStatements};
-ghost use Rattle.vstatement_parse.specs.Rounds.{body_tree, choice_tree, if_at, optional_tree, otherwise_at};
+ghost use Rattle.vstatement_parse.specs.Gives.{Gives, ReadsStatements, KeepsStatements};
+ghost use Rattle.vstatement_parse.specs.Rounds.{body_tree, choice_tree, if_at, optional_tree, otherwise_at, body_leaves, choice_leaves};
 ghost use Rattle.vgrammar.specs.Parts.{both};
 ghost use Rattle.vgrammar.specs.Statements as reading;
 ghost use Rattle.vast.specs.Words.{Text};
@@ -34,13 +36,17 @@ pub fn boxed<F: Fn(&mut Cursor) -> Result<Statement, OrMemory<Stop>>>(
 ) -> Result<Box<Statement>, OrMemory<Stop>>
     requires callable { F.IsAlwaysCallable read.now }
     requires reads { ReadsStatements tokens.now below (F.post read.now) }
-    ensures { Gives body_tree (reading.statement below) tokens.now cursor.old cursor.new result }
+    requires keeps { KeepsStatements tokens.now (F.post read.now) }
+    ensures gives { Gives body_tree (reading.statement below)
+        tokens.now cursor.old cursor.new result }
+    ensures kept { IfOk result (Keeps body_leaves tokens.now cursor.old cursor.new) }
 {
     let body = read(cursor)?;
     Ok(Box::new(alloc, body)?)
 }
 
 // The statement behind `else`, where that stands.
+#[tactic(auto, using(crate::proofs::LeafWords::else_plain))]
 fn otherwise<F: Fn(&mut Cursor) -> Result<Statement, OrMemory<Stop>>>(
     alloc: Global,
     read: &F,
@@ -50,7 +56,10 @@ fn otherwise<F: Fn(&mut Cursor) -> Result<Statement, OrMemory<Stop>>>(
 ) -> Result<Option<Box<Statement>>, OrMemory<Stop>>
     requires callable { F.IsAlwaysCallable read.now }
     requires reads { ReadsStatements tokens.now below (F.post read.now) }
-    ensures { Gives optional_tree (otherwise_at below) tokens.now cursor.old cursor.new result }
+    requires keeps { KeepsStatements tokens.now (F.post read.now) }
+    ensures gives { Gives optional_tree (otherwise_at below)
+        tokens.now cursor.old cursor.new result }
+    ensures kept { IfOk result (Keeps (if_some body_leaves) tokens.now cursor.old cursor.new) }
 {
     if cursor.begins(tokens, b"else") {
         cursor.pass(tokens);
@@ -70,8 +79,10 @@ fn read_choice<F: Fn(&mut Cursor) -> Result<Statement, OrMemory<Stop>>>(
 ) -> Result<Choice, OrMemory<Stop>>
     requires callable { F.IsAlwaysCallable read.now }
     requires reads { ReadsStatements tokens.now below (F.post read.now) }
-    ensures { Gives choice_tree (reading.branches_of_if (reading.statement below))
+    requires keeps { KeepsStatements tokens.now (F.post read.now) }
+    ensures gives { Gives choice_tree (reading.branches_of_if (reading.statement below))
         tokens.now cursor.old cursor.new result }
+    ensures kept { IfOk result (Keeps choice_leaves tokens.now cursor.old cursor.new) }
 {
     let body = boxed(alloc, read, below, tokens, cursor)?;
     let other = otherwise(alloc, read, below, tokens, cursor)?;
@@ -80,8 +91,9 @@ fn read_choice<F: Fn(&mut Cursor) -> Result<Statement, OrMemory<Stop>>>(
 
 // The statement of one branch, or of two.
 fn chosen(at: u32, condition: Box<Expression>, choice: Choice) -> Statement
-    ensures { (words : List Text) → statement_tree words result
+    ensures gives { (words : List Text) → statement_tree words result
         ≡ reading.if_of (both (boxed_tree words condition) (choice_tree words choice)) }
+    ensures kept { statement_leaves result ≡ boxed_leaves condition ++ choice_leaves choice }
 {
     let body = choice.body;
     match choice.other {
@@ -111,7 +123,9 @@ pub fn conditional<F: Fn(&mut Cursor) -> Result<Statement, OrMemory<Stop>>>(
     requires some { 0 < below }
     requires callable { F.IsAlwaysCallable read.now }
     requires reads { ReadsStatements tokens.now below (F.post read.now) }
-    ensures { Gives statement_tree (if_at below) tokens.now cursor.old cursor.new result }
+    requires keeps { KeepsStatements tokens.now (F.post read.now) }
+    ensures gives { Gives statement_tree (if_at below) tokens.now cursor.old cursor.new result }
+    ensures kept { IfOk result (Keeps statement_leaves tokens.now cursor.old cursor.new) }
 {
     cursor.symbol(tokens, b"(")?;
     let condition = value(alloc, tokens, cursor, below)?;

@@ -1,14 +1,15 @@
 // What is waited for (IEEE 1364-2005, 9.7).
 
-ghost use Rattle.std.specs.Prelude.{◌≡◌};
+ghost use Rattle.std.specs.Prelude.{◌≡◌, IfOk};
+ghost use Rattle.vast.specs.Leaves.{event_leaves, statement_leaves};
 ghost use Rattle.vast.specs.StatementTrees.{event_tree, statement_tree};
 ghost use Rattle.vexpr_parse.specs.Readers.{front};
-ghost use Rattle.vstatement_parse.specs.Gives.{Gives, ReadsStatements, all_further, enclosed_at, event_at, further_terms as further_terms_at, names_tree, terms_at};
+ghost use Rattle.vstatement_parse.specs.Gives.{Gives, ReadsStatements, all_further, enclosed_at, event_at, further_terms as further_terms_at, names_tree, terms_at, all_further_leaves, names_leaves, KeepsStatements};
 ghost use Rattle.vgrammar.specs.Parts.{paired};
 ghost use Rattle.vgrammar.specs.Starts.{comma_of, is_meant, is_word};
 ghost use Rattle.vast.specs.Words.{is_name as is_name_text};
 ghost use Rattle.vgrammar.specs.Statements as reading;
-ghost use Rattle.vexpr_parse.specs.Answers.{ahead};
+ghost use Rattle.vexpr_parse.specs.Answers.{ahead, Keeps};
 
 use crate::conditions::boxed;
 use crate::terms::{further_term, read_term};
@@ -40,7 +41,8 @@ fn further_terms(
     tokens: &Tokens<'_>,
     cursor: &mut Cursor,
 ) -> Result<Vec<FurtherTerm>, OrMemory<Stop>>
-    ensures { Gives all_further further_terms_at tokens.now cursor.old cursor.new result }
+    ensures gives { Gives all_further further_terms_at tokens.now cursor.old cursor.new result }
+    ensures kept { IfOk result (Keeps all_further_leaves tokens.now cursor.old cursor.new) }
 {
     let mut terms: Vec<FurtherTerm> = Vec::new(alloc);
     'terms: while goes_on(tokens, cursor) {
@@ -56,8 +58,9 @@ fn read_names(
     tokens: &Tokens<'_>,
     cursor: &mut Cursor,
 ) -> Result<Names, OrMemory<Stop>>
-    ensures { Gives names_tree (paired reading.term further_terms_at)
+    ensures gives { Gives names_tree (paired reading.term further_terms_at)
         tokens.now cursor.old cursor.new result }
+    ensures kept { IfOk result (Keeps names_leaves tokens.now cursor.old cursor.new) }
 {
     let term = read_term(tokens, cursor)?;
     let further = further_terms(alloc, tokens, cursor)?;
@@ -66,7 +69,8 @@ fn read_names(
 
 // What stands behind `@(`, where names do.
 fn terms(alloc: Global, tokens: &Tokens<'_>, cursor: &mut Cursor) -> Result<Event, OrMemory<Stop>>
-    ensures { Gives event_tree terms_at tokens.now cursor.old cursor.new result }
+    ensures gives { Gives event_tree terms_at tokens.now cursor.old cursor.new result }
+    ensures kept { IfOk result (Keeps event_leaves tokens.now cursor.old cursor.new) }
 {
     let names = read_names(alloc, tokens, cursor)?;
     cursor.symbol(tokens, b")")?;
@@ -82,7 +86,8 @@ fn enclosed(
     tokens: &Tokens<'_>,
     cursor: &mut Cursor,
 ) -> Result<Event, OrMemory<Stop>>
-    ensures { Gives event_tree enclosed_at tokens.now cursor.old cursor.new result }
+    ensures gives { Gives event_tree enclosed_at tokens.now cursor.old cursor.new result }
+    ensures kept { IfOk result (Keeps event_leaves tokens.now cursor.old cursor.new) }
 {
     if cursor.begins(tokens, b"*") {
         cursor.pass(tokens);
@@ -109,7 +114,8 @@ pub fn control(
     tokens: &Tokens<'_>,
     cursor: &mut Cursor,
 ) -> Result<Event, OrMemory<Stop>>
-    ensures { Gives event_tree reading.control tokens.now cursor.old cursor.new result }
+    ensures gives { Gives event_tree reading.control tokens.now cursor.old cursor.new result }
+    ensures kept { IfOk result (Keeps event_leaves tokens.now cursor.old cursor.new) }
 {
     if begins_name(tokens, cursor) {
         Ok(Event::Named(named(tokens, cursor)?))
@@ -133,7 +139,9 @@ pub fn waiting<F: Fn(&mut Cursor) -> Result<Statement, OrMemory<Stop>>>(
 ) -> Result<Statement, OrMemory<Stop>>
     requires callable { F.IsAlwaysCallable read.now }
     requires reads { ReadsStatements tokens.now below (F.post read.now) }
-    ensures { Gives statement_tree (event_at below) tokens.now cursor.old cursor.new result }
+    requires keeps { KeepsStatements tokens.now (F.post read.now) }
+    ensures gives { Gives statement_tree (event_at below) tokens.now cursor.old cursor.new result }
+    ensures kept { IfOk result (Keeps statement_leaves tokens.now cursor.old cursor.new) }
 {
     let event = control(alloc, tokens, cursor)?;
     let body = boxed(alloc, read, below, tokens, cursor)?;

@@ -1,10 +1,12 @@
 // Statements round others, behind their first words (IEEE 1364-2005, 9.4 to 9.7).
 
-ghost use Rattle.std.specs.Prelude.{List, ◌≡◌, ◌<◌};
+ghost use Rattle.std.specs.Prelude.{List, ◌≡◌, ◌<◌, ◌++◌, IfOk};
+ghost use Rattle.vexpr_parse.specs.Answers.{Keeps};
+ghost use Rattle.vast.specs.Leaves.{statement_leaves, boxed_leaves};
 ghost use Rattle.vast.specs.ExpressionTrees.{boxed_tree};
 ghost use Rattle.vast.specs.StatementTrees.{statement_tree};
-ghost use Rattle.vstatement_parse.specs.Gives.{Gives, ReadsStatements, delayed_at, forever_at, guarded_at};
-ghost use Rattle.vstatement_parse.specs.Rounds.{body_tree};
+ghost use Rattle.vstatement_parse.specs.Gives.{Gives, ReadsStatements, delayed_at, forever_at, guarded_at, KeepsStatements};
+ghost use Rattle.vstatement_parse.specs.Rounds.{body_tree, body_leaves};
 ghost use Rattle.vgrammar.specs.Parts.{both};
 ghost use Rattle.vgrammar.specs.Statements as reading;
 ghost use Rattle.vast.specs.Words.{Text};
@@ -22,8 +24,9 @@ use vlex::Tokens;
 
 // A statement behind a condition, or a count.
 fn around(guard: Guard, at: u32, value: Box<Expression>, body: Box<Statement>) -> Statement
-    ensures { (words : List Text) → statement_tree words result
+    ensures gives { (words : List Text) → statement_tree words result
         ≡ reading.guarded_of guard (both (boxed_tree words value) (body_tree words body)) }
+    ensures kept { statement_leaves result ≡ boxed_leaves value ++ body_leaves body }
 {
     match guard {
         Guard::While => Statement::While {
@@ -57,8 +60,10 @@ pub fn guarded<F: Fn(&mut Cursor) -> Result<Statement, OrMemory<Stop>>>(
     requires some { 0 < below }
     requires callable { F.IsAlwaysCallable read.now }
     requires reads { ReadsStatements tokens.now below (F.post read.now) }
-    ensures { Gives statement_tree (guarded_at below guard)
+    requires keeps { KeepsStatements tokens.now (F.post read.now) }
+    ensures gives { Gives statement_tree (guarded_at below guard)
         tokens.now cursor.old cursor.new result }
+    ensures kept { IfOk result (Keeps statement_leaves tokens.now cursor.old cursor.new) }
 {
     cursor.symbol(tokens, b"(")?;
     let value = read_value(alloc, tokens, cursor, below)?;
@@ -78,7 +83,10 @@ pub fn forever<F: Fn(&mut Cursor) -> Result<Statement, OrMemory<Stop>>>(
 ) -> Result<Statement, OrMemory<Stop>>
     requires callable { F.IsAlwaysCallable read.now }
     requires reads { ReadsStatements tokens.now below (F.post read.now) }
-    ensures { Gives statement_tree (forever_at below) tokens.now cursor.old cursor.new result }
+    requires keeps { KeepsStatements tokens.now (F.post read.now) }
+    ensures gives { Gives statement_tree (forever_at below)
+        tokens.now cursor.old cursor.new result }
+    ensures kept { IfOk result (Keeps statement_leaves tokens.now cursor.old cursor.new) }
 {
     let body = boxed(alloc, read, below, tokens, cursor)?;
     Ok(Statement::Forever { at, body })
@@ -96,7 +104,10 @@ pub fn delayed<F: Fn(&mut Cursor) -> Result<Statement, OrMemory<Stop>>>(
     requires some { 0 < below }
     requires callable { F.IsAlwaysCallable read.now }
     requires reads { ReadsStatements tokens.now below (F.post read.now) }
-    ensures { Gives statement_tree (delayed_at below) tokens.now cursor.old cursor.new result }
+    requires keeps { KeepsStatements tokens.now (F.post read.now) }
+    ensures gives { Gives statement_tree (delayed_at below)
+        tokens.now cursor.old cursor.new result }
+    ensures kept { IfOk result (Keeps statement_leaves tokens.now cursor.old cursor.new) }
 {
     let delay = amount(alloc, tokens, cursor, below)?;
     let body = boxed(alloc, read, below, tokens, cursor)?;

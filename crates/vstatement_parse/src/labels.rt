@@ -1,10 +1,12 @@
 // Labels of a case (IEEE 1364-2005, 9.5).
 
-ghost use Rattle.std.specs.Prelude.{◌≡◌, ◌<◌, codes};
+ghost use Rattle.std.specs.Prelude.{◌≡◌, ◌<◌, codes, IfOk};
+ghost use Rattle.vexpr_parse.specs.Answers.{Keeps, KeepsBehind};
+ghost use Rattle.vast.specs.Leaves.{leaves_of};
 ghost use Rattle.vast.specs.ExpressionTrees.{tree_of};
 ghost use Rattle.vexpr_parse.specs.Readers.{past};
 ghost use Rattle.vstatement_parse.specs.Gives.{Gives};
-ghost use Rattle.vstatement_parse.specs.Cases.{all_labels, labels_behind, labels_within};
+ghost use Rattle.vstatement_parse.specs.Cases.{all_labels, labels_behind, labels_within, all_label_leaves};
 ghost use Rattle.vgrammar.specs.Statements as reading;
 ghost use Rattle.vexpr_parse.specs.Texts.{words_of};
 
@@ -22,8 +24,9 @@ fn further_label(
     below: u32,
 ) -> Result<Expression, OrMemory<Stop>>
     requires { 0 < below }
-    ensures { Gives tree_of (past (codes ",") (reading.value below))
+    ensures gives { Gives tree_of (past (codes ",") (reading.value below))
         tokens.now cursor.old cursor.new result }
+    ensures kept { IfOk result (Keeps leaves_of tokens.now cursor.old cursor.new) }
 {
     cursor.symbol(tokens, b",")?;
     Ok(expression(alloc, tokens, cursor, below)?.tree)
@@ -38,8 +41,10 @@ fn more_labels(
     first: Expression,
 ) -> Result<Vec<Expression>, OrMemory<Stop>>
     requires some { 0 < below }
-    ensures { Gives all_labels (labels_behind below (tree_of (words_of tokens.now) first))
+    ensures gives { Gives all_labels (labels_behind below (tree_of (words_of tokens.now) first))
         tokens.now cursor.old cursor.new result }
+    ensures kept { IfOk result (KeepsBehind (leaves_of first) all_label_leaves
+        tokens.now cursor.old cursor.new) }
 {
     let mut labels: Vec<Expression> = Vec::new(alloc);
     labels.push(first)?;
@@ -58,7 +63,8 @@ pub fn labels(
     below: u32,
 ) -> Result<Vec<Expression>, OrMemory<Stop>>
     requires { 0 < below }
-    ensures { Gives all_labels (labels_within below) tokens.now cursor.old cursor.new result }
+    ensures gives { Gives all_labels (labels_within below) tokens.now cursor.old cursor.new result }
+    ensures kept { IfOk result (Keeps all_label_leaves tokens.now cursor.old cursor.new) }
 {
     let first = expression(alloc, tokens, cursor, below)?.tree;
     let labels = more_labels(alloc, tokens, cursor, below, first)?;

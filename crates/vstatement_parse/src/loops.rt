@@ -1,9 +1,11 @@
 // Statements behind `for` (IEEE 1364-2005, 9.6).
 
-ghost use Rattle.std.specs.Prelude.{List, ◌≡◌, ◌<◌};
+ghost use Rattle.std.specs.Prelude.{List, ◌≡◌, ◌<◌, IfOk, ◌++◌};
+ghost use Rattle.vast.specs.Leaves.{statement_leaves};
+ghost use Rattle.vexpr_parse.specs.Answers.{Keeps};
 ghost use Rattle.vast.specs.StatementTrees.{statement_tree};
-ghost use Rattle.vstatement_parse.specs.Gives.{Gives, ReadsStatements, setting_tree};
-ghost use Rattle.vstatement_parse.specs.Rounds.{for_at, going_at, going_tree, step_at, step_tree};
+ghost use Rattle.vstatement_parse.specs.Gives.{Gives, ReadsStatements, setting_tree, setting_leaves, KeepsStatements};
+ghost use Rattle.vstatement_parse.specs.Rounds.{for_at, going_at, going_tree, step_at, step_tree, step_leaves, going_leaves};
 ghost use Rattle.vgrammar.specs.Parts.{both};
 ghost use Rattle.vgrammar.specs.Statements as reading;
 ghost use Rattle.vast.specs.Words.{Text};
@@ -43,7 +45,9 @@ fn read_step<F: Fn(&mut Cursor) -> Result<Statement, OrMemory<Stop>>>(
     requires some { 0 < below }
     requires callable { F.IsAlwaysCallable read.now }
     requires reads { ReadsStatements tokens.now below (F.post read.now) }
-    ensures { Gives step_tree (step_at below) tokens.now cursor.old cursor.new result }
+    requires keeps { KeepsStatements tokens.now (F.post read.now) }
+    ensures gives { Gives step_tree (step_at below) tokens.now cursor.old cursor.new result }
+    ensures kept { IfOk result (Keeps step_leaves tokens.now cursor.old cursor.new) }
 {
     let next = read_setting(alloc, tokens, cursor, below)?;
     cursor.symbol(tokens, b")")?;
@@ -62,7 +66,9 @@ fn read_going<F: Fn(&mut Cursor) -> Result<Statement, OrMemory<Stop>>>(
     requires some { 0 < below }
     requires callable { F.IsAlwaysCallable read.now }
     requires reads { ReadsStatements tokens.now below (F.post read.now) }
-    ensures { Gives going_tree (going_at below) tokens.now cursor.old cursor.new result }
+    requires keeps { KeepsStatements tokens.now (F.post read.now) }
+    ensures gives { Gives going_tree (going_at below) tokens.now cursor.old cursor.new result }
+    ensures kept { IfOk result (Keeps going_leaves tokens.now cursor.old cursor.new) }
 {
     let condition = value(alloc, tokens, cursor, below)?;
     cursor.symbol(tokens, b";")?;
@@ -72,8 +78,9 @@ fn read_going<F: Fn(&mut Cursor) -> Result<Statement, OrMemory<Stop>>>(
 
 // The statement of all that was read.
 fn looped(at: u32, first: Setting, going: Going) -> Statement
-    ensures { (words : List Text) → statement_tree words result
+    ensures gives { (words : List Text) → statement_tree words result
         ≡ reading.for_of (both (setting_tree words first) (going_tree words going)) }
+    ensures kept { statement_leaves result ≡ setting_leaves first ++ going_leaves going }
 {
     Statement::For {
         at,
@@ -98,7 +105,9 @@ pub fn counted<F: Fn(&mut Cursor) -> Result<Statement, OrMemory<Stop>>>(
     requires some { 0 < below }
     requires callable { F.IsAlwaysCallable read.now }
     requires reads { ReadsStatements tokens.now below (F.post read.now) }
-    ensures { Gives statement_tree (for_at below) tokens.now cursor.old cursor.new result }
+    requires keeps { KeepsStatements tokens.now (F.post read.now) }
+    ensures gives { Gives statement_tree (for_at below) tokens.now cursor.old cursor.new result }
+    ensures kept { IfOk result (Keeps statement_leaves tokens.now cursor.old cursor.new) }
 {
     cursor.symbol(tokens, b"(")?;
     let first = read_setting(alloc, tokens, cursor, below)?;

@@ -1,10 +1,12 @@
 // What is dumped, behind `$dumpvars` (IEEE 1364-2005, 18.1.2).
 
-ghost use Rattle.std.specs.Prelude.{◌≡◌, codes};
+ghost use Rattle.std.specs.Prelude.{◌≡◌, codes, IfOk, ◌∷◌, []};
+ghost use Rattle.vast.specs.Leaves.{path_leaves, selection_leaves, if_some, statement_leaves};
+ghost use Rattle.vexpr_parse.specs.Answers.{Keeps, KeepsBehind};
 ghost use Rattle.vast.specs.TokenTexts.{token_text};
 ghost use Rattle.vast.specs.StatementTrees.{path_tree, selection_tree, statement_tree};
 ghost use Rattle.vexpr_parse.specs.Readers.{past};
-ghost use Rattle.vstatement_parse.specs.Gives.{Gives, all_names, all_paths, dump_vars_at, ended_paths, names_behind, optional_selection as optional_selection_at, optional_selection_tree, path_at, paths_at};
+ghost use Rattle.vstatement_parse.specs.Gives.{Gives, all_names, all_paths, dump_vars_at, ended_paths, names_behind, optional_selection as optional_selection_at, optional_selection_tree, path_at, paths_at, word_leaves, all_name_leaves, all_path_leaves};
 ghost use Rattle.vgrammar.specs.Parts.{paired};
 ghost use Rattle.vgrammar.specs.Statements as reading;
 ghost use Rattle.vexpr_parse.specs.Texts.{words_of};
@@ -19,8 +21,9 @@ use vlex::Tokens;
 
 // A further name, with the dot before it.
 fn further_name(tokens: &Tokens<'_>, cursor: &mut Cursor) -> Result<Token, OrMemory<Stop>>
-    ensures { Gives token_text (past (codes ".") reading.named)
+    ensures gives { Gives token_text (past (codes ".") reading.named)
         tokens.now cursor.old cursor.new result }
+    ensures kept { IfOk result (Keeps word_leaves tokens.now cursor.old cursor.new) }
 {
     cursor.symbol(tokens, b".")?;
     named(tokens, cursor)
@@ -33,8 +36,10 @@ fn more_names(
     cursor: &mut Cursor,
     first: Token,
 ) -> Result<Vec<Token>, OrMemory<Stop>>
-    ensures { Gives all_names (names_behind (token_text (words_of tokens.now) first))
+    ensures gives { Gives all_names (names_behind (token_text (words_of tokens.now) first))
         tokens.now cursor.old cursor.new result }
+    ensures kept { IfOk result (KeepsBehind (first ∷ []) all_name_leaves
+        tokens.now cursor.old cursor.new) }
 {
     let mut names: Vec<Token> = Vec::new(alloc);
     names.push(first)?;
@@ -51,7 +56,8 @@ fn names(
     tokens: &Tokens<'_>,
     cursor: &mut Cursor,
 ) -> Result<Vec<Token>, OrMemory<Stop>>
-    ensures { Gives all_names path_at tokens.now cursor.old cursor.new result }
+    ensures gives { Gives all_names path_at tokens.now cursor.old cursor.new result }
+    ensures kept { IfOk result (Keeps all_name_leaves tokens.now cursor.old cursor.new) }
 {
     let first = named(tokens, cursor)?;
     let names = more_names(alloc, tokens, cursor, first)?;
@@ -61,7 +67,8 @@ fn names(
 // A path (12.5).
 #[tactic(auto, using(crate::proofs::StatementTurns::path_answers))]
 fn path(alloc: Global, tokens: &Tokens<'_>, cursor: &mut Cursor) -> Result<Path, OrMemory<Stop>>
-    ensures { Gives path_tree reading.path tokens.now cursor.old cursor.new result }
+    ensures gives { Gives path_tree reading.path tokens.now cursor.old cursor.new result }
+    ensures kept { IfOk result (Keeps path_leaves tokens.now cursor.old cursor.new) }
 {
     let names = names(alloc, tokens, cursor)?;
     Ok(Path { names })
@@ -73,8 +80,9 @@ fn further_path(
     tokens: &Tokens<'_>,
     cursor: &mut Cursor,
 ) -> Result<Path, OrMemory<Stop>>
-    ensures { Gives path_tree (past (codes ",") reading.path)
+    ensures gives { Gives path_tree (past (codes ",") reading.path)
         tokens.now cursor.old cursor.new result }
+    ensures kept { IfOk result (Keeps path_leaves tokens.now cursor.old cursor.new) }
 {
     cursor.symbol(tokens, b",")?;
     path(alloc, tokens, cursor)
@@ -86,7 +94,8 @@ fn paths(
     tokens: &Tokens<'_>,
     cursor: &mut Cursor,
 ) -> Result<Vec<Path>, OrMemory<Stop>>
-    ensures { Gives all_paths paths_at tokens.now cursor.old cursor.new result }
+    ensures gives { Gives all_paths paths_at tokens.now cursor.old cursor.new result }
+    ensures kept { IfOk result (Keeps all_path_leaves tokens.now cursor.old cursor.new) }
 {
     let mut paths: Vec<Path> = Vec::new(alloc);
     'paths: while cursor.begins(tokens, b",") {
@@ -102,8 +111,9 @@ fn closed_paths(
     tokens: &Tokens<'_>,
     cursor: &mut Cursor,
 ) -> Result<Vec<Path>, OrMemory<Stop>>
-    ensures { Gives ended_paths (paired paths_at (reading.word_only (codes ")")))
+    ensures gives { Gives ended_paths (paired paths_at (reading.word_only (codes ")")))
         tokens.now cursor.old cursor.new result }
+    ensures kept { IfOk result (Keeps all_path_leaves tokens.now cursor.old cursor.new) }
 {
     let paths = paths(alloc, tokens, cursor)?;
     cursor.symbol(tokens, b")")?;
@@ -116,7 +126,8 @@ fn selection(
     tokens: &Tokens<'_>,
     cursor: &mut Cursor,
 ) -> Result<Selection, OrMemory<Stop>>
-    ensures { Gives selection_tree reading.selection tokens.now cursor.old cursor.new result }
+    ensures gives { Gives selection_tree reading.selection tokens.now cursor.old cursor.new result }
+    ensures kept { IfOk result (Keeps selection_leaves tokens.now cursor.old cursor.new) }
 {
     cursor.symbol(tokens, b"(")?;
     let levels = numbered(tokens, cursor)?;
@@ -130,8 +141,9 @@ fn optional_selection(
     tokens: &Tokens<'_>,
     cursor: &mut Cursor,
 ) -> Result<Option<Selection>, OrMemory<Stop>>
-    ensures { Gives optional_selection_tree optional_selection_at
+    ensures gives { Gives optional_selection_tree optional_selection_at
         tokens.now cursor.old cursor.new result }
+    ensures kept { IfOk result (Keeps (if_some selection_leaves) tokens.now cursor.old cursor.new) }
 {
     if cursor.begins(tokens, b"(") {
         Ok(Some(selection(alloc, tokens, cursor)?))
@@ -147,7 +159,8 @@ pub fn dump_vars(
     cursor: &mut Cursor,
     at: u32,
 ) -> Result<Statement, OrMemory<Stop>>
-    ensures { Gives statement_tree dump_vars_at tokens.now cursor.old cursor.new result }
+    ensures gives { Gives statement_tree dump_vars_at tokens.now cursor.old cursor.new result }
+    ensures kept { IfOk result (Keeps statement_leaves tokens.now cursor.old cursor.new) }
 {
     let selected = optional_selection(alloc, tokens, cursor)?;
     cursor.symbol(tokens, b";")?;

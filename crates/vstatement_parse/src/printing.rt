@@ -1,8 +1,10 @@
 // Printing tasks, behind their names (IEEE 1364-2005, 17.1).
 
-ghost use Rattle.std.specs.Prelude.{◌≡◌, ◌<◌};
+ghost use Rattle.std.specs.Prelude.{◌≡◌, ◌<◌, IfOk};
+ghost use Rattle.vast.specs.Leaves.{statement_leaves};
+ghost use Rattle.vexpr_parse.specs.Answers.{Keeps};
 ghost use Rattle.vast.specs.StatementTrees.{statement_tree};
-ghost use Rattle.vstatement_parse.specs.Gives.{Gives, all_arguments};
+ghost use Rattle.vstatement_parse.specs.Gives.{Gives, all_arguments, all_argument_leaves};
 ghost use Rattle.vstatement_parse.specs.Begun.{monitor_at, optional_arguments as optional_arguments_at, print_at, required_arguments as required_arguments_at, printed_with};
 
 use crate::arguments::arguments;
@@ -19,8 +21,9 @@ fn optional_arguments(
     cursor: &mut Cursor,
     below: u32,
 ) -> Result<Vec<Argument>, OrMemory<Stop>>
-    ensures { Gives all_arguments (optional_arguments_at below)
+    ensures gives { Gives all_arguments (optional_arguments_at below)
         tokens.now cursor.old cursor.new result }
+    ensures kept { IfOk result (Keeps all_argument_leaves tokens.now cursor.old cursor.new) }
 {
     if cursor.begins(tokens, b"(") {
         cursor.enter(tokens, below, 1)?;
@@ -38,8 +41,9 @@ fn required_arguments(
     below: u32,
 ) -> Result<Vec<Argument>, OrMemory<Stop>>
     requires { 0 < below }
-    ensures { Gives all_arguments (required_arguments_at below)
+    ensures gives { Gives all_arguments (required_arguments_at below)
         tokens.now cursor.old cursor.new result }
+    ensures kept { IfOk result (Keeps all_argument_leaves tokens.now cursor.old cursor.new) }
 {
     cursor.symbol(tokens, b"(")?;
     arguments(alloc, tokens, cursor, below)
@@ -54,8 +58,9 @@ fn printed(
     at: u32,
     kind: Printing,
 ) -> Result<Statement, OrMemory<Stop>>
-    ensures { Gives statement_tree (printed_with kind (optional_arguments_at below))
+    ensures gives { Gives statement_tree (printed_with kind (optional_arguments_at below))
         tokens.now cursor.old cursor.new result }
+    ensures kept { IfOk result (Keeps statement_leaves tokens.now cursor.old cursor.new) }
 {
     let arguments = optional_arguments(alloc, tokens, cursor, below)?;
     cursor.symbol(tokens, b";")?;
@@ -75,8 +80,9 @@ fn monitored(
     kind: Printing,
 ) -> Result<Statement, OrMemory<Stop>>
     requires { 0 < below }
-    ensures { Gives statement_tree (printed_with kind (required_arguments_at below))
+    ensures gives { Gives statement_tree (printed_with kind (required_arguments_at below))
         tokens.now cursor.old cursor.new result }
+    ensures kept { IfOk result (Keeps statement_leaves tokens.now cursor.old cursor.new) }
 {
     let arguments = required_arguments(alloc, tokens, cursor, below)?;
     cursor.symbol(tokens, b";")?;
@@ -95,7 +101,9 @@ pub fn print(
     at: u32,
     kind: Printing,
 ) -> Result<Statement, OrMemory<Stop>>
-    ensures { Gives statement_tree (print_at kind below) tokens.now cursor.old cursor.new result }
+    ensures gives { Gives statement_tree (print_at kind below)
+        tokens.now cursor.old cursor.new result }
+    ensures kept { IfOk result (Keeps statement_leaves tokens.now cursor.old cursor.new) }
 {
     printed(alloc, tokens, cursor, below, at, kind)
 }
@@ -109,7 +117,9 @@ pub fn monitor(
     at: u32,
 ) -> Result<Statement, OrMemory<Stop>>
     requires { 0 < below }
-    ensures { Gives statement_tree (monitor_at below) tokens.now cursor.old cursor.new result }
+    ensures gives { Gives statement_tree (monitor_at below)
+        tokens.now cursor.old cursor.new result }
+    ensures kept { IfOk result (Keeps statement_leaves tokens.now cursor.old cursor.new) }
 {
     monitored(alloc, tokens, cursor, below, at, Printing::Monitor)
 }

@@ -1,7 +1,8 @@
 // What a `for` writes (IEEE 1364-2005, 9.6).
 
-ghost use Rattle.std.specs.Prelude.{◌≡◌, ◌<◌};
-ghost use Rattle.vstatement_parse.specs.Gives.{Gives, setting_tree};
+ghost use Rattle.std.specs.Prelude.{◌≡◌, ◌<◌, IfOk};
+ghost use Rattle.vexpr_parse.specs.Answers.{Keeps};
+ghost use Rattle.vstatement_parse.specs.Gives.{Gives, setting_tree, setting_leaves};
 ghost use Rattle.vgrammar.specs.Statements as reading;
 
 use crate::targets::target;
@@ -28,7 +29,9 @@ pub fn read_setting(
     below: u32,
 ) -> Result<Setting, OrMemory<Stop>>
     requires { 0 < below }
-    ensures { Gives setting_tree (reading.setting below) tokens.now cursor.old cursor.new result }
+    ensures gives { Gives setting_tree (reading.setting below)
+        tokens.now cursor.old cursor.new result }
+    ensures kept { IfOk result (Keeps setting_leaves tokens.now cursor.old cursor.new) }
 {
     let target = target(alloc, tokens, cursor, below)?;
     cursor.symbol(tokens, b"=")?;

@@ -1,12 +1,13 @@
 // Statements, each by its first word (IEEE 1364-2005, A.6.4).
 
-ghost use Rattle.std.specs.Prelude.{◌≡◌, ◌-◌, ◌<◌, true, length, nat_le};
+ghost use Rattle.std.specs.Prelude.{◌≡◌, ◌-◌, ◌<◌, true, length, nat_le, [], IfOk};
+ghost use Rattle.vast.specs.Leaves.{statement_leaves};
 ghost use Rattle.vast.specs.StatementTrees.{statement_tree};
 ghost use Rattle.vexpr_parse.specs.Readers.{stop};
-ghost use Rattle.vstatement_parse.specs.Gives.{Gives, ReadsStatements};
+ghost use Rattle.vstatement_parse.specs.Gives.{Gives, ReadsStatements, KeepsStatements};
 ghost use Rattle.vstatement_parse.specs.Begun.{begun_at, behind_word as behind_word_at, levels_of as levels_of_start, statement_at};
 ghost use Rattle.vgrammar.specs.Statements as reading;
-ghost use Rattle.vexpr_parse.specs.Answers.{ahead};
+ghost use Rattle.vexpr_parse.specs.Answers.{ahead, leaf_here, Keeps};
 
 use crate::assignments::{assignment, trigger};
 use crate::blocks::block;
@@ -63,8 +64,10 @@ fn behind_word<F: Fn(&mut Cursor) -> Result<Statement, OrMemory<Stop>>>(
     requires room { nat_le (levels_of_start start) below ≡ true }
     requires callable { F.IsAlwaysCallable read.now }
     requires reads { ReadsStatements tokens.now below (F.post read.now) }
-    ensures { Gives statement_tree (behind_word_at below start)
+    requires keeps { KeepsStatements tokens.now (F.post read.now) }
+    ensures gives { Gives statement_tree (behind_word_at below start)
         tokens.now cursor.old cursor.new result }
+    ensures kept { IfOk result (Keeps statement_leaves tokens.now cursor.old cursor.new) }
 {
     match start {
         StatementStart::Empty => Ok(Statement::Empty),
@@ -113,9 +116,13 @@ fn begun<F: Fn(&mut Cursor) -> Result<Statement, OrMemory<Stop>>>(
     start: StatementStart,
 ) -> Result<Statement, OrMemory<Stop>>
     requires word { 0 < length (ahead tokens.now cursor.old) }
+    requires plain { leaf_here tokens.now cursor.old ≡ [] }
     requires callable { F.IsAlwaysCallable read.now }
     requires reads { ReadsStatements tokens.now below (F.post read.now) }
-    ensures { Gives statement_tree (begun_at below start) tokens.now cursor.old cursor.new result }
+    requires keeps { KeepsStatements tokens.now (F.post read.now) }
+    ensures gives { Gives statement_tree (begun_at below start)
+        tokens.now cursor.old cursor.new result }
+    ensures kept { IfOk result (Keeps statement_leaves tokens.now cursor.old cursor.new) }
 {
     cursor.enter(tokens, below, levels_of(start))?;
     behind_word(alloc, read, below, tokens, cursor, at, start)
@@ -132,7 +139,10 @@ fn at_level<F: Fn(&mut Cursor) -> Result<Statement, OrMemory<Stop>>>(
 ) -> Result<Statement, OrMemory<Stop>>
     requires callable { F.IsAlwaysCallable read.now }
     requires reads { ReadsStatements tokens.now below (F.post read.now) }
-    ensures { Gives statement_tree (statement_at below) tokens.now cursor.old cursor.new result }
+    requires keeps { KeepsStatements tokens.now (F.post read.now) }
+    ensures gives { Gives statement_tree (statement_at below)
+        tokens.now cursor.old cursor.new result }
+    ensures kept { IfOk result (Keeps statement_leaves tokens.now cursor.old cursor.new) }
 {
     let Some(word) = cursor.word(tokens) else {
         return Err(OrMemory::Fault(Stop::NoTree));
@@ -190,8 +200,9 @@ pub fn statement(
     cursor: &mut Cursor,
     levels: u32,
 ) -> Result<Statement, OrMemory<Stop>>
-    ensures { Gives statement_tree (reading.statement levels)
+    ensures gives { Gives statement_tree (reading.statement levels)
         tokens.now cursor.old cursor.new result }
+    ensures kept { IfOk result (Keeps statement_leaves tokens.now cursor.old cursor.new) }
 {
     if levels == 0 {
         return Err(OrMemory::Fault(no_level(tokens, cursor)));
@@ -200,8 +211,10 @@ pub fn statement(
     at_level(
         alloc,
         &|cursor|
-            ensures { Gives statement_tree (reading.statement below)
+            ensures gives { Gives statement_tree (reading.statement below)
                 tokens.entry.now cursor.entry.now cursor.exit.now result }
+            ensures kept { IfOk result (Keeps statement_leaves
+                tokens.entry.now cursor.entry.now cursor.exit.now) }
         { statement(alloc, tokens, cursor, below) },
         below,
         tokens,

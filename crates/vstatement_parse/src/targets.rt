@@ -1,13 +1,14 @@
 // What assignments write to (IEEE 1364-2005, A.8.5).
 
-ghost use Rattle.std.specs.Prelude.{◌≡◌, ◌-◌, ◌<◌, codes, drop, length};
+ghost use Rattle.std.specs.Prelude.{◌≡◌, ◌-◌, ◌<◌, codes, drop, length, IfOk, ◌∷◌, []};
+ghost use Rattle.vast.specs.Leaves.{target_leaves};
 ghost use Rattle.vast.specs.TokenTexts.{token_text};
 ghost use Rattle.vast.specs.StatementTrees.{target_tree};
 ghost use Rattle.vexpr_parse.specs.Readers.{stop};
-ghost use Rattle.vstatement_parse.specs.Gives.{Gives, ReadsTargets, all_targets, in_braces, selected_tree, target_at, targets_behind, targets_within};
+ghost use Rattle.vstatement_parse.specs.Gives.{Gives, ReadsTargets, all_targets, in_braces, selected_tree, target_at, targets_behind, targets_within, all_target_leaves, KeepsTargets};
 ghost use Rattle.vgrammar.specs.Parts.{made};
 ghost use Rattle.vgrammar.specs.Statements as reading;
-ghost use Rattle.vexpr_parse.specs.Answers.{ahead};
+ghost use Rattle.vexpr_parse.specs.Answers.{ahead, KeepsBehind, Keeps};
 ghost use Rattle.vexpr_parse.specs.Texts.{words_of};
 
 use crate::values::{ended, value};
@@ -29,8 +30,10 @@ fn select(
     name: Token,
 ) -> Result<Target, OrMemory<Stop>>
     requires { 0 < below }
-    ensures { Gives target_tree (selected_tree (token_text (words_of tokens.now) name) below)
+    ensures gives { Gives target_tree (selected_tree (token_text (words_of tokens.now) name) below)
         tokens.now cursor.old cursor.new result }
+    ensures kept { IfOk result (KeepsBehind (name ∷ []) target_leaves
+        tokens.now cursor.old cursor.new) }
 {
     let index = value(alloc, tokens, cursor, below)?;
     if cursor.begins(tokens, b":") {
@@ -52,8 +55,11 @@ fn named_target(
     below: u32,
     name: Token,
 ) -> Result<Target, OrMemory<Stop>>
-    ensures { Gives target_tree (reading.named_target below (token_text (words_of tokens.now) name))
+    ensures gives { Gives target_tree
+        (reading.named_target below (token_text (words_of tokens.now) name))
         tokens.now cursor.old cursor.new result }
+    ensures kept { IfOk result (KeepsBehind (name ∷ []) target_leaves
+        tokens.now cursor.old cursor.new) }
 {
     if cursor.begins(tokens, b"[") {
         cursor.enter(tokens, below, 1)?;
@@ -74,8 +80,12 @@ fn more_targets<F: Fn(&mut Cursor) -> Result<Target, OrMemory<Stop>>>(
 ) -> Result<Vec<Target>, OrMemory<Stop>>
     requires callable { F.IsAlwaysCallable read.now }
     requires reads { ReadsTargets tokens.now below (F.post read.now) }
-    ensures { Gives all_targets (targets_behind below (target_tree (words_of tokens.now) first))
+    requires keeps { KeepsTargets tokens.now (F.post read.now) }
+    ensures gives { Gives all_targets
+        (targets_behind below (target_tree (words_of tokens.now) first))
         tokens.now cursor.old cursor.new result }
+    ensures kept { IfOk result (KeepsBehind (target_leaves first) all_target_leaves
+        tokens.now cursor.old cursor.new) }
 {
     let mut targets: Vec<Target> = Vec::new(alloc);
     targets.push(first)?;
@@ -97,7 +107,10 @@ fn targets_within<F: Fn(&mut Cursor) -> Result<Target, OrMemory<Stop>>>(
 ) -> Result<Vec<Target>, OrMemory<Stop>>
     requires callable { F.IsAlwaysCallable read.now }
     requires reads { ReadsTargets tokens.now below (F.post read.now) }
-    ensures { Gives all_targets (targets_within below) tokens.now cursor.old cursor.new result }
+    requires keeps { KeepsTargets tokens.now (F.post read.now) }
+    ensures gives { Gives all_targets (targets_within below)
+        tokens.now cursor.old cursor.new result }
+    ensures kept { IfOk result (Keeps all_target_leaves tokens.now cursor.old cursor.new) }
 {
     let first = read(cursor)?;
     let targets = more_targets(alloc, read, below, tokens, cursor, first)?;
@@ -116,15 +129,17 @@ fn joined<F: Fn(&mut Cursor) -> Result<Target, OrMemory<Stop>>>(
 ) -> Result<Target, OrMemory<Stop>>
     requires callable { F.IsAlwaysCallable read.now }
     requires reads { ReadsTargets tokens.now below (F.post read.now) }
-    ensures { Gives target_tree (made in_braces (targets_within below))
+    requires keeps { KeepsTargets tokens.now (F.post read.now) }
+    ensures gives { Gives target_tree (made in_braces (targets_within below))
         tokens.now cursor.old cursor.new result }
+    ensures kept { IfOk result (Keeps target_leaves tokens.now cursor.old cursor.new) }
 {
     let targets = targets_within(alloc, read, below, tokens, cursor)?;
     Ok(Target::Joined { at, targets })
 }
 
 // A target with so many levels below it.
-#[tactic(auto, using(crate::proofs::TargetTurns::gives_joined))]
+#[tactic(auto, using(crate::proofs::TargetTurns::gives_joined, crate::proofs::LeafWords::name_leaf))]
 fn at_level<F: Fn(&mut Cursor) -> Result<Target, OrMemory<Stop>>>(
     alloc: Global,
     read: F,
@@ -134,7 +149,9 @@ fn at_level<F: Fn(&mut Cursor) -> Result<Target, OrMemory<Stop>>>(
 ) -> Result<Target, OrMemory<Stop>>
     requires callable { F.IsAlwaysCallable read }
     requires reads { ReadsTargets tokens.now below (F.post read) }
-    ensures { Gives target_tree (target_at below) tokens.now cursor.old cursor.new result }
+    requires keeps { KeepsTargets tokens.now (F.post read) }
+    ensures gives { Gives target_tree (target_at below) tokens.now cursor.old cursor.new result }
+    ensures kept { IfOk result (Keeps target_leaves tokens.now cursor.old cursor.new) }
 {
     let Some(word) = cursor.word(tokens) else {
         return Err(OrMemory::Fault(Stop::NoTree));
@@ -176,7 +193,9 @@ pub fn target(
     cursor: &mut Cursor,
     levels: u32,
 ) -> Result<Target, OrMemory<Stop>>
-    ensures { Gives target_tree (reading.target levels) tokens.now cursor.old cursor.new result }
+    ensures gives { Gives target_tree (reading.target levels)
+        tokens.now cursor.old cursor.new result }
+    ensures kept { IfOk result (Keeps target_leaves tokens.now cursor.old cursor.new) }
 {
     if levels == 0 {
         return Err(OrMemory::Fault(no_level(tokens, cursor)));
@@ -185,8 +204,10 @@ pub fn target(
     at_level(
         alloc,
         |cursor|
-            ensures { Gives target_tree (reading.target below)
+            ensures gives { Gives target_tree (reading.target below)
                 tokens.entry.now cursor.entry.now cursor.exit.now result }
+            ensures kept { IfOk result (Keeps target_leaves
+                tokens.entry.now cursor.entry.now cursor.exit.now) }
         { target(alloc, tokens, cursor, below) },
         below,
         tokens,

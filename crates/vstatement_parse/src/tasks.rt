@@ -1,8 +1,10 @@
 // Calls of system tasks, behind their names (IEEE 1364-2005, clauses 17 and 18).
 
-ghost use Rattle.std.specs.Prelude.{◌≡◌};
+ghost use Rattle.std.specs.Prelude.{◌≡◌, IfOk};
+ghost use Rattle.vexpr_parse.specs.Answers.{Keeps};
+ghost use Rattle.vast.specs.Leaves.{statement_leaves, if_some};
 ghost use Rattle.vast.specs.StatementTrees.{statement_tree};
-ghost use Rattle.vstatement_parse.specs.Gives.{Gives, dump_at, dump_file_at, end_at, numbers_tree, optional_number_at};
+ghost use Rattle.vstatement_parse.specs.Gives.{Gives, dump_at, dump_file_at, end_at, numbers_tree, optional_number_at, word_leaves};
 
 use crate::words::{numbered, quoted};
 use basis::OrMemory;
@@ -18,7 +20,8 @@ pub fn dump(
     at: u32,
     kind: Dumping,
 ) -> Result<Statement, OrMemory<Stop>>
-    ensures { Gives statement_tree (dump_at kind) tokens.now cursor.old cursor.new result }
+    ensures gives { Gives statement_tree (dump_at kind) tokens.now cursor.old cursor.new result }
+    ensures kept { IfOk result (Keeps statement_leaves tokens.now cursor.old cursor.new) }
 {
     cursor.symbol(tokens, b";")?;
     Ok(Statement::Task {
@@ -33,7 +36,8 @@ pub fn dump_file(
     cursor: &mut Cursor,
     at: u32,
 ) -> Result<Statement, OrMemory<Stop>>
-    ensures { Gives statement_tree dump_file_at tokens.now cursor.old cursor.new result }
+    ensures gives { Gives statement_tree dump_file_at tokens.now cursor.old cursor.new result }
+    ensures kept { IfOk result (Keeps statement_leaves tokens.now cursor.old cursor.new) }
 {
     cursor.symbol(tokens, b"(")?;
     let word = quoted(tokens, cursor)?;
@@ -50,7 +54,8 @@ fn optional_number(
     tokens: &Tokens<'_>,
     cursor: &mut Cursor,
 ) -> Result<Option<Token>, OrMemory<Stop>>
-    ensures { Gives numbers_tree optional_number_at tokens.now cursor.old cursor.new result }
+    ensures gives { Gives numbers_tree optional_number_at tokens.now cursor.old cursor.new result }
+    ensures kept { IfOk result (Keeps (if_some word_leaves) tokens.now cursor.old cursor.new) }
 {
     if cursor.begins(tokens, b"(") {
         cursor.pass(tokens);
@@ -69,7 +74,8 @@ pub fn end_run(
     at: u32,
     stops: bool,
 ) -> Result<Statement, OrMemory<Stop>>
-    ensures { Gives statement_tree (end_at stops) tokens.now cursor.old cursor.new result }
+    ensures gives { Gives statement_tree (end_at stops) tokens.now cursor.old cursor.new result }
+    ensures kept { IfOk result (Keeps statement_leaves tokens.now cursor.old cursor.new) }
 {
     let number = optional_number(tokens, cursor)?;
     cursor.symbol(tokens, b";")?;

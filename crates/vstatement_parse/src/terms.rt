@@ -1,8 +1,10 @@
 // Names whose changes are waited for (IEEE 1364-2005, 9.7.2 and 9.7.3).
 
-ghost use Rattle.std.specs.Prelude.{◌≡◌};
+ghost use Rattle.std.specs.Prelude.{◌≡◌, IfOk};
+ghost use Rattle.vast.specs.Leaves.{term_leaves, further_leaves};
+ghost use Rattle.vexpr_parse.specs.Answers.{Keeps};
 ghost use Rattle.vast.specs.StatementTrees.{term_tree, further_term as further_tree};
-ghost use Rattle.vstatement_parse.specs.Gives.{Gives, itself, optional_edge};
+ghost use Rattle.vstatement_parse.specs.Gives.{Gives, itself, optional_edge, no_leaves};
 ghost use Rattle.vgrammar.specs.Parts.{worded};
 ghost use Rattle.vgrammar.specs.Starts.{comma_of};
 ghost use Rattle.vgrammar.specs.Statements as reading;
@@ -14,8 +16,10 @@ use vexpr_parse::{Cursor, Stop};
 use vlex::Tokens;
 
 // `posedge` or `negedge`, where one stands.
+#[tactic(auto, using(crate::proofs::LeafWords::posedge_plain, crate::proofs::LeafWords::negedge_plain))]
 fn edge(tokens: &Tokens<'_>, cursor: &mut Cursor) -> Result<Option<Edge>, OrMemory<Stop>>
-    ensures { Gives itself optional_edge tokens.now cursor.old cursor.new result }
+    ensures gives { Gives itself optional_edge tokens.now cursor.old cursor.new result }
+    ensures kept { IfOk result (Keeps no_leaves tokens.now cursor.old cursor.new) }
 {
     if cursor.begins(tokens, b"posedge") {
         cursor.pass(tokens);
@@ -30,7 +34,8 @@ fn edge(tokens: &Tokens<'_>, cursor: &mut Cursor) -> Result<Option<Edge>, OrMemo
 
 /// A name, with the edge before it.
 pub fn read_term(tokens: &Tokens<'_>, cursor: &mut Cursor) -> Result<Term, OrMemory<Stop>>
-    ensures { Gives term_tree reading.term tokens.now cursor.old cursor.new result }
+    ensures gives { Gives term_tree reading.term tokens.now cursor.old cursor.new result }
+    ensures kept { IfOk result (Keeps term_leaves tokens.now cursor.old cursor.new) }
 {
     let edge = edge(tokens, cursor)?;
     let name = named(tokens, cursor)?;
@@ -38,8 +43,10 @@ pub fn read_term(tokens: &Tokens<'_>, cursor: &mut Cursor) -> Result<Term, OrMem
 }
 
 // `,` or `or`: whether it is the comma.
+#[tactic(auto, using(crate::proofs::LeafWords::or_plain))]
 fn comma(tokens: &Tokens<'_>, cursor: &mut Cursor) -> Result<bool, OrMemory<Stop>>
-    ensures { Gives itself (worded comma_of) tokens.now cursor.old cursor.new result }
+    ensures gives { Gives itself (worded comma_of) tokens.now cursor.old cursor.new result }
+    ensures kept { IfOk result (Keeps no_leaves tokens.now cursor.old cursor.new) }
 {
     if cursor.begins(tokens, b",") {
         cursor.pass(tokens);
@@ -54,7 +61,9 @@ fn comma(tokens: &Tokens<'_>, cursor: &mut Cursor) -> Result<bool, OrMemory<Stop
 
 /// A further name, behind a comma or `or`.
 pub fn further_term(tokens: &Tokens<'_>, cursor: &mut Cursor) -> Result<FurtherTerm, OrMemory<Stop>>
-    ensures { Gives further_tree reading.further_term tokens.now cursor.old cursor.new result }
+    ensures gives { Gives further_tree reading.further_term
+        tokens.now cursor.old cursor.new result }
+    ensures kept { IfOk result (Keeps further_leaves tokens.now cursor.old cursor.new) }
 {
     let by_comma = comma(tokens, cursor)?;
     let term = read_term(tokens, cursor)?;

@@ -1,6 +1,9 @@
 // Expressions, with the word behind them.
 
-ghost use Rattle.std.specs.Prelude.{◌≡◌, ◌<◌, codes};
+ghost use Rattle.std.specs.Prelude.{◌≡◌, ◌<◌, false, codes, IfOk};
+ghost use Rattle.vexpr_parse.specs.Answers.{Keeps};
+ghost use Rattle.vast.specs.Leaves.{boxed_leaves};
+ghost use Rattle.vast.specs.Words.{is_leaf};
 ghost use Rattle.vexpr_parse.specs.Readers.{past};
 ghost use Rattle.vstatement_parse.specs.Gives.{Gives, ended_tree, value_tree};
 ghost use Rattle.vgrammar.specs.Parts.{paired};
@@ -20,7 +23,8 @@ pub fn value(
     below: u32,
 ) -> Result<Box<Expression>, OrMemory<Stop>>
     requires { 0 < below }
-    ensures { Gives value_tree (reading.value below) tokens.now cursor.old cursor.new result }
+    ensures gives { Gives value_tree (reading.value below) tokens.now cursor.old cursor.new result }
+    ensures kept { IfOk result (Keeps boxed_leaves tokens.now cursor.old cursor.new) }
 {
     let found = expression(alloc, tokens, cursor, below)?;
     Ok(Box::new(alloc, found.tree)?)
@@ -35,8 +39,10 @@ pub fn ended(
     text: &[u8],
 ) -> Result<Box<Expression>, OrMemory<Stop>>
     requires { 0 < below }
-    ensures { Gives ended_tree (paired (reading.value below) (reading.word_only text.now))
+    ensures gives { Gives ended_tree (paired (reading.value below) (reading.word_only text.now))
         tokens.now cursor.old cursor.new result }
+    ensures kept { is_leaf text.now ≡ false →
+        IfOk result (Keeps boxed_leaves tokens.now cursor.old cursor.new) }
 {
     let found = value(alloc, tokens, cursor, below)?;
     cursor.symbol(tokens, text)?;
@@ -51,8 +57,9 @@ pub fn enclosed(
     below: u32,
 ) -> Result<Box<Expression>, OrMemory<Stop>>
     requires { 0 < below }
-    ensures { Gives ended_tree (past (codes "(") (paired (reading.value below)
+    ensures gives { Gives ended_tree (past (codes "(") (paired (reading.value below)
         (reading.word_only (codes ")")))) tokens.now cursor.old cursor.new result }
+    ensures kept { IfOk result (Keeps boxed_leaves tokens.now cursor.old cursor.new) }
 {
     cursor.symbol(tokens, b"(")?;
     ended(alloc, tokens, cursor, below, b")")

@@ -1,9 +1,10 @@
 // Words that are passed: a name, a number, a string.
 
-ghost use Rattle.std.specs.Prelude.{◌≡◌};
+ghost use Rattle.std.specs.Prelude.{◌≡◌, IfOk};
+ghost use Rattle.vexpr_parse.specs.Answers.{Keeps};
 ghost use Rattle.vast.specs.TokenTexts.{token_text};
 ghost use Rattle.vast.specs.Words.{is_string as is_string_text};
-ghost use Rattle.vstatement_parse.specs.Gives.{Gives};
+ghost use Rattle.vstatement_parse.specs.Gives.{Gives, word_leaves};
 ghost use Rattle.vgrammar.specs.Parts.{worded};
 ghost use Rattle.vgrammar.specs.Starts.{meant_if};
 ghost use Rattle.vgrammar.specs.Statements as reading;
@@ -15,8 +16,10 @@ use vexpr_parse::{Cursor, Stop};
 use vlex::Tokens;
 
 /// Passes a name (IEEE 1364-2005, 3.7).
+#[tactic(auto, using(crate::proofs::LeafWords::name_leaf))]
 pub fn named(tokens: &Tokens<'_>, cursor: &mut Cursor) -> Result<Token, OrMemory<Stop>>
-    ensures { Gives token_text reading.named tokens.now cursor.old cursor.new result }
+    ensures gives { Gives token_text reading.named tokens.now cursor.old cursor.new result }
+    ensures kept { IfOk result (Keeps word_leaves tokens.now cursor.old cursor.new) }
 {
     match cursor.word(tokens) {
         Some(word) => {
@@ -32,8 +35,10 @@ pub fn named(tokens: &Tokens<'_>, cursor: &mut Cursor) -> Result<Token, OrMemory
 }
 
 /// Passes a number (3.5.1).
+#[tactic(auto, using(crate::proofs::LeafWords::number_leaf))]
 pub fn numbered(tokens: &Tokens<'_>, cursor: &mut Cursor) -> Result<Token, OrMemory<Stop>>
-    ensures { Gives token_text reading.numbered tokens.now cursor.old cursor.new result }
+    ensures gives { Gives token_text reading.numbered tokens.now cursor.old cursor.new result }
+    ensures kept { IfOk result (Keeps word_leaves tokens.now cursor.old cursor.new) }
 {
     match cursor.word(tokens) {
         Some(word) => {
@@ -59,9 +64,11 @@ pub fn is_string(text: &[u8]) -> bool
 }
 
 /// Passes a string.
+#[tactic(auto, using(crate::proofs::LeafWords::string_leaf))]
 pub fn quoted(tokens: &Tokens<'_>, cursor: &mut Cursor) -> Result<Token, OrMemory<Stop>>
-    ensures { Gives token_text (worded (meant_if is_string_text))
+    ensures gives { Gives token_text (worded (meant_if is_string_text))
         tokens.now cursor.old cursor.new result }
+    ensures kept { IfOk result (Keeps word_leaves tokens.now cursor.old cursor.new) }
 {
     match cursor.word(tokens) {
         Some(word) => {

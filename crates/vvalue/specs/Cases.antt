@@ -1,5 +1,5 @@
 -- What `case` and `repeat` ask of expressions (IEEE 1364-2005, 9.5, 9.6).
-use Rattle.std.specs.Prelude.{ℕ, Bool, true, false, ◌&&◌, ◌||◌, cond, List, [], ◌∷◌, unwrap_or}
+use Rattle.std.specs.Prelude.{ℕ, Bool, true, false, ◌&&◌, ◌||◌, if◌then◌else◌, List, [], ◌∷◌, unwrap_or}
 use Rattle.vast.specs.declared.statement.CaseKind.{CaseKind}
 use Rattle.vast.specs.declared.statement.CaseKind.TheVariants as kinds
 use Rattle.vbits.specs.declared.bit4.Bit4.{Bit4}
@@ -51,7 +51,8 @@ case_context now value branches = widest now (own now value) branches
 abbrev pub places_at : Moment → CaseKind → Context → Vector → List Branch → List ℕ → List ℕ
 places_at now kind here value [] otherwise = otherwise
 places_at now kind here value (branch ∷ more) otherwise =
-    cond (matches kind value (value_of now branch.item here)) branch.body (places_at now kind here value more otherwise)
+    if matches kind value (value_of now branch.item here) then branch.body
+    else places_at now kind here value more otherwise
 
 unfoldable pub places_of_case : Moment → CaseKind → ExpressionTree → List Branch → List ℕ → List ℕ
 places_of_case now kind value branches otherwise =
@@ -62,7 +63,7 @@ places_of_case now kind value branches otherwise =
 
 -- a count is read by its own sign; one that is unknown is 0, and so is one below 0
 abbrev pub turns_in : Vector → ℕ
-turns_in count = cond (is_one (sign_letter count)) 0 (unwrap_or (number count.letters) 0)
+turns_in count = if is_one (sign_letter count) then 0 else unwrap_or (number count.letters) 0
 
 unfoldable pub turns_of : Moment → ExpressionTree → ℕ
 turns_of now count = turns_in (by_itself now count)

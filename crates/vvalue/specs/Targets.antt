@@ -1,6 +1,6 @@
 -- What an assignment writes to (IEEE 1364-2005, 5.1.14, 5.2.1, 6.2): how many bits its targets have, and which bits of their variables
 -- these are.
-use Rattle.std.specs.Prelude.{ℕ, ◌+◌, ◌-◌, nat_le, cond, List, [], ◌∷◌, length, Option, option_and_then}
+use Rattle.std.specs.Prelude.{ℕ, ◌+◌, ◌-◌, nat_le, if◌then◌else◌, List, [], ◌∷◌, length, Option, option_and_then}
 use Rattle.vdesign.specs.declared.expression.Bounds.{Bounds}
 use Rattle.vdesign.specs.Expressions.{ExpressionTree}
 use Rattle.vdesign.specs.declared.action.Target.{Target}
@@ -23,4 +23,4 @@ place_at now n index = option_and_then (place_in (bounds_of now n)) (index_in (b
 
 -- how far the bit of one number stands to the left of that of another; 0 where it doesn't
 abbrev pub leftwards : Bounds → ℕ → ℕ → ℕ
-leftwards bounds number from = cond (nat_le bounds.right bounds.left) (number - from) (from - number)
+leftwards bounds number from = if nat_le bounds.right bounds.left then number - from else from - number

@@ -1,6 +1,6 @@
 -- What an expression is worth (IEEE 1364-2005, 3.5.1, 5.4, 5.5): its own size and sign, and its value at the size and sign of
 -- what it stands in.
-use Rattle.std.specs.Prelude.{ℕ, zero, suc, ◌+◌, ◌-◌, ◌*◌, max, min, nat_le, Bool, false, cond, ◌&&◌, ◌||◌, List, [], ◌∷◌, ◌++◌, length, take, slice_get, Option, None, Some, unwrap_or, option_and_then}
+use Rattle.std.specs.Prelude.{ℕ, zero, suc, ◌+◌, ◌-◌, ◌*◌, max, min, nat_le, Bool, false, if◌then◌else◌, ◌&&◌, ◌||◌, List, [], ◌∷◌, ◌++◌, length, take, slice_get, Option, None, Some, unwrap_or, option_and_then}
 use Rattle.vbits.specs.declared.bit4.Bit4.{Bit4}
 use Rattle.vbits.specs.declared.bit4.Bit4.TheVariants.{Zero, One, X, Z}
 use Rattle.vbits.specs.Letters.{not_letter, and_letter, or_letter, is_one}
@@ -110,9 +110,9 @@ bounds_of now n = unwrap_or (option_and_then (λ v. v.bounds) (slice_get now.var
 -- how far the bit of this number stands from the rightmost, where there is one: bounds fall or rise towards the right
 abbrev pub place_in : Bounds → ℕ → Option ℕ
 place_in bounds number =
-    cond (nat_le bounds.right bounds.left)
-    (cond (nat_le bounds.right number && nat_le number bounds.left) (Some (number - bounds.right)) None)
-    (cond (nat_le bounds.left number && nat_le number bounds.right) (Some (bounds.right - number)) None)
+    if nat_le bounds.right bounds.left then (if nat_le bounds.right number && nat_le number bounds.left then Some (number - bounds.right) else None)
+    else if nat_le bounds.left number && nat_le number bounds.right then Some (bounds.right - number)
+    else None
 
 -- a letter; x where there is no such bit
 abbrev pub letter_at : Vector → Option ℕ → Bit4
@@ -124,7 +124,7 @@ bit_letter v bounds number = letter_at v (place_in bounds number)
 
 -- the number that an index is, read whole; none where it is unknown or negative
 abbrev pub index_in : Vector → Option ℕ
-index_in v = cond (is_one (sign_letter v)) None (number v.letters)
+index_in v = if is_one (sign_letter v) then None else number v.letters
 
 abbrev pub bit_by : Vector → Bounds → Option ℕ → Bit4
 bit_by v bounds None = X
@@ -140,7 +140,7 @@ bit_value now n index = indexed_bit (value_at now n) (bounds_of now n) index
 
 -- the number of the bit that stands so far from the right one of these bounds
 abbrev pub number_of_bit : Bounds → ℕ → ℕ
-number_of_bit bounds place = cond (nat_le bounds.right bounds.left) (bounds.right + place) (bounds.right - place)
+number_of_bit bounds place = if nat_le bounds.right bounds.left then bounds.right + place else bounds.right - place
 
 -- so many bits of a part, from its right one on
 abbrev pub part_letters : Vector → Bounds → Bounds → ℕ → List Bit4

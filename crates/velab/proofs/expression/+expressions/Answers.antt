@@ -1,17 +1,24 @@
-use Rattle.std.proofs.Common.{◌≡◌, ◌-◌, ◌++◌, ◌∷◌, [], ℕ, Option, None, OnOk, subst, sym, ap, ◌∙◌, arith}
+use Rattle.std.proofs.Common.{◌≡◌, ◌-◌, ◌++◌, ◌∷◌, [], List, ℕ, true, Option, None, OnOk, subst, sym, ap, ◌∙◌, arith}
 use Rattle.basis.specs.Reasons.{IfFault}
-use Rattle.vast.specs.Expressions.{ExpressionTree}
-use Rattle.vast.specs.ExpressionTrees.{trees_of}
+use Rattle.vast.specs.NumberedWords.{numbered}
+use Rattle.vast.specs.NumberedExpressions.{ExpressionTree, part}
+use Rattle.vast.specs.NumberedTrees.{tree_of, trees_of}
 use Rattle.vexpr_parse.specs.Texts.{words_of}
 use Rattle.vdesign.specs.Nodes.{nodes_of}
 use Rattle.vdesign.specs.declared.expression.Node.{Node}
-use Rattle.velab.specs.Resolved.{resolved, resolved_parts, broken, broken_joined}
+use Rattle.vdesign.specs.Expressions.{ExpressionTree as Resolved}
+use Rattle.vvalue.specs.Flaws.{flaw_of}
+use Rattle.velab.specs.FirstWords.{first_in}
+use Rattle.velab.specs.Scopes.{broken_name}
+use Rattle.velab.specs.Resolved.{resolved, resolved_parts, part_rule, broken, broken_constant, broken_joined}
+use Rattle.velab.proofs.FaultLemmas.{handed_on, then_breaks, then_told, both_right, same_rule}
+use Rattle.basis.proofs.Results.{on_ok}
 use Rattle.std.specs.Option.{option_or}
 use Rattle.vbits.specs.Vectors.{Vector}
 use Rattle.vdesign.specs.declared.expression.Node.TheVariants.{Repeated}
-use Rattle.velab.specs.Constants.{count_in}
-use Rattle.velab.specs.declared.fault.Rule.{Rule}
-use Rattle.velab.specs.Rules.{IsBroken}
+use Rattle.velab.specs.Constants.{nothing, part_bounds, count_in}
+use Rattle.velab.specs.declared.fault.ElabFault.{ElabFault}
+use Rattle.velab.specs.Rules.{flaw_fault, IsBroken}
 use Rattle.velab.proofs.PartLemmas.{concatenation_is, replication_is, next_part, next_right, ends_with, some_of}
 use Rattle.velab.proofs.expression.+expressions.Goals as goal
 
@@ -54,7 +61,7 @@ put_expression-returns-in_ok-count-in-Replication-clause-right t c =
     (replication_is words c.args.expression.now c.in-Replication.at c.in-Replication.count c.in-Replication.parts
     c.deref-in-Replication.result.now c.deref-in-Replication-2.result.now c.in-Replication.is c.deref-in-Replication.ensures
     c.deref-in-Replication-2.ensures.value)
-    (subst (λ (r : Option Rule). OnOk c.put_repeated.result (option_or r (broken_joined c.args.fixed c.args.scope.now (trees_of words c.deref-in-Replication-2.result.now)) ≡ None))
+    (subst (λ (r : Option ElabFault). OnOk c.put_repeated.result (option_or r (broken_joined c.args.fixed c.args.scope.now (trees_of words c.deref-in-Replication-2.result.now)) ≡ None))
     (sym c.in_ok-count-in-Replication.ensures.right) c.put_repeated.ensures.right)
 
 pub put_expression-returns-in_ok-count-in-Replication-clause-err : goal.put_expression-returns-in_ok-count-in-Replication-clause-err
@@ -64,7 +71,7 @@ put_expression-returns-in_ok-count-in-Replication-clause-err t c =
     (replication_is words c.args.expression.now c.in-Replication.at c.in-Replication.count c.in-Replication.parts
     c.deref-in-Replication.result.now c.deref-in-Replication-2.result.now c.in-Replication.is c.deref-in-Replication.ensures
     c.deref-in-Replication-2.ensures.value)
-    (subst (λ (r : Option Rule). IfFault c.put_repeated.result (IsBroken (option_or r (broken_joined c.args.fixed c.args.scope.now (trees_of words c.deref-in-Replication-2.result.now)))))
+    (subst (λ (r : Option ElabFault). IfFault c.put_repeated.result (IsBroken (option_or r (broken_joined c.args.fixed c.args.scope.now (trees_of words c.deref-in-Replication-2.result.now)))))
     (sym c.in_ok-count-in-Replication.ensures.right) c.put_repeated.ensures.err)
 
 pub put_parts-loop-one-preserved : goal.put_parts-loop-one-preserved
@@ -84,3 +91,40 @@ put_parts-returns-clause-ok t c =
     ends_with (words_of c.args.tokens.now) c.args.scope.now c.args.parts.now c.loop-one.one-index c.loop-one.nodes.items c.args.nodes.now.items
     c.loop-one-test.false
     (some_of c.args.parts.now (sym c.is_empty.ensures ∙ c.if-is_empty.false)) c.loop-one.invariant.ok
+
+pub put_expression-returns-in_err-node-in-Part-clause-err : goal.put_expression-returns-in_err-node-in-Part-clause-err
+put_expression-returns-in_err-node-in-Part-clause-err t c =
+    let words = words_of c.args.tokens.now in
+    let scope = c.args.scope.now in
+    let name = numbered words c.in-Part.name in
+    let left = tree_of words c.deref-in-Part.result.now in
+    let right = tree_of words c.deref-in-Part-2.result.now in
+    let e = c.in_err-node-in-Part.field-0.0 in
+    let is : part name left right ≡ tree_of words c.args.expression.now =
+    (λ i. part name (tree_of words (c.deref-in-Part.ensures i)) (tree_of words (c.deref-in-Part-2.ensures i))) ∙ sym (ap (tree_of words) c.in-Part.is) in
+    subst (λ (tree : ExpressionTree). IfFault c.from_residual-in_err-node-in-Part.result (IsBroken (broken c.args.fixed scope tree))) is
+    (handed_on _ c.from_residual-in_err-node-in-Part.result e c.from_residual-in_err-node-in-Part.ensures.1
+    (then_breaks (broken_name c.args.fixed scope name) _ c.in_ok-meaning-in-Part.ensures.right e
+    (then_breaks (broken_constant scope left) _ c.in_ok-left-in-Part.ensures.right e
+    (then_breaks (broken_constant scope right) _ c.in_ok-right-in-Part.ensures.right e
+    (same_rule _ _
+    (λ i. part_rule (sym c.in_ok-meaning-in-Part.ensures.ok i) ((c.part_bounds.ensures ∙ (λ j. part_bounds (c.in_ok-left-in-Part.ensures.ok j) (c.in_ok-right-in-Part.ensures.ok j))) i) name)
+    e (c.in_err-node-in-Part.ensures.err words))))))
+
+pub worth-returns-clause-right : goal.worth-returns-clause-right
+worth-returns-clause-right t c =
+    let words = words_of c.args.tokens.now in
+    let tree = tree_of words c.args.expression.now in
+    let is = c.new-resolved.ensures (resolved c.args.scope.now tree) (c.in_ok-put_expression.ensures.ok ∙ ap (λ (l : List Node). l ++ nodes_of (resolved c.args.scope.now tree)) c.new-nodes.ensures.items) in
+    on_ok c.worth_of.result
+    (λ fine. both_right (broken true c.args.scope.now tree) _ c.in_ok-put_expression.ensures.right
+    (ap (λ (e : Resolved). flaw_fault (flaw_of nothing e) (first_in tree)) (sym is) ∙ fine))
+    (c.worth_of.ensures.right words)
+
+pub worth-returns-clause-err : goal.worth-returns-clause-err
+worth-returns-clause-err t c =
+    let words = words_of c.args.tokens.now in
+    let tree = tree_of words c.args.expression.now in
+    let is = c.new-resolved.ensures (resolved c.args.scope.now tree) (c.in_ok-put_expression.ensures.ok ∙ ap (λ (l : List Node). l ++ nodes_of (resolved c.args.scope.now tree)) c.new-nodes.ensures.items) in
+    then_told c.worth_of.result (broken true c.args.scope.now tree) _ c.in_ok-put_expression.ensures.right
+    (subst (λ (e : Resolved). IfFault c.worth_of.result (IsBroken (flaw_fault (flaw_of nothing e) (first_in tree)))) is (c.worth_of.ensures.err words))

@@ -1,5 +1,5 @@
 use Rattle.std.proofs.Common.{◌≡◌, ◌++◌, ◌-◌, drop, length}
-use Rattle.vast.specs.ExpressionTrees.{trees_of}
+use Rattle.vast.specs.NumberedTrees.{trees_of}
 use Rattle.vexpr_parse.specs.Texts.{words_of}
 use Rattle.velab.specs.Resolved.{broken_parts}
 use Rattle.velab.proofs.PartLemmas.{nodes_left}

@@ -1,8 +1,11 @@
-use Rattle.std.proofs.Common.{◌≡◌, ◌++◌, drop, filter}
-use Rattle.vmodules.specs.Names.{is_declared}
-use Rattle.velab.specs.Inner.{driver_names}
+use Rattle.std.proofs.Common.{◌≡◌, drop}
+use Rattle.vmodules.specs.Names.{again_behind, first_again, letters_of}
+use Rattle.vmodules.specs.Inner.{with_words}
+use Rattle.velab.specs.Inner.{among}
 use Rattle.velab.proofs.nets.driven_nets.Given as goal
 
 abbrev pub invariant-loop-driver : goal.invariant-loop-driver
-invariant-loop-driver l =
-    l.names ++ filter (is_declared l.nets) (driver_names (drop l.driver-index l.drivers)) ≡ filter (is_declared l.nets) (driver_names l.drivers)
+invariant-loop-driver l = record {
+  names : with_words l.names (among l.nets (drop l.driver-index l.drivers)) ≡ letters_of (among l.nets l.drivers);
+  again : again_behind l.names (among l.nets (drop l.driver-index l.drivers)) ≡ first_again (among l.nets l.drivers);
+}

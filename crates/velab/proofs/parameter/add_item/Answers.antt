@@ -1,6 +1,6 @@
 use Rattle.std.proofs.Common.{List, sym, ap, subst, ◌∙◌}
 use Rattle.basis.specs.Reasons.{IfFault}
-use Rattle.vast.specs.ModuleTrees.{item_tree}
+use Rattle.vast.specs.NumberedTrees.{item_tree}
 use Rattle.vast.specs.declared.module.ModuleItem.{ModuleItem}
 use Rattle.vast.specs.declared.module.Setting.{Setting}
 use Rattle.vexpr_parse.specs.Texts.{words_of}

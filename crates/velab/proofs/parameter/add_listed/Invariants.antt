@@ -1,5 +1,5 @@
 use Rattle.std.proofs.Common.{◌≡◌, None, drop, map}
-use Rattle.vast.specs.ModuleTrees.{head_parameter}
+use Rattle.vast.specs.NumberedTrees.{head_parameter}
 use Rattle.vexpr_parse.specs.Texts.{words_of}
 use Rattle.velab.specs.Elaborate.{with_all, broken_all, given_behind}
 use Rattle.velab.specs.Inner.{outside_tree, type_of}

@@ -1,5 +1,5 @@
 use Rattle.std.proofs.Common.{arith, ◌∙◌, ◌+◌, drop}
-use Rattle.vast.specs.ModuleTrees.{item_tree}
+use Rattle.vast.specs.NumberedTrees.{item_tree}
 use Rattle.vexpr_parse.specs.Texts.{words_of}
 use Rattle.velab.specs.Elaborate.{valueless_by}
 use Rattle.velab.specs.Inner.{valueless_in, outside_tree}

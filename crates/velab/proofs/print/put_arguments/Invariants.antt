@@ -1,5 +1,5 @@
 use Rattle.std.proofs.Common.{◌≡◌, drop, map}
-use Rattle.vast.specs.StatementTrees.{argument_tree}
+use Rattle.vast.specs.NumberedTrees.{argument_tree}
 use Rattle.vexpr_parse.specs.Texts.{words_of}
 use Rattle.velab.specs.Prints.{argument_of, broken_arguments}
 use Rattle.velab.proofs.PrintLemmas.{GoesOn}

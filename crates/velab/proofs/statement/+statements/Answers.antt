@@ -1,7 +1,7 @@
 use Rattle.std.proofs.Common.{◌≡◌, None, OnOk, subst}
 use Rattle.basis.specs.Reasons.{IfFault}
 use Rattle.vexpr_parse.specs.Texts.{words_of}
-use Rattle.vast.specs.Statements.{StatementTree}
+use Rattle.vast.specs.NumberedStatements.{StatementTree}
 use Rattle.velab.specs.Elaborate.{Laid, laid, broken_in}
 use Rattle.velab.specs.Rules.{IsBroken}
 use Rattle.velab.specs.Inner.{IsLaid}

@@ -1,5 +1,5 @@
 use Rattle.std.proofs.Common.{◌≡◌, drop}
-use Rattle.vast.specs.StatementTrees.{statement_trees, branch_trees}
+use Rattle.vast.specs.NumberedTrees.{statement_trees, branch_trees}
 use Rattle.vexpr_parse.specs.Texts.{words_of}
 use Rattle.velab.specs.Elaborate.{all_laid, laid_branches, broken_in_all, broken_branches}
 use Rattle.velab.proofs.StatementLemmas.{Leads}

@@ -1,6 +1,6 @@
 use Rattle.std.proofs.Common.{◌≡◌, [], ◌∷◌, Result, Ok, Err, IfOk, refl, sym, ap, ◌∙◌}
 use Rattle.basis.specs.declared.memory.OrMemory.{OrMemory}
-use Rattle.vast.specs.StatementTrees.{delay_tree}
+use Rattle.vast.specs.NumberedTrees.{delay_tree}
 use Rattle.vast.specs.declared.statement.Delay.{Delay}
 use Rattle.vexpr_parse.specs.Texts.{words_of}
 use Rattle.vdesign.specs.declared.expression.Node.{Node}

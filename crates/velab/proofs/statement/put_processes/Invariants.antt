@@ -1,6 +1,6 @@
 use Rattle.std.proofs.Common.{◌≡◌, ◌<◌, ◌+◌, ◌^◌, drop, length, map}
 use Rattle.std.specs.List.{flat_map}
-use Rattle.vast.specs.ModuleTrees.{item_tree}
+use Rattle.vast.specs.NumberedTrees.{item_tree}
 use Rattle.vexpr_parse.specs.Texts.{words_of}
 use Rattle.velab.specs.Scopes.{at}
 use Rattle.velab.specs.Elaborate.{laid_items, broken_items_from, given_by}

@@ -1,6 +1,6 @@
 use Rattle.std.proofs.Common.{◌≡◌, ◌++◌, None, OnOk, subst}
 use Rattle.basis.specs.Reasons.{IfFault}
-use Rattle.vast.specs.Statements.{TargetTree}
+use Rattle.vast.specs.NumberedStatements.{TargetTree}
 use Rattle.vexpr_parse.specs.Texts.{words_of}
 use Rattle.velab.specs.Rules.{IsBroken}
 use Rattle.velab.specs.Written.{row_of, broken_target}

@@ -1,5 +1,5 @@
 use Rattle.std.proofs.Common.{◌≡◌, ◌++◌, OnOk, subst}
-use Rattle.vast.specs.Statements.{TargetTree}
+use Rattle.vast.specs.NumberedStatements.{TargetTree}
 use Rattle.vexpr_parse.specs.Texts.{words_of}
 use Rattle.velab.specs.Waits.{any_of, read_by_target}
 use Rattle.velab.proofs.TargetLemmas.{joined_is}

@@ -1,5 +1,5 @@
 use Rattle.std.proofs.Common.{◌≡◌, ◌++◌, drop}
-use Rattle.vast.specs.StatementTrees.{target_trees}
+use Rattle.vast.specs.NumberedTrees.{target_trees}
 use Rattle.vexpr_parse.specs.Texts.{words_of}
 use Rattle.velab.specs.Waits.{any_of, read_by_targets}
 use Rattle.velab.proofs.wait.+indexing.Given as goal

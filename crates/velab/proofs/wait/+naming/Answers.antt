@@ -1,5 +1,5 @@
 use Rattle.std.proofs.Common.{◌≡◌, ◌++◌, OnOk, refl, subst}
-use Rattle.vast.specs.Expressions.{ExpressionTree}
+use Rattle.vast.specs.NumberedExpressions.{ExpressionTree}
 use Rattle.vexpr_parse.specs.Texts.{words_of}
 use Rattle.velab.specs.Waits.{any_of, names_in}
 use Rattle.velab.proofs.PartLemmas.{concatenation_is, replication_is}

@@ -1,5 +1,5 @@
 use Rattle.std.proofs.Common.{◌≡◌, ◌++◌, drop}
-use Rattle.vast.specs.ExpressionTrees.{trees_of}
+use Rattle.vast.specs.NumberedTrees.{trees_of}
 use Rattle.vexpr_parse.specs.Texts.{words_of}
 use Rattle.velab.specs.Waits.{any_of, names_in_parts}
 use Rattle.velab.proofs.wait.+naming.Given as goal

@@ -1,7 +1,7 @@
 use Rattle.std.proofs.Common.{◌≡◌, ◌++◌, List, OnOk, subst}
 use Rattle.vexpr_parse.specs.Texts.{words_of}
-use Rattle.vast.specs.Words.{Text}
-use Rattle.vast.specs.Statements.{StatementTree}
+use Rattle.vast.specs.NumberedWords.{Word}
+use Rattle.vast.specs.NumberedStatements.{StatementTree}
 use Rattle.velab.specs.Waits.{any_of, read_by}
 use Rattle.velab.proofs.BranchLemmas.{case_tree}
 use Rattle.velab.proofs.WaitLemmas.{block_reads}
@@ -9,7 +9,7 @@ use Rattle.velab.proofs.wait.+reading.Goals as goal
 
 pub put_read-returns-in-Block : goal.put_read-returns-in-Block
 put_read-returns-in-Block t c =
-    subst (λ (ns : List Text). OnOk c.put_all_read.result (c.put_all_read.new.terms.items ≡ c.args.terms.now.items ++ any_of c.args.scope.now ns))
+    subst (λ (ns : List Word). OnOk c.put_all_read.result (c.put_all_read.new.terms.items ≡ c.args.terms.now.items ++ any_of c.args.scope.now ns))
     (block_reads (words_of c.args.tokens.now) c.args.scope.now c.args.statement.now c.in-Block.list c.deref.result.now c.in-Block.is c.deref.ensures.value)
     c.put_all_read.ensures
 

@@ -1,5 +1,5 @@
 use Rattle.std.proofs.Common.{◌≡◌, ◌++◌, drop}
-use Rattle.vast.specs.StatementTrees.{statement_trees, branch_trees}
+use Rattle.vast.specs.NumberedTrees.{statement_trees, branch_trees}
 use Rattle.vexpr_parse.specs.Texts.{words_of}
 use Rattle.velab.specs.Waits.{any_of, read_by_all, read_by_branches}
 use Rattle.velab.proofs.wait.+reading.Given as goal

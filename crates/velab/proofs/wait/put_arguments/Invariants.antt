@@ -1,5 +1,5 @@
 use Rattle.std.proofs.Common.{◌≡◌, ◌++◌, drop, map}
-use Rattle.vast.specs.StatementTrees.{argument_tree}
+use Rattle.vast.specs.NumberedTrees.{argument_tree}
 use Rattle.vexpr_parse.specs.Texts.{words_of}
 use Rattle.velab.specs.Waits.{any_of, read_by_arguments}
 use Rattle.velab.proofs.wait.put_arguments.Given as goal

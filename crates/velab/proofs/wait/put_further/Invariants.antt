@@ -1,5 +1,5 @@
 use Rattle.std.proofs.Common.{◌≡◌, ◌++◌, length, map}
-use Rattle.vast.specs.StatementTrees.{further_term}
+use Rattle.vast.specs.NumberedTrees.{further_term}
 use Rattle.vexpr_parse.specs.Texts.{words_of}
 use Rattle.velab.specs.Waits.{further_term_of, broken_further}
 use Rattle.velab.proofs.wait.put_further.Given as goal

@@ -1,5 +1,5 @@
 use Rattle.std.proofs.Common.{◌≡◌, ◌++◌, drop}
-use Rattle.vast.specs.ExpressionTrees.{trees_of}
+use Rattle.vast.specs.NumberedTrees.{trees_of}
 use Rattle.vexpr_parse.specs.Texts.{words_of}
 use Rattle.velab.specs.Waits.{any_of, read_by_items}
 use Rattle.velab.proofs.wait.put_labels.Given as goal

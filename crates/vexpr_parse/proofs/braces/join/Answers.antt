@@ -6,14 +6,14 @@ use Rattle.vexpr_parse.specs.Answers.{ahead, tree_in}
 use Rattle.vexpr_parse.proofs.Turning.{joined_so, measured, one_more_level}
 use Rattle.vexpr_parse.proofs.braces.join.Goals as goal
 
-pub returns : goal.returns
-returns g c =
+pub returns-clause-finds : goal.returns-clause-finds
+returns-clause-finds g c =
     let words = words_of c.args.tokens.now in
     let left = ahead c.args.tokens.now in
     let parts = c.in_ok-parts.parts in
-    let found = c.in_ok-parts.ensures in (
+    let found = c.in_ok-parts.ensures.finds in (
       joined_so words c.args.below (tree_in words c.args.first) (tree_in words c.joined.result) parts.trees.items (left c.args.cursor.now)
-          (left c.more_parts.new.cursor) (left c.symbol.new.self) found.0 c.in_ok-symbol.ensures (c.joined.ensures words).0,
-      measured words (concatenation (trees_of words parts.trees.items)) (1 + parts.depth) (1 + c.args.below) c.joined.result (c.joined.ensures words)
+          (left c.more_parts.new.cursor) (left c.symbol.new.self) found.0 c.in_ok-symbol.ensures.passes (c.joined.ensures.made words).0,
+      measured words (concatenation (trees_of words parts.trees.items)) (1 + parts.depth) (1 + c.args.below) c.joined.result (c.joined.ensures.made words)
           (ap (λ n. 1 + n) found.1.0) (one_more_level parts.depth c.args.below found.1.1),
     )

@@ -1,8 +1,9 @@
 use Rattle.std.proofs.Common.{List, ap, sym, ◌∙◌}
 use Rattle.basis.proofs.Results.{on_ok, on_ok_value}
 use Rattle.vast.specs.Words.{Text}
-use Rattle.vast.specs.Modules.{ModuleTree, SourceTree}
-use Rattle.vast.specs.ModuleTrees.{module_tree}
+use Rattle.vast.specs.NumberedModules.{ModuleTree, SourceTree}
+use Rattle.vast.specs.NumberedWords.{numbered}
+use Rattle.vast.specs.NumberedTrees.{module_tree}
 use Rattle.vmodules.specs.Inner.{units_tree}
 use Rattle.velab.proofs.FaultLemmas.{handed_on, first_breaks, then_breaks, both_right, same_rule}
 use Rattle.vhierarchy.specs.Instances.{broken_design, broken_whole, design_by, whole_of}
@@ -10,12 +11,12 @@ use Rattle.vhierarchy.proofs.GrowLemmas.{fault_leads}
 use Rattle.vhierarchy.proofs.design.design_of.Goals as goal
 
 pub returns-in_err-part-clause-err : goal.returns-in_err-part-clause-err
-returns-in_err-part-clause-err c =
+returns-in_err-part-clause-err c top =
     let words : List Text = c.args.modules.now.words in
     let modules : SourceTree = units_tree c.args.modules.now in
     let m : ModuleTree = module_tree words c.args.unit.now in
     handed_on _ c.from_residual.result c.in_err-part.field-0.0 c.from_residual.ensures.1
-    (first_breaks (broken_whole modules m) (broken_design (whole_of modules m)) c.in_err-part.field-0.0 c.in_err-part.ensures.err)
+    (first_breaks (broken_whole modules m) (broken_design m.name (whole_of modules m)) c.in_err-part.field-0.0 c.in_err-part.ensures.err)
 
 pub returns-clause-ok : goal.returns-clause-ok
 returns-clause-ok c =
@@ -24,19 +25,19 @@ returns-clause-ok c =
     c.checked.ensures.ok
 
 pub returns-clause-right : goal.returns-clause-right
-returns-clause-right c =
+returns-clause-right c top =
     let words : List Text = c.args.modules.now.words in
     let modules : SourceTree = units_tree c.args.modules.now in
     let m : ModuleTree = module_tree words c.args.unit.now in
     on_ok c.checked.result
-    (λ right. both_right (broken_whole modules m) (broken_design (whole_of modules m)) c.in_ok-part.ensures.right (ap broken_design (sym c.in_ok-part.ensures.ok) ∙ right))
+    (λ right. both_right (broken_whole modules m) (broken_design m.name (whole_of modules m)) c.in_ok-part.ensures.right ((λ i. broken_design (numbered ((sym c.tokens.ensures) i) c.args.unit.now.name) ((sym c.in_ok-part.ensures.ok) i)) ∙ right))
     c.checked.ensures.right
 
 pub returns-clause-err : goal.returns-clause-err
-returns-clause-err c =
+returns-clause-err c top =
     let words : List Text = c.args.modules.now.words in
     let modules : SourceTree = units_tree c.args.modules.now in
     let m : ModuleTree = module_tree words c.args.unit.now in
     fault_leads c.checked.result _ _
-    (λ e h. then_breaks (broken_whole modules m) (broken_design (whole_of modules m)) c.in_ok-part.ensures.right e (same_rule _ _ (ap broken_design c.in_ok-part.ensures.ok) e h))
+    (λ e h. then_breaks (broken_whole modules m) (broken_design m.name (whole_of modules m)) c.in_ok-part.ensures.right e (same_rule _ _ (λ i. broken_design (numbered (c.tokens.ensures i) c.args.unit.now.name) (c.in_ok-part.ensures.ok i)) e h))
     c.checked.ensures.err

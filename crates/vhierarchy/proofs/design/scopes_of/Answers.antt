@@ -1,16 +1,21 @@
-use Rattle.std.proofs.Common.{List, ℕ, ap, ◌∙◌, arith, subst}
-use Rattle.basis.specs.Reasons.{Because}
-use Rattle.vmodules.specs.Names.{is_declared}
+use Rattle.std.proofs.Common.{◌≡◌, true, Some, List, ℕ, ap, sym, ◌∙◌, arith}
+use Rattle.vast.specs.NumberedWords.{numbered}
+use Rattle.vmodules.specs.Names.{has_double, is_declared}
+use Rattle.vmodules.proofs.ListLemmas.{handed_on}
 use Rattle.velab.specs.Rules.{broken_if, IsBroken}
 use Rattle.velab.specs.declared.fault.Rule.TheVariants.{Doubled}
 use Rattle.vdesign.specs.Design.{Scope as Room}
-use Rattle.velab.proofs.FaultLemmas.{handed_on}
-use Rattle.vhierarchy.proofs.DesignLemmas.{scopes_err}
+use Rattle.vhierarchy.specs.Inner.{scope_names}
+use Rattle.vhierarchy.proofs.DesignLemmas.{scopes_again}
 use Rattle.vhierarchy.proofs.design.scopes_of.Goals as goal
 
 pub returns-in_err-note-clause-err : goal.returns-in_err-note-clause-err
-returns-in_err-note-clause-err c =
-    handed_on _ c.from_residual.result c.in_err-note.field-0.0 c.from_residual.ensures.1
-    (scopes_err c.args.scopes.now c.loop-scope.scope-index c.scope-item.result c.loop-scope.names _ c.in_err-note.field-0.0 (omega arith) c.scope-item.is
-    c.loop-scope.invariant
-    (subst (λ (name : List ℕ). Because (IsBroken (broken_if (is_declared c.loop-scope.names name) Doubled)) c.in_err-note.field-0.0) (c.deref.ensures.value ∙ ap (λ (one : Room). one.path) c.scope.view_is) c.in_err-note.ensures.err))
+returns-in_err-note-clause-err c words =
+    let named = c.deref.ensures.value ∙ ap (λ (one : Room). one.path) c.scope.view_is in
+    handed_on (λ f. (is_declared c.loop-scope.names c.deref.result.now ≡ true) × (f ≡ record { rule = Doubled; at = Some c.args.top.number }))
+    (IsBroken (broken_if (has_double (scope_names c.args.scopes.now)) Doubled (Some (numbered words c.args.top)))) c.from_residual.result c.in_err-note.field-0.0 c.from_residual.ensures.1
+    (λ f there. ap (λ b. broken_if b Doubled (Some (numbered words c.args.top)))
+    (scopes_again c.args.scopes.now c.loop-scope.scope-index c.scope-item.result c.loop-scope.names _ (omega arith) c.scope-item.is c.loop-scope.invariant
+    (ap (is_declared c.loop-scope.names) (sym named) ∙ there.0))
+    ∙ ap Some (sym there.1))
+    c.in_err-note.ensures.err

@@ -1,7 +1,7 @@
 use Rattle.std.proofs.Common.{List, ap, sym, ◌∙◌}
 use Rattle.vast.specs.Words.{Text}
-use Rattle.vast.specs.Modules.{ModuleTree, SourceTree}
-use Rattle.vast.specs.ModuleTrees.{module_tree}
+use Rattle.vast.specs.NumberedModules.{ModuleTree, SourceTree}
+use Rattle.vast.specs.NumberedTrees.{module_tree}
 use Rattle.vast.specs.TokenTexts.{token_text}
 use Rattle.vmodules.specs.Inner.{ties_tree, units_tree}
 use Rattle.velab.proofs.FaultLemmas.{handed_on, same_rule}

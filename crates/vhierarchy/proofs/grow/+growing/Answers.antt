@@ -2,8 +2,8 @@ use Rattle.std.proofs.Common.{◌≡◌, ◌+◌, ◌-◌, ◌^◌, None, List, 
 use Rattle.basis.specs.Reasons.{Because}
 use Rattle.basis.proofs.Results.{on_ok}
 use Rattle.vast.specs.Words.{Text}
-use Rattle.vast.specs.Modules.{SourceTree}
-use Rattle.vast.specs.ModuleTrees.{module_tree}
+use Rattle.vast.specs.NumberedModules.{SourceTree}
+use Rattle.vast.specs.NumberedTrees.{module_tree}
 use Rattle.vast.specs.declared.module.ModuleItem.{ModuleItem}
 use Rattle.vexpr_parse.specs.Texts.{words_of}
 use Rattle.vmodules.specs.Ports.{Port, ports_of}

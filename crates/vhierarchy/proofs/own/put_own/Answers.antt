@@ -34,12 +34,13 @@ returns-in_err-check_counts-clause-err c =
       begins = c.part.inside.begins.items;
       events = c.part.inside.events;
     } in
+    let named = ap (λ (name : Text). c.part.inside.scopes.items ++ record { name = name; path = c.args.request.now.path.now; depth = c.args.request.now.depth; variables = c.scope.inside.variables } ∷ []) c.letters.ensures in
     subst (λ (part : Part). IfFault c.from_residual-in_err-check_counts.result (IsBroken (broken_own_by request ports wanted c.args.scope.now part))) c.part.view_is
     (handed_on _ c.from_residual-in_err-check_counts.result c.in_err-check_counts.field-0.0 c.from_residual-in_err-check_counts.ensures.1
     (counts_err request ports wanted c.args.scope.now before c.in_ok-put_own_variables.ensures.right (c.in_ok-put_own_processes.ensures.right c.args.wanted.now) c.deref.result.now c.deref-2.result.now
     (c.deref.ensures.value ∙ (c.in_ok-put_own_processes.ensures.ok c.args.wanted.now).begins)
-    (c.deref-2.ensures.value ∙ c.in_ok-put_scope.ensures ∙ ap (λ (scope : Scope). c.part.inside.scopes.items ++ scope_of request scope.variables ∷ []) c.scope.view_is)
-    c.in_err-check_counts.field-0.0 c.in_err-check_counts.ensures.err))
+    (c.deref-2.ensures.value ∙ c.in_ok-put_scope.ensures ∙ named ∙ ap (λ (scope : Scope). c.part.inside.scopes.items ++ scope_of request scope.variables ∷ []) c.scope.view_is)
+    c.in_err-check_counts.field-0.0 (c.in_err-check_counts.ensures.err words)))
 
 pub returns-clause-ok : goal.returns-clause-ok
 returns-clause-ok c =
@@ -61,9 +62,10 @@ returns-clause-ok c =
       begins = c.part.inside.begins.items;
       events = c.part.inside.events;
     } in
+    let named = ap (λ (name : Text). c.part.inside.scopes.items ++ record { name = name; path = c.args.request.now.path.now; depth = c.args.request.now.depth; variables = c.scope.inside.variables } ∷ []) c.letters.ensures in
     subst (λ (part : Part). after ≡ own_by request ports wanted c.args.scope.now part) c.part.view_is
     (own_is request ports wanted c.args.scope.now before after c.in_ok-put_own_variables.ensures.ok
-    (c.in_ok-put_scope.ensures ∙ ap (λ (scope : Scope). c.part.inside.scopes.items ++ scope_of request scope.variables ∷ []) c.scope.view_is)
+    (c.in_ok-put_scope.ensures ∙ named ∙ ap (λ (scope : Scope). c.part.inside.scopes.items ++ scope_of request scope.variables ∷ []) c.scope.view_is)
     (c.in_ok-put_own_processes.ensures.ok c.args.wanted.now).table (c.in_ok-put_own_processes.ensures.ok c.args.wanted.now).begins
     (ap (λ (scope : Scope). scope.events) c.scope.view_is))
 
@@ -80,8 +82,9 @@ returns-clause-right c =
       begins = c.part.inside.begins.items;
       events = c.part.inside.events;
     } in
+    let named = ap (λ (name : Text). c.part.inside.scopes.items ++ record { name = name; path = c.args.request.now.path.now; depth = c.args.request.now.depth; variables = c.scope.inside.variables } ∷ []) c.letters.ensures in
     subst (λ (part : Part). broken_own_by request ports wanted c.args.scope.now part ≡ None) c.part.view_is
     (own_right request ports wanted c.args.scope.now before c.in_ok-put_own_variables.ensures.right (c.in_ok-put_own_processes.ensures.right c.args.wanted.now) c.deref.result.now c.deref-2.result.now
     (c.deref.ensures.value ∙ (c.in_ok-put_own_processes.ensures.ok c.args.wanted.now).begins)
-    (c.deref-2.ensures.value ∙ c.in_ok-put_scope.ensures ∙ ap (λ (scope : Scope). c.part.inside.scopes.items ++ scope_of request scope.variables ∷ []) c.scope.view_is)
-    c.in_ok-check_counts.ensures.right)
+    (c.deref-2.ensures.value ∙ c.in_ok-put_scope.ensures ∙ named ∙ ap (λ (scope : Scope). c.part.inside.scopes.items ++ scope_of request scope.variables ∷ []) c.scope.view_is)
+    (c.in_ok-check_counts.ensures.right words))

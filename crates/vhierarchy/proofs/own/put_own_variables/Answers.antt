@@ -1,14 +1,14 @@
-use Rattle.std.proofs.Common.{◌≡◌, List, map, None, false, ap, subst}
+use Rattle.std.proofs.Common.{◌≡◌, [], List, map, None, ap, subst}
 use Rattle.basis.specs.Reasons.{Because}
 use Rattle.basis.proofs.Results.{on_ok}
 use Rattle.vast.specs.Words.{Text}
-use Rattle.vast.specs.ModuleTrees.{item_tree}
+use Rattle.vast.specs.NumberedTrees.{item_tree}
 use Rattle.vast.specs.declared.module.ModuleItem.{ModuleItem}
 use Rattle.vexpr_parse.specs.Texts.{words_of}
-use Rattle.vmodules.specs.Names.{has_double}
+use Rattle.vmodules.specs.Names.{first_again}
 use Rattle.vmodules.specs.Inner.{port_form}
 use Rattle.velab.specs.declared.fault.Rule.TheVariants.{Drivers}
-use Rattle.velab.specs.Rules.{IsBroken, broken_if}
+use Rattle.velab.specs.Rules.{IsBroken, broken_at}
 use Rattle.velab.specs.Elaborate.{broken_ports, broken_from}
 use Rattle.velab.specs.Inner.{BreaksDrivers}
 use Rattle.velab.proofs.FaultLemmas.{handed_on, first_breaks, then_breaks}
@@ -21,17 +21,17 @@ pub returns-in_err-driven-clause-err : goal.returns-in_err-driven-clause-err
 returns-in_err-driven-clause-err c =
     let words : List Text = words_of c.args.tokens.now in
     handed_on _ c.from_residual.result c.in_err-driven.field-0.0 c.from_residual.ensures.1
-    (first_breaks (broken_if (has_double (nets_driven words c.args.request.now.ties.now c.args.ports.now c.args.request.now.unit.now.items.items c.args.wanted.now)) Drivers) _ c.in_err-driven.field-0.0
-    (subst (λ (items : List ModuleItem). Because (BreaksDrivers (nets_driven words c.args.request.now.ties.now c.args.ports.now items c.args.wanted.now)) c.in_err-driven.field-0.0)
+    (first_breaks (broken_at Drivers (first_again (nets_driven words c.args.request.now.ties.now c.args.ports.now c.args.request.now.unit.now.items.items c.args.wanted.now))) _ c.in_err-driven.field-0.0
+    (subst (λ (items : List ModuleItem). Because (BreaksDrivers [] (nets_driven words c.args.request.now.ties.now c.args.ports.now items c.args.wanted.now)) c.in_err-driven.field-0.0)
     c.deref.ensures.value c.in_err-driven.ensures.err))
 
 pub returns-in_err-put_ports-clause-err : goal.returns-in_err-put_ports-clause-err
 returns-in_err-put_ports-clause-err c =
     let words : List Text = words_of c.args.tokens.now in
-    let once : broken_if (has_double (nets_driven words c.args.request.now.ties.now c.args.ports.now c.args.request.now.unit.now.items.items c.args.wanted.now)) Drivers ≡ None =
-    ap (λ b. broken_if b Drivers)
-    (subst (λ (items : List ModuleItem). has_double (nets_driven words c.args.request.now.ties.now c.args.ports.now items c.args.wanted.now) ≡ false)
-    c.deref.ensures.value c.in_ok-driven.ensures.once) in
+    let once : broken_at Drivers (first_again (nets_driven words c.args.request.now.ties.now c.args.ports.now c.args.request.now.unit.now.items.items c.args.wanted.now)) ≡ None =
+    ap (broken_at Drivers)
+    (subst (λ (items : List ModuleItem). first_again (nets_driven words c.args.request.now.ties.now c.args.ports.now items c.args.wanted.now) ≡ None)
+    c.deref.ensures.value c.in_ok-driven.ensures.right) in
     handed_on _ c.from_residual-in_err-put_ports.result c.in_err-put_ports.field-0.0 c.from_residual-in_err-put_ports.ensures.1
     (then_breaks _ _ once c.in_err-put_ports.field-0.0
     (first_breaks (broken_ports c.args.scope.now (map (port_form words) c.args.ports.now)) _ c.in_err-put_ports.field-0.0 c.in_err-put_ports.ensures.err))
@@ -46,10 +46,10 @@ returns-clause-ok c =
 pub returns-clause-err : goal.returns-clause-err
 returns-clause-err c =
     let words : List Text = words_of c.args.tokens.now in
-    let once : broken_if (has_double (nets_driven words c.args.request.now.ties.now c.args.ports.now c.args.request.now.unit.now.items.items c.args.wanted.now)) Drivers ≡ None =
-    ap (λ b. broken_if b Drivers)
-    (subst (λ (items : List ModuleItem). has_double (nets_driven words c.args.request.now.ties.now c.args.ports.now items c.args.wanted.now) ≡ false)
-    c.deref.ensures.value c.in_ok-driven.ensures.once) in
+    let once : broken_at Drivers (first_again (nets_driven words c.args.request.now.ties.now c.args.ports.now c.args.request.now.unit.now.items.items c.args.wanted.now)) ≡ None =
+    ap (broken_at Drivers)
+    (subst (λ (items : List ModuleItem). first_again (nets_driven words c.args.request.now.ties.now c.args.ports.now items c.args.wanted.now) ≡ None)
+    c.deref.ensures.value c.in_ok-driven.ensures.right) in
     fault_leads c.put_variables.result _ _
     (λ e h. then_breaks _ _ once e
     (then_breaks (broken_ports c.args.scope.now (map (port_form words) c.args.ports.now)) _ c.in_ok-put_ports.ensures.right e

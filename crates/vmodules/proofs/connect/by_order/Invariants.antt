@@ -1,6 +1,6 @@
 use Rattle.std.proofs.Common.{◌≡◌, ◌≤◌, ◌++◌, List, drop, take, map, length}
 use Rattle.vast.specs.Words.{Text}
-use Rattle.vast.specs.ExpressionTrees.{tree_of}
+use Rattle.vast.specs.NumberedTrees.{tree_of}
 use Rattle.vmodules.specs.Connected.{by_places}
 use Rattle.vmodules.specs.Inner.{ties_tree, tie_names}
 use Rattle.vmodules.proofs.connect.by_order.Given as goal

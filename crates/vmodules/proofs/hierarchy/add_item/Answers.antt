@@ -1,5 +1,5 @@
 use Rattle.std.proofs.Common.{List, ℕ, ◌∷◌, ◌++◌, [], ap, ◌∙◌, sym}
-use Rattle.vast.specs.ModuleTrees.{item_tree}
+use Rattle.vast.specs.NumberedTrees.{item_tree}
 use Rattle.vast.specs.declared.module.ModuleItem.{ModuleItem}
 use Rattle.vexpr_parse.specs.Texts.{words_of}
 use Rattle.vmodules.specs.Names.{is_declared}

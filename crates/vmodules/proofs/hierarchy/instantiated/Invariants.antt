@@ -1,5 +1,5 @@
 use Rattle.std.proofs.Common.{◌++◌, drop, map}
-use Rattle.vast.specs.ModuleTrees.{module_tree}
+use Rattle.vast.specs.NumberedTrees.{module_tree}
 use Rattle.vexpr_parse.specs.Texts.{words_of}
 use Rattle.vmodules.specs.Hierarchy.{instantiated}
 use Rattle.vmodules.specs.Inner.{HoldSame}

@@ -1,6 +1,6 @@
 use Rattle.std.proofs.Common.{◌≡◌, ◌++◌, List, None, map, drop}
 use Rattle.vast.specs.Words.{Text}
-use Rattle.vast.specs.ModuleTrees.{port_tree}
+use Rattle.vast.specs.NumberedTrees.{port_tree}
 use Rattle.vmodules.specs.Ports.{ports_behind}
 use Rattle.vmodules.specs.Inner.{port_form, direction_of}
 use Rattle.vmodules.proofs.ports.listed.Given as goal

@@ -1,11 +1,19 @@
+use Rattle.std.proofs.Common.{refl}
+use Rattle.vast.specs.Leaves.{instance_leaves}
 use Rattle.vast.specs.ModuleTrees.{instance_tree}
 use Rattle.vparse.specs.TextReaders.{instance_behind}
 use Rattle.vparse.proofs.ListKinds.{instance_eats}
+use Rattle.vparse.proofs.KeptLists.{list_kept}
 use Rattle.vparse.proofs.ListTurns.{list_given}
 use Rattle.vparse.proofs.connections.instances.Goals as goal
 
-pub returns : goal.returns
-returns c =
-    list_given instance_tree instance_behind instance_eats c.args.tokens.now _ (λ old new result e. e)
+pub returns-clause-gives : goal.returns-clause-gives
+returns-clause-gives c =
+    list_given instance_tree instance_behind instance_eats c.args.tokens.now _ (λ old new result e. e.0)
     _ c.in_ok-first.first c.args.cursor.now c.instance.new.cursor
-    c.list_until.new.cursor c.list_until.result c.in_ok-first.ensures c.list_until.ensures
+    c.list_until.new.cursor c.list_until.result c.in_ok-first.ensures.gives c.list_until.ensures.lists
+
+pub returns-clause-kept : goal.returns-clause-kept
+returns-clause-kept c =
+    list_kept instance_leaves c.args.tokens.now _ (λ old new result e. e.1) c.in_ok-first.first c.args.cursor.now c.instance.new.cursor
+    c.list_until.new.cursor c.list_until.result c.in_ok-first.ensures.kept (c.list_until.ensures.kept refl)

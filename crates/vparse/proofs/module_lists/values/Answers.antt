@@ -1,11 +1,19 @@
+use Rattle.std.proofs.Common.{refl}
+use Rattle.vast.specs.Leaves.{leaves_of}
 use Rattle.vast.specs.ExpressionTrees.{tree_of}
 use Rattle.vparse.specs.TextReaders.{free_value}
 use Rattle.vparse.proofs.ListKinds.{value_eats}
+use Rattle.vparse.proofs.KeptLists.{list_kept}
 use Rattle.vparse.proofs.ListTurns.{list_given}
 use Rattle.vparse.proofs.module_lists.values.Goals as goal
 
-pub returns : goal.returns
-returns c =
-    list_given tree_of free_value value_eats c.args.tokens.now _ (λ old new result e. e)
+pub returns-clause-gives : goal.returns-clause-gives
+returns-clause-gives c =
+    list_given tree_of free_value value_eats c.args.tokens.now _ (λ old new result e. e.0)
     _ c.in_ok-first.first c.args.cursor.now c.value.new.cursor
-    c.list_until.new.cursor c.list_until.result c.in_ok-first.ensures c.list_until.ensures
+    c.list_until.new.cursor c.list_until.result c.in_ok-first.ensures.gives c.list_until.ensures.lists
+
+pub returns-clause-kept : goal.returns-clause-kept
+returns-clause-kept c =
+    list_kept leaves_of c.args.tokens.now _ (λ old new result e. e.1) c.in_ok-first.first c.args.cursor.now c.value.new.cursor
+    c.list_until.new.cursor c.list_until.result c.in_ok-first.ensures.kept (c.list_until.ensures.kept refl)

@@ -10,7 +10,7 @@ returns-in-Err-tree_of-clause-err c =
 
 pub returns-in-Err-design_of_tree-clause-err : goal.returns-in-Err-design_of_tree-clause-err
 returns-in-Err-design_of_tree-clause-err c =
-    c.in-Err-design_of_tree.ensures.err c.args.text.now (c.in-Ok-tree_of.ensures.ok c.args.text.now c.in-Ok.ensures.ok)
+    c.in-Err-design_of_tree.ensures.err c.args.text.now c.in-Ok.ensures.ok (c.in-Ok-tree_of.ensures.ok c.args.text.now c.in-Ok.ensures.ok)
 
 pub returns-clause-err : goal.returns-clause-err
 returns-clause-err c = c.with_places.ensures.err c.args.text.now (option_map (λ name. name.now) c.args.top)

@@ -1,6 +1,5 @@
 use Rattle.std.proofs.Common.{subst}
 use Rattle.basis.specs.Reasons.{Because}
-use Rattle.vast.specs.ModuleTrees.{source_tree}
 use Rattle.vexpr_parse.specs.Texts.{words_of}
 use Rattle.vparse.specs.Refusals.{HasNoText, IsRefusal}
 use Rattle.vrace.proofs.DesignLemmas.{read_as}
@@ -8,7 +7,7 @@ use Rattle.vrace.proofs.design.tree_of.Goals as goal
 
 pub returns-in-Ok-clause-ok : goal.returns-in-Ok-clause-ok
 returns-in-Ok-clause-ok c = λ source cut.
-    read_as source c.args.tokens.now cut (source_tree (words_of c.args.tokens.now) c.in-Ok.tree) c.in-Ok.ensures.derives c.in-Ok.ensures.only
+    read_as source c.args.tokens.now cut c.in-Ok.tree c.in-Ok.ensures.derives c.in-Ok.ensures.only c.in-Ok.ensures.leaves
 
 pub returns-in-Err-Fault-clause-err : goal.returns-in-Err-Fault-clause-err
 returns-in-Err-Fault-clause-err c = λ source top cut.

@@ -17,5 +17,5 @@ returns-in-Ok-new-clause-named c =
     let known = c.in-Ok.ensures.ok in
     let top = option_map (λ name. name.now) c.args.options.now.top in
     subst (λ (s : Setting). AreNamed s.design) (sym c.in-Ok-new.ensures)
-    (c.elaboration_law.ensures.named (texts_of known.is_tree.pieces) known.tree top
-    (expanded_timescale (file_bytes c.args.files.now)) c.in-Ok.design known.is_tree.derived known.elaborated)
+    (c.elaboration_law.ensures.named (texts_of known.is_tree.pieces) known.is_tree.plain known.tree top
+    (expanded_timescale (file_bytes c.args.files.now)) c.in-Ok.design known.is_tree.derived known.is_tree.numbered known.elaborated)

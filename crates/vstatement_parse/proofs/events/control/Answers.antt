@@ -3,9 +3,9 @@ use Rattle.vexpr_parse.specs.Answers.{ahead}
 use Rattle.vstatement_parse.proofs.StatementTurns.{gives_enclosed}
 use Rattle.vstatement_parse.proofs.events.control.Goals as goal
 
-pub returns-in_ok-symbol : goal.returns-in_ok-symbol
-returns-in_ok-symbol c =
+pub returns-in_ok-symbol-clause-gives : goal.returns-in_ok-symbol-clause-gives
+returns-in_ok-symbol-clause-gives c =
     let words = words_of c.args.tokens.now in
     let left = ahead c.args.tokens.now in
     gives_enclosed words (left c.args.cursor.now) (left c.symbol.new.self) (left c.enclosed.new.cursor) c.enclosed.result
-    c.begins_name.result c.begins_name.ensures c.if-begins_name.false c.in_ok-symbol.ensures c.enclosed.ensures
+    c.begins_name.result c.begins_name.ensures c.if-begins_name.false c.in_ok-symbol.ensures.passes c.enclosed.ensures.gives

@@ -3,8 +3,8 @@ use Rattle.vexpr_parse.specs.Answers.{ahead}
 use Rattle.vstatement_parse.proofs.PrintTurns.{gives_monitor}
 use Rattle.vstatement_parse.proofs.printing.monitor.Goals as goal
 
-pub returns : goal.returns
-returns c =
+pub returns-clause-gives : goal.returns-clause-gives
+returns-clause-gives c =
     let words = words_of c.args.tokens.now in
     let left = ahead c.args.tokens.now in
-    gives_monitor words c.args.below (left c.args.cursor.now) (left c.monitored.new.cursor) c.monitored.result c.monitored.ensures
+    gives_monitor words c.args.below (left c.args.cursor.now) (left c.monitored.new.cursor) c.monitored.result c.monitored.ensures.gives

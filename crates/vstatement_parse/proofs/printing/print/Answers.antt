@@ -3,8 +3,8 @@ use Rattle.vexpr_parse.specs.Answers.{ahead}
 use Rattle.vstatement_parse.proofs.PrintTurns.{gives_print}
 use Rattle.vstatement_parse.proofs.printing.print.Goals as goal
 
-pub returns : goal.returns
-returns c =
+pub returns-clause-gives : goal.returns-clause-gives
+returns-clause-gives c =
     let words = words_of c.args.tokens.now in
     let left = ahead c.args.tokens.now in
-    gives_print c.args.kind c.args.below (left c.args.cursor.now) words (left c.printed.new.cursor) c.printed.result c.printed.ensures
+    gives_print c.args.kind c.args.below (left c.args.cursor.now) words (left c.printed.new.cursor) c.printed.result c.printed.ensures.gives

@@ -1,4 +1,4 @@
-use Rattle.std.proofs.Common.{◌≡◌, List, ◌∷◌, ◌++◌, [], Bor, None, is_some, ap, sym, ◌∙◌}
+use Rattle.std.proofs.Common.{◌≡◌, refl, List, ◌∷◌, ◌++◌, [], Bor, None, is_some, ap, sym, ◌∙◌}
 use Rattle.std.specs.Str.{bytes_eq}
 use Rattle.std.proofs.lemmas.List.{map-append}
 use Rattle.indexmap.specs.IndexMap.{get}
@@ -10,12 +10,14 @@ use Rattle.vmodules.proofs.ConnectLemmas.{Entry, pairs, known, is_none}
 use Rattle.vmodules.proofs.connect.Ties.add.Goals as goal
 
 pub returns-then-is_some-clause-err : goal.returns-then-is_some-clause-err
-returns-then-is_some-clause-err c =
-    ap (λ (l : List Tie). is_declared (tie_names l) c.args.name.now) (sym c.self.view_is)
-    ∙ sym (known c.args.name.now c.self.inside.tied.entries)
-    ∙ sym (ap is_some c.in_ok-before.ensures.old)
-    ∙ sym c.is_some.ensures
-    ∙ c.if-is_some.true
+returns-then-is_some-clause-err c = (
+  ap (λ (l : List Tie). is_declared (tie_names l) c.args.name.now) (sym c.self.view_is)
+      ∙ sym (known c.args.name.now c.self.inside.tied.entries)
+      ∙ sym (ap is_some c.in_ok-before.ensures.old)
+      ∙ sym c.is_some.ensures
+      ∙ c.if-is_some.true,
+  refl,
+)
 
 pub returns-clause-fresh : goal.returns-clause-fresh
 returns-clause-fresh c =

@@ -1,0 +1,11 @@
+-- The tree of a text with the number of each word that it keeps.
+use Rattle.std.specs.Prelude.{◌≡◌, List}
+use Rattle.vast.specs.Words.{Text}
+use Rattle.vast.specs.Modules.{SourceTree, SourceOf}
+use Rattle.vast.specs.NumberedWords.{Word, words_from}
+use Rattle.vast.specs.TreeWords.{source_with, source_words}
+
+-- without its numbers it is this tree, and its words are those of the text, in their order
+pub record IsNumbered (words : List Text) (tree : SourceTree) (numbered : SourceOf Word) : Type 0 where
+  pub is_tree : source_with (λ word. word.letters) numbered ≡ tree
+  pub are_words : source_words numbered ≡ words_from 0 words
