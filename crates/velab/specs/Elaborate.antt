@@ -379,7 +379,7 @@ broken_from scope (item ∷ more) = option_or (broken_declaration scope item) (b
 
 -- ---- processes (9.9.1)
 
--- actions, and beside each the number of the first word of what tells its worth, if there is one: by it a fault is told
+-- actions, and beside each the number of a word of the text, if it has one, by which a fault of it is told
 pub record Table : Type 0 where
   pub actions : List Action
   pub words : List (Option ℕ)

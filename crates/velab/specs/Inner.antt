@@ -235,7 +235,6 @@ driver_word driver = record { letters = driver.net.now; number = driver.at }
 abbrev pub driver_names : List Driver → List Word
 driver_names list = map driver_word list
 
--- those that are driven by the values that they are declared with, by an `assign`, and by items
 -- those that are among these nets
 abbrev pub among : List Text → List Driver → List Word
 among nets list = filter (λ word. is_declared nets word.letters) (driver_names list)

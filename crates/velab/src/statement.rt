@@ -42,7 +42,7 @@ use vlex::Tokens;
 use vmodules::letters::letters;
 
 /// Actions in the order in which they are come to; for each the number of the token that its statement begins with, by which a trace finds
-/// its line, and that of the first token in what it is worth, by which a fault is told. A clause sees all but the first numbers.
+/// its line, and that of a token, if it has one, by which a fault of it is told. A clause sees all but the first numbers.
 #[derive(Drop)]
 pub struct Table {
     pub actions: Vec<Action>,
@@ -62,8 +62,8 @@ impl Model for Table {
     ghost view = { λ t. record { actions = t.actions.items; words = t.words.items } };
 }
 
-/// One action more, at the next place; `at` is the number of the token that its statement begins with, `word` that of the first in what it is
-/// worth.
+/// One action more, at the next place; `at` is the number of the token that its statement begins with, `word` that of the one by which a
+/// fault of it is told.
 pub fn put(
     table: &mut Table,
     into: &mut Vec<usize>,
