@@ -27,7 +27,7 @@ use Rattle.vmodel.specs.declared.choice.Choice.TheVariants.{Run, Update, Advance
 use Rattle.vvalue.specs.Value.{Moment, value_at, bounds_of, right_side, holds as holds_at, delay_of}
 use Rattle.vmodel.specs.InnerStep.{awaits}
 use Rattle.vvalue.proofs.Lengths.{right_side_length, resized_length}
-use Rattle.vvalue.specs.Targets.{target_size, targets_size, place_at, leftwards}
+use Rattle.vvalue.specs.Targets.{target_size, targets_size, place_at, both_fall, leftwards}
 use Rattle.vmodel.proofs.PartLemmas.{part_length, spliced_length}
 use Rattle.vmodel.specs.Value.{some_bits, bits_at, parts_of, shared, given, assigned, resumed}
 use Rattle.vmodel.specs.Parts.{value_in, with_bits, written}
@@ -147,8 +147,9 @@ parts-suit variables now (WholeTarget n) letters h len = (whole-suits variables 
 parts-suit variables now (BitTarget n index) letters h len = at-suits variables n (value_at now n) (place_at now n index) letters
 parts-suit variables now (PartTarget n selected) letters h len =
     let bounds = bounds_of now n in
-    let low = leftwards bounds selected.right bounds.right in
-    some-suit variables n low (take (length (value_at now n).letters - low) (drop (leftwards bounds bounds.right selected.right) letters))
+    let falling = both_fall bounds selected in
+    let low = leftwards falling selected.right bounds.right in
+    some-suit variables n low (take (length (value_at now n).letters - low) (drop (leftwards falling bounds.right selected.right) letters))
 
 both-suit : (variables : List Variable) (ps qs : List Part) → AllSuit variables ps → AllSuit variables qs → AllSuit variables (ps ++ qs)
 both-suit variables [] qs h k = k

@@ -6,7 +6,7 @@ use Rattle.vdesign.specs.Expressions.{ExpressionTree}
 use Rattle.vdesign.specs.declared.action.Target.{Target}
 use Rattle.vdesign.specs.declared.action.Target.TheVariants.{Whole, Bit, Part as PartTarget}
 use Rattle.vvalue.specs.Value.{Moment, value_at, bounds_of, right_side}
-use Rattle.vvalue.specs.Targets.{target_size, targets_size, place_at, leftwards}
+use Rattle.vvalue.specs.Targets.{target_size, targets_size, place_at, both_fall, leftwards}
 use Rattle.vmodel.specs.declared.part.Part.{Part}
 use Rattle.vmodel.specs.declared.part.Part.TheVariants.{Whole as WholePart, Bits}
 
@@ -30,7 +30,8 @@ parts_of now (Whole n) letters = WholePart n (record { letters = letters; signed
 parts_of now (Bit n index) letters = bits_at n (value_at now n) (place_at now n index) letters
 parts_of now (PartTarget n selected) letters =
     let bounds = bounds_of now n in
-    bits_from n (value_at now n) (leftwards bounds selected.right bounds.right) (drop (leftwards bounds bounds.right selected.right) letters)
+    let falling = both_fall bounds selected in
+    bits_from n (value_at now n) (leftwards falling selected.right bounds.right) (drop (leftwards falling bounds.right selected.right) letters)
 
 -- 5.1.14: each target gets as many letters as it has bits, the rightmost one the rightmost letters
 abbrev pub shared : Moment → List Target → List Bit4 → List Part

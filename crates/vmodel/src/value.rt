@@ -14,7 +14,7 @@ use vdesign::action::{Target, Targets};
 use vdesign::expression::{Bounds, Expression};
 use vvalue::asked::right_side;
 use vvalue::moment::{Moment, bounds_of, value_at};
-use vvalue::target::{leftwards, place_at, target_size, targets_size};
+use vvalue::target::{both_fall, leftwards, place_at, target_size, targets_size};
 
 /// The most bits of a value.
 const WIDEST: u32 = 64;
@@ -51,11 +51,12 @@ fn bits_of(variable: u32, selected: Bounds, value: Vec4, moment: &Moment<'_>) ->
         ≡ spec.parts_of moment.now (Target.Part variable selected) value.letters }
 {
     let bounds = bounds_of(moment, variable);
-    let missing = leftwards(bounds, bounds.right, selected.right);
+    let falling = both_fall(bounds, selected);
+    let missing = leftwards(falling, bounds.right, selected.right);
     if missing >= value.len() {
         return None;
     }
-    let low = leftwards(bounds, selected.right, bounds.right);
+    let low = leftwards(falling, selected.right, bounds.right);
     let letters = value.select(value.len() - 1, missing);
     bits_from(variable, value_at(moment, variable), low, letters)
 }

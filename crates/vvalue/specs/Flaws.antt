@@ -12,7 +12,7 @@ use Rattle.vdesign.specs.Expressions.{ExpressionTree, constant, variable, bit, b
 use Rattle.vvalue.specs.declared.flaw.Flaw.{Flaw}
 use Rattle.vvalue.specs.declared.flaw.Flaw.TheVariants.{NoBits, Size}
 use Rattle.vvalue.specs.Value.{Moment, size_of, bounds_of}
-use Rattle.vvalue.specs.Targets.{targets_size}
+use Rattle.vvalue.specs.Targets.{targets_size, both_fall}
 
 abbrev pub unless : Bool → Flaw → Option Flaw
 unless true flaw = None
@@ -28,14 +28,11 @@ abbrev pub has_bits : Option Variable → Bool
 has_bits None = true
 has_bits (Some v) = kind_has_bits v.kind (is_some v.bounds)
 
-abbrev pub falls : Bounds → Bool
-falls bounds = nat_le bounds.right bounds.left
-
 abbrev pub rises : Bounds → Bool
 rises bounds = nat_le bounds.left bounds.right
 
 abbrev pub in_order : Bounds → Bounds → Bool
-in_order declared selected = (falls declared && falls selected) || (rises declared && rises selected)
+in_order declared selected = both_fall declared selected || (rises declared && rises selected)
 
 -- 5.2.1: bounds from 0 to 65535, at most 64 bits, and in the order of the declared bounds; a single bit is in both orders
 abbrev pub is_part : Bounds → Bounds → Bool

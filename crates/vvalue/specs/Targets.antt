@@ -1,6 +1,6 @@
 -- What an assignment writes to (IEEE 1364-2005, 5.1.14, 5.2.1, 6.2): how many bits its targets have, and which bits of their variables
 -- these are.
-use Rattle.std.specs.Prelude.{ℕ, ◌+◌, ◌-◌, nat_le, if◌then◌else◌, List, [], ◌∷◌, length, Option, option_and_then}
+use Rattle.std.specs.Prelude.{ℕ, ◌+◌, ◌-◌, nat_le, Bool, if◌then◌else◌, ◌&&◌, List, [], ◌∷◌, length, Option, option_and_then}
 use Rattle.vdesign.specs.declared.expression.Bounds.{Bounds}
 use Rattle.vdesign.specs.Expressions.{ExpressionTree}
 use Rattle.vdesign.specs.declared.action.Target.{Target}
@@ -21,6 +21,15 @@ targets_size now (target ∷ more) = target_size now target + targets_size now m
 abbrev pub place_at : Moment → ℕ → ExpressionTree → Option ℕ
 place_at now n index = option_and_then (place_in (bounds_of now n)) (index_in (by_itself now index))
 
--- how far the bit of one number stands to the left of that of another; 0 where it doesn't
-abbrev pub leftwards : Bounds → ℕ → ℕ → ℕ
-leftwards bounds number from = if nat_le bounds.right bounds.left then number - from else from - number
+-- whether numbers fall from left to right
+abbrev pub falls : Bounds → Bool
+falls bounds = nat_le bounds.right bounds.left
+
+-- 5.2.1: whether they fall in what is declared and in a part of it: a single bit, `[3:3]`, is in both orders, so that the other tells
+abbrev pub both_fall : Bounds → Bounds → Bool
+both_fall declared selected = falls declared && falls selected
+
+-- how far the bit of one number stands to the left of that of another, where numbers fall from left to right or rise; 0 where it
+-- doesn't
+abbrev pub leftwards : Bool → ℕ → ℕ → ℕ
+leftwards falling number from = if falling then number - from else from - number

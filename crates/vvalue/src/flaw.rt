@@ -9,7 +9,7 @@ ghost use Rattle.vvalue.specs.Reads.{IsOfFirst, AreBehindFirst};
 use crate::context::Context;
 use crate::moment::{Moment, bounds_of};
 use crate::size::own;
-use crate::target::targets_size;
+use crate::target::{both_fall, targets_size};
 use vdesign::action::{Target, Targets};
 use vdesign::design::Kind;
 use vdesign::expression::{Bounds, Expression, Node};
@@ -58,7 +58,7 @@ fn has_bits(moment: &Moment<'_>, variable: u32) -> bool
 fn in_order(declared: Bounds, selected: Bounds) -> bool
     ensures { result ≡ spec.in_order declared selected }
 {
-    if declared.right <= declared.left && selected.right <= selected.left {
+    if both_fall(declared, selected) {
         return true;
     }
     declared.left <= declared.right && selected.left <= selected.right

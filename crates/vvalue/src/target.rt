@@ -47,11 +47,19 @@ pub fn place_at(moment: &Moment<'_>, variable: u32, index: &Expression) -> Optio
     }
 }
 
-/// How far the bit of one number stands to the left of that of another; 0 where it doesn't.
-pub fn leftwards(bounds: Bounds, number: u32, from: u32) -> u32
-    ensures { result ≡ spec.leftwards bounds number from }
+/// Whether numbers fall from left to right in what is declared and in a part of it; a single bit is in both orders.
+pub fn both_fall(declared: Bounds, selected: Bounds) -> bool
+    ensures { result ≡ spec.both_fall declared selected }
 {
-    if bounds.right <= bounds.left {
+    declared.right <= declared.left && selected.right <= selected.left
+}
+
+/// How far the bit of one number stands to the left of that of another, where numbers fall from left to right or rise; 0 where it
+/// doesn't.
+pub fn leftwards(falling: bool, number: u32, from: u32) -> u32
+    ensures { result ≡ spec.leftwards falling number from }
+{
+    if falling {
         number.saturating_sub(from)
     } else {
         from.saturating_sub(number)
