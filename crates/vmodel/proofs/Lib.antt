@@ -15,3 +15,4 @@ mod ValuesLemmas
 mod ShapeLemmas
 mod TimesLemmas
 mod EndsLemmas
+mod ShownLemmas

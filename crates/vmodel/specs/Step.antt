@@ -1,5 +1,5 @@
 -- `Step` (IEEE 1364-2005, 11.3, 11.4, 11.6; docs/SCHEDULING.md): the one step of a choice, then the region moves.
-use Rattle.std.specs.Prelude.{ℕ, zero, suc, ◌-◌, List, [], ◌∷◌, ◌++◌, Option, Some, None, map, slice_get, slice_set, ◌/◌, if◌then◌else◌}
+use Rattle.std.specs.Prelude.{◌≡◌, ℕ, zero, suc, ◌-◌, List, [], ◌∷◌, ◌++◌, Option, Some, None, map, take, slice_get, slice_set, ◌/◌, if◌then◌else◌}
 use Rattle.std.specs.Option.{option_to_list}
 use Rattle.vbits.specs.Vectors.{Vector}
 use Rattle.basis.specs.Timescales.{factor}
@@ -393,3 +393,7 @@ end_items design s = before_end (strobe_items design s s.queue.strobes) (slot_en
 -- what the step showed at once, and the slot end where the state after it is one; a print task changes no value
 abbrev pub items_of : Design → Turn → List Item
 items_of design turn = shown_items design turn.state turn.deed.shown ++ end_items design turn.state
+
+-- what stood before still stands, and behind it are the first, if any, of those that were to come
+abbrev pub HasFront : List Item → List Item → List Item → Type 0
+HasFront old coming new = (n : ℕ) × (new ≡ old ++ take n coming)

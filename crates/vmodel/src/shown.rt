@@ -1,11 +1,11 @@
 // What a step gives to the history (IEEE 1364-2005, 11.4, 17.1, 18.1).
 
-ghost use Rattle.std.specs.Prelude.{◌≡◌, ◌++◌, IfOk, OnOk, slice_get};
+ghost use Rattle.std.specs.Prelude.{◌≡◌, ◌++◌, IfOk, OnOk, OnErr, slice_get};
 ghost use Rattle.std.specs.Option.{option_to_list};
 ghost use Rattle.vdesign.specs.declared.action.Action.{Action};
 ghost use Rattle.vmodel.specs.InnerStep.{turn_to};
 ghost use Rattle.vmodel.specs.Step as spec;
-ghost use Rattle.vmodel.specs.Step.{slot_end_of, items_of};
+ghost use Rattle.vmodel.specs.Step.{slot_end_of, items_of, HasFront};
 
 use crate::deed::{Deed, Shown};
 use crate::history::Item;
@@ -68,15 +68,16 @@ impl SlowState {
     }
 }
 
-// Puts behind others what a step showed at once.
+// Puts behind others what a step showed at once; nothing, where memory is short.
 fn put_shown(
     items: &mut Vec<Item>,
     design: &Design,
     state: &SlowState,
     shown: Shown,
 ) -> Result<(), NoMemory>
-    ensures { OnOk result (items.new.items
+    ensures ok { OnOk result (items.new.items
         ≡ items.old.items ++ spec.shown_items design.now state.now (Some shown)) }
+    ensures err { OnErr result (items.new.items ≡ items.old.items) }
 {
     let alloc = *items.allocator();
     let item = match shown {
@@ -88,15 +89,17 @@ fn put_shown(
     Ok(())
 }
 
-// Puts behind others the lines of monitor events, in order (17.1.2).
+// Puts behind others the lines of monitor events, in order (17.1.2); where memory is short, the first of them.
 fn put_strobes(
     items: &mut Vec<Item>,
     design: &Design,
     state: &SlowState,
     places: &[usize],
 ) -> Result<(), NoMemory>
-    ensures { OnOk result (items.new.items
+    ensures ok { OnOk result (items.new.items
         ≡ items.old.items ++ spec.strobe_items design.now state.now places.now) }
+    ensures front { OnErr result (HasFront items.old.items
+        (spec.strobe_items design.now state.now places.now) items.new.items) }
 {
     let alloc = *items.allocator();
     for place in places {
@@ -105,10 +108,12 @@ fn put_strobes(
     Ok(())
 }
 
-// Puts behind others what the state after a step adds, where it is a slot end (11.4).
+// Puts behind others what the state after a step adds, where it is a slot end (11.4); where memory is short, the first of it.
 fn put_end(items: &mut Vec<Item>, design: &Design, state: &SlowState) -> Result<(), NoMemory>
-    ensures { OnOk result (items.new.items ≡ items.old.items
+    ensures ok { OnOk result (items.new.items ≡ items.old.items
         ++ spec.end_items design.now state.now) }
+    ensures front { OnErr result (HasFront items.old.items
+        (spec.end_items design.now state.now) items.new.items) }
 {
     let alloc = *items.allocator();
     if let Some(end) = state.slot_end(alloc)? {
@@ -119,15 +124,18 @@ fn put_end(items: &mut Vec<Item>, design: &Design, state: &SlowState) -> Result<
 }
 
 /// Puts behind others what a step gives to the history, in order: what it showed at once, and where the state after it is a slot end
-/// the lines of the monitor events and the slot end.
+/// the lines of the monitor events and the slot end. Where memory is short, the others still stand, and behind them come the first of
+/// these at most.
 pub fn put_items(
     items: &mut Vec<Item>,
     design: &Design,
     state: &SlowState,
     deed: &Deed,
 ) -> Result<(), NoMemory>
-    ensures { OnOk result (items.new.items
+    ensures ok { OnOk result (items.new.items
         ≡ items.old.items ++ items_of design.now (turn_to state.now deed.now)) }
+    ensures front { OnErr result (HasFront items.old.items
+        (items_of design.now (turn_to state.now deed.now)) items.new.items) }
 {
     if let Some(shown) = deed.shown {
         put_shown(items, design, state, shown)?;
@@ -135,9 +143,10 @@ pub fn put_items(
     put_end(items, design, state)
 }
 
-/// Puts behind others the slot end of a state, where it is one.
+/// Puts behind others the slot end of a state, where it is one. Where memory is short, the others stand as they were.
 pub fn put_slot_end(items: &mut Vec<Item>, state: &SlowState) -> Result<(), NoMemory>
-    ensures { OnOk result (items.new.items ≡ items.old.items ++ slot_end_of state.now) }
+    ensures ok { OnOk result (items.new.items ≡ items.old.items ++ slot_end_of state.now) }
+    ensures err { OnErr result (items.new.items ≡ items.old.items) }
 {
     let alloc = *items.allocator();
     if let Some(item) = state.slot_end(alloc)? {
