@@ -16,3 +16,4 @@ mod ShapeLemmas
 mod TimesLemmas
 mod EndsLemmas
 mod ShownLemmas
+mod WrittenLemmas

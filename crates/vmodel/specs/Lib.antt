@@ -15,6 +15,7 @@ pub mod Run
 pub mod Played
 pub mod Kept
 pub mod RunLaws
+pub mod PartLaws
 pub mod RulesLaws
 pub mod Inner
 pub mod InnerLeft

@@ -1,12 +1,14 @@
 // What holds of the runs of every setting.
 
+ghost use Rattle.vmodel.specs.PartLaws.{WritesEachBit};
 ghost use Rattle.vmodel.specs.RunLaws as laws;
 
 /// The law of the definitions themselves, of every setting, log and number of steps: the test that an explorer takes for
 /// two states is their equality, so that the rules of a run are lawful; each state keeps what specs/Kept.antt says; no
 /// two slots of a run end at one time; each state and each slot end has as many values as the design has variables, and
-/// each value of a state the length and sign of its variable (4.2.2); and a history shows a slot end exactly where its
-/// run was at one. It does nothing.
+/// each value of a state the length and sign of its variable (4.2.2); a history shows a slot end exactly where its run was
+/// at one; and after a part is written each of its bits that the variable has reads its letter, and all other bits of the
+/// variable stay (5.2.1). It does nothing.
 pub fn run_law()
     ensures equal { laws.TestsEquality }
     ensures lawful { laws.HasLawfulRuns }
@@ -17,4 +19,5 @@ pub fn run_law()
     ensures shown { laws.ShowsFullSlots }
     ensures ended { laws.ShowsOnlySlotEnds }
     ensures ends { laws.ShowsEachSlotEnd }
+    ensures parts { WritesEachBit }
 {}

@@ -5,6 +5,7 @@ use Rattle.vmodel.proofs.TimesLemmas.{times_rise}
 use Rattle.vmodel.proofs.ValuesLemmas.{as_many, as_many_shown}
 use Rattle.vmodel.proofs.ShapeLemmas.{as_shaped}
 use Rattle.vmodel.proofs.EndsLemmas.{shown_end, end_shown}
+use Rattle.vmodel.proofs.WrittenLemmas.{writes_each_bit}
 use Rattle.vmodel.proofs.law.run_law.Goals as goal
 
 pub returns : goal.returns
@@ -18,4 +19,5 @@ returns c = record {
   shown = as_many_shown;
   ended = shown_end;
   ends = end_shown;
+  parts = writes_each_bit;
 }
