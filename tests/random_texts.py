@@ -109,7 +109,8 @@ class Texts:
         low, high = sorted((left, right))
         one, other = sorted(self.rng.randrange(max(0, low - 2), high + 3) for _ in range(2))
         other = min(other, one + 63)
-        return Part(name, place, *((other, one) if left >= right else (one, other)))
+        falls = left > right or (left == right and self.rng.random() < 0.5)
+        return Part(name, place, *((other, one) if falls else (one, other)))
 
     def made(self, leaf):
         world = self.names.world()

@@ -64,6 +64,31 @@ def changes(count, dumped):
     return ("module tb; reg a; initial begin " + start + "#1 a = 1; #1 a = 0; " * count + "end endmodule").encode()
 
 
+def shared(head):
+    """16 processes, and one that makes a clock, that share 65 variables of 1 to 64 bits: each waits, adds and copies."""
+    names = ["clock"] + [f"v{n}" for n in range(1, 65)]
+    lines = ["  reg clock;"] + [f"  reg [{n - 1}:0] v{n};" for n in range(1, 65)]
+    lines.append("  initial begin clock = 0; forever #1 clock = ~clock; end")
+    for p in range(1, 17):
+        one, two, three, four = (names[p + 16 * group] for group in range(4))
+        lines.append(f"  initial begin {one} = {p}; {two} = 1; {three} = 3; forever begin {head} {one} = {two} + {three}; {four} = {one}; end end")
+    return ("module tb;\n" + "\n".join(lines) + "\nendmodule\n").encode()
+
+
+def printing(count):
+    return (
+        "module tb; reg [15:0] a; reg [7:0] b; reg signed [31:0] c; initial begin a = 1; b = 8'h5x; c = -5; "
+        f'repeat ({count}) $display("at %d: %h, %0d", a, b, c); end endmodule').encode()
+
+
+def instances(count):
+    return ("module leaf #(parameter P = 1) (); wire n; endmodule\nmodule tb;\n" + "".join(f"  leaf #({n}) u{n} ();\n" for n in range(count)) + "endmodule\n").encode()
+
+
+def assigned(count):
+    return ("module tb;\n" + "".join(f"  reg [7:0] v{n};\n" for n in range(count)) + "initial begin\n" + "".join(f"  v{n} = {n};\n" for n in range(count)) + "end endmodule\n").encode()
+
+
 def main():
     program = program_of("vrace_program")
     over = 0
@@ -94,9 +119,25 @@ def main():
         taken = [counted(program, steps, assignments(count, statement))[0] for count in (20_000, 40_000)]
         say(f"times the instructions for twice the {name}", taken[1] / taken[0], 2.2)
         print(f"instructions a step, the reading of its statement with it: {(taken[1] - taken[0]) / (20_000 * each):.0f}")
+    def taken_by(text, until):
+        return counted(program, steps + ["--until", str(until)], text)[0]
+    def steps_of(text, until):
+        told = counted(program, steps + ["--trace", "--until", str(until)], text)[1]
+        return sum(line.startswith(b"step ") for line in told.splitlines())
+    for name, head in (("each waits 1", "#1"), ("16 wait for a clock", "@(posedge clock)")):
+        text = shared(head)
+        taken, taking = (of(text, 1200) - of(text, 200) for of in (taken_by, steps_of))
+        say(f"instructions a step of 17 processes over 65 variables, {name}", taken / taking, 6_000)
     dumped, written = counted(program, steps, changes(20_000, True))
     plain, nothing = counted(program, steps, changes(20_000, False))
     say("instructions a byte of dump", (dumped - plain) / (len(written) - len(nothing)), 150)
+    few, short = counted(program, steps + ["--lines"], printing(5_000))
+    many, long = counted(program, steps + ["--lines"], printing(25_000))
+    say("instructions a byte of printed lines", (many - few) / (len(long) - len(short)), 300)
+    for name, text in (("instances", instances), ("variables", assigned)):
+        costs = [counted(program, tb, text(count))[0] for count in (250, 500, 1000)]
+        say(f"times the instructions for twice the {name}", (costs[2] - costs[1]) / (costs[1] - costs[0]), 2.2)
+        print(f"instructions for one of them: {(costs[2] - costs[1]) / 500:.0f}")
     return 1 if over else 0
 
 
