@@ -1,2 +1,3 @@
 mod StandLemmas
 mod PlayedLemmas
+mod SlotLemmas

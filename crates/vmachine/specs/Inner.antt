@@ -1,5 +1,5 @@
 -- Words for the contracts of parts within.
-use Rattle.std.specs.Prelude.{◌≡◌, ℕ, ◌+◌, ◌<◌, ◌≤◌, List, ◌++◌, length, Option, Some, None, Result, Ok, Err}
+use Rattle.std.specs.Prelude.{◌≡◌, ℕ, ◌+◌, ◌<◌, ◌≤◌, Bool, true, false, List, [], ◌∷◌, length, Option, Some, None, Result, Ok, Err}
 use Rattle.basis.specs.declared.memory.OrMemory.{OrMemory}
 use Rattle.basis.specs.declared.memory.OrMemory.TheVariants.{Fault, Memory}
 use Rattle.sched_core.specs.Rules.{IsRun}
@@ -22,9 +22,11 @@ IsOfSink P (Fault (Replay fault)) = ⊥
 IsOfSink P (Fault (Sink fault)) = P fault
 IsOfSink P (Memory m) = ⊥
 
--- the sink took the first of the items that waited, and the others wait
-abbrev pub IsHandedOn : {T : Type 0} → (T → List Item → T → Type 0) → T → List Item → T → List Item → Type 0
-IsHandedOn takes old waiting new left = (front : List Item) × takes old front new × (front ++ left ≡ waiting)
+-- at a mark the sink takes what waits, if anything does; else all stays
+abbrev pub HandsOn : {T : Type 0} → (T → List Item → T → Type 0) → Bool → T → List Item → T → List Item → Type 0
+HandsOn takes false old waiting new left = (new ≡ old) × (left ≡ waiting)
+HandsOn takes true old [] new left = (new ≡ old) × (left ≡ [])
+HandsOn takes true old (item ∷ more) new left = takes old (item ∷ more) new × (left ≡ [])
 
 -- after n steps the run stands at the state, and this is left of the log
 pub record IsAt (setting : Setting) (log rest : List (ℕ × ℕ)) (steps n : ℕ) (state : State) : Type 0 where

@@ -1,13 +1,14 @@
-// The run of a machine under a log, handed on slot by slot.
+// The run of a machine under a log, handed on slot by slot, or kept whole.
 
-ghost use Rattle.std.specs.Prelude.{◌≡◌, ◌++◌, ℕ, List, [], true, IfOk, IfErr, OnOk};
+ghost use Rattle.std.specs.Prelude.{◌≡◌, ◌++◌, ℕ, List, IfOk, IfErr, OnOk};
 ghost use Rattle.basis.specs.Reasons.{IfFault};
 ghost use Rattle.basis.specs.declared.memory.OrMemory.TheVariants.{Fault};
 ghost use Rattle.vmachine.specs.declared.run.RunFault.TheVariants.{Replay};
-ghost use Rattle.vmachine.specs.Handed.{RunsInto, IsNoSuchRun, LeavesSink};
-ghost use Rattle.vmachine.specs.Inner.{IsOfSink, IsHandedOn, IsAt, IsChosen};
+ghost use Rattle.vmachine.specs.Handed.{RunsInto, RunsBySlot, IsHistory, IsNoSuchRun, LeavesSink};
+ghost use Rattle.vmachine.specs.Inner.{IsOfSink, HandsOn, IsAt, IsChosen};
 ghost use Rattle.sched_core.specs.Logs.{IsLogFrom};
-ghost use Rattle.vmodel.specs.Run.{Setting};
+ghost use Rattle.sched_core.specs.Replay.{IsReplayReason};
+ghost use Rattle.vmodel.specs.Run.{Setting, rules_of};
 ghost use Rattle.vmodel.specs.Step.{items_of};
 ghost use Rattle.vmodel.specs.InnerStep.{turn_to};
 
@@ -16,8 +17,9 @@ use basis::{NoMemory, OrMemory};
 use sched_core::{Log, Member, ReplayFault, next_choice};
 use vdesign::design::Design;
 use vmodel::deed::Deed;
-use vmodel::history::{End, Item};
+use vmodel::history::{End, History, Item};
 use vmodel::sink::Sink;
+use vmodel::values::Values;
 use vmodel::{SlowState, opening, put_items, put_slot_end};
 
 /// Why a run wasn't handed on to its end, but for want of memory.
@@ -36,19 +38,18 @@ fn refused<F>(fault: ReplayFault) -> OrMemory<RunFault<F>>
     OrMemory::Fault(RunFault::Replay(fault))
 }
 
-// Hands on what waits where a slot or the run has ended, and else nothing.
+// Hands on what waits, if anything does, where a slot or the run has ended.
 fn hand<S: Sink>(
     sink: &mut S,
     pending: &mut Vec<Item>,
     is_mark: bool,
 ) -> Result<(), OrMemory<RunFault<S::Fault>>>
     ensures ok { OnOk result
-        (IsHandedOn S.takes sink.old pending.old.items sink.new pending.new.items) }
-    ensures all { is_mark ≡ true → OnOk result (pending.new.items ≡ []) }
+        (HandsOn S.takes is_mark sink.old pending.old.items sink.new pending.new.items) }
     ensures err { IfErr result (IsOfSink (λ fault.
         S.fails sink.old pending.old.items fault sink.new)) }
 {
-    if !is_mark {
+    if !is_mark || pending.is_empty() {
         return Ok(());
     }
     match sink.take(pending) {
@@ -113,7 +114,7 @@ fn note(
 
 impl Machine {
     /// Runs the design under the log to its end, by at most `steps` steps, and hands all that it gives to its history on
-    /// to the sink, in order: once for each slot, and once more for what a slot without an end left.
+    /// to the sink, in order: once for each slot, and once more for what a slot without an end left, if it left anything.
     ///
     /// The step limit is tested before the log: where the run goes on after `steps` steps the fault is E403, whatever the
     /// log names there; else a named step that isn't reached or hasn't the choice is E402. E901 where memory was refused;
@@ -126,6 +127,8 @@ impl Machine {
     ) -> Result<End, OrMemory<RunFault<S::Fault>>>
         ensures ends { IfOk result (λ end.
             RunsInto S.takes self.now log.now steps sink.old end sink.new) }
+        ensures slots { IfOk result (λ end.
+            RunsBySlot S.takes self.now log.now steps sink.old end sink.new) }
         ensures reason { IfFault result (IsNoSuchRun self.now log.now steps) }
         ensures left { IfErr result (λ fault.
             LeavesSink S.takes S.fails self.now log.now steps sink.old fault sink.new) }
@@ -144,6 +147,33 @@ impl Machine {
             };
             let deed = state.step(&self.design, chosen.choice)?;
             note(&mut pending, &self.design, &state, deed)?;
+            rest = chosen.later;
+            n += 1;
+        }
+    }
+
+    /// The whole history of the run under the log, by at most `steps` steps; the faults are those of `run_into`.
+    pub fn history(&self, log: &Log, steps: u32) -> Result<History, OrMemory<ReplayFault>>
+        ensures ok { IfOk result (IsHistory self.now log.now steps) }
+        ensures reason { IfFault result (IsReplayReason (rules_of self.now) log.now steps) }
+    {
+        let mut state = opening(self.alloc, &self.design, self.until, self.grain)?;
+        let mut items = Vec::new(self.alloc);
+        put_slot_end(&mut items, &state)?;
+        let mut rest = log.members();
+        let mut n = 0;
+        'turns: loop {
+            let chosen = match choose(&state, rest, n, steps) {
+                Ok(Some(chosen)) => chosen,
+                Ok(None) => {
+                    let values = Values::from_slice(self.alloc, state.values())?;
+                    let end = state.end();
+                    return Ok(History { items, end, values });
+                }
+                Err(fault) => return Err(OrMemory::Fault(fault)),
+            };
+            let deed = state.step(&self.design, chosen.choice)?;
+            note(&mut items, &self.design, &state, deed)?;
             rest = chosen.later;
             n += 1;
         }

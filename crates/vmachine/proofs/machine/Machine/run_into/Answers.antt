@@ -1,27 +1,34 @@
-use Rattle.std.proofs.Common.{◌≡◌, ℕ, List, [], ◌++◌, Option, Some, None, Ok, sym, ap, subst, ◌∙◌, append_assoc, append-nil}
+use Rattle.std.proofs.Common.{◌≡◌, ◌≢◌, ℕ, List, [], ◌++◌, length, Option, Some, None, Ok, refl, sym, ap, subst, ◌∙◌, append_assoc, append-nil, arith}
 use Rattle.basis.specs.declared.memory.OrMemory.{OrMemory}
 use Rattle.basis.specs.declared.memory.OrMemory.TheVariants.{Memory}
 use Rattle.vmodel.specs.declared.history.Item.{Item}
 use Rattle.vmodel.specs.Step.{Turn, slot_end_of, next, items_of}
 use Rattle.vdesign.specs.Design.{Design}
-use Rattle.vmodel.specs.Run.{Setting, opening_of, given_by}
+use Rattle.vmodel.specs.Run.{Setting, opening_of, given_by, is_mark}
 use Rattle.vmodel.specs.Played.{Finishes}
 use Rattle.vmachine.specs.declared.run.Chosen.{Chosen}
 use Rattle.vmachine.specs.declared.run.RunFault.{RunFault}
-use Rattle.vmachine.specs.Handed.{LeavesSink}
-use Rattle.vmachine.specs.Inner.{IsAt, IsChosen}
+use Rattle.vmachine.specs.Handed.{LeavesSink, by_slot, TakesEach}
+use Rattle.vmachine.specs.Inner.{IsAt, IsChosen, HandsOn}
 use Rattle.vmachine.proofs.PlayedLemmas.{at_opening, at_next, given_next, underway, handed_first, left_by, sink_left, ended_at_mark, less_differs}
+use Rattle.vmodel.specs.Choices.{choices}
+use Rattle.vmachine.proofs.SlotLemmas.{Waits, handed_on, emptied, waits_more, items_wait}
 use Rattle.vmachine.proofs.machine.Machine.run_into.Goals as goal
 
 pub turns-init : goal.turns-init
 turns-init g c =
     let setting = c.args.self.now in
-    let opened : c.in_ok-state.state ≡ opening_of setting = c.in_ok-state.ensures ∙ ap opening_of c.self.view_is in (
+    let opened : c.in_ok-state.state ≡ opening_of setting = c.in_ok-state.ensures ∙ ap opening_of c.self.view_is in
+    let waiting : c.put_slot_end.new.items.items ≡ slot_end_of c.in_ok-state.state =
+    c.in_ok-put_slot_end.ensures.ok ∙ ap (λ (xs : List Item). xs ++ slot_end_of c.in_ok-state.state) c.new-pending.ensures.items in (
       subst (λ (rest : List (ℕ × ℕ)). IsAt setting c.args.log.now rest c.args.steps 0 c.in_ok-state.state) (sym c.members-rest.ensures.list)
           (at_opening setting c.args.log.now c.args.steps c.in_ok-state.state c.members-rest.ensures.lawful opened),
       [],
       g.met.S.Sink.none c.args.sink.now,
-      c.in_ok-put_slot_end.ensures ∙ ap (λ (xs : List Item). xs ++ slot_end_of c.in_ok-state.state) c.new-pending.ensures.items ∙ ap slot_end_of opened,
+      waiting ∙ ap slot_end_of opened,
+      refl,
+      λ more. refl,
+      ([], tt, waiting),
     )
 
 pub returns-in_err-hand-clause-left : goal.returns-in_err-hand-clause-left
@@ -46,20 +53,45 @@ returns-in-Ok-None-clause-ends g c =
     let setting = c.args.self.now in
     let log = c.args.log.now in
     let here = c.turns.invariant.0 in
-    let handed : List Item = c.turns.invariant.1 in
-    let front : List Item = c.in_ok-hand.ensures.ok.0 in
-    let took = g.met.S.Sink.joins c.args.sink.now c.turns.sink c.hand.new.sink handed front c.turns.invariant.2 c.in_ok-hand.ensures.ok.1 in
-    let all : (handed ++ front) ++ c.hand.new.pending.items ≡ given_by setting log c.turns.n =
-    append_assoc handed front c.hand.new.pending.items ∙ ap (λ (xs : List Item). handed ++ xs) c.in_ok-hand.ensures.ok.2 ∙ c.turns.invariant.3 in
+    let on : HandsOn g.S.Sink.takes (is_mark c.turns.state) c.turns.sink c.turns.pending.items c.hand.new.sink c.hand.new.pending.items =
+    subst (λ mark. HandsOn g.S.Sink.takes mark c.turns.sink c.turns.pending.items c.hand.new.sink c.hand.new.pending.items) c.is_mark.ensures c.in_ok-hand.ensures.ok in
+    let after =
+    handed_on g.S.Sink.takes g.met.S.Sink.joins c.turns.state c.args.sink.now c.turns.sink c.hand.new.sink c.turns.invariant.1 c.hand.new.pending.items
+    c.turns.invariant.2 c.turns.invariant.4 c.turns.invariant.5 c.turns.pending.items c.turns.invariant.6 on in
+    let all : after.handed ++ c.hand.new.pending.items ≡ given_by setting log c.turns.n = after.is ∙ c.turns.invariant.3 in
     let chosen : IsChosen setting log c.args.steps c.turns.n c.turns.state c.turns.rest.now (Ok None) =
     subst (IsChosen setting log c.args.steps c.turns.n c.turns.state c.turns.rest.now) (c.in-Ok-None.is ∙ ap (λ (o : Option Chosen). Ok o) c.in-Ok-None.field-0-is) (c.choose.ensures setting log here) in
     let nothing : c.hand.new.pending.items ≡ [] =
-    c.in_ok-hand.ensures.all (c.is_mark.ensures ∙ ended_at_mark setting log c.turns.rest.now c.args.steps c.turns.n c.turns.state _ here chosen) in
-    let whole : handed ++ front ≡ given_by setting log c.turns.n =
-    sym (append-nil (handed ++ front)) ∙ ap (λ (xs : List Item). (handed ++ front) ++ xs) (sym nothing) ∙ all in (
+    emptied g.S.Sink.takes (is_mark c.turns.state) c.turns.sink c.hand.new.sink c.turns.pending.items c.hand.new.pending.items
+    (ended_at_mark setting log c.turns.rest.now c.args.steps c.turns.n c.turns.state _ here chosen) on in
+    let whole : after.handed ≡ given_by setting log c.turns.n =
+    sym (append-nil after.handed) ∙ ap (λ (xs : List Item). after.handed ++ xs) (sym nothing) ∙ all in (
       c.turns.n,
       subst (λ end. Finishes setting log c.args.steps c.turns.n end) (sym c.end.ensures) chosen,
-      subst (λ (xs : List Item). g.S.Sink.takes c.args.sink.now xs c.hand.new.sink) whole took,
+      subst (λ (xs : List Item). g.S.Sink.takes c.args.sink.now xs c.hand.new.sink) whole after.taken,
+    )
+
+pub returns-in-Ok-None-clause-slots : goal.returns-in-Ok-None-clause-slots
+returns-in-Ok-None-clause-slots g c =
+    let setting = c.args.self.now in
+    let log = c.args.log.now in
+    let here = c.turns.invariant.0 in
+    let on : HandsOn g.S.Sink.takes (is_mark c.turns.state) c.turns.sink c.turns.pending.items c.hand.new.sink c.hand.new.pending.items =
+    subst (λ mark. HandsOn g.S.Sink.takes mark c.turns.sink c.turns.pending.items c.hand.new.sink c.hand.new.pending.items) c.is_mark.ensures c.in_ok-hand.ensures.ok in
+    let after =
+    handed_on g.S.Sink.takes g.met.S.Sink.joins c.turns.state c.args.sink.now c.turns.sink c.hand.new.sink c.turns.invariant.1 c.hand.new.pending.items
+    c.turns.invariant.2 c.turns.invariant.4 c.turns.invariant.5 c.turns.pending.items c.turns.invariant.6 on in
+    let all : after.handed ++ c.hand.new.pending.items ≡ given_by setting log c.turns.n = after.is ∙ c.turns.invariant.3 in
+    let chosen : IsChosen setting log c.args.steps c.turns.n c.turns.state c.turns.rest.now (Ok None) =
+    subst (IsChosen setting log c.args.steps c.turns.n c.turns.state c.turns.rest.now) (c.in-Ok-None.is ∙ ap (λ (o : Option Chosen). Ok o) c.in-Ok-None.field-0-is) (c.choose.ensures setting log here) in
+    let nothing : c.hand.new.pending.items ≡ [] =
+    emptied g.S.Sink.takes (is_mark c.turns.state) c.turns.sink c.hand.new.sink c.turns.pending.items c.hand.new.pending.items
+    (ended_at_mark setting log c.turns.rest.now c.args.steps c.turns.n c.turns.state _ here chosen) on in
+    let whole : after.handed ≡ given_by setting log c.turns.n =
+    sym (append-nil after.handed) ∙ ap (λ (xs : List Item). after.handed ++ xs) (sym nothing) ∙ all in (
+      c.turns.n,
+      subst (λ end. Finishes setting log c.args.steps c.turns.n end) (sym c.end.ensures) chosen,
+      subst (λ (xs : List Item). TakesEach g.S.Sink.takes c.args.sink.now (by_slot xs) c.hand.new.sink) whole after.each,
     )
 
 pub returns-in-Err-clause-left : goal.returns-in-Err-clause-left
@@ -67,52 +99,56 @@ returns-in-Err-clause-left g c =
     let setting = c.args.self.now in
     let log = c.args.log.now in
     let here = c.turns.invariant.0 in
-    let handed : List Item = c.turns.invariant.1 in
-    let front : List Item = c.in_ok-hand.ensures.ok.0 in
-    let took = g.met.S.Sink.joins c.args.sink.now c.turns.sink c.hand.new.sink handed front c.turns.invariant.2 c.in_ok-hand.ensures.ok.1 in
-    let all : (handed ++ front) ++ c.hand.new.pending.items ≡ given_by setting log c.turns.n =
-    append_assoc handed front c.hand.new.pending.items ∙ ap (λ (xs : List Item). handed ++ xs) c.in_ok-hand.ensures.ok.2 ∙ c.turns.invariant.3 in
+    let on : HandsOn g.S.Sink.takes (is_mark c.turns.state) c.turns.sink c.turns.pending.items c.hand.new.sink c.hand.new.pending.items =
+    subst (λ mark. HandsOn g.S.Sink.takes mark c.turns.sink c.turns.pending.items c.hand.new.sink c.hand.new.pending.items) c.is_mark.ensures c.in_ok-hand.ensures.ok in
+    let after =
+    handed_on g.S.Sink.takes g.met.S.Sink.joins c.turns.state c.args.sink.now c.turns.sink c.hand.new.sink c.turns.invariant.1 c.hand.new.pending.items
+    c.turns.invariant.2 c.turns.invariant.4 c.turns.invariant.5 c.turns.pending.items c.turns.invariant.6 on in
+    let all : after.handed ++ c.hand.new.pending.items ≡ given_by setting log c.turns.n = after.is ∙ c.turns.invariant.3 in
     subst (λ (e : OrMemory (RunFault _)). LeavesSink g.S.Sink.takes g.S.Sink.fails setting log c.args.steps c.args.sink.now e c.hand.new.sink) (sym c.refused.ensures)
-    (handed_first g.S.Sink.takes setting log c.turns.rest.now c.args.steps c.turns.n c.turns.state c.args.sink.now c.hand.new.sink (handed ++ front) c.hand.new.pending.items here took all)
+    (handed_first g.S.Sink.takes setting log c.turns.rest.now c.args.steps c.turns.n c.turns.state c.args.sink.now c.hand.new.sink after.handed c.hand.new.pending.items here after.taken all)
 
 pub returns-in_err-deed-clause-left : goal.returns-in_err-deed-clause-left
 returns-in_err-deed-clause-left g c =
     let setting = c.args.self.now in
     let log = c.args.log.now in
     let here = c.turns.invariant.0 in
-    let handed : List Item = c.turns.invariant.1 in
-    let front : List Item = c.in_ok-hand.ensures.ok.0 in
-    let took = g.met.S.Sink.joins c.args.sink.now c.turns.sink c.hand.new.sink handed front c.turns.invariant.2 c.in_ok-hand.ensures.ok.1 in
-    let all : (handed ++ front) ++ c.hand.new.pending.items ≡ given_by setting log c.turns.n =
-    append_assoc handed front c.hand.new.pending.items ∙ ap (λ (xs : List Item). handed ++ xs) c.in_ok-hand.ensures.ok.2 ∙ c.turns.invariant.3 in
+    let on : HandsOn g.S.Sink.takes (is_mark c.turns.state) c.turns.sink c.turns.pending.items c.hand.new.sink c.hand.new.pending.items =
+    subst (λ mark. HandsOn g.S.Sink.takes mark c.turns.sink c.turns.pending.items c.hand.new.sink c.hand.new.pending.items) c.is_mark.ensures c.in_ok-hand.ensures.ok in
+    let after =
+    handed_on g.S.Sink.takes g.met.S.Sink.joins c.turns.state c.args.sink.now c.turns.sink c.hand.new.sink c.turns.invariant.1 c.hand.new.pending.items
+    c.turns.invariant.2 c.turns.invariant.4 c.turns.invariant.5 c.turns.pending.items c.turns.invariant.6 on in
+    let all : after.handed ++ c.hand.new.pending.items ≡ given_by setting log c.turns.n = after.is ∙ c.turns.invariant.3 in
     left_by g.S.Sink.takes g.S.Sink.fails setting log c.args.steps c.args.sink.now c.hand.new.sink c.from_residual-in_err-deed.result (Memory c.in_err-deed.field-0.0)
     c.from_residual-in_err-deed.ensures.1
-    (handed_first g.S.Sink.takes setting log c.turns.rest.now c.args.steps c.turns.n c.turns.state c.args.sink.now c.hand.new.sink (handed ++ front) c.hand.new.pending.items here took all)
+    (handed_first g.S.Sink.takes setting log c.turns.rest.now c.args.steps c.turns.n c.turns.state c.args.sink.now c.hand.new.sink after.handed c.hand.new.pending.items here after.taken all)
 
 pub returns-in_err-note-clause-left : goal.returns-in_err-note-clause-left
 returns-in_err-note-clause-left g c =
     let setting = c.args.self.now in
     let log = c.args.log.now in
     let here = c.turns.invariant.0 in
-    let handed : List Item = c.turns.invariant.1 in
-    let front : List Item = c.in_ok-hand.ensures.ok.0 in
-    let took = g.met.S.Sink.joins c.args.sink.now c.turns.sink c.hand.new.sink handed front c.turns.invariant.2 c.in_ok-hand.ensures.ok.1 in
-    let all : (handed ++ front) ++ c.hand.new.pending.items ≡ given_by setting log c.turns.n =
-    append_assoc handed front c.hand.new.pending.items ∙ ap (λ (xs : List Item). handed ++ xs) c.in_ok-hand.ensures.ok.2 ∙ c.turns.invariant.3 in
+    let on : HandsOn g.S.Sink.takes (is_mark c.turns.state) c.turns.sink c.turns.pending.items c.hand.new.sink c.hand.new.pending.items =
+    subst (λ mark. HandsOn g.S.Sink.takes mark c.turns.sink c.turns.pending.items c.hand.new.sink c.hand.new.pending.items) c.is_mark.ensures c.in_ok-hand.ensures.ok in
+    let after =
+    handed_on g.S.Sink.takes g.met.S.Sink.joins c.turns.state c.args.sink.now c.turns.sink c.hand.new.sink c.turns.invariant.1 c.hand.new.pending.items
+    c.turns.invariant.2 c.turns.invariant.4 c.turns.invariant.5 c.turns.pending.items c.turns.invariant.6 on in
+    let all : after.handed ++ c.hand.new.pending.items ≡ given_by setting log c.turns.n = after.is ∙ c.turns.invariant.3 in
     left_by g.S.Sink.takes g.S.Sink.fails setting log c.args.steps c.args.sink.now c.hand.new.sink c.from_residual-in_err-note.result (Memory c.in_err-note.field-0.0)
     c.from_residual-in_err-note.ensures.1
-    (handed_first g.S.Sink.takes setting log c.turns.rest.now c.args.steps c.turns.n c.turns.state c.args.sink.now c.hand.new.sink (handed ++ front) c.hand.new.pending.items here took all)
+    (handed_first g.S.Sink.takes setting log c.turns.rest.now c.args.steps c.turns.n c.turns.state c.args.sink.now c.hand.new.sink after.handed c.hand.new.pending.items here after.taken all)
 
 pub turns-preserved : goal.turns-preserved
 turns-preserved g c =
     let setting = c.args.self.now in
     let log = c.args.log.now in
     let here = c.turns.invariant.0 in
-    let handed : List Item = c.turns.invariant.1 in
-    let front : List Item = c.in_ok-hand.ensures.ok.0 in
-    let took = g.met.S.Sink.joins c.args.sink.now c.turns.sink c.hand.new.sink handed front c.turns.invariant.2 c.in_ok-hand.ensures.ok.1 in
-    let all : (handed ++ front) ++ c.hand.new.pending.items ≡ given_by setting log c.turns.n =
-    append_assoc handed front c.hand.new.pending.items ∙ ap (λ (xs : List Item). handed ++ xs) c.in_ok-hand.ensures.ok.2 ∙ c.turns.invariant.3 in
+    let on : HandsOn g.S.Sink.takes (is_mark c.turns.state) c.turns.sink c.turns.pending.items c.hand.new.sink c.hand.new.pending.items =
+    subst (λ mark. HandsOn g.S.Sink.takes mark c.turns.sink c.turns.pending.items c.hand.new.sink c.hand.new.pending.items) c.is_mark.ensures c.in_ok-hand.ensures.ok in
+    let after =
+    handed_on g.S.Sink.takes g.met.S.Sink.joins c.turns.state c.args.sink.now c.turns.sink c.hand.new.sink c.turns.invariant.1 c.hand.new.pending.items
+    c.turns.invariant.2 c.turns.invariant.4 c.turns.invariant.5 c.turns.pending.items c.turns.invariant.6 on in
+    let all : after.handed ++ c.hand.new.pending.items ≡ given_by setting log c.turns.n = after.is ∙ c.turns.invariant.3 in
     let chosen : IsChosen setting log c.args.steps c.turns.n c.turns.state c.turns.rest.now (Ok (Some c.in-Ok-Some.chosen)) =
     subst (IsChosen setting log c.args.steps c.turns.n c.turns.state c.turns.rest.now) (c.in-Ok-Some.is ∙ ap (λ (o : Option Chosen). Ok o) c.in-Ok-Some.field-0-is) (c.choose.ensures setting log here) in
     let design = ap (λ (s : Setting). s.design) c.self.view_is in
@@ -120,14 +156,20 @@ turns-preserved g c =
     let turn : next setting.design c.turns.state c.in-Ok-Some.chosen.choice ≡ turn_is =
     ap (λ (d : Design). next d c.turns.state c.in-Ok-Some.chosen.choice) (sym design) ∙ c.in_ok-deed.ensures.ok in
     let given = given_next setting log c.turns.rest.now c.args.steps c.turns.n c.turns.state here c.in-Ok-Some.chosen.choice c.in-Ok-Some.chosen.later.now chosen.2
-    turn_is turn in (
+    turn_is turn in
+    let goes_on : length (choices c.turns.state) ≢ 0 = λ none. absurd (omega (arith, none, chosen.1)) in
+    let more : c.note.new.items.items ≡ c.hand.new.pending.items ++ items_of setting.design turn_is =
+    c.in_ok-note.ensures ∙ ap (λ (d : Design). c.hand.new.pending.items ++ items_of d turn_is) design in (
       at_next setting log c.turns.rest.now c.args.steps c.turns.n c.turns.state here c.in-Ok-Some.chosen.choice c.in-Ok-Some.chosen.later.now chosen.2
           c.step.new.self (less_differs c.turns.n c.args.steps chosen.0) chosen.1 chosen.3 (ap (λ (t : Turn). t.state) turn),
-      handed ++ front,
-      took,
-      ap (λ (xs : List Item). (handed ++ front) ++ xs) c.in_ok-note.ensures
-          ∙ ap (λ (d : Design). (handed ++ front) ++ (c.hand.new.pending.items ++ items_of d turn_is)) design
-          ∙ sym (append_assoc (handed ++ front) c.hand.new.pending.items (items_of setting.design turn_is))
+      after.handed,
+      after.taken,
+      ap (λ (xs : List Item). after.handed ++ xs) more
+          ∙ sym (append_assoc after.handed c.hand.new.pending.items (items_of setting.design turn_is))
           ∙ ap (λ (xs : List Item). xs ++ items_of setting.design turn_is) all
           ∙ given,
+      after.each,
+      after.cut goes_on,
+      subst (λ (xs : List Item). Waits xs c.step.new.self) (sym more)
+          (waits_more c.hand.new.pending.items (items_of setting.design turn_is) c.step.new.self (after.unended goes_on) (items_wait setting.design turn_is)),
     )

@@ -1,7 +1,9 @@
 use Rattle.std.proofs.Common.{◌≡◌, ◌-◌, ◌++◌, List}
 use Rattle.vmodel.specs.declared.history.Item.{Item}
 use Rattle.vmodel.specs.Run.{given_by}
+use Rattle.vmachine.specs.Handed.{by_slot, TakesEach}
 use Rattle.vmachine.specs.Inner.{IsAt}
+use Rattle.vmachine.proofs.SlotLemmas.{IsCut, Waits}
 use Rattle.vmachine.proofs.machine.Machine.run_into.Given as goal
 
 abbrev pub invariant-turns : goal.invariant-turns
@@ -10,6 +12,9 @@ invariant-turns g l =
     × (handed : List Item)
     × g.S.Sink.takes l.fn.sink handed l.sink
     × (handed ++ l.pending.items ≡ given_by l.self l.log l.n)
+    × TakesEach g.S.Sink.takes l.fn.sink (by_slot handed) l.sink
+    × IsCut handed
+    × Waits l.pending.items l.state
 
 abbrev pub decreases-turns : goal.decreases-turns
 decreases-turns g l = l.steps - l.n
