@@ -1,6 +1,6 @@
 -- The first action of a table that breaks a rule, one after another.
 use Rattle.std.proofs.Common.{◌≡◌, ◌<◌, ◌≤◌, ℕ, zero, suc, ◌+◌, Option, None, Some, List, [], ◌∷◌, length, drop, get_or, slice_get, refl, sym, ap, ◌∙◌, arith, add-one}
-use Rattle.std.specs.Prelude.{option_map, option_and_then}
+use Rattle.std.specs.Prelude.{option_map, unwrap_or}
 use Rattle.std.specs.Option.{option_or}
 use Rattle.std.proofs.lemmas.List.{drop_all}
 use Rattle.vdesign.specs.declared.action.Action.{Action}
@@ -24,13 +24,13 @@ drop_further i xs = further i xs ∙ ap (λ (n : ℕ). drop n xs) (sym (add-one 
 
 module _ (rule : Action → Option Rule) (actions : List Action) (words : List (Option ℕ)) (i : ℕ) where
   abbrev pub fault_of : Rule → ElabFault
-  fault_of r = record { rule = r; at = option_and_then (λ (w : Option ℕ). w) (slice_get words i) }
+  fault_of r = record { rule = r; at = unwrap_or (slice_get words i) None }
 
   module _ (x : Action) (within : i < length actions) (is : x ≡ get_or actions i x) where
     opened : table_fault rule (drop i actions) (drop i words) ≡ option_or (option_map fault_of (rule x)) (table_fault rule (drop (i + 1) actions) (drop (i + 1) words))
     opened =
         ap (λ (l : List Action). table_fault rule l (drop i words)) (drop_at actions i x within is)
-        ∙ (λ j. option_or (option_map (λ (r : Rule). record { rule = r; at = option_and_then (λ (w : Option ℕ). w) (got_behind i words j) }) (rule x)) (table_fault rule (drop (i + 1) actions) (drop_further i words j)))
+        ∙ (λ j. option_or (option_map (λ (r : Rule). record { rule = r; at = unwrap_or (got_behind i words j) None }) (rule x)) (table_fault rule (drop (i + 1) actions) (drop_further i words j)))
 
     -- this one breaks it
     pub breaks_at : (r : Rule) (all : Option ElabFault) → rule x ≡ Some r → table_fault rule (drop i actions) (drop i words) ≡ all → all ≡ Some (fault_of r)

@@ -22,7 +22,7 @@ use Rattle.velab.specs.declared.fault.ElabFault.{ElabFault}
 use Rattle.velab.specs.Rules.{IsBroken}
 use Rattle.velab.specs.Scopes.{Scope, at}
 use Rattle.velab.specs.Elaborate.{Declaration as Declared_as, declared, all_declared, declarations_of, kind_of, bounds_of, variable_by, variable_of, Home, variables_from, broken_declaration, broken_from, given_by}
-use Rattle.velab.specs.Inner.{names_of, names_in, texts_of, kind_item}
+use Rattle.velab.specs.Inner.{names_of, declared_in, texts_of, kind_item}
 use Rattle.velab.proofs.ListLemmas.{drop_at}
 use Rattle.velab.proofs.FaultLemmas.{goes_on, stops_at}
 
@@ -63,7 +63,7 @@ item_of_names words item at kind declared list is same =
     kind_names words kind list ∙ ap (λ (l : List Declared). names_of (kind_item words kind l)) same ∙ sym (ap (λ (m : ModuleItem). names_of (item_tree words m)) is)
 
 -- the names of items, item by item
-pub in_order : (words : List Text) (item : ModuleItem) (items : List ModuleItem) → names_in (map (item_tree words) (item ∷ items)) ≡ names_of (item_tree words item) ++ names_in (map (item_tree words) items)
+pub in_order : (words : List Text) (item : ModuleItem) (items : List ModuleItem) → declared_in (map (item_tree words) (item ∷ items)) ≡ names_of (item_tree words item) ++ declared_in (map (item_tree words) items)
 in_order words item items = map-append (λ (d : Declared_as). d.name) (declarations_of (item_tree words item)) (flat_map declarations_of (map (item_tree words) items))
 
 -- ---- the variables of items, each in the scope of its place

@@ -1,5 +1,5 @@
 -- What is wrong with the expressions of actions (IEEE 1364-2005, 5.1.14, 5.2.1): their sizes, and bits of what has none.
-use Rattle.std.specs.Prelude.{ℕ, List, [], ◌∷◌, map, drop, slice_get, Option, None, option_map, option_and_then}
+use Rattle.std.specs.Prelude.{ℕ, List, [], ◌∷◌, map, drop, slice_get, Option, None, unwrap_or, option_map}
 use Rattle.std.specs.Option.{option_or}
 use Rattle.vbits.specs.declared.bit4.Bit4.TheVariants.{X}
 use Rattle.vbits.specs.Vectors.{Vector, filled}
@@ -26,9 +26,9 @@ abbrev pub blank_moment : List Variable → Moment
 blank_moment variables = record { values = map blank variables; variables = variables; time = 0; factor = 1 }
 
 -- the first that is wrong
-abbrev pub first_of : {A : Type 0} → (A → Option Flaw) → List A → Option Flaw
-first_of flaw [] = None
-first_of flaw (one ∷ more) = option_or (flaw one) (first_of flaw more)
+abbrev pub first_flaw : {A : Type 0} → (A → Option Flaw) → List A → Option Flaw
+first_flaw flaw [] = None
+first_flaw flaw (one ∷ more) = option_or (flaw one) (first_flaw flaw more)
 
 abbrev pub branch_flaw : Moment → Branch → Option Flaw
 branch_flaw now branch = flaw_of now branch.item
@@ -48,7 +48,7 @@ action_flaw now (Held amount targets value) = option_or (flaw_of now amount) (as
 action_flaw now (Posted amount targets value) = option_or (flaw_of now amount) (assignment_flaw now targets value)
 action_flaw now (Trigger event) = None
 action_flaw now (Test condition when_true otherwise) = flaw_of now condition
-action_flaw now (Case kind value branches otherwise) = option_or (flaw_of now value) (first_of (branch_flaw now) branches)
+action_flaw now (Case kind value branches otherwise) = option_or (flaw_of now value) (first_flaw (branch_flaw now) branches)
 action_flaw now (Again condition body) = flaw_of now condition
 action_flaw now (Repeat count body) = flaw_of now count
 action_flaw now (Forever body) = None
@@ -56,7 +56,7 @@ action_flaw now (Delay amount body) = flaw_of now amount
 action_flaw now (On terms body) = None
 action_flaw now (Until condition terms body) = flaw_of now condition
 action_flaw now (Drive net value terms) = flaw_of now value
-action_flaw now (Print when pieces) = first_of (piece_flaw now) pieces
+action_flaw now (Print when pieces) = first_flaw (piece_flaw now) pieces
 action_flaw now (DumpVars selection) = None
 action_flaw now (Dump switch) = None
 action_flaw now Pass = None
@@ -69,7 +69,7 @@ action_flaw now Stop = None
 abbrev pub table_fault : (Action → Option Rule) → List Action → List (Option ℕ) → Option ElabFault
 table_fault rule [] words = None
 table_fault rule (action ∷ more) words =
-    option_or (option_map (λ r. record { rule = r; at = option_and_then (λ w. w) (slice_get words 0) }) (rule action))
+    option_or (option_map (λ r. record { rule = r; at = unwrap_or (slice_get words 0) None }) (rule action))
     (table_fault rule more (drop 1 words))
 
 -- whether an expression of it is wrong

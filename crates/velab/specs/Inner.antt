@@ -49,8 +49,8 @@ use Rattle.vdesign.specs.declared.action.Branch.{Branch}
 abbrev pub names_of : ItemTree → List Word
 names_of item = map (λ d. d.name) (declarations_of item)
 
-abbrev pub names_in : List ItemTree → List Word
-names_in items = map (λ d. d.name) (flat_map declarations_of items)
+abbrev pub declared_in : List ItemTree → List Word
+declared_in items = map (λ d. d.name) (flat_map declarations_of items)
 
 -- the table was laid on, and these places put behind others
 pub record IsLaid (what : Laid) (before : List ℕ) (table_after : Table) (places_after : List ℕ) : Type 0 where
@@ -137,7 +137,7 @@ abbrev pub port_texts : List Text → List PortForm → List Word
 port_texts words ports = map (λ p. p.name) (map (port_form words) ports)
 
 abbrev pub names_before : List Text → List PortForm → List ModuleItem → List Word
-names_before words ports items = port_texts words ports ++ names_in (map (item_tree words) items)
+names_before words ports items = port_texts words ports ++ declared_in (map (item_tree words) items)
 
 -- a statement laid on a table, statements, and the statement of an item
 abbrev pub laid_of : List Text → Scope → Table → Statement → Laid
@@ -200,8 +200,8 @@ abbrev pub HaveLaid : {A B T E : Type 0} → Result T E → Processes → Vec (L
 HaveLaid result what before table after = OnOk result (AreLaid what before.items table after.items)
 
 -- the bounds of a range, where there is one
-abbrev pub bounds_for : List Text → Scope → Option Written → Option Bounds
-bounds_for words scope range = option_map (bounds_of scope) (option_map (range_tree words) range)
+abbrev pub written_bounds : List Text → Scope → Option Written → Option Bounds
+written_bounds words scope range = option_map (bounds_of scope) (option_map (range_tree words) range)
 
 -- a variable declared in this form
 abbrev pub variable_in : Home → Form → Text → design.Variable

@@ -5,7 +5,7 @@ ghost use Rattle.vast.specs.NumberedTrees.{item_tree};
 ghost use Rattle.vexpr_parse.specs.Texts.{words_of};
 ghost use Rattle.vmodules.specs.Names.{again_behind, first_again, has_double, letters_of};
 ghost use Rattle.vmodules.specs.Inner.{with_words};
-ghost use Rattle.velab.specs.Inner.{names_in, names_of, names_before, port_texts, texts_of, DoublesIn};
+ghost use Rattle.velab.specs.Inner.{declared_in, names_of, names_before, port_texts, texts_of, DoublesIn};
 
 use crate::fault::ElabFault;
 use crate::names::note;
@@ -101,11 +101,11 @@ fn add_items<'t>(
     items: &[ModuleItem],
     into: &mut Names<'t>,
 ) -> Result<(), OrMemory<ElabFault>>
-    ensures ok { OnOk result (into.new ≡ with_words into.old (names_in (map (item_tree
+    ensures ok { OnOk result (into.new ≡ with_words into.old (declared_in (map (item_tree
         (words_of tokens.now)) items.now))) }
-    ensures right { OnOk result (again_behind into.old (names_in (map (item_tree
+    ensures right { OnOk result (again_behind into.old (declared_in (map (item_tree
         (words_of tokens.now)) items.now)) ≡ None) }
-    ensures err { IfFault result (DoublesIn into.old (names_in (map (item_tree
+    ensures err { IfFault result (DoublesIn into.old (declared_in (map (item_tree
         (words_of tokens.now)) items.now))) }
 {
     for item in items {

@@ -5,7 +5,7 @@ ghost use Rattle.vast.specs.NumberedTrees.{tree_of};
 ghost use Rattle.vast.specs.NumberedTrees.{range_tree};
 ghost use Rattle.vexpr_parse.specs.Texts.{words_of};
 ghost use Rattle.velab.specs.Elaborate as spec;
-ghost use Rattle.velab.specs.Inner.{bounds_for, IsNarrow};
+ghost use Rattle.velab.specs.Inner.{written_bounds, IsNarrow};
 ghost use Rattle.velab.specs.Rules.{IsBroken};
 
 use crate::constant::{bound_in, nothing};
@@ -90,7 +90,7 @@ pub fn range_bounds(
     tokens: &Tokens<'_>,
     range: &Option<Written>,
 ) -> Result<Option<Bounds>, OrMemory<ElabFault>>
-    ensures ok { IfOk result (λ bounds. bounds ≡ bounds_for (words_of tokens.now) scope.now
+    ensures ok { IfOk result (λ bounds. bounds ≡ written_bounds (words_of tokens.now) scope.now
         range.now) }
     ensures few { IfOk result IsNarrow }
     ensures right { OnOk result (spec.broken_range scope.now

@@ -1,6 +1,6 @@
 // What is wrong with the expressions of actions (IEEE 1364-2005, 5.1.14, 5.2.1).
 
-ghost use Rattle.std.specs.Prelude.{◌≡◌, map, slice_get, option_and_then, None, IfOk, OnOk};
+ghost use Rattle.std.specs.Prelude.{◌≡◌, map, slice_get, unwrap_or, None, IfOk, OnOk};
 ghost use Rattle.basis.specs.Reasons.{IfFault};
 ghost use Rattle.std.specs.Option.{option_or};
 ghost use Rattle.vvalue.specs.Flaws.{flaw_of as spec_flaw_of};
@@ -31,7 +31,7 @@ fn blanks(alloc: Global, variables: &[Variable]) -> Result<Vec<Vec4>, NoMemory>
 }
 
 fn branches_flaw(branches: &[Branch], moment: &Moment<'_>) -> Option<Flaw>
-    ensures { result ≡ spec.first_of (spec.branch_flaw moment.now) branches.now }
+    ensures { result ≡ spec.first_flaw (spec.branch_flaw moment.now) branches.now }
 {
     for branch in branches {
         if let Some(flaw) = flaw_of(&branch.item, moment) {
@@ -51,7 +51,7 @@ fn piece_flaw(piece: &Piece, moment: &Moment<'_>) -> Option<Flaw>
 }
 
 fn pieces_flaw(pieces: &[Piece], moment: &Moment<'_>) -> Option<Flaw>
-    ensures { result ≡ spec.first_of (spec.piece_flaw moment.now) pieces.now }
+    ensures { result ≡ spec.first_flaw (spec.piece_flaw moment.now) pieces.now }
 {
     for piece in pieces {
         if let Some(flaw) = piece_flaw(piece, moment) {
@@ -125,7 +125,7 @@ fn action_flaw(action: &Action, moment: &Moment<'_>) -> Option<Flaw>
 
 /// The number of the word at this place, if there is one.
 pub fn word_at(words: &[Option<u32>], place: usize) -> Option<u32>
-    ensures { result ≡ option_and_then (λ w. w) (slice_get words.now place) }
+    ensures { result ≡ unwrap_or (slice_get words.now place) None }
 {
     match words.get(place) {
         None => None,

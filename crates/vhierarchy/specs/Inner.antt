@@ -60,13 +60,13 @@ abbrev pub outputs_by : List Text → List Found → List Word
 outputs_by words list = flat_map driven_outside (wanted_trees words list)
 
 -- the names that something drives in an instance, and the nets among them
-abbrev pub driven_by : List Text → List Tie → List PortForm → List ModuleItem → List Found → List Word
-driven_by words ties ports items wanted = (inputs_of words ties ports ++ item_drivers words items) ++ outputs_by words wanted
+abbrev pub words_driven : List Text → List Tie → List PortForm → List ModuleItem → List Found → List Word
+words_driven words ties ports items wanted = (inputs_of words ties ports ++ item_drivers words items) ++ outputs_by words wanted
 
 abbrev pub nets_driven : List Text → List Tie → List PortForm → List ModuleItem → List Found → List Word
 nets_driven words ties ports items wanted =
     filter (λ net. is_declared (nets_of (map (port_form words) ports) (map (item_tree words) items)) net.letters)
-    (driven_by words ties ports items wanted)
+    (words_driven words ties ports items wanted)
 
 -- the instances of items
 abbrev pub found_in : Units → ℕ → List ModuleItem → List Wanted

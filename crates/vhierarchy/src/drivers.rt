@@ -6,7 +6,7 @@ ghost use Rattle.vast.specs.NumberedTrees.{item_tree};
 ghost use Rattle.vexpr_parse.specs.Texts.{words_of};
 ghost use Rattle.vmodules.specs.Names.{first_again, letters_of};
 ghost use Rattle.velab.specs.Inner.{BreaksDrivers, driver_names};
-ghost use Rattle.vhierarchy.specs.Inner.{inputs_of, outputs_of, outputs_by, driven_by, nets_driven};
+ghost use Rattle.vhierarchy.specs.Inner.{inputs_of, outputs_of, outputs_by, words_driven, nets_driven};
 
 use crate::wanted::Wanted;
 use basis::{NoMemory, OrMemory};
@@ -140,7 +140,7 @@ fn drivers_of<'t>(
     wanted: &[Wanted<'_, '_>],
 ) -> Result<Vec<Driver<'t>>, NoMemory>
     ensures { IfOk result (λ drivers. driver_names drivers.items ≡
-        driven_by (words_of tokens.now) ties.now ports.now items.now wanted.now) }
+        words_driven (words_of tokens.now) ties.now ports.now items.now wanted.now) }
 {
     let mut drivers = Vec::new(alloc);
     add_inputs(tokens, ties, ports, &mut drivers)?;

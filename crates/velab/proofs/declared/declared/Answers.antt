@@ -12,7 +12,7 @@ use Rattle.vmodules.proofs.ListLemmas.{handed_on}
 use Rattle.velab.specs.declared.fault.Rule.TheVariants.{Doubled}
 use Rattle.velab.specs.declared.fault.ElabFault.{ElabFault}
 use Rattle.velab.specs.Rules.{broken_at, IsBroken}
-use Rattle.velab.specs.Inner.{names_in, port_texts, names_before, DoublesIn}
+use Rattle.velab.specs.Inner.{declared_in, port_texts, names_before, DoublesIn}
 use Rattle.velab.proofs.FaultLemmas.{part_told, both_right}
 use Rattle.velab.proofs.declared.declared.Goals as goal
 
@@ -25,7 +25,7 @@ pub returns-in_err-add_ports-clause-err : goal.returns-in_err-add_ports-clause-e
 returns-in_err-add_ports-clause-err c =
     let words = words_of c.args.tokens.now in
     let ports : List Word = port_texts words c.args.ports.now in
-    let items : List Word = names_in (map (item_tree words) c.args.items.now) in
+    let items : List Word = declared_in (map (item_tree words) c.args.items.now) in
     handed_on (DoublesIn c.new-names.result ports) (DoublesIn [] (names_before words c.args.ports.now c.args.items.now))
     c.from_residual.result c.in_err-add_ports.field-0.0 c.from_residual.ensures.1
     (λ f told. part_told Doubled _ _ _ (sym (again_append [] ports items)) f (ap (λ (l : List Text). broken_at Doubled (again_behind l ports)) (sym c.new-names.ensures) ∙ told))
@@ -35,7 +35,7 @@ pub returns-in_err-add_items-clause-err : goal.returns-in_err-add_items-clause-e
 returns-in_err-add_items-clause-err c =
     let words = words_of c.args.tokens.now in
     let ports : List Word = port_texts words c.args.ports.now in
-    let items : List Word = names_in (map (item_tree words) c.args.items.now) in
+    let items : List Word = declared_in (map (item_tree words) c.args.items.now) in
     handed_on (DoublesIn c.add_ports.new.into items) (DoublesIn [] (names_before words c.args.ports.now c.args.items.now))
     c.from_residual-in_err-add_items.result c.in_err-add_items.field-0.0 c.from_residual-in_err-add_items.ensures.1
     (λ f told. ap (broken_at Doubled) (behind_first ports items c.add_ports.new.into
@@ -47,7 +47,7 @@ pub returns-clause-ok : goal.returns-clause-ok
 returns-clause-ok c =
     let words = words_of c.args.tokens.now in
     let ports : List Word = port_texts words c.args.ports.now in
-    let items : List Word = names_in (map (item_tree words) c.args.items.now) in
+    let items : List Word = declared_in (map (item_tree words) c.args.items.now) in
     c.in_ok-add_items.ensures.ok
     ∙ ap (λ (l : List Text). with_words l items) (c.in_ok-add_ports.ensures.ok ∙ ap (λ (l : List Text). with_words l ports) c.new-names.ensures)
     ∙ sym (map-append (λ (w : Word). w.letters) ports items)
@@ -56,7 +56,7 @@ pub returns-clause-right : goal.returns-clause-right
 returns-clause-right c =
     let words = words_of c.args.tokens.now in
     let ports : List Word = port_texts words c.args.ports.now in
-    let items : List Word = names_in (map (item_tree words) c.args.items.now) in
+    let items : List Word = declared_in (map (item_tree words) c.args.items.now) in
     behind_first ports items c.add_ports.new.into
     (ap (λ (l : List Text). again_behind l ports) (sym c.new-names.ensures) ∙ c.in_ok-add_ports.ensures.right)
     (c.in_ok-add_ports.ensures.ok ∙ ap (λ (l : List Text). with_words l ports) c.new-names.ensures)

@@ -1,6 +1,6 @@
 use Rattle.std.proofs.Common.{◌≡◌, drop}
-use Rattle.velab.specs.ActionFlaws.{first_of, branch_flaw}
+use Rattle.velab.specs.ActionFlaws.{first_flaw, branch_flaw}
 use Rattle.velab.proofs.width.branches_flaw.Given as goal
 
 abbrev pub invariant-loop-branch : goal.invariant-loop-branch
-invariant-loop-branch l = first_of (branch_flaw l.moment) l.branches ≡ first_of (branch_flaw l.moment) (drop l.branch-index l.branches)
+invariant-loop-branch l = first_flaw (branch_flaw l.moment) l.branches ≡ first_flaw (branch_flaw l.moment) (drop l.branch-index l.branches)

@@ -8,14 +8,14 @@ use Rattle.vmodules.specs.Names.{first_again, letters_of}
 use Rattle.vmodules.specs.Inner.{port_form}
 use Rattle.velab.specs.Elaborate.{nets_of}
 use Rattle.velab.specs.Inner.{BreaksDrivers, among, driver_names}
-use Rattle.vhierarchy.specs.Inner.{driven_by, nets_driven}
+use Rattle.vhierarchy.specs.Inner.{words_driven, nets_driven}
 use Rattle.vhierarchy.proofs.DriverLemmas.{same_nets}
 use Rattle.vhierarchy.proofs.drivers.driven_names.Goals as goal
 
 pub returns-clause-ok : goal.returns-clause-ok
 returns-clause-ok c =
     let words : List Text = words_of c.args.tokens.now in
-    let driven : List Word = driven_by words c.args.ties.now c.args.ports.now c.args.items.now c.args.wanted.now in
+    let driven : List Word = words_driven words c.args.ties.now c.args.ports.now c.args.items.now c.args.wanted.now in
     let nets : List Text = nets_of (map (port_form words) c.args.ports.now) (map (item_tree words) c.args.items.now) in
     let same : among c.in_ok-nets.nets c.deref.result.now ≡ nets_driven words c.args.ties.now c.args.ports.now c.args.items.now c.args.wanted.now =
     same_nets c.in_ok-nets.nets nets (driver_names c.deref.result.now) driven c.in_ok-nets.ensures (ap driver_names c.deref.ensures.value ∙ c.in_ok-drivers.ensures) in
@@ -24,7 +24,7 @@ returns-clause-ok c =
 pub returns-clause-right : goal.returns-clause-right
 returns-clause-right c =
     let words : List Text = words_of c.args.tokens.now in
-    let driven : List Word = driven_by words c.args.ties.now c.args.ports.now c.args.items.now c.args.wanted.now in
+    let driven : List Word = words_driven words c.args.ties.now c.args.ports.now c.args.items.now c.args.wanted.now in
     let nets : List Text = nets_of (map (port_form words) c.args.ports.now) (map (item_tree words) c.args.items.now) in
     let same : among c.in_ok-nets.nets c.deref.result.now ≡ nets_driven words c.args.ties.now c.args.ports.now c.args.items.now c.args.wanted.now =
     same_nets c.in_ok-nets.nets nets (driver_names c.deref.result.now) driven c.in_ok-nets.ensures (ap driver_names c.deref.ensures.value ∙ c.in_ok-drivers.ensures) in
@@ -33,7 +33,7 @@ returns-clause-right c =
 pub returns-clause-err : goal.returns-clause-err
 returns-clause-err c =
     let words : List Text = words_of c.args.tokens.now in
-    let driven : List Word = driven_by words c.args.ties.now c.args.ports.now c.args.items.now c.args.wanted.now in
+    let driven : List Word = words_driven words c.args.ties.now c.args.ports.now c.args.items.now c.args.wanted.now in
     let nets : List Text = nets_of (map (port_form words) c.args.ports.now) (map (item_tree words) c.args.items.now) in
     let same : among c.in_ok-nets.nets c.deref.result.now ≡ nets_driven words c.args.ties.now c.args.ports.now c.args.items.now c.args.wanted.now =
     same_nets c.in_ok-nets.nets nets (driver_names c.deref.result.now) driven c.in_ok-nets.ensures (ap driver_names c.deref.ensures.value ∙ c.in_ok-drivers.ensures) in
