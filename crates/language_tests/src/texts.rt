@@ -1,6 +1,7 @@
 // From the bytes of files to places, tokens, trees and steps.
 
-use basis::Timescale;
+use basis::{OrMemory, Timescale};
+use sched_core::{Log, ReplayFault};
 use std::alloc::Global;
 use std::test::Fail;
 use vast::module::{ModuleItem, ModuleTree, TextTree};
@@ -11,7 +12,8 @@ use vbits::Vec4;
 use vdesign::design::Design;
 use vhierarchy::elaborate;
 use vlex::{TokenKind, Tokens, tokens};
-use vmodel::history::{Grain, Item};
+use vmachine::Machine;
+use vmodel::history::{Cause, Grain, Item};
 use vmodel::{opening, slow_step, slow_width};
 use vparse::parse;
 use vsrc::{Expanded, Place, expand};
@@ -207,6 +209,26 @@ fn plain_steps_leave_their_state(rt: HostRuntime) -> Result<(), Fail> {
         let (_third, items) = slow_step(alloc, &design, &second, 0)?;
         assert!(rt; slot_end(&items) == Some([Vec4::from_u64(1, 1)].as_slice()));
     }
+    Ok(())
+}
+
+// The first two steps are in the slot of time 0, which ends; the last two in that of time 5, which `$finish` cuts short.
+#[test]
+fn history_of_a_run(rt: HostRuntime) -> Result<(), Fail> {
+    let alloc = rt.alloc();
+    let design = design(
+        alloc,
+        b"module tb; reg a; initial begin a = 1; #5 a = 0; $finish; end endmodule",
+    )?;
+    let machine = Machine::new(alloc, design, 100, Grain::Process)?;
+    let history = machine.history(&Log::new(alloc), 5)?;
+    assert_eq!(rt; history.items.len(), 1);
+    assert!(rt; slot_end(&history.items) == Some([Vec4::from_u64(1, 1)].as_slice()));
+    assert_eq!(rt; history.end.time, 5);
+    assert!(rt; history.end.cause == Cause::Finish);
+    assert!(rt; history.values.as_slice() == [Vec4::from_u64(1, 0)].as_slice());
+    let short = machine.history(&Log::new(alloc), 4);
+    assert!(rt; matches!(&short, Err(OrMemory::Fault(ReplayFault::TooManySteps))));
     Ok(())
 }
 
