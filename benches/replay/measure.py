@@ -1,5 +1,5 @@
 #!/usr/bin/env python3
-"""Counts what the program costs, a byte of text read, a step taken, and a byte of dump written.
+"""Counts what the program costs: a byte of text read, a design made, a step taken, and a byte of a dump or of lines written.
 
 Usage: benches/replay/measure.py [PATH_OF_vrace_program]
 
@@ -7,9 +7,13 @@ Reading: ordinary text of many modules, of which the top does nothing, so that t
 difference between a long text and a short one. The same of modules with constructs of the whole grammar, which the top
 doesn't reach, and with a string left open at their end, so that they are cut into tokens alone (E101). Refusals: texts
 of one piece repeated, which is as bad as a text can be. Steps: one process of many assignments, blocking or all posted at one time, and
-no dump. Dumps: one process that waits 1 and changes a bit, and the same without `$dumpvars`; the difference is the dump. Status 1 where a
-byte read costs more than 400 instructions, a byte cut into tokens more than 150, twice the steps more than 2.2 times, a byte written
-more than 150, or a byte of text more than 60 bytes of memory at the peak.
+no dump; and 17 processes over 65 variables, each of which waits 1, or 16 of them for a clock, adds and copies, by the steps that a trace
+tells. Dumps: one process that waits 1 and changes a bit, and the same without `$dumpvars`; the difference is the dump. Lines: short
+ones by `$display` with three arguments. Elaboration: instances with a parameter and a net, and variables with an assignment to each.
+
+Status 1 where a byte read costs more than 400 instructions, a byte cut into tokens more than 150, twice the steps, the instances or the
+variables more than 2.2 times, a step of the 17 processes more than 6,000, a byte of dump more than 150, a byte of a line more than 300, or
+a byte of text more than 60 bytes of memory at the peak.
 """
 import sys
 from pathlib import Path
@@ -76,9 +80,11 @@ def shared(head):
 
 
 def printing(count):
+    """Lines of 17 bytes, one a step, but for one step more each ten."""
+    lines = '$display("at %d: %h, %0d", a, b, c); ' * 10
     return (
         "module tb; reg [15:0] a; reg [7:0] b; reg signed [31:0] c; initial begin a = 1; b = 8'h5x; c = -5; "
-        f'repeat ({count}) $display("at %d: %h, %0d", a, b, c); end endmodule').encode()
+        f"repeat ({count // 10}) begin {lines} end end endmodule").encode()
 
 
 def instances(count):
