@@ -8,3 +8,4 @@ mod ReadLemmas
 mod LawLemmas
 mod CheckLawLemmas
 mod AgreementLemmas
+mod SeenLemmas

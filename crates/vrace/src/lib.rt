@@ -15,7 +15,6 @@ mod options;
 mod read;
 mod replay;
 mod trace;
-mod unwatched;
 
 pub use checking::check_text;
 pub use explore::Reason;

@@ -17,14 +17,13 @@ use crate::design::placed_design_of;
 use crate::fault::Fault;
 use crate::lines::write_lines;
 use crate::options::Options;
-use crate::unwatched::Unwatched;
 use basis::OrMemory;
-use sched_core::{Log, LogFault, LogHead, ReplayFault, read_named_log};
+use sched_core::{Log, LogFault, LogHead, ReplayFault, read_named_log, replay};
 use std::alloc::Global;
 use std::io::Write;
 use trace_text::Origins;
 use vcd_text::{Metered, WriteFault};
-use vmachine::{Machine, RunFault};
+use vmachine::{Machine, machine_law};
 use vmodel::history::Grain;
 use vreport::write_dump;
 
@@ -71,11 +70,10 @@ pub(crate) fn see_end(machine: &Machine, log: &Log, steps: u32) -> Result<(), Fa
     ensures ends { OnOk result ((n : ℕ) × (end : End) × Finishes machine.now log.now steps n end) }
     ensures reason { IfErr result (λ fault. IsRunFault machine.now log.now steps fault) }
 {
-    let mut sink = Unwatched;
-    match machine.run_into(log, steps, &mut sink) {
+    machine_law();
+    match replay(machine, log, steps) {
         Ok(_) => Ok(()),
-        Err(OrMemory::Fault(RunFault::Replay(fault))) => Err(of_replay(fault)),
-        Err(OrMemory::Fault(RunFault::Sink(never))) => match never {},
+        Err(OrMemory::Fault(fault)) => Err(of_replay(fault)),
         Err(OrMemory::Memory(refused)) => Err(Fault::Memory(refused)),
     }
 }
