@@ -2,9 +2,9 @@
 use Rattle.std.proofs.Common.{◌≡◌, ◌≢◌, ℕ, zero, suc, ◌+◌, ◌-◌, ◌*◌, ◌%◌, ◌^◌, ◌<◌, ◌≤◌, Bool, true, false, ◌&&◌, ◌==◌, nat_lt, cond, List, [], ◌∷◌, length, drop, refl, sym, ap, subst, ◌∙◌, arith, bit_or, bit_and, Some, None}
 use Rattle.std.specs.Prelude.{slice_get, nat_eq}
 use Rattle.std.specs.Cmp.Lexicographic.{pointwise}
-use Rattle.std.specs.Int.{bit_at, bit_not, w128}
+use Rattle.std.specs.Int.{bit_at, bit_not, trailing_zeros, w128}
 use Rattle.std.proofs.lemmas.Bool.Decides.{nat_tests}
-use Rattle.std.proofs.lemmas.Nat.Bits.{bit_at_set_same, bit_at_set_other, bit_at_clear_same, bit_at_clear_other, bit_at-zero, bit_at-lt, same_from_bits_below}
+use Rattle.std.proofs.lemmas.Nat.Bits.{bit_at_set_same, bit_at_set_other, bit_at_clear_same, bit_at_clear_other, bit_at-zero, bit_at-lt, bit_at-trailing_zeros, same_from_bits_below}
 use Rattle.vmodel.specs.ProcessSets.{has, listed, members, rises}
 use Rattle.vmodel.specs.Queue.{with_process, without_process}
 use Rattle.vmodel.proofs.ProcessLemmas.{less, equal, more, compared, with_less, with_same, with_more, without_same, without_other, same, rises_from, rises_lower, rises_parts, is_lt, not_lt, lt_true, lt_false}
@@ -347,25 +347,71 @@ members_some low high p few is = by (nat_lt p 128) refl
     by true lt = omega (arith, members_shorter low high _ _ p few is (clear_low low high p (lt_true p 128 lt)))
     by false le = omega (arith, members_shorter low high _ _ p few is (clear_high low high p (lt_false p 128 le) few))
 
--- ---- the number at a place
+-- without it there is one less
+pub length_without : (low high p : ℕ) → p < 256 → has low high p ≡ true → length (members low high) ≡ suc (length (without_process p (members low high)))
+length_without low high p few is = by (nat_lt p 128) refl
+  where
+    from : (low' high' : ℕ) → ClearedOne low high low' high' p → length (members low high) ≡ suc (length (without_process p (members low high)))
+    from low' high' cleared =
+        members_shorter low high low' high' p few is cleared
+        ∙ ap (λ (ns : List ℕ). suc (length ns)) (members_without low high low' high' p few cleared)
 
-module _ (low high n left count : ℕ) (test : Bool) where
-  pub listed_skips : test ≡ has low high n → test ≡ false → slice_get (listed (has low high) (suc count) n) left ≡ slice_get (listed (has low high) count (suc n)) left
-  listed_skips is isnt = ap (λ ns. slice_get ns left) (listed_unless (has low high) count n (sym is ∙ isnt))
+    by : (b : Bool) → nat_lt p 128 ≡ b → length (members low high) ≡ suc (length (without_process p (members low high)))
+    by true lt = from _ _ (clear_low low high p (lt_true p 128 lt))
+    by false le = from _ _ (clear_high low high p (lt_false p 128 le) few)
 
-  pub listed_finds : test ≡ has low high n → test ≡ true → left ≡ 0 → slice_get (listed (has low high) (suc count) n) left ≡ Some n
-  listed_finds is true_is none = ap (λ ns. slice_get ns left) (listed_when (has low high) count n (sym is ∙ true_is)) ∙ ap (slice_get (n ∷ listed (has low high) count (suc n))) none
+-- ---- the lowest number
 
-  pub listed_counts : test ≡ has low high n → test ≡ true → 1 ≤ left → slice_get (listed (has low high) (suc count) n) left ≡ slice_get (listed (has low high) count (suc n)) (left - 1)
-  listed_counts is true_is some =
-      let back : left ≡ suc (left - 1) = omega (arith, some) in
-      ap (λ ns. slice_get ns left) (listed_when (has low high) count n (sym is ∙ true_is)) ∙ ap (slice_get (n ∷ listed (has low high) count (suc n))) back
+-- the first number of a list is the first of which the test says yes
+listed_first : (f : ℕ → Bool) (p count from : ℕ) → from ≤ p → p < from + count → f p ≡ true → ((n : ℕ) → n < p → f n ≡ false) →
+    slice_get (listed f count from) 0 ≡ Some p
+listed_first f p zero from above below is before = absurd (omega (arith, above, below))
+listed_first f p (suc count) from above below is before =
+    elim (compared from p) [
+      | less lt ↦ ap (λ ns. slice_get ns 0) (listed_unless f count from (before from lt))
+          ∙ listed_first f p count (suc from) (omega (arith, lt)) (omega (arith, below)) is before
+      | equal e ↦ ap (λ ns. slice_get ns 0) (listed_when f count from (ap f e ∙ is)) ∙ ap Some e
+      | more gt ↦ absurd (omega (arith, gt, above))
+    ]
 
-pub listed_ends : (low high n left i : ℕ) → 256 ≤ n → slice_get (listed (has low high) (256 - n) n) left ≡ slice_get (members low high) i →
-    None ≡ slice_get (members low high) i
-listed_ends low high n left i le so_far =
-    let none : 256 - n ≡ 0 = omega (arith, le) in
-    sym (ap (λ ns. slice_get ns left) (listed_none (has low high) n)) ∙ sym (ap (λ m. slice_get (listed (has low high) m n) left) none) ∙ so_far
+-- a bit that is 0 or 1, as the test has it
+bit_isnt : (b : ℕ) → b ≡ 0 → (b == 1) ≡ false
+bit_isnt b e = ap (λ c. c == 1) e
+
+bit_is : (b : ℕ) → b ≡ 1 → (b == 1) ≡ true
+bit_is b e = ap (λ c. c == 1) e
+
+pub lowest_low : (low high : ℕ) → 0 < low → low < 2 ^ 128 → slice_get (members low high) 0 ≡ Some (trailing_zeros w128 low)
+lowest_low low high some fits =
+    let p : ℕ = trailing_zeros w128 low in
+    let found : (p < 128) × (bit_at low p ≡ 1) × ((i : ℕ) → i < p → bit_at low i ≡ 0) = bit_at-trailing_zeros w128 low some fits in
+    ap (λ ns. slice_get ns 0) (members_are low high)
+    ∙ listed_first (has low high) p 256 0 (omega arith) (omega (arith, found.0))
+    (has_low low high p found.0 ∙ bit_is (bit_at low p) found.1)
+    (λ n lt. has_low low high n (omega (arith, lt, found.0)) ∙ bit_isnt (bit_at low n) (found.2 n lt))
+
+has_none_low : (high n : ℕ) → n < 128 → has 0 high n ≡ false
+has_none_low high n lt = has_low 0 high n lt ∙ bit_isnt (bit_at 0 n) (bit_at-zero n)
+
+pub lowest_high : (low high : ℕ) → low ≡ 0 → 0 < high → high < 2 ^ 128 → slice_get (members low high) 0 ≡ Some (128 + trailing_zeros w128 high)
+lowest_high low high none some fits =
+    let p : ℕ = trailing_zeros w128 high in
+    let found : (p < 128) × (bit_at high p ≡ 1) × ((i : ℕ) → i < p → bit_at high i ≡ 0) = bit_at-trailing_zeros w128 high some fits in
+    let back : 128 + p - 128 ≡ p = omega arith in
+    ap (λ l. slice_get (members l high) 0) none
+    ∙ ap (λ ns. slice_get ns 0) (members_are 0 high)
+    ∙ listed_first (has 0 high) (128 + p) 256 0 (omega arith) (omega (arith, found.0))
+    (has_high 0 high (128 + p) (omega arith) ∙ bit_is (bit_at high (128 + p - 128)) (ap (bit_at high) back ∙ found.1))
+    (λ n lt. before n lt (nat_lt n 128) refl)
+  where
+    before : (n : ℕ) → n < 128 + trailing_zeros w128 high → (b : Bool) → nat_lt n 128 ≡ b → has 0 high n ≡ false
+    before n lt true is = has_none_low high n (lt_true n 128 is)
+    before n lt false is =
+        let le : 128 ≤ n = lt_false n 128 is in
+        has_high 0 high n le ∙ bit_isnt (bit_at high (n - 128)) ((bit_at-trailing_zeros w128 high some fits).2 (n - 128) (omega (arith, lt, le)))
+
+pub lowest_none : (low high : ℕ) → low ≡ 0 → high ≡ 0 → None ≡ slice_get (members low high) 0
+lowest_none low high none none' = sym (ap (λ l. slice_get (members l high) 0) none ∙ ap (λ h. slice_get (members 0 h) 0) none' ∙ ap (λ ns. slice_get ns 0) members_none)
 
 -- ---- tests of all numbers
 
@@ -417,17 +463,3 @@ module _ (low high low' high' : ℕ) (low_fits : low < 2 ^ 128) (low_fits' : low
           ∙ pointwise_self (members low high))
       by false true is at = absurd (nat_eq_isnt high high' is (listed_same at).1)
       by false false is at = is ∙ sym at
-
--- ---- a turn of the loop
-
-pub listed_step : (low high n next left left' i : ℕ) → n < 256 → next ≡ suc n →
-    slice_get (listed (has low high) (256 - n) n) left ≡ slice_get (members low high) i →
-    slice_get (listed (has low high) (suc (256 - suc n)) n) left ≡ slice_get (listed (has low high) (256 - suc n) (suc n)) left' →
-    slice_get (listed (has low high) (256 - next) next) left' ≡ slice_get (members low high) i
-listed_step low high n next left left' i lt is so_far turn =
-    let one : suc (256 - suc n) ≡ 256 - n = omega (arith, lt) in
-    ap (λ m. slice_get (listed (has low high) (256 - m) m) left') is
-    ∙ sym turn ∙ ap (λ m. slice_get (listed (has low high) m n) left) one ∙ so_far
-
-pub listed_begin : (low high i : ℕ) → slice_get (listed (has low high) 256 0) i ≡ slice_get (members low high) i
-listed_begin low high i = ap (λ ns. slice_get ns i) (sym (members_are low high))

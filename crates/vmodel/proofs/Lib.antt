@@ -17,3 +17,4 @@ mod TimesLemmas
 mod EndsLemmas
 mod ShownLemmas
 mod WrittenLemmas
+mod DigestLemmas

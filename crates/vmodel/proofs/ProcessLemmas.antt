@@ -1,5 +1,6 @@
 -- Sets of processes as rising lists.
-use Rattle.std.proofs.Common.{◌≡◌, ◌≢◌, ℕ, zero, suc, ◌+◌, ◌<◌, ◌≤◌, Bool, true, false, ◌&&◌, ◌==◌, nat_le, nat_lt, List, [], ◌∷◌, length, get_or, refl, ap, ◌∙◌, arith}
+use Rattle.std.proofs.Common.{◌≡◌, ◌≢◌, ℕ, zero, suc, ◌+◌, ◌<◌, ◌≤◌, Bool, true, false, ◌&&◌, ◌==◌, nat_le, nat_lt, List, [], ◌∷◌, length, drop, get_or, Some, refl, ap, ◌∙◌, arith}
+use Rattle.std.specs.Prelude.{slice_get}
 use Rattle.std.proofs.lemmas.Bool.Decides.{nat_tests}
 use Rattle.vmodel.specs.ProcessSets.{rises}
 use Rattle.vmodel.specs.Queue.{with_process, without_process}
@@ -125,3 +126,10 @@ without_far p low [] h far = refl
 without_far p low (q ∷ qs) h far =
     let parts = rises_parts low q qs h in
     without_other p q qs (omega (arith, parts.1, far)) ∙ ap (λ rest. q ∷ rest) (without_far p (suc q) qs parts.2 far)
+
+-- the lowest of a set is its first
+pub without_first : (low p : ℕ) (ps : List ℕ) → rises low ps ≡ true → slice_get ps 0 ≡ Some p → without_process p ps ≡ drop 1 ps
+without_first low p [] h first = cc
+without_first low p (q ∷ qs) h first =
+    let same_one : p ≡ q = cc in
+    without_same p q qs same_one ∙ without_above p (suc q) qs (rises_parts low q qs h).2 (omega (arith, same_one))

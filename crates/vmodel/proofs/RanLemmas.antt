@@ -1,6 +1,7 @@
 -- A step of a process, from its parts.
-use Rattle.std.proofs.Common.{◌≡◌, ℕ, List, [], ◌∷◌, map, Option, Some, None, refl, sym, ap, ◌∙◌}
-use Rattle.std.specs.Prelude.{slice_get, slice_set}
+use Rattle.std.proofs.Common.{◌≡◌, ℕ, suc, true, false, ◌==◌, List, [], ◌∷◌, length, map, Option, Some, None, refl, sym, ap, ◌∙◌, arith}
+use Rattle.std.proofs.lemmas.Bool.Decides.{nat_tests}
+use Rattle.std.specs.Prelude.{slice_get, slice_set, is_some}
 use Rattle.vbits.specs.Vectors.{Vector}
 use Rattle.vdesign.specs.Design.{Design}
 use Rattle.vdesign.specs.declared.action.Action.{Action}
@@ -31,6 +32,22 @@ written_same design wrote s values is same =
     ap (with_values s) is
     ∙ woken_none design (with_values s (written wrote s.values))
     ∙ ap (λ (before : List Vector). woken design before None (with_values s (written wrote s.values))) (sym (same ∙ is))
+
+no_event : (event : Option ℕ) → is_some event ≡ false → event ≡ None
+no_event None h = refl
+no_event (Some event) h = cc
+
+no_part : (wrote : List Part) → (length wrote == 0) ≡ true → wrote ≡ []
+no_part [] h = refl
+no_part (part ∷ parts) h = let none : suc (length parts) ≡ 0 = grind (arith, nat_tests) in absurd (omega (arith, none))
+
+-- nothing is written, and no event is triggered
+pub written_nothing : (design : Design) (wrote : List Part) (event : Option ℕ) (s : State) → (length wrote == 0) ≡ true → is_some event ≡ false →
+    s ≡ woken design s.values event (with_values s (written wrote s.values))
+written_nothing design wrote event s none nobody =
+    woken_none design s
+    ∙ ap (λ (e : Option ℕ). woken design s.values e s) (sym (no_event event nobody))
+    ∙ ap (λ (parts : List Part). woken design s.values event (with_values s (written parts s.values))) (sym (no_part wrote none))
 
 pub written_changed : (design : Design) (wrote : List Part) (s : State) (values : List Vector) (news : News) → values ≡ written wrote s.values → AreChanges news.changes s.values values →
     record s {

@@ -1,10 +1,14 @@
 // What the hash of a state is fed (specs/Digest.antt).
 
 ghost use Rattle.std.specs.Prelude.{◌≡◌, slice_get};
-ghost use Rattle.vmodel.specs.Digest.{mixed, values_mixed, stand_of as stand_of_spot, processes_mixed};
+ghost use Rattle.vmodel.specs.Digest.{mixed, end_mixed, vector_mixed, values_mixed, stand_of as stand_of_spot, processes_mixed, numbers_ended, part_mixed, parts_mixed, updates_mixed, updates_ended, time_mixed, future_mixed, last_mixed, acting_mixed, waiting_mixed, queue_mixed};
 
+use crate::part::{Kept, Part, Parts};
 use crate::process::{Process, Spot};
+use crate::process_set::ProcessSet;
+use crate::queue::{Future, Queue};
 use crate::state::SlowState;
+use std::collections::VecDeque;
 use std::hash::{Hash, Hasher};
 use vbits::Vec4;
 
@@ -18,13 +22,20 @@ fn mix(digest: u64, word: u64) -> u64
     digest.wrapping_add(word).wrapping_mul(FACTOR)
 }
 
+// A vector, by its two planes.
+fn mix_vector(digest: u64, value: Vec4) -> u64
+    ensures { result ≡ vector_mixed digest value }
+{
+    let (known, unknown) = value.planes();
+    mix(mix(digest, known), unknown)
+}
+
 fn mix_values(first: u64, values: &[Vec4]) -> u64
     ensures { result ≡ values_mixed first values.now }
 {
     let mut digest = first;
     for value in values {
-        let (known, unknown) = value.planes();
-        digest = mix(mix(digest, known), unknown);
+        digest = mix_vector(digest, *value);
     }
     digest
 }
@@ -51,7 +62,131 @@ fn mix_processes(first: u64, processes: &[Process]) -> u64
     digest
 }
 
-/// A hash is fed one number made of the time, the values and where the processes stand.
+// The end of a list.
+fn mix_end(digest: u64) -> u64
+    ensures { result ≡ end_mixed digest }
+{
+    mix(digest, 256)
+}
+
+fn mix_set(first: u64, set: &ProcessSet) -> u64
+    ensures { result ≡ numbers_ended first set.now }
+{
+    let mut digest = first;
+    let mut rest = set.copy();
+    while let Some(process) = rest.take_first() {
+        digest = mix(digest, process as u64);
+    }
+    mix_end(digest)
+}
+
+fn mix_places(first: u64, places: &[usize]) -> u64
+    ensures { result ≡ numbers_ended first places.now }
+{
+    let mut digest = first;
+    for place in places {
+        digest = mix(digest, *place as u64);
+    }
+    mix_end(digest)
+}
+
+fn mix_part(digest: u64, part: Part) -> u64
+    ensures { result ≡ part_mixed digest part }
+{
+    match part {
+        Part::Whole { variable, value } => mix_vector(mix(digest, variable as u64), value),
+        Part::Bits {
+            variable,
+            low,
+            value,
+        } => mix_vector(mix(mix(digest, variable as u64), low as u64), value),
+    }
+}
+
+fn mix_list(first: u64, parts: &[Part]) -> u64
+    ensures { result ≡ parts_mixed first parts.now }
+{
+    let mut digest = first;
+    for part in parts {
+        digest = mix_part(digest, *part);
+    }
+    digest
+}
+
+fn mix_parts(digest: u64, parts: &Parts) -> u64
+    ensures { result ≡ parts_mixed digest parts.now }
+{
+    match parts.kept() {
+        Kept::One(part) => mix_part(digest, part),
+        Kept::Many(list) => mix_list(digest, list),
+    }
+}
+
+fn mix_slice(first: u64, updates: &[Parts]) -> u64
+    ensures { result ≡ updates_mixed first updates.now }
+{
+    let mut digest = first;
+    for parts in updates {
+        digest = mix_parts(digest, parts);
+    }
+    digest
+}
+
+#[tactic(auto, using(crate::proofs::DigestLemmas::updates_joined))]
+fn mix_updates(digest: u64, updates: &VecDeque<Parts>) -> u64
+    ensures { result ≡ updates_ended digest updates.now.items }
+{
+    let (front, back) = updates.as_slices();
+    mix_end(mix_slice(mix_slice(digest, front), back))
+}
+
+fn mix_time(digest: u64, entry: &Future) -> u64
+    ensures { result ≡ time_mixed digest entry.now }
+{
+    let woken = mix_set(mix(digest, entry.time), &entry.processes);
+    mix_updates(woken, &entry.updates)
+}
+
+fn mix_future(first: u64, future: &[Future]) -> u64
+    ensures { result ≡ future_mixed first future.now }
+{
+    let mut digest = first;
+    for entry in future {
+        digest = mix_time(digest, entry);
+    }
+    digest
+}
+
+fn mix_last(digest: u64, last: Option<u32>) -> u64
+    ensures { result ≡ last_mixed digest last }
+{
+    match last {
+        None => mix_end(digest),
+        Some(process) => mix(digest, process as u64),
+    }
+}
+
+fn mix_acting(digest: u64, queue: &Queue) -> u64
+    ensures { result ≡ acting_mixed digest queue.now }
+{
+    let active = mix_set(mix_last(digest, queue.last), &queue.active);
+    mix_set(active, &queue.inactive)
+}
+
+fn mix_waiting(digest: u64, queue: &Queue) -> u64
+    ensures { result ≡ waiting_mixed digest queue.now }
+{
+    let updates = mix_updates(mix_updates(digest, &queue.activated), &queue.posted);
+    mix_places(updates, &queue.strobes)
+}
+
+fn mix_queue(digest: u64, queue: &Queue) -> u64
+    ensures { result ≡ queue_mixed digest queue.now }
+{
+    mix_future(mix_waiting(mix_acting(digest, queue), queue), &queue.future)
+}
+
+/// A hash is fed one number made of the time, the values, where the processes stand and what the queue holds.
 impl Hash for SlowState {
     ghost use Rattle.std.specs.Hash as fed;
     ghost use Rattle.vmodel.specs.Digest.{digest, fed_alike};
@@ -62,6 +197,7 @@ impl Hash for SlowState {
 
     fn hash<H: Hasher>(&self, state: &mut H) {
         let valued = mix_values(mix(0, self.time()), self.values());
-        state.write_u64(mix_processes(valued, &self.processes));
+        let placed = mix_processes(valued, &self.processes);
+        state.write_u64(mix_queue(placed, &self.queue));
     }
 }

@@ -1,6 +1,6 @@
 // A set of processes, by their numbers.
 
-ghost use Rattle.std.specs.Prelude.{◌==◌, ◌≡◌, ◌<◌, ◌≤◌, [], ℕ, List, length, slice_get, Some, true, false};
+ghost use Rattle.std.specs.Prelude.{◌==◌, ◌≡◌, ◌<◌, ◌≤◌, [], ℕ, List, length, drop, slice_get, Some, true, false};
 ghost use Rattle.std.specs.Option.{ForSome};
 ghost use Rattle.std.specs.Prelude.{nat_eq};
 ghost use Rattle.std.specs.Cmp.Lexicographic.{pointwise};
@@ -145,12 +145,36 @@ impl ProcessSet {
         }
     }
 
+    /// The process of the lowest number, if there is one.
+    pub fn first(&self) -> Option<u32>
+        ensures exact { result ≡ slice_get self.now 0 }
+        ensures few { ForSome result (λ p. p < 256) }
+    {
+        lowest(self.low, self.high)
+    }
+
+    /// Takes out the process of the lowest number, if there is one.
+    pub fn take_first(&mut self) -> Option<u32>
+        ensures first { result ≡ slice_get self.old 0 }
+        ensures rest { self.new ≡ drop 1 self.old }
+    {
+        let process = lowest(self.low, self.high)?;
+        self.remove(process);
+        Some(process)
+    }
+
     /// The process of this place in the order of their numbers, if there is one.
     pub fn get(&self, i: u32) -> Option<u32>
         ensures exact { result ≡ slice_get self.now i }
         ensures few { ForSome result (λ p. p < 256) }
     {
-        listed_at(self.low, self.high, i)
+        let mut rest = self.copy();
+        for _ in 0..i {
+            if rest.take_first().is_none() {
+                return None;
+            }
+        }
+        rest.first()
     }
 
     /// How many processes other than this one are in the set.
@@ -158,9 +182,11 @@ impl ProcessSet {
         ensures exact { result ≡ length (without_process process self.now) }
         ensures few { result ≤ 256 }
     {
-        let mut others = self.copy();
-        others.remove(process);
-        others.len()
+        if process < MOST && has(self.low, self.high, process) {
+            self.count - 1
+        } else {
+            self.count
+        }
     }
 
     /// The process of this place in the order of their numbers, this one left out.
@@ -174,19 +200,16 @@ impl ProcessSet {
     }
 }
 
-// The number of this place among those whose bits are set.
-fn listed_at(low: u128, high: u128, i: u32) -> Option<u32>
-    ensures exact { result ≡ slice_get (members low high) i }
+// The lowest number whose bit is set, if one is.
+fn lowest(low: u128, high: u128) -> Option<u32>
+    ensures exact { result ≡ slice_get (members low high) 0 }
     ensures few { ForSome result (λ p. p < 256) }
 {
-    let mut left = i;
-    for process in 0..MOST {
-        if has(low, high, process) {
-            if left == 0 {
-                return Some(process);
-            }
-            left -= 1;
-        }
+    if low != 0 {
+        Some(low.trailing_zeros())
+    } else if high != 0 {
+        Some(128 + high.trailing_zeros())
+    } else {
+        None
     }
-    None
 }

@@ -217,6 +217,16 @@ impl SlowState {
         self.values.write_all(parts);
     }
 
+    // Where nothing is written and no event is triggered, nobody is asked whether it waits for that.
+    fn write_listed(&mut self, design: &Design, parts: &[Part], triggered: Option<usize>)
+        ensures { self.new ≡ woken design.now self.old.values triggered
+            (record self.old { values = written parts.now self.old.values }) }
+    {
+        if !parts.is_empty() || triggered.is_some() {
+            self.write_many(design, parts, triggered);
+        }
+    }
+
     // What a step wrote is written, and what waits for a change by it, or for the event that it triggers, goes on.
     fn write(&mut self, design: &Design, wrote: &Parts, triggered: Option<usize>)
         ensures { self.new ≡ woken design.now self.old.values triggered
@@ -227,7 +237,7 @@ impl SlowState {
                 None => self.write_one(design, part),
                 Some(_) => self.write_many(design, &[part], triggered),
             },
-            Kept::Many(parts) => self.write_many(design, parts, triggered),
+            Kept::Many(parts) => self.write_listed(design, parts, triggered),
         }
     }
 
