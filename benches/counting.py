@@ -17,13 +17,38 @@ def program_of(crate):
     return str(Path(__file__).resolve().parents[1] / "crates" / crate / "out" / crate)
 
 
-def counted(program, words, text=b""):
-    """Instructions by callgrind, and standard output."""
+def parts_of(names):
+    """The parts that the words behind the program's path name, or all of them."""
+    named = sys.argv[2:] or list(names)
+    unknown = [name for name in named if name not in names]
+    if unknown:
+        sys.exit(f"no part is named {', '.join(unknown)}; there are {', '.join(names)}")
+    return named
+
+
+def counted(program, words, text=b"", at=None):
+    """Instructions by callgrind, and standard output; of a run in the folder `at`, where one is given."""
     with tempfile.TemporaryDirectory() as folder:
         run = subprocess.run(
             ["valgrind", "--tool=callgrind", f"--callgrind-out-file={folder}/out", program, *words],
-            input=text, capture_output=True, check=False)
+            input=text, capture_output=True, check=False, cwd=at)
     return int(re.search(rb"Collected : (\d+)", run.stderr).group(1)), run.stdout
+
+
+def counted_by_vvp(text):
+    """Instructions by callgrind that the `vvp` of Icarus Verilog takes to run a text; None where it isn't installed."""
+    if shutil.which("iverilog") is None or shutil.which("vvp") is None:
+        return None
+    with tempfile.TemporaryDirectory() as folder:
+        Path(folder, "tb.v").write_bytes(text)
+        subprocess.run(["iverilog", "-g2005", "-s", "tb", "-o", "tb", "tb.v"], cwd=folder, capture_output=True, check=True)
+        return counted("vvp", ["-n", "tb"], at=folder)[0]
+
+
+def beside_vvp(short, long, more):
+    """What `vvp` takes for each of the `more` steps that the run of one text has more than that of another; None where it isn't installed."""
+    few = counted_by_vvp(short)
+    return None if few is None else (counted_by_vvp(long) - few) / more
 
 
 def counted_in(program, words, text, names):

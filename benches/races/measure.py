@@ -1,27 +1,81 @@
 #!/usr/bin/env python3
-"""Counts what exploring a text costs: P processes that share 65 variables of 1 to 64 bits, 20 steps a slot over 10 slots (`text`).
+"""Counts what exploring a text costs, of four kinds of texts:
 
-Usage: benches/races/measure.py [PATH_OF_vrace_program]
+- shared: P processes that share 65 variables of 1 to 64 bits, 20 steps a slot over 10 slots (`text`);
+- pipeline: stages that pass four values on by `<=`, all at one clock;
+- handshake: pairs of processes with request and acknowledge, which wait for each other;
+- updates: processes of one statement, each of which posts one update at time 0.
+
+Usage: benches/races/measure.py [PATH_OF_vrace_program [PART..]]
 
 Entries are counted from outside: a search is cut exactly where it has as many as `--entries` says. Choices met are those of the
 entries of the default run, of which a trace tells the widths, and one for each other entry (K = 1). Instructions by callgrind, of
 `explore_alone` with all that it calls, so without the reading of the text and the writing of the report; a step's by replays of
-twice as many, each of which runs twice, once to see how the run ends and once to write; bytes by massif at the peak. Status 1 where
-with 16 processes a choice costs more than 30,000 instructions beside the forced steps of its way, a step more than 6,000, or an
-entry more than 3 times the 65 * 24 bytes of its values.
+twice as many, each of which runs twice, once to see how the run ends and once to write; bytes by massif at the peak.
+
+Beside the other kinds stands what `vvp` takes, where it is installed. It runs each text in one order, so it is told by the step of
+that one run, and of updates by the process, the reading of its compiled text with it.
+
+Status 1 where with 16 processes a choice costs more than 30,000 instructions beside the forced steps of its way, a step more than
+6,000, or an entry more than 3 times the 65 * 24 bytes of its values; where with 14 stages a choice costs more than 90,000; or where
+a choice of 60 updates costs more than 3 times one of 20, as its states are 3 times as large.
 """
 import subprocess
 import sys
-import tempfile
+import time
 from pathlib import Path
 
 sys.path.insert(0, str(Path(__file__).resolve().parents[1]))
-from counting import counted, counted_in, peak_bytes, program_of
+from counting import beside_vvp, counted, counted_in, parts_of, peak_bytes, program_of
 
 TEXT = Path(__file__).resolve().parent / "text"
 MOST = 1_000_000
 SEARCH = "explore::alone::explore_alone", "statebook::way::walk", "vmachine::standing::StandingPartialEq::eq"
 VALUES = 65 * 24
+
+
+def module(lines):
+    return "\n".join(["module tb;", *lines, "endmodule", ""]).encode()
+
+
+def pipeline(stages, clocks):
+    """A clock, a source that counts, the stages, and a sink that folds what comes; all but the clock have four variables, which they
+    write by `<=`. With 14 stages these are 17 processes and 65 variables of 1 to 64 bits."""
+    places = [[f"v{4 * place + n}" for n in range(4)] for place in range(stages + 2)]
+    lines = ["  reg clock;"] + [f"  reg [{n % 64}:0] v{n};" for n in range(4 * len(places))]
+    lines.append(f"  initial begin clock = 0; repeat ({2 * clocks}) #1 clock = ~clock; end")
+    for place, own in enumerate(places):
+        before = places[place - 1]
+        if place == 0:
+            taken = [f"{name} + 1" for name in own]
+        elif place <= stages:
+            taken = before
+        else:
+            taken = [f"{name} ^ {come}" for name, come in zip(own, before)]
+        begins = " ".join(f"{name} = {place};" for name in own)
+        posts = " ".join(f"{name} <= {value};" for name, value in zip(own, taken))
+        lines.append(f"  initial begin {begins} forever @(posedge clock) begin {posts} end end")
+    return module(lines)
+
+
+def handshakes(pairs, rounds):
+    """In each pair one process has a number for the other, and both wait for the other's signal before they take their own back."""
+    lines = []
+    for n in range(pairs):
+        request, acknowledge, data, taken = (f"{name}{n}" for name in ("request", "acknowledge", "data", "taken"))
+        lines += [
+            f"  reg {request}, {acknowledge};",
+            f"  reg [7:0] {data}, {taken};",
+            f"  initial begin {request} = 0; {data} = {n}; repeat ({rounds}) begin #1 {data} = {data} + 1; {request} = 1; "
+            f"wait ({acknowledge}) {request} = 0; wait (!{acknowledge}) ; end end",
+            f"  initial begin {acknowledge} = 0; forever begin wait ({request}) {taken} = {data}; {acknowledge} = 1; "
+            f"wait (!{request}) {acknowledge} = 0; end end"]
+    return module(lines)
+
+
+def updates(processes):
+    names = [f"v{n}" for n in range(processes)]
+    return module([f"  reg {', '.join(names)};"] + [f"  initial {name} <= 1;" for name in names])
 
 
 def explore(depart, entries=MOST):
@@ -46,7 +100,7 @@ def entries_of(program, text, depart):
 
 def default_run(program, text):
     """The steps of the default run, its stations, and the choices that they have together."""
-    lines = subprocess.run([program, "replay", "--trace"], input=text, capture_output=True).stdout.decode().splitlines()
+    lines = subprocess.run([program, "replay", "--trace", "--steps", "1000000"], input=text, capture_output=True).stdout.decode().splitlines()
     steps, stations, choices, is_mark = 0, 0, 0, True
     for words in (line.split() for line in lines):
         if words[0] == "step":
@@ -66,27 +120,76 @@ def step_cost(program):
     return ((run(40_000) - run(20_000)) - (read(40_000) - read(20_000))) / 40_000
 
 
-def measured(program, processes):
-    text = subprocess.run([str(TEXT), str(processes)], capture_output=True, check=True).stdout
+def searched(program, name, text):
+    """What a choice costs, with the forced steps of its way and without them; how many entries there are, and choices met."""
     steps, stations, choices = default_run(program, text)
     entries, first = entries_of(program, text, 1), entries_of(program, text, 0)
     met = choices + entries - first
     search, walked, compared = counted_in(program, explore(1), text, SEARCH)
-    bytes_at_peak = peak_bytes(program, explore(1), text)
-    print("%d processes: %d steps, %d stations; %d entries, %d choices met" % (processes, steps, stations, entries, met))
-    print("  %.0f a choice, of which %.0f for the forced steps of its way, and %.0f for comparing states; %.1f MB at the peak, %.0f bytes an entry" %
-          (search / met, walked / met, compared / met, bytes_at_peak / 1e6, bytes_at_peak / entries))
-    return (search - walked) / met, bytes_at_peak / entries
+    print("%s: %d steps, %d stations; %d entries, %d choices met" % (name, steps, stations, entries, met))
+    print("  %.0f a choice, of which %.0f for the forced steps of its way, and %.0f for comparing states" % (search / met, walked / met, compared / met), flush=True)
+    return search / met, (search - walked) / met, entries, met
+
+
+def measured_shared(program):
+    step = step_cost(program)
+    print("a plain step: %.0f instructions (at most 6000)" % step)
+    for processes in 4, 8, 16:
+        text = subprocess.run([str(TEXT), str(processes)], capture_output=True, check=True).stdout
+        _, beside, entries, _ = searched(program, "%d processes" % processes, text)
+        bytes_at_peak = peak_bytes(program, explore(1), text)
+        room = bytes_at_peak / entries
+        print("  %.1f MB at the peak, %.0f bytes an entry" % (bytes_at_peak / 1e6, room))
+    print("with 16 processes: %.0f a choice beside the forced steps of its way (at most 30000), %.1f times the bytes of the values (at most 3)" % (beside, room / VALUES))
+    return beside <= 30_000 and step <= 6_000 and room <= 3 * VALUES
+
+
+def tell_vvp(program, text_of):
+    """What `vvp` takes for a step of the default run, of a long text and a short one."""
+    short, long = text_of(100), text_of(500)
+    taken = beside_vvp(short, long, default_run(program, long)[0] - default_run(program, short)[0])
+    if taken is not None:
+        print("  vvp takes %.0f a step of one run" % taken)
+
+
+def measured_pipeline(program):
+    for stages in 4, 8, 14:
+        choice, _, _, _ = searched(program, "a pipeline of %d stages, 4 clocks" % stages, pipeline(stages, 4))
+        tell_vvp(program, lambda clocks: pipeline(stages, clocks))
+    print("with 14 stages: %.0f a choice (at most 90000)" % choice)
+    return choice <= 90_000
+
+
+def measured_handshake(program):
+    for pairs in 4, 8, 16:
+        searched(program, "%d handshakes, 4 rounds" % pairs, handshakes(pairs, 4))
+        tell_vvp(program, lambda rounds: handshakes(pairs, rounds))
+    return True
+
+
+def measured_updates(program):
+    costs = []
+    for processes in 20, 40, 60:
+        text = updates(processes)
+        begun = time.monotonic()
+        subprocess.run([program, *explore(1)], input=text, capture_output=True)
+        print("%.2f s for the whole program" % (time.monotonic() - begun))
+        choice, _, _, _ = searched(program, "%d updates of one time" % processes, text)
+        costs.append(choice)
+    taken = beside_vvp(updates(20), updates(60), 40)
+    if taken is not None:
+        print("  vvp takes %.0f a process of one run" % taken)
+    print("a choice of 60 updates costs %.1f times one of 20 (at most 3)" % (costs[-1] / costs[0]))
+    return costs[-1] <= 3 * costs[0]
+
+
+PARTS = {"shared": measured_shared, "pipeline": measured_pipeline, "handshake": measured_handshake, "updates": measured_updates}
 
 
 def main():
     program = program_of("vrace_program")
-    step = step_cost(program)
-    print("a plain step: %.0f instructions (at most 6000)" % step)
-    for processes in 4, 8, 16:
-        beside, room = measured(program, processes)
-    print("with 16 processes: %.0f a choice beside the forced steps of its way (at most 30000), %.1f times the bytes of the values (at most 3)" % (beside, room / VALUES))
-    return 0 if beside <= 30_000 and step <= 6_000 and room <= 3 * VALUES else 1
+    kept = [PARTS[part](program) for part in parts_of(PARTS)]
+    return 0 if all(kept) else 1
 
 
 if __name__ == "__main__":
