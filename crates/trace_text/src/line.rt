@@ -366,8 +366,8 @@ pub(crate) fn step(
     };
     let values = Vec::from_slice(alloc, state.values())?;
     match state.step(design, index) {
-        Ok(deed) => {
-            let text = lines_of(alloc, design, origins, &values, taken, &deed, state)?;
+        Ok(effects) => {
+            let text = lines_of(alloc, design, origins, &values, taken, &effects.deed, state)?;
             Ok(Some(text))
         }
         Err(refused) => Err(refused),

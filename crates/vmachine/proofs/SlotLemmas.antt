@@ -122,8 +122,8 @@ before shown strobes (end ∷ rest) unended unended_too =
 
 pub items_wait : (design : Design) (turn : Turn) → Waits (items_of design turn) turn.state
 items_wait design turn =
-    before (shown_items design turn.state turn.deed.shown) (strobe_items design turn.state turn.state.queue.strobes) (slot_end_of turn.state)
-    (shown_unended design turn.state turn.deed.shown) (strobes_unended design turn.state turn.state.queue.strobes)
+    before (shown_items design turn.state turn.deed.shown) (strobe_items design turn.state turn.monitors) (slot_end_of turn.state)
+    (shown_unended design turn.state turn.deed.shown) (strobes_unended design turn.state turn.monitors)
 
 -- ---- handing on
 

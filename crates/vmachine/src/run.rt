@@ -16,7 +16,7 @@ use crate::machine::Machine;
 use basis::{NoMemory, OrMemory};
 use sched_core::{Log, Member, ReplayFault, next_choice};
 use vdesign::design::Design;
-use vmodel::deed::Deed;
+use vmodel::deed::StepEffects;
 use vmodel::history::{End, History, Item};
 use vmodel::sink::Sink;
 use vmodel::values::Values;
@@ -104,12 +104,12 @@ fn note(
     items: &mut Vec<Item>,
     design: &Design,
     state: &SlowState,
-    deed: Deed,
+    effects: StepEffects,
 ) -> Result<(), NoMemory>
     ensures { OnOk result (items.new.items
-        ≡ items.old.items ++ items_of design.now (turn_to state.now deed)) }
+        ≡ items.old.items ++ items_of design.now (turn_to state.now effects)) }
 {
-    put_items(items, design, state, &deed)
+    put_items(items, design, state, &effects)
 }
 
 impl Machine {
@@ -145,8 +145,8 @@ impl Machine {
                 Ok(None) => return Ok(state.end()),
                 Err(fault) => return Err(refused(fault)),
             };
-            let deed = state.step(&self.design, chosen.choice)?;
-            note(&mut pending, &self.design, &state, deed)?;
+            let effects = state.step(&self.design, chosen.choice)?;
+            note(&mut pending, &self.design, &state, effects)?;
             rest = chosen.later;
             n += 1;
         }
@@ -172,8 +172,8 @@ impl Machine {
                 }
                 Err(fault) => return Err(OrMemory::Fault(fault)),
             };
-            let deed = state.step(&self.design, chosen.choice)?;
-            note(&mut items, &self.design, &state, deed)?;
+            let effects = state.step(&self.design, chosen.choice)?;
+            note(&mut items, &self.design, &state, effects)?;
             rest = chosen.later;
             n += 1;
         }

@@ -77,20 +77,20 @@ before_right : (strobes ends : List Item) (item : Item) → Contains ends item �
 before_right strobes [] item h = h
 before_right strobes (end ∷ ends) item h = Contains-append_right strobes (end ∷ ends) item h
 
-end_of_end : (design : Design) (s : State) (time : ℕ) (values : List Vector) → Contains (end_items design s) (SlotEnd time values) →
+end_of_end : (design : Design) (s : State) (monitors : List ℕ) (time : ℕ) (values : List Vector) → Contains (end_items design s monitors) (SlotEnd time values) →
     IsSlotEnd time values s
-end_of_end design s time values h =
-    elim (before_cases (strobe_items design s s.queue.strobes) (slot_end_of s) (SlotEnd time values) h) [
-      | inl front ↦ absurd (no_strobe design s s.queue.strobes time values front)
+end_of_end design s monitors time values h =
+    elim (before_cases (strobe_items design s monitors) (slot_end_of s) (SlotEnd time values) h) [
+      | inl front ↦ absurd (no_strobe design s monitors time values front)
       | inr behind ↦ end_of_items s time values behind
     ]
 
 end_of_turn : (design : Design) (turn : Turn) (time : ℕ) (values : List Vector) → Contains (items_of design turn) (SlotEnd time values) →
     IsSlotEnd time values turn.state
 end_of_turn design turn time values h =
-    elim (Contains-append_cases (shown_items design turn.state turn.deed.shown) (end_items design turn.state) (SlotEnd time values) h) [
+    elim (Contains-append_cases (shown_items design turn.state turn.deed.shown) (end_items design turn.state turn.monitors) (SlotEnd time values) h) [
       | inl front ↦ absurd (no_shown design turn.state turn.deed.shown time values front)
-      | inr behind ↦ end_of_end design turn.state time values behind
+      | inr behind ↦ end_of_end design turn.state turn.monitors time values behind
     ]
 
 -- ---- of a run
@@ -119,8 +119,8 @@ end_shown setting log (suc n) time values (k, le, end) =
       | inl before ↦ Contains-append_left (given_by setting log n) (items_of setting.design turn) (SlotEnd time values)
           (end_shown setting log n time values (k, before, end))
       | inr now ↦ Contains-append_right (given_by setting log n) (items_of setting.design turn) (SlotEnd time values)
-          (Contains-append_right (shown_items setting.design turn.state turn.deed.shown) (end_items setting.design turn.state) (SlotEnd time values)
-          (before_right (strobe_items setting.design turn.state turn.state.queue.strobes) (slot_end_of turn.state) (SlotEnd time values)
+          (Contains-append_right (shown_items setting.design turn.state turn.deed.shown) (end_items setting.design turn.state turn.monitors) (SlotEnd time values)
+          (before_right (strobe_items setting.design turn.state turn.monitors) (slot_end_of turn.state) (SlotEnd time values)
           (items_of_end turn.state time values
           (subst (IsSlotEnd time values) (ap (state_after setting log) now ∙ after_is setting s (choice_at log n)) end))))
     ]

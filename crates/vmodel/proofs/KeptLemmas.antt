@@ -17,7 +17,7 @@ use Rattle.vmodel.specs.Choices.{in_order, first_update, or_advance, active_choi
 use Rattle.vmodel.specs.Step.{moment_of, Did, does_at, held_of, place_of, going, with_moves_by, woken, with_moves, acted, strobing, process_by, turned, takes, goes_from, without_update, updated, advanced_to, turn_of, turn_by, next}
 use Rattle.vmodel.specs.Run.{Setting, busy_from, opening_process, opening_of, state_after}
 use Rattle.vmodel.specs.Played.{opening_is, after_is}
-use Rattle.vmodel.specs.Kept.{RisesFrom, IsInOrder, count_in, asleep, IsInPlace, IsIdle, IsKept}
+use Rattle.vmodel.specs.Kept.{RisesFrom, IsInOrder, count_in, asleep, IsInPlace, IsIdle, IsKept, IsEmptied}
 use Rattle.vmodel.proofs.PlaceLemmas.{count-other, count-self, count-cons, count-without, rises_below}
 use Rattle.vmodel.proofs.MovedLemmas.{most_at, IsWaiting, LastIsActive, nobody_last, settled_by, order-moved, is_there, place-moved, left_at}
 use Rattle.vmodel.proofs.AwakeLemmas.{order-woken, place-woken}
@@ -43,12 +43,15 @@ with_moves-kept s order place = by_cause s.cause refl
     by_cause None is = record {
       order = settled_by IsInOrder s.queue (λ moves. order)
           (λ i is none some. record { active = subst (RisesFrom 0) some order.inactive; inactive = tt; future = order.future })
-          (λ u us. record { active = order.active; inactive = order.inactive; future = order.future });
+          (λ u us. record { active = order.active; inactive = order.inactive; future = order.future })
+          (λ idle i p. record { active = order.active; inactive = order.inactive; future = order.future });
       place = settled_by (λ (q : Queue). IsInPlace q s.processes) s.queue (λ moves. place) moved_on
-          (λ u us. record { once = place.once; waiting = place.waiting; last = place.last });
-      moves = λ none. settled_by (λ (q : Queue). IsIdle q → (q.inactive ≡ []) × (q.posted ≡ [])) s.queue (λ moves. moves)
+          (λ u us. record { once = place.once; waiting = place.waiting; last = place.last })
+          (λ idle i p. record { once = place.once; waiting = place.waiting; last = place.last });
+      moves = λ none. settled_by (λ (q : Queue). IsIdle q → IsEmptied q) s.queue (λ busy idle. absurd (busy idle))
           (λ i is a b idle. let no : i ∷ is ≡ [] = idle.0 in cc)
-          (λ u us idle. let no : u ∷ us ≡ [] = idle.1 in cc);
+          (λ u us idle. let no : u ∷ us ≡ [] = idle.1 in cc)
+          (λ done i p idle. (i, p, refl));
     }
 
 -- ---- what a choice says of the state that offers it
@@ -218,7 +221,7 @@ opening-kept setting = record {
     waiting = λ p. opening_waiting setting.design.processes p;
     last = nobody_last (opening_of setting).queue refl;
   };
-  moves = λ none idle. (refl, refl);
+  moves = λ none idle. (refl, refl, refl);
 }
 
 pub kept : (setting : Setting) (log : List (ℕ × ℕ)) (n : ℕ) → IsKept (state_after setting log n)

@@ -51,11 +51,12 @@ posts_by P None q stays behind past puts = stays
 posts_by P (Some post) q stays behind past puts =
     posts_after_by P post.after post.parts q (behind post refl) past (λ t lt within. puts post t refl lt within)
 
-pub settled_by : (P : Queue → Type 0) (q : Queue) → ((IsIdle q → (q.inactive ≡ []) × (q.posted ≡ [])) → P q) →
+pub settled_by : (P : Queue → Type 0) (q : Queue) → (¬ IsIdle q → P q) →
     ((i : ℕ) (is : List ℕ) → q.active ≡ [] → q.inactive ≡ i ∷ is → P (record q { active = i ∷ is; inactive = [] })) →
     ((u : List Part) (us : List (List Part)) → P (record q { activated = u ∷ us; posted = [] })) →
+    (IsIdle q → q.inactive ≡ [] → q.posted ≡ [] → P (record q { strobes = [] })) →
     P (settled q)
-settled_by P q stays wakes activates = at q.active q.activated q.inactive q.posted refl refl refl refl
+settled_by P q stays wakes activates ends = at q.active q.activated q.inactive q.posted refl refl refl refl
   where
     at : (active : List ℕ) (activated : List (List Part)) (inactive : List ℕ) (posted : List (List Part)) →
         q.active ≡ active → q.activated ≡ activated → q.inactive ≡ inactive → q.posted ≡ posted → P (regions active activated inactive posted q)
@@ -63,7 +64,7 @@ settled_by P q stays wakes activates = at q.active q.activated q.inactive q.post
     at [] (u ∷ us) is posts a b c d = stays (λ idle. let e : u ∷ us ≡ [] = sym b ∙ idle.1 in cc)
     at [] [] (i ∷ is) posts a b c d = wakes i is a c
     at [] [] [] (u ∷ us) a b c d = activates u us
-    at [] [] [] [] a b c d = stays (λ idle. (c, d))
+    at [] [] [] [] a b c d = ends (a, b) c d
 
 -- ---- order
 

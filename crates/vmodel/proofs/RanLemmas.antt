@@ -16,8 +16,8 @@ use Rattle.vmodel.specs.State.{Process, State}
 use Rattle.vmodel.specs.Waking.{wakes, awake, with_awake}
 use Rattle.vmodel.specs.InnerWaking.{AreChanges, comes, with_active}
 use Rattle.vmodel.specs.Inner.{first_action}
-use Rattle.vmodel.specs.InnerStep.{did_so, left_in, held_in, moved, moved_by, moved_on, ended, turn_to}
-use Rattle.vmodel.specs.Step.{Did, does_at, moment_of, woken, with_moves, turned, takes, goes_from, process_turn}
+use Rattle.vmodel.specs.InnerStep.{did_so, left_in, held_in, moved, moved_by, moved_on, ended}
+use Rattle.vmodel.specs.Step.{Did, Turn, does_at, moment_of, woken, complete, turned, takes, goes_from, process_turn}
 use Rattle.vmodel.proofs.WakingLemmas.{woken_none, comes_is}
 
 -- ---- what is written
@@ -82,29 +82,29 @@ awoken_is design wrote s values processes queue actions news is differ acts ps q
 -- ---- the step
 
 -- a state with what the step wrote, and what becomes of the run
-abbrev finished : Design → Deed → State → State → State
-finished design deed before s = with_moves (ended deed.cause (woken design before.values deed.triggered (with_values s (written deed.wrote before.values))))
+abbrev finished : Design → Deed → State → State → Turn
+finished design deed before s = complete deed (ended deed.cause (woken design before.values deed.triggered (with_values s (written deed.wrote before.values))))
 
 ran_from : (design : Design) (p : ℕ) (spot : Spot) (action : Action) (then : Option Spot) (next : List ℕ) (deed : Deed) (s : State) (left : List Spot) →
     left_in s.processes p ≡ left → slice_get left 0 ≡ Some spot → first_action design.actions left ≡ Some action →
     ((after : List Spot) → does_at spot action after (held_in s.processes p) (moment_of design s) ≡ did_so then next after deed) →
-    goes_from design p left s ≡ turn_to (finished design deed s (moved_on p then next deed s)) deed
+    goes_from design p left s ≡ finished design deed s (moved_on p then next deed s)
 ran_from design p spot action then next deed s [] is at act h = cc
 ran_from design p spot action then next deed s (other ∷ after) is at act h =
     let same : other ≡ spot = cc in
     ap (λ (o : Option Action). takes design p other o after s) act
     ∙ ap (λ (first : Spot). turned design p (does_at first action after (held_in s.processes p) (moment_of design s)) s) same
     ∙ ap (λ (did : Did). turned design p did s) (h after)
-    ∙ ap (λ (l : List Spot). turn_to (finished design deed s (record s {
+    ∙ ap (λ (l : List Spot). finished design deed s (record s {
       processes = slice_set s.processes p (moved l then next deed);
       queue = moved_by p l then next deed s.queue;
-    })) deed) (sym is)
+    })) (sym is)
 
 pub ran : (design : Design) (p : ℕ) (spot : Spot) (action : Action) (held : Option Vector) (now : Moment) (then : Option Spot) (next : List ℕ) (deed : Deed) (s : State) →
     slice_get (left_in s.processes p) 0 ≡ Some spot → first_action design.actions (left_in s.processes p) ≡ Some action →
     held ≡ held_in s.processes p → now ≡ moment_of design s →
     ((after : List Spot) → does_at spot action after held now ≡ did_so then next after deed) →
-    process_turn design p s ≡ turn_to (with_moves (ended deed.cause (woken design s.values deed.triggered (with_values (moved_on p then next deed s) (written deed.wrote s.values))))) deed
+    process_turn design p s ≡ complete deed (ended deed.cause (woken design s.values deed.triggered (with_values (moved_on p then next deed s) (written deed.wrote s.values))))
 ran design p spot action held now then next deed s at act holds is h =
     ran_from design p spot action then next deed s (left_in s.processes p) refl at act
     (λ after. (λ i. does_at spot action after (sym holds i) (sym is i)) ∙ h after)

@@ -254,7 +254,7 @@ regions-suit variables (p ∷ ps) us is posts q h waits = h
 regions-suit variables [] (u ∷ us) is posts q h waits = h
 regions-suit variables [] [] (i ∷ is) posts q h waits = record { activated = h.activated; posted = h.posted; future = h.future }
 regions-suit variables [] [] [] (u ∷ us) q h waits = record { activated = waits; posted = tt; future = h.future }
-regions-suit variables [] [] [] [] q h waits = h
+regions-suit variables [] [] [] [] q h waits = record { activated = h.activated; posted = h.posted; future = h.future }
 
 with_moves-shaped : (variables : List Variable) (s : State) → IsShaped variables s → IsShaped variables (with_moves s)
 with_moves-shaped variables s h = by_cause s.cause

@@ -103,15 +103,15 @@ timed_turn : (design : Design) (times : List ℕ) (turn : Turn) → RisesFrom 0 
 timed_turn design times turn rises le =
     let s = turn.state in
     subst (λ (ts : List ℕ). IsTimed (times ++ ts) s)
-    (sym (slot_times-append (shown_items design s turn.deed.shown) (end_items design s)
-    ∙ ap (λ (ts : List ℕ). ts ++ slot_times (end_items design s)) (none_shown design s turn.deed.shown)
-    ∙ times_before (strobe_items design s s.queue.strobes) (slot_end_of s) (none_strobed design s s.queue.strobes)))
+    (sym (slot_times-append (shown_items design s turn.deed.shown) (end_items design s turn.monitors)
+    ∙ ap (λ (ts : List ℕ). ts ++ slot_times (end_items design s turn.monitors)) (none_shown design s turn.deed.shown)
+    ∙ times_before (strobe_items design s turn.monitors) (slot_end_of s) (none_strobed design s turn.monitors)))
     (timed_end times turn.state rises le)
 
 -- ---- the time after a step
 
 time-settled : (q : Queue) → (settled q).time ≡ q.time
-time-settled q = settled_by (λ (r : Queue). r.time ≡ q.time) q (λ moves. refl) (λ i is a b. refl) (λ u us. refl)
+time-settled q = settled_by (λ (r : Queue). r.time ≡ q.time) q (λ busy. refl) (λ i is a b. refl) (λ u us. refl) (λ idle i p. refl)
 
 time-with_moves : (s : State) → (with_moves s).queue.time ≡ s.queue.time
 time-with_moves s = by_cause s.cause

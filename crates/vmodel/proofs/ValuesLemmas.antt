@@ -98,8 +98,8 @@ shown-before count strobes (end ∷ ends) first then = All-append (HasValues cou
 shown-turn : (count : ℕ) (design : Design) (turn : Turn) → length turn.state.values ≡ count → All (HasValues count) (items_of design turn)
 shown-turn count design turn full =
     let s = turn.state in
-    All-append (HasValues count) (shown_items design s turn.deed.shown) (end_items design s) (shown-at_once count design s turn.deed.shown)
-    (shown-before count (strobe_items design s s.queue.strobes) (slot_end_of s) (shown-strobes count design s s.queue.strobes)
+    All-append (HasValues count) (shown_items design s turn.deed.shown) (end_items design s turn.monitors) (shown-at_once count design s turn.deed.shown)
+    (shown-before count (strobe_items design s turn.monitors) (slot_end_of s) (shown-strobes count design s turn.monitors)
     (shown-end count s full))
 
 -- ---- the run

@@ -4,6 +4,7 @@ use Rattle.vbits.specs.Vectors.{Vector}
 use Rattle.vmodel.specs.declared.process.Spot.{Spot}
 use Rattle.vmodel.specs.declared.process.Spot.TheVariants.{Doing}
 use Rattle.vmodel.specs.declared.deed.Deed.{Deed}
+use Rattle.vmodel.specs.declared.deed.StepEffects.{StepEffects}
 use Rattle.vmodel.specs.declared.deed.Fate.TheVariants.{Waits}
 use Rattle.vmodel.specs.Queue.{Queue}
 use Rattle.vmodel.specs.declared.history.Cause.{Cause}
@@ -61,9 +62,9 @@ awaits place holds body after =
     if holds then record { left = spots body after; deed = quiet }
     else record { left = Doing place ∷ after; deed = record quiet { fate = Waits place } }
 
--- the state after a step, and what the step did
-abbrev pub turn_to : State → Deed → Turn
-turn_to state deed = record { state = state; deed = deed }
+-- the state after a step, and what the step did and ran
+abbrev pub turn_to : State → StepEffects → Turn
+turn_to state effects = record { state = state; deed = effects.deed; monitors = effects.monitors.items }
 
 -- a step that ends the run
 abbrev pub ending_by : Cause → Deed

@@ -66,11 +66,15 @@ pub record IsInPlace (q : Queue) (processes : List Process) : Type 0 where
 abbrev pub IsIdle : Queue → Type 0
 IsIdle q = (q.active ≡ []) × (q.activated ≡ [])
 
+abbrev pub IsEmptied : Queue → Type 0
+IsEmptied q = (q.inactive ≡ []) × (q.posted ≡ []) × (q.strobes ≡ [])
+
 pub record IsKept (s : State) : Type 0 where
   pub order : IsInOrder s.queue
   pub place : IsInPlace s.queue s.processes
-  -- 11.4: while the run goes on the region moves were made: where nothing is active, nothing else stands at this time
-  pub moves : s.cause ≡ None → IsIdle s.queue → (s.queue.inactive ≡ []) × (s.queue.posted ≡ [])
+  -- 11.4: while the run goes on the region moves were made: where nothing is active, nothing else stands at this time, and the
+  -- monitor events have run
+  pub moves : s.cause ≡ None → IsIdle s.queue → IsEmptied s.queue
 
 -- the times of the slot ends
 abbrev pub slot_times : List Item → List ℕ

@@ -205,16 +205,28 @@ strobing strobed q = record q { strobes = q.strobes ++ option_to_list strobed }
 
 -- ---- the region moves (11.4)
 
--- while something is active it stays; else what is inactive becomes active; else what is posted is activated
+-- while something is active it stays; else what is inactive becomes active; else what is posted is activated; else the monitor
+-- events have run, and the slot has ended
 abbrev pub regions : List ℕ → List (List Part) → List ℕ → List (List Part) → Queue → Queue
 regions (p ∷ ps) us is posts q = q
 regions [] (u ∷ us) is posts q = q
 regions [] [] (i ∷ is) posts q = record q { active = i ∷ is; inactive = [] }
 regions [] [] [] (u ∷ us) q = record q { activated = u ∷ us; posted = [] }
-regions [] [] [] [] q = q
+regions [] [] [] [] q = record q { strobes = [] }
 
 abbrev pub settled : Queue → Queue
 settled q = regions q.active q.activated q.inactive q.posted q
+
+-- the monitor events that run in these moves, in order of creation (17.1.2)
+abbrev pub run_monitors : List ℕ → List (List Part) → List ℕ → List (List Part) → List ℕ → List ℕ
+run_monitors (p ∷ ps) us is posts strobes = []
+run_monitors [] (u ∷ us) is posts strobes = []
+run_monitors [] [] (i ∷ is) posts strobes = []
+run_monitors [] [] [] (u ∷ us) strobes = []
+run_monitors [] [] [] [] strobes = strobes
+
+abbrev pub monitors_in : Queue → List ℕ
+monitors_in q = run_monitors q.active q.activated q.inactive q.posted q.strobes
 
 -- after `$finish` and `$stop` there are none
 abbrev pub with_moves_by : Option Cause → State → State
@@ -224,12 +236,25 @@ with_moves_by None s = record s { queue = settled s.queue }
 abbrev pub with_moves : State → State
 with_moves s = with_moves_by s.cause s
 
+abbrev pub monitors_by : Option Cause → State → List ℕ
+monitors_by (Some cause) s = []
+monitors_by None s = monitors_in s.queue
+
+-- the monitor events that run in the region moves
+abbrev pub monitors_of : State → List ℕ
+monitors_of s = monitors_by s.cause s
+
 -- ---- the step
 
--- the state after a step, and what the step did
+-- the state after a step, what the step did, and the monitor events that ran where it ended the slot, in order of creation
 pub record Turn : Type 0 where
   pub state : State
   pub deed : Deed
+  pub monitors : List ℕ
+
+-- the region moves end the step
+abbrev pub complete : Deed → State → Turn
+complete deed s = record { state = with_moves s; deed = deed; monitors = monitors_of s }
 
 -- the place at which it waits from now on; where nothing is left it has ended
 abbrev pub waits_by : Fate → List Spot → Option ℕ
@@ -262,11 +287,11 @@ woken design before triggered s =
     }
 
 abbrev pub turned : Design → ℕ → Did → State → Turn
-turned design p did s = record { state = with_moves (woken design s.values did.deed.triggered (acted p did s)); deed = did.deed }
+turned design p did s = complete did.deed (woken design s.values did.deed.triggered (acted p did s))
 
 -- nothing happens
 abbrev pub unmoved : State → Turn
-unmoved s = record { state = s; deed = quiet }
+unmoved s = record { state = s; deed = quiet; monitors = [] }
 
 -- 17.7.1: a time in units in which delays are written
 abbrev pub written_time : ℕ → ℕ → ℕ
@@ -320,19 +345,16 @@ updated s = record s {
   queue = without_update s.queue.activated s.queue;
 }
 
--- the time goes on to the next future time, whose processes become active and whose updates are posted in their order; the monitor
--- events ran at the end of the slot
+-- the time goes on to the next future time, whose processes become active and whose updates are posted in their order
 abbrev pub advanced_to : List (ℕ × Later) → Queue → Queue
 advanced_to [] q = q
 advanced_to (e ∷ es) q =
-    record q { time = e.0; last = None; active = e.1.processes; posted = e.1.updates; strobes = []; future = es }
+    record q { time = e.0; last = None; active = e.1.processes; posted = e.1.updates; future = es }
 
 abbrev pub turn_of : Design → Choice → State → Turn
 turn_of design (Run p) s = process_turn design p s
-turn_of design Update s =
-    record { state = with_moves (woken design s.values None (updated s)); deed = record quiet { wrote = first_of s.queue.activated } }
-turn_of design Advance s =
-    record { state = with_moves (record s { queue = advanced_to s.queue.future s.queue }); deed = quiet }
+turn_of design Update s = complete (record quiet { wrote = first_of s.queue.activated }) (woken design s.values None (updated s))
+turn_of design Advance s = complete quiet (record s { queue = advanced_to s.queue.future s.queue })
 
 abbrev pub turn_by : Design → Option Choice → State → Turn
 turn_by design None s = unmoved s
@@ -386,13 +408,13 @@ abbrev pub before_end : List Item → List Item → List Item
 before_end strobes [] = []
 before_end strobes (end ∷ rest) = strobes ++ end ∷ rest
 
--- what the state after a step adds, where it is a slot end: the monitor events run, and the slot has ended (11.4, 17.1.2)
-abbrev pub end_items : Design → State → List Item
-end_items design s = before_end (strobe_items design s s.queue.strobes) (slot_end_of s)
+-- what the state after a step adds, where it is a slot end: these monitor events ran, and the slot has ended (11.4, 17.1.2)
+abbrev pub end_items : Design → State → List ℕ → List Item
+end_items design s monitors = before_end (strobe_items design s monitors) (slot_end_of s)
 
 -- what the step showed at once, and the slot end where the state after it is one; a print task changes no value
 abbrev pub items_of : Design → Turn → List Item
-items_of design turn = shown_items design turn.state turn.deed.shown ++ end_items design turn.state
+items_of design turn = shown_items design turn.state turn.deed.shown ++ end_items design turn.state turn.monitors
 
 -- what stood before still stands, and behind it are the first, if any, of those that were to come
 abbrev pub HasFront : List Item → List Item → List Item → Type 0

@@ -4,7 +4,7 @@ ghost use Rattle.std.specs.Prelude.{◌≡◌, ◌<◌, ◌==◌, ◌&&◌, OnOk
 ghost use Rattle.std.specs.Option.{ForSome};
 ghost use Rattle.vmodel.specs.Queue.{waking, updating, later};
 ghost use Rattle.vmodel.specs.Inner.{time_after as time_after_of, unstrobed};
-ghost use Rattle.vmodel.specs.Step.{leaves, goes_on, sleeps, fares, posts as posts_update, strobing, settled, without_update, advanced_to};
+ghost use Rattle.vmodel.specs.Step.{leaves, goes_on, sleeps, fares, posts as posts_update, strobing, settled, monitors_in, without_update, advanced_to};
 
 use crate::deed::{Deed, Fate, Post};
 use crate::future::{copy_future, post_at, wake_at};
@@ -205,18 +205,23 @@ impl Queue {
     }
 
     /// The region moves (11.4): while something is active it stays, else what is inactive becomes active, else what is
-    /// posted is activated.
-    pub(crate) fn settle(&mut self)
-        ensures { self.new ≡ settled self.old }
+    /// posted is activated, else the slot has ended. The answer are the monitor events that run then, in order of creation.
+    pub(crate) fn settle(&mut self) -> Vec<usize>
+        ensures queue { self.new ≡ settled self.old }
+        ensures monitors { result.items ≡ monitors_in self.old }
     {
+        let mut monitors = Vec::new(*self.future.allocator());
         if !self.active.is_empty() || !self.activated.is_empty() {
-            return;
+            return monitors;
         }
         if !self.inactive.is_empty() {
             mem::swap(&mut self.active, &mut self.inactive);
         } else if !self.posted.is_empty() {
             mem::swap(&mut self.activated, &mut self.posted);
+        } else {
+            mem::swap(&mut self.strobes, &mut monitors);
         }
+        monitors
     }
 
     /// Takes the first activated update out, if there is one.
@@ -249,7 +254,6 @@ impl Queue {
         self.last = None;
         self.active = processes;
         self.posted = updates;
-        self.strobes.clear();
     }
 
     /// Whether nothing is active: a slot end, where the run goes on.

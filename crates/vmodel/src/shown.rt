@@ -7,7 +7,7 @@ ghost use Rattle.vmodel.specs.InnerStep.{turn_to};
 ghost use Rattle.vmodel.specs.Step as spec;
 ghost use Rattle.vmodel.specs.Step.{slot_end_of, items_of, HasFront};
 
-use crate::deed::{Deed, Shown};
+use crate::deed::{Shown, StepEffects};
 use crate::history::Item;
 use crate::state::SlowState;
 use basis::NoMemory;
@@ -59,13 +59,6 @@ impl SlowState {
             values: self.values.copy(alloc)?,
         }))
     }
-
-    /// The places of the print tasks whose lines come at the end of the slot, in order (17.1.2).
-    fn strobes(&self) -> &[usize]
-        ensures { result.now ≡ self.now.queue.strobes }
-    {
-        &self.queue.strobes
-    }
 }
 
 // Puts behind others what a step showed at once; nothing, where memory is short.
@@ -108,16 +101,22 @@ fn put_strobes(
     Ok(())
 }
 
-// Puts behind others what the state after a step adds, where it is a slot end (11.4); where memory is short, the first of it.
-fn put_end(items: &mut Vec<Item>, design: &Design, state: &SlowState) -> Result<(), NoMemory>
+// Puts behind others what the state after a step adds, where it is a slot end, at which these monitor events ran (11.4); where memory
+// is short, the first of it.
+fn put_end(
+    items: &mut Vec<Item>,
+    design: &Design,
+    state: &SlowState,
+    monitors: &[usize],
+) -> Result<(), NoMemory>
     ensures ok { OnOk result (items.new.items ≡ items.old.items
-        ++ spec.end_items design.now state.now) }
+        ++ spec.end_items design.now state.now monitors.now) }
     ensures front { OnErr result (HasFront items.old.items
-        (spec.end_items design.now state.now) items.new.items) }
+        (spec.end_items design.now state.now monitors.now) items.new.items) }
 {
     let alloc = *items.allocator();
     if let Some(end) = state.slot_end(alloc)? {
-        put_strobes(items, design, state, state.strobes())?;
+        put_strobes(items, design, state, monitors)?;
         items.push(end)?;
     }
     Ok(())
@@ -130,17 +129,17 @@ pub fn put_items(
     items: &mut Vec<Item>,
     design: &Design,
     state: &SlowState,
-    deed: &Deed,
+    effects: &StepEffects,
 ) -> Result<(), NoMemory>
     ensures ok { OnOk result (items.new.items
-        ≡ items.old.items ++ items_of design.now (turn_to state.now deed.now)) }
+        ≡ items.old.items ++ items_of design.now (turn_to state.now effects.now)) }
     ensures front { OnErr result (HasFront items.old.items
-        (items_of design.now (turn_to state.now deed.now)) items.new.items) }
+        (items_of design.now (turn_to state.now effects.now)) items.new.items) }
 {
-    if let Some(shown) = deed.shown {
+    if let Some(shown) = effects.deed.shown {
         put_shown(items, design, state, shown)?;
     }
-    put_end(items, design, state)
+    put_end(items, design, state, &effects.monitors)
 }
 
 /// Puts behind others the slot end of a state, where it is one. Where memory is short, the others stand as they were.

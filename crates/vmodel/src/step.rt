@@ -2,7 +2,7 @@
 
 ghost use Rattle.std.specs.Prelude.{◌≡◌, ℕ, List, ◌<◌, ◌++◌, [], IfOk, OnOk, OnErr, IfSome, IfNone, length, slice_get, slice_set, drop};
 ghost use Rattle.std.specs.Option.{option_to_list};
-ghost use Rattle.vmodel.specs.Step.{spots, going, process_by, fares, posts, woken, with_moves, left_of, moment_of, process_turn, turn_of, next, slot_end_of, items_of};
+ghost use Rattle.vmodel.specs.Step.{spots, going, process_by, fares, posts, woken, with_moves, monitors_of, complete, unmoved, left_of, moment_of, process_turn, turn_of, next, slot_end_of, items_of};
 ghost use Rattle.vmodel.specs.Parts.{write, written};
 ghost use Rattle.vmodel.specs.declared.process.Spot.{Spot};
 ghost use Rattle.vdesign.specs.Design.{Design};
@@ -13,7 +13,7 @@ ghost use Rattle.vmodel.specs.InnerLeft.{IsWhole, left_spots};
 ghost use Rattle.vmodel.specs.InnerStep.{moved_on, ended, behind, left_in, held_in, moved, moved_by, turn_to, with_moved};
 
 use crate::choice::Choice;
-use crate::deed::{Deed, Doing, Fate, deed_at};
+use crate::deed::{Deed, Doing, Fate, StepEffects, deed_at};
 use crate::history::Item;
 use crate::left::Left;
 use crate::part::{Kept, Part, Parts};
@@ -145,12 +145,25 @@ pub fn moment_at<'m>(design: &'m Design, values: &'m [Vec4], time: u64) -> Momen
 }
 
 impl SlowState {
-    // The region moves; after `$finish` and `$stop` there are none.
-    fn close(&mut self)
-        ensures { self.new ≡ with_moves self.old }
+    // The region moves; after `$finish` and `$stop` there are none. The answer are the monitor events that run in them.
+    fn close(&mut self) -> Vec<usize>
+        ensures state { self.new ≡ with_moves self.old }
+        ensures monitors { result.items ≡ monitors_of self.old }
     {
         if self.cause.is_none() {
-            self.queue.settle();
+            self.queue.settle()
+        } else {
+            Vec::new(*self.processes.allocator())
+        }
+    }
+
+    // Nothing happens.
+    fn stay(&self) -> StepEffects
+        ensures { turn_to self.now result ≡ unmoved self.now }
+    {
+        StepEffects {
+            deed: Deed::quiet(),
+            monitors: Vec::new(*self.processes.allocator()),
         }
     }
 
@@ -272,37 +285,37 @@ impl SlowState {
     }
 
     // What the step wrote is written, it may end the run, and the regions move.
-    fn finish(&mut self, design: &Design, deed: &Deed)
-        ensures { self.new ≡ with_moves (ended deed.now.cause
-            (woken design.now self.old.values deed.now.triggered
-            (record self.old { values = written deed.now.wrote self.old.values }))) }
+    fn finish(&mut self, design: &Design, deed: Deed) -> StepEffects
+        ensures { turn_to self.new result ≡ complete deed (ended deed.cause
+            (woken design.now self.old.values deed.triggered
+            (record self.old { values = written deed.wrote self.old.values }))) }
     {
         self.write(design, &deed.wrote, deed.triggered);
         self.cause = deed.cause;
-        self.close();
+        let monitors = self.close();
+        StepEffects { deed, monitors }
     }
 
     // A process takes one step.
-    fn run(&mut self, design: &Design, number: u32) -> Result<Deed, NoMemory>
+    fn run(&mut self, design: &Design, number: u32) -> Result<StepEffects, NoMemory>
         requires { number < 256 }
-        ensures ok { IfOk result (λ deed.
-            process_turn design.now number self.old ≡ turn_to self.new deed) }
+        ensures ok { IfOk result (λ effects.
+            process_turn design.now number self.old ≡ turn_to self.new effects) }
         ensures err { OnErr result (self.new ≡ self.old) }
     {
         let Some((spot, action)) = self.action_of(design, number) else {
-            return Ok(Deed::quiet());
+            return Ok(self.stay());
         };
         let alloc = *self.processes.allocator();
         let held = self.held_by(number);
         let doing = deed_at(alloc, spot, action, held, &self.moment(design))?;
         let Doing { next, then, deed } = doing;
         self.place(number, then, next, &deed)?;
-        self.finish(design, &deed);
-        Ok(deed)
+        Ok(self.finish(design, deed))
     }
 
     // The first activated update is written (11.4.1).
-    fn update(&mut self, design: &Design) -> Deed
+    fn update(&mut self, design: &Design) -> StepEffects
         ensures { turn_of design.now Choice.Update self.old ≡ turn_to self.new result }
     {
         let mut deed = Deed::quiet();
@@ -310,34 +323,35 @@ impl SlowState {
             deed.wrote = update;
         }
         self.write(design, &deed.wrote, None);
-        self.close();
-        deed
+        let monitors = self.close();
+        StepEffects { deed, monitors }
     }
 
     // The time goes on to the next future time.
-    fn advance(&mut self)
+    fn advance(&mut self) -> StepEffects
         ensures { (design : Design) →
-            turn_of design Choice.Advance self.old ≡ turn_to self.new spec.quiet }
+            turn_of design Choice.Advance self.old ≡ turn_to self.new result }
     {
         self.queue.advance();
-        self.close();
+        StepEffects {
+            monitors: self.close(),
+            deed: Deed::quiet(),
+        }
     }
 
     /// The step of choice `i`, in place: one step of a process, the write of an update or the advance of the time, and the
-    /// region moves after it (11.3, 11.4). The answer is what the step did. Where there is no such choice nothing
-    /// happens. E901 is the only refusal, and leaves the state as it was.
-    pub fn step(&mut self, design: &Design, i: u32) -> Result<Deed, NoMemory>
-        ensures ok { IfOk result (λ deed. next design.now self.old i ≡ turn_to self.new deed) }
+    /// region moves after it (11.3, 11.4). The answer is what the step did, and which monitor events ran. Where there is no such
+    /// choice nothing happens. E901 is the only refusal, and leaves the state as it was.
+    pub fn step(&mut self, design: &Design, i: u32) -> Result<StepEffects, NoMemory>
+        ensures ok { IfOk result (λ effects.
+            next design.now self.old i ≡ turn_to self.new effects) }
         ensures err { OnErr result (self.new ≡ self.old) }
     {
         match self.choice(i) {
-            None => Ok(Deed::quiet()),
+            None => Ok(self.stay()),
             Some(Choice::Run(process)) => self.run(design, process),
             Some(Choice::Update) => Ok(self.update(design)),
-            Some(Choice::Advance) => {
-                self.advance();
-                Ok(Deed::quiet())
-            }
+            Some(Choice::Advance) => Ok(self.advance()),
         }
     }
 
@@ -361,8 +375,7 @@ pub fn slow_width(state: &SlowState) -> u32
 }
 
 /// The state after the step of choice `i`, with what the step gives to the history, in order. Where there is no such
-/// choice the state stays, and at a slot's end, or a run's, the items that stand there come again. The state is copied;
-/// E901 is the only refusal.
+/// choice the state stays, and where it is a slot's end that comes again. The state is copied; E901 is the only refusal.
 pub fn slow_step(
     alloc: Global,
     design: &Design,
@@ -374,8 +387,8 @@ pub fn slow_step(
         ≡ items_of design.now (next design.now state.now i)) }
 {
     let mut after = state.copy(alloc)?;
-    let deed = after.step(design, i)?;
+    let effects = after.step(design, i)?;
     let mut items = Vec::new(alloc);
-    put_items(&mut items, design, &after, &deed)?;
+    put_items(&mut items, design, &after, &effects)?;
     Ok((after, items))
 }

@@ -1,5 +1,6 @@
 use Rattle.std.proofs.Common.{◌≡◌, ℕ, List, ◌++◌, Option, Some, Ok, sym, ap, subst, ◌∙◌}
 use Rattle.vmodel.specs.declared.history.Item.{Item}
+use Rattle.vmodel.specs.InnerStep.{turn_to}
 use Rattle.vmodel.specs.Step.{Turn, slot_end_of, next, items_of}
 use Rattle.vdesign.specs.Design.{Design}
 use Rattle.vmodel.specs.Run.{Setting, opening_of}
@@ -25,9 +26,9 @@ turns-preserved c =
     let chosen : IsChosen setting log c.args.steps c.turns.n c.turns.state c.turns.rest.now (Ok (Some c.in-Ok-Some.chosen)) =
     subst (IsChosen setting log c.args.steps c.turns.n c.turns.state c.turns.rest.now) (c.in-Ok-Some.is ∙ ap (λ (o : Option Chosen). Ok o) c.in-Ok-Some.field-0-is) (c.choose.ensures setting log here) in
     let design = ap (λ (s : Setting). s.design) c.self.view_is in
-    let turn_is : Turn = record { state = c.step.new.self; deed = c.in_ok-deed.deed } in
+    let turn_is : Turn = turn_to c.step.new.self c.in_ok-effects.effects in
     let turn : next setting.design c.turns.state c.in-Ok-Some.chosen.choice ≡ turn_is =
-    ap (λ (d : Design). next d c.turns.state c.in-Ok-Some.chosen.choice) (sym design) ∙ c.in_ok-deed.ensures.ok in (
+    ap (λ (d : Design). next d c.turns.state c.in-Ok-Some.chosen.choice) (sym design) ∙ c.in_ok-effects.ensures.ok in (
       at_next setting log c.turns.rest.now c.args.steps c.turns.n c.turns.state here c.in-Ok-Some.chosen.choice c.in-Ok-Some.chosen.later.now chosen.2
           c.step.new.self (less_differs c.turns.n c.args.steps chosen.0) chosen.1 chosen.3 (ap (λ (t : Turn). t.state) turn),
       c.in_ok-note.ensures

@@ -2,6 +2,7 @@ use Rattle.std.proofs.Common.{◌≡◌, ◌≢◌, ℕ, List, [], ◌++◌, len
 use Rattle.basis.specs.declared.memory.OrMemory.{OrMemory}
 use Rattle.basis.specs.declared.memory.OrMemory.TheVariants.{Memory}
 use Rattle.vmodel.specs.declared.history.Item.{Item}
+use Rattle.vmodel.specs.InnerStep.{turn_to}
 use Rattle.vmodel.specs.Step.{Turn, slot_end_of, next, items_of}
 use Rattle.vdesign.specs.Design.{Design}
 use Rattle.vmodel.specs.Run.{Setting, opening_of, given_by, is_mark}
@@ -152,9 +153,9 @@ turns-preserved g c =
     let chosen : IsChosen setting log c.args.steps c.turns.n c.turns.state c.turns.rest.now (Ok (Some c.in-Ok-Some.chosen)) =
     subst (IsChosen setting log c.args.steps c.turns.n c.turns.state c.turns.rest.now) (c.in-Ok-Some.is ∙ ap (λ (o : Option Chosen). Ok o) c.in-Ok-Some.field-0-is) (c.choose.ensures setting log here) in
     let design = ap (λ (s : Setting). s.design) c.self.view_is in
-    let turn_is : Turn = record { state = c.step.new.self; deed = c.in_ok-deed.deed } in
+    let turn_is : Turn = turn_to c.step.new.self c.in_ok-effects.effects in
     let turn : next setting.design c.turns.state c.in-Ok-Some.chosen.choice ≡ turn_is =
-    ap (λ (d : Design). next d c.turns.state c.in-Ok-Some.chosen.choice) (sym design) ∙ c.in_ok-deed.ensures.ok in
+    ap (λ (d : Design). next d c.turns.state c.in-Ok-Some.chosen.choice) (sym design) ∙ c.in_ok-effects.ensures.ok in
     let given = given_next setting log c.turns.rest.now c.args.steps c.turns.n c.turns.state here c.in-Ok-Some.chosen.choice c.in-Ok-Some.chosen.later.now chosen.2
     turn_is turn in
     let goes_on : length (choices c.turns.state) ≢ 0 = λ none. absurd (omega (arith, none, chosen.1)) in

@@ -1,8 +1,8 @@
 use Rattle.std.proofs.Common.{sym, ap, ◌∙◌}
 use Rattle.vmodel.specs.Parts.{written}
 use Rattle.vmodel.specs.State.{State}
-use Rattle.vmodel.specs.Step.{woken, with_moves}
-use Rattle.vmodel.specs.InnerStep.{ended, turn_to}
+use Rattle.vmodel.specs.Step.{woken, complete}
+use Rattle.vmodel.specs.InnerStep.{ended}
 use Rattle.vmodel.proofs.RanLemmas.{ran}
 use Rattle.vmodel.proofs.state.SlowState.run.Goals as goal
 
@@ -12,6 +12,6 @@ returns-clause-ok c =
     let deed = doing.deed in
     ran c.args.design.now c.args.number c.in-Some.spot c.in-Some.action.now c.held_by-held.result c.moment.result doing.then doing.next.now deed c.args.self.now
     c.in-Some.ensures.0 c.in-Some.ensures.1 c.held_by-held.ensures c.moment.ensures c.in_ok-doing.ensures
-    ∙ ap (λ (t : State). turn_to (with_moves (ended deed.cause (woken c.args.design.now t.values deed.triggered (record t { values = written deed.wrote t.values })))) deed)
+    ∙ ap (λ (t : State). complete deed (ended deed.cause (woken c.args.design.now t.values deed.triggered (record t { values = written deed.wrote t.values }))))
     (sym c.in_ok-place.ensures.ok)
-    ∙ ap (λ (t : State). turn_to t deed) (sym c.finish.ensures)
+    ∙ sym c.finish.ensures

@@ -2,7 +2,6 @@ use Rattle.std.proofs.Common.{Option, Some, refl, sym, ap, subst, ◌∙◌}
 use Rattle.vmodel.specs.declared.choice.Choice.{Choice}
 use Rattle.vmodel.specs.Choices.{IsWithin}
 use Rattle.vmodel.specs.Step.{turn_by}
-use Rattle.vmodel.specs.declared.deed.Deed.{Deed}
 use Rattle.vmodel.proofs.state.SlowState.step.Goals as goal
 
 pub run-requires : goal.run-requires
@@ -19,4 +18,3 @@ returns-in-Some-Advance-clause-ok c =
     ap (λ (o : Option Choice). turn_by c.args.design.now o c.args.self.now)
     (sym c.choice.ensures.exact ∙ c.in-Some-Advance.is ∙ ap Some c.in-Some-Advance.field-0-is)
     ∙ c.advance.ensures c.args.design.now
-    ∙ ap (λ (d : Deed). record { state = c.advance.new.self; deed = d }) (sym c.quiet-in-Some-Advance.ensures)
