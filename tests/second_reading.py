@@ -112,7 +112,6 @@ class Run:
         if choice == "advance":
             self.time = min(self.future)
             self.active, self.posted = self.future.pop(self.time)
-            self.strobes = []
         elif choice == "update":
             self.write(self.activated.pop(0))
         else:
@@ -249,6 +248,7 @@ class Run:
         else:
             self.items += [("line", self.line(pieces)) for pieces in self.strobes]
             self.items.append((self.time, list(self.values)))
+            self.strobes = []
 
 
 # system tasks that show something, or nothing
