@@ -8,7 +8,7 @@ use std::io;
 use std::io::{Read, Write};
 use std::test::Fail;
 use vbits::{Bit4, Vec4};
-use vcd_text::{DumpSink, Metered, write_vcd};
+use vcd_text::{DumpSink, Full, HeldText, Metered, Outlet, write_vcd};
 use vdesign::action::Action;
 use vdesign::design::{Design, Kind, Scope, Variable};
 use vdesign::dump::{Chosen, DumpCommand, Selection};
@@ -247,6 +247,19 @@ fn dump_of_chosen_scopes(rt: HostRuntime) -> Result<(), Fail> {
         assert!(rt; write_vcd(alloc, &design, &history, &mut writer).is_ok());
         assert_eq!(rt; writer.into_inner().held.as_slice(), text.as_bytes());
     }
+    Ok(())
+}
+
+// Eight bytes have room for two pieces of four, and for no more.
+#[test]
+fn held_to_the_last_byte(rt: HostRuntime) -> Result<(), Fail> {
+    let mut held = HeldText::new(rt.alloc(), 8);
+    assert!(rt; held.text().is_empty());
+    assert_eq!(rt; held.put(b"#12\n"), Ok(()));
+    assert_eq!(rt; held.put(b""), Ok(()));
+    assert_eq!(rt; held.put(b"b1 !"), Ok(()));
+    assert_eq!(rt; held.text(), &b"#12\nb1 !"[..]);
+    assert_eq!(rt; held.put(b"\n"), Err(Full));
     Ok(())
 }
 

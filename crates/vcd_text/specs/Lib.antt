@@ -4,6 +4,7 @@ pub mod Counts
 pub mod DumpLaws
 pub mod DumpText
 pub mod Headers
+pub mod Held
 pub mod Metered
 pub mod MeteredLaws
 pub mod OutletLaws

@@ -11,6 +11,10 @@ pub enum WriteFault {
 #[derive(Clone, Copy, Debug, PartialEq, Eq)]
 pub struct TooMany;
 
+/// A text has no room where it is held: it is too long, or memory for it was refused.
+#[derive(Clone, Copy, Debug, PartialEq, Eq)]
+pub struct Full;
+
 /// A fault that never comes.
 #[derive(Drop)]
 pub enum Never {}

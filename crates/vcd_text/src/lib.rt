@@ -1,6 +1,6 @@
 // Histories to the text of a value change dump (IEEE 1364-2005, clause 18). In go a design and what its run shows;
-// out come bytes in an outlet (a writer, a count, or a text to compare with), as the run goes or at once, and a fault
-// where they don't.
+// out come bytes in an outlet (a writer, a count, a text that is kept, or one to compare with), as the run goes or at once,
+// and a fault where they don't.
 // The law: the bytes are those of specs/DumpText.antt, and after a fault a prefix of them.
 #![tactic(auto)]
 
@@ -9,6 +9,7 @@ mod counter;
 mod expected;
 mod fault;
 mod header;
+mod held;
 mod law;
 mod metered;
 mod outlet;
@@ -20,7 +21,8 @@ mod write;
 
 pub use counter::Counter;
 pub use expected::Expected;
-pub use fault::{Never, TooMany, WriteFault};
+pub use fault::{Full, Never, TooMany, WriteFault};
+pub use held::{HELD_BYTES, HeldText};
 pub use law::{dumps_are_readable, expected_is_whole, sinks_complete_dumps};
 pub use metered::Metered;
 pub use outlet::{Outlet, put};
