@@ -16,12 +16,18 @@ module _ (setting : Setting) (steps : ℕ) where
       record { is_dump = subst (λ (l : List (ℕ × ℕ)). IsRunDump setting l steps dump) (sym log_is) counted.0; bytes_are = counted.1 }
 
   -- one end more
-  pub held_more : (ends : List End) (held : List (Option (List ℕ))) (end : End) (one : Option (List ℕ)) → AreHeld setting steps ends held → IsHeld setting steps end one →
+  held_more : (ends : List End) (held : List (Option (List ℕ))) (end : End) (one : Option (List ℕ)) → AreHeld setting steps ends held → IsHeld setting steps end one →
       AreHeld setting steps (ends ++ end ∷ []) (held ++ one ∷ [])
   held_more [] [] end one are is = (is, tt)
   held_more [] (x ∷ held) end one are is = absurd are
   held_more (e ∷ ends) [] end one are is = absurd are
   held_more (e ∷ ends) (x ∷ held) end one are is = (are.0, held_more ends held end one are.1 is)
+
+  -- the same of lists that are told
+  pub held_on : (ends new : List End) (held more : List (Option (List ℕ))) (end : End) (one : Option (List ℕ)) → new ≡ ends ++ end ∷ [] → more ≡ held ++ one ∷ [] → AreHeld setting steps ends held →
+      IsHeld setting steps end one → AreHeld setting steps new more
+  held_on ends new held more end one new_is more_is are is =
+      subst (λ (es : List End). AreHeld setting steps es more) (sym new_is) (subst (AreHeld setting steps (ends ++ end ∷ [])) (sym more_is) (held_more ends held end one are is))
 
   -- as many as there are ends
   pub held_len : (ends : List End) (held : List (Option (List ℕ))) → AreHeld setting steps ends held → length held ≡ length ends

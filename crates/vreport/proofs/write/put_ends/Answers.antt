@@ -5,6 +5,21 @@ use Rattle.vreport.proofs.HeldLemmas.{held_at, held_len}
 use Rattle.vreport.proofs.WriteLemmas.{ends_first, ends_on, ends_over, ends_stop}
 use Rattle.vreport.proofs.write.put_ends.Goals as goal
 
+pub bounds-held-place : goal.bounds-held-place
+bounds-held-place g c = omega (arith, held_len c.args.machine.now c.args.steps c.args.ends.now c.args.held.now c.requires.held, c.loop-place-test.true)
+
+pub put_end-requires-clause-bytes : goal.put_end-requires-clause-bytes
+put_end-requires-clause-bytes g c =
+    c.requires.bytes c.loop-place.place c.index-ends-place.result
+    (slice_get_read c.args.ends.now _ c.loop-place.place c.index-ends-place.result refl c.loop-place-test.true c.index-ends-place.is)
+
+pub put_end-requires-clause-held : goal.put_end-requires-clause-held
+put_end-requires-clause-held g c =
+    held_at c.args.machine.now c.args.steps c.args.ends.now c.args.held.now c.loop-place.place c.index-ends-place.result c.index-held-place.result c.requires.held
+    (slice_get_read c.args.ends.now _ c.loop-place.place c.index-ends-place.result refl c.loop-place-test.true c.index-ends-place.is)
+    (slice_get_read c.args.held.now _ c.loop-place.place c.index-held-place.result refl
+    (omega (arith, held_len c.args.machine.now c.args.steps c.args.ends.now c.args.held.now c.requires.held, c.loop-place-test.true)) c.index-held-place.is)
+
 pub loop-place-init : goal.loop-place-init
 loop-place-init g c = ends_first g.O.Outlet.takes g.O.Outlet.fails g.met.O.Outlet.lawful c.args.machine.now c.args.steps c.args.ends.now c.args.outlet.now
 
