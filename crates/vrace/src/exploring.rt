@@ -5,7 +5,7 @@ ghost use Rattle.statebook.specs.declared.reason.Reason.TheVariants.{Entries};
 ghost use Rattle.explore.specs.declared.findings.Status.TheVariants.{Cut};
 ghost use Rattle.vsrc.specs.Source.{file_bytes};
 ghost use Rattle.vdesign.specs.Named.{AreNamed};
-ghost use Rattle.vreport.specs.Reports.{IsReadable, ReportsExploration, TellsBytes, TellsOutcome};
+ghost use Rattle.vreport.specs.Reports.{HoldsDumps, IsReadable, ReportsExploration, TellsBytes, TellsOutcome};
 ghost use Rattle.vrace.specs.Asked.{asked};
 ghost use Rattle.vrace.specs.Explores.{AreWorkers, EndsSearch, Explores, FilesHaveEntriesWhereCut, HasEntriesWhereCut, IsCutForEntries, IsExploreReason, IsSearched, IsSharedReason, IsStatusOf, LeavesReport, Reports, TellsSearchFault};
 ghost use Rattle.vrace.specs.Refusals.{IsDesignFault};
@@ -98,6 +98,7 @@ fn write_explored<W: Write>(
     requires outcome { TellsOutcome explored.now }
     requires bytes { TellsBytes machine.now explored.now }
     requires formed { IsReadable machine.now explored.now }
+    requires held { HoldsDumps machine.now explored.now }
     ensures ok { IfOk result (λ status.
         Reports W.contents machine.now limits.now status writer.old writer.new) }
     ensures err { IfErr result (λ fault.
@@ -105,7 +106,7 @@ fn write_explored<W: Write>(
     ensures entries { IfOk result (λ status.
         IsCutForEntries status → explored.now.status ≡ Cut Entries) }
 {
-    match write_report(alloc, machine, &explored.report, writer) {
+    match write_report(alloc, machine, &explored.report, &explored.held, writer) {
         Ok(()) => Ok(status_of(explored)),
         Err(fault) => Err(of_writing(fault)),
     }

@@ -1,15 +1,17 @@
-// The printed lines of a run, to a writer.
+// The printed lines of a run, to a writer, or held whole.
 
-ghost use Rattle.std.specs.Prelude.{◌≡◌, OnOk, IfErr};
+ghost use Rattle.std.specs.Prelude.{◌≡◌, IfOk, IfSome, OnOk, IfErr};
+ghost use Rattle.sched_core.specs.Replay.{IsReplayReason};
+ghost use Rattle.vmodel.specs.Run.{rules_of};
 ghost use Rattle.lines_text.specs.declared.in_force.InForce.TheVariants.{Nobody};
 ghost use Rattle.lines_text.specs.Sinks.{IsSameSink};
-ghost use Rattle.vrace.specs.RunLines.{HasEnd, StopsLines, TakesLines};
+ghost use Rattle.vrace.specs.RunLines.{HasEnd, IsRunLines, StopsLines, TakesLines};
 
 use basis::OrMemory;
 use lines_text::LinesSink;
-use sched_core::Log;
+use sched_core::{Log, ReplayFault};
 use std::alloc::Global;
-use vcd_text::Outlet;
+use vcd_text::{HeldText, Outlet};
 use vmachine::{Machine, RunFault};
 
 // Runs the design under the log, which ends, into a fresh sink.
@@ -57,4 +59,30 @@ pub(crate) fn write_lines<O: Outlet>(
     // No effect at run time. The proof reads what the outlet holds from this use.
     let _ = &*outlet;
     result
+}
+
+// Runs the machine under the log and holds its lines, where they fit into so many bytes. None says nothing of the run: its lines
+// have no room, or memory was refused. A fault is that there is no such run (E402, E403).
+pub(crate) fn hold_lines(
+    alloc: Global,
+    machine: &Machine,
+    log: &Log,
+    steps: u32,
+    room: usize,
+) -> Result<Option<HeldText>, ReplayFault>
+    ensures held { IfOk result (λ held. IfSome held (IsRunLines machine.now log.now steps)) }
+    ensures reason { IfErr result (IsReplayReason (rules_of machine.now) log.now steps) }
+{
+    let mut held = HeldText::new(alloc, room);
+    let mut sink = LinesSink::new(alloc, machine.design(), &mut held);
+    match machine.run_into(log, steps, &mut sink) {
+        Ok(_) => {}
+        Err(OrMemory::Fault(RunFault::Replay(fault))) => return Err(fault),
+        Err(OrMemory::Fault(RunFault::Sink(_))) => return Ok(None),
+        Err(OrMemory::Memory(_)) => return Ok(None),
+    }
+    let outlet = sink.into_outlet();
+    // No effect at run time. The proof reads what is held from this use.
+    let _ = &*outlet;
+    Ok(Some(held))
 }

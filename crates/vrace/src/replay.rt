@@ -1,10 +1,12 @@
 // From files and a log to the dump or the lines of the run.
 
-ghost use Rattle.std.specs.Prelude.{◌≡◌, ◌⊎◌, ℕ, List, OnOk, IfOk, IfErr};
+ghost use Rattle.std.specs.Prelude.{◌≡◌, ◌⊎◌, ℕ, List, OnOk, IfOk, IfErr, IfSome};
 ghost use Rattle.sched_core.specs.LogText.{IsNamedLogText};
+ghost use Rattle.sched_core.specs.Replay.{IsReplayReason};
 ghost use Rattle.vsrc.specs.Source.{file_bytes};
 ghost use Rattle.vmodel.specs.declared.history.End.{End};
 ghost use Rattle.vmodel.specs.Played.{Finishes};
+ghost use Rattle.vmodel.specs.Run.{rules_of};
 ghost use Rattle.vcd_text.specs.Metered.{Grows};
 ghost use Rattle.vrace.specs.Asked.{asked};
 ghost use Rattle.vrace.specs.Replays.{IsShown, IsPlay, grain_under as grain_by};
@@ -15,17 +17,17 @@ ghost use Rattle.vrace.specs.RunDumps.{IsRunFault, IsRunShown, IsUnwritten, Stop
 
 use crate::design::placed_design_of;
 use crate::fault::Fault;
-use crate::lines::write_lines;
+use crate::lines::{hold_lines, write_lines};
 use crate::options::Options;
 use basis::OrMemory;
 use sched_core::{Log, LogFault, LogHead, ReplayFault, read_named_log, replay};
 use std::alloc::Global;
 use std::io::Write;
 use trace_text::Origins;
-use vcd_text::{Metered, WriteFault};
+use vcd_text::{HELD_BYTES, HeldText, Metered, WriteFault, put};
 use vmachine::{Machine, machine_law};
 use vmodel::history::Grain;
-use vreport::write_dump;
+use vreport::{hold_dump, write_dump};
 
 /// What a replay shows of a run.
 #[derive(Clone, Copy, Debug, PartialEq, Eq)]
@@ -162,8 +164,8 @@ fn print_run<W: Write>(
     write_run_lines(alloc, machine, log, steps, writer)
 }
 
-// Writes what is to be shown of the run, once it is known to end.
-fn show_run<W: Write>(
+// Writes what is to be shown of the run slot by slot, once it is known to end.
+fn stream_run<W: Write>(
     alloc: Global,
     machine: &Machine,
     log: &Log,
@@ -180,6 +182,58 @@ fn show_run<W: Write>(
     match show {
         Show::Dump => dump_run(alloc, machine, log, steps, writer),
         Show::Lines => print_run(alloc, machine, log, steps, writer),
+    }
+}
+
+// Runs the design under the log, and holds what is to be shown of it, where that is short.
+fn hold_run(
+    alloc: Global,
+    machine: &Machine,
+    log: &Log,
+    steps: u32,
+    show: Show,
+) -> Result<Option<HeldText>, ReplayFault>
+    ensures held { IfOk result (λ held.
+        IfSome held (IsRunShown show machine.now log.now steps)) }
+    ensures reason { IfErr result (IsReplayReason (rules_of machine.now) log.now steps) }
+{
+    match show {
+        Show::Dump => hold_dump(alloc, machine, log, steps, HELD_BYTES),
+        Show::Lines => hold_lines(alloc, machine, log, steps, HELD_BYTES),
+    }
+}
+
+// Writes a text that is held.
+fn write_held<W: Write>(text: &HeldText, writer: &mut Metered<W>) -> Result<(), Fault>
+    ensures ok { OnOk result (Grows W.contents writer.old writer.new text.now) }
+    ensures err { (Holds : List ℕ → Type 0) → Holds text.now →
+        IfErr result (StopsText W.contents Holds writer.old writer.new) }
+{
+    match put(writer, text.text()) {
+        Ok(()) => Ok(()),
+        Err(fault) => Err(of_writing(fault)),
+    }
+}
+
+// Writes what is to be shown of the run: at once where it could be held, else slot by slot.
+fn show_run<W: Write>(
+    alloc: Global,
+    machine: &Machine,
+    log: &Log,
+    steps: u32,
+    show: Show,
+    writer: &mut Metered<W>,
+) -> Result<(), Fault>
+    ensures ok { OnOk result ((text : List ℕ) × IsRunShown show machine.now log.now steps text ×
+        Grows W.contents writer.old writer.new text) }
+    ensures err { IfErr result (λ fault.
+        Ends W.contents (IsRunShown show machine.now log.now steps) machine.now log.now steps
+        writer.old writer.new fault) }
+{
+    match hold_run(alloc, machine, log, steps, show) {
+        Ok(Some(text)) => write_held(&text, writer),
+        Ok(None) => stream_run(alloc, machine, log, steps, show, writer),
+        Err(fault) => Err(of_replay(fault)),
     }
 }
 
@@ -235,14 +289,15 @@ pub(crate) fn play_of(
     }
 }
 
-/// Writes what is to be shown of the run of the files under the log to the writer, slot by slot: its value change dump, or its
-/// printed lines. The log's text may name a grain, as `statement/5:1`; else the grain is that of the options.
+/// Writes what is to be shown of the run of the files under the log to the writer: its value change dump, or its printed lines.
+/// The log's text may name a grain, as `statement/5:1`; else the grain is that of the options.
 ///
 /// Refusals, in the order in which they are looked for: E904 where the files together are longer than 16,777,216 bytes;
 /// E1xx to E3xx where their text has no tokens, no tree or no design; E401 where the log's text is none; E403 where the
 /// run takes more steps than allowed; E402 where a step that the log names isn't reached or hasn't that choice. Then
-/// nothing is written, as the run is seen to end before its first byte goes out. E902 where the writer failed, and E901
-/// where memory was refused: then a prefix of the text may stand written.
+/// nothing is written, as the run is seen to end before its first byte goes out: a text of up to `HELD_BYTES` is held until
+/// then; for a longer one the run is taken again and written slot by slot. E902 where the writer failed, and E901 where
+/// memory was refused: then a prefix of the text may stand written.
 pub fn replay_text<W: Write>(
     alloc: Global,
     files: &[Vec<u8>],

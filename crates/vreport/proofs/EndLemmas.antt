@@ -124,8 +124,8 @@ module _ (setting : Setting) (alike : Alike setting) (all : AllStand setting) (t
           kept = kept;
           bytes = record {
             dump = counts.0;
-            is_dump = subst (λ (l : List (ℕ × ℕ)). IsRunDump setting l limits.steps counts.0) (sym log_is) counts.1;
-            bytes_are = counts.2;
+            is_dump = subst (λ (l : List (ℕ × ℕ)). IsRunDump setting l limits.steps counts.0) (sym log_is) counts.1.0;
+            bytes_are = counts.1.1;
           };
         }
 

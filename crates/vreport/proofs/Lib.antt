@@ -7,6 +7,7 @@ pub mod ListingLemmas
 pub mod WholeLemmas
 pub mod LeadLemmas
 pub mod WriteLemmas
+pub mod HeldLemmas
 pub mod ExploredLemmas
 pub mod MappedLemmas
 pub mod TextOrderLemmas

@@ -117,9 +117,13 @@ HasTimeAndLogs race = (race.time < 2 ^ 64) × Each HasLog race.values
 
 -- ---- ends of rows
 
+-- it is the run's dump, of so many bytes
+abbrev pub IsCounted : Setting → List (ℕ × ℕ) → ℕ → ℕ → List ℕ → Type 0
+IsCounted setting log limit count dump = IsRunDump setting log limit dump × (count ≡ length dump)
+
 -- so many bytes as the run's dump has
 abbrev pub CountsDump : Setting → List (ℕ × ℕ) → ℕ → ℕ → Type 0
-CountsDump setting log limit count = (dump : List ℕ) × IsRunDump setting log limit dump × (count ≡ length dump)
+CountsDump setting log limit count = (dump : List ℕ) × IsCounted setting log limit count dump
 
 -- the end is that of the row, under the log of its mark
 pub record IsEndOfRow (setting : Setting) (limits : Limits) (marks : List (Standing × List (ℕ × ℕ))) (row : Row) (end : Told) : Type 0 where

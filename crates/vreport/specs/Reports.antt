@@ -22,6 +22,7 @@ use Rattle.vreport.specs.Ends.{HasBytes, IsTrueEnd, ListsEveryEnd}
 use Rattle.vreport.specs.Formed.{IsFormed}
 use Rattle.vreport.specs.Truth.{IsTrueHead}
 use Rattle.vreport.specs.Values.{report_digits}
+use Rattle.vreport.specs.Written.{AreHeld}
 use Rattle.vreport.specs.declared.explored.Explored.{Explored}
 
 -- how the exploration went
@@ -107,3 +108,7 @@ TellsBytes setting explored = Each (HasBytes setting explored.report.steps) expl
 -- where names are names and the time limit is within its own, the text of the report can be read again
 abbrev pub IsReadable : Setting → Explored → Type 0
 IsReadable setting explored = AreNamed setting.design → setting.until ≤ 4611686018427387903 → IsFormed setting explored.report
+
+-- where the dump of an end is held, it is that of its run, of as many bytes as the end tells
+abbrev pub HoldsDumps : Setting → Explored → Type 0
+HoldsDumps setting explored = AreHeld setting explored.report.steps explored.report.ends explored.held.items

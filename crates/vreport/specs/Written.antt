@@ -1,5 +1,5 @@
 -- The text of a report on its way to what takes texts.
-use Rattle.std.specs.Prelude.{◌≡◌, ℕ, List, [], ◌∷◌, ◌++◌, length}
+use Rattle.std.specs.Prelude.{◌≡◌, ℕ, List, [], ◌∷◌, ◌++◌, length, Option, IfSome}
 use Rattle.basis.specs.declared.memory.OrMemory.{OrMemory}
 use Rattle.vmodel.specs.Run.{Setting}
 use Rattle.vcd_text.specs.Outlets.{Stopped}
@@ -17,6 +17,17 @@ AreDumps setting steps [] [] = Unit {0}
 AreDumps setting steps [] (dump ∷ dumps) = ⊥
 AreDumps setting steps (end ∷ ends) [] = ⊥
 AreDumps setting steps (end ∷ ends) (dump ∷ dumps) = IsDumpOf setting steps end dump × AreDumps setting steps ends dumps
+
+-- where its dump is held, it is that
+abbrev pub IsHeld : Setting → ℕ → End → Option (List ℕ) → Type 0
+IsHeld setting steps end held = IfSome held (IsDumpOf setting steps end)
+
+-- so it is at each end
+abbrev pub AreHeld : Setting → ℕ → List End → List (Option (List ℕ)) → Type 0
+AreHeld setting steps [] [] = Unit {0}
+AreHeld setting steps [] (one ∷ held) = ⊥
+AreHeld setting steps (end ∷ ends) [] = ⊥
+AreHeld setting steps (end ∷ ends) (one ∷ held) = IsHeld setting steps end one × AreHeld setting steps ends held
 
 -- ---- one end, and all
 

@@ -1,14 +1,16 @@
-// The dump of a run, to a writer, a count or a text that is expected.
+// The dump of a run, to a writer, a count or a text that is expected, or held whole.
 
-ghost use Rattle.std.specs.Prelude.{◌≡◌, [], OnOk, IfErr};
+ghost use Rattle.std.specs.Prelude.{◌≡◌, [], IfOk, IfSome, OnOk, IfErr};
+ghost use Rattle.sched_core.specs.Replay.{IsReplayReason};
 ghost use Rattle.vcd_text.specs.declared.progress.Progress.TheVariants.{Waiting};
 ghost use Rattle.vcd_text.specs.Sinks.{IsSameDump};
-ghost use Rattle.vreport.specs.Dumps.{HasDump, StopsDump, TakesDump};
+ghost use Rattle.vmodel.specs.Run.{rules_of};
+ghost use Rattle.vreport.specs.Dumps.{HasDump, IsRunDump, StopsDump, TakesDump};
 
 use basis::OrMemory;
-use sched_core::Log;
+use sched_core::{Log, ReplayFault};
 use std::alloc::Global;
-use vcd_text::{DumpSink, Outlet};
+use vcd_text::{DumpSink, HeldText, Outlet};
 use vmachine::{Machine, RunFault};
 
 // Runs the design under the log, which ends, into a fresh sink.
@@ -60,4 +62,34 @@ pub fn write_dump<O: Outlet>(
     // No effect at run time. The proof reads what the outlet holds from this use.
     let _ = &*outlet;
     result
+}
+
+/// Runs the machine under the log and holds its dump, where that fits into so many bytes. None says nothing of the run: its
+/// dump has no room, or memory was refused. A fault is that there is no such run (E402, E403).
+pub fn hold_dump(
+    alloc: Global,
+    machine: &Machine,
+    log: &Log,
+    steps: u32,
+    room: usize,
+) -> Result<Option<HeldText>, ReplayFault>
+    ensures held { IfOk result (λ held. IfSome held (IsRunDump machine.now log.now steps)) }
+    ensures reason { IfErr result (IsReplayReason (rules_of machine.now) log.now steps) }
+{
+    let mut held = HeldText::new(alloc, room);
+    let mut sink = DumpSink::new(alloc, machine.design(), &mut held);
+    let end = match machine.run_into(log, steps, &mut sink) {
+        Ok(end) => end,
+        Err(OrMemory::Fault(RunFault::Replay(fault))) => return Err(fault),
+        Err(OrMemory::Fault(RunFault::Sink(_))) => return Ok(None),
+        Err(OrMemory::Memory(_)) => return Ok(None),
+    };
+    match sink.finish(&end) {
+        Ok(()) => {}
+        Err(_) => return Ok(None),
+    }
+    let outlet = sink.into_outlet();
+    // No effect at run time. The proof reads what is held from this use.
+    let _ = &*outlet;
+    Ok(Some(held))
 }

@@ -1,6 +1,6 @@
 // The ends that an explorer's findings show, each once.
 
-ghost use Rattle.std.specs.Prelude.{◌≡◌, ◌<◌, ◌^◌, length, IfOk, Decides};
+ghost use Rattle.std.specs.Prelude.{◌≡◌, ◌<◌, ◌^◌, length, IfOk, IfSome, Decides};
 ghost use Rattle.std.specs.declared.cmp.Ordering.TheVariants.{Equal};
 ghost use Rattle.basis.specs.Reasons.{IfFault};
 ghost use Rattle.explore.specs.Found.{ListsFound};
@@ -8,9 +8,10 @@ ghost use Rattle.report_text.specs.WellFormed.{Each, EachTwo, IsEndBefore};
 ghost use Rattle.vmachine.specs.Machines.{machine_rules};
 ghost use Rattle.vreport.specs.Dumps.{HasDump};
 ghost use Rattle.vreport.specs.Ends.{GivesEveryEnd, HasBytes, HasLongDump, HasSomeLongDump, IsTrueEnd};
-ghost use Rattle.vreport.specs.Inner.{AreEnds, AreRows, AreSortedRows, CountsDump, HasTimeAndLog, IsEndOfRow, IsRowOfSome, Repeats, key_cmp};
+ghost use Rattle.vreport.specs.Written.{AreHeld, IsHeld};
+ghost use Rattle.vreport.specs.Inner.{AreEnds, AreRows, AreSortedRows, CountsDump, HasTimeAndLog, IsCounted, IsEndOfRow, IsRowOfSome, Repeats, key_cmp};
 
-use crate::dump::write_dump;
+use crate::dump::{hold_dump, write_dump};
 use crate::row::{Row, cause_of, rows_in_order};
 use basis::OrMemory;
 use explore::Findings;
@@ -18,7 +19,7 @@ use report_text::End;
 use sched_core::Log;
 use statebook::Limits;
 use std::alloc::Global;
-use vcd_text::{Counter, TooMany};
+use vcd_text::{Counter, HELD_BYTES, HeldText, TooMany};
 use vmachine::{Machine, Standing, machine_law};
 
 // How many bytes the dump of the run has.
@@ -35,6 +36,39 @@ fn dump_len(
     let mut counter = Counter::new();
     match write_dump(alloc, machine, log, steps, &mut counter) {
         Ok(()) => Ok(counter.count()),
+        Err(fault) => Err(fault),
+    }
+}
+
+// How many bytes a dump has, and the dump itself where it is held.
+#[derive(Drop)]
+struct Measured {
+    bytes: u64,
+    held: Option<HeldText>,
+}
+
+// The dump of the run: held where it fits into so many bytes, else made to be counted alone.
+fn measure_dump(
+    alloc: Global,
+    machine: &Machine,
+    log: &Log,
+    steps: u32,
+    room: usize,
+) -> Result<Measured, OrMemory<TooMany>>
+    requires ends { HasDump machine.now log.now steps }
+    ensures ok { IfOk result (λ dump. CountsDump machine.now log.now steps dump.bytes) }
+    ensures held { IfOk result (λ dump.
+        IfSome dump.held (IsCounted machine.now log.now steps dump.bytes)) }
+    ensures long { IfFault result (λ _. HasLongDump machine.now log.now steps) }
+{
+    if let Ok(Some(held)) = hold_dump(alloc, machine, log, steps, room) {
+        return Ok(Measured {
+            bytes: held.text().len() as u64,
+            held: Some(held),
+        });
+    }
+    match dump_len(alloc, machine, log, steps) {
+        Ok(bytes) => Ok(Measured { bytes, held: None }),
         Err(fault) => Err(fault),
     }
 }
@@ -71,67 +105,103 @@ fn time_of(row: &Row) -> u64
     row.time
 }
 
-// The end of a row.
+// An end, and its dump where it is held.
+#[derive(Drop)]
+struct HeldEnd {
+    end: End,
+    held: Option<HeldText>,
+}
+
+// The end of a row. Its dump is held where it fits into so many bytes.
 fn end_of(
     alloc: Global,
     machine: &Machine,
     findings: &Findings<Standing>,
     limits: &Limits,
     row: &Row,
-) -> Result<End, OrMemory<TooMany>>
+    room: usize,
+) -> Result<HeldEnd, OrMemory<TooMany>>
     requires found { ListsFound (machine_rules machine.now) limits.now findings.now }
     requires of { IsRowOfSome machine.now findings.now.marks.entries row.now }
-    ensures ok { IfOk result
-        (IsEndOfRow machine.now limits.now findings.now.marks.entries row.now) }
+    ensures ok { IfOk result (λ one.
+        IsEndOfRow machine.now limits.now findings.now.marks.entries row.now one.end) }
+    ensures held { IfOk result (λ one. IsHeld machine.now limits.now.steps one.end one.held) }
     ensures long { IfFault result (λ _. HasSomeLongDump machine.now limits.now) }
 {
     machine_law();
     let Some((_, log)) = findings.marks.get_index(row.place) else {
         unreachable!()
     };
-    let bytes = match dump_len(alloc, machine, log, limits.steps) {
-        Ok(bytes) => bytes,
+    let dump = match measure_dump(alloc, machine, log, limits.steps, room) {
+        Ok(dump) => dump,
         Err(fault) => return Err(fault),
     };
-    Ok(End {
-        time: time_of(row),
-        cause: cause_of(row.cause),
-        log: log.copy()?,
-        bytes,
-        line: Vec::from_slice(alloc, &row.line)?,
+    Ok(HeldEnd {
+        end: End {
+            time: time_of(row),
+            cause: cause_of(row.cause),
+            log: log.copy()?,
+            bytes: dump.bytes,
+            line: Vec::from_slice(alloc, &row.line)?,
+        },
+        held: dump.held,
     })
 }
 
-// The ends of rows that stand in order, each once.
+// The room that is left behind a dump, and none behind the first that isn't held.
+fn room_behind(room: usize, held: &Option<HeldText>) -> usize {
+    match held {
+        Some(dump) => room.saturating_sub(dump.text().len()),
+        None => 0,
+    }
+}
+
+/// The ends of a report; and of each its dump, where it is held.
+#[derive(Drop)]
+pub struct HeldEnds {
+    pub ends: Vec<End>,
+    pub held: Vec<Option<HeldText>>,
+}
+
+// The ends of rows that stand in order, each once. The dumps of the first are held, while they fit together.
 fn ends_of_rows(
     alloc: Global,
     machine: &Machine,
     findings: &Findings<Standing>,
     limits: &Limits,
     rows: &[Row],
-) -> Result<Vec<End>, OrMemory<TooMany>>
+) -> Result<HeldEnds, OrMemory<TooMany>>
     requires found { ListsFound (machine_rules machine.now) limits.now findings.now }
     requires of { AreRows machine.now findings.now.marks.entries rows.now }
     requires sorted { AreSortedRows rows.now }
-    ensures ok { IfOk result (λ ends.
-        AreEnds machine.now limits.now findings.now.marks.entries rows.now ends.items) }
+    ensures ok { IfOk result (λ found.
+        AreEnds machine.now limits.now findings.now.marks.entries rows.now found.ends.items) }
+    ensures held { IfOk result (λ found.
+        AreHeld machine.now limits.now.steps found.ends.items found.held.items) }
     ensures long { IfFault result (λ _. HasSomeLongDump machine.now limits.now) }
 {
     let mut ends = Vec::new(alloc);
+    let mut held = Vec::new(alloc);
+    let mut room = HELD_BYTES;
     for place in 0..rows.len() {
         if repeats(rows, place) {
             continue;
         }
-        match end_of(alloc, machine, findings, limits, &rows[place]) {
-            Ok(end) => ends.push(end)?,
+        match end_of(alloc, machine, findings, limits, &rows[place], room) {
+            Ok(one) => {
+                room = room_behind(room, &one.held);
+                ends.push(one.end)?;
+                held.push(one.held)?;
+            }
             Err(fault) => return Err(fault),
         }
     }
-    Ok(ends)
+    Ok(HeldEnds { ends, held })
 }
 
 /// The ends of runs that an explorer's findings show, in the order of a report (docs/FORMATS.md, "Reports"), each once,
-/// under a log of the fewest departures among the marks that show it, and with the count of its dump's bytes.
+/// under a log of the fewest departures among the marks that show it, and with the count of its dump's bytes. The dumps of
+/// the first ends are held, while they have room in `HELD_BYTES` together.
 ///
 /// E901 where memory was refused. The other fault is that a dump has 2^64 bytes or more.
 pub fn ends_of(
@@ -139,14 +209,18 @@ pub fn ends_of(
     machine: &Machine,
     findings: &Findings<Standing>,
     limits: &Limits,
-) -> Result<Vec<End>, OrMemory<TooMany>>
+) -> Result<HeldEnds, OrMemory<TooMany>>
     requires found { ListsFound (machine_rules machine.now) limits.now findings.now }
-    ensures true_ends { IfOk result (λ ends. Each (IsTrueEnd machine.now limits.now) ends.items) }
-    ensures bytes { IfOk result (λ ends. Each (HasBytes machine.now limits.now.steps) ends.items) }
-    ensures all { IfOk result (λ ends.
-        GivesEveryEnd machine.now limits.now findings.now ends.items) }
-    ensures kept { IfOk result (λ ends. Each HasTimeAndLog ends.items) }
-    ensures order { IfOk result (λ ends. EachTwo IsEndBefore ends.items) }
+    ensures true_ends { IfOk result (λ found.
+        Each (IsTrueEnd machine.now limits.now) found.ends.items) }
+    ensures bytes { IfOk result (λ found.
+        Each (HasBytes machine.now limits.now.steps) found.ends.items) }
+    ensures all { IfOk result (λ found.
+        GivesEveryEnd machine.now limits.now findings.now found.ends.items) }
+    ensures kept { IfOk result (λ found. Each HasTimeAndLog found.ends.items) }
+    ensures order { IfOk result (λ found. EachTwo IsEndBefore found.ends.items) }
+    ensures held { IfOk result (λ found.
+        AreHeld machine.now limits.now.steps found.ends.items found.held.items) }
     ensures long { IfFault result (λ _. HasSomeLongDump machine.now limits.now) }
 {
     machine_law();

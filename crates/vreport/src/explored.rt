@@ -5,9 +5,9 @@ ghost use Rattle.basis.specs.Reasons.{IfFault};
 ghost use Rattle.explore.specs.Found.{ListsAll, ListsFound, TellsSteps};
 ghost use Rattle.vmachine.specs.Machines.{machine_rules};
 ghost use Rattle.vreport.specs.Ends.{HasSomeLongDump};
-ghost use Rattle.vreport.specs.Reports.{IsReadable, MeansEntries, ReportsExploration, TellsBytes, TellsOutcome};
+ghost use Rattle.vreport.specs.Reports.{HoldsDumps, IsReadable, MeansEntries, ReportsExploration, TellsBytes, TellsOutcome};
 
-use crate::report::report_of;
+use crate::report::hold_report;
 use basis::OrMemory;
 use explore::{Findings, Status, explore, explore_alone};
 use report_text::Report;
@@ -15,16 +15,17 @@ use statebook::Limits;
 use std::alloc::Global;
 use std::sync::Wait;
 use std::thread::Threads;
-use vcd_text::TooMany;
+use vcd_text::{HeldText, TooMany};
 use vmachine::{Machine, Standing, machine_law};
 use workpool::Gate;
 
-/// The report of an exploration, and how that went. A status that says that memory was refused holds what only a refused
-/// growth makes.
+/// The report of an exploration, how that went, and of each end the dump, where it is held. A status that says that memory
+/// was refused holds what only a refused growth makes.
 #[derive(Drop)]
 pub struct Explored {
     pub report: Report,
     pub status: Status,
+    pub held: Vec<Option<HeldText>>,
 }
 
 // The report of what was found, by whomever.
@@ -42,16 +43,18 @@ fn report_found(
     ensures status { IfOk result (λ explored. explored.status ≡ findings.now.status) }
     ensures bytes { IfOk result (TellsBytes machine.now) }
     ensures formed { IfOk result (IsReadable machine.now) }
+    ensures held { IfOk result (HoldsDumps machine.now) }
     ensures long { IfFault result (λ _. HasSomeLongDump machine.now limits.now) }
 {
     machine_law();
-    let report = match report_of(alloc, machine, findings, limits) {
-        Ok(report) => report,
+    let told = match hold_report(alloc, machine, findings, limits) {
+        Ok(told) => told,
         Err(fault) => return Err(fault),
     };
     Ok(Explored {
-        report,
+        report: told.report,
         status: findings.status,
+        held: told.held,
     })
 }
 
@@ -72,6 +75,7 @@ pub fn report_alone(
     ensures entries { IfOk result (MeansEntries machine.now limits.now) }
     ensures bytes { IfOk result (TellsBytes machine.now) }
     ensures formed { IfOk result (IsReadable machine.now) }
+    ensures held { IfOk result (HoldsDumps machine.now) }
     ensures long { IfFault result (λ _. HasSomeLongDump machine.now limits.now) }
 {
     machine_law();
@@ -97,6 +101,7 @@ pub fn report_shared<R: Threads + Wait + Sync, G: Gate>(
     ensures outcome { IfOk result TellsOutcome }
     ensures bytes { IfOk result (TellsBytes machine.now) }
     ensures formed { IfOk result (IsReadable machine.now) }
+    ensures held { IfOk result (HoldsDumps machine.now) }
     ensures long { IfFault result (λ _. HasSomeLongDump machine.now limits.now) }
 {
     machine_law();

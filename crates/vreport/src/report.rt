@@ -11,8 +11,9 @@ ghost use Rattle.vreport.specs.Formed.{IsFormed};
 ghost use Rattle.vreport.specs.Inner.{HasLog, HasTimeAndLogs, HasWidth};
 ghost use Rattle.vreport.specs.Reports.{HasOutcome, IsHeadOf, ShowsRaces, outcome_of as outcome_by_status, told_race, told_value};
 ghost use Rattle.vreport.specs.Truth.{column_of};
+ghost use Rattle.vreport.specs.Written.{AreHeld};
 
-use crate::ends::ends_of;
+use crate::ends::{HeldEnds, ends_of};
 use crate::values::text_of_value;
 use basis::{NoMemory, OrMemory};
 use explore::{Findings, Reason, Status};
@@ -20,7 +21,7 @@ use racebook::{Sighting, races};
 use report_text::{Column, Outcome, Race, Report, Seen, Version};
 use statebook::Limits;
 use std::alloc::Global;
-use vcd_text::TooMany;
+use vcd_text::{HeldText, TooMany};
 use vdesign::design::Variable;
 use vmachine::{Machine, Standing};
 use vmodel::run_law;
@@ -91,6 +92,60 @@ fn outcome_of(status: Status) -> Outcome
     }
 }
 
+/// A report; and of each of its ends the dump, where it is held.
+#[derive(Drop)]
+pub struct HeldReport {
+    pub report: Report,
+    pub held: Vec<Option<HeldText>>,
+}
+
+/// The report as `report_of` gives it, with the dumps that were held of it.
+pub fn hold_report(
+    alloc: Global,
+    machine: &Machine,
+    findings: &Findings<Standing>,
+    limits: &Limits,
+) -> Result<HeldReport, OrMemory<TooMany>>
+    requires found { ListsFound (machine_rules machine.now) limits.now findings.now }
+    ensures head { IfOk result (λ told. IsHeadOf machine.now limits.now told.report) }
+    ensures outcome { IfOk result (λ told. HasOutcome findings.now.status told.report) }
+    ensures true_ends { IfOk result (λ told.
+        Each (IsTrueEnd machine.now limits.now) told.report.ends) }
+    ensures bytes { IfOk result (λ told.
+        Each (HasBytes machine.now limits.now.steps) told.report.ends) }
+    ensures every_end { IfOk result (λ told.
+        GivesEveryEnd machine.now limits.now findings.now told.report.ends) }
+    ensures ends_order { IfOk result (λ told. EachTwo IsEndBefore told.report.ends) }
+    ensures races { IfOk result (λ told.
+        ShowsRaces machine.now limits.now findings.now told.report.races) }
+    ensures formed { AreNamed machine.now.design → machine.now.until ≤ 4611686018427387903 →
+        IfOk result (λ told. IsFormed machine.now told.report) }
+    ensures held { IfOk result (λ told.
+        AreHeld machine.now limits.now.steps told.report.ends told.held.items) }
+    ensures long { IfFault result (λ _. HasSomeLongDump machine.now limits.now) }
+{
+    run_law();
+    let HeldEnds { ends, held } = match ends_of(alloc, machine, findings, limits) {
+        Ok(ends) => ends,
+        Err(fault) => return Err(fault),
+    };
+    let found = races(alloc, machine, findings)?;
+    let design = machine.design();
+    let report = Report {
+        version: Version::Two,
+        top: Vec::from_slice(alloc, &design.top)?,
+        until: machine.until(),
+        depart: limits.depart,
+        steps: limits.steps,
+        grain: machine.grain(),
+        outcome: outcome_of(findings.status),
+        variables: columns_of(alloc, &design.variables)?,
+        ends,
+        races: told_races(alloc, &found)?,
+    };
+    Ok(HeldReport { report, held })
+}
+
 /// The report of what an explorer found of a machine under limits, without the dumps of its ends: its head, each end once,
 /// each race, and of each the logs of the fewest departures among the marks that show it (docs/FORMATS.md, "Reports").
 ///
@@ -119,23 +174,8 @@ pub fn report_of(
         IfOk result (IsFormed machine.now) }
     ensures long { IfFault result (λ _. HasSomeLongDump machine.now limits.now) }
 {
-    run_law();
-    let ends = match ends_of(alloc, machine, findings, limits) {
-        Ok(ends) => ends,
-        Err(fault) => return Err(fault),
-    };
-    let found = races(alloc, machine, findings)?;
-    let design = machine.design();
-    Ok(Report {
-        version: Version::Two,
-        top: Vec::from_slice(alloc, &design.top)?,
-        until: machine.until(),
-        depart: limits.depart,
-        steps: limits.steps,
-        grain: machine.grain(),
-        outcome: outcome_of(findings.status),
-        variables: columns_of(alloc, &design.variables)?,
-        ends,
-        races: told_races(alloc, &found)?,
-    })
+    match hold_report(alloc, machine, findings, limits) {
+        Ok(told) => Ok(told.report),
+        Err(fault) => Err(fault),
+    }
 }

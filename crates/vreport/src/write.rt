@@ -5,13 +5,14 @@ ghost use Rattle.vcd_text.specs.Outlets.{Stopped};
 ghost use Rattle.report_text.specs.WellFormed.{Each};
 ghost use Rattle.report_text.specs.ReportText.{races_text};
 ghost use Rattle.vreport.specs.Ends.{HasBytes};
-ghost use Rattle.vreport.specs.Written.{StopsEnd, StopsEnds, StopsReport, TakesEnd, TakesEnds, TakesReport};
+ghost use Rattle.vreport.specs.Dumps.{StopsDump, TakesDump};
+ghost use Rattle.vreport.specs.Written.{AreHeld, IsHeld, StopsEnd, StopsEnds, StopsReport, TakesEnd, TakesEnds, TakesReport};
 
 use crate::dump::write_dump;
 use basis::{NoMemory, OrMemory};
 use report_text::{Column, End, Race, Report, end_lines, head_lines, race_count_line, race_lines};
 use std::alloc::Global;
-use vcd_text::{Outlet, put};
+use vcd_text::{HeldText, Outlet, put};
 use vmachine::Machine;
 
 // Hands on a text that was made, unless memory was refused for it.
@@ -30,21 +31,45 @@ fn put_made<O: Outlet>(
     }
 }
 
+// The dump of an end: the one that is held, or else made again.
+fn put_dump<O: Outlet>(
+    alloc: Global,
+    machine: &Machine,
+    steps: u32,
+    end: &End,
+    held: &Option<HeldText>,
+    outlet: &mut O,
+) -> Result<(), OrMemory<O::Fault>>
+    requires bytes { HasBytes machine.now steps end.now }
+    requires held { IsHeld machine.now steps end.now held.now }
+    ensures ok { OnOk result
+        (TakesDump O.takes machine.now end.now.log steps outlet.old outlet.new) }
+    ensures err { IfErr result (λ fault.
+        StopsDump O.takes O.fails machine.now end.now.log steps outlet.old fault outlet.new) }
+{
+    match held {
+        Some(dump) => put(outlet, dump.text()),
+        None => write_dump(alloc, machine, &end.log, steps, outlet),
+    }
+}
+
 // An end, and its dump behind it.
 fn put_end<O: Outlet>(
     alloc: Global,
     machine: &Machine,
     steps: u32,
     end: &End,
+    held: &Option<HeldText>,
     outlet: &mut O,
 ) -> Result<(), OrMemory<O::Fault>>
     requires bytes { HasBytes machine.now steps end.now }
+    requires held { IsHeld machine.now steps end.now held.now }
     ensures ok { OnOk result (TakesEnd O.takes machine.now steps end.now outlet.old outlet.new) }
     ensures err { IfErr result (λ fault.
         StopsEnd O.takes O.fails machine.now steps end.now outlet.old fault outlet.new) }
 {
     match put_made(outlet, end_lines(alloc, end)) {
-        Ok(()) => write_dump(alloc, machine, &end.log, steps, outlet),
+        Ok(()) => put_dump(alloc, machine, steps, end, held, outlet),
         Err(fault) => Err(fault),
     }
 }
@@ -55,15 +80,17 @@ fn put_ends<O: Outlet>(
     machine: &Machine,
     steps: u32,
     ends: &[End],
+    held: &[Option<HeldText>],
     outlet: &mut O,
 ) -> Result<(), OrMemory<O::Fault>>
     requires bytes { Each (HasBytes machine.now steps) ends.now }
+    requires held { AreHeld machine.now steps ends.now held.now }
     ensures ok { OnOk result (TakesEnds O.takes machine.now steps ends.now outlet.old outlet.new) }
     ensures err { IfErr result (λ fault.
         StopsEnds O.takes O.fails machine.now steps ends.now outlet.old fault outlet.new) }
 {
-    for end in ends {
-        match put_end(alloc, machine, steps, end, outlet) {
+    for place in 0..ends.len() {
+        match put_end(alloc, machine, steps, &ends[place], &held[place], outlet) {
             Ok(()) => {}
             Err(fault) => return Err(fault),
         }
@@ -91,15 +118,18 @@ fn put_races<O: Outlet>(
     Ok(())
 }
 
-/// Writes the text of a report to the outlet, and behind each end the dump of the run under its log, slot by slot: no dump
-/// is held in memory. E901 where memory was refused; else a fault is the outlet's. Then a front of the text stands written.
+/// Writes the text of a report to the outlet, and behind each end its dump: the one that is held, else that of the run under
+/// its log, which is run again and written slot by slot. E901 where memory was refused; else a fault is the outlet's. Then a
+/// front of the text stands written.
 pub fn write_report<O: Outlet>(
     alloc: Global,
     machine: &Machine,
     report: &Report,
+    held: &[Option<HeldText>],
     outlet: &mut O,
 ) -> Result<(), OrMemory<O::Fault>>
     requires bytes { Each (HasBytes machine.now report.now.steps) report.now.ends }
+    requires held { AreHeld machine.now report.now.steps report.now.ends held.now }
     ensures ok { OnOk result (TakesReport O.takes machine.now report.now outlet.old outlet.new) }
     ensures err { IfErr result (λ fault.
         StopsReport O.takes O.fails machine.now report.now outlet.old fault outlet.new) }
@@ -108,7 +138,7 @@ pub fn write_report<O: Outlet>(
         Ok(()) => {}
         Err(fault) => return Err(fault),
     }
-    match put_ends(alloc, machine, report.steps, &report.ends, outlet) {
+    match put_ends(alloc, machine, report.steps, &report.ends, held, outlet) {
         Ok(()) => {}
         Err(fault) => return Err(fault),
     }

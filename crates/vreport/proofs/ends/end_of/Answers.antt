@@ -3,10 +3,11 @@ use Rattle.std.specs.Map.Iter.{deref_pair}
 use Rattle.sched_core.specs.Logs.{IsLog}
 use Rattle.vmachine.specs.declared.standing.Standing.{Standing}
 use Rattle.vreport.proofs.EndLemmas.{because, its_dump, its_end, its_long_dump}
+use Rattle.vreport.proofs.HeldLemmas.{its_held}
 use Rattle.vreport.proofs.ends.end_of.Goals as goal
 
-pub dump_len-requires : goal.dump_len-requires
-dump_len-requires c =
+pub measure_dump-requires : goal.measure_dump-requires
+measure_dump-requires c =
     let law = c.machine_law.ensures in
     let setting = c.args.machine.now in
     let mark : Standing × List (ℕ × ℕ) = (c.in-Some.field-0-0.now, c.in-Some.log.now) in
@@ -31,3 +32,6 @@ returns-clause-ok c =
     its_end setting (law.same setting) (law.stands setting) (law.runs setting) c.args.limits.now c.args.findings.now.marks.entries c.requires.found c.args.row.now c.requires.of
     mark (sym c.get_index.ensures.entry ∙ ap (option_map deref_pair) c.in-Some.is) _ c.time_of.ensures.same c.cause_of.ensures
     (c.in_ok-from_slice.ensures.items ∙ c.deref.ensures.value) c.in_ok-copy.ensures.equal (c.time_of.ensures.bits, subst IsLog (sym c.in_ok-copy.ensures.equal) c.copy.ensures.lawful) c.in-Ok.ensures.ok
+
+pub returns-clause-held : goal.returns-clause-held
+returns-clause-held c = its_held c.args.machine.now c.args.limits.now.steps _ c.in-Some.log.now c.in-Ok.dump.held c.in_ok-copy.ensures.equal c.in-Ok.ensures.held

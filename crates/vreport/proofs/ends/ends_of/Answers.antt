@@ -14,8 +14,8 @@ returns-clause-true_ends c =
     let marks = c.args.findings.now.marks.entries in
     let rows = c.deref.result.now in
     let law = c.machine_law.ensures in
-    IfOk-weaker c.ends_of_rows.result (λ ends. AreEnds setting limits marks rows ends.items) (λ ends. Each (IsTrueEnd setting limits) ends.items)
-    (λ ends are. ends_true setting (law.same setting) (law.stands setting) (law.runs setting) limits marks rows ends.items are c.requires.found) c.ends_of_rows.ensures.ok
+    IfOk-weaker c.ends_of_rows.result (λ found. AreEnds setting limits marks rows found.ends.items) (λ found. Each (IsTrueEnd setting limits) found.ends.items)
+    (λ found are. ends_true setting (law.same setting) (law.stands setting) (law.runs setting) limits marks rows found.ends.items are c.requires.found) c.ends_of_rows.ensures.ok
 
 pub returns-clause-bytes : goal.returns-clause-bytes
 returns-clause-bytes c =
@@ -24,8 +24,8 @@ returns-clause-bytes c =
     let marks = c.args.findings.now.marks.entries in
     let rows = c.deref.result.now in
     let law = c.machine_law.ensures in
-    IfOk-weaker c.ends_of_rows.result (λ ends. AreEnds setting limits marks rows ends.items) (λ ends. Each (HasBytes setting limits.steps) ends.items)
-    (λ ends are. ends_bytes setting (law.same setting) (law.stands setting) (law.runs setting) limits marks rows ends.items are) c.ends_of_rows.ensures.ok
+    IfOk-weaker c.ends_of_rows.result (λ found. AreEnds setting limits marks rows found.ends.items) (λ found. Each (HasBytes setting limits.steps) found.ends.items)
+    (λ found are. ends_bytes setting (law.same setting) (law.stands setting) (law.runs setting) limits marks rows found.ends.items are) c.ends_of_rows.ensures.ok
 
 pub returns-clause-all : goal.returns-clause-all
 returns-clause-all c =
@@ -36,8 +36,8 @@ returns-clause-all c =
     let rows = c.deref.result.now in
     let law = c.machine_law.ensures in
     let of : AreRows setting marks rows = subst (λ (xs : List Row). AreRows setting marks xs) (sym c.deref.ensures.value) c.in_ok-rows.ensures.of in
-    IfOk-weaker c.ends_of_rows.result (λ ends. AreEnds setting limits marks rows ends.items) (λ ends. GivesEveryEnd setting limits findings ends.items)
-    (λ ends are. λ whole. ends_all setting (law.same setting) (law.stands setting) (law.runs setting) limits marks rows ends.items are (law.runs_back setting) (law.mark setting) of limits.depart
+    IfOk-weaker c.ends_of_rows.result (λ found. AreEnds setting limits marks rows found.ends.items) (λ found. GivesEveryEnd setting limits findings found.ends.items)
+    (λ found are. λ whole. ends_all setting (law.same setting) (law.stands setting) (law.runs setting) limits marks rows found.ends.items are (law.runs_back setting) (law.mark setting) of limits.depart
     (whole.1 whole.0)) c.ends_of_rows.ensures.ok
 
 pub returns-clause-kept : goal.returns-clause-kept
@@ -47,5 +47,5 @@ returns-clause-kept c =
     let marks = c.args.findings.now.marks.entries in
     let rows = c.deref.result.now in
     let law = c.machine_law.ensures in
-    IfOk-weaker c.ends_of_rows.result (λ ends. AreEnds setting limits marks rows ends.items) (λ ends. Each HasTimeAndLog ends.items)
-    (λ ends are. ends_kept setting (law.same setting) (law.stands setting) (law.runs setting) limits marks rows ends.items are) c.ends_of_rows.ensures.ok
+    IfOk-weaker c.ends_of_rows.result (λ found. AreEnds setting limits marks rows found.ends.items) (λ found. Each HasTimeAndLog found.ends.items)
+    (λ found are. ends_kept setting (law.same setting) (law.stands setting) (law.runs setting) limits marks rows found.ends.items are) c.ends_of_rows.ensures.ok

@@ -1,5 +1,6 @@
 use Rattle.vreport.specs.Inner.{AreEndsBelow}
+use Rattle.vreport.specs.Written.{AreHeld}
 use Rattle.vreport.proofs.ends.ends_of_rows.Given as goal
 
 abbrev pub invariant-loop-place : goal.invariant-loop-place
-invariant-loop-place l = AreEndsBelow l.machine l.limits l.findings.marks.entries l.rows l.place l.ends.items
+invariant-loop-place l = AreEndsBelow l.machine l.limits l.findings.marks.entries l.rows l.place l.ends.items × AreHeld l.machine l.limits.steps l.ends.items l.held.items

@@ -1,6 +1,5 @@
-use Rattle.std.proofs.Common.{ap, refl}
+use Rattle.std.proofs.Common.{refl}
 use Rattle.std.proofs.lemmas.Result.{IfErr-weaker, on_ok_weaker}
-use Rattle.report_text.specs.Report.{End}
 use Rattle.report_text.specs.ReportText.{end_text}
 use Rattle.vreport.specs.Dumps.{StopsDump}
 use Rattle.vreport.specs.Written.{StopsEnd}
@@ -9,16 +8,16 @@ use Rattle.vreport.proofs.write.put_end.Goals as goal
 
 pub returns-in-Ok-clause-ok : goal.returns-in-Ok-clause-ok
 returns-in-Ok-clause-ok g c =
-    on_ok_weaker c.write_dump.result
-    (end_taken g.O.Outlet.takes g.O.Outlet.fails g.met.O.Outlet.lawful c.args.machine.now c.args.steps c.args.end.now (end_text c.args.end.now) c.end.inside.log c.args.outlet.now c.put_made.new.outlet
-    c.write_dump.new.outlet refl (ap (λ (e : End). e.log) c.end.view_is) (c.in-Ok.ensures.ok (end_text c.args.end.now) c.end_lines.ensures)) c.write_dump.ensures.ok
+    on_ok_weaker c.put_dump.result
+    (end_taken g.O.Outlet.takes g.O.Outlet.fails g.met.O.Outlet.lawful c.args.machine.now c.args.steps c.args.end.now (end_text c.args.end.now) c.args.end.now.log c.args.outlet.now c.put_made.new.outlet
+    c.put_dump.new.outlet refl refl (c.in-Ok.ensures.ok (end_text c.args.end.now) c.end_lines.ensures)) c.put_dump.ensures.ok
 
 pub returns-in-Ok-clause-err : goal.returns-in-Ok-clause-err
 returns-in-Ok-clause-err g c =
-    IfErr-weaker c.write_dump.result (λ fault. StopsDump g.O.Outlet.takes g.O.Outlet.fails c.args.machine.now c.end.inside.log c.args.steps c.put_made.new.outlet fault c.write_dump.new.outlet)
-    (λ fault. StopsEnd g.O.Outlet.takes g.O.Outlet.fails c.args.machine.now c.args.steps c.args.end.now c.args.outlet.now fault c.write_dump.new.outlet)
-    (λ fault. stops_in_dump g.O.Outlet.takes g.O.Outlet.fails g.met.O.Outlet.lawful c.args.machine.now c.args.steps c.args.end.now (end_text c.args.end.now) c.end.inside.log c.args.outlet.now c.put_made.new.outlet
-    c.write_dump.new.outlet fault refl (ap (λ (e : End). e.log) c.end.view_is) (c.in-Ok.ensures.ok (end_text c.args.end.now) c.end_lines.ensures)) c.write_dump.ensures.err
+    IfErr-weaker c.put_dump.result (λ fault. StopsDump g.O.Outlet.takes g.O.Outlet.fails c.args.machine.now c.args.end.now.log c.args.steps c.put_made.new.outlet fault c.put_dump.new.outlet)
+    (λ fault. StopsEnd g.O.Outlet.takes g.O.Outlet.fails c.args.machine.now c.args.steps c.args.end.now c.args.outlet.now fault c.put_dump.new.outlet)
+    (λ fault. stops_in_dump g.O.Outlet.takes g.O.Outlet.fails g.met.O.Outlet.lawful c.args.machine.now c.args.steps c.args.end.now (end_text c.args.end.now) c.args.end.now.log c.args.outlet.now c.put_made.new.outlet
+    c.put_dump.new.outlet fault refl refl (c.in-Ok.ensures.ok (end_text c.args.end.now) c.end_lines.ensures)) c.put_dump.ensures.err
 
 pub returns-in-Err-clause-err : goal.returns-in-Err-clause-err
 returns-in-Err-clause-err g c =

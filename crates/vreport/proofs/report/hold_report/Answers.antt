@@ -1,7 +1,7 @@
 use Rattle.std.proofs.Common.{rules, ap, ◌∙◌, map}
 use Rattle.vreport.specs.Reports.{told_race}
 use Rattle.vreport.proofs.FormedLemmas.{formed}
-use Rattle.vreport.proofs.report.report_of.Goals as goal
+use Rattle.vreport.proofs.report.hold_report.Goals as goal
 
 pub returns-clause-head : goal.returns-clause-head
 returns-clause-head c = search rules
