@@ -1,5 +1,5 @@
 -- What stands written of a run's dump.
-use Rattle.std.proofs.Common.{◌≡◌, ℕ, List, Option, Result, Ok, Err, OnOk, IfErr, refl}
+use Rattle.std.proofs.Common.{◌≡◌, ℕ, List, Option, Result, Ok, Err, OnOk, IfErr, refl, sym, subst}
 use Rattle.sched_core.specs.Replay.{IsReplayReason}
 use Rattle.sched_core.specs.declared.run.ReplayFault.{ReplayFault}
 use Rattle.sched_core.specs.declared.run.ReplayFault.TheVariants as replay
@@ -35,6 +35,12 @@ pub stops : {W : Type 0} (contents : W → Option (List ℕ)) (setting : Setting
     StopsText contents (IsRunDump setting log limit) old new fault
 stops contents setting log limit old new cause fault is (dump, known, stopped) =
     record { cause = cause; is = is; text = dump; holds = known; stops = stops_of contents old new dump cause stopped }
+
+-- where this text went out, it was one of which this holds
+pub stops_with : {W : Type 0} (contents : W → Option (List ℕ)) (Holds : List ℕ → Type 0) (one : List ℕ) (old new : Metered W) (fault : Fault) → Holds one →
+    StopsText contents (λ text. text ≡ one) old new fault → StopsText contents Holds old new fault
+stops_with contents Holds one old new fault holds s =
+    record { cause = s.cause; is = s.is; text = s.text; holds = subst Holds (sym s.holds) holds; stops = s.stops }
 
 -- why there is no such run
 pub run_fault : (setting : Setting) (log : List (ℕ × ℕ)) (limit : ℕ) (why : ReplayFault) → IsReplayReason (rules_of setting) log limit why →

@@ -1,5 +1,5 @@
 -- What is taken when a run that ends is handed to a fresh sink of lines.
-use Rattle.std.proofs.Common.{◌≡◌, ℕ, List, Option, take, drop, refl, sym, ap, subst, ◌∙◌}
+use Rattle.std.proofs.Common.{◌≡◌, ℕ, List, [], ◌++◌, Option, take, drop, refl, sym, ap, subst, ◌∙◌}
 use Rattle.std.proofs.lemmas.List.{take-append-drop}
 use Rattle.sched_core.specs.Replay.{IsReplayReason}
 use Rattle.sched_core.specs.declared.run.ReplayFault.{ReplayFault}
@@ -15,6 +15,7 @@ use Rattle.vmachine.specs.declared.run.RunFault.TheVariants.{Sink}
 use Rattle.basis.specs.declared.memory.NoMemory.{NoMemory}
 use Rattle.basis.specs.declared.memory.OrMemory.{OrMemory}
 use Rattle.basis.specs.declared.memory.OrMemory.TheVariants as or
+use Rattle.vcd_text.specs.Held.{Appended}
 use Rattle.vcd_text.specs.Outlets.{IsOutlet, Stopped}
 use Rattle.vcd_text.specs.Metered.{Written, Broken}
 use Rattle.vcd_text.specs.MeteredLaws.{stops_of}
@@ -102,3 +103,8 @@ pub lines_stop : {W : Type 0} (contents : W → Option (List ℕ)) (setting : Se
     StopsText contents (IsRunLines setting log limit) old new fault
 lines_stop contents setting log limit old new cause fault is (text, known, stopped) =
     record { cause = cause; is = is; text = text; holds = known; stops = stops_of contents old new text cause stopped }
+
+-- what was taken on top of nothing is the lines themselves
+pub held_whole : (setting : Setting) (log : List (ℕ × ℕ)) (limit : ℕ) (old new : List ℕ) → old ≡ [] → TakesLines Appended setting log limit old new → IsRunLines setting log limit new
+held_whole setting log limit old new none (text, is, taken) =
+    subst (IsRunLines setting log limit) (sym (taken ∙ ap (λ (kept : List ℕ). kept ++ text) none)) is

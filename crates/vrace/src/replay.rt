@@ -206,8 +206,8 @@ fn hold_run(
 // Writes a text that is held.
 fn write_held<W: Write>(text: &HeldText, writer: &mut Metered<W>) -> Result<(), Fault>
     ensures ok { OnOk result (Grows W.contents writer.old writer.new text.now) }
-    ensures err { (Holds : List ℕ → Type 0) → Holds text.now →
-        IfErr result (StopsText W.contents Holds writer.old writer.new) }
+    ensures err { IfErr result
+        (StopsText W.contents (λ held. held ≡ text.now) writer.old writer.new) }
 {
     match put(writer, text.text()) {
         Ok(()) => Ok(()),

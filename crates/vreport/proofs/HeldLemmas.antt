@@ -3,6 +3,7 @@ use Rattle.std.proofs.Common.{◌≡◌, ℕ, zero, suc, List, [], ◌∷◌, �
 use Rattle.std.specs.Prelude.{IfSome}
 use Rattle.std.proofs.lemmas.Option.{same_Some}
 use Rattle.vmodel.specs.Run.{Setting}
+use Rattle.vcd_text.specs.Held.{Appended}
 use Rattle.report_text.specs.Report.{End}
 use Rattle.vreport.specs.Dumps.{IsRunDump, TakesDump}
 use Rattle.vreport.specs.Inner.{IsCounted}
@@ -46,6 +47,6 @@ module _ (setting : Setting) (steps : ℕ) where
   held_at (e ∷ ends) (x ∷ held) (suc i) end one are at at' = held_at ends held i end one are.1 at at'
 
 -- what was taken on top of nothing is the text itself
-pub held_whole : (setting : Setting) (log : List (ℕ × ℕ)) (steps : ℕ) (old new : List ℕ) → old ≡ [] → TakesDump (λ (s text t : List ℕ). t ≡ s ++ text) setting log steps old new → IsRunDump setting log steps new
+pub held_whole : (setting : Setting) (log : List (ℕ × ℕ)) (steps : ℕ) (old new : List ℕ) → old ≡ [] → TakesDump Appended setting log steps old new → IsRunDump setting log steps new
 held_whole setting log steps old new none (dump, is, taken) =
-    subst (IsRunDump setting log steps) (sym (taken ∙ ap (λ (s : List ℕ). s ++ dump) none)) is
+    subst (IsRunDump setting log steps) (sym (taken ∙ ap (λ (kept : List ℕ). kept ++ dump) none)) is

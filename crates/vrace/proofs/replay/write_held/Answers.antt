@@ -2,10 +2,10 @@ use Rattle.vcd_text.specs.MeteredLaws.{stops_of}
 use Rattle.vrace.proofs.replay.write_held.Goals as goal
 
 pub returns-in-Err-clause-err : goal.returns-in-Err-clause-err
-returns-in-Err-clause-err g c = λ Holds holds. record {
+returns-in-Err-clause-err g c = record {
   cause = c.in-Err.fault;
   is = c.of_writing.ensures;
-  text = c.args.text.now;
-  holds = holds;
-  stops = stops_of g.W.Write.contents c.args.writer.now c.put.new.outlet c.args.text.now c.in-Err.fault c.in-Err.ensures.err;
+  text = c.text.result.now;
+  holds = c.text.ensures;
+  stops = stops_of g.W.Write.contents c.args.writer.now c.put.new.outlet c.text.result.now c.in-Err.fault c.in-Err.ensures.err;
 }
