@@ -13,10 +13,10 @@ use std::test::Fail;
 use workpool::Tally;
 
 // An entry of a run that has taken no step.
-fn entry_of(alloc: Global, x: u32) -> Entry<Square> {
+fn entry_of(alloc: Global, x: u32, budget: u32) -> Entry<Square> {
     Entry {
         state: Square { x, y: 1 },
-        budget: 0,
+        budget,
         log: Log::new(alloc),
         steps: 0,
     }
@@ -56,7 +56,7 @@ fn finishes_once<Q: Quest<Square>, B: Naming>(
     )
 }
 
-// One pass meets one entry twice: New, then Known with the same entry read.
+// One pass meets one entry twice: New, then Known with the same entry read; the same of that state with fewer departures left.
 fn meets_twice<Q: Quest<Square>, B: Naming, R: Wait>(
     rt: &R,
     alloc: Global,
@@ -66,14 +66,21 @@ fn meets_twice<Q: Quest<Square>, B: Naming, R: Wait>(
     requires names { AreNames unopened B.entries B.name B.parts }
 {
     let (book, mut pass) = Book::<Square, Q, B>::open(alloc, unopened)?;
-    let Ok(Met::New(seen)) = book.meet(rt, &mut pass, entry_of(alloc, 3)) else {
+    let Ok(Met::New(seen)) = book.meet(rt, &mut pass, entry_of(alloc, 3, 1)) else {
         return Err(Fail::from("not new at first"));
     };
-    let Ok(Met::Known(known)) = book.meet(rt, &mut pass, entry_of(alloc, 3)) else {
+    let Ok(Met::Known(known)) = book.meet(rt, &mut pass, entry_of(alloc, 3, 1)) else {
         return Err(Fail::from("not known then"));
+    };
+    let Ok(Met::Known(lesser)) = book.meet(rt, &mut pass, entry_of(alloc, 3, 0)) else {
+        return Err(Fail::from("not known with fewer departures left"));
     };
     expect(pass.count() == 1, "one New answer was counted")?;
     expect(known.place() == seen.place(), "one place")?;
+    expect(
+        lesser.place() == seen.place(),
+        "the place of what dominates",
+    )?;
     expect(
         book.read(&known).state == book.read(&seen).state,
         "one entry",
@@ -104,10 +111,10 @@ fn meets_by_two<Q: Quest<Square>, B: Naming, R: Wait>(
 {
     let (book, mut pass) = Book::<Square, Q, B>::open(alloc, unopened)?;
     let mut other = pass.split();
-    let Ok(Met::New(_)) = book.meet(rt, &mut pass, entry_of(alloc, 3)) else {
+    let Ok(Met::New(_)) = book.meet(rt, &mut pass, entry_of(alloc, 3, 0)) else {
         return Err(Fail::from("the first is not new"));
     };
-    let Ok(Met::New(_)) = book.meet(rt, &mut other, entry_of(alloc, 4)) else {
+    let Ok(Met::New(_)) = book.meet(rt, &mut other, entry_of(alloc, 4, 0)) else {
         return Err(Fail::from("the second is not new"));
     };
     audits(book, pass, other)

@@ -6,7 +6,7 @@ ghost use Rattle.shardbook.specs.Names.{AreNames};
 ghost use Rattle.workpool.specs.Searches.{IsQuestOf};
 
 use crate::gates::HoldsSecond;
-use explore::{Findings, Status, explore};
+use explore::{Findings, Reason, Status, explore};
 use sched_core::{Grid, Space, Square};
 use shardbook::{Book, Naming, Quest, Unopened};
 use statebook::Limits;
@@ -122,5 +122,18 @@ fn second_worker_works(rt: HostRuntime) -> Result<(), Fail> {
     assert!(rt; findings.status == Status::Exhausted);
     assert!(rt; gate.was_freed());
     assert!(rt; gate.calls() >= 19);
+    Ok(())
+}
+
+// With ten entries no job is taken any more. A job opens two entries at most, so ten take five jobs, and where both workers take one
+// at nine entries there are thirteen in the end, each with a job at most. On a board without a limit there would be 30,000 and more.
+#[test]
+fn workers_stop_at_the_limit(rt: HostRuntime) -> Result<(), Fail> {
+    let limits = Limits::new(2, 1_000, 10).ok_or("limits")?;
+    let gate = HoldsSecond::new();
+    let findings = explore(&rt, rt.alloc(), &Grid::new(100, 100), &limits, 2, &gate)?;
+    assert!(rt; findings.status == Status::Cut(Reason::Entries));
+    assert!(rt; gate.was_freed());
+    assert!(rt; 5 <= gate.calls() && gate.calls() <= 13);
     Ok(())
 }

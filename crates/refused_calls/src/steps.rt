@@ -1,0 +1,60 @@
+// The steps of the run that takes choice 0 throughout.
+
+use crate::told::Told;
+use basis::NoMemory;
+use sched_core::Space;
+use std::alloc::Global;
+use vhierarchy::elaborate;
+use vlex::tokens;
+use vmachine::Machine;
+use vmodel::history::Grain;
+use vparse::parse;
+use vsrc::expand;
+
+/// The machine of this text in grain process, up to the time 1,000,000; none where it has no design, or memory was refused.
+pub fn machine_of(alloc: Global, text: &[u8]) -> Option<Machine> {
+    let mut files = Vec::new(alloc);
+    files.push(Vec::from_slice(alloc, text).ok()?).ok()?;
+    let source = expand(alloc, &files).ok()?;
+    let found = tokens(alloc, &source).ok()?;
+    let tree = parse(alloc, &found).ok()?;
+    let design = elaborate(alloc, &found, &tree, None, source.timescale()).ok()?;
+    Machine::new(alloc, design, 1_000_000, Grain::Process).ok()
+}
+
+// Takes the default step, if there is one.
+fn step<P: Space>(space: &P, state: &mut P::State) -> Result<(), NoMemory> {
+    if space.width(state) > 0 {
+        space.step(state, 0)
+    } else {
+        Ok(())
+    }
+}
+
+// Takes the default step, once more where it was refused: the state is then as it was before, and what the second call makes of it
+// is what a step makes of its copy.
+fn take<P: Space>(space: &P, state: &mut P::State, told: &mut Told) -> Result<(), NoMemory> {
+    let mut copy = space.copy(state)?;
+    let was_refused = step(space, state).is_err();
+    if was_refused {
+        told.expect(*state == copy, "a refused step changed the state");
+        step(space, state)?;
+    }
+    step(space, &mut copy)?;
+    told.expect(*state == copy, "a step of a copy made another state");
+    told.count(was_refused);
+    Ok(())
+}
+
+/// The default run, of at most a thousand steps.
+pub fn walks<P: Space>(space: &P) -> Result<Told, NoMemory> {
+    let mut told = Told::new();
+    let mut state = space.root()?;
+    for _ in 0..1_000u32 {
+        if space.width(&state) == 0 {
+            return Ok(told);
+        }
+        take(space, &mut state, &mut told)?;
+    }
+    Ok(told)
+}
