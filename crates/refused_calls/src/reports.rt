@@ -1,6 +1,6 @@
 // A report that is made, written and read again.
 
-ghost use Rattle.vreport.specs.Reports.{TellsBytes};
+ghost use Rattle.vreport.specs.Reports.{HoldsDumps, TellsBytes};
 
 use basis::OrMemory;
 use report_text::{ReportFault, read_report};
@@ -29,8 +29,9 @@ fn written(
     writer: &mut Metered<Vec<u8>>,
 ) -> &'static str
     requires bytes { TellsBytes machine.now explored.now }
+    requires held { HoldsDumps machine.now explored.now }
 {
-    match write_report(alloc, machine, &explored.report, writer) {
+    match write_report(alloc, machine, &explored.report, &explored.held, writer) {
         Ok(()) => "written",
         Err(fault) => of_writing(fault),
     }
