@@ -115,7 +115,7 @@ impl Read for Device {
     }
 }
 
-fn device(alloc: Global, room: usize, most: usize, then: Then) -> Metered<Device> {
+fn make_device(alloc: Global, room: usize, most: usize, then: Then) -> Metered<Device> {
     Metered::new(Device {
         held: Vec::new(alloc),
         room,
@@ -153,7 +153,7 @@ fn dump_on_full_devices(rt: HostRuntime) -> Result<(), Fail> {
     for then in EACH {
         for most in [1, 1000] {
             for room in 0..=DUMP.len() {
-                let mut device = device(rt.alloc(), room, most, then);
+                let mut device = make_device(rt.alloc(), room, most, then);
                 let answer = replay_text(
                     rt.alloc(),
                     &files,
@@ -174,7 +174,7 @@ fn report_on_full_devices(rt: HostRuntime) -> Result<(), Fail> {
     let files = files(rt.alloc(), RACING)?;
     for then in [EACH[0], EACH[3]] {
         for room in 0..=REPORT.len() {
-            let mut device = device(rt.alloc(), room, 7, then);
+            let mut device = make_device(rt.alloc(), room, 7, then);
             let answer = explore_text_alone(rt.alloc(), &files, &options()?, &mut device);
             let answer = answer.map(|_| ());
             assert!(rt; has_left(answer, device, REPORT, room), "room for {room}");
@@ -188,16 +188,16 @@ fn report_on_full_devices(rt: HostRuntime) -> Result<(), Fail> {
 fn readers_that_fail(rt: HostRuntime) -> Result<(), Fail> {
     for room in 0..=DUMPING.len() {
         for most in [1, 1000] {
-            let mut broken = device(rt.alloc(), room, most, EACH[1]);
+            let mut broken = make_device(rt.alloc(), room, most, EACH[1]);
             assert!(rt;
                 read_text(rt.alloc(), &mut broken) == Err(Fault::Read),
                 "after {room}"
             );
-            let mut ends = device(rt.alloc(), room, most, Then::TakesNothing);
+            let mut ends = make_device(rt.alloc(), room, most, Then::TakesNothing);
             assert_eq!(rt; read_text(rt.alloc(), &mut ends)?.len(), room);
         }
     }
-    let mut endless = device(rt.alloc(), usize::MAX, 1_000_000, EACH[1]);
+    let mut endless = make_device(rt.alloc(), usize::MAX, 1_000_000, EACH[1]);
     assert!(rt; read_text(rt.alloc(), &mut endless) == Err(Fault::TooLong));
     Ok(())
 }
