@@ -365,9 +365,10 @@ pub(crate) fn step(
         return Ok(None);
     };
     let values = Vec::from_slice(alloc, state.values())?;
-    match state.step(design, index) {
-        Ok(effects) => {
-            let text = lines_of(alloc, design, origins, &values, taken, &effects.deed, state)?;
+    let mut monitors = Vec::new(alloc);
+    match state.step(design, index, &mut monitors) {
+        Ok(deed) => {
+            let text = lines_of(alloc, design, origins, &values, taken, &deed, state)?;
             Ok(Some(text))
         }
         Err(refused) => Err(refused),

@@ -16,7 +16,7 @@ use crate::machine::Machine;
 use basis::{NoMemory, OrMemory};
 use sched_core::{Log, Member, ReplayFault, next_choice};
 use vdesign::design::Design;
-use vmodel::deed::StepEffects;
+use vmodel::deed::Deed;
 use vmodel::history::{End, History, Item};
 use vmodel::sink::Sink;
 use vmodel::values::Values;
@@ -104,12 +104,13 @@ fn note(
     items: &mut Vec<Item>,
     design: &Design,
     state: &SlowState,
-    effects: StepEffects,
+    deed: Deed,
+    monitors: &[usize],
 ) -> Result<(), NoMemory>
     ensures { OnOk result (items.new.items
-        ≡ items.old.items ++ items_of design.now (turn_to state.now effects)) }
+        ≡ items.old.items ++ items_of design.now (turn_to state.now deed monitors.now)) }
 {
-    put_items(items, design, state, &effects)
+    put_items(items, design, state, &deed, monitors)
 }
 
 impl Machine {
@@ -136,6 +137,7 @@ impl Machine {
         let mut state = opening(self.alloc, &self.design, self.until, self.grain)?;
         let mut pending = Vec::new(self.alloc);
         put_slot_end(&mut pending, &state)?;
+        let mut monitors = Vec::new(self.alloc);
         let mut rest = log.members();
         let mut n = 0;
         'turns: loop {
@@ -145,8 +147,8 @@ impl Machine {
                 Ok(None) => return Ok(state.end()),
                 Err(fault) => return Err(refused(fault)),
             };
-            let effects = state.step(&self.design, chosen.choice)?;
-            note(&mut pending, &self.design, &state, effects)?;
+            let deed = state.step(&self.design, chosen.choice, &mut monitors)?;
+            note(&mut pending, &self.design, &state, deed, &monitors)?;
             rest = chosen.later;
             n += 1;
         }
@@ -160,6 +162,7 @@ impl Machine {
         let mut state = opening(self.alloc, &self.design, self.until, self.grain)?;
         let mut items = Vec::new(self.alloc);
         put_slot_end(&mut items, &state)?;
+        let mut monitors = Vec::new(self.alloc);
         let mut rest = log.members();
         let mut n = 0;
         'turns: loop {
@@ -172,8 +175,8 @@ impl Machine {
                 }
                 Err(fault) => return Err(OrMemory::Fault(fault)),
             };
-            let effects = state.step(&self.design, chosen.choice)?;
-            note(&mut items, &self.design, &state, effects)?;
+            let deed = state.step(&self.design, chosen.choice, &mut monitors)?;
+            note(&mut items, &self.design, &state, deed, &monitors)?;
             rest = chosen.later;
             n += 1;
         }

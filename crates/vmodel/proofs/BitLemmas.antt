@@ -9,7 +9,7 @@ use Rattle.vmodel.specs.ProcessSets.{has, listed, members, rises}
 use Rattle.vmodel.specs.Queue.{with_process, without_process}
 use Rattle.vmodel.proofs.ProcessLemmas.{less, equal, more, compared, with_less, with_same, with_more, without_same, without_other, same, rises_from, rises_lower, rises_parts, is_lt, not_lt, lt_true, lt_false}
 
-listed_none : (f : ℕ → Bool) (from : ℕ) → listed f zero from ≡ []
+pub listed_none : (f : ℕ → Bool) (from : ℕ) → listed f zero from ≡ []
 unfolding listed
 listed_none f from = refl
 
@@ -190,10 +190,10 @@ clear_keeps word p n lt few ne = ap (λ b. b == 1) (bit_at_clear_other w128 word
 
 -- ---- the numbers of two words
 
-has_low : (low high p : ℕ) → p < 128 → has low high p ≡ (bit_at low p == 1)
+pub has_low : (low high p : ℕ) → p < 128 → has low high p ≡ (bit_at low p == 1)
 has_low low high p lt = ap (λ b. cond b (bit_at low p == 1) (bit_at high (p - 128) == 1)) (is_lt p 128 lt)
 
-has_high : (low high p : ℕ) → 128 ≤ p → has low high p ≡ (bit_at high (p - 128) == 1)
+pub has_high : (low high p : ℕ) → 128 ≤ p → has low high p ≡ (bit_at high (p - 128) == 1)
 has_high low high p le = ap (λ b. cond b (bit_at low p == 1) (bit_at high (p - 128) == 1)) (not_lt p 128 le)
 
 pub members_are : (low high : ℕ) → members low high ≡ listed (has low high) 256 0

@@ -1,5 +1,6 @@
 mod ProcessLemmas
 mod BitLemmas
+mod SetLemmas
 mod SpotLemmas
 mod LeftLemmas
 mod FutureLemmas

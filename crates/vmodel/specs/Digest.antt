@@ -1,6 +1,6 @@
 -- What the hash of a state is fed: one number made of its time, its values, where its processes stand and what its queue
 -- holds. Equal states have the same one; no more is asked of it.
-use Rattle.std.specs.Prelude.{◌≡◌, ℕ, ◌+◌, ◌*◌, ◌%◌, ◌^◌, true, List, [], ◌∷◌, Option, Some, None, slice_get}
+use Rattle.std.specs.Prelude.{◌≡◌, ℕ, ◌+◌, ◌*◌, ◌%◌, ◌/◌, ◌^◌, true, List, [], ◌∷◌, Option, Some, None, slice_get}
 use Rattle.std.specs.Hash as fed
 use Rattle.std.proofs.Common.{ap}
 use Rattle.vbits.specs.Vectors.{Vector}
@@ -9,6 +9,7 @@ use Rattle.vmodel.specs.declared.process.Spot.{Spot}
 use Rattle.vmodel.specs.declared.process.Spot.TheVariants.{Doing, Turning, Writing}
 use Rattle.vmodel.specs.declared.part.Part.{Part}
 use Rattle.vmodel.specs.declared.part.Part.TheVariants.{Whole, Bits}
+use Rattle.vmodel.specs.ProcessSets.{number_of}
 use Rattle.vmodel.specs.Queue.{Later, Queue}
 use Rattle.vmodel.specs.State.{Process, State}
 use Rattle.vmodel.specs.Same.{state_same}
@@ -59,7 +60,7 @@ abbrev pub updates_mixed : ℕ → List (List Part) → ℕ
 updates_mixed digest [] = digest
 updates_mixed digest (parts ∷ updates) = updates_mixed (parts_mixed digest parts) updates
 
--- a list of processes or of places, and its end
+-- a list of places, and its end
 abbrev pub numbers_ended : ℕ → List ℕ → ℕ
 numbers_ended digest ns = end_mixed (numbers_mixed digest ns)
 
@@ -67,9 +68,17 @@ numbers_ended digest ns = end_mixed (numbers_mixed digest ns)
 abbrev pub updates_ended : ℕ → List (List Part) → ℕ
 updates_ended digest updates = end_mixed (updates_mixed digest updates)
 
+-- 128 bits, as two words
+abbrev pub half_mixed : ℕ → ℕ → ℕ
+half_mixed digest half = mixed (mixed digest (half % 2 ^ 64)) (half / 2 ^ 64)
+
+-- a set of processes: a bit for each of the 256 numbers, as four words
+abbrev pub set_mixed : ℕ → List ℕ → ℕ
+set_mixed digest ps = half_mixed (half_mixed digest (number_of ps % 2 ^ 128)) (number_of ps / 2 ^ 128)
+
 -- a future time, with what it holds
 abbrev pub time_mixed : ℕ → ℕ × Later → ℕ
-time_mixed digest e = updates_ended (numbers_ended (mixed digest e.0) e.1.processes) e.1.updates
+time_mixed digest e = updates_ended (set_mixed (mixed digest e.0) e.1.processes) e.1.updates
 
 abbrev pub future_mixed : ℕ → List (ℕ × Later) → ℕ
 future_mixed digest [] = digest
@@ -82,7 +91,7 @@ last_mixed digest (Some p) = mixed digest p
 
 -- which processes are active and inactive
 abbrev pub acting_mixed : ℕ → Queue → ℕ
-acting_mixed digest q = numbers_ended (numbers_ended (last_mixed digest q.last) q.active) q.inactive
+acting_mixed digest q = set_mixed (set_mixed (last_mixed digest q.last) q.active) q.inactive
 
 -- which updates are activated and posted, and which monitor events stand
 abbrev pub waiting_mixed : ℕ → Queue → ℕ

@@ -4,7 +4,6 @@ use Rattle.vbits.specs.Vectors.{Vector}
 use Rattle.vmodel.specs.declared.process.Spot.{Spot}
 use Rattle.vmodel.specs.declared.process.Spot.TheVariants.{Doing}
 use Rattle.vmodel.specs.declared.deed.Deed.{Deed}
-use Rattle.vmodel.specs.declared.deed.StepEffects.{StepEffects}
 use Rattle.vmodel.specs.declared.deed.Fate.TheVariants.{Waits}
 use Rattle.vmodel.specs.Queue.{Queue}
 use Rattle.vmodel.specs.declared.history.Cause.{Cause}
@@ -62,9 +61,9 @@ awaits place holds body after =
     if holds then record { left = spots body after; deed = quiet }
     else record { left = Doing place ∷ after; deed = record quiet { fate = Waits place } }
 
--- the state after a step, and what the step did and ran
-abbrev pub turn_to : State → StepEffects → Turn
-turn_to state effects = record { state = state; deed = effects.deed; monitors = effects.monitors.items }
+-- the state after a step, what the step did, and the monitor events that ran
+abbrev pub turn_to : State → Deed → List ℕ → Turn
+turn_to state deed monitors = record { state = state; deed = deed; monitors = monitors }
 
 -- a step that ends the run
 abbrev pub ending_by : Cause → Deed

@@ -1,5 +1,5 @@
 -- How sets of processes are kept: two words of 128 bits, a bit for each process.
-use Rattle.std.specs.Prelude.{ℕ, zero, suc, ◌-◌, ◌==◌, Bool, true, ◌&&◌, if◌then◌else◌, nat_le, nat_lt, List, [], ◌∷◌}
+use Rattle.std.specs.Prelude.{ℕ, zero, suc, ◌+◌, ◌-◌, ◌^◌, ◌==◌, Bool, true, ◌&&◌, if◌then◌else◌, nat_le, nat_lt, List, [], ◌∷◌}
 use Rattle.std.specs.Int.{bit_at}
 
 -- whether the bit of this process is set
@@ -19,3 +19,8 @@ members low high = listed (has low high) 256 0
 abbrev pub rises : ℕ → List ℕ → Bool
 rises low [] = true
 rises low (p ∷ ps) = nat_le low p && nat_lt p 256 && rises (suc p) ps
+
+-- a set as one number, whose bit p is 1 where p is in
+abbrev pub number_of : List ℕ → ℕ
+number_of [] = 0
+number_of (p ∷ ps) = 2 ^ p + number_of ps

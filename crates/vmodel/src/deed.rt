@@ -72,14 +72,6 @@ pub struct Deed {
     pub cause: Option<Cause>,
 }
 
-/// What a step did, and the monitor events that ran where it ended the slot: the places of their print tasks, in order of
-/// creation (11.4, 17.1.2).
-#[derive(Drop)]
-pub struct StepEffects {
-    pub deed: Deed,
-    pub monitors: Vec<usize>,
-}
-
 impl Deed {
     /// What a step does that only goes on.
     pub fn quiet() -> Deed

@@ -1,7 +1,7 @@
 // What the hash of a state is fed (specs/Digest.antt).
 
 ghost use Rattle.std.specs.Prelude.{◌≡◌, slice_get};
-ghost use Rattle.vmodel.specs.Digest.{mixed, end_mixed, vector_mixed, values_mixed, stand_of as stand_of_spot, processes_mixed, numbers_ended, part_mixed, parts_mixed, updates_mixed, updates_ended, time_mixed, future_mixed, last_mixed, acting_mixed, waiting_mixed, queue_mixed};
+ghost use Rattle.vmodel.specs.Digest.{mixed, end_mixed, vector_mixed, values_mixed, stand_of as stand_of_spot, processes_mixed, half_mixed, set_mixed, numbers_ended, part_mixed, parts_mixed, updates_mixed, updates_ended, time_mixed, future_mixed, last_mixed, acting_mixed, waiting_mixed, queue_mixed};
 
 use crate::part::{Kept, Part, Parts};
 use crate::process::{Process, Spot};
@@ -14,6 +14,9 @@ use vbits::Vec4;
 
 // 2^64 over the golden ratio, an odd number whose digits look like chance.
 const FACTOR: u64 = 11_400_714_819_323_198_485;
+
+// 2^64.
+const WORD: u128 = 18_446_744_073_709_551_616;
 
 // One word more.
 fn mix(digest: u64, word: u64) -> u64
@@ -69,15 +72,18 @@ fn mix_end(digest: u64) -> u64
     mix(digest, 256)
 }
 
-fn mix_set(first: u64, set: &ProcessSet) -> u64
-    ensures { result ≡ numbers_ended first set.now }
+// 128 bits, as two words.
+fn mix_half(digest: u64, half: u128) -> u64
+    ensures { result ≡ half_mixed digest half }
 {
-    let mut digest = first;
-    let mut rest = set.copy();
-    while let Some(process) = rest.take_first() {
-        digest = mix(digest, process as u64);
-    }
-    mix_end(digest)
+    mix(mix(digest, (half % WORD) as u64), (half / WORD) as u64)
+}
+
+fn mix_set(digest: u64, set: &ProcessSet) -> u64
+    ensures { result ≡ set_mixed digest set.now }
+{
+    let (low, high) = set.halves();
+    mix_half(mix_half(digest, low), high)
 }
 
 fn mix_places(first: u64, places: &[usize]) -> u64

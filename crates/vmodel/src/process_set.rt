@@ -1,10 +1,10 @@
 // A set of processes, by their numbers.
 
-ghost use Rattle.std.specs.Prelude.{◌==◌, ◌≡◌, ◌<◌, ◌≤◌, [], ℕ, List, length, drop, slice_get, Some, true, false};
+ghost use Rattle.std.specs.Prelude.{◌==◌, ◌≡◌, ◌<◌, ◌≤◌, ◌%◌, ◌/◌, ◌^◌, [], ℕ, List, length, drop, slice_get, Some, true, false};
 ghost use Rattle.std.specs.Option.{ForSome};
 ghost use Rattle.std.specs.Prelude.{nat_eq};
 ghost use Rattle.std.specs.Cmp.Lexicographic.{pointwise};
-ghost use Rattle.vmodel.specs.ProcessSets.{has as is_in, members};
+ghost use Rattle.vmodel.specs.ProcessSets.{has as is_in, members, number_of};
 ghost use Rattle.vmodel.specs.Queue.{with_process, without_process};
 
 use std::marker::Model;
@@ -145,6 +145,14 @@ impl ProcessSet {
         }
     }
 
+    /// The set as a number of 256 bits, one for each process: the lower half of it, and the upper one.
+    pub fn halves(&self) -> (u128, u128)
+        ensures low { result.0 ≡ number_of self.now % 2 ^ 128 }
+        ensures high { result.1 ≡ number_of self.now / 2 ^ 128 }
+    {
+        halves(self.low, self.high)
+    }
+
     /// The process of the lowest number, if there is one.
     pub fn first(&self) -> Option<u32>
         ensures exact { result ≡ slice_get self.now 0 }
@@ -212,4 +220,12 @@ fn lowest(low: u128, high: u128) -> Option<u32>
     } else {
         None
     }
+}
+
+// The two words as halves of one number.
+fn halves(low: u128, high: u128) -> (u128, u128)
+    ensures low { result.0 ≡ number_of (members low high) % 2 ^ 128 }
+    ensures high { result.1 ≡ number_of (members low high) / 2 ^ 128 }
+{
+    (low, high)
 }

@@ -205,23 +205,23 @@ impl Queue {
     }
 
     /// The region moves (11.4): while something is active it stays, else what is inactive becomes active, else what is
-    /// posted is activated, else the slot has ended. The answer are the monitor events that run then, in order of creation.
-    pub(crate) fn settle(&mut self) -> Vec<usize>
+    /// posted is activated, else the slot has ended. The list is then that of the monitor events that run, in order of creation, and
+    /// else empty.
+    pub(crate) fn settle(&mut self, monitors: &mut Vec<usize>)
         ensures queue { self.new ≡ settled self.old }
-        ensures monitors { result.items ≡ monitors_in self.old }
+        ensures monitors { monitors.new.items ≡ monitors_in self.old }
     {
-        let mut monitors = Vec::new(*self.future.allocator());
+        monitors.clear();
         if !self.active.is_empty() || !self.activated.is_empty() {
-            return monitors;
+            return;
         }
         if !self.inactive.is_empty() {
             mem::swap(&mut self.active, &mut self.inactive);
         } else if !self.posted.is_empty() {
             mem::swap(&mut self.activated, &mut self.posted);
         } else {
-            mem::swap(&mut self.strobes, &mut monitors);
+            mem::swap(&mut self.strobes, monitors);
         }
-        monitors
     }
 
     /// Takes the first activated update out, if there is one.

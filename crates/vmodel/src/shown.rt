@@ -7,7 +7,7 @@ ghost use Rattle.vmodel.specs.InnerStep.{turn_to};
 ghost use Rattle.vmodel.specs.Step as spec;
 ghost use Rattle.vmodel.specs.Step.{slot_end_of, items_of, HasFront};
 
-use crate::deed::{Shown, StepEffects};
+use crate::deed::{Deed, Shown};
 use crate::history::Item;
 use crate::state::SlowState;
 use basis::NoMemory;
@@ -129,17 +129,18 @@ pub fn put_items(
     items: &mut Vec<Item>,
     design: &Design,
     state: &SlowState,
-    effects: &StepEffects,
+    deed: &Deed,
+    monitors: &[usize],
 ) -> Result<(), NoMemory>
     ensures ok { OnOk result (items.new.items
-        ≡ items.old.items ++ items_of design.now (turn_to state.now effects.now)) }
+        ≡ items.old.items ++ items_of design.now (turn_to state.now deed.now monitors.now)) }
     ensures front { OnErr result (HasFront items.old.items
-        (items_of design.now (turn_to state.now effects.now)) items.new.items) }
+        (items_of design.now (turn_to state.now deed.now monitors.now)) items.new.items) }
 {
-    if let Some(shown) = effects.deed.shown {
+    if let Some(shown) = deed.shown {
         put_shown(items, design, state, shown)?;
     }
-    put_end(items, design, state, &effects.monitors)
+    put_end(items, design, state, monitors)
 }
 
 /// Puts behind others the slot end of a state, where it is one. Where memory is short, the others stand as they were.

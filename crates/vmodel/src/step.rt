@@ -13,7 +13,7 @@ ghost use Rattle.vmodel.specs.InnerLeft.{IsWhole, left_spots};
 ghost use Rattle.vmodel.specs.InnerStep.{moved_on, ended, behind, left_in, held_in, moved, moved_by, turn_to, with_moved};
 
 use crate::choice::Choice;
-use crate::deed::{Deed, Doing, Fate, StepEffects, deed_at};
+use crate::deed::{Deed, Doing, Fate, deed_at};
 use crate::history::Item;
 use crate::left::Left;
 use crate::part::{Kept, Part, Parts};
@@ -145,26 +145,24 @@ pub fn moment_at<'m>(design: &'m Design, values: &'m [Vec4], time: u64) -> Momen
 }
 
 impl SlowState {
-    // The region moves; after `$finish` and `$stop` there are none. The answer are the monitor events that run in them.
-    fn close(&mut self) -> Vec<usize>
+    // The region moves; after `$finish` and `$stop` there are none. The list is then that of the monitor events that ran in them.
+    fn close(&mut self, monitors: &mut Vec<usize>)
         ensures state { self.new ≡ with_moves self.old }
-        ensures monitors { result.items ≡ monitors_of self.old }
+        ensures monitors { monitors.new.items ≡ monitors_of self.old }
     {
         if self.cause.is_none() {
-            self.queue.settle()
+            self.queue.settle(monitors);
         } else {
-            Vec::new(*self.processes.allocator())
+            monitors.clear();
         }
     }
 
     // Nothing happens.
-    fn stay(&self) -> StepEffects
-        ensures { turn_to self.now result ≡ unmoved self.now }
+    fn stay(&self, monitors: &mut Vec<usize>) -> Deed
+        ensures { turn_to self.now result monitors.new.items ≡ unmoved self.now }
     {
-        StepEffects {
-            deed: Deed::quiet(),
-            monitors: Vec::new(*self.processes.allocator()),
-        }
+        monitors.clear();
+        Deed::quiet()
     }
 
     // What a process comes to first, if something is left.
@@ -285,73 +283,83 @@ impl SlowState {
     }
 
     // What the step wrote is written, it may end the run, and the regions move.
-    fn finish(&mut self, design: &Design, deed: Deed) -> StepEffects
-        ensures { turn_to self.new result ≡ complete deed (ended deed.cause
-            (woken design.now self.old.values deed.triggered
-            (record self.old { values = written deed.wrote self.old.values }))) }
+    fn finish(&mut self, design: &Design, deed: &Deed, monitors: &mut Vec<usize>)
+        ensures { turn_to self.new deed.now monitors.new.items ≡ complete deed.now (ended deed.now.cause
+            (woken design.now self.old.values deed.now.triggered
+            (record self.old { values = written deed.now.wrote self.old.values }))) }
     {
         self.write(design, &deed.wrote, deed.triggered);
         self.cause = deed.cause;
-        let monitors = self.close();
-        StepEffects { deed, monitors }
+        self.close(monitors);
     }
 
     // A process takes one step.
-    fn run(&mut self, design: &Design, number: u32) -> Result<StepEffects, NoMemory>
+    fn run(
+        &mut self,
+        design: &Design,
+        number: u32,
+        monitors: &mut Vec<usize>,
+    ) -> Result<Deed, NoMemory>
         requires { number < 256 }
-        ensures ok { IfOk result (λ effects.
-            process_turn design.now number self.old ≡ turn_to self.new effects) }
+        ensures ok { IfOk result (λ deed.
+            process_turn design.now number self.old ≡ turn_to self.new deed monitors.new.items) }
         ensures err { OnErr result (self.new ≡ self.old) }
     {
         let Some((spot, action)) = self.action_of(design, number) else {
-            return Ok(self.stay());
+            return Ok(self.stay(monitors));
         };
         let alloc = *self.processes.allocator();
         let held = self.held_by(number);
         let doing = deed_at(alloc, spot, action, held, &self.moment(design))?;
         let Doing { next, then, deed } = doing;
         self.place(number, then, next, &deed)?;
-        Ok(self.finish(design, deed))
+        self.finish(design, &deed, monitors);
+        Ok(deed)
     }
 
     // The first activated update is written (11.4.1).
-    fn update(&mut self, design: &Design) -> StepEffects
-        ensures { turn_of design.now Choice.Update self.old ≡ turn_to self.new result }
+    fn update(&mut self, design: &Design, monitors: &mut Vec<usize>) -> Deed
+        ensures { turn_of design.now Choice.Update self.old
+            ≡ turn_to self.new result monitors.new.items }
     {
         let mut deed = Deed::quiet();
         if let Some(update) = self.queue.take_update() {
             deed.wrote = update;
         }
         self.write(design, &deed.wrote, None);
-        let monitors = self.close();
-        StepEffects { deed, monitors }
+        self.close(monitors);
+        deed
     }
 
     // The time goes on to the next future time.
-    fn advance(&mut self) -> StepEffects
-        ensures { (design : Design) →
-            turn_of design Choice.Advance self.old ≡ turn_to self.new result }
+    fn advance(&mut self, monitors: &mut Vec<usize>) -> Deed
+        ensures { (design : Design) → turn_of design Choice.Advance self.old
+            ≡ turn_to self.new result monitors.new.items }
     {
         self.queue.advance();
-        StepEffects {
-            monitors: self.close(),
-            deed: Deed::quiet(),
-        }
+        self.close(monitors);
+        Deed::quiet()
     }
 
     /// The step of choice `i`, in place: one step of a process, the write of an update or the advance of the time, and the
-    /// region moves after it (11.3, 11.4). The answer is what the step did, and which monitor events ran. Where there is no such
-    /// choice nothing happens. E901 is the only refusal, and leaves the state as it was.
-    pub fn step(&mut self, design: &Design, i: u32) -> Result<StepEffects, NoMemory>
-        ensures ok { IfOk result (λ effects.
-            next design.now self.old i ≡ turn_to self.new effects) }
+    /// region moves after it (11.3, 11.4). The answer is what the step did, and the list is then that of the monitor events that ran:
+    /// the places of their print tasks, in order of creation (17.1.2). Where there is no such choice nothing happens. E901 is the
+    /// only refusal, and leaves the state as it was.
+    pub fn step(
+        &mut self,
+        design: &Design,
+        i: u32,
+        monitors: &mut Vec<usize>,
+    ) -> Result<Deed, NoMemory>
+        ensures ok { IfOk result (λ deed.
+            next design.now self.old i ≡ turn_to self.new deed monitors.new.items) }
         ensures err { OnErr result (self.new ≡ self.old) }
     {
         match self.choice(i) {
-            None => Ok(self.stay()),
-            Some(Choice::Run(process)) => self.run(design, process),
-            Some(Choice::Update) => Ok(self.update(design)),
-            Some(Choice::Advance) => Ok(self.advance()),
+            None => Ok(self.stay(monitors)),
+            Some(Choice::Run(process)) => self.run(design, process, monitors),
+            Some(Choice::Update) => Ok(self.update(design, monitors)),
+            Some(Choice::Advance) => Ok(self.advance(monitors)),
         }
     }
 
@@ -360,7 +368,8 @@ impl SlowState {
         ensures ok { OnOk result (self.new ≡ (next design.now self.old i).state) }
         ensures err { OnErr result (self.new ≡ self.old) }
     {
-        match self.step(design, i) {
+        let mut monitors = Vec::new(*self.processes.allocator());
+        match self.step(design, i, &mut monitors) {
             Ok(_) => Ok(()),
             Err(refused) => Err(refused),
         }
@@ -387,8 +396,9 @@ pub fn slow_step(
         ≡ items_of design.now (next design.now state.now i)) }
 {
     let mut after = state.copy(alloc)?;
-    let effects = after.step(design, i)?;
+    let mut monitors = Vec::new(alloc);
+    let deed = after.step(design, i, &mut monitors)?;
     let mut items = Vec::new(alloc);
-    put_items(&mut items, design, &after, &effects)?;
+    put_items(&mut items, design, &after, &deed, &monitors)?;
     Ok((after, items))
 }

@@ -1,6 +1,6 @@
-use Rattle.std.proofs.Common.{◌++◌, ◌∙◌, ap, sym, subst}
+use Rattle.std.proofs.Common.{◌∙◌, ap, sym}
 use Rattle.std.specs.Option.{option_to_list}
-use Rattle.vmodel.specs.Step.{strobe_items, slot_end_of, HasFront}
+use Rattle.vmodel.specs.Step.{strobe_items, slot_end_of}
 use Rattle.vmodel.proofs.ShownLemmas.{on_err, before_slot_end, without_slot_end}
 use Rattle.vmodel.proofs.shown.put_end.Goals as goal
 

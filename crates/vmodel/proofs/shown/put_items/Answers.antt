@@ -1,8 +1,7 @@
-use Rattle.std.proofs.Common.{◌∙◌, ◌++◌, ap, sym, subst}
-use Rattle.std.specs.Prelude.{OnErr}
+use Rattle.std.proofs.Common.{◌∙◌, ◌++◌, ap, sym}
 use Rattle.std.proofs.lemmas.List.{append-nil}
 use Rattle.std.proofs.lemmas.Result.{on_err_weaker}
-use Rattle.vmodel.specs.Step.{shown_items, end_items, HasFront}
+use Rattle.vmodel.specs.Step.{shown_items, end_items}
 use Rattle.vmodel.proofs.ShownLemmas.{behind_first}
 use Rattle.vmodel.proofs.shown.put_items.Goals as goal
 use Rattle.vmodel.proofs.shown.put_items.Goals.{in-Some+in_ok-put_shown, in_default}
@@ -12,12 +11,10 @@ returns-clause-front c =
     let old = c.args.items.now.items in
     let shown = shown_items c.args.design.now c.args.state.now in
     let ending = end_items c.args.design.now c.args.state.now in
-    subst (λ monitors. OnErr c.put_end.result (HasFront old (shown c.args.effects.now.deed.shown ++ ending monitors) c.put_end.new.items.items))
-    c.deref.ensures.value
-    (on_err_weaker c.put_end.result
-    (behind_first old (shown c.args.effects.now.deed.shown) (ending c.deref.result.now) c.match-effects.items.items c.put_end.new.items.items
-    (elim c.match-effects.branch [
+    on_err_weaker c.put_end.result
+    (behind_first old (shown c.args.deed.now.shown) (ending c.args.monitors.now) c.match-deed.items.items c.put_end.new.items.items
+    (elim c.match-deed.branch [
       | in-Some+in_ok-put_shown w ↦ ap (λ v. v.items) w.items-is ∙ w.in_ok-put_shown.ensures.ok ∙ ap (λ one. old ++ shown one) (sym w.in-Some.is)
       | in_default w ↦ ap (λ v. v.items) w.items-is ∙ sym (append-nil old) ∙ ap (λ one. old ++ shown one) (sym w.in_default.is)
     ]))
-    c.put_end.ensures.front)
+    c.put_end.ensures.front

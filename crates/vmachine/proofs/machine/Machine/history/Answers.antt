@@ -26,9 +26,9 @@ turns-preserved c =
     let chosen : IsChosen setting log c.args.steps c.turns.n c.turns.state c.turns.rest.now (Ok (Some c.in-Ok-Some.chosen)) =
     subst (IsChosen setting log c.args.steps c.turns.n c.turns.state c.turns.rest.now) (c.in-Ok-Some.is ∙ ap (λ (o : Option Chosen). Ok o) c.in-Ok-Some.field-0-is) (c.choose.ensures setting log here) in
     let design = ap (λ (s : Setting). s.design) c.self.view_is in
-    let turn_is : Turn = turn_to c.step.new.self c.in_ok-effects.effects in
+    let turn_is : Turn = turn_to c.step.new.self c.in_ok-deed.deed c.deref.result.now in
     let turn : next setting.design c.turns.state c.in-Ok-Some.chosen.choice ≡ turn_is =
-    ap (λ (d : Design). next d c.turns.state c.in-Ok-Some.chosen.choice) (sym design) ∙ c.in_ok-effects.ensures.ok in (
+    ap (λ (d : Design). next d c.turns.state c.in-Ok-Some.chosen.choice) (sym design) ∙ c.in_ok-deed.ensures.ok ∙ ap (turn_to c.step.new.self c.in_ok-deed.deed) (sym c.deref.ensures.value) in (
       at_next setting log c.turns.rest.now c.args.steps c.turns.n c.turns.state here c.in-Ok-Some.chosen.choice c.in-Ok-Some.chosen.later.now chosen.2
           c.step.new.self (less_differs c.turns.n c.args.steps chosen.0) chosen.1 chosen.3 (ap (λ (t : Turn). t.state) turn),
       c.in_ok-note.ensures

@@ -109,8 +109,8 @@ returns-in-Err-clause-left g c =
     subst (λ (e : OrMemory (RunFault _)). LeavesSink g.S.Sink.takes g.S.Sink.fails setting log c.args.steps c.args.sink.now e c.hand.new.sink) (sym c.refused.ensures)
     (handed_first g.S.Sink.takes setting log c.turns.rest.now c.args.steps c.turns.n c.turns.state c.args.sink.now c.hand.new.sink after.handed c.hand.new.pending.items here after.taken all)
 
-pub returns-in_err-effects-clause-left : goal.returns-in_err-effects-clause-left
-returns-in_err-effects-clause-left g c =
+pub returns-in_err-deed-clause-left : goal.returns-in_err-deed-clause-left
+returns-in_err-deed-clause-left g c =
     let setting = c.args.self.now in
     let log = c.args.log.now in
     let here = c.turns.invariant.0 in
@@ -120,8 +120,8 @@ returns-in_err-effects-clause-left g c =
     handed_on g.S.Sink.takes g.met.S.Sink.joins c.turns.state c.args.sink.now c.turns.sink c.hand.new.sink c.turns.invariant.1 c.hand.new.pending.items
     c.turns.invariant.2 c.turns.invariant.4 c.turns.invariant.5 c.turns.pending.items c.turns.invariant.6 on in
     let all : after.handed ++ c.hand.new.pending.items ≡ given_by setting log c.turns.n = after.is ∙ c.turns.invariant.3 in
-    left_by g.S.Sink.takes g.S.Sink.fails setting log c.args.steps c.args.sink.now c.hand.new.sink c.from_residual-in_err-effects.result (Memory c.in_err-effects.field-0.0)
-    c.from_residual-in_err-effects.ensures.1
+    left_by g.S.Sink.takes g.S.Sink.fails setting log c.args.steps c.args.sink.now c.hand.new.sink c.from_residual-in_err-deed.result (Memory c.in_err-deed.field-0.0)
+    c.from_residual-in_err-deed.ensures.1
     (handed_first g.S.Sink.takes setting log c.turns.rest.now c.args.steps c.turns.n c.turns.state c.args.sink.now c.hand.new.sink after.handed c.hand.new.pending.items here after.taken all)
 
 pub returns-in_err-note-clause-left : goal.returns-in_err-note-clause-left
@@ -153,9 +153,9 @@ turns-preserved g c =
     let chosen : IsChosen setting log c.args.steps c.turns.n c.turns.state c.turns.rest.now (Ok (Some c.in-Ok-Some.chosen)) =
     subst (IsChosen setting log c.args.steps c.turns.n c.turns.state c.turns.rest.now) (c.in-Ok-Some.is ∙ ap (λ (o : Option Chosen). Ok o) c.in-Ok-Some.field-0-is) (c.choose.ensures setting log here) in
     let design = ap (λ (s : Setting). s.design) c.self.view_is in
-    let turn_is : Turn = turn_to c.step.new.self c.in_ok-effects.effects in
+    let turn_is : Turn = turn_to c.step.new.self c.in_ok-deed.deed c.deref.result.now in
     let turn : next setting.design c.turns.state c.in-Ok-Some.chosen.choice ≡ turn_is =
-    ap (λ (d : Design). next d c.turns.state c.in-Ok-Some.chosen.choice) (sym design) ∙ c.in_ok-effects.ensures.ok in
+    ap (λ (d : Design). next d c.turns.state c.in-Ok-Some.chosen.choice) (sym design) ∙ c.in_ok-deed.ensures.ok ∙ ap (turn_to c.step.new.self c.in_ok-deed.deed) (sym c.deref.ensures.value) in
     let given = given_next setting log c.turns.rest.now c.args.steps c.turns.n c.turns.state here c.in-Ok-Some.chosen.choice c.in-Ok-Some.chosen.later.now chosen.2
     turn_is turn in
     let goes_on : length (choices c.turns.state) ≢ 0 = λ none. absurd (omega (arith, none, chosen.1)) in

@@ -1,5 +1,4 @@
-use Rattle.std.proofs.Common.{drop, sym, ap, ◌∙◌, arith}
-use Rattle.std.specs.Prelude.{slice_get}
+use Rattle.std.proofs.Common.{drop, sym, ap, ◌∙◌}
 use Rattle.vmodel.specs.ProcessSets.{members}
 use Rattle.vmodel.specs.Queue.{without_process}
 use Rattle.vmodel.proofs.ProcessLemmas.{without_first}
