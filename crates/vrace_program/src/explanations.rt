@@ -55,13 +55,13 @@ const EXPLANATIONS: [Explanation; 32] = [
     },
     Explanation {
         number: 201,
-        meaning: "the grammar takes no such text: the words before this one begin a text, and with it, or with the end of the text, they begin none",
+        meaning: "unexpected word: no text of the grammar goes on with this word after those before it, or the text ends too early",
         example: "a = 1 and no semicolon; else without an if",
         advice: "look at the words of that line, and at the end of the line before it: a semicolon may be missing there; or the construct isn't in the profile, as ports declared in the body, named blocks, memories, hierarchical names and SystemVerilog; docs/LANGUAGE.md has the grammar",
     },
     Explanation {
         number: 202,
-        meaning: "the same, of a word, operator or system name outside the profile",
+        meaning: "an unexpected word as with E201, and it is a word, operator or system name of Verilog outside the profile",
         example: "fork, 1 ** 2, $random",
         advice: "write it with what docs/LANGUAGE.md lists",
     },
