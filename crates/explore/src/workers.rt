@@ -141,7 +141,7 @@ fn within<
         cut,
         root,
         pass: _,
-    } = run_workers(alloc, rt, workers, space, &book, pass, limits, gate);
+    } = run_workers(rt, alloc, workers, space, &book, pass, limits, gate);
     let Some(root) = root else {
         return without_root(cut);
     };

@@ -66,7 +66,7 @@ fn left_closed<
     requires names { AreNames unopened B.entries B.name B.parts }
 {
     let (book, pass) = Book::<P::State, Q, B>::open(alloc, unopened)?;
-    let ran = run_workers(alloc, rt, workers, space, &book, pass, limits, &OpenGate);
+    let ran = run_workers(rt, alloc, workers, space, &book, pass, limits, &OpenGate);
     let root = ran.root.ok_or("no root")?;
     let mut all = Vec::new(alloc);
     for place in 0..ran.opens as usize {

@@ -4,6 +4,7 @@ use basis::{OrMemory, Timescale};
 use sched_core::{Log, ReplayFault};
 use std::alloc::Global;
 use std::test::Fail;
+use vast::expression::{BinaryOperator, Expression};
 use vast::module::{ModuleItem, ModuleTree, TextTree};
 use vast::statement::{Delay, Statement};
 use vast::token::Token;
@@ -15,7 +16,7 @@ use vlex::{TokenKind, Tokens, tokens};
 use vmachine::Machine;
 use vmodel::history::{Cause, Grain, Item};
 use vmodel::{opening, slow_step, slow_width};
-use vparse::parse;
+use vparse::{SyntaxFault, parse, parse_expr};
 use vsrc::{Expanded, Place, expand};
 
 fn source(alloc: Global, texts: &[&[u8]]) -> Result<Expanded, Fail> {
@@ -261,5 +262,51 @@ fn deepest_tree(rt: HostRuntime) -> Result<(), Fail> {
     assert!(rt; fits(&words, &delayed(rt.alloc(), 63)?));
     assert!(rt; !fits(&words, &delayed(rt.alloc(), 64)?));
     assert!(rt; !fits(&words[..1], &delayed(rt.alloc(), 63)?));
+    Ok(())
+}
+
+// A product stands under the sum, which ends after five words. An expression that begins at a later word is read from there. A word
+// that begins no expression, a word that doesn't go on with one, a word outside the profile and the end of the text are refused at
+// their places.
+const EXPRESSIONS: &[u8] = b"a + b * c ;\n( d +\n) 1\n**\n2 -";
+
+#[test]
+fn longest_expressions(rt: HostRuntime) -> Result<(), Fail> {
+    let alloc = rt.alloc();
+    let source = source(alloc, &[EXPRESSIONS])?;
+    let words = tokens(alloc, &source)?;
+    let (sum, end) = parse_expr(alloc, &words, 0)?;
+    assert_eq!(rt; end, 5);
+    let Expression::Binary { operator, right, .. } = &sum else {
+        return Err(Fail::from("no sum"));
+    };
+    assert_eq!(rt; *operator, BinaryOperator::Plus);
+    assert!(rt; matches!(&**right, Expression::Binary { operator: BinaryOperator::Times, .. }));
+    assert_eq!(rt; parse_expr(alloc, &words, 2)?.1, 5);
+    let refused = [
+        (5, SyntaxFault::NoTree { place: Place { file: 1, line: 1 } }),
+        (6, SyntaxFault::NoTree { place: Place { file: 1, line: 3 } }),
+        (11, SyntaxFault::Outside { place: Place { file: 1, line: 4 } }),
+        (13, SyntaxFault::NoTree { place: Place { file: 1, line: 5 } }),
+        (99, SyntaxFault::NoTree { place: Place { file: 1, line: 5 } }),
+    ];
+    for (at, fault) in refused {
+        assert!(rt; parse_expr(alloc, &words, at).err() == Some(OrMemory::Fault(fault)), "at {at}");
+    }
+    Ok(())
+}
+
+// 63 parentheses round a name are 64 levels: the next one is refused.
+#[test]
+fn deepest_expressions(rt: HostRuntime) -> Result<(), Fail> {
+    let alloc = rt.alloc();
+    let mut text = Vec::from_slice(alloc, &[b'('; 63])?;
+    text.push(b'a')?;
+    text.extend_from_slice(&[b')'; 63])?;
+    let read = source(alloc, &[&text])?;
+    assert_eq!(rt; parse_expr(alloc, &tokens(alloc, &read)?, 0)?.1, 127);
+    let deeper = source(alloc, &[b"(\n", &[b'('; 63]])?;
+    let fault = SyntaxFault::TooDeep { place: Place { file: 2, line: 1 } };
+    assert!(rt; parse_expr(alloc, &tokens(alloc, &deeper)?, 0).err() == Some(OrMemory::Fault(fault)));
     Ok(())
 }

@@ -65,6 +65,16 @@ pub ahead_start : (tokens : Tokenized) (cursor : Cursor) → cursor.at ≡ 0 →
 unfolding ahead
 ahead_start tokens cursor e = ap (λ n. drop n (words_of tokens)) e
 
+pub ahead_at : (tokens : Tokenized) (cursor : Cursor) (number : ℕ) → cursor.at ≡ number → ahead tokens cursor ≡ drop number (words_of tokens)
+unfolding ahead
+ahead_at tokens cursor number e = ap (λ n. drop n (words_of tokens)) e
+
+pub ahead_past : (tokens : Tokenized) (cursor : Cursor) (number : ℕ) → cursor.at ≡ length (pieces_of tokens) → length (pieces_of tokens) ≤ number →
+    ahead tokens cursor ≡ drop number (words_of tokens)
+ahead_past tokens cursor number e past =
+    ahead_none tokens cursor (omega (arith, e))
+    ∙ sym (drop_of_length-le (words_of tokens) (subst (λ n. n ≤ number) (sym (length-map (pieces_of tokens) (λ piece. piece.text))) past))
+
 -- the tokens that trees keep
 
 -- those of all words are that of the first one, and those of the words behind it

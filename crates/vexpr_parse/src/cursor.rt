@@ -37,6 +37,18 @@ impl Cursor {
         Cursor { at: 0 }
     }
 
+    /// The place before the token of this number, or behind the last token where there are no more than so many.
+    pub fn at(tokens: &Tokens<'_>, number: usize) -> Cursor
+        ensures { ahead tokens.now result ≡ drop number (words_of tokens.now) }
+    {
+        let len = tokens.len();
+        if number < len {
+            Cursor { at: number as u32 }
+        } else {
+            Cursor { at: len as u32 }
+        }
+    }
+
     /// How many words are left.
     pub fn left(&self, tokens: &Tokens<'_>) -> usize
         ensures { result ≡ length (ahead tokens.now self.now) }

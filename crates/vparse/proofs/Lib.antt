@@ -9,5 +9,6 @@ mod KeptLists
 mod KeptParts
 mod KeptTexts
 mod RefusalLaws
+mod LongestLaws
 mod DeepWords
 mod DeepSources

@@ -4,3 +4,4 @@ pub mod Laws
 pub mod TextReaders
 pub mod ModuleGives
 pub mod Refusals
+pub mod LongestExpression

@@ -4,6 +4,7 @@
 
 mod connections;
 mod declarations;
+mod expressions;
 mod fault;
 mod heads;
 pub mod law;
@@ -16,5 +17,6 @@ pub mod profile;
 mod texts;
 mod types;
 
+pub use expressions::parse_expr;
 pub use fault::SyntaxFault;
 pub use texts::parse;

@@ -63,7 +63,7 @@ fn source<F: Fn(&mut Cursor) -> Result<Statement, OrMemory<Stop>>>(
 }
 
 // Whether the word of this token stands outside the profile.
-fn stands_outside(tokens: &Tokens<'_>, at: usize) -> bool
+pub(crate) fn stands_outside(tokens: &Tokens<'_>, at: usize) -> bool
     ensures { result ≡ is_any_outside (slice_get (words_of tokens.now) at) }
 {
     if at < tokens.len() {

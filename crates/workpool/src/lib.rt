@@ -26,4 +26,5 @@ pub use gate::{Gate, OpenGate};
 pub use ran::Ran;
 pub use ring::{Seat, new_ring, settle_all};
 pub use run::run_workers;
+pub use statebook::Limits;
 pub use tally::{SEATS, Tally, TallySeat};

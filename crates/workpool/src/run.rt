@@ -214,8 +214,8 @@ pub fn run_workers<
     R: Threads + Wait + Sync,
     G: Gate,
 >(
-    alloc: Global,
     rt: &R,
+    alloc: Global,
     count: usize,
     space: &P,
     book: &Book<P::State, Q, B>,
