@@ -277,21 +277,62 @@ fn longest_expressions(rt: HostRuntime) -> Result<(), Fail> {
     let words = tokens(alloc, &source)?;
     let (sum, end) = parse_expr(alloc, &words, 0)?;
     assert_eq!(rt; end, 5);
-    let Expression::Binary { operator, right, .. } = &sum else {
+    let Expression::Binary {
+        operator,
+        right,
+        ..
+    } = &sum
+    else {
         return Err(Fail::from("no sum"));
     };
     assert_eq!(rt; *operator, BinaryOperator::Plus);
-    assert!(rt; matches!(&**right, Expression::Binary { operator: BinaryOperator::Times, .. }));
+    assert!(rt;
+        matches!(
+            &**right,
+            Expression::Binary {
+                operator: BinaryOperator::Times,
+                ..
+            }
+        )
+    );
     assert_eq!(rt; parse_expr(alloc, &words, 2)?.1, 5);
     let refused = [
-        (5, SyntaxFault::NoTree { place: Place { file: 1, line: 1 } }),
-        (6, SyntaxFault::NoTree { place: Place { file: 1, line: 3 } }),
-        (11, SyntaxFault::Outside { place: Place { file: 1, line: 4 } }),
-        (13, SyntaxFault::NoTree { place: Place { file: 1, line: 5 } }),
-        (99, SyntaxFault::NoTree { place: Place { file: 1, line: 5 } }),
+        (
+            5,
+            SyntaxFault::NoTree {
+                place: Place { file: 1, line: 1 },
+            },
+        ),
+        (
+            6,
+            SyntaxFault::NoTree {
+                place: Place { file: 1, line: 3 },
+            },
+        ),
+        (
+            11,
+            SyntaxFault::Outside {
+                place: Place { file: 1, line: 4 },
+            },
+        ),
+        (
+            13,
+            SyntaxFault::NoTree {
+                place: Place { file: 1, line: 5 },
+            },
+        ),
+        (
+            99,
+            SyntaxFault::NoTree {
+                place: Place { file: 1, line: 5 },
+            },
+        ),
     ];
     for (at, fault) in refused {
-        assert!(rt; parse_expr(alloc, &words, at).err() == Some(OrMemory::Fault(fault)), "at {at}");
+        assert!(rt;
+            parse_expr(alloc, &words, at).err() == Some(OrMemory::Fault(fault)),
+            "at {at}"
+        );
     }
     Ok(())
 }
@@ -306,7 +347,11 @@ fn deepest_expressions(rt: HostRuntime) -> Result<(), Fail> {
     let read = source(alloc, &[&text])?;
     assert_eq!(rt; parse_expr(alloc, &tokens(alloc, &read)?, 0)?.1, 127);
     let deeper = source(alloc, &[b"(\n", &[b'('; 63]])?;
-    let fault = SyntaxFault::TooDeep { place: Place { file: 2, line: 1 } };
-    assert!(rt; parse_expr(alloc, &tokens(alloc, &deeper)?, 0).err() == Some(OrMemory::Fault(fault)));
+    let fault = SyntaxFault::TooDeep {
+        place: Place { file: 2, line: 1 },
+    };
+    assert!(rt;
+        parse_expr(alloc, &tokens(alloc, &deeper)?, 0).err() == Some(OrMemory::Fault(fault))
+    );
     Ok(())
 }

@@ -1,5 +1,5 @@
 -- The longest expression at a token (IEEE 1364-2005, A.8.3; docs/LANGUAGE.md, "Grammar" and "Depth").
-use Rattle.std.specs.Prelude.{◌≡◌, ℕ, ◌≤◌, Bool, true, false, List, Option, length, drop, slice_get}
+use Rattle.std.specs.Prelude.{◌≡◌, ℕ, ◌≤◌, true, false, List, Option, length, drop, slice_get}
 use Rattle.vsrc.specs.Source.{place_of}
 use Rattle.vsrc.specs.declared.expanded.Place.{Place}
 use Rattle.vlex.specs.Tokenized.{Tokenized, start_of}

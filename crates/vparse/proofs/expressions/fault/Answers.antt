@@ -1,4 +1,4 @@
-use Rattle.std.proofs.Common.{◌≡◌, true, false, ap, ◌∙◌, subst, drop, sym}
+use Rattle.std.proofs.Common.{◌≡◌, true, false, ◌∙◌, subst, drop, sym}
 use Rattle.vexpr_parse.specs.Answers.{ahead}
 use Rattle.vexpr_parse.specs.Places.{IsStopped, IsRefused, IsDeeper}
 use Rattle.vexpr_parse.specs.Texts.{words_of}
