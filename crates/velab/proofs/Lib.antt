@@ -2,6 +2,8 @@ pub mod NumberLemmas
 pub mod VariableLemmas
 pub mod ListLemmas
 pub mod FaultLemmas
+pub mod AnswerLemmas
+pub mod ExpressionLemmas
 pub mod StatementLemmas
 pub mod PartLemmas
 pub mod BranchLemmas

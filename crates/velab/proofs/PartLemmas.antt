@@ -1,42 +1,28 @@
--- The parts of concatenations: their nodes, their names, and whether they run.
-use Rattle.std.proofs.Common.{◌≡◌, ◌<◌, ◌≤◌, ℕ, zero, suc, ◌+◌, ◌-◌, Bool, false, Option, None, List, [], ◌∷◌, ◌++◌, length, drop, get_or, Vec, Global, Box, Result, Ok, Err, OnOk, refl, sym, ap, ◌∙◌, append_assoc, append-nil, arith}
+-- The parts of concatenations, and their nodes.
+use Rattle.std.proofs.Common.{◌≡◌, ◌<◌, ◌≤◌, ℕ, zero, suc, ◌+◌, ◌-◌, Bool, false, List, [], ◌∷◌, ◌++◌, length, drop, get_or, Vec, Global, Box, Result, Ok, Err, refl, sym, ap, ◌∙◌, append_assoc, arith}
 use Rattle.std.specs.Bool.{◌==◌}
-use Rattle.std.specs.Option.{option_or}
 use Rattle.std.proofs.Math.ListN.{drop_of_length-le}
-use Rattle.basis.specs.declared.memory.OrMemory.{OrMemory}
-use Rattle.basis.specs.Reasons.{Because}
 use Rattle.vast.specs.Words.{Text}
 use Rattle.vast.specs.NumberedExpressions.{concatenation, replication}
 use Rattle.vast.specs.NumberedTrees.{tree_of, trees_of}
 use Rattle.vast.specs.declared.expression.Expression.{Expression, Concatenation, Replication}
 use Rattle.vast.specs.NumberedWords.{numbered}
 use Rattle.vast.proofs.ToldTrees.{told_concatenation, told_replication}
+use Rattle.vdesign.specs.Expressions.{ExpressionTree, conversion, joined}
 use Rattle.vdesign.specs.Nodes.{nodes_of}
 use Rattle.vdesign.specs.declared.expression.Node.{Node}
-use Rattle.vdesign.specs.declared.expression.Node.TheVariants.{Conversion}
+use Rattle.vdesign.specs.declared.expression.Node.TheVariants.{Conversion, Joined}
+use Rattle.velab.specs.Answers.{◌>>=◌}
 use Rattle.velab.specs.declared.fault.ElabFault.{ElabFault}
-use Rattle.velab.specs.InnerParts.{before_part}
-use Rattle.velab.specs.Resolved.{resolved, resolved_parts, count_of, broken, broken_parts}
-use Rattle.velab.specs.Rules.{IsBroken}
+use Rattle.velab.specs.InnerParts.{before_part, nodes_behind}
+use Rattle.velab.specs.Resolved.{lower, lower_parts, count_of}
 use Rattle.velab.specs.Scopes.{Scope}
-use Rattle.velab.proofs.FaultLemmas.{goes_on, stops_at}
 use Rattle.velab.proofs.ListLemmas.{drop_at}
-
--- one node and the nodes of parts behind it
-pub one_and_parts : {T : Type 0} (result : Result T (OrMemory ElabFault)) (old between new rest : List Node) (one : Node) →
-    between ≡ old ++ one ∷ [] → OnOk result (new ≡ between ++ rest) → OnOk result (new ≡ old ++ one ∷ rest)
-one_and_parts (Ok u) old between new rest one first is = is ∙ ap (λ ns. ns ++ rest) first ∙ append_assoc old (one ∷ []) rest
-one_and_parts (Err e) old between new rest one first is = tt
 
 -- as many trees as parts
 pub parts_counted : (words : List Text) (parts : List Expression) → count_of (trees_of words parts) ≡ length parts
 parts_counted words [] = refl
 parts_counted words (one ∷ more) = let rest = parts_counted words more in omega (arith, rest)
-
--- what isn't empty
-pub some_of : (xs : List Expression) → (length xs == 0) ≡ false → 0 < length xs
-some_of [] e = cc
-some_of (x ∷ xs) e = omega arith
 
 module _ (words : List Text) where
   module _ (e : Expression) (at : ℕ) (parts : Vec Expression Global) (items : List Expression) (is : e ≡ Concatenation at parts) (same : items ≡ parts.items) where
@@ -49,57 +35,52 @@ module _ (words : List Text) where
     replication_is =
         (λ i. replication (tree_of words (counted i)) (trees_of words (same i))) ∙ sym (ap (tree_of words) is ∙ told_replication (numbered words) at count parts)
 
-  module _ (scope : Scope) where
-    -- the nodes of what is left of the parts
-    abbrev pub nodes_left : List Expression → List Node
-    nodes_left [] = []
-    nodes_left (x ∷ xs) = nodes_of (resolved_parts scope (trees_of words (x ∷ xs)))
+  module _ (fixed : Bool) (scope : Scope) where
+    -- these nodes, and behind them those of what is left of the parts
+    abbrev pub parts_behind : List Node → List Expression → Result (List Node) ElabFault
+    parts_behind done [] = Ok done
+    parts_behind done (x ∷ xs) = nodes_behind done (lower_parts fixed scope (trees_of words (x ∷ xs)))
 
-    none_left : (xs : List Expression) (i : ℕ) → length xs ≤ i → nodes_left (drop i xs) ≡ []
-    none_left xs i end = ap nodes_left (drop_of_length-le xs end)
+    first_behind : (done : List Node) (x : Expression) (xs : List Expression) →
+        parts_behind done (x ∷ xs) ≡ (nodes_behind (done ++ before_part (length xs) ∷ []) (lower fixed scope (tree_of words x)) >>= λ next. parts_behind next xs)
+    first_behind done x [] = by (lower fixed scope (tree_of words x))
+      where
+        by : (a : Result ExpressionTree ElabFault) →
+            nodes_behind done (a >>= λ front. Ok (conversion false front)) ≡ (nodes_behind (done ++ Conversion false ∷ []) a >>= λ next. Ok next)
+        by (Ok e) = ap Ok (sym (append_assoc done (Conversion false ∷ []) (nodes_of e)))
+        by (Err fault) = refl
+    first_behind done x (y ∷ ys) = by (lower fixed scope (tree_of words x)) (lower_parts fixed scope (trees_of words (y ∷ ys)))
+      where
+        by : (a b : Result ExpressionTree ElabFault) →
+            nodes_behind done (a >>= λ front. b >>= λ others. Ok (joined front others)) ≡ (nodes_behind (done ++ Joined ∷ []) a >>= λ next. nodes_behind next b)
+        by (Ok e) (Ok f) =
+            ap Ok (sym (append_assoc (done ++ Joined ∷ []) (nodes_of e) (nodes_of f) ∙ append_assoc done (Joined ∷ []) (nodes_of e ++ nodes_of f)))
+        by (Ok e) (Err fault) = refl
+        by (Err fault) b = refl
 
-    all_left : (xs : List Expression) → 0 < length xs → nodes_left xs ≡ nodes_of (resolved_parts scope (trees_of words xs))
-    all_left [] some = absurd (omega (arith, some))
-    all_left (x ∷ xs) some = refl
+    pub all_parts : (done : List Node) (xs : List Expression) → (length xs == 0) ≡ false → parts_behind done xs ≡ nodes_behind done (lower_parts fixed scope (trees_of words xs))
+    all_parts done [] some = absurd cc
+    all_parts done (x ∷ xs) some = refl
 
-    pub ends_with : (xs : List Expression) (i : ℕ) (now old : List Node) → length xs ≤ i → 0 < length xs →
-        now ++ nodes_left (drop i xs) ≡ old ++ nodes_left xs → now ≡ old ++ nodes_of (resolved_parts scope (trees_of words xs))
-    ends_with xs i now old end some whole =
-        sym (append-nil now) ∙ ap (λ ns. now ++ ns) (sym (none_left xs i end)) ∙ whole ∙ ap (λ ns. old ++ ns) (all_left xs some)
-
-    first_left : (x : Expression) (xs : List Expression) →
-        nodes_left (x ∷ xs) ≡ before_part (length xs) ∷ (nodes_of (resolved scope (tree_of words x)) ++ nodes_left xs)
-    first_left x [] = ap (λ ns. Conversion false ∷ ns) (sym (append-nil (nodes_of (resolved scope (tree_of words x)))))
-    first_left x (y ∷ ys) = refl
+    pub none_behind : (done : List Node) (xs : List Expression) (i : ℕ) → length xs ≤ i → parts_behind done (drop i xs) ≡ Ok done
+    none_behind done xs i end = ap (parts_behind done) (drop_of_length-le xs end)
 
     rest_length : (xs : List Expression) (i : ℕ) → length (drop i xs) ≡ length xs - i
     rest_length xs zero = omega arith
     rest_length [] (suc i) = omega arith
     rest_length (x ∷ xs) (suc i) = rest_length xs i ∙ omega arith
 
-    module _ (xs : List Expression) (i : ℕ) (x : Expression) (within : i < length xs) (is : x ≡ get_or xs i x) where
-      pub next_part : (left : ℕ) (done between next all : List Node) → left ≡ length xs - i - 1 →
-          between ≡ done ++ before_part left ∷ [] → next ≡ between ++ nodes_of (resolved scope (tree_of words x)) →
-          done ++ nodes_left (drop i xs) ≡ all → next ++ nodes_left (drop (i + 1) xs) ≡ all
-      next_part left done between next all fewer put_before put whole =
-          let own : List Node = nodes_of (resolved scope (tree_of words x)) in
+    module _ (xs : List Expression) (i : ℕ) (x : Expression) (within : i < length xs) (is : x ≡ get_or xs i x) (left : ℕ) (fewer : left ≡ length xs - i - 1) (done between : List Node) (put_before : between ≡ done ++ before_part left ∷ []) (all : Result (List Node) ElabFault) (same : parts_behind done (drop i xs) ≡ all) where
+      opened : all ≡ (nodes_behind between (lower fixed scope (tree_of words x)) >>= λ next. parts_behind next (drop (i + 1) xs))
+      opened =
           let rest : List Expression = drop (i + 1) xs in
           let count : left ≡ length rest = fewer ∙ omega (arith, rest_length xs (i + 1)) in
-          ap (λ ns. ns ++ nodes_left rest) (put ∙ ap (λ ns. ns ++ own) put_before)
-          ∙ append_assoc (done ++ before_part left ∷ []) own (nodes_left rest)
-          ∙ append_assoc done (before_part left ∷ []) (own ++ nodes_left rest)
-          ∙ ap (λ n. done ++ before_part n ∷ (own ++ nodes_left rest)) count
-          ∙ ap (λ ns. done ++ ns) (sym (ap nodes_left (drop_at xs i x within is) ∙ first_left x rest))
-          ∙ whole
+          sym same ∙ ap (parts_behind done) (drop_at xs i x within is) ∙ first_behind done x rest
+          ∙ ap (λ (ns : List Node). nodes_behind ns (lower fixed scope (tree_of words x)) >>= λ next. parts_behind next rest)
+          (ap (λ n. done ++ before_part n ∷ []) (sym count) ∙ sym put_before)
 
-      opened_parts : (fixed : Bool) → broken_parts fixed scope (trees_of words (drop i xs)) ≡
-          option_or (broken fixed scope (tree_of words x)) (broken_parts fixed scope (trees_of words (drop (i + 1) xs)))
-      opened_parts fixed = ap (λ (l : List Expression). broken_parts fixed scope (trees_of words l)) (drop_at xs i x within is)
+      pub part_put : (next : List Node) → nodes_behind between (lower fixed scope (tree_of words x)) ≡ Ok next → parts_behind next (drop (i + 1) xs) ≡ all
+      part_put next put = sym (opened ∙ ap (λ (r : Result (List Node) ElabFault). r >>= λ ns. parts_behind ns (drop (i + 1) xs)) put)
 
-      pub next_right : (fixed : Bool) (all : Option ElabFault) → broken fixed scope (tree_of words x) ≡ None →
-          broken_parts fixed scope (trees_of words (drop i xs)) ≡ all → broken_parts fixed scope (trees_of words (drop (i + 1) xs)) ≡ all
-      next_right fixed all right same = goes_on (broken fixed scope (tree_of words x)) _ _ all (opened_parts fixed) right same
-
-      pub part_err : (fixed : Bool) (all : Option ElabFault) → broken_parts fixed scope (trees_of words (drop i xs)) ≡ all →
-          (e : OrMemory ElabFault) → Because (IsBroken (broken fixed scope (tree_of words x))) e → Because (IsBroken all) e
-      part_err fixed all same = stops_at (broken fixed scope (tree_of words x)) _ _ all (opened_parts fixed) same
+      pub part_refused : (fault : ElabFault) → nodes_behind between (lower fixed scope (tree_of words x)) ≡ Err fault → all ≡ Err fault
+      part_refused fault put = opened ∙ ap (λ (r : Result (List Node) ElabFault). r >>= λ ns. parts_behind ns (drop (i + 1) xs)) put

@@ -1,6 +1,5 @@
 -- Constants that bounds and counts are (IEEE 1364-2005, 4.3.1, 4.10, 5.1.14, 5.2.1): expressions without variables.
-use Rattle.std.specs.Prelude.{ℕ, nat_le, Bool, if◌then◌else◌, [], Option, None, Some, unwrap_or, option_and_then}
-use Rattle.std.specs.Option.{option_or}
+use Rattle.std.specs.Prelude.{ℕ, nat_le, Bool, if◌then◌else◌, [], Option, None, Some, unwrap_or, option_and_then, Result}
 use Rattle.vbits.specs.Letters.{is_one}
 use Rattle.vbits.specs.Numbers as numbers
 use Rattle.vbits.specs.Vectors.{Vector, sign_letter}
@@ -9,7 +8,7 @@ use Rattle.vdesign.specs.declared.expression.Bounds.{Bounds}
 use Rattle.vvalue.specs.Value.{Moment, by_itself}
 use Rattle.vvalue.specs.Flaws.{flaw_of}
 use Rattle.vast.specs.NumberedWords.{Word}
-use Rattle.velab.specs.Rules.{flaw_fault}
+use Rattle.velab.specs.Answers.{unflawed}
 use Rattle.velab.specs.declared.fault.ElabFault.{ElabFault}
 
 -- there are no variables
@@ -20,9 +19,9 @@ nothing = record { values = []; variables = []; time = 0; factor = 1 }
 abbrev pub worth : ExpressionTree → Vector
 worth tree = by_itself nothing tree
 
--- what an expression breaks by its names, or else by its sizes, which is told by its first word
-abbrev pub also_flawed : Option ElabFault → Option Word → ExpressionTree → Option ElabFault
-also_flawed broken word tree = option_or broken (flaw_fault (flaw_of nothing tree) word)
+-- the same where its sizes are right; else this is told by its first word
+abbrev pub measured : Option Word → ExpressionTree → Result Vector ElabFault
+measured word tree = unflawed (flaw_of nothing tree) word (worth tree)
 
 abbrev pub is_negative : Vector → Bool
 is_negative value = is_one (sign_letter value)

@@ -40,9 +40,9 @@ use Rattle.velab.specs.declared.scope.Meaning.{Meaning}
 use Rattle.velab.specs.declared.scope.Meaning.TheVariants.{Parameter, Event, Instance}
 use Rattle.velab.specs.FirstWords.{first_in, first_target, first_delay, first_argument}
 use Rattle.velab.specs.Rules.{told, number_in, unless, broken_if}
-use Rattle.velab.specs.Scopes.{Scope, at, number_of, event_of, broken_name, broken_variable, broken_event}
+use Rattle.velab.specs.Scopes.{Scope, at, number_of, event_of, broken_variable, broken_event}
 use Rattle.velab.specs.Constants.{nothing, worth, bound_in}
-use Rattle.velab.specs.Resolved.{resolved, broken_expression, broken_constant}
+use Rattle.velab.specs.Resolved.{resolved, resolved_constant, worth_in, broken_expression, broken_constant, broken_worth}
 use Rattle.velab.specs.Written.{row_of, broken_target}
 use Rattle.velab.specs.Prints.{when_of, pieces_in, broken_line}
 use Rattle.velab.specs.Waits.{any_of, names_in, terms_of, broken_control}
@@ -101,14 +101,14 @@ span bounds = max bounds.left bounds.right - min bounds.left bounds.right + 1
 
 -- 0 stands for what is no bound
 abbrev pub bound_of : Scope → text.ExpressionTree → ℕ
-bound_of scope tree = unwrap_or (bound_in (worth (resolved scope tree))) 0
+bound_of scope tree = unwrap_or (bound_in (worth_in scope tree)) 0
 
 abbrev pub bounds_of : Scope → RangeTree → Bounds
 bounds_of scope range = record { left = bound_of scope range.left; right = bound_of scope range.right }
 
 -- 4.3.1
 abbrev pub broken_bound : Scope → text.ExpressionTree → Option ElabFault
-broken_bound scope tree = option_or (broken_constant scope tree) (unless (is_some (bound_in (worth (resolved scope tree)))) rule.Width (first_in tree))
+broken_bound scope tree = option_or (broken_worth scope tree) (unless (is_some (bound_in (worth_in scope tree))) rule.Width (first_in tree))
 
 -- two bounds, and at most 64 bits from one to the other
 abbrev pub broken_range : Scope → Option RangeTree → Option ElabFault
@@ -267,8 +267,8 @@ parameter_of scope type value =
 
 -- 12.2.2: a value from outside stands in the place of the one that a parameter is set to, which is a constant all the same
 abbrev pub valued : Scope → Scope → text.ExpressionTree → Option text.ExpressionTree → ExpressionTree
-valued outer scope value None = resolved scope value
-valued outer scope value (Some other) = resolved outer other
+valued outer scope value None = resolved_constant scope value
+valued outer scope value (Some other) = resolved_constant outer other
 
 abbrev pub broken_valued : Scope → Scope → text.ExpressionTree → Option text.ExpressionTree → Option ElabFault
 broken_valued outer scope value None = broken_constant scope value
@@ -540,7 +540,7 @@ laid_processes scope table (process ∷ rest) =
 
 abbrev pub broken_amount : Scope → DelayTree → Option ElabFault
 broken_amount scope (by_number digits) = None
-broken_amount scope (by_name letters) = broken_name false scope letters
+broken_amount scope (by_name letters) = broken_expression scope (text.name letters)
 broken_amount scope (by_value amount) = broken_expression scope amount
 
 abbrev pub broken_own : Scope → Option DelayTree → Option ElabFault

@@ -1,6 +1,7 @@
 pub mod Literals
 pub mod FirstWords
 pub mod Rules
+pub mod Answers
 pub mod Scopes
 pub mod Constants
 pub mod Resolved

@@ -1,6 +1,5 @@
--- `resolved scope tree`: the expression of a design that an expression of a text stands for (IEEE 1364-2005, clause 5, 12.7).
-use Rattle.std.specs.Prelude.{ℕ, ◌+◌, nat_le, Bool, true, false, not, Option, None, Some}
-use Rattle.std.specs.Option.{option_or}
+-- What an expression of the text is lowered to: the expression of a design, or the first fault in it (IEEE 1364-2005, clause 5, 12.7).
+use Rattle.std.specs.Prelude.{ℕ, ◌+◌, nat_le, Bool, true, false, not, Option, Some, Result, Ok}
 use Rattle.vbits.specs.declared.bit4.Bit4.TheVariants.{X}
 use Rattle.vbits.specs.Vectors.{Vector, filled}
 use Rattle.vast.specs.NumberedWords.{Word}
@@ -8,22 +7,22 @@ use Rattle.vast.specs.NumberedExpressions as text
 use Rattle.vdesign.specs.Expressions.{ExpressionTree, constant, variable, bit, bit_of, part, time, conversion, apply, combine, conditional, joined, repeated}
 use Rattle.vdesign.specs.declared.expression.Bounds.{Bounds}
 use Rattle.vvalue.specs.Value.{part_of, part_size}
-use Rattle.vvalue.specs.Flaws.{is_part}
+use Rattle.vvalue.specs.Flaws.{is_part, flaw_of}
+use Rattle.velab.specs.Answers.{◌>>=◌, required, provided, unflawed, fault_of, value_or}
 use Rattle.velab.specs.Literals.{constant_of}
 use Rattle.velab.specs.FirstWords.{first_in, first_among}
-use Rattle.velab.specs.Rules.{unless}
-use Rattle.velab.specs.Scopes.{Scope, meaning_of, broken_name, bounds_for}
-use Rattle.velab.specs.Constants.{worth, also_flawed, part_bounds, count_in}
+use Rattle.velab.specs.Scopes.{Scope, lower_name}
+use Rattle.velab.specs.Constants.{nothing, measured, part_bounds, count_in}
 use Rattle.velab.specs.declared.fault.ElabFault.{ElabFault}
 use Rattle.velab.specs.declared.fault.Rule.TheVariants.{Width, Constant}
-use Rattle.velab.specs.declared.scope.Meaning.{Meaning}
-use Rattle.velab.specs.declared.scope.Meaning.TheVariants.{Variable, Parameter, Event, Instance}
+use Rattle.velab.specs.declared.scope.Operand.{Operand}
+use Rattle.velab.specs.declared.scope.Operand.TheVariants.{Variable, Parameter}
 
 -- a value as it is: it isn't extended by its leftmost letter
 abbrev pub plain : Vector → ExpressionTree
 plain value = constant (record { value = value; spreads = false })
 
--- a concatenation of nothing, a name that isn't declared, or that of an event or an instance: no text of a design has one
+-- a concatenation of nothing: no text of a design has one
 abbrev pub no_parts : ExpressionTree
 no_parts = plain (filled 1 X)
 
@@ -32,60 +31,20 @@ abbrev pub in_front : ExpressionTree → text.ExpressionTrees → ExpressionTree
 in_front one text.none others = conversion false one
 in_front one (text.first next more) others = joined one others
 
--- a parameter stands for its value (4.10)
-abbrev pub resolved_name : Option Meaning → ExpressionTree
-resolved_name None = no_parts
-resolved_name (Some (Variable number)) = variable number
-resolved_name (Some (Parameter value bounds before)) = plain value
-resolved_name (Some (Event number)) = no_parts
-resolved_name (Some Instance) = no_parts
+-- a variable goes by its number, and a parameter stands for its value (4.10)
+abbrev pub operand_tree : Operand → ExpressionTree
+operand_tree (Variable number) = variable number
+operand_tree (Parameter value bounds) = plain value
 
 -- name [ index ]
-abbrev pub resolved_bit : Option Meaning → ExpressionTree → ExpressionTree
-resolved_bit None index = no_parts
-resolved_bit (Some (Variable number)) index = bit number index
-resolved_bit (Some (Parameter value bounds before)) index = bit_of value (bounds_for value bounds) index
-resolved_bit (Some (Event number)) index = no_parts
-resolved_bit (Some Instance) index = no_parts
+abbrev pub bit_in : Operand → ExpressionTree → ExpressionTree
+bit_in (Variable number) index = bit number index
+bit_in (Parameter value bounds) index = bit_of value bounds index
 
--- name [ left : right ]
-abbrev pub resolved_part : Option Meaning → Bounds → ExpressionTree
-resolved_part None selected = no_parts
-resolved_part (Some (Variable number)) selected = part number selected
-resolved_part (Some (Parameter value bounds before)) selected = plain (part_of value (bounds_for value bounds) selected (part_size selected))
-resolved_part (Some (Event number)) selected = no_parts
-resolved_part (Some Instance) selected = no_parts
-
--- a variable goes by its number; parentheses have done their work
-abbrev mutual
-  pub resolved : Scope → text.ExpressionTree → ExpressionTree
-  resolved scope (text.number digits) = constant (constant_of digits.letters)
-  resolved scope (text.name letters) = resolved_name (meaning_of scope letters)
-  resolved scope (text.time word) = time
-  resolved scope (text.bit letters index) = resolved_bit (meaning_of scope letters) (resolved scope index)
-  resolved scope (text.part letters left right) =
-      resolved_part (meaning_of scope letters) (part_bounds (worth (resolved scope left)) (worth (resolved scope right)))
-  resolved scope (text.parentheses inner) = resolved scope inner
-  resolved scope (text.concatenation parts) = resolved_parts scope parts
-  resolved scope (text.replication count parts) = repeated (count_in (worth (resolved scope count))) (resolved_parts scope parts)
-  resolved scope (text.conversion signed inner) = conversion signed (resolved scope inner)
-  resolved scope (text.apply operator inner) = apply operator (resolved scope inner)
-  resolved scope (text.combine operator left right) = combine operator (resolved scope left) (resolved scope right)
-  resolved scope (text.conditional condition when_true when_false) =
-      conditional (resolved scope condition) (resolved scope when_true) (resolved scope when_false)
-
-  -- `{a, b, c}` is a in front of `{b, c}`
-  pub resolved_parts : Scope → text.ExpressionTrees → ExpressionTree
-  resolved_parts scope text.none = no_parts
-  resolved_parts scope (text.first one more) = in_front (resolved scope one) more (resolved_parts scope more)
-
--- the part of a variable is looked at in the finished design
-abbrev pub part_rule : Option Meaning → Bounds → Word → Option ElabFault
-part_rule None selected name = None
-part_rule (Some (Variable number)) selected name = None
-part_rule (Some (Parameter value bounds before)) selected name = unless (is_part (bounds_for value bounds) selected) Width (Some name)
-part_rule (Some (Event number)) selected name = None
-part_rule (Some Instance) selected name = None
+-- name [ left : right ]; the part of a variable is looked at in the finished design
+abbrev pub part_in : Operand → Bounds → Word → Result ExpressionTree ElabFault
+part_in (Variable number) selected name = Ok (part number selected)
+part_in (Parameter value bounds) selected name = required (is_part bounds selected) Width (Some name) (plain (part_of value bounds selected (part_size selected)))
 
 -- how many parts a concatenation has
 abbrev pub count_of : text.ExpressionTrees → ℕ
@@ -93,44 +52,78 @@ count_of text.none = 0
 count_of (text.first one more) = count_of more + 1
 
 -- a vector has at most 64 bits, and each part has one at least
-abbrev pub too_many_parts : text.ExpressionTrees → Option ElabFault
-too_many_parts parts = unless (nat_le (count_of parts) 64) Width (first_among parts)
+abbrev pub few : text.ExpressionTrees → Result ExpressionTree ElabFault → Result ExpressionTree ElabFault
+few parts whole = provided (nat_le (count_of parts) 64) Width (first_among parts) whole
 
--- What a name in an expression breaks first, or a constant in it. An expression may itself have to be constant.
+-- the whole, so many times
+abbrev pub times : Vector → Result ExpressionTree ElabFault → Result ExpressionTree ElabFault
+times count whole = whole >>= λ e. Ok (repeated (count_in count) e)
+
+-- An expression of any kind, or one that is to be constant. Bounds of a part and counts are constants in either, and their sizes are right,
+-- or this is told by their first word. Parentheses have done their work.
 abbrev mutual
-  pub broken : Bool → Scope → text.ExpressionTree → Option ElabFault
-  broken fixed scope (text.number digits) = None
-  broken fixed scope (text.name letters) = broken_name fixed scope letters
-  broken fixed scope (text.time word) = unless (not fixed) Constant (Some word)
-  broken fixed scope (text.bit letters index) = option_or (broken_name fixed scope letters) (broken fixed scope index)
-  broken fixed scope (text.part letters left right) =
-      option_or (broken_name fixed scope letters)
-      (option_or (also_flawed (broken true scope left) (first_in left) (resolved scope left))
-      (option_or (also_flawed (broken true scope right) (first_in right) (resolved scope right))
-      (part_rule (meaning_of scope letters) (part_bounds (worth (resolved scope left)) (worth (resolved scope right))) letters)))
-  broken fixed scope (text.parentheses inner) = broken fixed scope inner
-  broken fixed scope (text.concatenation parts) = option_or (too_many_parts parts) (broken_parts fixed scope parts)
-  broken fixed scope (text.replication count parts) =
-      option_or (also_flawed (broken true scope count) (first_in count) (resolved scope count))
-      (option_or (too_many_parts parts) (broken_parts fixed scope parts))
-  broken fixed scope (text.conversion signed inner) = broken fixed scope inner
-  broken fixed scope (text.apply operator inner) = broken fixed scope inner
-  broken fixed scope (text.combine operator left right) = option_or (broken fixed scope left) (broken fixed scope right)
-  broken fixed scope (text.conditional condition when_true when_false) =
-      option_or (broken fixed scope condition) (option_or (broken fixed scope when_true) (broken fixed scope when_false))
+  pub lower : Bool → Scope → text.ExpressionTree → Result ExpressionTree ElabFault
+  lower fixed scope (text.number digits) = Ok (constant (constant_of digits.letters))
+  lower fixed scope (text.name letters) = lower_name fixed scope letters >>= λ operand. Ok (operand_tree operand)
+  lower fixed scope (text.time word) = required (not fixed) Constant (Some word) time
+  lower fixed scope (text.bit letters index) =
+      lower_name fixed scope letters >>= λ operand. lower fixed scope index >>= λ place. Ok (bit_in operand place)
+  lower fixed scope (text.part letters left right) =
+      lower_name fixed scope letters >>= λ operand.
+      (lower true scope left >>= measured (first_in left)) >>= λ high.
+      (lower true scope right >>= measured (first_in right)) >>= λ low.
+      part_in operand (part_bounds high low) letters
+  lower fixed scope (text.parentheses inner) = lower fixed scope inner
+  lower fixed scope (text.concatenation parts) = few parts (lower_parts fixed scope parts)
+  lower fixed scope (text.replication count parts) =
+      (lower true scope count >>= measured (first_in count)) >>= λ amount. times amount (few parts (lower_parts fixed scope parts))
+  lower fixed scope (text.conversion signed inner) = lower fixed scope inner >>= λ operand. Ok (conversion signed operand)
+  lower fixed scope (text.apply operator inner) = lower fixed scope inner >>= λ operand. Ok (apply operator operand)
+  lower fixed scope (text.combine operator left right) =
+      lower fixed scope left >>= λ one. lower fixed scope right >>= λ other. Ok (combine operator one other)
+  lower fixed scope (text.conditional condition when_true when_false) =
+      lower fixed scope condition >>= λ test.
+      lower fixed scope when_true >>= λ one.
+      lower fixed scope when_false >>= λ other.
+      Ok (conditional test one other)
 
-  pub broken_parts : Bool → Scope → text.ExpressionTrees → Option ElabFault
-  broken_parts fixed scope text.none = None
-  broken_parts fixed scope (text.first one more) = option_or (broken fixed scope one) (broken_parts fixed scope more)
+  -- `{a, b, c}` is a in front of `{b, c}`
+  pub lower_parts : Bool → Scope → text.ExpressionTrees → Result ExpressionTree ElabFault
+  lower_parts fixed scope text.none = Ok no_parts
+  lower_parts fixed scope (text.first one more) =
+      lower fixed scope one >>= λ front. lower_parts fixed scope more >>= λ others. Ok (in_front front more others)
 
--- the parts of a concatenation
-abbrev pub broken_joined : Bool → Scope → text.ExpressionTrees → Option ElabFault
-broken_joined fixed scope parts = option_or (too_many_parts parts) (broken_parts fixed scope parts)
+-- a concatenation
+abbrev pub lower_joined : Bool → Scope → text.ExpressionTrees → Result ExpressionTree ElabFault
+lower_joined fixed scope parts = few parts (lower_parts fixed scope parts)
 
 -- an expression of any kind
-abbrev pub broken_expression : Scope → text.ExpressionTree → Option ElabFault
-broken_expression scope tree = broken false scope tree
+abbrev pub lower_expression : Scope → text.ExpressionTree → Result ExpressionTree ElabFault
+lower_expression scope tree = lower false scope tree
 
--- a constant: its names are right, and its sizes
+-- a constant, and what it is worth
+abbrev pub lower_constant : Scope → text.ExpressionTree → Result ExpressionTree ElabFault
+lower_constant scope tree = lower true scope tree >>= λ e. unflawed (flaw_of nothing e) (first_in tree) e
+
+abbrev pub lower_value : Scope → text.ExpressionTree → Result Vector ElabFault
+lower_value scope tree = lower true scope tree >>= measured (first_in tree)
+
+-- ---- the same in two parts, as stages above take them: what stands there, and the fault
+
+abbrev pub resolved : Scope → text.ExpressionTree → ExpressionTree
+resolved scope tree = value_or no_parts (lower_expression scope tree)
+
+abbrev pub resolved_constant : Scope → text.ExpressionTree → ExpressionTree
+resolved_constant scope tree = value_or no_parts (lower_constant scope tree)
+
+abbrev pub worth_in : Scope → text.ExpressionTree → Vector
+worth_in scope tree = value_or (filled 1 X) (lower_value scope tree)
+
+abbrev pub broken_expression : Scope → text.ExpressionTree → Option ElabFault
+broken_expression scope tree = fault_of (lower_expression scope tree)
+
 abbrev pub broken_constant : Scope → text.ExpressionTree → Option ElabFault
-broken_constant scope tree = also_flawed (broken true scope tree) (first_in tree) (resolved scope tree)
+broken_constant scope tree = fault_of (lower_constant scope tree)
+
+abbrev pub broken_worth : Scope → text.ExpressionTree → Option ElabFault
+broken_worth scope tree = fault_of (lower_value scope tree)

@@ -33,9 +33,6 @@ abbrev pub rule_of : Flaw → Rule
 rule_of NoBits = Kind
 rule_of Size = Width
 
-abbrev pub flaw_fault : Option Flaw → Option Word → Option ElabFault
-flaw_fault flaw word = option_map (λ f. told (rule_of f) word) flaw
-
 -- a fault tells of this
 abbrev pub IsBroken : Option ElabFault → ElabFault → Type 0
 IsBroken broken fault = broken ≡ Some fault

@@ -9,8 +9,8 @@ use Rattle.vdesign.specs.declared.action.Target.{Target}
 use Rattle.vdesign.specs.declared.action.Target.TheVariants.{Whole, Bit, Part}
 use Rattle.velab.specs.declared.fault.ElabFault.{ElabFault}
 use Rattle.velab.specs.Scopes.{Scope, number_of, broken_variable}
-use Rattle.velab.specs.Constants.{worth, part_bounds}
-use Rattle.velab.specs.Resolved.{resolved, broken_expression, broken_constant}
+use Rattle.velab.specs.Constants.{part_bounds}
+use Rattle.velab.specs.Resolved.{resolved, worth_in, broken_expression, broken_worth}
 
 -- the targets in a row, the leftmost first: concatenations within stand in the same row (5.1.14)
 abbrev mutual
@@ -18,7 +18,7 @@ abbrev mutual
   row_of scope (whole letters) = Whole (number_of scope letters) ∷ []
   row_of scope (bit letters index) = Bit (number_of scope letters) (resolved scope index) ∷ []
   row_of scope (part letters left right) =
-      Part (number_of scope letters) (part_bounds (worth (resolved scope left)) (worth (resolved scope right))) ∷ []
+      Part (number_of scope letters) (part_bounds (worth_in scope left) (worth_in scope right)) ∷ []
   row_of scope (joined targets) = row_of_all scope targets
 
   pub row_of_all : Scope → TargetTrees → List Target
@@ -34,7 +34,7 @@ first_token (Joined' at shape row) = at
 
 -- the two bounds of a part are constants
 abbrev pub broken_bounds : Scope → text.ExpressionTree → text.ExpressionTree → Option ElabFault
-broken_bounds scope left right = option_or (broken_constant scope left) (broken_constant scope right)
+broken_bounds scope left right = option_or (broken_worth scope left) (broken_worth scope right)
 
 -- what is written is a variable; whether it has such a bit or part is looked at in the finished design
 abbrev mutual

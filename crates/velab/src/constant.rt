@@ -1,15 +1,13 @@
 // Constants: what bounds, counts and parameters are worth (IEEE 1364-2005, 4.3.1, 4.10, 5.1.14, 5.2.1).
 
-ghost use Rattle.std.specs.Prelude.{◌≡◌, ◌≤◌, [], List, None, IfOk, IfSome, OnOk};
-ghost use Rattle.basis.specs.Reasons.{IfFault};
+ghost use Rattle.std.specs.Prelude.{◌≡◌, ◌≤◌, List, IfSome};
 ghost use Rattle.vbits.specs.Letters as letters;
-ghost use Rattle.vvalue.specs.Flaws.{flaw_of};
 ghost use Rattle.velab.specs.Constants as spec;
 ghost use Rattle.velab.specs.Rules as rules;
 ghost use Rattle.vast.specs.NumberedTrees.{tree_of};
 ghost use Rattle.vast.specs.Words.{Text};
 ghost use Rattle.velab.specs.FirstWords.{first_in};
-ghost use Rattle.velab.specs.Rules.{flaw_fault, IsBroken};
+ghost use Rattle.velab.specs.Answers.{Gives};
 
 use crate::fault::{ElabFault, Rule};
 use crate::first::first_in;
@@ -50,11 +48,8 @@ pub fn rule_of(flaw: Flaw) -> Rule
 
 /// What a constant expression is worth, which is written so. E306, or E310, where its sizes are wrong, at the first word that is written.
 pub fn worth_of(expression: &Expression, written: &Written) -> Result<Vec4, OrMemory<ElabFault>>
-    ensures ok { IfOk result (λ value. value ≡ spec.worth expression.now) }
-    ensures right { (words : List Text) → OnOk result (flaw_fault
-        (flaw_of spec.nothing expression.now) (first_in (tree_of words written.now)) ≡ None) }
-    ensures err { (words : List Text) → IfFault result (IsBroken (flaw_fault
-        (flaw_of spec.nothing expression.now) (first_in (tree_of words written.now)))) }
+    ensures { (words : List Text) → Gives result
+        (spec.measured (first_in (tree_of words written.now)) expression.now) }
 {
     let moment = nothing();
     match flaw_of(expression, &moment) {

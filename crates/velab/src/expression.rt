@@ -1,27 +1,27 @@
-// Expressions of the text, their names resolved (IEEE 1364-2005, clause 5, 12.7).
+// Expressions of the text, lowered to those of a design (IEEE 1364-2005, clause 5, 12.7).
 
-ghost use Rattle.std.specs.Prelude.{◌≡◌, ◌≤◌, [], ◌∷◌, ◌++◌, true, false, List, Some, None, length, IfOk, OnOk};
+ghost use Rattle.std.specs.Prelude.{◌≡◌, ◌≤◌, [], ◌∷◌, ◌++◌, true, false, List, Ok, None, length, IfOk, OnOk};
 ghost use Rattle.basis.specs.Reasons.{IfFault};
 ghost use Rattle.vast.specs.NumberedTrees as text;
-ghost use Rattle.vast.specs.NumberedExpressions.{bit};
+ghost use Rattle.vast.specs.NumberedExpressions as written;
 ghost use Rattle.vast.specs.NumberedWords.{numbered};
 ghost use Rattle.vast.specs.Words.{Text};
 ghost use Rattle.vdesign.specs.Expressions.{ExpressionTree};
 ghost use Rattle.vdesign.specs.Nodes.{nodes_of};
 ghost use Rattle.vexpr_parse.specs.Texts.{words_of};
-ghost use Rattle.velab.specs.Constants as constants;
-ghost use Rattle.velab.specs.Scopes.{meaning_of, broken_name, bounds_for};
+ghost use Rattle.velab.specs.Answers.{Gives, Makes};
 ghost use Rattle.velab.specs.Resolved as spec;
-ghost use Rattle.velab.specs.Resolved.{resolved, resolved_parts, broken, broken_joined, broken_parts, broken_expression, broken_constant};
+ghost use Rattle.velab.specs.Resolved.{lower, lower_parts, lower_joined, lower_expression, lower_constant, lower_value};
 ghost use Rattle.velab.specs.InnerParts as inner;
+ghost use Rattle.velab.specs.InnerParts.{nodes_behind};
 ghost use Rattle.velab.specs.Rules.{IsBroken};
 
 use crate::constant::{count_in, part_bounds, worth_of};
 use crate::fault::{ElabFault, Rule};
 use crate::first::first_among;
 use crate::number::constant_of;
-use crate::scope::{Meaning, Scope, named};
-use basis::OrMemory;
+use crate::scope::{Operand, Scope, operand_of};
+use basis::{NoMemory, OrMemory};
 use std::alloc::Global;
 use vast::expression::Expression as Value;
 use vast::token::Token;
@@ -64,63 +64,61 @@ fn before_part(left: usize) -> Node
 }
 
 // One node more.
-fn put(nodes: &mut Vec<Node>, node: Node) -> Result<(), OrMemory<ElabFault>>
-    ensures ok { OnOk result (nodes.new.items ≡ nodes.old.items ++ node ∷ []) }
-    ensures err { IfFault result (IsBroken None) }
+fn put(nodes: &mut Vec<Node>, node: Node) -> Result<(), NoMemory>
+    ensures { OnOk result (nodes.new.items ≡ nodes.old.items ++ node ∷ []) }
 {
     nodes.push(node)?;
     Ok(())
 }
 
-// What a name stands for.
-fn name_node(meaning: Meaning) -> Node
-    ensures { result ∷ [] ≡ nodes_of (spec.resolved_name (Some meaning)) }
+// A name alone.
+fn operand_node(operand: Operand) -> Node
+    ensures { result ∷ [] ≡ nodes_of (spec.operand_tree operand) }
 {
-    match meaning {
-        Meaning::Variable(number) => Node::Variable(number),
-        Meaning::Parameter { value, .. } => plain(value),
-        Meaning::Event(_) => no_parts(),
-        Meaning::Instance => no_parts(),
+    match operand {
+        Operand::Variable(number) => Node::Variable(number),
+        Operand::Parameter { value, .. } => plain(value),
     }
 }
 
-// The bounds of a parameter.
-fn bounds_for(value: Vec4, bounds: Option<Bounds>) -> Bounds
-    ensures { result ≡ bounds_for value bounds }
+// What stands before the index, in `name[index]`.
+fn bit_node(operand: Operand) -> Node
+    ensures { (index : ExpressionTree) →
+        nodes_of (spec.bit_in operand index) ≡ result ∷ nodes_of index }
 {
-    bounds.unwrap_or(Bounds {
-        left: value.len() - 1,
-        right: 0,
-    })
+    match operand {
+        Operand::Variable(number) => Node::Bit(number),
+        Operand::Parameter { value, bounds } => Node::BitOf { value, bounds },
+    }
 }
 
-// `name[left:right]`, where both bounds are known. E306 where they are no part of a parameter.
-fn part_node(meaning: Meaning, selected: Bounds, at: Token) -> Result<Node, OrMemory<ElabFault>>
-    ensures ok { IfOk result (λ node.
-        node ∷ [] ≡ nodes_of (spec.resolved_part (Some meaning) selected)) }
-    ensures right { (words : List Text) →
-        OnOk result (spec.part_rule (Some meaning) selected (numbered words at) ≡ None) }
-    ensures err { (words : List Text) →
-        IfFault result (IsBroken (spec.part_rule (Some meaning) selected (numbered words at))) }
+// Puts `name[left:right]` behind others, where both bounds are known. E306 where they are no part of a parameter.
+fn put_part(
+    operand: Operand,
+    selected: Bounds,
+    at: Token,
+    nodes: &mut Vec<Node>,
+) -> Result<(), OrMemory<ElabFault>>
+    ensures { (words : List Text) → Makes result nodes.new.items
+        (nodes_behind nodes.old.items (spec.part_in operand selected (numbered words at))) }
 {
-    match meaning {
-        Meaning::Variable(variable) => Ok(Node::Part {
-            variable,
-            bounds: selected,
-        }),
-        Meaning::Parameter { value, bounds, .. } => {
-            let bounds = bounds_for(value, bounds);
-            if is_part(bounds, selected) {
-                Ok(plain(part_of(value, bounds, selected)))
-            } else {
-                Err(OrMemory::Fault(ElabFault {
+    match operand {
+        Operand::Variable(variable) => Ok(put(
+            nodes,
+            Node::Part {
+                variable,
+                bounds: selected,
+            },
+        )?),
+        Operand::Parameter { value, bounds } => {
+            if !is_part(bounds, selected) {
+                return Err(OrMemory::Fault(ElabFault {
                     rule: Rule::Width,
                     at: Some(at.number),
-                }))
+                }));
             }
+            Ok(put(nodes, plain(part_of(value, bounds, selected)))?)
         }
-        Meaning::Event(_) => Ok(no_parts()),
-        Meaning::Instance => Ok(no_parts()),
     }
 }
 
@@ -134,15 +132,11 @@ fn put_parts(
     parts: &[Value],
     nodes: &mut Vec<Node>,
 ) -> Result<(), OrMemory<ElabFault>>
-    ensures ok { OnOk result (nodes.new.items ≡ nodes.old.items
-        ++ nodes_of (resolved_parts scope.now (text.trees_of (words_of tokens.now) parts.now))) }
-    ensures right { OnOk result
-        (broken_parts fixed scope.now (text.trees_of (words_of tokens.now) parts.now) ≡ None) }
-    ensures err { IfFault result
-        (IsBroken (broken_parts fixed scope.now (text.trees_of (words_of tokens.now) parts.now))) }
+    ensures { Makes result nodes.new.items (nodes_behind nodes.old.items
+        (lower_parts fixed scope.now (text.trees_of (words_of tokens.now) parts.now))) }
 {
     if parts.is_empty() {
-        return put(nodes, no_parts());
+        return Ok(put(nodes, no_parts())?);
     }
     let mut left = parts.len();
     for one in parts {
@@ -161,17 +155,19 @@ pub fn worth(
     tokens: &Tokens<'_>,
     expression: &Value,
 ) -> Result<Vec4, OrMemory<ElabFault>>
+    ensures gives { Gives result
+        (lower_value scope.now (text.tree_of (words_of tokens.now) expression.now)) }
     ensures ok { IfOk result (λ value. value ≡
-        constants.worth (resolved scope.now (text.tree_of (words_of tokens.now) expression.now))) }
+        spec.worth_in scope.now (text.tree_of (words_of tokens.now) expression.now)) }
     ensures right { OnOk result
-        (broken_constant scope.now (text.tree_of (words_of tokens.now) expression.now) ≡ None) }
-    ensures err { IfFault result
-        (IsBroken (broken_constant scope.now (text.tree_of (words_of tokens.now) expression.now))) }
+        (spec.broken_worth scope.now (text.tree_of (words_of tokens.now) expression.now) ≡ None) }
+    ensures err { IfFault result (IsBroken
+        (spec.broken_worth scope.now (text.tree_of (words_of tokens.now) expression.now))) }
 {
     let mut nodes = Vec::new(alloc);
     put_expression(alloc, scope, true, tokens, expression, &mut nodes)?;
-    let resolved = Expression::new(nodes);
-    worth_of(&resolved, expression)
+    let lowered = Expression::new(nodes);
+    worth_of(&lowered, expression)
 }
 
 // `name[index]`
@@ -185,29 +181,13 @@ fn put_bit(
     name: Token,
     nodes: &mut Vec<Node>,
 ) -> Result<(), OrMemory<ElabFault>>
-    ensures ok { OnOk result (nodes.new.items ≡ nodes.old.items ++ nodes_of (resolved scope.now
-        (bit (numbered (words_of tokens.now) name) (text.tree_of (words_of tokens.now)
-        index.now)))) }
-    ensures right { OnOk result (broken fixed scope.now
-        (bit (numbered (words_of tokens.now) name) (text.tree_of (words_of tokens.now) index.now))
-        ≡ None) }
-    ensures err { IfFault result (IsBroken (broken fixed scope.now
-        (bit (numbered (words_of tokens.now) name) (text.tree_of (words_of tokens.now)
-        index.now)))) }
+    ensures { Makes result nodes.new.items (nodes_behind nodes.old.items (lower fixed scope.now
+        (written.bit (numbered (words_of tokens.now) name)
+        (text.tree_of (words_of tokens.now) index.now)))) }
 {
-    match named(scope, fixed, tokens, name)? {
-        Meaning::Variable(number) => {
-            put(nodes, Node::Bit(number))?;
-            put_expression(alloc, scope, fixed, tokens, index, nodes)
-        }
-        Meaning::Parameter { value, bounds, .. } => {
-            let bounds = bounds_for(value, bounds);
-            put(nodes, Node::BitOf { value, bounds })?;
-            put_expression(alloc, scope, fixed, tokens, index, nodes)
-        }
-        Meaning::Event(_) => put(nodes, no_parts()),
-        Meaning::Instance => put(nodes, no_parts()),
-    }
+    let operand = operand_of(scope, fixed, tokens, name)?;
+    put(nodes, bit_node(operand))?;
+    put_expression(alloc, scope, fixed, tokens, index, nodes)
 }
 
 // The parts of a concatenation. E306 where there are more than 64, as each has a bit at least.
@@ -221,12 +201,8 @@ fn put_joined(
     parts: &[Value],
     nodes: &mut Vec<Node>,
 ) -> Result<(), OrMemory<ElabFault>>
-    ensures ok { OnOk result (nodes.new.items ≡ nodes.old.items
-        ++ nodes_of (resolved_parts scope.now (text.trees_of (words_of tokens.now) parts.now))) }
-    ensures right { OnOk result
-        (broken_joined fixed scope.now (text.trees_of (words_of tokens.now) parts.now) ≡ None) }
-    ensures err { IfFault result
-        (IsBroken (broken_joined fixed scope.now (text.trees_of (words_of tokens.now) parts.now))) }
+    ensures { Makes result nodes.new.items (nodes_behind nodes.old.items
+        (lower_joined fixed scope.now (text.trees_of (words_of tokens.now) parts.now))) }
 {
     if parts.len() > MOST_PARTS {
         return Err(OrMemory::Fault(ElabFault {
@@ -248,19 +224,15 @@ fn put_repeated(
     count: Vec4,
     nodes: &mut Vec<Node>,
 ) -> Result<(), OrMemory<ElabFault>>
-    ensures ok { OnOk result (nodes.new.items ≡ nodes.old.items
-        ++ Node.Repeated (constants.count_in count)
-        ∷ nodes_of (resolved_parts scope.now (text.trees_of (words_of tokens.now) parts.now))) }
-    ensures right { OnOk result
-        (broken_joined fixed scope.now (text.trees_of (words_of tokens.now) parts.now) ≡ None) }
-    ensures err { IfFault result
-        (IsBroken (broken_joined fixed scope.now (text.trees_of (words_of tokens.now) parts.now))) }
+    ensures { Makes result nodes.new.items (nodes_behind nodes.old.items
+        (spec.times count
+        (lower_joined fixed scope.now (text.trees_of (words_of tokens.now) parts.now)))) }
 {
     put(nodes, Node::Repeated(count_in(count)))?;
     put_joined(alloc, scope, fixed, tokens, parts, nodes)
 }
 
-// Puts the nodes that an expression of the text stands for behind others.
+// Puts the nodes that an expression of the text is lowered to behind others.
 #[cycle(expressions)]
 fn put_expression(
     alloc: Global,
@@ -270,18 +242,16 @@ fn put_expression(
     expression: &Value,
     nodes: &mut Vec<Node>,
 ) -> Result<(), OrMemory<ElabFault>>
-    ensures ok { OnOk result (nodes.new.items ≡ nodes.old.items
-        ++ nodes_of (resolved scope.now (text.tree_of (words_of tokens.now) expression.now))) }
-    ensures right { OnOk result
-        (broken fixed scope.now (text.tree_of (words_of tokens.now) expression.now) ≡ None) }
-    ensures err { IfFault result
-        (IsBroken (broken fixed scope.now (text.tree_of (words_of tokens.now) expression.now))) }
+    ensures { Makes result nodes.new.items (nodes_behind nodes.old.items
+        (lower fixed scope.now (text.tree_of (words_of tokens.now) expression.now))) }
 {
     match expression {
-        Value::Number(word) => put(nodes, Node::Constant(constant_of(letters(tokens, *word)))),
+        Value::Number(word) => {
+            Ok(put(nodes, Node::Constant(constant_of(letters(tokens, *word))))?)
+        }
         Value::Name(word) => {
-            let meaning = named(scope, fixed, tokens, *word)?;
-            put(nodes, name_node(meaning))
+            let operand = operand_of(scope, fixed, tokens, *word)?;
+            Ok(put(nodes, operand_node(operand))?)
         }
         Value::Time(word) => {
             if fixed {
@@ -290,16 +260,15 @@ fn put_expression(
                     at: Some(word.number),
                 }));
             }
-            put(nodes, Node::Time)
+            Ok(put(nodes, Node::Time)?)
         }
         Value::Parentheses(inner) => put_expression(alloc, scope, fixed, tokens, inner, nodes),
         Value::Bit { name, index } => put_bit(alloc, scope, fixed, tokens, index, *name, nodes),
         Value::Part { name, left, right } => {
-            let meaning = named(scope, fixed, tokens, *name)?;
+            let operand = operand_of(scope, fixed, tokens, *name)?;
             let left = worth(alloc, scope, tokens, left)?;
             let right = worth(alloc, scope, tokens, right)?;
-            let node = part_node(meaning, part_bounds(left, right), *name)?;
-            put(nodes, node)
+            put_part(operand, part_bounds(left, right), *name, nodes)
         }
         Value::Concatenation { parts, .. } => {
             put_joined(alloc, scope, fixed, tokens, parts, nodes)
@@ -338,7 +307,7 @@ fn put_expression(
     }
 }
 
-/// The expression of a design that an expression of the text stands for. E303 where a name in it is not declared, E306 or E307 where
+/// The expression of a design that an expression of the text is lowered to. E303 where a name in it is not declared, E306 or E307 where
 /// what has to be constant in it is wrong.
 pub fn expression_of(
     alloc: Global,
@@ -346,58 +315,63 @@ pub fn expression_of(
     tokens: &Tokens<'_>,
     expression: &Value,
 ) -> Result<Expression, OrMemory<ElabFault>>
+    ensures gives { Gives result
+        (lower_expression scope.now (text.tree_of (words_of tokens.now) expression.now)) }
     ensures ok { IfOk result (λ e.
-        e ≡ resolved scope.now (text.tree_of (words_of tokens.now) expression.now)) }
-    ensures right { OnOk result
-        (broken_expression scope.now (text.tree_of (words_of tokens.now) expression.now) ≡ None) }
-    ensures err { IfFault result
-        (IsBroken (broken_expression scope.now (text.tree_of (words_of tokens.now)
-        expression.now))) }
+        e ≡ spec.resolved scope.now (text.tree_of (words_of tokens.now) expression.now)) }
+    ensures right { OnOk result (spec.broken_expression scope.now
+        (text.tree_of (words_of tokens.now) expression.now) ≡ None) }
+    ensures err { IfFault result (IsBroken (spec.broken_expression scope.now
+        (text.tree_of (words_of tokens.now) expression.now))) }
 {
     let mut nodes = Vec::new(alloc);
     put_expression(alloc, scope, false, tokens, expression, &mut nodes)?;
     Ok(Expression::new(nodes))
 }
 
-/// The expression that a name of the text stands for.
+/// The expression that a name of the text is lowered to.
 pub fn expression_of_name(
     alloc: Global,
     scope: &Scope<'_, '_>,
     tokens: &Tokens<'_>,
     name: Token,
 ) -> Result<Expression, OrMemory<ElabFault>>
-    ensures ok { IfOk result (λ e.
-        e ≡ spec.resolved_name (meaning_of scope.now (numbered (words_of tokens.now) name))) }
-    ensures right { OnOk result
-        (broken_name false scope.now (numbered (words_of tokens.now) name) ≡ None) }
-    ensures err { IfFault result
-        (IsBroken (broken_name false scope.now (numbered (words_of tokens.now) name))) }
+    ensures gives { Gives result
+        (lower_expression scope.now (written.name (numbered (words_of tokens.now) name))) }
+    ensures ok { IfOk result (λ e. e ≡ spec.resolved scope.now
+        (written.name (numbered (words_of tokens.now) name))) }
+    ensures right { OnOk result (spec.broken_expression scope.now
+        (written.name (numbered (words_of tokens.now) name)) ≡ None) }
+    ensures err { IfFault result (IsBroken (spec.broken_expression scope.now
+        (written.name (numbered (words_of tokens.now) name)))) }
 {
-    let meaning = named(scope, false, tokens, name)?;
+    let operand = operand_of(scope, false, tokens, name)?;
     let mut nodes = Vec::new(alloc);
-    put(&mut nodes, name_node(meaning))?;
+    put(&mut nodes, operand_node(operand))?;
     Ok(Expression::new(nodes))
 }
 
-/// The value of a constant expression. E303, E306 or E307 where it is none.
+/// The expression that a constant of the text is lowered to. E303, E306 or E307 where it is none.
 pub fn constant_expression(
     alloc: Global,
     scope: &Scope<'_, '_>,
     tokens: &Tokens<'_>,
     expression: &Value,
 ) -> Result<Expression, OrMemory<ElabFault>>
+    ensures gives { Gives result
+        (lower_constant scope.now (text.tree_of (words_of tokens.now) expression.now)) }
     ensures ok { IfOk result (λ e.
-        e ≡ resolved scope.now (text.tree_of (words_of tokens.now) expression.now)) }
-    ensures right { OnOk result
-        (broken_constant scope.now (text.tree_of (words_of tokens.now) expression.now) ≡ None) }
-    ensures err { IfFault result
-        (IsBroken (broken_constant scope.now (text.tree_of (words_of tokens.now) expression.now))) }
+        e ≡ spec.resolved_constant scope.now (text.tree_of (words_of tokens.now) expression.now)) }
+    ensures right { OnOk result (spec.broken_constant scope.now
+        (text.tree_of (words_of tokens.now) expression.now) ≡ None) }
+    ensures err { IfFault result (IsBroken (spec.broken_constant scope.now
+        (text.tree_of (words_of tokens.now) expression.now))) }
 {
     let mut nodes = Vec::new(alloc);
     put_expression(alloc, scope, true, tokens, expression, &mut nodes)?;
-    let resolved = Expression::new(nodes);
-    worth_of(&resolved, expression)?;
-    Ok(resolved)
+    let lowered = Expression::new(nodes);
+    worth_of(&lowered, expression)?;
+    Ok(lowered)
 }
 
 /// The expression that is one operand alone.

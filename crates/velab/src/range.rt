@@ -8,8 +8,8 @@ ghost use Rattle.velab.specs.Elaborate as spec;
 ghost use Rattle.velab.specs.Inner.{written_bounds, IsNarrow};
 ghost use Rattle.velab.specs.Rules.{IsBroken};
 
-use crate::constant::{bound_in, nothing};
-use crate::expression::constant_expression;
+use crate::constant::bound_in;
+use crate::expression::worth;
 use crate::fault::{ElabFault, Rule};
 use crate::first::first_in;
 use crate::number::WIDEST;
@@ -20,7 +20,6 @@ use vast::expression::Expression;
 use vast::module::Bounds as Written;
 use vdesign::expression::Bounds;
 use vlex::Tokens;
-use vvalue::asked::by_itself;
 
 // E306 where it isn't 0 to 65,535.
 fn right_bound(
@@ -37,8 +36,8 @@ fn right_bound(
     ensures err { IfFault result
         (IsBroken (spec.broken_bound scope.now (tree_of (words_of tokens.now) bound.now))) }
 {
-    let value = constant_expression(alloc, scope, tokens, bound)?;
-    match bound_in(by_itself(&value, &nothing())) {
+    let value = worth(alloc, scope, tokens, bound)?;
+    match bound_in(value) {
         Some(bound) => Ok(bound),
         None => Err(OrMemory::Fault(ElabFault {
             rule: Rule::Width,

@@ -1,9 +1,11 @@
 // What a module's names stand for (IEEE 1364-2005, 4.10, 12.1.2, 12.7).
 
-ghost use Rattle.std.specs.Prelude.{◌≡◌, ◌≤◌, Some, None, IfOk, OnOk};
+ghost use Rattle.std.specs.Prelude.{◌≡◌, ◌≤◌, List, Some, None, IfOk, OnOk};
 ghost use Rattle.basis.specs.Reasons.{IfFault};
 ghost use Rattle.vast.specs.NumberedWords.{numbered};
+ghost use Rattle.vast.specs.Words.{Text};
 ghost use Rattle.vexpr_parse.specs.Texts.{words_of};
+ghost use Rattle.velab.specs.Answers.{Gives};
 ghost use Rattle.velab.specs.Rules.{IsBroken};
 ghost use Rattle.velab.specs.Scopes as spec;
 ghost use Rattle.velab.specs.Scopes.{broken_variable, broken_event};
@@ -33,6 +35,15 @@ pub enum Meaning {
     Event(usize),
     /// An instance (12.1.2).
     Instance,
+}
+
+/// What a name in an expression stands for (5.2).
+#[derive(Clone, Copy, Debug)]
+pub enum Operand {
+    /// The variable of this number (4.2).
+    Variable(u32),
+    /// A parameter (4.10): its value and its bounds.
+    Parameter { value: Vec4, bounds: Bounds },
 }
 
 /// What is known of names at a place of an instance: its names, of which so many that stand first are those of its variables, what the
@@ -106,47 +117,57 @@ pub fn meaning_of(scope: &Scope<'_, '_>, tokens: &Tokens<'_>, token: Token) -> O
     }
 }
 
-// E303 where a name in an expression stands for nothing, E310 where it stands for an event or an instance, E303 or E307 where it
-// may not stand in a constant.
-fn check_name(
+// The bounds of a parameter: as declared, or from its size.
+fn bounds_for(value: Vec4, bounds: Option<Bounds>) -> Bounds
+    ensures { result ≡ spec.bounds_for value bounds }
+{
+    bounds.unwrap_or(Bounds {
+        left: value.len() - 1,
+        right: 0,
+    })
+}
+
+// The operand that such a name is. E303, E307 or E310 where it may not stand there.
+fn operand_in(
     scope: &Scope<'_, '_>,
     fixed: bool,
-    tokens: &Tokens<'_>,
+    meaning: Meaning,
     token: Token,
-) -> Result<(), OrMemory<ElabFault>>
-    ensures right { OnOk result
-        (spec.broken_name fixed scope.now (numbered (words_of tokens.now) token) ≡ None) }
-    ensures err { IfFault result
-        (IsBroken (spec.broken_name fixed scope.now (numbered (words_of tokens.now) token))) }
+) -> Result<Operand, OrMemory<ElabFault>>
+    ensures { (words : List Text) → Gives result
+        (spec.operand_by fixed scope.now.known (numbered words token) (Some meaning)) }
 {
-    match meaning_of(scope, tokens, token) {
-        None => Err(OrMemory::Fault(ElabFault {
-            rule: Rule::Unknown,
-            at: Some(token.number),
-        })),
-        Some(Meaning::Variable(_)) => {
+    match meaning {
+        Meaning::Variable(number) => {
             if fixed {
                 return Err(OrMemory::Fault(ElabFault {
                     rule: Rule::Constant,
                     at: Some(token.number),
                 }));
             }
-            Ok(())
+            Ok(Operand::Variable(number))
         }
-        Some(Meaning::Parameter { before, .. }) => {
+        Meaning::Parameter {
+            value,
+            bounds,
+            before,
+        } => {
             if fixed && before >= scope.known {
                 return Err(OrMemory::Fault(ElabFault {
                     rule: Rule::Unknown,
                     at: Some(token.number),
                 }));
             }
-            Ok(())
+            Ok(Operand::Parameter {
+                value,
+                bounds: bounds_for(value, bounds),
+            })
         }
-        Some(Meaning::Event(_)) => Err(OrMemory::Fault(ElabFault {
+        Meaning::Event(_) => Err(OrMemory::Fault(ElabFault {
             rule: Rule::Kind,
             at: Some(token.number),
         })),
-        Some(Meaning::Instance) => Err(OrMemory::Fault(ElabFault {
+        Meaning::Instance => Err(OrMemory::Fault(ElabFault {
             rule: Rule::Kind,
             at: Some(token.number),
         })),
@@ -155,26 +176,21 @@ fn check_name(
 
 /// What a name in an expression stands for. E303 where it stands for nothing, E310 where it stands for an event or an instance, E303 or E307
 /// where it may not stand in a constant.
-pub fn named(
+pub fn operand_of(
     scope: &Scope<'_, '_>,
     fixed: bool,
     tokens: &Tokens<'_>,
     token: Token,
-) -> Result<Meaning, OrMemory<ElabFault>>
-    ensures ok { IfOk result (λ m.
-        spec.meaning_of scope.now (numbered (words_of tokens.now) token) ≡ Some m) }
-    ensures right { OnOk result
-        (spec.broken_name fixed scope.now (numbered (words_of tokens.now) token) ≡ None) }
-    ensures err { IfFault result
-        (IsBroken (spec.broken_name fixed scope.now (numbered (words_of tokens.now) token))) }
+) -> Result<Operand, OrMemory<ElabFault>>
+    ensures { Gives result
+        (spec.lower_name fixed scope.now (numbered (words_of tokens.now) token)) }
 {
-    check_name(scope, fixed, tokens, token)?;
     match meaning_of(scope, tokens, token) {
-        Some(meaning) => Ok(meaning),
         None => Err(OrMemory::Fault(ElabFault {
             rule: Rule::Unknown,
             at: Some(token.number),
         })),
+        Some(meaning) => operand_in(scope, fixed, meaning, token),
     }
 }
 
@@ -184,6 +200,8 @@ pub fn number_of(
     tokens: &Tokens<'_>,
     token: Token,
 ) -> Result<u32, OrMemory<ElabFault>>
+    ensures gives { Gives result
+        (spec.lower_variable scope.now (numbered (words_of tokens.now) token)) }
     ensures ok { IfOk result (λ n. n ≡ spec.number_of scope.now
         (numbered (words_of tokens.now) token)) }
     ensures right { OnOk result
@@ -218,6 +236,8 @@ pub fn event_of(
     tokens: &Tokens<'_>,
     token: Token,
 ) -> Result<usize, OrMemory<ElabFault>>
+    ensures gives { Gives result
+        (spec.lower_event scope.now (numbered (words_of tokens.now) token)) }
     ensures ok { IfOk result (λ n. n ≡ spec.event_of scope.now
         (numbered (words_of tokens.now) token)) }
     ensures right { OnOk result

@@ -6,7 +6,7 @@ ghost use Rattle.vast.specs.NumberedTrees.{tree_of as text_tree};
 ghost use Rattle.vast.specs.NumberedTrees.{target_tree, target_trees};
 ghost use Rattle.vexpr_parse.specs.Texts.{words_of};
 ghost use Rattle.velab.specs.Constants as constants;
-ghost use Rattle.velab.specs.Resolved.{resolved};
+ghost use Rattle.velab.specs.Resolved.{worth_in};
 ghost use Rattle.velab.specs.Rules.{IsBroken};
 ghost use Rattle.velab.specs.Written as spec;
 ghost use Rattle.velab.specs.Written.{row_of, row_of_all, broken_target, broken_targets};
@@ -53,8 +53,8 @@ fn bounds_of(
     right: &Expression,
 ) -> Result<Bounds, OrMemory<ElabFault>>
     ensures ok { IfOk result (λ bounds. bounds ≡ constants.part_bounds
-        (constants.worth (resolved scope.now (text_tree (words_of tokens.now) left.now)))
-        (constants.worth (resolved scope.now (text_tree (words_of tokens.now) right.now)))) }
+        (worth_in scope.now (text_tree (words_of tokens.now) left.now))
+        (worth_in scope.now (text_tree (words_of tokens.now) right.now))) }
     ensures right { OnOk result (spec.broken_bounds scope.now
         (text_tree (words_of tokens.now) left.now)
         (text_tree (words_of tokens.now) right.now) ≡ None) }

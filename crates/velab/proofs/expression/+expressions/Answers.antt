@@ -1,130 +1,91 @@
-use Rattle.std.proofs.Common.{◌≡◌, ◌-◌, ◌++◌, ◌∷◌, [], List, ℕ, true, Option, None, OnOk, subst, sym, ap, ◌∙◌, arith}
-use Rattle.basis.specs.Reasons.{IfFault}
-use Rattle.vast.specs.NumberedWords.{numbered}
-use Rattle.vast.specs.NumberedExpressions.{ExpressionTree, part}
+use Rattle.std.proofs.Common.{◌≡◌, ◌-◌, List, ◌++◌, ◌∷◌, [], ℕ, Result, refl, subst, sym, ap, ◌∙◌, arith}
+use Rattle.vast.specs.NumberedExpressions.{ExpressionTree}
+use Rattle.vast.specs.NumberedExpressions as written
+use Rattle.vdesign.specs.Expressions.{ExpressionTree as Lowered, conditional}
+use Rattle.vdesign.specs.declared.expression.Node.TheVariants.{Conditional}
 use Rattle.vast.specs.NumberedTrees.{tree_of, trees_of}
 use Rattle.vexpr_parse.specs.Texts.{words_of}
-use Rattle.vdesign.specs.Nodes.{nodes_of}
 use Rattle.vdesign.specs.declared.expression.Node.{Node}
-use Rattle.vdesign.specs.Expressions.{ExpressionTree as Resolved}
-use Rattle.vvalue.specs.Flaws.{flaw_of}
-use Rattle.velab.specs.FirstWords.{first_in}
-use Rattle.velab.specs.Scopes.{broken_name}
-use Rattle.velab.specs.Resolved.{resolved, resolved_parts, part_rule, broken, broken_constant, broken_joined}
-use Rattle.velab.proofs.FaultLemmas.{handed_on, then_breaks, then_told, both_right, same_rule}
-use Rattle.basis.proofs.Results.{on_ok}
-use Rattle.std.specs.Option.{option_or}
 use Rattle.vbits.specs.Vectors.{Vector}
-use Rattle.vdesign.specs.declared.expression.Node.TheVariants.{Repeated}
-use Rattle.velab.specs.Constants.{nothing, part_bounds, count_in}
+use Rattle.velab.specs.Answers.{◌>>=◌, Makes}
+use Rattle.velab.specs.InnerParts.{nodes_behind}
+use Rattle.velab.specs.Resolved.{lower, lower_parts, lower_joined, times}
 use Rattle.velab.specs.declared.fault.ElabFault.{ElabFault}
-use Rattle.velab.specs.Rules.{flaw_fault, IsBroken}
-use Rattle.velab.proofs.PartLemmas.{concatenation_is, replication_is, next_part, next_right, ends_with, some_of}
+use Rattle.velab.proofs.PartLemmas.{concatenation_is, replication_is, part_put, part_refused, none_behind, all_parts}
+use Rattle.velab.proofs.AnswerLemmas.{hands_on, still_refused}
+use Rattle.velab.proofs.ExpressionLemmas.{three_operands}
 use Rattle.velab.proofs.expression.+expressions.Goals as goal
 
-pub put_expression-returns-in-Concatenation-clause-ok : goal.put_expression-returns-in-Concatenation-clause-ok
-put_expression-returns-in-Concatenation-clause-ok t c =
-    subst (λ (tree : ExpressionTree). OnOk c.put_joined.result (c.put_joined.new.nodes.items ≡ c.args.nodes.now.items ++ nodes_of (resolved c.args.scope.now tree)))
+pub put_expression-returns-in-Concatenation : goal.put_expression-returns-in-Concatenation
+put_expression-returns-in-Concatenation t c =
+    subst (λ (tree : ExpressionTree). Makes c.put_joined.result c.put_joined.new.nodes.items (nodes_behind c.args.nodes.now.items (lower c.args.fixed c.args.scope.now tree)))
     (concatenation_is (words_of c.args.tokens.now) c.args.expression.now c.in-Concatenation.at c.in-Concatenation.parts
     c.deref-in-Concatenation.result.now c.in-Concatenation.is c.deref-in-Concatenation.ensures.value)
-    c.put_joined.ensures.ok
+    c.put_joined.ensures
 
-pub put_expression-returns-in-Concatenation-clause-right : goal.put_expression-returns-in-Concatenation-clause-right
-put_expression-returns-in-Concatenation-clause-right t c =
-    subst (λ (tree : ExpressionTree). OnOk c.put_joined.result (broken c.args.fixed c.args.scope.now tree ≡ None))
-    (concatenation_is (words_of c.args.tokens.now) c.args.expression.now c.in-Concatenation.at c.in-Concatenation.parts
-    c.deref-in-Concatenation.result.now c.in-Concatenation.is c.deref-in-Concatenation.ensures.value)
-    c.put_joined.ensures.right
-
-pub put_expression-returns-in-Concatenation-clause-err : goal.put_expression-returns-in-Concatenation-clause-err
-put_expression-returns-in-Concatenation-clause-err t c =
-    subst (λ (tree : ExpressionTree). IfFault c.put_joined.result (IsBroken (broken c.args.fixed c.args.scope.now tree)))
-    (concatenation_is (words_of c.args.tokens.now) c.args.expression.now c.in-Concatenation.at c.in-Concatenation.parts
-    c.deref-in-Concatenation.result.now c.in-Concatenation.is c.deref-in-Concatenation.ensures.value)
-    c.put_joined.ensures.err
-
-pub put_expression-returns-in_ok-count-in-Replication-clause-ok : goal.put_expression-returns-in_ok-count-in-Replication-clause-ok
-put_expression-returns-in_ok-count-in-Replication-clause-ok t c =
+pub put_expression-returns-in_ok-count-in-Replication : goal.put_expression-returns-in_ok-count-in-Replication
+put_expression-returns-in_ok-count-in-Replication t c =
     let words = words_of c.args.tokens.now in
-    subst (λ (tree : ExpressionTree). OnOk c.put_repeated.result (c.put_repeated.new.nodes.items ≡ c.args.nodes.now.items ++ nodes_of (resolved c.args.scope.now tree)))
+    subst (λ (tree : ExpressionTree). Makes c.put_repeated.result c.put_repeated.new.nodes.items (nodes_behind c.args.nodes.now.items (lower c.args.fixed c.args.scope.now tree)))
     (replication_is words c.args.expression.now c.in-Replication.at c.in-Replication.count c.in-Replication.parts
     c.deref-in-Replication.result.now c.deref-in-Replication-2.result.now c.in-Replication.is c.deref-in-Replication.ensures
     c.deref-in-Replication-2.ensures.value)
-    (subst (λ (v : Vector). OnOk c.put_repeated.result (c.put_repeated.new.nodes.items ≡ c.args.nodes.now.items
-    ++ Repeated (count_in v) ∷ nodes_of (resolved_parts c.args.scope.now (trees_of words c.deref-in-Replication-2.result.now))))
-    c.in_ok-count-in-Replication.ensures.ok c.put_repeated.ensures.ok)
-
-pub put_expression-returns-in_ok-count-in-Replication-clause-right : goal.put_expression-returns-in_ok-count-in-Replication-clause-right
-put_expression-returns-in_ok-count-in-Replication-clause-right t c =
-    let words = words_of c.args.tokens.now in
-    subst (λ (tree : ExpressionTree). OnOk c.put_repeated.result (broken c.args.fixed c.args.scope.now tree ≡ None))
-    (replication_is words c.args.expression.now c.in-Replication.at c.in-Replication.count c.in-Replication.parts
-    c.deref-in-Replication.result.now c.deref-in-Replication-2.result.now c.in-Replication.is c.deref-in-Replication.ensures
-    c.deref-in-Replication-2.ensures.value)
-    (subst (λ (r : Option ElabFault). OnOk c.put_repeated.result (option_or r (broken_joined c.args.fixed c.args.scope.now (trees_of words c.deref-in-Replication-2.result.now)) ≡ None))
-    (sym c.in_ok-count-in-Replication.ensures.right) c.put_repeated.ensures.right)
-
-pub put_expression-returns-in_ok-count-in-Replication-clause-err : goal.put_expression-returns-in_ok-count-in-Replication-clause-err
-put_expression-returns-in_ok-count-in-Replication-clause-err t c =
-    let words = words_of c.args.tokens.now in
-    subst (λ (tree : ExpressionTree). IfFault c.put_repeated.result (IsBroken (broken c.args.fixed c.args.scope.now tree)))
-    (replication_is words c.args.expression.now c.in-Replication.at c.in-Replication.count c.in-Replication.parts
-    c.deref-in-Replication.result.now c.deref-in-Replication-2.result.now c.in-Replication.is c.deref-in-Replication.ensures
-    c.deref-in-Replication-2.ensures.value)
-    (subst (λ (r : Option ElabFault). IfFault c.put_repeated.result (IsBroken (option_or r (broken_joined c.args.fixed c.args.scope.now (trees_of words c.deref-in-Replication-2.result.now)))))
-    (sym c.in_ok-count-in-Replication.ensures.right) c.put_repeated.ensures.err)
+    (subst (λ (v : Result Vector ElabFault). Makes c.put_repeated.result c.put_repeated.new.nodes.items (nodes_behind c.args.nodes.now.items
+    (v >>= λ amount. times amount (lower_joined c.args.fixed c.args.scope.now (trees_of words c.deref-in-Replication-2.result.now)))))
+    (sym c.in_ok-count-in-Replication.ensures.gives) c.put_repeated.ensures)
 
 pub put_parts-loop-one-preserved : goal.put_parts-loop-one-preserved
 put_parts-loop-one-preserved t c = record {
   left = omega (arith, c.loop-one.invariant.left);
-  ok = next_part (words_of c.args.tokens.now) c.args.scope.now c.args.parts.now c.loop-one.one-index c.one-item.result c.loop-one-test.true c.one-item.is
-      (c.loop-one.left - 1) c.loop-one.nodes.items c.put-in-loop-one.new.nodes.items c.put_expression.new.nodes.items _
-      (ap (λ (n : ℕ). n - 1) c.loop-one.invariant.left)
-      (c.in_ok-put.ensures.ok ∙ ap (λ (n : Node). c.loop-one.nodes.items ++ n ∷ []) c.before_part.ensures)
-      c.in_ok-put_expression.ensures.ok c.loop-one.invariant.ok;
-  right = next_right (words_of c.args.tokens.now) c.args.scope.now c.args.parts.now c.loop-one.one-index c.one-item.result c.loop-one-test.true c.one-item.is
-      c.args.fixed _ c.in_ok-put_expression.ensures.right c.loop-one.invariant.right;
+  same = part_put (words_of c.args.tokens.now) c.args.fixed c.args.scope.now c.args.parts.now c.loop-one.one-index c.one-item.result c.loop-one-test.true c.one-item.is
+      (c.loop-one.left - 1) (ap (λ (n : ℕ). n - 1) c.loop-one.invariant.left)
+      c.loop-one.nodes.items c.put-in-loop-one.new.nodes.items
+      (c.in_ok-put-2.ensures ∙ ap (λ (n : Node). c.loop-one.nodes.items ++ n ∷ []) c.before_part.ensures)
+      _ c.loop-one.invariant.same c.put_expression.new.nodes.items c.in_ok-put_expression.ensures;
 }
 
-pub put_parts-returns-clause-ok : goal.put_parts-returns-clause-ok
-put_parts-returns-clause-ok t c =
-    ends_with (words_of c.args.tokens.now) c.args.scope.now c.args.parts.now c.loop-one.one-index c.loop-one.nodes.items c.args.nodes.now.items
-    c.loop-one-test.false
-    (some_of c.args.parts.now (sym c.is_empty.ensures ∙ c.if-is_empty.false)) c.loop-one.invariant.ok
-
-pub put_expression-returns-in_err-node-in-Part-clause-err : goal.put_expression-returns-in_err-node-in-Part-clause-err
-put_expression-returns-in_err-node-in-Part-clause-err t c =
+pub put_parts-returns : goal.put_parts-returns
+put_parts-returns t c =
     let words = words_of c.args.tokens.now in
-    let scope = c.args.scope.now in
-    let name = numbered words c.in-Part.name in
-    let left = tree_of words c.deref-in-Part.result.now in
-    let right = tree_of words c.deref-in-Part-2.result.now in
-    let e = c.in_err-node-in-Part.field-0.0 in
-    let is : part name left right ≡ tree_of words c.args.expression.now =
-    (λ i. part name (tree_of words (c.deref-in-Part.ensures i)) (tree_of words (c.deref-in-Part-2.ensures i))) ∙ sym (ap (tree_of words) c.in-Part.is) in
-    subst (λ (tree : ExpressionTree). IfFault c.from_residual-in_err-node-in-Part.result (IsBroken (broken c.args.fixed scope tree))) is
-    (handed_on _ c.from_residual-in_err-node-in-Part.result e c.from_residual-in_err-node-in-Part.ensures.1
-    (then_breaks (broken_name c.args.fixed scope name) _ c.in_ok-meaning-in-Part.ensures.right e
-    (then_breaks (broken_constant scope left) _ c.in_ok-left-in-Part.ensures.right e
-    (then_breaks (broken_constant scope right) _ c.in_ok-right-in-Part.ensures.right e
-    (same_rule _ _
-    (λ i. part_rule (sym c.in_ok-meaning-in-Part.ensures.ok i) ((c.part_bounds.ensures ∙ (λ j. part_bounds (c.in_ok-left-in-Part.ensures.ok j) (c.in_ok-right-in-Part.ensures.ok j))) i) name)
-    e (c.in_err-node-in-Part.ensures.err words))))))
+    sym (all_parts words c.args.fixed c.args.scope.now c.args.nodes.now.items c.args.parts.now (sym c.is_empty.ensures ∙ c.if-is_empty.false))
+    ∙ sym c.loop-one.invariant.same
+    ∙ none_behind words c.args.fixed c.args.scope.now c.loop-one.nodes.items c.args.parts.now c.loop-one.one-index c.loop-one-test.false
 
-pub worth-returns-clause-right : goal.worth-returns-clause-right
-worth-returns-clause-right t c =
+pub put_expression-returns-in_ok-put_expression-in-Conditional-2 : goal.put_expression-returns-in_ok-put_expression-in-Conditional-2
+put_expression-returns-in_ok-put_expression-in-Conditional-2 t c =
     let words = words_of c.args.tokens.now in
-    let tree = tree_of words c.args.expression.now in
-    let is = c.new-resolved.ensures (resolved c.args.scope.now tree) (c.in_ok-put_expression.ensures.ok ∙ ap (λ (l : List Node). l ++ nodes_of (resolved c.args.scope.now tree)) c.new-nodes.ensures.items) in
-    on_ok c.worth_of.result
-    (λ fine. both_right (broken true c.args.scope.now tree) _ c.in_ok-put_expression.ensures.right
-    (ap (λ (e : Resolved). flaw_fault (flaw_of nothing e) (first_in tree)) (sym is) ∙ fine))
-    (c.worth_of.ensures.right words)
+    let old : List Node = c.args.nodes.now.items in
+    let now : List Node = c.put_expression-in-Conditional-3.new.nodes.items in
+    let result = c.put_expression-in-Conditional-3.result in
+    let lowered : ExpressionTree → Result Lowered ElabFault = lower c.args.fixed c.args.scope.now in
+    let test = tree_of words c.deref-in-Conditional.result.now in
+    let one = tree_of words c.deref-in-Conditional-2.result.now in
+    let other = tree_of words c.deref-in-Conditional-3.result.now in
+    let is : written.conditional test one other ≡ tree_of words c.args.expression.now =
+    (λ i. written.conditional (tree_of words (c.deref-in-Conditional.ensures i)) (tree_of words (c.deref-in-Conditional-2.ensures i)) (tree_of words (c.deref-in-Conditional-3.ensures i)))
+    ∙ sym (ap (tree_of words) c.in-Conditional.is) in
+    subst (λ (tree : ExpressionTree). Makes result now (nodes_behind old (lowered tree))) is
+    (subst (λ (answer : Result (List Node) ElabFault). Makes result now answer)
+    (three_operands old Conditional conditional (λ x y z. refl) (lowered test) (lowered one) (lowered other)
+    c.put_expression-in-Conditional.new.nodes.items c.put_expression-in-Conditional-2.new.nodes.items
+    (ap (λ (ns : List Node). nodes_behind ns (lowered test)) (sym c.in_ok-put-in-Conditional.ensures) ∙ c.in_ok-put_expression-in-Conditional.ensures)
+    c.in_ok-put_expression-in-Conditional-2.ensures)
+    c.put_expression-in-Conditional-3.ensures)
 
-pub worth-returns-clause-err : goal.worth-returns-clause-err
-worth-returns-clause-err t c =
+pub put_parts-returns-in_err-put_expression : goal.put_parts-returns-in_err-put_expression
+put_parts-returns-in_err-put_expression t c =
     let words = words_of c.args.tokens.now in
-    let tree = tree_of words c.args.expression.now in
-    let is = c.new-resolved.ensures (resolved c.args.scope.now tree) (c.in_ok-put_expression.ensures.ok ∙ ap (λ (l : List Node). l ++ nodes_of (resolved c.args.scope.now tree)) c.new-nodes.ensures.items) in
-    then_told c.worth_of.result (broken true c.args.scope.now tree) _ c.in_ok-put_expression.ensures.right
-    (subst (λ (e : Resolved). IfFault c.worth_of.result (IsBroken (flaw_fault (flaw_of nothing e) (first_in tree)))) is (c.worth_of.ensures.err words))
+    let parts = c.args.parts.now in
+    let whole : Result (List Node) ElabFault = nodes_behind c.args.nodes.now.items (lower_parts c.args.fixed c.args.scope.now (trees_of words parts)) in
+    let one : Result (List Node) ElabFault = nodes_behind c.put-in-loop-one.new.nodes.items (lower c.args.fixed c.args.scope.now (tree_of words c.one-item.result)) in
+    hands_on c.from_residual-in_err-put_expression.result c.in_err-put_expression.field-0.0 c.put_expression.new.nodes.items whole c.from_residual-in_err-put_expression.ensures.1
+    (still_refused one whole
+    (λ fault put.
+    part_refused words c.args.fixed c.args.scope.now parts c.loop-one.one-index c.one-item.result c.loop-one-test.true c.one-item.is
+    (c.loop-one.left - 1) (ap (λ (n : ℕ). n - 1) c.loop-one.invariant.left)
+    c.loop-one.nodes.items c.put-in-loop-one.new.nodes.items
+    (c.in_ok-put-2.ensures ∙ ap (λ (n : Node). c.loop-one.nodes.items ++ n ∷ []) c.before_part.ensures)
+    whole
+    (c.loop-one.invariant.same ∙ all_parts words c.args.fixed c.args.scope.now c.args.nodes.now.items parts (sym c.is_empty.ensures ∙ c.if-is_empty.false))
+    fault put)
+    c.in_err-put_expression.field-0.0 c.in_err-put_expression.ensures)
