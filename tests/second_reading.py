@@ -436,7 +436,7 @@ def written(run, parts):
     return "".join(f" write {run.made.names()[place]} {shown(run.values[place])} {shown(after.values[place])}" for place in places)
 
 
-def deed(run, choice):
+def effect(run, choice):
     """What a choice is going to do, as a trace tells it."""
     if choice == "update":
         return written(run, run.activated[0])
@@ -467,7 +467,7 @@ def step_line(run, count, index, line_of_process):
         run.take(choice)
         return f"{front} advance {run.time}"
     who = " update" if choice == "update" else f" process {choice} at 1:{line_of_process(choice)}"
-    line = front + who + deed(run, choice)
+    line = front + who + effect(run, choice)
     run.take(choice)
     return line
 

@@ -30,7 +30,7 @@ from counting import beside_vvp, counted, counted_in, parts_of, peak_bytes, prog
 
 TEXT = Path(__file__).resolve().parent / "text"
 MOST = 1_000_000
-SEARCH = "explore::alone::explore_alone", "statebook::way::walk", "vmachine::standing::StandingPartialEq::eq"
+SEARCH = "explore::alone::explore_alone", "statebook::way::walk", "vmachine::machine_state::MachineStatePartialEq::eq"
 VALUES = 65 * 24
 
 

@@ -4,7 +4,7 @@ use Rattle.std.proofs.lemmas.Bool.{cases_lt}
 use Rattle.std.proofs.lemmas.Option.{slice_get_within}
 use Rattle.sched_core.specs.Logs.{IsLog}
 use Rattle.sched_core.specs.Rules.{Rules, IsLawful, stands, NamesBelow}
-use Rattle.statebook.specs.Books.{Book, IsUndominated, Meets, no_entries}
+use Rattle.statebook.specs.Books.{Book, IsUndominated, Inserts, no_entries}
 use Rattle.statebook.specs.Covered.{IsCovered}
 use Rattle.statebook.specs.ExplorerCore.{IsEntry, IsListed}
 use Rattle.statebook.specs.declared.book.Met.{Met}
@@ -19,7 +19,7 @@ use Rattle.statebook.proofs.CoreLemmas.{closed_listed, sound_add, sound_nothing}
 use Rattle.statebook.proofs.ReachLemmas.{sound_reached}
 use Rattle.statebook.specs.Ways.{SomeRunExceeds}
 use Rattle.explore.specs.Found.{AllFewest, AreFound, HasEntries, IsListedMark}
-use Rattle.explore.specs.Told.{IsBounded, ListsExactly, SomeWayGoesPast, TellsOfBook, WentThrough}
+use Rattle.explore.specs.BookFindings.{IsBounded, ListsExactly, SomeWayGoesPast, TellsOfBook, WentThrough}
 use Rattle.explore.specs.Inner.Exploring.{AllFinished, AllVisited, Closes, CutsShort, IsComplete, IsUnderWay, StoppedFull}
 use Rattle.explore.specs.declared.classes.Full.{Full}
 use Rattle.explore.specs.declared.findings.Findings.{Findings}
@@ -51,7 +51,7 @@ nothing_there : {X : Type 0} (i : ℕ) (x : X) → slice_get [] i ≡ Some x →
 nothing_there i x at = cc
 
 -- the book with the root's entry alone
-pub opened : {S : Type 0} (r : Rules S) (limits : Limits) (same : S → S → Bool) (e : Entry S) (met : Met) (new : Book S) → r.same e.state r.first ≡ true → e.budget ≡ limits.depart → e.log ≡ [] → e.steps ≡ 0 → Meets same no_entries e met new → IsUnderWay r limits new
+pub opened : {S : Type 0} (r : Rules S) (limits : Limits) (same : S → S → Bool) (e : Entry S) (met : Met) (new : Book S) → r.same e.state r.first ≡ true → e.budget ≡ limits.depart → e.log ≡ [] → e.steps ≡ 0 → Inserts same no_entries e met new → IsUnderWay r limits new
 opened {S} r limits same e (New place) new root budget log steps m =
     let P : Book S → Type 0 = λ b. IsUnderWay r limits b in
     subst P (sym m.1) (record {

@@ -7,7 +7,7 @@ use Rattle.sched_core.specs.Rules.{Rules}
 use Rattle.statebook.specs.Books.{Book, IsFinished}
 use Rattle.statebook.specs.declared.entry.Entry.{Entry}
 use Rattle.statebook.specs.declared.limits.Limits.{Limits}
-use Rattle.explore.specs.Told.{AllChoicesLeadOn, AllLeadOn, IsBounded, SomeChoiceGoesPast, SomeWayGoesPast}
+use Rattle.explore.specs.BookFindings.{AllChoicesLeadOn, AllLeadOn, IsBounded, SomeChoiceGoesPast, SomeWayGoesPast}
 use Rattle.explore.specs.Inner.Exploring.{AddsFew, AllVisited, BookGrows, FinishedAt, GrowsFrom, IsUnderWay, LeadsOnAt, VisitedAt, WasVisited, width_limit}
 use Rattle.explore.proofs.VisitLemmas.{grows_twice, leads_later, still_there, true_not_false}
 

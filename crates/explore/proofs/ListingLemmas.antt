@@ -17,11 +17,11 @@ use Rattle.statebook.proofs.CoreLemmas.{closed_listed}
 use Rattle.basis.proofs.Lists.{listed_place, place_within}
 use Rattle.shardbook.proofs.ScanLemmas.{EachBelow, each_more}
 use Rattle.shardbook.specs.Closing.{Closes, Closing}
-use Rattle.shardbook.specs.Sights.{Sight, entries_of}
+use Rattle.shardbook.specs.StoredEntries.{StoredEntry, entries_of}
 use Rattle.explore.specs.Found.{AllFewest, AreFound, IsListedMark}
 use Rattle.statebook.specs.Inner.Forced.{MayBeAdded}
 use Rattle.explore.specs.Inner.Listing.{AreLong, IsShort, KeepsListed, ListsEach, ListsEntry}
-use Rattle.workpool.specs.Searches.{IsQuestOf}
+use Rattle.workpool.specs.Searches.{AreParametersOf}
 use Rattle.explore.proofs.InsertLemmas.{Inserted, inserted, same_value, value_at}
 use Rattle.explore.proofs.MarkLemmas.{equivalence, found_new}
 
@@ -111,27 +111,27 @@ pub stays_listed : {S : Type 0} (r : Rules S) → IsLawful r → (eq : S → S �
 stays_listed r law eq agree marks e h = λ _. short_lists r law eq agree marks e.state (length e.log) h
 
 -- the marks of the entries before a place of the list are read
-pub record ListedUpTo {S : Type 0} (r : Rules S) (limits : Limits) (eq : S → S → Bool) (all : List (Sight S)) (place : ℕ) (marks : List (S × List (ℕ × ℕ))) : Type 0 where
+pub record ListedUpTo {S : Type 0} (r : Rules S) (limits : Limits) (eq : S → S → Bool) (all : List (StoredEntry S)) (place : ℕ) (marks : List (S × List (ℕ × ℕ))) : Type 0 where
   pub found : AreFound r limits marks
   pub apart : IsDistinct eq (keys_of marks)
-  pub each : EachBelow (λ (s : Sight S). ListsEntry r marks s.entry) all place
+  pub each : EachBelow (λ (s : StoredEntry S). ListsEntry r marks s.entry) all place
 
 -- one entry more is listed
-pub one_more : {S : Type 0} (r : Rules S) (limits : Limits) (eq : S → S → Bool) (all : List (Sight S)) (place : ℕ) (x : Sight S) (e : Entry S) (old new : List (S × List (ℕ × ℕ))) → ListedUpTo r limits eq all place old → x ≡ get_or all place x → place < length all → e ≡ x.entry → AreFound r limits new → IsDistinct eq (keys_of new) → ListsEntry r new e → KeepsListed r old new → ListedUpTo r limits eq all (place + 1) new
+pub one_more : {S : Type 0} (r : Rules S) (limits : Limits) (eq : S → S → Bool) (all : List (StoredEntry S)) (place : ℕ) (x : StoredEntry S) (e : Entry S) (old new : List (S × List (ℕ × ℕ))) → ListedUpTo r limits eq all place old → x ≡ get_or all place x → place < length all → e ≡ x.entry → AreFound r limits new → IsDistinct eq (keys_of new) → ListsEntry r new e → KeepsListed r old new → ListedUpTo r limits eq all (place + 1) new
 one_more {S} r limits eq all place x e old new m is lt entry found apart listed keeps =
     let L : Entry S → Type 0 = λ y. ListsEntry r new y in
     record {
       found = found;
       apart = apart;
-      each = each_more (λ (s : Sight S). ListsEntry r new s.entry) all place x is lt (subst L entry listed) (λ c y before at mark. keeps y.entry.state (length y.entry.log) (m.each c y before at mark));
+      each = each_more (λ (s : StoredEntry S). ListsEntry r new s.entry) all place x is lt (subst L entry listed) (λ c y before at mark. keeps y.entry.state (length y.entry.log) (m.each c y before at mark));
     }
 
 -- once all are passed, the marks of all entries are listed
-pub all_listed : {S : Type 0} (r : Rules S) (limits : Limits) (eq : S → S → Bool) (all : List (Sight S)) (place : ℕ) (marks : List (S × List (ℕ × ℕ))) → ListedUpTo r limits eq all place marks → length all ≤ place → ListsEach r (entries_of all) marks
+pub all_listed : {S : Type 0} (r : Rules S) (limits : Limits) (eq : S → S → Bool) (all : List (StoredEntry S)) (place : ℕ) (marks : List (S × List (ℕ × ℕ))) → ListedUpTo r limits eq all place marks → length all ≤ place → ListsEach r (entries_of all) marks
 all_listed {S} r limits eq all place marks m end i e at =
-    let lt : i < length all = omega (arith, place_within (entries_of all) i e at, length-map all (λ (x : Sight S). x.entry)) in
+    let lt : i < length all = omega (arith, place_within (entries_of all) i e at, length-map all (λ (x : StoredEntry S). x.entry)) in
     let s = listed_place all i lt in
-    let there : slice_get (entries_of all) i ≡ Some s.0.entry = slice_get-map (λ (x : Sight S). x.entry) all i ∙ ap (option_map (λ (x : Sight S). x.entry)) s.1 in
+    let there : slice_get (entries_of all) i ≡ Some s.0.entry = slice_get-map (λ (x : StoredEntry S). x.entry) all i ∙ ap (option_map (λ (x : StoredEntry S). x.entry)) s.1 in
     let L : Entry S → Type 0 = λ y. ListsEntry r marks y in
     subst L (same_Some s.0.entry e (sym there ∙ at)) (m.each i s.0 (omega (arith, lt, end)) s.1)
 
@@ -161,12 +161,12 @@ pub on_ok : {A E : Type 0} {P Q : Type 0} (x : Result A E) → (P → Q) → OnO
 on_ok (Ok a) f p = f p
 on_ok (Err e) f p = tt
 
--- what is asked of an entry that may be added, by the quest
-pub wanted : {S : Type 0} (rules : Option (Rules S)) (k limit : ℕ) (r : Rules S) (limits : Limits) (e : Entry S) → IsQuestOf rules k limit r limits → ((x : Rules S) → rules ≡ Some x → IsEntry x k limit e) → MayBeAdded r limits e
-wanted {S} rules k limit r limits e quest w =
+-- what is asked of an entry that may be added, by the search parameters
+pub wanted : {S : Type 0} (rules : Option (Rules S)) (k limit : ℕ) (r : Rules S) (limits : Limits) (e : Entry S) → AreParametersOf rules k limit r limits → ((x : Rules S) → rules ≡ Some x → IsEntry x k limit e) → MayBeAdded r limits e
+wanted {S} rules k limit r limits e parameters w =
     let P : ℕ → Type 0 = λ d. IsEntry r d limits.steps e in
     let Q : ℕ → Type 0 = λ n. IsEntry r k n e in
-    subst P quest.depart_is (subst Q quest.steps_are (w r quest.rules_are))
+    subst P parameters.depart_is (subst Q parameters.steps_are (w r parameters.rules_are))
 
 -- what closed entries list, the list of marks has
 pub seen_listed : {S : Type 0} (r : Rules S) → IsLawful r → (k limit : ℕ) (root : Entry S) (entries : List (Entry S)) (marks : List (S × List (ℕ × ℕ))) → Closing r k limit root entries → ListsEach r entries marks → IsCovered r k (IsListedMark r marks)
@@ -197,13 +197,13 @@ covered_fewest r law eq agree limits marks found apart covered i p at log n run 
 ]
 
 -- as the book's own scan says it
-pub closed_covers : {S : Type 0} (rules : Option (Rules S)) (k limit : ℕ) (r : Rules S) (limits : Limits) → IsLawful r → IsQuestOf rules k limit r limits → (root : Sight S) (all : List (Sight S)) (marks : List (S × List (ℕ × ℕ))) → Closes rules k limit root all → ListsEach r (entries_of all) marks → IsCovered r limits.depart (IsListedMark r marks)
-closed_covers {S} rules k limit r limits law quest root all marks closes each =
+pub closed_covers : {S : Type 0} (rules : Option (Rules S)) (k limit : ℕ) (r : Rules S) (limits : Limits) → IsLawful r → AreParametersOf rules k limit r limits → (root : StoredEntry S) (all : List (StoredEntry S)) (marks : List (S × List (ℕ × ℕ))) → Closes rules k limit root all → ListsEach r (entries_of all) marks → IsCovered r limits.depart (IsListedMark r marks)
+closed_covers {S} rules k limit r limits law parameters root all marks closes each =
     let C : ℕ → Type 0 = λ d. IsCovered r d (IsListedMark r marks) in
-    subst C quest.depart_is (seen_listed r law k limit root.entry (entries_of all) marks (closes r quest.rules_are) each)
+    subst C parameters.depart_is (seen_listed r law k limit root.entry (entries_of all) marks (closes r parameters.rules_are) each)
 
 -- no entry is passed, and no mark listed
-pub nothing_listed : {S : Type 0} (r : Rules S) (limits : Limits) (eq : S → S → Bool) (all : List (Sight S)) (marks : List (S × List (ℕ × ℕ))) → marks ≡ [] → IsDistinct eq (keys_of marks) → ListedUpTo r limits eq all 0 marks
+pub nothing_listed : {S : Type 0} (r : Rules S) (limits : Limits) (eq : S → S → Bool) (all : List (StoredEntry S)) (marks : List (S × List (ℕ × ℕ))) → marks ≡ [] → IsDistinct eq (keys_of marks) → ListedUpTo r limits eq all 0 marks
 nothing_listed {S} r limits eq all marks none apart =
     let P : List (S × List (ℕ × ℕ)) → Type 0 = λ m. AreFound r limits m in
     record {

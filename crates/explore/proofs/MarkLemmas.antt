@@ -13,7 +13,7 @@ use Rattle.statebook.specs.ExplorerCore.{IsEntry}
 use Rattle.statebook.specs.declared.entry.Entry.{Entry}
 use Rattle.statebook.specs.declared.limits.Limits.{Limits}
 use Rattle.explore.specs.Found.{AreFound, IsFound, IsListedMark}
-use Rattle.explore.specs.Told.{IsAmongMarks, ListsExactly}
+use Rattle.explore.specs.BookFindings.{IsAmongMarks, ListsExactly}
 use Rattle.explore.specs.Inner.Exploring.{IsUnderWay}
 use Rattle.explore.proofs.InsertLemmas.{Inserted, inserted, same_value}
 

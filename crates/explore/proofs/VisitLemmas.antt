@@ -4,14 +4,14 @@ use Rattle.std.specs.Cmp.{IsEquivalence}
 use Rattle.std.proofs.lemmas.Bool.{cases_lt}
 use Rattle.std.proofs.lemmas.Option.{same_Some, slice_get_within}
 use Rattle.sched_core.specs.Rules.{Rules, IsLawful, stands}
-use Rattle.statebook.specs.Stations.{forced}
+use Rattle.statebook.specs.Stations.{forced_state}
 use Rattle.statebook.specs.Books.{Book, Dominates, IsFinished, IsFoundAt, IsRootAt, IsUnfinished, add, finish}
-use Rattle.statebook.specs.ExplorerCore.{IsEntry, IsMet, AllMet, choices_of, budget_after}
+use Rattle.statebook.specs.ExplorerCore.{IsEntry, IsSuccessorAt, HasSuccessorsAt, choices_of, budget_after}
 use Rattle.statebook.specs.declared.entry.Entry.{Entry}
 use Rattle.basis.proofs.Lists.{stands_in_front, stands_last, last_or_before}
 use Rattle.statebook.specs.declared.limits.Limits.{Limits}
 use Rattle.statebook.proofs.CoreLemmas.{sound_add, sound_finish}
-use Rattle.explore.specs.Told.{AllChoicesLeadOn, LeadsOn, SomeChoiceGoesPast}
+use Rattle.explore.specs.BookFindings.{AllChoicesLeadOn, LeadsOn, SomeChoiceGoesPast}
 use Rattle.statebook.specs.Inner.Forced.{Follows}
 use Rattle.explore.specs.Inner.Exploring.{AddsFew, BookGrows, IsSameOrAdded, IsUnderWay, LeadsOnAt}
 
@@ -40,14 +40,14 @@ root_state {S} r limits b e u at =
     subst P same (subst A u.root.steps is.at)
 
 -- what follows an entry and is dominated in the book is met
-pub is_met : {S : Type 0} (r : Rules S) → IsLawful r → (same : S → S → Bool) → ((s t : S) → r.same s t ≡ same s t) → (b : Book S) (e next : Entry S) (c j : ℕ) → Follows r e c next → IsFoundAt same b.entries next j → IsMet r b.entries e c j
+pub is_met : {S : Type 0} (r : Rules S) → IsLawful r → (same : S → S → Bool) → ((s t : S) → r.same s t ≡ same s t) → (b : Book S) (e next : Entry S) (c j : ℕ) → Follows r e c next → IsFoundAt same b.entries next j → IsSuccessorAt r b.entries e c j
 is_met r law same agree b e next c j f at = record {
   found = at.entry;
   at = at.at;
   steps = f.steps;
   next = f.station;
   dominates = record {
-    state = law.transitive at.entry.state next.state (forced r (r.after e.state c) f.steps) (agree at.entry.state next.state ∙ at.dominates.state) f.same;
+    state = law.transitive at.entry.state next.state (forced_state r (r.after e.state c) f.steps) (agree at.entry.state next.state ∙ at.dominates.state) f.same;
     budget = omega (arith, at.dominates.budget, f.budget);
   };
 }
@@ -99,21 +99,21 @@ budget_after-le b zero = omega arith
 budget_after-le b (suc c) = omega arith
 
 -- the first choices of the entry at the place are met, one place each
-pub record HasMet {S : Type 0} (r : Rules S) (old now : Book S) (place choice : ℕ) (next : List ℕ) : Type 0 where
+pub record HasSuccessors {S : Type 0} (r : Rules S) (old now : Book S) (place choice : ℕ) (next : List ℕ) : Type 0 where
   pub count : length next ≡ choice
-  pub met : (e : Entry S) → slice_get old.entries place ≡ Some e → (c j : ℕ) → slice_get next c ≡ Some j → IsMet r now.entries e c j
+  pub met : (e : Entry S) → slice_get old.entries place ≡ Some e → (c j : ℕ) → slice_get next c ≡ Some j → IsSuccessorAt r now.entries e c j
 
-met_later : {S : Type 0} (r : Rules S) (old new : Book S) (budget : ℕ) (e : Entry S) (c j : ℕ) → BookGrows old new budget → IsMet r old.entries e c j → IsMet r new.entries e c j
+met_later : {S : Type 0} (r : Rules S) (old new : Book S) (budget : ℕ) (e : Entry S) (c j : ℕ) → BookGrows old new budget → IsSuccessorAt r old.entries e c j → IsSuccessorAt r new.entries e c j
 met_later r old new budget e c j g m = record { found = m.found; at = g.stays j m.found m.at; steps = m.steps; next = m.next; dominates = m.dominates }
 
-pub met_more : {S : Type 0} (r : Rules S) (old now new : Book S) (place choice j : ℕ) (next : List ℕ) → HasMet r old now place choice next → ((e : Entry S) → slice_get old.entries place ≡ Some e → BookGrows now new e.budget) → ((e : Entry S) → slice_get old.entries place ≡ Some e → IsMet r new.entries e choice j) → HasMet r old new place (choice + 1) (next ++ j ∷ [])
+pub met_more : {S : Type 0} (r : Rules S) (old now new : Book S) (place choice j : ℕ) (next : List ℕ) → HasSuccessors r old now place choice next → ((e : Entry S) → slice_get old.entries place ≡ Some e → BookGrows now new e.budget) → ((e : Entry S) → slice_get old.entries place ≡ Some e → IsSuccessorAt r new.entries e choice j) → HasSuccessors r old new place (choice + 1) (next ++ j ∷ [])
 met_more {S} r old now new place choice j next h g m = record {
   count = length-append next (j ∷ []) ∙ omega (arith, h.count);
   met = λ e at c i listed. elim (last_or_before next j c i listed) [
     | inl there ↦ met_later r now new e.budget e c i (g e at) (h.met e at c i there)
     | inr last ↦ (
-        let P : ℕ → Type 0 = λ d. IsMet r new.entries e d i in
-        let Q : ℕ → Type 0 = λ d. IsMet r new.entries e choice d in
+        let P : ℕ → Type 0 = λ d. IsSuccessorAt r new.entries e d i in
+        let Q : ℕ → Type 0 = λ d. IsSuccessorAt r new.entries e choice d in
         let same : choice ≡ c = omega (arith, last.0, h.count) in
         subst P same (subst Q last.1 (m e at)))
   ];
@@ -147,7 +147,7 @@ finished_now {S} old place places new (inr h) =
     let P : Book S → Type 0 = λ b. IsFinished b place in
     subst P (sym h.1) h.0
 
-pub under_way_done : {S : Type 0} (r : Rules S) (limits : Limits) (old : Book S) (place : ℕ) (places : List ℕ) (new : Book S) → AllMet r old.entries place places → IsUnderWay r limits old → Finishes old place places new → IsUnderWay r limits new
+pub under_way_done : {S : Type 0} (r : Rules S) (limits : Limits) (old : Book S) (place : ℕ) (places : List ℕ) (new : Book S) → HasSuccessorsAt r old.entries place places → IsUnderWay r limits old → Finishes old place places new → IsUnderWay r limits new
 under_way_done {S} r limits old place places new m u (inl h) =
     let P : Book S → Type 0 = λ b. IsUnderWay r limits b in
     subst P (sym h.1) (record { sound = sound_finish r limits.depart limits.steps old place places u.sound m; root = u.root })
@@ -181,7 +181,7 @@ grows_done {S} old place places new budget (inr h) =
     subst P (sym h.1) (grows_not old budget)
 
 -- once each choice is met, all is that Finish asks
-pub all_met : {S : Type 0} (r : Rules S) (old now : Book S) (place count : ℕ) (next : List ℕ) (e : Entry S) → HasMet r old now place count next → slice_get old.entries place ≡ Some e → BookGrows old now e.budget → count ≡ choices_of (r.width e.state) e.budget → AllMet r now.entries place next
+pub all_met : {S : Type 0} (r : Rules S) (old now : Book S) (place count : ℕ) (next : List ℕ) (e : Entry S) → HasSuccessors r old now place count next → slice_get old.entries place ≡ Some e → BookGrows old now e.budget → count ≡ choices_of (r.width e.state) e.budget → HasSuccessorsAt r now.entries place next
 all_met r old now place count next e h at g all = record {
   entry = e;
   at = g.stays place e at;

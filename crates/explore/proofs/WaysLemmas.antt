@@ -8,7 +8,7 @@ use Rattle.indexmap.specs.IndexMap.{insert_entry}
 use Rattle.basis.proofs.Lists.{stands_in_front, stands_last}
 use Rattle.sched_core.specs.Rules.{Rules, IsLawful}
 use Rattle.statebook.specs.declared.entry.Entry.{Entry}
-use Rattle.statebook.specs.Stations.{forced}
+use Rattle.statebook.specs.Stations.{forced_state}
 use Rattle.statebook.specs.Books.{Book, IsFoundAt}
 use Rattle.statebook.specs.declared.limits.Limits.{Limits}
 use Rattle.statebook.specs.Inner.Forced.{ComesTo}
@@ -17,7 +17,7 @@ use Rattle.explore.specs.Inner.Ways.{AllCome, AllGoPast, AllLead, AreRemembered,
 use Rattle.explore.proofs.InsertLemmas.{Inserted, inserted}
 use Rattle.explore.proofs.WayLemmas.{leads_same}
 use Rattle.explore.specs.declared.search.Onward.{Onward}
-use Rattle.explore.specs.declared.search.Landmark.{Landmark}
+use Rattle.explore.specs.declared.search.Checkpoint.{Checkpoint}
 
 none_passes_at : {K V : Type 0} (test : K → Bool) (x : K × V) (es : List (K × V)) → (lookup test es ≡ None → (i : ℕ) (p : K × V) → slice_get es i ≡ Some p → test p.0 ≡ false) → (b : Bool) → test x.0 ≡ b → cond b (Some x.1) (lookup test es) ≡ None → (i : ℕ) (p : K × V) → slice_get (x ∷ es) i ≡ Some p → test p.0 ≡ false
 none_passes_at test x es later true h e i p at = absurd cc
@@ -38,16 +38,16 @@ pub unknown_as : {S : Type 0} (test : S → Bool) (ways : List (S × Onward)) (f
 unknown_as test ways (Some onward) e = tt
 unknown_as test ways None e = λ i p at. none_passes test ways (sym e) i p at
 
--- The landmarks left are among those that were given, and what is remembered is of the latter or was before, and not more than there
+-- The checkpoints left are among those that were given, and what is remembered is of the latter or was before, and not more than there
 -- is room for. With room for all, something is remembered of each that is no longer left.
-pub record Remembers {S : Type 0} (same : S → S → Bool) (most : ℕ) (old : List (S × Onward)) (all left : List (Landmark S)) (end : ℕ) (station : Option ℕ) (now : List (S × Onward)) : Type 0 where
-  pub among : (i : ℕ) (l : Landmark S) → slice_get left i ≡ Some l → slice_get all i ≡ Some l
+pub record Remembers {S : Type 0} (same : S → S → Bool) (most : ℕ) (old : List (S × Onward)) (all left : List (Checkpoint S)) (end : ℕ) (station : Option ℕ) (now : List (S × Onward)) : Type 0 where
+  pub among : (i : ℕ) (l : Checkpoint S) → slice_get left i ≡ Some l → slice_get all i ≡ Some l
   pub remembered : AreRemembered same old all end station now
   pub count : length now + length left ≤ length old + length all
   pub within : length old ≤ most → length now ≤ most
-  pub known : length old + length all ≤ most → (i : ℕ) (l : Landmark S) → length left ≤ i → slice_get all i ≡ Some l → (onward : Onward) × IsKnownAs same now l.state onward
+  pub known : length old + length all ≤ most → (i : ℕ) (l : Checkpoint S) → length left ≤ i → slice_get all i ≡ Some l → (onward : Onward) × IsKnownAs same now l.state onward
 
-pub remembers_none : {S : Type 0} (same : S → S → Bool) (most : ℕ) (old : List (S × Onward)) (all : List (Landmark S)) (end : ℕ) (station : Option ℕ) → Remembers same most old all all end station old
+pub remembers_none : {S : Type 0} (same : S → S → Bool) (most : ℕ) (old : List (S × Onward)) (all : List (Checkpoint S)) (end : ℕ) (station : Option ℕ) → Remembers same most old all all end station old
 remembers_none same most old all end station = record {
   among = λ i l at. at;
   remembered = λ i p at. inl (i, at);
@@ -69,12 +69,12 @@ last_among {X} all left rest last among items =
 one_less : {X : Type 0} (left rest : List X) (last : X) → left ≡ rest ++ last ∷ [] → length left ≡ length rest + 1
 one_less left rest last items = ap length items ∙ length-append rest (last ∷ [])
 
--- the last landmark is one that was given
-pub last_left : {S : Type 0} (same : S → S → Bool) (most : ℕ) (old : List (S × Onward)) (all left rest : List (Landmark S)) (last : Landmark S) (end : ℕ) (station : Option ℕ) (now : List (S × Onward)) → Remembers same most old all left end station now → left ≡ rest ++ last ∷ [] → ((i : ℕ) (l : Landmark S) → slice_get all i ≡ Some l → l.taken ≤ end) → last.taken ≤ end
+-- the last checkpoint is one that was given
+pub last_left : {S : Type 0} (same : S → S → Bool) (most : ℕ) (old : List (S × Onward)) (all left rest : List (Checkpoint S)) (last : Checkpoint S) (end : ℕ) (station : Option ℕ) (now : List (S × Onward)) → Remembers same most old all left end station now → left ≡ rest ++ last ∷ [] → ((i : ℕ) (l : Checkpoint S) → slice_get all i ≡ Some l → l.taken ≤ end) → last.taken ≤ end
 last_left same most old all left rest last end station now h items before = before (length rest) last (last_among all left rest last h.among items)
 
--- the last landmark was taken, and is not remembered, for want of room
-pub remembers_less : {S : Type 0} (same : S → S → Bool) (most : ℕ) (old : List (S × Onward)) (all left rest : List (Landmark S)) (last : Landmark S) (end : ℕ) (station : Option ℕ) (now : List (S × Onward)) → Remembers same most old all left end station now → left ≡ rest ++ last ∷ [] → most ≤ length now → Remembers same most old all rest end station now
+-- the last checkpoint was taken, and is not remembered, for want of room
+pub remembers_less : {S : Type 0} (same : S → S → Bool) (most : ℕ) (old : List (S × Onward)) (all left rest : List (Checkpoint S)) (last : Checkpoint S) (end : ℕ) (station : Option ℕ) (now : List (S × Onward)) → Remembers same most old all left end station now → left ≡ rest ++ last ∷ [] → most ≤ length now → Remembers same most old all rest end station now
 remembers_less same most old all left rest last end station now h items full =
     let less : length left ≡ length rest + 1 = one_less left rest last items in
     record {
@@ -90,19 +90,19 @@ known_key same now after k v I s (onward, (i, p, at, equal, is)) =
     let q = I.kept i p at in
     (q.0.1, (i, q.0, q.1, ap (same s) q.2 ∙ equal, refl))
 
-known_more : {S : Type 0} (same : S → S → Bool) (all left rest : List (Landmark S)) (last : Landmark S) (now after : List (S × Onward)) (v : Onward) → Inserted same now last.state v after → slice_get all (length rest) ≡ Some last → length left ≡ length rest + 1 → ((i : ℕ) (l : Landmark S) → length left ≤ i → slice_get all i ≡ Some l → (onward : Onward) × IsKnownAs same now l.state onward) → (i : ℕ) (l : Landmark S) → length rest ≤ i → slice_get all i ≡ Some l → (onward : Onward) × IsKnownAs same after l.state onward
+known_more : {S : Type 0} (same : S → S → Bool) (all left rest : List (Checkpoint S)) (last : Checkpoint S) (now after : List (S × Onward)) (v : Onward) → Inserted same now last.state v after → slice_get all (length rest) ≡ Some last → length left ≡ length rest + 1 → ((i : ℕ) (l : Checkpoint S) → length left ≤ i → slice_get all i ≡ Some l → (onward : Onward) × IsKnownAs same now l.state onward) → (i : ℕ) (l : Checkpoint S) → length rest ≤ i → slice_get all i ≡ Some l → (onward : Onward) × IsKnownAs same after l.state onward
 known_more {S} same all left rest last now after v I there less known i l past at = elim (cases_lt (length rest) i) [
   | inl later ↦ known_key same now after last.state v I l.state (known i l (omega (arith, later, less)) at)
   | inr ge ↦ (
       let here : i ≡ length rest = omega (arith, ge, past) in
       let P : ℕ → Type 0 = λ j. slice_get all j ≡ Some l in
       let one : last ≡ l = same_Some last l (sym there ∙ subst P here at) in
-      let Q : Landmark S → Type 0 = λ x. (onward : Onward) × IsKnownAs same after x.state onward in
+      let Q : Checkpoint S → Type 0 = λ x. (onward : Onward) × IsKnownAs same after x.state onward in
       subst Q one (v, (I.place, (I.key, v), I.at, I.same, refl)))
 ]
 
--- the last landmark was taken, and is remembered
-pub remembers_more : {S : Type 0} (same : S → S → Bool) → ((x : S) → same x x ≡ true) → (most : ℕ) (old : List (S × Onward)) (all left rest : List (Landmark S)) (last : Landmark S) (end : ℕ) (station : Option ℕ) (now new : List (S × Onward)) → Remembers same most old all left end station now → left ≡ rest ++ last ∷ [] → length now < most → new ≡ insert_entry same now last.state (record { steps = end - last.taken; station = station }) → Remembers same most old all rest end station new
+-- the last checkpoint was taken, and is remembered
+pub remembers_more : {S : Type 0} (same : S → S → Bool) → ((x : S) → same x x ≡ true) → (most : ℕ) (old : List (S × Onward)) (all left rest : List (Checkpoint S)) (last : Checkpoint S) (end : ℕ) (station : Option ℕ) (now new : List (S × Onward)) → Remembers same most old all left end station now → left ≡ rest ++ last ∷ [] → length now < most → new ≡ insert_entry same now last.state (record { steps = end - last.taken; station = station }) → Remembers same most old all rest end station new
 remembers_more {S} same itself most old all left rest last end station now new h items space more =
     let onward : Onward = record { steps = end - last.taken; station = station } in
     let there : slice_get all (length rest) ≡ Some last = last_among all left rest last h.among items in
@@ -112,7 +112,7 @@ remembers_more {S} same itself most old all left rest last end station now new h
     subst P (sym more) (record {
       among = among_left all left rest last h.among items;
       remembered = λ i p at. elim (I.from i p at) [
-        | inl new ↦ inr (record { place = length rest; landmark = last; at = there; equal = new.0; onward = new.1 })
+        | inl new ↦ inr (record { place = length rest; checkpoint = last; at = there; equal = new.0; onward = new.1 })
         | inr was ↦ h.remembered was.0 p was.1
       ];
       count = omega (arith, h.count, less, I.count);
@@ -148,22 +148,22 @@ leads_later r old new stays t steps None none = none
 pub lead_later : {S : Type 0} (r : Rules S) (old new : List (Entry S)) → ((i : ℕ) (e : Entry S) → slice_get old i ≡ Some e → slice_get new i ≡ Some e) → (ways : List (S × Onward)) → AllLead r old ways → AllLead r new ways
 lead_later r old new stays ways lead i p at = leads_later r old new stays p.0 p.1.steps p.1.station (lead i p at)
 
--- each landmark leads to the end
-abbrev pub MarksLead : {S : Type 0} → Rules S → List (Entry S) → List (Landmark S) → ℕ → Option ℕ → Type 0
-MarksLead {S} r entries landmarks end station = (i : ℕ) (l : Landmark S) → slice_get landmarks i ≡ Some l → LeadsTo r entries l.state (end - l.taken) station
+-- each checkpoint leads to the end
+abbrev pub MarksLead : {S : Type 0} → Rules S → List (Entry S) → List (Checkpoint S) → ℕ → Option ℕ → Type 0
+MarksLead {S} r entries checkpoints end station = (i : ℕ) (l : Checkpoint S) → slice_get checkpoints i ≡ Some l → LeadsTo r entries l.state (end - l.taken) station
 
-pub lead_more : {S : Type 0} (r : Rules S) → IsLawful r → (same : S → S → Bool) → ((s t : S) → r.same s t ≡ same s t) → (entries : List (Entry S)) (old new : List (S × Onward)) (landmarks : List (Landmark S)) (end : ℕ) (station : Option ℕ) → AllLead r entries old → MarksLead r entries landmarks end station → AreRemembered same old landmarks end station new → AllLead r entries new
-lead_more {S} r law same agree entries old new landmarks end station lead marks remembered i p at = elim (remembered i p at) [
+pub lead_more : {S : Type 0} (r : Rules S) → IsLawful r → (same : S → S → Bool) → ((s t : S) → r.same s t ≡ same s t) → (entries : List (Entry S)) (old new : List (S × Onward)) (checkpoints : List (Checkpoint S)) (end : ℕ) (station : Option ℕ) → AllLead r entries old → MarksLead r entries checkpoints end station → AreRemembered same old checkpoints end station new → AllLead r entries new
+lead_more {S} r law same agree entries old new checkpoints end station lead marks remembered i p at = elim (remembered i p at) [
   | inl was ↦ lead was.0 p was.1
   | inr new ↦ (
       let P : Onward → Type 0 = λ o. LeadsTo r entries p.0 o.steps o.station in
-      let l : Landmark S = new.landmark in
+      let l : Checkpoint S = new.checkpoint in
       subst P (sym new.onward) (leads_same r law entries p.0 l.state (end - l.taken) station (agree l.state p.0 ∙ new.equal) (marks new.place l new.at)))
 ]
 
 -- where the way comes to a station that the book has met
-pub marks_lead_there : {S : Type 0} (r : Rules S) → IsLawful r → (same : S → S → Bool) → ((s t : S) → r.same s t ≡ same s t) → (b : Book S) (next : Entry S) (place end : ℕ) (landmarks : List (Landmark S)) → AllCome r landmarks next.state end → IsFoundAt same b.entries next place → MarksLead r b.entries landmarks end (Some place)
-marks_lead_there r law same agree b next place end landmarks come found i l at =
+pub marks_lead_there : {S : Type 0} (r : Rules S) → IsLawful r → (same : S → S → Bool) → ((s t : S) → r.same s t ≡ same s t) → (b : Book S) (next : Entry S) (place end : ℕ) (checkpoints : List (Checkpoint S)) → AllCome r checkpoints next.state end → IsFoundAt same b.entries next place → MarksLead r b.entries checkpoints end (Some place)
+marks_lead_there r law same agree b next place end checkpoints come found i l at =
     let way = come i l at in (
       found.entry,
       found.at,
@@ -171,15 +171,15 @@ marks_lead_there r law same agree b next place end landmarks come found i l at =
         forced_steps = way.forced_steps;
         count = omega (arith, way.count);
         next = way.next;
-        same = law.transitive found.entry.state next.state (forced r l.state way.forced_steps) (agree found.entry.state next.state ∙ found.dominates.state) way.same;
+        same = law.transitive found.entry.state next.state (forced_state r l.state way.forced_steps) (agree found.entry.state next.state ∙ found.dominates.state) way.same;
       },
     )
 
-pub marks_lead_past : {S : Type 0} (r : Rules S) (entries : List (Entry S)) (limits : Limits) (landmarks : List (Landmark S)) → AllGoPast r landmarks limits → MarksLead r entries landmarks (limits.steps + 1) None
-marks_lead_past r entries limits landmarks past i l at = λ j lt. (past i l at).1 j (omega (arith, lt))
+pub marks_lead_past : {S : Type 0} (r : Rules S) (entries : List (Entry S)) (limits : Limits) (checkpoints : List (Checkpoint S)) → AllGoPast r checkpoints limits → MarksLead r entries checkpoints (limits.steps + 1) None
+marks_lead_past r entries limits checkpoints past i l at = λ j lt. (past i l at).1 j (omega (arith, lt))
 
-pub come_before : {S : Type 0} (r : Rules S) (landmarks : List (Landmark S)) (t : S) (end : ℕ) → AllCome r landmarks t end → (i : ℕ) (l : Landmark S) → slice_get landmarks i ≡ Some l → l.taken ≤ end
-come_before r landmarks t end come i l at = omega (arith, (come i l at).count)
+pub come_before : {S : Type 0} (r : Rules S) (checkpoints : List (Checkpoint S)) (t : S) (end : ℕ) → AllCome r checkpoints t end → (i : ℕ) (l : Checkpoint S) → slice_get checkpoints i ≡ Some l → l.taken ≤ end
+come_before r checkpoints t end come i l at = omega (arith, (come i l at).count)
 
 -- a book with an entry more has room for what there was room for
 pub room_later : {S : Type 0} (old : Book S) (e : Entry S) (new : Book S) (room count : ℕ) → IsSameOrAdded old e new → count ≤ length old.entries + room → count ≤ length new.entries + room

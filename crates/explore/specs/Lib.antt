@@ -1,3 +1,3 @@
 pub mod Found
-pub mod Told
+pub mod BookFindings
 pub mod Inner

@@ -3,7 +3,7 @@
 ghost use Rattle.std.specs.Prelude.{◌≡◌, true, false, length, [], ◌∷◌, Ok, None, IfOk};
 ghost use Rattle.indexmap.specs.IndexMap.{IsUnique};
 ghost use Rattle.explore.specs.Found.{ListsAll, ListsFewest, ListsFound, TellsEntries, TellsSteps};
-ghost use Rattle.explore.specs.Told.{TellsOfBook};
+ghost use Rattle.explore.specs.BookFindings.{TellsOfBook};
 ghost use Rattle.explore.specs.Inner.Exploring.{Closes, IsComplete, IsUnderWay, StoppedFull};
 
 use crate::classes::{Full, visit_all};

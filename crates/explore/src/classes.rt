@@ -2,7 +2,7 @@
 
 ghost use Rattle.std.specs.Prelude.{◌≡◌, ℕ, ◌+◌, ◌≤◌, true, false, length, IfOk, OnOk};
 ghost use Rattle.basis.specs.Reasons.{IfFault};
-ghost use Rattle.explore.specs.Told.{IsBounded};
+ghost use Rattle.explore.specs.BookFindings.{IsBounded};
 ghost use Rattle.explore.specs.Inner.Exploring.{AllFinished, AllVisited, BookGrows, CutsShort, FinishedAt, VisitedAt, width_limit};
 ghost use Rattle.explore.specs.Inner.Ways.{IsSearching};
 

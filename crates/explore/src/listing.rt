@@ -2,8 +2,8 @@
 
 ghost use Rattle.std.specs.Prelude.{◌≡◌, true, false, length, IfOk, OnOk};
 ghost use Rattle.indexmap.specs.IndexMap.{IsUnique};
-ghost use Rattle.shardbook.specs.Sights.{entries_of};
-ghost use Rattle.workpool.specs.Searches.{IsQuestOf};
+ghost use Rattle.shardbook.specs.StoredEntries.{entries_of};
+ghost use Rattle.workpool.specs.Searches.{AreParametersOf};
 ghost use Rattle.explore.specs.Found.{AreFound};
 ghost use Rattle.statebook.specs.Inner.Forced.{MayBeAdded};
 ghost use Rattle.explore.specs.Inner.Listing.{AreLong, IsShort, KeepsListed, ListsEach, ListsEntry};
@@ -12,7 +12,7 @@ use crate::marks::note;
 use basis::NoMemory;
 use indexmap::IndexMap;
 use sched_core::{Log, Space};
-use shardbook::{Book, Naming, Quest, Seen};
+use shardbook::{Book, BookIdentity, SearchParameters, Seen};
 use statebook::{Entry, Limits};
 use std::alloc::Global;
 use std::hash::Hash;
@@ -57,14 +57,14 @@ fn list_entry<P: Space>(
 
 /// The marks that the entries stand at that were seen, each once, under the log of an entry of the
 /// greatest budget. The entries may stand in any order.
-pub fn list_seen<P: Space, Q: Quest<P::State>, B: Naming>(
+pub fn list_seen<P: Space, Q: SearchParameters<P::State>, B: BookIdentity>(
     alloc: Global,
     space: &P,
     limits: &Limits,
     book: &Book<P::State, Q, B>,
     all: &[Seen<P::State, Q, B>],
 ) -> Result<IndexMap<P::State, Log>, NoMemory>
-    requires { IsQuestOf Q.rules Q.depart Q.steps (P.rules space.now) limits.now }
+    requires { AreParametersOf Q.rules Q.depart Q.steps (P.rules space.now) limits.now }
     ensures found { IfOk result (λ marks. AreFound (P.rules space.now) limits.now marks.entries) }
     ensures each { IfOk result (λ marks.
         ListsEach (P.rules space.now) (entries_of all.now) marks.entries) }

@@ -3,7 +3,7 @@
 ghost use Rattle.std.specs.Prelude.{◌≡◌, IfOk, OnOk};
 ghost use Rattle.indexmap.specs.IndexMap.{IsUnique, insert_entry};
 ghost use Rattle.explore.specs.Found.{AreFound};
-ghost use Rattle.explore.specs.Told.{ListsExactly};
+ghost use Rattle.explore.specs.BookFindings.{ListsExactly};
 ghost use Rattle.explore.specs.Inner.Exploring.{IsUnderWay};
 
 use basis::NoMemory;

@@ -5,32 +5,32 @@ ghost use Rattle.statebook.specs.Ways.{Allows, ChoiceGoesPast};
 ghost use Rattle.statebook.specs.Inner.Forced.{Follows, IfPast, IfReached, MayBeAdded};
 ghost use Rattle.explore.specs.Inner.Ways.{AllComeTo, AllGoPast, IsSearching};
 
-use crate::search::{Landmark, Search};
+use crate::search::{Checkpoint, Search};
 use crate::way::to_station;
 use basis::NoMemory;
 use sched_core::Space;
 use statebook::{Entry, Limits, budget_left, log_after};
 
 /// The entry of the next station after a choice that the entry's budget allows; None where the
-/// way there takes more steps than the limit. Each landmark on the way leads there too. The state is
-/// copied once, each landmark's once, and the station's once where it is known from a landmark.
+/// way there takes more steps than the limit. Each checkpoint on the way leads there too. The state is
+/// copied once, each checkpoint's once, and the station's once where it is known from a checkpoint.
 pub fn next_entry<P: Space>(
     space: &P,
     limits: &Limits,
     search: &Search<P::State>,
     entry: &Entry<P::State>,
     choice: u32,
-    landmarks: &mut Vec<Landmark<P::State>>,
+    checkpoints: &mut Vec<Checkpoint<P::State>>,
 ) -> Result<Option<Entry<P::State>>, NoMemory>
     requires searching { IsSearching (P.rules space.now) limits.now search.now }
     requires entry { MayBeAdded (P.rules space.now) limits.now entry.now }
     requires choice { Allows (P.rules space.now) entry.now choice }
-    requires none_yet { landmarks.old.items ≡ [] }
+    requires none_yet { checkpoints.old.items ≡ [] }
     ensures follows { IfReached result (Follows (P.rules space.now) entry.now choice) }
     ensures allowed { IfReached result (MayBeAdded (P.rules space.now) limits.now) }
     ensures past { IfPast result (ChoiceGoesPast (P.rules space.now) limits.now entry.now choice) }
-    ensures come { IfReached result (AllComeTo (P.rules space.now) landmarks.new.items) }
-    ensures go_past { IfPast result (AllGoPast (P.rules space.now) landmarks.new.items limits.now) }
+    ensures come { IfReached result (AllComeTo (P.rules space.now) checkpoints.new.items) }
+    ensures go_past { IfPast result (AllGoPast (P.rules space.now) checkpoints.new.items limits.now) }
 {
     if entry.steps == limits.steps {
         return Ok(None);
@@ -39,7 +39,7 @@ pub fn next_entry<P: Space>(
     let mut state = space.copy(&entry.state)?;
     space.step(&mut state, choice)?;
     let taken = entry.steps + 1;
-    match to_station(space, limits, search, &mut state, taken, landmarks)? {
+    match to_station(space, limits, search, &mut state, taken, checkpoints)? {
         Some(steps) => Ok(Some(Entry {
             state,
             budget: budget_left(entry.budget, choice),

@@ -14,7 +14,7 @@ pub struct Onward {
 
 /// A state on the way that is walked, after so many steps of its run.
 #[derive(Drop)]
-pub struct Landmark<S> {
+pub struct Checkpoint<S> {
     pub state: S,
     pub taken: u32,
 }

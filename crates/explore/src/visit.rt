@@ -3,7 +3,7 @@
 ghost use Rattle.std.specs.Prelude.{◌≡◌, ℕ, ◌+◌, ◌<◌, ◌≤◌, true, false, length, slice_get, Some, IfOk, IfSome, IfNone, OnOk, OnErr};
 ghost use Rattle.statebook.specs.ExplorerCore.{choices_of};
 ghost use Rattle.statebook.specs.Books.{IsFinished, IsFoundAt};
-ghost use Rattle.explore.specs.Inner.Exploring.{AddsFew, AllowsAt, CutsShortAt, GrowsFrom, IsMetAt, IsSameOrAdded, LeadsOnAt, width_limit};
+ghost use Rattle.explore.specs.Inner.Exploring.{AddsFew, AllowsAt, CutsShortAt, GrowsFrom, IsSuccessorOfPlace, IsSameOrAdded, LeadsOnAt, width_limit};
 ghost use Rattle.statebook.specs.Inner.Forced.{IfPast, IfReached};
 ghost use Rattle.explore.specs.Inner.Ways.{IsSearching, PastFrom};
 
@@ -29,7 +29,7 @@ fn choice_count<P: Space>(space: &P, entry: &Entry<P::State>) -> u32
 }
 
 // The place of an entry that dominates this one, itself where none did.
-fn met_place<S: Eq + Hash + Drop>(
+fn place_of_insert<S: Eq + Hash + Drop>(
     book: &mut PlainBook<S>,
     entry: Entry<S>,
 ) -> Result<usize, NoMemory>
@@ -46,7 +46,7 @@ fn met_place<S: Eq + Hash + Drop>(
 
 // Meets the book with the next station after the choice, and answers with the place of the entry
 // that dominates it; None where the way there takes more steps than the limit.
-fn meet_choice<P: Space>(
+fn insert_choice<P: Space>(
     alloc: Global,
     space: &P,
     limits: &Limits,
@@ -57,24 +57,24 @@ fn meet_choice<P: Space>(
     requires searching { IsSearching (P.rules space.now) limits.now search.old }
     requires place { place < length search.old.book.entries }
     requires choice { AllowsAt (P.rules space.now) search.old.book place choice }
-    ensures met { IfReached result (IsMetAt (P.rules space.now) search.new.book place choice) }
+    ensures met { IfReached result (IsSuccessorOfPlace (P.rules space.now) search.new.book place choice) }
     ensures past { IfPast result (PastFrom (P.rules space.now) limits.now search.new place choice) }
     ensures searching { IsSearching (P.rules space.now) limits.now search.new }
     ensures grows { GrowsFrom search.old.book search.new.book place }
     ensures few { length search.new.book.entries ≤ length search.old.book.entries + 1 }
 {
-    let mut landmarks = Vec::new(alloc);
+    let mut checkpoints = Vec::new(alloc);
     let entry = search.book.read(place);
-    match next_entry(space, limits, search, entry, choice, &mut landmarks)? {
+    match next_entry(space, limits, search, entry, choice, &mut checkpoints)? {
         Some(next) => {
             let end = next.steps;
-            let met = Some(met_place(&mut search.book, next)?);
-            remember(search, landmarks, end, met)?;
+            let met = Some(place_of_insert(&mut search.book, next)?);
+            remember(search, checkpoints, end, met)?;
             Ok(met)
         }
         None => {
             let end = limits.steps + 1;
-            remember(search, landmarks, end, None)?;
+            remember(search, checkpoints, end, None)?;
             Ok(None)
         }
     }
@@ -104,7 +104,7 @@ pub fn visit<P: Space>(
     let mut next = Vec::new(alloc);
     let mut within = true;
     for choice in 0..count {
-        match meet_choice(alloc, space, limits, search, place, choice)? {
+        match insert_choice(alloc, space, limits, search, place, choice)? {
             Some(at) => next.push(at)?,
             None => within = false,
         }

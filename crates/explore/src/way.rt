@@ -5,8 +5,8 @@ ghost use Rattle.statebook.specs.Ways.{GoesPast};
 ghost use Rattle.statebook.specs.Inner.Forced.{ComesTo, IfPast, IfReached};
 ghost use Rattle.explore.specs.Inner.Ways.{AllCome, AllGoPast, IsAhead, IsSearching};
 
-use crate::search::{Landmark, Search};
-use crate::ways::known;
+use crate::search::{Checkpoint, Search};
+use crate::ways::onward_from;
 use basis::NoMemory;
 use sched_core::Space;
 use statebook::{Limits, walk};
@@ -34,7 +34,7 @@ fn look_ahead<P: Space>(
     requires within { n ≤ limits.now.steps }
     ensures ahead { IfOk result (IsAhead (P.rules space.now) state.old n limits.now state.new) }
 {
-    let Some(onward) = known(&search.ways, state) else {
+    let Some(onward) = onward_from(&search.ways, state) else {
         return Ok(Ahead::Unknown);
     };
     if onward.steps > limits.steps - n {
@@ -53,7 +53,7 @@ fn look_ahead<P: Space>(
 /// steps were taken in all; None where that would take more than the limit.
 ///
 /// Each time that the count of steps comes to a multiple of `SPACING` it looks whether it is known how
-/// the way goes on. Where that doesn't decide, the state becomes a landmark. So at most one step in
+/// the way goes on. Where that doesn't decide, the state becomes a checkpoint. So at most one step in
 /// `SPACING` copies a state, and a way that comes to a remembered state at such a count ends there.
 pub fn to_station<P: Space>(
     space: &P,
@@ -61,16 +61,16 @@ pub fn to_station<P: Space>(
     search: &Search<P::State>,
     state: &mut P::State,
     taken: u32,
-    landmarks: &mut Vec<Landmark<P::State>>,
+    checkpoints: &mut Vec<Checkpoint<P::State>>,
 ) -> Result<Option<u32>, NoMemory>
     requires searching { IsSearching (P.rules space.now) limits.now search.now }
     requires within { taken ≤ limits.now.steps }
-    requires none_yet { landmarks.old.items ≡ [] }
+    requires none_yet { checkpoints.old.items ≡ [] }
     ensures there { IfReached result (ComesTo (P.rules space.now) state.old taken state.new) }
     ensures limit { IfReached result (λ n. n ≤ limits.now.steps) }
     ensures past { IfPast result (GoesPast (P.rules space.now) state.old taken limits.now.steps) }
-    ensures come { IfReached result (AllCome (P.rules space.now) landmarks.new.items state.new) }
-    ensures go_past { IfPast result (AllGoPast (P.rules space.now) landmarks.new.items limits.now) }
+    ensures come { IfReached result (AllCome (P.rules space.now) checkpoints.new.items state.new) }
+    ensures go_past { IfPast result (AllGoPast (P.rules space.now) checkpoints.new.items limits.now) }
 {
     let root = &search.book.read(0).state;
     let mut n = taken;
@@ -86,7 +86,7 @@ pub fn to_station<P: Space>(
         match look_ahead(space, limits, search, state, n)? {
             Ahead::Station(reached) => return Ok(Some(reached)),
             Ahead::Past => return Ok(None),
-            Ahead::Unknown => landmarks.push(Landmark {
+            Ahead::Unknown => checkpoints.push(Checkpoint {
                 state: space.copy(state)?,
                 taken: n,
             })?,

@@ -4,7 +4,7 @@ ghost use Rattle.std.specs.Prelude.{◌≡◌, ◌≤◌, length, Some, IfOk};
 ghost use Rattle.indexmap.specs.IndexMap.{IsUnique};
 ghost use Rattle.shardbook.specs.Closing.{Closes};
 ghost use Rattle.shardbook.specs.Names.{AreNames};
-ghost use Rattle.workpool.specs.Searches.{IsQuestOf};
+ghost use Rattle.workpool.specs.Searches.{AreParametersOf};
 ghost use Rattle.explore.specs.Found.{ListsAll, ListsFewest, ListsFound, TellsSteps};
 ghost use Rattle.explore.specs.Inner.Listing.{InPlace};
 ghost use Rattle.explore.specs.Inner.Shared.{StopsForEntries, StopsForSteps, TellsWhy};
@@ -15,7 +15,7 @@ use crate::findings::{Findings, Status};
 use crate::listing::list_seen;
 use basis::NoMemory;
 use sched_core::Space;
-use shardbook::{Book, Naming, Quest, Seen, Unopened};
+use shardbook::{Book, BookIdentity, SearchParameters, Seen, Unopened};
 use statebook::{Limits, Reason};
 use std::alloc::Global;
 use std::hash::Hash;
@@ -29,7 +29,7 @@ const SHARDS: usize = 16;
 
 // What is to be said of entries that were seen: exhausted where they close, else the reason for which
 // the workers stopped short; None where there is none.
-fn status_of<S: Eq + Hash + Drop, Q: Quest<S>, B: Naming>(
+fn status_of<S: Eq + Hash + Drop, Q: SearchParameters<S>, B: BookIdentity>(
     book: &Book<S, Q, B>,
     root: &Seen<S, Q, B>,
     all: &[Seen<S, Q, B>],
@@ -51,7 +51,7 @@ fn status_of<S: Eq + Hash + Drop, Q: Quest<S>, B: Naming>(
 
 // What is read from entries that were seen: the marks that they stand at, and whether they are all.
 // None where the entries don't close and no reason is given.
-fn read_findings<P: Space, Q: Quest<P::State>, B: Naming>(
+fn read_findings<P: Space, Q: SearchParameters<P::State>, B: BookIdentity>(
     alloc: Global,
     space: &P,
     limits: &Limits,
@@ -60,7 +60,7 @@ fn read_findings<P: Space, Q: Quest<P::State>, B: Naming>(
     all: &[Seen<P::State, Q, B>],
     cut: Option<Reason>,
 ) -> Result<Option<Findings<P::State>>, NoMemory>
-    requires quest { IsQuestOf Q.rules Q.depart Q.steps (P.rules space.now) limits.now }
+    requires parameters { AreParametersOf Q.rules Q.depart Q.steps (P.rules space.now) limits.now }
     requires steps { TellsWhy (P.rules space.now) limits.now cut }
     ensures found { IfReached result (ListsFound (P.rules space.now) limits.now) }
     ensures distinct { IfReached result (λ findings. IsUnique P.State.eq findings.marks) }
@@ -76,7 +76,7 @@ fn read_findings<P: Space, Q: Quest<P::State>, B: Naming>(
 }
 
 // What shows the entries of the places from 0 on, up to the first that shows none; at most so many.
-fn all_seen<S: Eq + Hash + Drop, Q: Quest<S>, B: Naming>(
+fn all_seen<S: Eq + Hash + Drop, Q: SearchParameters<S>, B: BookIdentity>(
     alloc: Global,
     book: &Book<S, Q, B>,
     count: u64,
@@ -109,8 +109,8 @@ fn without_root<S: Eq + Hash>(cut: Option<Reason>) -> Result<Option<Findings<S>>
 // The book is opened, gone through and read. None where its entries don't close and no reason is told.
 fn within<
     P: Space + Sync,
-    Q: Quest<P::State> + Send + Sync,
-    B: Naming + Send + Sync,
+    Q: SearchParameters<P::State> + Send + Sync,
+    B: BookIdentity + Send + Sync,
     R: Threads + Wait + Sync,
     G: Gate,
 >(
@@ -123,7 +123,7 @@ fn within<
     unopened: Unopened<P::State, Q>,
 ) -> Result<Option<Findings<P::State>>, NoMemory>
     requires workers { (1 ≤ workers) × (workers ≤ 64) }
-    requires quest { IsQuestOf Q.rules Q.depart Q.steps (P.rules space.now) limits.now }
+    requires parameters { AreParametersOf Q.rules Q.depart Q.steps (P.rules space.now) limits.now }
     requires names { AreNames unopened B.entries B.name B.parts }
     ensures found { IfReached result (ListsFound (P.rules space.now) limits.now) }
     ensures distinct { IfReached result (λ findings. IsUnique P.State.eq findings.marks) }
@@ -150,7 +150,12 @@ fn within<
 }
 
 // The names of a book are picked, and it is gone through.
-fn over<P: Space + Sync, Q: Quest<P::State> + Send + Sync, R: Threads + Wait + Sync, G: Gate>(
+fn over<
+    P: Space + Sync,
+    Q: SearchParameters<P::State> + Send + Sync,
+    R: Threads + Wait + Sync,
+    G: Gate,
+>(
     rt: &R,
     alloc: Global,
     space: &P,
@@ -159,7 +164,7 @@ fn over<P: Space + Sync, Q: Quest<P::State> + Send + Sync, R: Threads + Wait + S
     gate: &G,
 ) -> Result<Option<Findings<P::State>>, NoMemory>
     requires workers { (1 ≤ workers) × (workers ≤ 64) }
-    requires quest { IsQuestOf Q.rules Q.depart Q.steps (P.rules space.now) limits.now }
+    requires parameters { AreParametersOf Q.rules Q.depart Q.steps (P.rules space.now) limits.now }
     ensures found { IfReached result (ListsFound (P.rules space.now) limits.now) }
     ensures distinct { IfReached result (λ findings. IsUnique P.State.eq findings.marks) }
     ensures exhausted { IfReached result (ListsAll (P.rules space.now) limits.now) }

@@ -4,7 +4,7 @@ ghost use Rattle.std.specs.Prelude.{◌≡◌, None};
 ghost use Rattle.shardbook.specs.Names.{AreNames};
 
 use sched_core::{Log, Square};
-use shardbook::{Book, Done, Met, Naming, Pass, Quest, Seen, Unopened};
+use shardbook::{Book, BookIdentity, Done, Met, Pass, SearchParameters, Seen, Unopened};
 use statebook::Entry;
 use std::alloc::Global;
 use std::marker::Brand;
@@ -28,7 +28,7 @@ fn expect(holds: bool, what: &'static str) -> Result<(), Fail> {
 
 // What was met is finished once, and closes when it is. These calls wait for nobody: they are given no
 // handle.
-fn finishes_once<Q: Quest<Square>, B: Naming>(
+fn finishes_once<Q: SearchParameters<Square>, B: BookIdentity>(
     alloc: Global,
     book: &Book<Square, Q, B>,
     seen: &Seen<Square, Q, B>,
@@ -57,12 +57,12 @@ fn finishes_once<Q: Quest<Square>, B: Naming>(
 }
 
 // One pass meets one entry twice: New, then Known with the same entry read; the same of that state with fewer departures left.
-fn meets_twice<Q: Quest<Square>, B: Naming, R: Wait>(
+fn meets_twice<Q: SearchParameters<Square>, B: BookIdentity, R: Wait>(
     rt: &R,
     alloc: Global,
     unopened: Unopened<Square, Q>,
 ) -> Result<(), Fail>
-    requires quest { Q.rules ≡ None }
+    requires parameters { Q.rules ≡ None }
     requires names { AreNames unopened B.entries B.name B.parts }
 {
     let (book, mut pass) = Book::<Square, Q, B>::open(alloc, unopened)?;
@@ -89,7 +89,7 @@ fn meets_twice<Q: Quest<Square>, B: Naming, R: Wait>(
 }
 
 // The audit of one of two passes, and of both, without a handle.
-fn audits<Q: Quest<Square>, B: Naming>(
+fn audits<Q: SearchParameters<Square>, B: BookIdentity>(
     mut book: Book<Square, Q, B>,
     mut one: Pass<B>,
     other: Pass<B>,
@@ -101,12 +101,12 @@ fn audits<Q: Quest<Square>, B: Naming>(
 }
 
 // Two passes get one New each.
-fn meets_by_two<Q: Quest<Square>, B: Naming, R: Wait>(
+fn meets_by_two<Q: SearchParameters<Square>, B: BookIdentity, R: Wait>(
     rt: &R,
     alloc: Global,
     unopened: Unopened<Square, Q>,
 ) -> Result<(), Fail>
-    requires quest { Q.rules ≡ None }
+    requires parameters { Q.rules ≡ None }
     requires names { AreNames unopened B.entries B.name B.parts }
 {
     let (book, mut pass) = Book::<Square, Q, B>::open(alloc, unopened)?;

@@ -3,12 +3,12 @@
 
 ghost use Rattle.std.specs.Prelude.{◌≤◌};
 ghost use Rattle.shardbook.specs.Names.{AreNames};
-ghost use Rattle.workpool.specs.Searches.{IsQuestOf};
+ghost use Rattle.workpool.specs.Searches.{AreParametersOf};
 
 use crate::gates::HoldsSecond;
 use explore::{Findings, Reason, Status, explore};
 use sched_core::{Grid, Space, Square};
-use shardbook::{Book, Naming, Quest, Unopened};
+use shardbook::{Book, BookIdentity, SearchParameters, Unopened};
 use statebook::Limits;
 use std::alloc::Global;
 use std::marker::Brand;
@@ -50,8 +50,8 @@ fn marks_by_workers(rt: HostRuntime) -> Result<(), Fail> {
 // whether these close.
 fn left_closed<
     P: Space + Sync,
-    Q: Quest<P::State> + Send + Sync,
-    B: Naming + Send + Sync,
+    Q: SearchParameters<P::State> + Send + Sync,
+    B: BookIdentity + Send + Sync,
     R: Threads + Wait + Sync,
 >(
     rt: &R,
@@ -62,7 +62,7 @@ fn left_closed<
     unopened: Unopened<P::State, Q>,
 ) -> Result<bool, Fail>
     requires workers { (1 ≤ workers) × (workers ≤ 64) }
-    requires quest { IsQuestOf Q.rules Q.depart Q.steps (P.rules space.now) limits.now }
+    requires parameters { AreParametersOf Q.rules Q.depart Q.steps (P.rules space.now) limits.now }
     requires names { AreNames unopened B.entries B.name B.parts }
 {
     let (book, pass) = Book::<P::State, Q, B>::open(alloc, unopened)?;
@@ -76,21 +76,19 @@ fn left_closed<
 }
 
 // The names of a book are picked.
-fn named_left_closed<P: Space + Sync, Q: Quest<P::State> + Send + Sync, R: Threads + Wait + Sync>(
-    rt: &R,
-    alloc: Global,
-    space: &P,
-    limits: &Limits,
-    workers: usize,
-) -> Result<bool, Fail>
+fn named_left_closed<
+    P: Space + Sync,
+    Q: SearchParameters<P::State> + Send + Sync,
+    R: Threads + Wait + Sync,
+>(rt: &R, alloc: Global, space: &P, limits: &Limits, workers: usize) -> Result<bool, Fail>
     requires workers { (1 ≤ workers) × (workers ≤ 64) }
-    requires quest { IsQuestOf Q.rules Q.depart Q.steps (P.rules space.now) limits.now }
+    requires parameters { AreParametersOf Q.rules Q.depart Q.steps (P.rules space.now) limits.now }
 {
     let unopened = Unopened::<P::State, Q>::new(alloc, SHARDS)?;
     left_closed::<P, Q, Brand, R>(rt, alloc, space, limits, workers, unopened)
 }
 
-// The quest is picked.
+// The search parameters are picked.
 fn leaves_closed<P: Space + Sync, R: Threads + Wait + Sync>(
     rt: &R,
     alloc: Global,

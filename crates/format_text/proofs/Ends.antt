@@ -1,9 +1,9 @@
 -- What a reading leaves of a format is what the format ends in.
 use Rattle.std.proofs.Common.{◌≡◌, ◌==◌, ◌+◌, ℕ, suc, Bool, true, false, cond, List, [], ◌∷◌, ◌++◌, drop, Option, Some, None, refl, ap, sym, subst, ◌∙◌, drop-drop}
 use Rattle.vdesign.specs.declared.print.Form.{Form}
-use Rattle.format_text.specs.declared.run.Standing.{Standing}
-use Rattle.format_text.specs.declared.run.Standing.TheVariants.{Outside, Behind, Shortened}
-use Rattle.format_text.specs.Formats.{Run, ended, form_of, run_by, run_of, short_form_of}
+use Rattle.format_text.specs.declared.run.FormatState.{FormatState}
+use Rattle.format_text.specs.declared.run.FormatState.TheVariants.{Outside, Behind, Shortened}
+use Rattle.format_text.specs.Formats.{Run, run_with_form, form_of, run_by, run_of, short_form_of}
 use Rattle.format_text.specs.Pieces.{rest_of}
 use Rattle.format_text.specs.Reading.{IsEndOf}
 
@@ -15,7 +15,7 @@ nothing (c ∷ cs) = let p = nothing cs in (suc p.0, p.1)
 more : (left : List ℕ) (c : ℕ) (cs : List ℕ) → IsEndOf left cs → IsEndOf left (c ∷ cs)
 more left c cs p = (suc p.0, p.1)
 
-end_of_ended : (letters : List ℕ) (form : Option Form) (cs : List ℕ) → IsEndOf (rest_of (ended letters form cs)) cs
+end_of_ended : (letters : List ℕ) (form : Option Form) (cs : List ℕ) → IsEndOf (rest_of (run_with_form letters form cs)) cs
 end_of_ended letters None cs = nothing cs
 end_of_ended letters (Some form) cs = (0, refl)
 
@@ -24,7 +24,7 @@ either : (test : Bool) (x y : Option Run) (cs : List ℕ) → IsEndOf (rest_of x
 either true x y cs p q = p
 either false x y cs p q = q
 
-end_of_run : (standing : Standing) (letters format : List ℕ) → IsEndOf (rest_of (run_by standing letters format)) format
+end_of_run : (format_state : FormatState) (letters format : List ℕ) → IsEndOf (rest_of (run_by format_state letters format)) format
 end_of_run Outside letters [] = (0, refl)
 end_of_run Behind letters [] = (0, refl)
 end_of_run Shortened letters [] = (0, refl)

@@ -3,17 +3,17 @@
 use Rattle.std.specs.Prelude.{ℕ, ◌==◌, ◌||◌, Bool, true, false, if◌then◌else◌, List, [], ◌∷◌, ◌++◌, Option, Some, None}
 use Rattle.vdesign.specs.declared.print.Form.{Form}
 use Rattle.vdesign.specs.declared.print.Form.TheVariants.{Binary, Hexadecimal, Decimal, ShortDecimal, Time, ShortTime}
-use Rattle.format_text.specs.declared.run.Standing.{Standing}
-use Rattle.format_text.specs.declared.run.Standing.TheVariants.{Outside, Behind, Shortened}
+use Rattle.format_text.specs.declared.run.FormatState.{FormatState}
+use Rattle.format_text.specs.declared.run.FormatState.TheVariants.{Outside, Behind, Shortened}
 
 -- ---- the letters of a string, of what stands between its quotes (3.6.3, table 3-1)
 
 -- what a letter behind a backslash stands for: `\n` and `\t`; `\\` and `\"` stand for themselves
-abbrev pub escaped : ℕ → ℕ
-escaped c = if c == 110 then 10 else if c == 116 then 9 else c
+abbrev pub escaped_letter : ℕ → ℕ
+escaped_letter c = if c == 110 then 10 else if c == 116 then 9 else c
 
 abbrev pub letters_read : Bool → ℕ → List ℕ
-letters_read true c = escaped c ∷ []
+letters_read true c = escaped_letter c ∷ []
 letters_read false c = if c == 92 then [] else c ∷ []
 
 -- whether the letter is a backslash that stands before the next one
@@ -44,7 +44,7 @@ form_of c =
 abbrev pub short_form_of : ℕ → Option Form
 short_form_of c = if is_letter 100 68 c then Some ShortDecimal else if is_letter 116 84 c then Some ShortTime else None
 
-abbrev pub form_at : Standing → ℕ → Option Form
+abbrev pub form_at : FormatState → ℕ → Option Form
 form_at Outside c = None
 form_at Behind c = form_of c
 form_at Shortened c = short_form_of c
@@ -56,12 +56,12 @@ pub record Run : Type 0 where
   pub form : Option Form
   pub rest : List ℕ
 
-abbrev pub ended : List ℕ → Option Form → List ℕ → Option Run
-ended letters None rest = None
-ended letters (Some form) rest = Some (record { letters = letters; form = Some form; rest = rest })
+abbrev pub run_with_form : List ℕ → Option Form → List ℕ → Option Run
+run_with_form letters None rest = None
+run_with_form letters (Some form) rest = Some (record { letters = letters; form = Some form; rest = rest })
 
 -- letters so far, and those that are left: read outside of a form, behind a `%` (37), or behind `%0` (48); `%%` prints `%`
-abbrev pub run_by : Standing → List ℕ → List ℕ → Option Run
+abbrev pub run_by : FormatState → List ℕ → List ℕ → Option Run
 run_by Outside run [] = Some (record { letters = run; form = None; rest = [] })
 run_by Behind run [] = None
 run_by Shortened run [] = None
@@ -69,8 +69,8 @@ run_by Outside run (c ∷ cs) = if c == 37 then run_by Behind run cs else run_by
 run_by Behind run (c ∷ cs) =
     if c == 48 then run_by Shortened run cs
     else if c == 37 then run_by Outside (run ++ c ∷ []) cs
-    else ended run (form_of c) cs
-run_by Shortened run (c ∷ cs) = ended run (short_form_of c) cs
+    else run_with_form run (form_of c) cs
+run_by Shortened run (c ∷ cs) = run_with_form run (short_form_of c) cs
 
 -- none where a `%` stands in it at its end, or before what names no form
 abbrev pub run_of : List ℕ → Option Run

@@ -22,14 +22,14 @@ without_form None pieces = Some pieces
 without_form (Some form) pieces = None
 
 -- what is left of a format where its string's expressions end: it has no form
-abbrev pub finished : Option Run → Option (List Piece)
-finished None = None
-finished (Some run) = without_form run.form (text_piece run.letters)
+abbrev pub last_pieces : Option Run → Option (List Piece)
+last_pieces None = None
+last_pieces (Some run) = without_form run.form (text_piece run.letters)
 
 -- an expression is shown in the next form; where no format has one left it is shown as by `%d`
-abbrev pub shown : Option Run → Bool → ExpressionTree → Option (List Piece)
-shown None is_watched e = None
-shown (Some run) is_watched e = Some (text_piece run.letters ++ Value (unwrap_or run.form Decimal) is_watched e ∷ [])
+abbrev pub value_pieces : Option Run → Bool → ExpressionTree → Option (List Piece)
+value_pieces None is_watched e = None
+value_pieces (Some run) is_watched e = Some (text_piece run.letters ++ Value (unwrap_or run.form Decimal) is_watched e ∷ [])
 
 abbrev pub rest_of : Option Run → List ℕ
 rest_of None = []
@@ -39,16 +39,16 @@ abbrev pub behind : List Piece → Option (List Piece) → Option (List Piece)
 behind front None = None
 behind front (Some pieces) = Some (front ++ pieces)
 
-abbrev pub joined : Option (List Piece) → Option (List Piece) → Option (List Piece)
-joined None later = None
-joined (Some front) later = behind front later
+abbrev pub both_pieces : Option (List Piece) → Option (List Piece) → Option (List Piece)
+both_pieces None later = None
+both_pieces (Some front) later = behind front later
 
 -- the pieces of what is left of a format and of the arguments behind it, from left to right
 abbrev pub pieces_by : List ℕ → List Argument → Option (List Piece)
-pieces_by format [] = finished (run_of format)
-pieces_by format (string letters ∷ arguments) = joined (finished (run_of format)) (pieces_by (letters_of false letters) arguments)
+pieces_by format [] = last_pieces (run_of format)
+pieces_by format (string letters ∷ arguments) = both_pieces (last_pieces (run_of format)) (pieces_by (letters_of false letters) arguments)
 pieces_by format (value is_watched e ∷ arguments) =
-    joined (shown (run_of format) is_watched e) (pieces_by (rest_of (run_of format)) arguments)
+    both_pieces (value_pieces (run_of format) is_watched e) (pieces_by (rest_of (run_of format)) arguments)
 
 -- the pieces of a line; none where a format isn't well formed, or has a form without its expression (E310)
 abbrev pub pieces_of : List Argument → Option (List Piece)

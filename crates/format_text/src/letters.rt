@@ -7,8 +7,8 @@ use basis::NoMemory;
 use std::alloc::Global;
 
 // The letter that stands behind a backslash.
-fn escaped(letter: u8) -> u8
-    ensures { result ≡ spec.escaped letter }
+fn escaped_letter(letter: u8) -> u8
+    ensures { result ≡ spec.escaped_letter letter }
 {
     if letter == b'n' {
         b'\n'
@@ -26,7 +26,7 @@ fn read(text: &mut Vec<u8>, is_escaped: bool, letter: u8) -> Result<bool, NoMemo
     ensures next { IfOk result (λ next. next ≡ spec.escapes is_escaped letter) }
 {
     if is_escaped {
-        text.push(escaped(letter))?;
+        text.push(escaped_letter(letter))?;
         return Ok(false);
     }
     if letter == b'\\' {

@@ -63,7 +63,7 @@ fn put_text(pieces: &mut Vec<Piece>, letters: Vec<u8>) -> Result<(), NoMemory>
 
 // Puts the letters of a run last, where it has no form.
 fn put_last(pieces: &mut Vec<Piece>, run: Option<Run<'_>>) -> Result<bool, NoMemory>
-    ensures { IfOk result (λ is_done. Adds pieces.old.items (spec.finished run.entry) is_done
+    ensures { IfOk result (λ is_done. Adds pieces.old.items (spec.last_pieces run.entry) is_done
         pieces.new.items) }
 {
     let Some(run) = run else {

@@ -28,7 +28,7 @@ impl<'a> Model for Run<'a> {
 
 /// Where a reading stands: outside of a form, behind a `%`, or behind `%0`.
 #[derive(Clone, Copy, Debug, PartialEq, Eq)]
-pub(crate) enum Standing {
+pub(crate) enum FormatState {
     Outside,
     Behind,
     Shortened,
@@ -74,45 +74,49 @@ fn short_form_of(letter: u8) -> Option<Form>
 }
 
 // Where a reading stands behind one letter more; none where the letter ends it.
-fn next(run: &mut Vec<u8>, standing: Standing, letter: u8) -> Result<Option<Standing>, NoMemory>
-    ensures { IfOk result (λ next. GoesOn standing run.old.items letter run.new.items next) }
+fn next(
+    run: &mut Vec<u8>,
+    format_state: FormatState,
+    letter: u8,
+) -> Result<Option<FormatState>, NoMemory>
+    ensures { IfOk result (λ next. GoesOn format_state run.old.items letter run.new.items next) }
 {
-    match standing {
-        Standing::Outside => {
+    match format_state {
+        FormatState::Outside => {
             if letter == b'%' {
-                return Ok(Some(Standing::Behind));
+                return Ok(Some(FormatState::Behind));
             }
             run.push(letter)?;
-            Ok(Some(Standing::Outside))
+            Ok(Some(FormatState::Outside))
         }
-        Standing::Behind => {
+        FormatState::Behind => {
             if letter == b'0' {
-                return Ok(Some(Standing::Shortened));
+                return Ok(Some(FormatState::Shortened));
             }
             if letter == b'%' {
                 run.push(letter)?;
-                return Ok(Some(Standing::Outside));
+                return Ok(Some(FormatState::Outside));
             }
             Ok(None)
         }
-        Standing::Shortened => Ok(None),
+        FormatState::Shortened => Ok(None),
     }
 }
 
 // The form that ends a reading at this letter, if it is one.
-fn form_at(standing: Standing, letter: u8) -> Option<Form>
-    ensures { result ≡ spec.form_at standing letter }
+fn form_at(format_state: FormatState, letter: u8) -> Option<Form>
+    ensures { result ≡ spec.form_at format_state letter }
 {
-    match standing {
-        Standing::Outside => None,
-        Standing::Behind => form_of(letter),
-        Standing::Shortened => short_form_of(letter),
+    match format_state {
+        FormatState::Outside => None,
+        FormatState::Behind => form_of(letter),
+        FormatState::Shortened => short_form_of(letter),
     }
 }
 
 // A run that a form ends, if it is one.
-fn ended<'a>(letters: Vec<u8>, form: Option<Form>, rest: &'a [u8]) -> Option<Run<'a>>
-    ensures { result ≡ spec.ended letters.items form rest.now }
+fn run_with_form<'a>(letters: Vec<u8>, form: Option<Form>, rest: &'a [u8]) -> Option<Run<'a>>
+    ensures { result ≡ spec.run_with_form letters.items form rest.now }
 {
     match form {
         None => None,
@@ -125,17 +129,17 @@ fn ended<'a>(letters: Vec<u8>, form: Option<Form>, rest: &'a [u8]) -> Option<Run
 }
 
 // A run that the end of the format ends, unless it stands in a form.
-fn closed<'a>(letters: Vec<u8>, standing: Standing) -> Option<Run<'a>>
-    ensures { result ≡ spec.run_by standing letters.items [] }
+fn run_at_end<'a>(letters: Vec<u8>, format_state: FormatState) -> Option<Run<'a>>
+    ensures { result ≡ spec.run_by format_state letters.items [] }
 {
-    match standing {
-        Standing::Outside => Some(Run {
+    match format_state {
+        FormatState::Outside => Some(Run {
             letters,
             form: None,
             rest: &[],
         }),
-        Standing::Behind => None,
-        Standing::Shortened => None,
+        FormatState::Behind => None,
+        FormatState::Shortened => None,
     }
 }
 
@@ -145,15 +149,15 @@ pub(crate) fn run_of<'a>(alloc: Global, format: &'a [u8]) -> Result<Option<Run<'
     ensures { IfOk result (λ run. run ≡ spec.run_of format.now) }
 {
     let mut run = Vec::new(alloc);
-    let mut standing = Standing::Outside;
+    let mut format_state = FormatState::Outside;
     let mut rest = format;
     'letters: loop {
         let Some((letter, behind)) = rest.split_first() else {
-            return Ok(closed(run, standing));
+            return Ok(run_at_end(run, format_state));
         };
-        match next(&mut run, standing, *letter)? {
-            None => return Ok(ended(run, form_at(standing, *letter), behind)),
-            Some(there) => standing = there,
+        match next(&mut run, format_state, *letter)? {
+            None => return Ok(run_with_form(run, form_at(format_state, *letter), behind)),
+            Some(there) => format_state = there,
         }
         rest = behind;
     }

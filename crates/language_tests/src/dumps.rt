@@ -8,7 +8,7 @@ use std::io;
 use std::io::{Read, Write};
 use std::test::Fail;
 use vbits::{Bit4, Vec4};
-use vcd_text::{DumpSink, Full, HeldText, Metered, Outlet, write_vcd};
+use vcd_text::{ByteSink, DumpSink, Full, HeldText, Metered, write_vcd};
 use vdesign::action::Action;
 use vdesign::design::{Design, Kind, Scope, Variable};
 use vdesign::dump::{Chosen, DumpCommand, Selection};
@@ -206,7 +206,7 @@ fn dump_slot_by_slot(rt: HostRuntime) -> Result<(), Fail> {
     assert_eq!(rt; sink.finish(&history.end), Ok(()));
     // The same end again adds nothing.
     assert_eq!(rt; sink.finish(&history.end), Ok(()));
-    assert_eq!(rt; sink.into_outlet().failures(), 0);
+    assert_eq!(rt; sink.into_byte_sink().failures(), 0);
     let mut text = Vec::from_slice(alloc, TEXT.as_bytes())?;
     text.extend_from_slice(b"#9\n")?;
     assert_eq!(rt; writer.into_inner().held.as_slice(), text.as_slice());

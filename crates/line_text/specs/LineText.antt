@@ -7,7 +7,7 @@ use Rattle.vdesign.specs.declared.print.Form.TheVariants.{Binary, Hexadecimal, D
 use Rattle.vdesign.specs.declared.print.Piece.{Piece}
 use Rattle.vdesign.specs.declared.print.Piece.TheVariants.{Text, Value}
 use Rattle.value_text.specs.ValueText.{binary, hexadecimal, decimal_text, short_decimal, time_text, short_time}
-use Rattle.vvalue.specs.Value.{Moment, by_itself}
+use Rattle.vvalue.specs.Value.{Environment, by_itself}
 
 -- 17.1.1.2: a value in a form; a time is told in units of the precision, of which so many make one of its own (19.8)
 abbrev pub shown_as : Form → ℕ → Vector → List ℕ
@@ -18,27 +18,27 @@ shown_as ShortDecimal factor v = short_decimal v
 shown_as Time factor v = time_text factor v
 shown_as ShortTime factor v = short_time factor v
 
-abbrev pub piece_text : Moment → Piece → List ℕ
+abbrev pub piece_text : Environment → Piece → List ℕ
 piece_text now (Text bytes) = bytes
 piece_text now (Value form watched value) = shown_as form now.factor (by_itself now value)
 
-abbrev pub pieces_text : Moment → List Piece → List ℕ
+abbrev pub pieces_text : Environment → List Piece → List ℕ
 pieces_text now [] = []
 pieces_text now (piece ∷ pieces) = piece_text now piece ++ pieces_text now pieces
 
 -- a line: its pieces from left to right, and a line feed (17.1.1)
-abbrev pub line_of : Moment → List Piece → List ℕ
+abbrev pub line_of : Environment → List Piece → List ℕ
 line_of now pieces = pieces_text now pieces ++ 10 ∷ []
 
 -- 17.1.3: the values of the arguments whose changes make a monitor print: all but a bare `$time`
-abbrev pub watched_one : Moment → Bool → ExpressionTree → List Vector
+abbrev pub watched_one : Environment → Bool → ExpressionTree → List Vector
 watched_one now true value = by_itself now value ∷ []
 watched_one now false value = []
 
-abbrev pub watched_in : Moment → Piece → List Vector
+abbrev pub watched_in : Environment → Piece → List Vector
 watched_in now (Text bytes) = []
 watched_in now (Value form is_watched value) = watched_one now is_watched value
 
-abbrev pub watched : Moment → List Piece → List Vector
+abbrev pub watched : Environment → List Piece → List Vector
 watched now [] = []
 watched now (piece ∷ pieces) = watched_in now piece ++ watched now pieces

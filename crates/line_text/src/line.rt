@@ -11,7 +11,7 @@ use vbits::Vec4;
 use vdesign::expression::Expression;
 use vdesign::print::{Form, Piece};
 use vvalue::asked::by_itself;
-use vvalue::moment::Moment;
+use vvalue::environment::Environment;
 
 // A value in a form (17.1.1.2).
 fn put_value(text: &mut Vec<u8>, form: Form, value: Vec4, factor: u64) -> Result<(), NoMemory>
@@ -27,9 +27,13 @@ fn put_value(text: &mut Vec<u8>, form: Form, value: Vec4, factor: u64) -> Result
     }
 }
 
-fn put_piece(text: &mut Vec<u8>, piece: &Piece, moment: &Moment<'_>) -> Result<(), NoMemory>
+fn put_piece(
+    text: &mut Vec<u8>,
+    piece: &Piece,
+    environment: &Environment<'_>,
+) -> Result<(), NoMemory>
     ensures { OnOk result
-        (text.new.items ≡ text.old.items ++ spec.piece_text moment.now piece.now) }
+        (text.new.items ≡ text.old.items ++ spec.piece_text environment.now piece.now) }
 {
     match piece {
         Piece::Text(bytes) => {
@@ -37,28 +41,41 @@ fn put_piece(text: &mut Vec<u8>, piece: &Piece, moment: &Moment<'_>) -> Result<(
             Ok(())
         }
         Piece::Value { form, value, .. } => {
-            put_value(text, *form, by_itself(value, moment), moment.factor)
+            put_value(
+                text,
+                *form,
+                by_itself(value, environment),
+                environment.factor,
+            )
         }
     }
 }
 
 // The pieces of a line, from left to right.
-fn put_pieces(text: &mut Vec<u8>, pieces: &[Piece], moment: &Moment<'_>) -> Result<(), NoMemory>
+fn put_pieces(
+    text: &mut Vec<u8>,
+    pieces: &[Piece],
+    environment: &Environment<'_>,
+) -> Result<(), NoMemory>
     ensures { OnOk result
-        (text.new.items ≡ text.old.items ++ spec.pieces_text moment.now pieces.now) }
+        (text.new.items ≡ text.old.items ++ spec.pieces_text environment.now pieces.now) }
 {
     for piece in pieces {
-        put_piece(text, piece, moment)?;
+        put_piece(text, piece, environment)?;
     }
     Ok(())
 }
 
 /// Puts a line behind the text, with its line feed: what its pieces show at this moment (17.1.1). The error is want of memory, E901;
 /// nothing is said of the text then.
-pub fn put_line(text: &mut Vec<u8>, pieces: &[Piece], moment: &Moment<'_>) -> Result<(), NoMemory>
-    ensures { OnOk result (text.new.items ≡ text.old.items ++ spec.line_of moment.now pieces.now) }
+pub fn put_line(
+    text: &mut Vec<u8>,
+    pieces: &[Piece],
+    environment: &Environment<'_>,
+) -> Result<(), NoMemory>
+    ensures { OnOk result (text.new.items ≡ text.old.items ++ spec.line_of environment.now pieces.now) }
 {
-    put_pieces(text, pieces, moment)?;
+    put_pieces(text, pieces, environment)?;
     text.push(b'\n')?;
     Ok(())
 }
@@ -68,13 +85,13 @@ fn put_if_watched(
     values: &mut Vec<Vec4>,
     watched: bool,
     value: &Expression,
-    moment: &Moment<'_>,
+    environment: &Environment<'_>,
 ) -> Result<(), NoMemory>
     ensures { OnOk result
-        (values.new.items ≡ values.old.items ++ spec.watched_one moment.now watched value.now) }
+        (values.new.items ≡ values.old.items ++ spec.watched_one environment.now watched value.now) }
 {
     if watched {
-        values.push(by_itself(value, moment))?;
+        values.push(by_itself(value, environment))?;
     }
     Ok(())
 }
@@ -82,14 +99,14 @@ fn put_if_watched(
 fn put_watched_of(
     values: &mut Vec<Vec4>,
     piece: &Piece,
-    moment: &Moment<'_>,
+    environment: &Environment<'_>,
 ) -> Result<(), NoMemory>
     ensures { OnOk result
-        (values.new.items ≡ values.old.items ++ spec.watched_in moment.now piece.now) }
+        (values.new.items ≡ values.old.items ++ spec.watched_in environment.now piece.now) }
 {
     match piece {
         Piece::Text(_) => Ok(()),
-        Piece::Value { watched, value, .. } => put_if_watched(values, *watched, value, moment),
+        Piece::Value { watched, value, .. } => put_if_watched(values, *watched, value, environment),
     }
 }
 
@@ -98,13 +115,13 @@ fn put_watched_of(
 pub fn put_watched(
     values: &mut Vec<Vec4>,
     pieces: &[Piece],
-    moment: &Moment<'_>,
+    environment: &Environment<'_>,
 ) -> Result<(), NoMemory>
     ensures { OnOk result
-        (values.new.items ≡ values.old.items ++ spec.watched moment.now pieces.now) }
+        (values.new.items ≡ values.old.items ++ spec.watched environment.now pieces.now) }
 {
     for piece in pieces {
-        put_watched_of(values, piece, moment)?;
+        put_watched_of(values, piece, environment)?;
     }
     Ok(())
 }

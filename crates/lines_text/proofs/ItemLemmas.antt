@@ -2,14 +2,14 @@
 use Rattle.std.proofs.Common.{◌≡◌, ◌<◌, ◌≤◌, ◌+◌, ℕ, List, [], ◌∷◌, length, drop, get_or, sym, subst}
 use Rattle.std.proofs.lemmas.List.{drop_all}
 use Rattle.basis.specs.declared.memory.OrMemory.{OrMemory}
-use Rattle.vcd_text.specs.Outlets.{IsOutlet}
+use Rattle.vcd_text.specs.ByteSinks.{IsByteSink}
 use Rattle.vcd_text.proofs.ItemLemmas.{left_items}
 use Rattle.vmodel.specs.declared.history.Item.{Item}
 use Rattle.lines_text.specs.declared.sink.LinesSink.{LinesSink}
 use Rattle.lines_text.specs.Sinks.{Takes, Fails}
 use Rattle.lines_text.specs.SinkLaws.{takes_none, takes_joins, fails_after, fails_before}
 
-module _ {O F : Type 0} (takes : O → List ℕ → O → Type 0) (fails : O → List ℕ → F → O → Type 0) (laws : IsOutlet takes fails) where
+module _ {O F : Type 0} (takes : O → List ℕ → O → Type 0) (fails : O → List ℕ → F → O → Type 0) (laws : IsByteSink takes fails) where
   -- one item is taken, and then the rest
   pub takes_on : (s t u : LinesSink O) (items : List Item) (i : ℕ) (item : Item) → item ≡ get_or items i item →
       i < length items → Takes takes s (item ∷ []) t → Takes takes t (drop (i + 1) items) u →

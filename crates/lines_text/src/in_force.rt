@@ -10,7 +10,7 @@ use std::alloc::Global;
 use vbits::Vec4;
 use vdesign::design::Design;
 use vmodel::values::Values;
-use vmodel::{moment_at, pieces_at};
+use vmodel::{environment_at, pieces_at};
 
 /// Which monitor is in force, and what it last showed (17.1.3).
 #[derive(Drop)]
@@ -20,24 +20,24 @@ pub enum InForce {
     /// That of this place, called in the slot that runs.
     Called(usize),
     /// That of this place, with the values of its arguments when it last printed.
-    Told { place: usize, values: Values },
+    Printed { place: usize, values: Values },
 }
 
 /// What the arguments of the monitor of this place are at a time, but for a bare `$time`.
-pub(crate) fn seen_at(
+pub(crate) fn watched_values(
     alloc: Global,
     design: &Design,
     place: usize,
     time: u64,
     values: &[Vec4],
 ) -> Result<Values, NoMemory>
-    ensures { IfOk result (λ seen. seen ≡ spec.seen design.now place time values.now) }
+    ensures { IfOk result (λ watched_values. watched_values ≡ spec.watched_values design.now place time values.now) }
 {
     let mut list = Vec::new(alloc);
     put_watched(
         &mut list,
         pieces_at(design, place),
-        &moment_at(design, values, time),
+        &environment_at(design, values, time),
     )?;
     Values::from_slice(alloc, &list)
 }
@@ -56,7 +56,7 @@ pub(crate) fn line_at(
     put_line(
         &mut text,
         pieces_at(design, place),
-        &moment_at(design, values, time),
+        &environment_at(design, values, time),
     )?;
     Ok(text)
 }
@@ -73,8 +73,12 @@ fn due_again(
     ensures { IfOk result (λ due.
         due ≡ spec.due_again design.now place last.now time values.now) }
 {
-    let seen = seen_at(alloc, design, place, time, values)?;
-    Ok(if *last == seen { None } else { Some(place) })
+    let watched_values = watched_values(alloc, design, place, time, values)?;
+    Ok(if *last == watched_values {
+        None
+    } else {
+        Some(place)
+    })
 }
 
 /// The place of the monitor that prints at the end of a slot, if one does.
@@ -90,7 +94,7 @@ pub(crate) fn due(
     match in_force {
         InForce::Nobody => Ok(None),
         InForce::Called(place) => Ok(Some(*place)),
-        InForce::Told {
+        InForce::Printed {
             place,
             values: last,
         } => due_again(alloc, design, *place, last, time, values),

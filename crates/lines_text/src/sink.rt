@@ -2,44 +2,44 @@
 
 ghost use Rattle.std.specs.Prelude.{◌≡◌, [], ◌∷◌, OnOk, IfErr};
 ghost use Rattle.vmodel.specs.declared.history.Item.TheVariants.{SlotEnd, Line};
-ghost use Rattle.vcd_text.specs.Outlets.{Stopped};
+ghost use Rattle.vcd_text.specs.ByteSinks.{Stopped};
 ghost use Rattle.lines_text.specs.declared.in_force.InForce.TheVariants.{Nobody};
 ghost use Rattle.lines_text.specs.LinesText.{line_at as line_text_at};
 
-use crate::in_force::{InForce, due, line_at, seen_at};
+use crate::in_force::{InForce, due, line_at, watched_values};
 use basis::OrMemory;
 use std::alloc::Global;
 use vbits::Vec4;
-use vcd_text::{Outlet, put};
+use vcd_text::{ByteSink, put};
 use vdesign::design::Design;
 use vmodel::history::Item;
 use vmodel::sink::Sink;
 
 /// Writes the printed lines of a run as its items come: each line of `$display` and `$strobe` where it stands, and the line of the
 /// monitor in force at the end of its own slot and of each later one in which an argument changed (17.1; docs/FORMATS.md, "Lines").
-/// After a fault no more may be handed to it. `into_outlet` gives back what the lines are written to.
+/// After a fault no more may be handed to it. `into_byte_sink` gives back what the lines are written to.
 #[derive(Drop)]
 pub struct LinesSink<'a, O> {
     alloc: Global,
     design: &'a Design,
-    outlet: &'a mut O,
+    byte_sink: &'a mut O,
     in_force: InForce,
 }
 
-impl<'a, O: Outlet> LinesSink<'a, O> {
+impl<'a, O: ByteSink> LinesSink<'a, O> {
     ghost use Rattle.lines_text.specs.Sinks.{Takes, Fails, IsSameSink, Tells};
 
     /// Lines of which none has come yet.
-    pub fn new(alloc: Global, design: &'a Design, outlet: &'a mut O) -> LinesSink<'a, O>
-        ensures same_outlet { result.outlet.ghost_name ≡ outlet.entry.ghost_name }
-        ensures unwritten { result.outlet.now ≡ outlet.old }
+    pub fn new(alloc: Global, design: &'a Design, byte_sink: &'a mut O) -> LinesSink<'a, O>
+        ensures same_byte_sink { result.byte_sink.ghost_name ≡ byte_sink.entry.ghost_name }
+        ensures unwritten { result.byte_sink.now ≡ byte_sink.old }
         ensures design { result.design.now ≡ design.now }
         ensures in_force { result.in_force ≡ Nobody }
     {
         LinesSink {
             alloc,
             design,
-            outlet,
+            byte_sink,
             in_force: InForce::Nobody,
         }
     }
@@ -49,14 +49,14 @@ impl<'a, O: Outlet> LinesSink<'a, O> {
         ensures ok { OnOk result (Tells O.takes self.old place time values.now self.new) }
         ensures same { IsSameSink self.old self.new }
         ensures err { IfErr result (λ fault.
-            Stopped O.takes O.fails self.old.outlet.now
-            (line_text_at self.old.design.now place time values.now) fault self.new.outlet.now) }
+            Stopped O.takes O.fails self.old.byte_sink.now
+            (line_text_at self.old.design.now place time values.now) fault self.new.byte_sink.now) }
     {
         let text = line_at(self.alloc, self.design, place, time, values)?;
-        let values = seen_at(self.alloc, self.design, place, time, values)?;
-        match put(self.outlet, &text) {
+        let values = watched_values(self.alloc, self.design, place, time, values)?;
+        match put(self.byte_sink, &text) {
             Ok(()) => {
-                self.in_force = InForce::Told { place, values };
+                self.in_force = InForce::Printed { place, values };
                 Ok(())
             }
             Err(fault) => Err(fault),
@@ -81,7 +81,7 @@ impl<'a, O: Outlet> LinesSink<'a, O> {
         ensures err { IfErr result (λ fault.
             Fails O.takes O.fails self.old (Line bytes.now ∷ []) fault self.new) }
     {
-        put(self.outlet, bytes)
+        put(self.byte_sink, bytes)
     }
 
     // The next item.
@@ -102,21 +102,21 @@ impl<'a, O: Outlet> LinesSink<'a, O> {
     }
 
     /// What the lines are written to, with all that it took.
-    pub fn into_outlet(self) -> &'a mut O
-        ensures same_outlet { result.ghost_name ≡ self.entry.outlet.ghost_name }
-        ensures written { result.now ≡ self.entry.outlet.now }
+    pub fn into_byte_sink(self) -> &'a mut O
+        ensures same_byte_sink { result.ghost_name ≡ self.entry.byte_sink.ghost_name }
+        ensures written { result.now ≡ self.entry.byte_sink.now }
     {
         let LinesSink {
             alloc: _,
             design: _,
-            outlet,
+            byte_sink,
             in_force: _,
         } = self;
-        outlet
+        byte_sink
     }
 }
 
-impl<'a, O: Outlet> Sink for LinesSink<'a, O> {
+impl<'a, O: ByteSink> Sink for LinesSink<'a, O> {
     ghost use Rattle.lines_text.specs.Sinks.{Takes, Fails};
     ghost use Rattle.lines_text.specs.SinkLaws.{takes_none, takes_joins, fails_after};
 

@@ -17,7 +17,7 @@ use Rattle.std.proofs.lemmas.Option.{slice_get-map, slice_get_within, get_or_fro
 use Rattle.vbits.specs.declared.bit4.Bit4.TheVariants.{X}
 use Rattle.vbits.specs.Vectors.{Vector, filled}
 use Rattle.racebook.specs.Order.{IsEarlier, AreInTextOrder}
-use Rattle.racebook.specs.Inner.{key_of, key_cmp, HasBestAt, IsBestAt, KeepsBest, AreBest, HasValue, sighted}
+use Rattle.racebook.specs.Inner.{key_of, key_cmp, HasBestAt, IsBestAt, KeepsBest, AreBest, HasValue, row_of_entry}
 use Rattle.racebook.proofs.KeyLemmas.{key_tells}
 use Rattle.racebook.proofs.ListLemmas.{contains_at, at_contains}
 
@@ -142,8 +142,8 @@ best_put rows n row f g at best fewer puts = λ key. rw (puts key) (put_key rows
 
 -- ---- the list
 
-pub sighted_is : (rows : List (Vector × List (ℕ × ℕ))) (e : (ℕ × ℕ) × ℕ) (row : Vector × List (ℕ × ℕ)) → slice_get rows e.1 ≡ Some row → sighted rows e ≡ row
-sighted_is rows e row at = ap (λ o. unwrap_or o (filled 1 X, [])) at
+pub row_of_entry_is : (rows : List (Vector × List (ℕ × ℕ))) (e : (ℕ × ℕ) × ℕ) (row : Vector × List (ℕ × ℕ)) → slice_get rows e.1 ≡ Some row → row_of_entry rows e ≡ row
+row_of_entry_is rows e row at = ap (λ o. unwrap_or o (filled 1 X, [])) at
 
 at_entry : (f : (ℕ × ℕ) × ℕ → Vector × List (ℕ × ℕ)) (es : List ((ℕ × ℕ) × ℕ)) (i : ℕ) (s : Vector × List (ℕ × ℕ)) → slice_get (map f es) i ≡ Some s →
     (e : (ℕ × ℕ) × ℕ) × (slice_get es i ≡ Some e) × (f e ≡ s)
@@ -165,20 +165,20 @@ record Listed (rows : List (Vector × List (ℕ × ℕ))) (es : List ((ℕ × �
   is : best.row ≡ s
 
 listed : (rows : List (Vector × List (ℕ × ℕ))) (m : BTreeMap (ℕ × ℕ) ℕ) → KeepsBest rows m → IsOrdered key_cmp m → (i : ℕ) (s : Vector × List (ℕ × ℕ)) →
-    slice_get (map (sighted rows) m.entries) i ≡ Some s → Listed rows m.entries i s
+    slice_get (map (row_of_entry rows) m.entries) i ≡ Some s → Listed rows m.entries i s
 listed rows m best order i s at =
-    let p = at_entry (sighted rows) m.entries i s at in
+    let p = at_entry (row_of_entry rows) m.entries i s at in
     let b = best_entry rows m best order i p.0 p.1 in
-    record { entry = p.0; at = p.1; best = b; is = sym (sighted_is rows p.0 b.row b.at) ∙ p.2 }
+    record { entry = p.0; at = p.1; best = b; is = sym (row_of_entry_is rows p.0 b.row b.at) ∙ p.2 }
 
 has_value : (rows : List (Vector × List (ℕ × ℕ))) (m : BTreeMap (ℕ × ℕ) ℕ) (j : ℕ) (r : Vector × List (ℕ × ℕ)) (o : Option ℕ) → get key_cmp m (key_of r.0) ≡ o →
-    HasBestAt rows (length rows) (key_of r.0) o → slice_get rows j ≡ Some r → HasValue (map (sighted rows) m.entries) r.0
+    HasBestAt rows (length rows) (key_of r.0) o → slice_get rows j ≡ Some r → HasValue (map (row_of_entry rows) m.entries) r.0
 has_value rows m j r None found best at = absurd (best j r (slice_get_within rows j r at) at refl)
 has_value rows m j r (Some h) found best at =
     let p = place_from_lookup (λ (k : ℕ × ℕ). is_eq (key_cmp (key_of r.0) k)) m.entries h found in
-    let here : slice_get (map (sighted rows) m.entries) p.0 ≡ Some (sighted rows (p.1, h)) = slice_get-map (sighted rows) m.entries p.0 ∙ ap (option_map (sighted rows)) p.2 in
-    let row : sighted rows (p.1, h) ≡ best.row = sighted_is rows (p.1, h) best.row best.at in
-    (p.0, sighted rows (p.1, h), here, ap (λ (x : Vector × List (ℕ × ℕ)). x.0) row ∙ key_tells best.row.0 r.0 best.key_is)
+    let here : slice_get (map (row_of_entry rows) m.entries) p.0 ≡ Some (row_of_entry rows (p.1, h)) = slice_get-map (row_of_entry rows) m.entries p.0 ∙ ap (option_map (row_of_entry rows)) p.2 in
+    let row : row_of_entry rows (p.1, h) ≡ best.row = row_of_entry_is rows (p.1, h) best.row best.at in
+    (p.0, row_of_entry rows (p.1, h), here, ap (λ (x : Vector × List (ℕ × ℕ)). x.0) row ∙ key_tells best.row.0 r.0 best.key_is)
 
 key_listed : (rows : List (Vector × List (ℕ × ℕ))) (es : List ((ℕ × ℕ) × ℕ)) (i : ℕ) (s : Vector × List (ℕ × ℕ)) (l : Listed rows es i s) → key_of s.0 ≡ l.entry.0
 key_listed rows es i s l = ap (λ (x : Vector × List (ℕ × ℕ)). key_of x.0) (sym l.is) ∙ l.best.key_is
@@ -194,7 +194,7 @@ keys_rise ks i j a b order lt at at' =
     let less' : key_cmp a (get_or ks j a) ≡ Less = subst (λ (k : ℕ × ℕ). key_cmp k (get_or ks j a) ≡ Less) one less in
     subst (λ (k : ℕ × ℕ). key_cmp a k ≡ Less) other less'
 
-values_in_order : (rows : List (Vector × List (ℕ × ℕ))) (m : BTreeMap (ℕ × ℕ) ℕ) → KeepsBest rows m → IsOrdered key_cmp m → AreInTextOrder (map (sighted rows) m.entries)
+values_in_order : (rows : List (Vector × List (ℕ × ℕ))) (m : BTreeMap (ℕ × ℕ) ℕ) → KeepsBest rows m → IsOrdered key_cmp m → AreInTextOrder (map (row_of_entry rows) m.entries)
 values_in_order rows m best order = λ i j s t lt at at'.
     let p = listed rows m best order i s at in
     let q = listed rows m best order j t at' in
@@ -207,7 +207,7 @@ values_in_order rows m best order = λ i j s t lt at at'.
     key_earlier (key_of s.0) (key_of t.0) less''
 
 pub list_best : (rows : List (Vector × List (ℕ × ℕ))) (m : BTreeMap (ℕ × ℕ) ℕ) (values : List (Vector × List (ℕ × ℕ))) →
-    values ≡ map (sighted rows) m.entries → KeepsBest rows m → IsOrdered key_cmp m → AreBest rows values
+    values ≡ map (row_of_entry rows) m.entries → KeepsBest rows m → IsOrdered key_cmp m → AreBest rows values
 list_best rows m values is best order = subst (λ (xs : List (Vector × List (ℕ × ℕ))). AreBest rows xs) (sym is) (record {
   seen = λ i s at.
       (let p = listed rows m best order i s at in
@@ -232,21 +232,21 @@ noted_within rows n f key p best noted =
 
 -- ---- going through the entries
 
-pub list_start : (rows items all : List (Vector × List (ℕ × ℕ))) (it es : List ((ℕ × ℕ) × ℕ)) → items ≡ [] → it ≡ es → map (sighted rows) es ≡ all →
-    items ++ map (sighted rows) it ≡ all
+pub list_start : (rows items all : List (Vector × List (ℕ × ℕ))) (it es : List ((ℕ × ℕ) × ℕ)) → items ≡ [] → it ≡ es → map (row_of_entry rows) es ≡ all →
+    items ++ map (row_of_entry rows) it ≡ all
 list_start rows items all it es nothing start is = rw (nothing, start) is
 
 pub list_step : (rows xs new all : List (Vector × List (ℕ × ℕ))) (it rest : List ((ℕ × ℕ) × ℕ)) (e : (ℕ × ℕ) × ℕ) (row : Vector × List (ℕ × ℕ)) → it ≡ e ∷ rest →
-    xs ++ map (sighted rows) it ≡ all → sighted rows e ≡ row → new ≡ xs ++ row ∷ [] → new ++ map (sighted rows) rest ≡ all
+    xs ++ map (row_of_entry rows) it ≡ all → row_of_entry rows e ≡ row → new ≡ xs ++ row ∷ [] → new ++ map (row_of_entry rows) rest ≡ all
 list_step rows xs new all it rest e row head so_far is pushed =
-    let one : new ++ map (sighted rows) rest ≡ (xs ++ row ∷ []) ++ map (sighted rows) rest = ap (λ ys. ys ++ map (sighted rows) rest) pushed in
-    let two : (xs ++ row ∷ []) ++ map (sighted rows) rest ≡ xs ++ (row ∷ map (sighted rows) rest) = append_assoc xs (row ∷ []) (map (sighted rows) rest) in
-    let three : xs ++ (row ∷ map (sighted rows) rest) ≡ xs ++ map (sighted rows) (e ∷ rest) = ap (λ r. xs ++ (r ∷ map (sighted rows) rest)) (sym is) in
-    let four : xs ++ map (sighted rows) (e ∷ rest) ≡ xs ++ map (sighted rows) it = ap (λ es. xs ++ map (sighted rows) es) (sym head) in
+    let one : new ++ map (row_of_entry rows) rest ≡ (xs ++ row ∷ []) ++ map (row_of_entry rows) rest = ap (λ ys. ys ++ map (row_of_entry rows) rest) pushed in
+    let two : (xs ++ row ∷ []) ++ map (row_of_entry rows) rest ≡ xs ++ (row ∷ map (row_of_entry rows) rest) = append_assoc xs (row ∷ []) (map (row_of_entry rows) rest) in
+    let three : xs ++ (row ∷ map (row_of_entry rows) rest) ≡ xs ++ map (row_of_entry rows) (e ∷ rest) = ap (λ r. xs ++ (r ∷ map (row_of_entry rows) rest)) (sym is) in
+    let four : xs ++ map (row_of_entry rows) (e ∷ rest) ≡ xs ++ map (row_of_entry rows) it = ap (λ es. xs ++ map (row_of_entry rows) es) (sym head) in
     one ∙ two ∙ three ∙ four ∙ so_far
 
-pub list_done : (rows xs all : List (Vector × List (ℕ × ℕ))) (it : List ((ℕ × ℕ) × ℕ)) → it ≡ [] → xs ++ map (sighted rows) it ≡ all → xs ≡ all
-list_done rows xs all it over so_far = sym (append-nil xs) ∙ sym (ap (λ es. xs ++ map (sighted rows) es) over) ∙ so_far
+pub list_done : (rows xs all : List (Vector × List (ℕ × ℕ))) (it : List ((ℕ × ℕ) × ℕ)) → it ≡ [] → xs ++ map (row_of_entry rows) it ≡ all → xs ≡ all
+list_done rows xs all it over so_far = sym (append-nil xs) ∙ sym (ap (λ es. xs ++ map (row_of_entry rows) es) over) ∙ so_far
 
 pub first_of : (it rest : List ((ℕ × ℕ) × ℕ)) (e : (ℕ × ℕ) × ℕ) → it ≡ e ∷ rest → slice_get it 0 ≡ Some e
 first_of it rest e head = ap (λ es. slice_get es 0) head

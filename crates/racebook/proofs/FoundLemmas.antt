@@ -1,4 +1,4 @@
--- Glimpses and the runs that they are of.
+-- Slot states and the runs that they are of.
 use Rattle.std.proofs.Common.{◌≡◌, ℕ, ◌+◌, ◌<◌, ◌≤◌, ◌⊎◌, ◌==◌, ◌&&◌, ◌||◌, Bool, true, false, cond, is_some, is_none, List, [], ◌∷◌, ◌++◌, length, slice_get, get_or, Option, Some, None, refl, sym, ap, ◌∙◌, subst, inl, inr, arith}
 use Rattle.std.specs.List.Sorted.{IsNonDecreasingBy, IsPermutation}
 use Rattle.std.proofs.lemmas.Bool.{cases_lt}
@@ -15,13 +15,13 @@ use Rattle.vmodel.specs.declared.history.Cause.{Cause}
 use Rattle.vmodel.specs.State.{State}
 use Rattle.vmodel.specs.Run.{Setting, rules_of, state_after, is_mark}
 use Rattle.vmodel.specs.Kept.{IsSlotEnd}
-use Rattle.vmachine.specs.declared.standing.Standing.{Standing}
+use Rattle.vmachine.specs.declared.machine_state.MachineState.{MachineState}
 use Rattle.vmachine.specs.Machines.{Stands, machine_rules}
 use Rattle.vmachine.specs.Reads.{slot_in}
-use Rattle.racebook.specs.declared.glimpse.Glimpse.{Glimpse}
+use Rattle.racebook.specs.declared.slot_state.SlotState.{SlotState}
 use Rattle.racebook.specs.Order.{AreInTextOrder, IsTextBefore}
-use Rattle.racebook.specs.Races.{Race, EachRace, HasFewest, IsRace, ShowsValue, IsSighting, ListsEveryValue, ListsValue}
-use Rattle.racebook.specs.Inner.{AreAll, AreGlimpses, AreGlimpsesBelow, AreInTime, AreWide, Disagree, IsGlimpse, IsNoSlot, IsOfSome, IsSeen}
+use Rattle.racebook.specs.Races.{Race, EachRace, HasFewest, IsRace, ShowsValue, IsWitness, ListsEveryValue, ListsValue}
+use Rattle.racebook.specs.Inner.{AreAll, AreSlotStates, AreSlotStatesBelow, AreInTime, AreWide, Disagree, IsSlotState, IsNoSlot, IsOfSome, IsSeen}
 
 -- ---- what stands at the end of a slot
 
@@ -74,7 +74,7 @@ mark_of : (setting : Setting) (t : State) → (rules_of setting).mark t ≡ is_m
 unfolding rules_of
 mark_of setting t = refl
 
--- ---- all glimpses
+-- ---- all slot states
 
 below_next : (i n : ℕ) → i < n + 1 → (i < n) ⊎ (i ≡ n)
 below_next i n lt = elim (cases_lt i n) [
@@ -82,9 +82,9 @@ below_next i n lt = elim (cases_lt i n) [
   | inr from ↦ inr (omega arith)
 ]
 
-pub glimpses_none : (setting : Setting) (marks : List (Standing × List (ℕ × ℕ))) (gs new : List Glimpse) (place : ℕ) → new ≡ gs → slice_get marks place ≡ None →
-    AreGlimpsesBelow setting marks place gs → AreGlimpsesBelow setting marks (place + 1) new
-glimpses_none setting marks gs new place is none below = subst (λ (xs : List Glimpse). AreGlimpsesBelow setting marks (place + 1) xs) (sym is) (record {
+pub slot_states_none : (setting : Setting) (marks : List (MachineState × List (ℕ × ℕ))) (gs new : List SlotState) (place : ℕ) → new ≡ gs → slice_get marks place ≡ None →
+    AreSlotStatesBelow setting marks place gs → AreSlotStatesBelow setting marks (place + 1) new
+slot_states_none setting marks gs new place is none below = subst (λ (xs : List SlotState). AreSlotStatesBelow setting marks (place + 1) xs) (sym is) (record {
   each = below.each;
   whole = λ i found t time lt at st wide slot. elim (below_next i place lt) [
     | inl before ↦ below.whole i found t time before at st wide slot
@@ -92,60 +92,60 @@ glimpses_none setting marks gs new place is none below = subst (λ (xs : List Gl
   ];
 })
 
-same_found : (marks : List (Standing × List (ℕ × ℕ))) (i place : ℕ) (f g : Standing × List (ℕ × ℕ)) → i ≡ place → slice_get marks i ≡ Some f → slice_get marks place ≡ Some g → g ≡ f
+same_found : (marks : List (MachineState × List (ℕ × ℕ))) (i place : ℕ) (f g : MachineState × List (ℕ × ℕ)) → i ≡ place → slice_get marks i ≡ Some f → slice_get marks place ≡ Some g → g ≡ f
 same_found marks i place f g here at at' = same_Some g f (sym at' ∙ ap (slice_get marks) (sym here) ∙ at)
 
-pub glimpses_skip : (setting : Setting) (marks : List (Standing × List (ℕ × ℕ))) (gs new : List Glimpse) (place : ℕ) (mark : Standing × List (ℕ × ℕ)) → new ≡ gs →
-    slice_get marks place ≡ Some mark → IsNoSlot setting mark.0 → AreGlimpsesBelow setting marks place gs → AreGlimpsesBelow setting marks (place + 1) new
-glimpses_skip setting marks gs new place mark is mark_at plain below = subst (λ (xs : List Glimpse). AreGlimpsesBelow setting marks (place + 1) xs) (sym is) (record {
+pub slot_states_skip : (setting : Setting) (marks : List (MachineState × List (ℕ × ℕ))) (gs new : List SlotState) (place : ℕ) (mark : MachineState × List (ℕ × ℕ)) → new ≡ gs →
+    slice_get marks place ≡ Some mark → IsNoSlot setting mark.0 → AreSlotStatesBelow setting marks place gs → AreSlotStatesBelow setting marks (place + 1) new
+slot_states_skip setting marks gs new place mark is mark_at plain below = subst (λ (xs : List SlotState). AreSlotStatesBelow setting marks (place + 1) xs) (sym is) (record {
   each = below.each;
   whole = λ i found t time lt at st wide slot. elim (below_next i place lt) [
     | inl before ↦ below.whole i found t time before at st wide slot
     | inr here ↦ absurd (
         let e : mark ≡ found = same_found marks i place found mark here at mark_at in
-        let none : slot_in t ≡ None = subst (λ (x : Standing × List (ℕ × ℕ)). IsNoSlot setting x.0) e plain t st wide in cc)
+        let none : slot_in t ≡ None = subst (λ (x : MachineState × List (ℕ × ℕ)). IsNoSlot setting x.0) e plain t st wide in cc)
   ];
 })
 
-pub glimpses_more : (setting : Setting) (marks : List (Standing × List (ℕ × ℕ))) (gs new : List Glimpse) (place : ℕ) (mark : Standing × List (ℕ × ℕ)) (g : Glimpse) →
-    new ≡ gs ++ g ∷ [] → slice_get marks place ≡ Some mark → IsGlimpse setting mark g → AreGlimpsesBelow setting marks place gs →
-    AreGlimpsesBelow setting marks (place + 1) new
-glimpses_more setting marks gs new place mark g is mark_at of below = subst (λ (xs : List Glimpse). AreGlimpsesBelow setting marks (place + 1) xs) (sym is) (record {
+pub slot_states_more : (setting : Setting) (marks : List (MachineState × List (ℕ × ℕ))) (gs new : List SlotState) (place : ℕ) (mark : MachineState × List (ℕ × ℕ)) (g : SlotState) →
+    new ≡ gs ++ g ∷ [] → slice_get marks place ≡ Some mark → IsSlotState setting mark g → AreSlotStatesBelow setting marks place gs →
+    AreSlotStatesBelow setting marks (place + 1) new
+slot_states_more setting marks gs new place mark g is mark_at of below = subst (λ (xs : List SlotState). AreSlotStatesBelow setting marks (place + 1) xs) (sym is) (record {
   each = λ h has. elim (Contains-push_cases gs g h has) [
     | inl old ↦ below.each h old
-    | inr new ↦ subst (λ (x : Glimpse). IsOfSome setting marks x) new (record { place = place; found = mark; at = mark_at; of = of })
+    | inr new ↦ subst (λ (x : SlotState). IsOfSome setting marks x) new (record { place = place; found = mark; at = mark_at; of = of })
   ];
   whole = λ i found t time lt at st wide slot. elim (below_next i place lt) [
     | inl before ↦ (let h = below.whole i found t time before at st wide slot in
-        record { glimpse = h.glimpse; among = Contains-append_left gs (g ∷ []) h.glimpse h.among; of = h.of })
+        record { slot_state = h.slot_state; among = Contains-append_left gs (g ∷ []) h.slot_state h.among; of = h.of })
     | inr here ↦ (let e : mark ≡ found = same_found marks i place found mark here at mark_at in
-        record { glimpse = g; among = Contains-push gs g; of = subst (λ (x : Standing × List (ℕ × ℕ)). IsGlimpse setting x g) e of })
+        record { slot_state = g; among = Contains-push gs g; of = subst (λ (x : MachineState × List (ℕ × ℕ)). IsSlotState setting x g) e of })
   ];
 })
 
 -- in any order
-pub glimpses_moved : (setting : Setting) (marks : List (Standing × List (ℕ × ℕ))) (gs hs : List Glimpse) → IsPermutation gs hs → AreGlimpses setting marks gs → AreGlimpses setting marks hs
-glimpses_moved setting marks gs hs moved are = record {
+pub slot_states_moved : (setting : Setting) (marks : List (MachineState × List (ℕ × ℕ))) (gs hs : List SlotState) → IsPermutation gs hs → AreSlotStates setting marks gs → AreSlotStates setting marks hs
+slot_states_moved setting marks gs hs moved are = record {
   each = λ g has. are.each g (Contains-permutation hs gs g (IsPermutation-sym gs hs moved) has);
   whole = λ i found t time lt at st wide slot. (let h = are.whole i found t time lt at st wide slot in
-      record { glimpse = h.glimpse; among = Contains-permutation gs hs h.glimpse moved h.among; of = h.of });
+      record { slot_state = h.slot_state; among = Contains-permutation gs hs h.slot_state moved h.among; of = h.of });
 }
 
-pub glimpses_wide : (setting : Setting) (marks : List (Standing × List (ℕ × ℕ))) (gs : List Glimpse) → AreGlimpses setting marks gs → AreWide (length setting.design.variables) gs
-glimpses_wide setting marks gs are = λ g has. (are.each g has).of.wide
+pub slot_states_wide : (setting : Setting) (marks : List (MachineState × List (ℕ × ℕ))) (gs : List SlotState) → AreSlotStates setting marks gs → AreWide (length setting.design.variables) gs
+slot_states_wide setting marks gs are = λ g has. (are.each g has).of.wide
 
-pub in_time : (gs : List Glimpse) → IsNonDecreasingBy (λ (g : Glimpse). g.time) gs → AreInTime gs
+pub in_time : (gs : List SlotState) → IsNonDecreasingBy (λ (g : SlotState). g.time) gs → AreInTime gs
 in_time gs rise = λ i j g h le at at'.
     let within = slice_get_within gs j h at' in
     let up = rise i j g le within in
     let e : get_or gs i g ≡ g = get_or_from_slice_get gs i g g at in
     let f : get_or gs j g ≡ h = get_or_from_slice_get gs j h g at' in
-    subst (λ (x : Glimpse). g.time ≤ x.time) f (subst (λ (x : Glimpse). x.time ≤ (get_or gs j g).time) e up)
+    subst (λ (x : SlotState). g.time ≤ x.time) f (subst (λ (x : SlotState). x.time ≤ (get_or gs j g).time) e up)
 
--- ---- glimpses and runs
+-- ---- slot states and runs
 
 abbrev pub Alike : Setting → Type 0
-Alike setting = (s r : Standing) (t : State) → Stands setting s t → (machine_rules setting).same r s ≡ true → Stands setting r t
+Alike setting = (s r : MachineState) (t : State) → Stands setting s t → (machine_rules setting).same r s ≡ true → Stands setting r t
 
 abbrev pub AllStand : Setting → Type 0
 AllStand setting = (log : List (ℕ × ℕ)) (n : ℕ) → Stands setting (stands (machine_rules setting) log n) (state_after setting log n)
@@ -157,24 +157,24 @@ abbrev pub RunHere : Setting → Type 0
 RunHere setting = (log : List (ℕ × ℕ)) (n : ℕ) → IsRun (rules_of setting) log n → IsRun (machine_rules setting) log n
 
 abbrev pub MarkAlike : Setting → Type 0
-MarkAlike setting = (s : Standing) (t : State) → Stands setting s t → (machine_rules setting).mark s ≡ (rules_of setting).mark t
+MarkAlike setting = (s : MachineState) (t : State) → Stands setting s t → (machine_rules setting).mark s ≡ (rules_of setting).mark t
 
 abbrev pub HasVariables : Setting → Type 0
 HasVariables setting = (log : List (ℕ × ℕ)) (n : ℕ) → length (state_after setting log n).values ≡ length setting.design.variables
 
--- what is seen is a sighting
-pub seen_sighting : (setting : Setting) (limits : Limits) (marks : List (Standing × List (ℕ × ℕ))) (gs : List Glimpse) → Alike setting → AllStand setting → RunThere setting →
-    AreFound (machine_rules setting) limits marks → AreGlimpses setting marks gs → (time variable : ℕ) (v : Vector) (log : List (ℕ × ℕ)) → IsSeen gs time variable v log →
-    IsSighting setting limits time variable v log
-seen_sighting setting limits marks gs alike all there found are time variable v log seen =
-    let g = seen.glimpse in
+-- what is seen is a witness
+pub seen_witness : (setting : Setting) (limits : Limits) (marks : List (MachineState × List (ℕ × ℕ))) (gs : List SlotState) → Alike setting → AllStand setting → RunThere setting →
+    AreFound (machine_rules setting) limits marks → AreSlotStates setting marks gs → (time variable : ℕ) (v : Vector) (log : List (ℕ × ℕ)) → IsSeen gs time variable v log →
+    IsWitness setting limits time variable v log
+seen_witness setting limits marks gs alike all there found are time variable v log seen =
+    let g = seen.slot_state in
     let p = are.each g seen.among in
     let f = found p.place p.found p.at in
     let t = state_after setting p.found.1 f.steps in
     let st : Stands setting p.found.0 t = alike (stands (machine_rules setting) p.found.1 f.steps) p.found.0 t (all p.found.1 f.steps) f.at in
     let slot : IsSlotEnd g.time t.values t = slot_ends t g.time (p.of.slot t st) in
     let value : slice_get t.values variable ≡ Some v = ap (λ (xs : List Vector). slice_get xs variable) (sym (p.of.values_are t st)) ∙ seen.value_is in
-    let here : IsSighting setting limits g.time variable v p.found.1 = record {
+    let here : IsWitness setting limits g.time variable v p.found.1 = record {
       steps = f.steps;
       shown = record { run = there p.found.1 f.steps f.run; values = t.values; slot = slot; value_is = value };
       within = f.within;
@@ -182,16 +182,16 @@ seen_sighting setting limits marks gs alike all there found are time variable v 
       short = f.short;
     } in
     let log_is : p.found.1 ≡ log = sym p.of.log_is ∙ seen.log_is in
-    subst (λ (x : ℕ). IsSighting setting limits x variable v log) seen.time_is (subst (λ (x : List (ℕ × ℕ)). IsSighting setting limits g.time variable v x) log_is here)
+    subst (λ (x : ℕ). IsWitness setting limits x variable v log) seen.time_is (subst (λ (x : List (ℕ × ℕ)). IsWitness setting limits g.time variable v x) log_is here)
 
 -- what a run shows is seen, under a log of no more departures
-pub record IsSeenWithin (gs : List Glimpse) (time variable : ℕ) (v : Vector) (departures : ℕ) : Type 0 where
+pub record IsSeenWithin (gs : List SlotState) (time variable : ℕ) (v : Vector) (departures : ℕ) : Type 0 where
   pub log : List (ℕ × ℕ)
   pub seen : IsSeen gs time variable v log
   pub short : length log ≤ departures
 
-pub shown_seen : (setting : Setting) (depart : ℕ) (marks : List (Standing × List (ℕ × ℕ))) (gs : List Glimpse) → Alike setting → AllStand setting → RunHere setting → MarkAlike setting → HasVariables setting →
-    IsCovered (machine_rules setting) depart (IsListedMark (machine_rules setting) marks) → AreGlimpses setting marks gs →
+pub shown_seen : (setting : Setting) (depart : ℕ) (marks : List (MachineState × List (ℕ × ℕ))) (gs : List SlotState) → Alike setting → AllStand setting → RunHere setting → MarkAlike setting → HasVariables setting →
+    IsCovered (machine_rules setting) depart (IsListedMark (machine_rules setting) marks) → AreSlotStates setting marks gs →
     (time variable : ℕ) (v : Vector) (log : List (ℕ × ℕ)) (steps : ℕ) → length log ≤ depart → ShowsValue setting time variable v log steps → IsSeenWithin gs time variable v (length log)
 shown_seen setting depart marks gs alike all here mark_alike wide covered are time variable v log steps short shown =
     let s = stands (machine_rules setting) log steps in
@@ -201,12 +201,12 @@ shown_seen setting depart marks gs alike all here mark_alike wide covered are ti
     let st : Stands setting l.found.0 t = alike s l.found.0 t (all log steps) l.same in
     let slot : slot_in t ≡ Some time = ends_slot t time shown.values shown.slot in
     let h = are.whole l.place l.found t time (slice_get_within marks l.place l.found l.at) l.at st (wide log steps) slot in
-    let g = h.glimpse in
+    let g = h.slot_state in
     let values : g.values.now ≡ shown.values = h.of.values_are t st ∙ shown.slot.values_are in
     record {
       log = l.found.1;
       seen = record {
-        glimpse = g;
+        slot_state = g;
         among = h.among;
         time_is = same_Some g.time time (sym (h.of.slot t st) ∙ slot);
         value_is = ap (λ (xs : List Vector). slice_get xs variable) values ∙ shown.value_is;
@@ -224,18 +224,18 @@ itself v (inr same) = let lt = same.1 in omega arith
 not_itself : (v w : Vector) → IsTextBefore v w → v ≡ w → ⊥
 not_itself v w before e = itself v (subst (λ (x : Vector). IsTextBefore v x) (sym e) before)
 
-pub races_found : (setting : Setting) (limits : Limits) (marks : List (Standing × List (ℕ × ℕ))) (gs : List Glimpse) (races : List Race) → Alike setting → AllStand setting → RunThere setting →
-    AreFound (machine_rules setting) limits marks → AreGlimpses setting marks gs → AreAll gs races → EachRace (IsRace setting limits) races
+pub races_found : (setting : Setting) (limits : Limits) (marks : List (MachineState × List (ℕ × ℕ))) (gs : List SlotState) (races : List Race) → Alike setting → AllStand setting → RunThere setting →
+    AreFound (machine_rules setting) limits marks → AreSlotStates setting marks gs → AreAll gs races → EachRace (IsRace setting limits) races
 races_found setting limits marks gs races alike all there found are book = λ i race at.
     let r = book.each i race at in
     record {
       two = r.two;
       differ = λ i j s t lt here here'. not_itself s.0 t.0 (r.order i j s t lt here here');
-      seen = λ i s here. seen_sighting setting limits marks gs alike all there found are race.time race.variable s.0 s.1 (r.seen i s here);
+      seen = λ i s here. seen_witness setting limits marks gs alike all there found are race.time race.variable s.0 s.1 (r.seen i s here);
     }
 
--- where glimpses disagree, the race lists each value that is seen
-pub listed : (gs : List Glimpse) (races : List Race) → AreAll gs races → (time variable : ℕ) (value : Vector) (log : List (ℕ × ℕ)) →
+-- where slot states disagree, the race lists each value that is seen
+pub listed : (gs : List SlotState) (races : List Race) → AreAll gs races → (time variable : ℕ) (value : Vector) (log : List (ℕ × ℕ)) →
     Disagree gs time variable → IsSeen gs time variable value log → ListsValue races time variable value
 listed gs races book time variable value log two seen =
     let l = book.all time variable two in
@@ -250,13 +250,13 @@ listed gs races book time variable value log two seen =
       time_is = l.3;
       variable_is = l.4;
       value_place = v.0;
-      sighting = v.1;
+      witness = v.1;
       value_at = v.2;
       value_is = v.3;
     }
 
-pub races_all : (setting : Setting) (depart : ℕ) (marks : List (Standing × List (ℕ × ℕ))) (gs : List Glimpse) (races : List Race) → Alike setting → AllStand setting → RunHere setting → MarkAlike setting → HasVariables setting →
-    IsCovered (machine_rules setting) depart (IsListedMark (machine_rules setting) marks) → AreGlimpses setting marks gs → AreAll gs races → ListsEveryValue setting depart races
+pub races_all : (setting : Setting) (depart : ℕ) (marks : List (MachineState × List (ℕ × ℕ))) (gs : List SlotState) (races : List Race) → Alike setting → AllStand setting → RunHere setting → MarkAlike setting → HasVariables setting →
+    IsCovered (machine_rules setting) depart (IsListedMark (machine_rules setting) marks) → AreSlotStates setting marks gs → AreAll gs races → ListsEveryValue setting depart races
 races_all setting depart marks gs races alike all here mark_alike wide covered are book = λ time variable value differ shows.
     let see = shown_seen setting depart marks gs alike all here mark_alike wide covered are time variable in
     let one = see differ.one differ.shows_one.log differ.shows_one.steps differ.shows_one.short differ.shows_one.shown in
@@ -273,15 +273,15 @@ races_all setting depart marks gs races alike all here mark_alike wide covered a
     } in
     listed gs races book time variable value third.log two third.seen
 
-pub races_fewest : (setting : Setting) (limits : Limits) (marks : List (Standing × List (ℕ × ℕ))) (gs : List Glimpse) (races : List Race) → Alike setting → AllStand setting → RunThere setting → RunHere setting → MarkAlike setting → HasVariables setting →
+pub races_fewest : (setting : Setting) (limits : Limits) (marks : List (MachineState × List (ℕ × ℕ))) (gs : List SlotState) (races : List Race) → Alike setting → AllStand setting → RunThere setting → RunHere setting → MarkAlike setting → HasVariables setting →
     AreFound (machine_rules setting) limits marks → IsCovered (machine_rules setting) limits.depart (IsListedMark (machine_rules setting) marks) →
-    AreGlimpses setting marks gs → AreAll gs races → EachRace (HasFewest setting) races
+    AreSlotStates setting marks gs → AreAll gs races → EachRace (HasFewest setting) races
 races_fewest setting limits marks gs races alike all there here mark_alike wide found covered are book = λ i race at j s log steps at' shown.
     let r = book.each i race at in
     elim (cases_lt limits.depart (length log)) [
       | inl long ↦
-          let sighting = seen_sighting setting limits marks gs alike all there found are race.time race.variable s.0 s.1 (r.seen j s at') in
-          let short = sighting.short in
+          let witness = seen_witness setting limits marks gs alike all there found are race.time race.variable s.0 s.1 (r.seen j s at') in
+          let short = witness.short in
           omega arith
       | inr short ↦
           let seen = shown_seen setting limits.depart marks gs alike all here mark_alike wide covered are race.time race.variable s.0 log steps short shown in
@@ -290,5 +290,5 @@ races_fewest setting limits marks gs races alike all there here mark_alike wide 
           omega arith
     ]
 
-pub races_order : (gs : List Glimpse) (races : List Race) → AreAll gs races → EachRace (λ race. AreInTextOrder race.values) races
+pub races_order : (gs : List SlotState) (races : List Race) → AreAll gs races → EachRace (λ race. AreInTextOrder race.values) races
 races_order gs races book = λ i race at. (book.each i race at).order

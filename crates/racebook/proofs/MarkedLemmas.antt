@@ -4,23 +4,23 @@ use Rattle.std.proofs.lemmas.Option.{slice_get_within, same_Some}
 use Rattle.vbits.specs.Vectors.{Vector}
 use Rattle.explore.specs.declared.findings.Findings.{Findings}
 use Rattle.vmodel.specs.Run.{Setting}
-use Rattle.vmachine.specs.declared.standing.Standing.{Standing}
+use Rattle.vmachine.specs.declared.machine_state.MachineState.{MachineState}
 use Rattle.vmachine.specs.Reads.{slot_in}
-use Rattle.racebook.specs.declared.glimpse.Glimpse.{Glimpse}
+use Rattle.racebook.specs.declared.slot_state.SlotState.{SlotState}
 use Rattle.racebook.specs.Races.{Race, IsMarked, ListsEveryMark, ListsShortest}
-use Rattle.racebook.specs.Inner.{AreAll, AreGlimpsesOf, Disagree, IsSeen}
+use Rattle.racebook.specs.Inner.{AreAll, AreSlotStatesOf, Disagree, IsSeen}
 use Rattle.racebook.proofs.FoundLemmas.{ends_slot, listed}
 
-module _ (setting : Setting) (findings : Findings Standing) (gs : List Glimpse) (are : AreGlimpsesOf setting findings gs) where
+module _ (setting : Setting) (findings : Findings MachineState) (gs : List SlotState) (are : AreSlotStatesOf setting findings gs) where
   marked_seen : (time variable : ℕ) (value : Vector) (log : List (ℕ × ℕ)) → IsMarked setting findings time variable value log → IsSeen gs time variable value log
   marked_seen time variable value log mark =
       let slot : slot_in mark.state ≡ Some time = ends_slot mark.state time mark.state.values mark.slot in
       let within = slice_get_within findings.marks.entries mark.place mark.found mark.at in
       let h = are.whole mark.place mark.found mark.state time within mark.at mark.stands mark.wide slot in
       record {
-        glimpse = h.glimpse;
+        slot_state = h.slot_state;
         among = h.among;
-        time_is = same_Some h.glimpse.time time (sym (h.of.slot mark.state mark.stands) ∙ slot);
+        time_is = same_Some h.slot_state.time time (sym (h.of.slot mark.state mark.stands) ∙ slot);
         value_is = ap (λ (xs : List Vector). slice_get xs variable) (h.of.values_are mark.state mark.stands) ∙ mark.value_is;
         log_is = h.of.log_is ∙ mark.log_is;
       }

@@ -6,7 +6,7 @@ use Rattle.std.proofs.lemmas.List.{length-map}
 use Rattle.std.proofs.lemmas.Option.{slice_get-map, slice_get_within, slice_get-get_or, same_Some}
 use Rattle.vbits.specs.declared.bit4.Bit4.TheVariants.{X}
 use Rattle.vbits.specs.Vectors.{Vector, filled}
-use Rattle.racebook.specs.declared.glimpse.Glimpse.{Glimpse}
+use Rattle.racebook.specs.declared.slot_state.SlotState.{SlotState}
 use Rattle.racebook.specs.Order.{IsEarlier}
 use Rattle.racebook.specs.Races.{Race}
 use Rattle.racebook.specs.Inner.{AllSame, AreBest, AreUpTo, AreWide, Disagree, HasTwo, HasValue, HaveValue, IsRaceAmong, IsSeen, IsSlotOf, TellsRace, row_of, rows_of, value_in}
@@ -14,29 +14,29 @@ use Rattle.racebook.proofs.ListLemmas.{contains_at, at_contains}
 
 -- ---- rows
 
-row_place : (f : Glimpse → Vector × List (ℕ × ℕ)) (gs : List Glimpse) (i : ℕ) (r : Vector × List (ℕ × ℕ)) → slice_get (map f gs) i ≡ Some r →
-    (g : Glimpse) × (slice_get gs i ≡ Some g) × (f g ≡ r)
+row_place : (f : SlotState → Vector × List (ℕ × ℕ)) (gs : List SlotState) (i : ℕ) (r : Vector × List (ℕ × ℕ)) → slice_get (map f gs) i ≡ Some r →
+    (g : SlotState) × (slice_get gs i ≡ Some g) × (f g ≡ r)
 row_place f [] i r at = absurd (cc)
 row_place f (g ∷ gs) zero r at = (g, refl, same_Some (f g) r at)
 row_place f (g ∷ gs) (suc i) r at = row_place f gs i r at
 
-pub value_there : (variable : ℕ) (g : Glimpse) → variable < length g.values.now → slice_get g.values.now variable ≡ Some (value_in variable g)
+pub value_there : (variable : ℕ) (g : SlotState) → variable < length g.values.now → slice_get g.values.now variable ≡ Some (value_in variable g)
 value_there variable g lt =
     let at = slice_get-get_or g.values.now variable (filled 1 X) lt in
     at ∙ ap Some (sym (ap (λ o. unwrap_or o (filled 1 X)) at))
 
-value_of : (variable : ℕ) (g : Glimpse) (v : Vector) → slice_get g.values.now variable ≡ Some v → value_in variable g ≡ v
+value_of : (variable : ℕ) (g : SlotState) (v : Vector) → slice_get g.values.now variable ≡ Some v → value_in variable g ≡ v
 value_of variable g v at = ap (λ o. unwrap_or o (filled 1 X)) at
 
 -- a row of the slot is seen
-row_seen : (glimpses slot : List Glimpse) (time variable : ℕ) → IsSlotOf glimpses slot time → HaveValue variable slot → (r : Vector × List (ℕ × ℕ)) →
-    Contains (rows_of variable slot) r → IsSeen glimpses time variable r.0 r.1
-row_seen glimpses slot time variable of have r has =
+row_seen : (slot_states slot : List SlotState) (time variable : ℕ) → IsSlotOf slot_states slot time → HaveValue variable slot → (r : Vector × List (ℕ × ℕ)) →
+    Contains (rows_of variable slot) r → IsSeen slot_states time variable r.0 r.1
+row_seen slot_states slot time variable of have r has =
     let p = at_contains (rows_of variable slot) r has in
     let q = row_place (row_of variable) slot p.0 r p.1 in
     let here : Contains slot q.0 = contains_at slot p.0 q.0 q.1 in
     record {
-      glimpse = q.0;
+      slot_state = q.0;
       among = of.within q.0 here;
       time_is = of.time_is q.0 here;
       value_is = value_there variable q.0 (have q.0 here) ∙ ap (λ (x : Vector × List (ℕ × ℕ)). Some x.0) q.2;
@@ -44,13 +44,13 @@ row_seen glimpses slot time variable of have r has =
     }
 
 -- and what is seen is a row of the slot
-seen_row : (glimpses slot : List Glimpse) (time variable : ℕ) → IsSlotOf glimpses slot time → (v : Vector) (log : List (ℕ × ℕ)) →
-    IsSeen glimpses time variable v log → Contains (rows_of variable slot) (v, log)
-seen_row glimpses slot time variable of v log seen =
-    let here : Contains slot seen.glimpse = of.whole seen.glimpse seen.among seen.time_is in
-    let p = at_contains slot seen.glimpse here in
-    let value : value_in variable seen.glimpse ≡ v = value_of variable seen.glimpse v seen.value_is in
-    let row : row_of variable seen.glimpse ≡ (v, log) = λ i. (value i, seen.log_is i) in
+seen_row : (slot_states slot : List SlotState) (time variable : ℕ) → IsSlotOf slot_states slot time → (v : Vector) (log : List (ℕ × ℕ)) →
+    IsSeen slot_states time variable v log → Contains (rows_of variable slot) (v, log)
+seen_row slot_states slot time variable of v log seen =
+    let here : Contains slot seen.slot_state = of.whole seen.slot_state seen.among seen.time_is in
+    let p = at_contains slot seen.slot_state here in
+    let value : value_in variable seen.slot_state ≡ v = value_of variable seen.slot_state v seen.value_is in
+    let row : row_of variable seen.slot_state ≡ (v, log) = λ i. (value i, seen.log_is i) in
     contains_at (rows_of variable slot) p.0 (v, log) (slice_get-map (row_of variable) slot p.0 ∙ ap (option_map (row_of variable)) p.1 ∙ ap Some row)
 
 -- ---- one race
@@ -69,13 +69,13 @@ two_places values v w a b differ =
     ]
 
 -- at the race's own time and variable
-pub race_among : (glimpses slot : List Glimpse) (race : Race) → IsSlotOf glimpses slot race.time → HaveValue race.variable slot →
-    HasTwo (rows_of race.variable slot) → AreBest (rows_of race.variable slot) race.values → IsRaceAmong glimpses race
-race_among glimpses slot race of have two best = record {
+pub race_among : (slot_states slot : List SlotState) (race : Race) → IsSlotOf slot_states slot race.time → HaveValue race.variable slot →
+    HasTwo (rows_of race.variable slot) → AreBest (rows_of race.variable slot) race.values → IsRaceAmong slot_states race
+race_among slot_states slot race of have two best = record {
   two = two_places race.values two.one.0 two.other.0 (best.all two.one two.has_one) (best.all two.other two.has_other) two.differ;
-  seen = λ i s at. row_seen glimpses slot race.time race.variable of have s (best.seen i s at);
-  fewest = λ i s log at seen. best.fewest i s (s.0, log) at (seen_row glimpses slot race.time race.variable of s.0 log seen) refl;
-  all = λ value log seen. best.all (value, log) (seen_row glimpses slot race.time race.variable of value log seen);
+  seen = λ i s at. row_seen slot_states slot race.time race.variable of have s (best.seen i s at);
+  fewest = λ i s log at seen. best.fewest i s (s.0, log) at (seen_row slot_states slot race.time race.variable of s.0 log seen) refl;
+  all = λ value log seen. best.all (value, log) (seen_row slot_states slot race.time race.variable of value log seen);
   order = best.order;
 }
 
@@ -113,24 +113,24 @@ split t v time variable (inr same) =
       | inr not_before ↦ inr (same.0, omega arith)
     ]
 
-pub more_none : (glimpses : List Glimpse) (races : List Race) (time variable : ℕ) → AreUpTo glimpses races time variable →
-    (Disagree glimpses time variable → ⊥) → AreUpTo glimpses races time (variable + 1)
-more_none glimpses races time variable up agree = record {
+pub more_none : (slot_states : List SlotState) (races : List Race) (time variable : ℕ) → AreUpTo slot_states races time variable →
+    (Disagree slot_states time variable → ⊥) → AreUpTo slot_states races time (variable + 1)
+more_none slot_states races time variable up agree = record {
   each = up.each;
   before = λ i race at. later race.time race.variable time variable (up.before i race at);
   all = λ t v before differ. elim (split t v time variable before) [
     | inl earlier ↦ up.all t v earlier differ
-    | inr here ↦ absurd (agree (subst (λ (x : ℕ). Disagree glimpses time x) here.1 (subst (λ (x : ℕ). Disagree glimpses x v) here.0 differ)))
+    | inr here ↦ absurd (agree (subst (λ (x : ℕ). Disagree slot_states time x) here.1 (subst (λ (x : ℕ). Disagree slot_states x v) here.0 differ)))
   ];
   order = up.order;
 }
 
-pub more_race : (glimpses : List Glimpse) (races : List Race) (race : Race) → AreUpTo glimpses races race.time race.variable →
-    IsRaceAmong glimpses race → AreUpTo glimpses (races ++ race ∷ []) race.time (race.variable + 1)
-more_race glimpses races race up is = record {
+pub more_race : (slot_states : List SlotState) (races : List Race) (race : Race) → AreUpTo slot_states races race.time race.variable →
+    IsRaceAmong slot_states race → AreUpTo slot_states (races ++ race ∷ []) race.time (race.variable + 1)
+more_race slot_states races race up is = record {
   each = λ i a at. elim (push_place races race i a at) [
     | inl old ↦ up.each i a old
-    | inr new ↦ subst (λ (x : Race). IsRaceAmong glimpses x) new.1 is
+    | inr new ↦ subst (λ (x : Race). IsRaceAmong slot_states x) new.1 is
   ];
   before = λ i a at. elim (push_place races race i a at) [
     | inl old ↦ later a.time a.variable race.time race.variable (up.before i a old)
@@ -154,29 +154,29 @@ more_race glimpses races race up is = record {
 
 -- ---- one variable more
 
-disagree_not : (glimpses slot : List Glimpse) (time variable : ℕ) → IsSlotOf glimpses slot time → AllSame (rows_of variable slot) → Disagree glimpses time variable → ⊥
-disagree_not glimpses slot time variable of same d =
+disagree_not : (slot_states slot : List SlotState) (time variable : ℕ) → IsSlotOf slot_states slot time → AllSame (rows_of variable slot) → Disagree slot_states time variable → ⊥
+disagree_not slot_states slot time variable of same d =
     d.differ (same (d.one, d.log) (d.other, d.other_log)
-    (seen_row glimpses slot time variable of d.one d.log d.sees_one)
-    (seen_row glimpses slot time variable of d.other d.other_log d.sees_other))
+    (seen_row slot_states slot time variable of d.one d.log d.sees_one)
+    (seen_row slot_states slot time variable of d.other d.other_log d.sees_other))
 
-up_by_none : (glimpses slot : List Glimpse) (races : List Race) (time variable : ℕ) (o : Option Race) → IsSlotOf glimpses slot time →
-    AreUpTo glimpses races time variable → TellsRace (rows_of variable slot) time variable o → o ≡ None → AreUpTo glimpses races time (variable + 1)
-up_by_none glimpses slot races time variable None of up tells e = more_none glimpses races time variable up (disagree_not glimpses slot time variable of tells)
-up_by_none glimpses slot races time variable (Some race) of up tells e = absurd (cc)
+up_by_none : (slot_states slot : List SlotState) (races : List Race) (time variable : ℕ) (o : Option Race) → IsSlotOf slot_states slot time →
+    AreUpTo slot_states races time variable → TellsRace (rows_of variable slot) time variable o → o ≡ None → AreUpTo slot_states races time (variable + 1)
+up_by_none slot_states slot races time variable None of up tells e = more_none slot_states races time variable up (disagree_not slot_states slot time variable of tells)
+up_by_none slot_states slot races time variable (Some race) of up tells e = absurd (cc)
 
-pub slot_same : (glimpses slot : List Glimpse) (races new : List Race) (time variable : ℕ) (o : Option Race) → new ≡ races → o ≡ None → IsSlotOf glimpses slot time →
-    AreUpTo glimpses races time variable → TellsRace (rows_of variable slot) time variable o → AreUpTo glimpses new time (variable + 1)
-slot_same glimpses slot races new time variable o is e of up tells =
-    subst (λ (xs : List Race). AreUpTo glimpses xs time (variable + 1)) (sym is) (up_by_none glimpses slot races time variable o of up tells e)
+pub slot_same : (slot_states slot : List SlotState) (races new : List Race) (time variable : ℕ) (o : Option Race) → new ≡ races → o ≡ None → IsSlotOf slot_states slot time →
+    AreUpTo slot_states races time variable → TellsRace (rows_of variable slot) time variable o → AreUpTo slot_states new time (variable + 1)
+slot_same slot_states slot races new time variable o is e of up tells =
+    subst (λ (xs : List Race). AreUpTo slot_states xs time (variable + 1)) (sym is) (up_by_none slot_states slot races time variable o of up tells e)
 
-up_by_race : (glimpses slot : List Glimpse) (races : List Race) (time variable : ℕ) (race : Race) → race.time ≡ time → race.variable ≡ variable → IsSlotOf glimpses slot time →
+up_by_race : (slot_states slot : List SlotState) (races : List Race) (time variable : ℕ) (race : Race) → race.time ≡ time → race.variable ≡ variable → IsSlotOf slot_states slot time →
     HaveValue variable slot → HasTwo (rows_of variable slot) → AreBest (rows_of variable slot) race.values →
-    AreUpTo glimpses races time variable → AreUpTo glimpses (races ++ race ∷ []) time (variable + 1)
-up_by_race glimpses slot races time variable race e f of have two best up =
-    let P : ℕ → ℕ → Type 0 = λ t v. IsSlotOf glimpses slot t → HaveValue v slot → HasTwo (rows_of v slot) → AreBest (rows_of v slot) race.values →
-    AreUpTo glimpses races t v → AreUpTo glimpses (races ++ race ∷ []) t (v + 1) in
-    let here : P race.time race.variable = λ of have two best up. more_race glimpses races race up (race_among glimpses slot race of have two best) in
+    AreUpTo slot_states races time variable → AreUpTo slot_states (races ++ race ∷ []) time (variable + 1)
+up_by_race slot_states slot races time variable race e f of have two best up =
+    let P : ℕ → ℕ → Type 0 = λ t v. IsSlotOf slot_states slot t → HaveValue v slot → HasTwo (rows_of v slot) → AreBest (rows_of v slot) race.values →
+    AreUpTo slot_states races t v → AreUpTo slot_states (races ++ race ∷ []) t (v + 1) in
+    let here : P race.time race.variable = λ of have two best up. more_race slot_states races race up (race_among slot_states slot race of have two best) in
     let there : P time race.variable = subst (λ (t : ℕ). P t race.variable) e here in
     subst (λ (v : ℕ). P time v) f there of have two best up
 
@@ -184,23 +184,23 @@ some_tells : (rows : List (Vector × List (ℕ × ℕ))) (time variable : ℕ) (
     TellsRace rows time variable (Some race)
 some_tells rows time variable o race e tells = subst (λ (x : Option Race). TellsRace rows time variable x) e tells
 
-pub slot_more : (glimpses slot : List Glimpse) (races new : List Race) (time variable : ℕ) (o : Option Race) (race : Race) → new ≡ races ++ race ∷ [] → o ≡ Some race →
-    IsSlotOf glimpses slot time → HaveValue variable slot → AreUpTo glimpses races time variable → TellsRace (rows_of variable slot) time variable o →
-    AreUpTo glimpses new time (variable + 1)
-slot_more glimpses slot races new time variable o race is e of have up tells =
+pub slot_more : (slot_states slot : List SlotState) (races new : List Race) (time variable : ℕ) (o : Option Race) (race : Race) → new ≡ races ++ race ∷ [] → o ≡ Some race →
+    IsSlotOf slot_states slot time → HaveValue variable slot → AreUpTo slot_states races time variable → TellsRace (rows_of variable slot) time variable o →
+    AreUpTo slot_states new time (variable + 1)
+slot_more slot_states slot races new time variable o race is e of have up tells =
     let t : TellsRace (rows_of variable slot) time variable (Some race) = some_tells (rows_of variable slot) time variable o race e tells in
-    subst (λ (xs : List Race). AreUpTo glimpses xs time (variable + 1)) (sym is)
-    (up_by_race glimpses slot races time variable race t.0 t.1 of have t.2 t.3 up)
+    subst (λ (xs : List Race). AreUpTo slot_states xs time (variable + 1)) (sym is)
+    (up_by_race slot_states slot races time variable race t.0 t.1 of have t.2 t.3 up)
 
-pub have_value : (count variable : ℕ) (slot : List Glimpse) → AreWide count slot → variable < count → HaveValue variable slot
+pub have_value : (count variable : ℕ) (slot : List SlotState) → AreWide count slot → variable < count → HaveValue variable slot
 have_value count variable slot wide lt = λ g has. (let e = wide g has in omega arith)
 
 -- ---- whether two values differ
 
-pub row_at : (variable : ℕ) (slot : List Glimpse) (i : ℕ) (g : Glimpse) → slice_get slot i ≡ Some g → slice_get (rows_of variable slot) i ≡ Some (row_of variable g)
+pub row_at : (variable : ℕ) (slot : List SlotState) (i : ℕ) (g : SlotState) → slice_get slot i ≡ Some g → slice_get (rows_of variable slot) i ≡ Some (row_of variable g)
 row_at variable slot i g at = slice_get-map (row_of variable) slot i ∙ ap (option_map (row_of variable)) at
 
-pub two_differ : (variable : ℕ) (slot : List Glimpse) (i j : ℕ) (g h : Glimpse) → slice_get slot i ≡ Some g → slice_get slot j ≡ Some h →
+pub two_differ : (variable : ℕ) (slot : List SlotState) (i j : ℕ) (g h : SlotState) → slice_get slot i ≡ Some g → slice_get slot j ≡ Some h →
     value_in variable g ≢ value_in variable h → HasTwo (rows_of variable slot)
 two_differ variable slot i j g h at at' differ = record {
   one = row_of variable g;
@@ -210,8 +210,8 @@ two_differ variable slot i j g h at at' differ = record {
   differ = differ;
 }
 
-pub all_same : (variable : ℕ) (slot : List Glimpse) (first : Vector) →
-    ((k : ℕ) (g : Glimpse) → slice_get slot k ≡ Some g → value_in variable g ≡ first) → AllSame (rows_of variable slot)
+pub all_same : (variable : ℕ) (slot : List SlotState) (first : Vector) →
+    ((k : ℕ) (g : SlotState) → slice_get slot k ≡ Some g → value_in variable g ≡ first) → AllSame (rows_of variable slot)
 all_same variable slot first same = λ r s has has'.
     let p = at_contains (rows_of variable slot) r has in
     let q = at_contains (rows_of variable slot) s has' in
@@ -221,5 +221,5 @@ all_same variable slot first same = λ r s has has'.
     let other : s.0 ≡ first = ap (λ (x : Vector × List (ℕ × ℕ)). x.0) (sym h.2) ∙ same q.0 h.0 h.1 in
     one ∙ sym other
 
-pub length_rows : (variable : ℕ) (slot : List Glimpse) → length (rows_of variable slot) ≡ length slot
+pub length_rows : (variable : ℕ) (slot : List SlotState) → length (rows_of variable slot) ≡ length slot
 length_rows variable slot = length-map slot (row_of variable)

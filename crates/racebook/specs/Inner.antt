@@ -1,4 +1,4 @@
--- Words for the contracts of calls within: glimpses of slot ends, gone through by time and variable.
+-- Words for the contracts of calls within: states of slot ends, gone through by time and variable.
 use Rattle.std.specs.Prelude.{◌≡◌, ◌≢◌, Bool, ℕ, ◌<◌, ◌≤◌, List, [], length, slice_get, map, Option, Some, None, unwrap_or}
 use Rattle.std.specs.List.{Contains}
 use Rattle.std.specs.declared.cmp.Ordering.{Ordering}
@@ -10,75 +10,75 @@ use Rattle.vbits.specs.Vectors.{Vector, filled}
 use Rattle.vbits.specs.declared.bit4.Bit4.TheVariants.{X}
 use Rattle.vmodel.specs.State.{State}
 use Rattle.vmodel.specs.Run.{Setting}
-use Rattle.vmachine.specs.declared.standing.Standing.{Standing}
+use Rattle.vmachine.specs.declared.machine_state.MachineState.{MachineState}
 use Rattle.vmachine.specs.Machines.{Stands}
 use Rattle.vmachine.specs.Reads.{slot_in}
-use Rattle.racebook.specs.declared.glimpse.Glimpse.{Glimpse}
+use Rattle.racebook.specs.declared.slot_state.SlotState.{SlotState}
 use Rattle.racebook.specs.Order.{IsEarlier, shape_of, text_number, AreInTextOrder}
 use Rattle.racebook.specs.Races.{Race, EachRace, AreRacesInOrder}
 
 -- ---- what is seen of a mark
 
--- the glimpse is of this mark, which is the end of a slot
-pub record IsGlimpse (setting : Setting) (found : Standing × List (ℕ × ℕ)) (glimpse : Glimpse) : Type 0 where
-  pub log_is : glimpse.log.now ≡ found.1
-  pub slot : (t : State) → Stands setting found.0 t → slot_in t ≡ Some glimpse.time
-  pub values_are : (t : State) → Stands setting found.0 t → glimpse.values.now ≡ t.values
-  pub wide : length glimpse.values.now ≡ length setting.design.variables
+-- the slot state is of this mark, which is the end of a slot
+pub record IsSlotState (setting : Setting) (found : MachineState × List (ℕ × ℕ)) (slot_state : SlotState) : Type 0 where
+  pub log_is : slot_state.log.now ≡ found.1
+  pub slot : (t : State) → Stands setting found.0 t → slot_in t ≡ Some slot_state.time
+  pub values_are : (t : State) → Stands setting found.0 t → slot_state.values.now ≡ t.values
+  pub wide : length slot_state.values.now ≡ length setting.design.variables
 
 -- the mark is the end of no slot
-abbrev pub IsNoSlot : Setting → Standing → Type 0
+abbrev pub IsNoSlot : Setting → MachineState → Type 0
 IsNoSlot setting s = (t : State) → Stands setting s t → length t.values ≡ length setting.design.variables → slot_in t ≡ None
 
-pub record HasGlimpse (setting : Setting) (found : Standing × List (ℕ × ℕ)) (glimpses : List Glimpse) : Type 0 where
-  pub glimpse : Glimpse
-  pub among : Contains glimpses glimpse
-  pub of : IsGlimpse setting found glimpse
+pub record HasSlotState (setting : Setting) (found : MachineState × List (ℕ × ℕ)) (slot_states : List SlotState) : Type 0 where
+  pub slot_state : SlotState
+  pub among : Contains slot_states slot_state
+  pub of : IsSlotState setting found slot_state
 
-pub record IsOfSome (setting : Setting) (marks : List (Standing × List (ℕ × ℕ))) (glimpse : Glimpse) : Type 0 where
+pub record IsOfSome (setting : Setting) (marks : List (MachineState × List (ℕ × ℕ))) (slot_state : SlotState) : Type 0 where
   pub place : ℕ
-  pub found : Standing × List (ℕ × ℕ)
+  pub found : MachineState × List (ℕ × ℕ)
   pub at : slice_get marks place ≡ Some found
-  pub of : IsGlimpse setting found glimpse
+  pub of : IsSlotState setting found slot_state
 
--- each glimpse is of a mark, and each of the first marks that is the end of a slot has its glimpse
-pub record AreGlimpsesBelow (setting : Setting) (marks : List (Standing × List (ℕ × ℕ))) (count : ℕ) (glimpses : List Glimpse) : Type 0 where
-  pub each : (glimpse : Glimpse) → Contains glimpses glimpse → IsOfSome setting marks glimpse
-  pub whole : (place : ℕ) (found : Standing × List (ℕ × ℕ)) (t : State) (time : ℕ) → place < count →
+-- each slot state is of a mark, and each of the first marks that is the end of a slot has its slot state
+pub record AreSlotStatesBelow (setting : Setting) (marks : List (MachineState × List (ℕ × ℕ))) (count : ℕ) (slot_states : List SlotState) : Type 0 where
+  pub each : (slot_state : SlotState) → Contains slot_states slot_state → IsOfSome setting marks slot_state
+  pub whole : (place : ℕ) (found : MachineState × List (ℕ × ℕ)) (t : State) (time : ℕ) → place < count →
       slice_get marks place ≡ Some found → Stands setting found.0 t →
-      length t.values ≡ length setting.design.variables → slot_in t ≡ Some time → HasGlimpse setting found glimpses
+      length t.values ≡ length setting.design.variables → slot_in t ≡ Some time → HasSlotState setting found slot_states
 
-abbrev pub AreGlimpses : Setting → List (Standing × List (ℕ × ℕ)) → List Glimpse → Type 0
-AreGlimpses setting marks glimpses = AreGlimpsesBelow setting marks (length marks) glimpses
+abbrev pub AreSlotStates : Setting → List (MachineState × List (ℕ × ℕ)) → List SlotState → Type 0
+AreSlotStates setting marks slot_states = AreSlotStatesBelow setting marks (length marks) slot_states
 
 -- each has so many values
-abbrev pub AreWide : ℕ → List Glimpse → Type 0
-AreWide count glimpses = (glimpse : Glimpse) → Contains glimpses glimpse → length glimpse.values.now ≡ count
+abbrev pub AreWide : ℕ → List SlotState → Type 0
+AreWide count slot_states = (slot_state : SlotState) → Contains slot_states slot_state → length slot_state.values.now ≡ count
 
 -- what is seen of all marks of the findings
-abbrev pub AreGlimpsesOf : Setting → Findings Standing → List Glimpse → Type 0
-AreGlimpsesOf setting findings glimpses = AreGlimpses setting findings.marks.entries glimpses
+abbrev pub AreSlotStatesOf : Setting → Findings MachineState → List SlotState → Type 0
+AreSlotStatesOf setting findings slot_states = AreSlotStates setting findings.marks.entries slot_states
 
 -- each has a value of each variable of the design
-abbrev pub HaveAllValues : Setting → List Glimpse → Type 0
-HaveAllValues setting glimpses = AreWide (length setting.design.variables) glimpses
+abbrev pub HaveAllValues : Setting → List SlotState → Type 0
+HaveAllValues setting slot_states = AreWide (length setting.design.variables) slot_states
 
 -- their times don't fall
-abbrev pub AreInTime : List Glimpse → Type 0
-AreInTime glimpses = (i j : ℕ) (g h : Glimpse) →
-    i ≤ j → slice_get glimpses i ≡ Some g → slice_get glimpses j ≡ Some h → g.time ≤ h.time
+abbrev pub AreInTime : List SlotState → Type 0
+AreInTime slot_states = (i j : ℕ) (g h : SlotState) →
+    i ≤ j → slice_get slot_states i ≡ Some g → slice_get slot_states j ≡ Some h → g.time ≤ h.time
 
 -- ---- the values of one variable in one slot
 
 -- the value of the variable; x, one bit wide, where there is none
-abbrev pub value_in : ℕ → Glimpse → Vector
-value_in variable glimpse = unwrap_or (slice_get glimpse.values.now variable) (filled 1 X)
+abbrev pub value_in : ℕ → SlotState → Vector
+value_in variable slot_state = unwrap_or (slice_get slot_state.values.now variable) (filled 1 X)
 
 -- the value and the log
-abbrev pub row_of : ℕ → Glimpse → Vector × List (ℕ × ℕ)
-row_of variable glimpse = (value_in variable glimpse, glimpse.log.now)
+abbrev pub row_of : ℕ → SlotState → Vector × List (ℕ × ℕ)
+row_of variable slot_state = (value_in variable slot_state, slot_state.log.now)
 
-abbrev pub rows_of : ℕ → List Glimpse → List (Vector × List (ℕ × ℕ))
+abbrev pub rows_of : ℕ → List SlotState → List (Vector × List (ℕ × ℕ))
 rows_of variable slot = map (row_of variable) slot
 
 -- what texts are compared by
@@ -99,8 +99,8 @@ pub record HasTwo (rows : List (Vector × List (ℕ × ℕ))) : Type 0 where
   pub differ : one.0 ≢ other.0
 
 -- each has a value of the variable
-abbrev pub HaveValue : ℕ → List Glimpse → Type 0
-HaveValue variable slot = (glimpse : Glimpse) → Contains slot glimpse → variable < length glimpse.values.now
+abbrev pub HaveValue : ℕ → List SlotState → Type 0
+HaveValue variable slot = (slot_state : SlotState) → Contains slot slot_state → variable < length slot_state.values.now
 
 -- whether two rows differ
 abbrev pub TellsTwo : List (Vector × List (ℕ × ℕ)) → Bool → Type 0
@@ -124,8 +124,8 @@ abbrev pub KeepsBest : List (Vector × List (ℕ × ℕ)) → BTreeMap (ℕ × �
 KeepsBest rows best = IsBestBelow rows (length rows) best
 
 -- the row that an entry names
-abbrev pub sighted : List (Vector × List (ℕ × ℕ)) → (ℕ × ℕ) × ℕ → Vector × List (ℕ × ℕ)
-sighted rows entry = unwrap_or (slice_get rows entry.1) (filled 1 X, [])
+abbrev pub row_of_entry : List (Vector × List (ℕ × ℕ)) → (ℕ × ℕ) × ℕ → Vector × List (ℕ × ℕ)
+row_of_entry rows entry = unwrap_or (slice_get rows entry.1) (filled 1 X, [])
 
 -- the value stands among these
 abbrev pub HasValue : List (Vector × List (ℕ × ℕ)) → Vector → Type 0
@@ -143,63 +143,63 @@ abbrev pub TellsRace : List (Vector × List (ℕ × ℕ)) → ℕ → ℕ → Op
 TellsRace rows time variable None = AllSame rows
 TellsRace rows time variable (Some race) = (race.time ≡ time) × (race.variable ≡ variable) × HasTwo rows × AreBest rows race.values
 
--- ---- races among glimpses
+-- ---- races among slot states
 
--- a glimpse of this time has the value, under the log
-pub record IsSeen (glimpses : List Glimpse) (time variable : ℕ) (value : Vector) (log : List (ℕ × ℕ)) : Type 0 where
-  pub glimpse : Glimpse
-  pub among : Contains glimpses glimpse
-  pub time_is : glimpse.time ≡ time
-  pub value_is : slice_get glimpse.values.now variable ≡ Some value
-  pub log_is : glimpse.log.now ≡ log
+-- a slot state of this time has the value, under the log
+pub record IsSeen (slot_states : List SlotState) (time variable : ℕ) (value : Vector) (log : List (ℕ × ℕ)) : Type 0 where
+  pub slot_state : SlotState
+  pub among : Contains slot_states slot_state
+  pub time_is : slot_state.time ≡ time
+  pub value_is : slice_get slot_state.values.now variable ≡ Some value
+  pub log_is : slot_state.log.now ≡ log
 
-pub record Disagree (glimpses : List Glimpse) (time variable : ℕ) : Type 0 where
+pub record Disagree (slot_states : List SlotState) (time variable : ℕ) : Type 0 where
   pub one : Vector
   pub other : Vector
   pub log : List (ℕ × ℕ)
   pub other_log : List (ℕ × ℕ)
-  pub sees_one : IsSeen glimpses time variable one log
-  pub sees_other : IsSeen glimpses time variable other other_log
+  pub sees_one : IsSeen slot_states time variable one log
+  pub sees_other : IsSeen slot_states time variable other other_log
   pub differ : one ≢ other
 
-pub record IsRaceAmong (glimpses : List Glimpse) (race : Race) : Type 0 where
+pub record IsRaceAmong (slot_states : List SlotState) (race : Race) : Type 0 where
   pub two : 2 ≤ length race.values
-  pub seen : (i : ℕ) (s : Vector × List (ℕ × ℕ)) → slice_get race.values i ≡ Some s → IsSeen glimpses race.time race.variable s.0 s.1
+  pub seen : (i : ℕ) (s : Vector × List (ℕ × ℕ)) → slice_get race.values i ≡ Some s → IsSeen slot_states race.time race.variable s.0 s.1
   pub fewest : (i : ℕ) (s : Vector × List (ℕ × ℕ)) (log : List (ℕ × ℕ)) → slice_get race.values i ≡ Some s →
-      IsSeen glimpses race.time race.variable s.0 log → length s.1 ≤ length log
-  pub all : (value : Vector) (log : List (ℕ × ℕ)) → IsSeen glimpses race.time race.variable value log → HasValue race.values value
+      IsSeen slot_states race.time race.variable s.0 log → length s.1 ≤ length log
+  pub all : (value : Vector) (log : List (ℕ × ℕ)) → IsSeen slot_states race.time race.variable value log → HasValue race.values value
   pub order : AreInTextOrder race.values
 
 abbrev pub ListsRace : List Race → ℕ → ℕ → Type 0
 ListsRace races time variable = (i : ℕ) × (race : Race) × (slice_get races i ≡ Some race) × (race.time ≡ time) × (race.variable ≡ variable)
 
 -- the races are those before this time and variable
-pub record AreUpTo (glimpses : List Glimpse) (races : List Race) (time variable : ℕ) : Type 0 where
-  pub each : EachRace (IsRaceAmong glimpses) races
+pub record AreUpTo (slot_states : List SlotState) (races : List Race) (time variable : ℕ) : Type 0 where
+  pub each : EachRace (IsRaceAmong slot_states) races
   pub before : EachRace (λ race. IsEarlier race.time race.variable time variable) races
-  pub all : (t v : ℕ) → IsEarlier t v time variable → Disagree glimpses t v → ListsRace races t v
+  pub all : (t v : ℕ) → IsEarlier t v time variable → Disagree slot_states t v → ListsRace races t v
   pub order : AreRacesInOrder races
 
 -- and those are all
-pub record AreAll (glimpses : List Glimpse) (races : List Race) : Type 0 where
-  pub each : EachRace (IsRaceAmong glimpses) races
-  pub all : (t v : ℕ) → Disagree glimpses t v → ListsRace races t v
+pub record AreAll (slot_states : List SlotState) (races : List Race) : Type 0 where
+  pub each : EachRace (IsRaceAmong slot_states) races
+  pub all : (t v : ℕ) → Disagree slot_states t v → ListsRace races t v
   pub order : AreRacesInOrder races
 
--- the slot is of all the glimpses of this time
-pub record IsSlotOf (glimpses slot : List Glimpse) (time : ℕ) : Type 0 where
-  pub within : (g : Glimpse) → Contains slot g → Contains glimpses g
-  pub time_is : (g : Glimpse) → Contains slot g → g.time ≡ time
-  pub whole : (g : Glimpse) → Contains glimpses g → g.time ≡ time → Contains slot g
+-- the slot is of all the slot states of this time
+pub record IsSlotOf (slot_states slot : List SlotState) (time : ℕ) : Type 0 where
+  pub within : (g : SlotState) → Contains slot g → Contains slot_states g
+  pub time_is : (g : SlotState) → Contains slot g → g.time ≡ time
+  pub whole : (g : SlotState) → Contains slot_states g → g.time ≡ time → Contains slot g
 
 -- from the races before this slot to those of it too
-abbrev pub GoesThrough : ℕ → ℕ → List Glimpse → List Race → List Race → Type 0
-GoesThrough time count slot old new = (glimpses : List Glimpse) → IsSlotOf glimpses slot time → AreWide count glimpses →
-    AreUpTo glimpses old time 0 → AreUpTo glimpses new time count
+abbrev pub GoesThrough : ℕ → ℕ → List SlotState → List Race → List Race → Type 0
+GoesThrough time count slot old new = (slot_states : List SlotState) → IsSlotOf slot_states slot time → AreWide count slot_states →
+    AreUpTo slot_states old time 0 → AreUpTo slot_states new time count
 
 -- where the slot that begins at start ends
-pub record IsSlotEndAt (glimpses : List Glimpse) (start end : ℕ) : Type 0 where
+pub record IsSlotEndAt (slot_states : List SlotState) (start end : ℕ) : Type 0 where
   pub more : start < end
-  pub within : end ≤ length glimpses
-  pub same : (k : ℕ) (g h : Glimpse) → start ≤ k → k < end → slice_get glimpses start ≡ Some g → slice_get glimpses k ≡ Some h → h.time ≡ g.time
-  pub next : (g h : Glimpse) → slice_get glimpses start ≡ Some g → slice_get glimpses end ≡ Some h → h.time ≢ g.time
+  pub within : end ≤ length slot_states
+  pub same : (k : ℕ) (g h : SlotState) → start ≤ k → k < end → slice_get slot_states start ≡ Some g → slice_get slot_states k ≡ Some h → h.time ≡ g.time
+  pub next : (g h : SlotState) → slice_get slot_states start ≡ Some g → slice_get slot_states end ≡ Some h → h.time ≢ g.time

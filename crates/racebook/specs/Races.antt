@@ -10,7 +10,7 @@ use Rattle.explore.specs.Found.{ListsFound, ListsAll}
 use Rattle.vmodel.specs.State.{State}
 use Rattle.vmodel.specs.Run.{Setting, rules_of, state_after}
 use Rattle.vmodel.specs.Kept.{IsSlotEnd}
-use Rattle.vmachine.specs.declared.standing.Standing.{Standing}
+use Rattle.vmachine.specs.declared.machine_state.MachineState.{MachineState}
 use Rattle.vmachine.specs.Machines.{Stands, machine_rules}
 use Rattle.racebook.specs.Order.{IsEarlier, AreInTextOrder}
 
@@ -22,7 +22,7 @@ pub record ShowsValue (setting : Setting) (time variable : ℕ) (value : Vector)
   pub value_is : slice_get values variable ≡ Some value
 
 -- so it is within the limits, once the run has reached all that the log names
-pub record IsSighting (setting : Setting) (limits : Limits) (time variable : ℕ) (value : Vector) (log : List (ℕ × ℕ)) : Type 0 where
+pub record IsWitness (setting : Setting) (limits : Limits) (time variable : ℕ) (value : Vector) (log : List (ℕ × ℕ)) : Type 0 where
   pub steps : ℕ
   pub shown : ShowsValue setting time variable value log steps
   pub within : steps ≤ limits.steps
@@ -45,7 +45,7 @@ pub record IsRace (setting : Setting) (limits : Limits) (race : Race) : Type 0 w
   pub two : 2 ≤ length race.values
   pub differ : AreDifferent race.values
   pub seen : (i : ℕ) (s : Vector × List (ℕ × ℕ)) → slice_get race.values i ≡ Some s →
-      IsSighting setting limits race.time race.variable s.0 s.1
+      IsWitness setting limits race.time race.variable s.0 s.1
 
 -- the fact holds of each race of the list
 abbrev pub EachRace : (Race → Type 0) → List Race → Type 0
@@ -74,9 +74,9 @@ pub record ListsValue (races : List Race) (time variable : ℕ) (value : Vector)
   pub time_is : race.time ≡ time
   pub variable_is : race.variable ≡ variable
   pub value_place : ℕ
-  pub sighting : Vector × List (ℕ × ℕ)
-  pub value_at : slice_get race.values value_place ≡ Some sighting
-  pub value_is : sighting.0 ≡ value
+  pub witness : Vector × List (ℕ × ℕ)
+  pub value_at : slice_get race.values value_place ≡ Some witness
+  pub value_is : witness.0 ≡ value
 
 -- where two runs differ, the race is listed with every value that any run shows there
 abbrev pub ListsEveryValue : Setting → ℕ → List Race → Type 0
@@ -101,9 +101,9 @@ AreValuesInOrder races = EachRace (λ race. AreInTextOrder race.values) races
 -- ---- what the marks show, whatever the status
 
 -- a mark stands for the end of the slot of this time, where the variable has this value, under this log
-pub record IsMarked (setting : Setting) (findings : Findings Standing) (time variable : ℕ) (value : Vector) (log : List (ℕ × ℕ)) : Type 0 where
+pub record IsMarked (setting : Setting) (findings : Findings MachineState) (time variable : ℕ) (value : Vector) (log : List (ℕ × ℕ)) : Type 0 where
   pub place : ℕ
-  pub found : Standing × List (ℕ × ℕ)
+  pub found : MachineState × List (ℕ × ℕ)
   pub at : slice_get findings.marks.entries place ≡ Some found
   pub state : State
   pub stands : Stands setting found.0 state
@@ -113,7 +113,7 @@ pub record IsMarked (setting : Setting) (findings : Findings Standing) (time var
   pub log_is : found.1 ≡ log
 
 -- two marks differ there
-pub record TwoMarksDiffer (setting : Setting) (findings : Findings Standing) (time variable : ℕ) : Type 0 where
+pub record TwoMarksDiffer (setting : Setting) (findings : Findings MachineState) (time variable : ℕ) : Type 0 where
   pub one : Vector
   pub other : Vector
   pub log : List (ℕ × ℕ)
@@ -123,34 +123,34 @@ pub record TwoMarksDiffer (setting : Setting) (findings : Findings Standing) (ti
   pub differ : one ≢ other
 
 -- where two marks differ, the race is listed with every value that a mark has there
-abbrev pub ListsEveryMark : Setting → Findings Standing → List Race → Type 0
+abbrev pub ListsEveryMark : Setting → Findings MachineState → List Race → Type 0
 ListsEveryMark setting findings races = (time variable : ℕ) (value : Vector) (log : List (ℕ × ℕ)) →
     TwoMarksDiffer setting findings time variable → IsMarked setting findings time variable value log →
     ListsValue races time variable value
 
 -- no mark has the value there with fewer departures than its log
-abbrev pub HasFewestOfMarks : Setting → Findings Standing → Race → Type 0
+abbrev pub HasFewestOfMarks : Setting → Findings MachineState → Race → Type 0
 HasFewestOfMarks setting findings race = (i : ℕ) (s : Vector × List (ℕ × ℕ)) (log : List (ℕ × ℕ)) →
     slice_get race.values i ≡ Some s → IsMarked setting findings race.time race.variable s.0 log → length s.1 ≤ length log
 
-abbrev pub ListsShortest : Setting → Findings Standing → List Race → Type 0
+abbrev pub ListsShortest : Setting → Findings MachineState → List Race → Type 0
 ListsShortest setting findings races = EachRace (HasFewestOfMarks setting findings) races
 
 -- ---- the clauses, of findings whose marks were found under limits
 
 -- each race listed is one
-abbrev pub ListsRaces : Setting → Findings Standing → List Race → Type 0
+abbrev pub ListsRaces : Setting → Findings MachineState → List Race → Type 0
 ListsRaces setting findings races = (limits : Limits) → ListsFound (machine_rules setting) limits findings → EachRace (IsRace setting limits) races
 
 -- the findings are all
-abbrev pub IsWhole : Setting → Limits → Findings Standing → Type 0
+abbrev pub IsWhole : Setting → Limits → Findings MachineState → Type 0
 IsWhole setting limits findings = (findings.status ≡ Exhausted) × ListsAll (machine_rules setting) limits findings
 
 -- then every race is listed
-abbrev pub ListsAllRaces : Setting → Findings Standing → List Race → Type 0
+abbrev pub ListsAllRaces : Setting → Findings MachineState → List Race → Type 0
 ListsAllRaces setting findings races = (limits : Limits) → IsWhole setting limits findings → ListsEveryValue setting limits.depart races
 
 -- and then each value's log has the fewest departures
-abbrev pub GivesFewest : Setting → Findings Standing → List Race → Type 0
+abbrev pub GivesFewest : Setting → Findings MachineState → List Race → Type 0
 GivesFewest setting findings races = (limits : Limits) →
     ListsFound (machine_rules setting) limits findings → IsWhole setting limits findings → EachRace (HasFewest setting) races

@@ -4,40 +4,44 @@ ghost use Rattle.std.specs.Prelude.{◌≡◌, ◌<◌, IfOk, length};
 ghost use Rattle.racebook.specs.Races.{AreRacesInOrder, AreValuesInOrder, ListsAllRaces, ListsEveryMark, ListsShortest, GivesFewest, ListsRaces};
 ghost use Rattle.racebook.specs.Inner.{AreAll, AreInTime, AreWide, IsSlotEndAt};
 
-use crate::glimpse::{Glimpse, glimpses_in_time};
 use crate::race::Race;
 use crate::slot::put_races;
+use crate::slot_state::{SlotState, slot_states_in_time};
 use basis::NoMemory;
 use explore::Findings;
 use std::alloc::Global;
-use vmachine::{Machine, Standing, machine_law};
+use vmachine::{Machine, MachineState, machine_law};
 use vmodel::run_law;
 
 // Where the slot that begins here ends.
-fn slot_end(glimpses: &[Glimpse], start: usize) -> usize
-    requires { start < length glimpses.now }
-    ensures { IsSlotEndAt glimpses.now start result }
+fn slot_end(slot_states: &[SlotState], start: usize) -> usize
+    requires { start < length slot_states.now }
+    ensures { IsSlotEndAt slot_states.now start result }
 {
-    let time = glimpses[start].time;
+    let time = slot_states[start].time;
     let mut end = start + 1;
-    'same: while end < glimpses.len() && glimpses[end].time == time {
+    'same: while end < slot_states.len() && slot_states[end].time == time {
         end += 1;
     }
     end
 }
 
-// The races among glimpses that stand in the order of their times.
-fn races_among(alloc: Global, glimpses: &[Glimpse], count: usize) -> Result<Vec<Race>, NoMemory>
-    requires wide { AreWide count glimpses.now }
-    requires order { AreInTime glimpses.now }
-    ensures { IfOk result (λ races. AreAll glimpses.now races.items) }
+// The races among slot states that stand in the order of their times.
+fn races_among(
+    alloc: Global,
+    slot_states: &[SlotState],
+    count: usize,
+) -> Result<Vec<Race>, NoMemory>
+    requires wide { AreWide count slot_states.now }
+    requires order { AreInTime slot_states.now }
+    ensures { IfOk result (λ races. AreAll slot_states.now races.items) }
 {
     let mut races = Vec::new(alloc);
     let mut start = 0;
-    'slots: while start < glimpses.len() {
-        let time = glimpses[start].time;
-        let end = slot_end(glimpses, start);
-        put_races(alloc, &mut races, &glimpses[start..end], time, count)?;
+    'slots: while start < slot_states.len() {
+        let time = slot_states[start].time;
+        let end = slot_end(slot_states, start);
+        put_races(alloc, &mut races, &slot_states[start..end], time, count)?;
         start = end;
     }
     Ok(races)
@@ -55,7 +59,7 @@ fn races_among(alloc: Global, glimpses: &[Glimpse], count: usize) -> Result<Vec<
 pub fn races(
     alloc: Global,
     machine: &Machine,
-    findings: &Findings<Standing>,
+    findings: &Findings<MachineState>,
 ) -> Result<Vec<Race>, NoMemory>
     ensures found { IfOk result (λ races. ListsRaces machine.now findings.now races.items) }
     ensures all { IfOk result (λ races. ListsAllRaces machine.now findings.now races.items) }
@@ -67,6 +71,6 @@ pub fn races(
 {
     machine_law();
     run_law();
-    let glimpses = glimpses_in_time(alloc, machine, findings)?;
-    races_among(alloc, &glimpses, machine.design().variables.len())
+    let slot_states = slot_states_in_time(alloc, machine, findings)?;
+    races_among(alloc, &slot_states, machine.design().variables.len())
 }

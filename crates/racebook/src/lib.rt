@@ -4,11 +4,11 @@
 #![tactic(auto)]
 
 mod book;
-mod glimpse;
 mod key;
 mod race;
 mod slot;
+mod slot_state;
 mod values;
 
 pub use book::races;
-pub use race::{Race, Sighting};
+pub use race::{Race, Witness};

@@ -7,18 +7,18 @@ use vbits::Vec4;
 /// A value that a variable has at the end of a slot, and the log of a run that shows it. A clause sees the pair of the
 /// value and the members of the log.
 #[derive(Drop)]
-pub struct Sighting {
+pub struct Witness {
     pub value: Vec4,
     pub log: Log,
 }
 
-impl Model for Sighting {
+impl Model for Witness {
     ghost use Rattle.std.specs.Prelude.{ℕ, List};
     ghost use Rattle.vbits.specs.Vectors.{Vector};
 
     ghost Value = { Vector × List (ℕ × ℕ) };
 
-    ghost view = { λ sighting. (sighting.value, sighting.log) };
+    ghost view = { λ witness. (witness.value, witness.log) };
 }
 
 /// A race: two or more values of one variable at the end of the slot of one time. The variable goes by its number in the
@@ -27,7 +27,7 @@ impl Model for Sighting {
 pub struct Race {
     pub time: u64,
     pub variable: usize,
-    pub values: Vec<Sighting>,
+    pub values: Vec<Witness>,
 }
 
 impl Model for Race {

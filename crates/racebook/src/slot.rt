@@ -3,8 +3,8 @@
 ghost use Rattle.std.specs.Prelude.{◌≡◌, IfOk, OnOk};
 ghost use Rattle.racebook.specs.Inner.{AreWide, GoesThrough, HaveValue, TellsRace, rows_of};
 
-use crate::glimpse::Glimpse;
 use crate::race::Race;
+use crate::slot_state::SlotState;
 use crate::values::{differ, values_of};
 use basis::NoMemory;
 use std::alloc::Global;
@@ -12,7 +12,7 @@ use std::alloc::Global;
 // The race of the variable in the slot, if there is one. Where it has one value only no memory is taken.
 fn race_of(
     alloc: Global,
-    slot: &[Glimpse],
+    slot: &[SlotState],
     time: u64,
     variable: usize,
 ) -> Result<Option<Race>, NoMemory>
@@ -33,7 +33,7 @@ fn race_of(
 pub fn put_races(
     alloc: Global,
     races: &mut Vec<Race>,
-    slot: &[Glimpse],
+    slot: &[SlotState],
     time: u64,
     count: usize,
 ) -> Result<(), NoMemory>

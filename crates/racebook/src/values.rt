@@ -3,40 +3,40 @@
 ghost use Rattle.std.specs.Prelude.{◌≡◌, ◌+◌, ◌<◌, IfOk, OnOk, Some, length, slice_get};
 ghost use Rattle.racebook.specs.Inner.{AreBest, HaveValue, KeepsBest, IsBestBelow, TellsTwo, rows_of, value_in};
 
-use crate::glimpse::Glimpse;
 use crate::key::{Key, key};
-use crate::race::Sighting;
+use crate::race::Witness;
+use crate::slot_state::SlotState;
 use basis::NoMemory;
 use std::alloc::Global;
 use std::collections::BTreeMap;
 use vbits::Vec4;
 
-// The variable's value in the glimpse.
-fn value_at(glimpse: &Glimpse, variable: usize) -> Vec4
-    requires { variable < length glimpse.now.values.now }
-    ensures { result ≡ value_in variable glimpse.now }
+// The variable's value in the slot state.
+fn value_at(slot_state: &SlotState, variable: usize) -> Vec4
+    requires { variable < length slot_state.now.values.now }
+    ensures { result ≡ value_in variable slot_state.now }
 {
-    let values = glimpse.values;
+    let values = slot_state.values;
     values[variable]
 }
 
-// The glimpse at a place of the slot.
-fn glimpse_at<'s, 'f>(slot: &'s [Glimpse<'f>], place: usize) -> &'s Glimpse<'f>
+// The slot state at a place of the slot.
+fn slot_state_at<'s, 'f>(slot: &'s [SlotState<'f>], place: usize) -> &'s SlotState<'f>
     requires { place < length slot.now }
     ensures { slice_get slot.now place ≡ Some result.now }
 {
     &slot[place]
 }
 
-// How many departures lead to the glimpse.
-fn departures(glimpse: &Glimpse) -> usize
-    ensures { result ≡ length glimpse.now.log.now }
+// How many departures lead to the slot state.
+fn departures(slot_state: &SlotState) -> usize
+    ensures { result ≡ length slot_state.now.log.now }
 {
-    glimpse.log.members().len()
+    slot_state.log.members().len()
 }
 
-/// Whether two glimpses of the slot have different values of the variable.
-pub fn differ(slot: &[Glimpse], variable: usize) -> bool
+/// Whether two slot states of the slot have different values of the variable.
+pub fn differ(slot: &[SlotState], variable: usize) -> bool
     requires { HaveValue variable slot.now }
     ensures { TellsTwo (rows_of variable slot.now) result }
 {
@@ -44,8 +44,8 @@ pub fn differ(slot: &[Glimpse], variable: usize) -> bool
         return false;
     }
     let first = value_at(&slot[0], variable);
-    for glimpse in slot {
-        if value_at(glimpse, variable) != first {
+    for slot_state in slot {
+        if value_at(slot_state, variable) != first {
             return true;
         }
     }
@@ -55,7 +55,7 @@ pub fn differ(slot: &[Glimpse], variable: usize) -> bool
 // Notes the place by its value, unless one of no more departures is noted for it.
 fn note(
     best: &mut BTreeMap<Key, usize>,
-    slot: &[Glimpse],
+    slot: &[SlotState],
     variable: usize,
     place: usize,
 ) -> Result<(), NoMemory>
@@ -64,11 +64,11 @@ fn note(
     requires best { IsBestBelow (rows_of variable slot.now) place best.old }
     ensures { OnOk result (IsBestBelow (rows_of variable slot.now) (place + 1) best.new) }
 {
-    let glimpse = glimpse_at(slot, place);
-    let key = key(value_at(glimpse, variable));
+    let slot_state = slot_state_at(slot, place);
+    let key = key(value_at(slot_state, variable));
     if let Some(noted) = best.get(&key).copied() {
-        let other = glimpse_at(slot, noted);
-        if departures(other) <= departures(glimpse) {
+        let other = slot_state_at(slot, noted);
+        if departures(other) <= departures(slot_state) {
             return Ok(());
         }
     }
@@ -79,7 +79,7 @@ fn note(
 // For each value that the variable has, the first place of the fewest departures.
 fn best_of(
     alloc: Global,
-    slot: &[Glimpse],
+    slot: &[SlotState],
     variable: usize,
 ) -> Result<BTreeMap<Key, usize>, NoMemory>
     requires { HaveValue variable slot.now }
@@ -95,20 +95,20 @@ fn best_of(
 // The rows that the entries name, in the order of their keys.
 fn list_of(
     alloc: Global,
-    slot: &[Glimpse],
+    slot: &[SlotState],
     variable: usize,
     best: &BTreeMap<Key, usize>,
-) -> Result<Vec<Sighting>, NoMemory>
+) -> Result<Vec<Witness>, NoMemory>
     requires have { HaveValue variable slot.now }
     requires best { KeepsBest (rows_of variable slot.now) best.now }
     ensures { IfOk result (λ values. AreBest (rows_of variable slot.now) values.items) }
 {
     let mut values = Vec::new(alloc);
     for (_key, place) in best.iter() {
-        let glimpse = glimpse_at(slot, *place);
-        values.push(Sighting {
-            value: value_at(glimpse, variable),
-            log: glimpse.log.copy()?,
+        let slot_state = slot_state_at(slot, *place);
+        values.push(Witness {
+            value: value_at(slot_state, variable),
+            log: slot_state.log.copy()?,
         })?;
     }
     Ok(values)
@@ -118,9 +118,9 @@ fn list_of(
 /// texts.
 pub fn values_of(
     alloc: Global,
-    slot: &[Glimpse],
+    slot: &[SlotState],
     variable: usize,
-) -> Result<Vec<Sighting>, NoMemory>
+) -> Result<Vec<Witness>, NoMemory>
     requires { HaveValue variable slot.now }
     ensures { IfOk result (λ values. AreBest (rows_of variable slot.now) values.items) }
 {

@@ -4,19 +4,19 @@
 //! Without words nothing is called. No law is claimed.
 #![tactic(auto)]
 
+mod counts;
 mod entries;
 mod plain;
 mod reports;
 mod shared;
 mod steps;
-mod told;
 
-use plain::meets;
+use counts::show;
+use plain::inserts;
 use reports::reports;
 use shared::shares;
 use std::{env, io};
 use steps::{machine_of, walks};
-use told::show;
 
 fn main(rt: HostRuntime) -> io::Result<()> {
     let alloc = rt.alloc();
@@ -30,7 +30,7 @@ fn main(rt: HostRuntime) -> io::Result<()> {
         None => "",
     };
     match name {
-        "meet" => show(&rt, meets(alloc)),
+        "meet" => show(&rt, inserts(alloc)),
         "share" => show(&rt, shares(&rt, alloc)),
         _ => match machine_of(alloc, text.as_bytes()) {
             None => rt.println("no machine"),

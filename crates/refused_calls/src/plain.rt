@@ -1,7 +1,7 @@
 // The book of one owner.
 
+use crate::counts::CallCounts;
 use crate::entries::{COUNT, entry_of, is_entry};
-use crate::told::Told;
 use basis::NoMemory;
 use sched_core::Square;
 use statebook::{Entry, Met, PlainBook};
@@ -20,39 +20,39 @@ fn holds(book: &PlainBook<Square>, count: u32) -> bool {
 }
 
 // Meets an entry, the one that was handed back where it was refused.
-fn meet(
+fn insert(
     book: &mut PlainBook<Square>,
     entry: Entry<Square>,
     number: u32,
-    told: &mut Told,
+    counts: &mut CallCounts,
 ) -> Result<Met, NoMemory> {
     match book.meet(entry) {
         Ok(met) => {
-            told.count(false);
+            counts.count(false);
             Ok(met)
         }
         Err((_, back)) => {
-            told.expect(is_entry(&back, number), "another entry was handed back");
-            told.expect(holds(book, number), "a refused entry changed the book");
+            counts.expect(is_entry(&back, number), "another entry was handed back");
+            counts.expect(holds(book, number), "a refused entry changed the book");
             let met = match book.meet(back) {
                 Ok(met) => met,
                 Err((refused, _)) => return Err(refused),
             };
-            told.count(true);
+            counts.count(true);
             Ok(met)
         }
     }
 }
 
 /// Meets the entries in order: each is new.
-pub fn meets(alloc: Global) -> Result<Told, NoMemory> {
-    let mut told = Told::new();
+pub fn inserts(alloc: Global) -> Result<CallCounts, NoMemory> {
+    let mut counts = CallCounts::new();
     let mut book = PlainBook::new(alloc);
     for number in 0..COUNT {
         let entry = entry_of(alloc, number)?;
-        let met = meet(&mut book, entry, number, &mut told)?;
-        told.expect(met == Met::New(number as usize), "an entry isn't new");
+        let met = insert(&mut book, entry, number, &mut counts)?;
+        counts.expect(met == Met::New(number as usize), "an entry isn't new");
     }
-    told.expect(holds(&book, COUNT), "the book has other entries in the end");
-    Ok(told)
+    counts.expect(holds(&book, COUNT), "the book has other entries in the end");
+    Ok(counts)
 }

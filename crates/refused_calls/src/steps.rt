@@ -1,6 +1,6 @@
 // The steps of the run that takes choice 0 throughout.
 
-use crate::told::Told;
+use crate::counts::CallCounts;
 use basis::NoMemory;
 use sched_core::Space;
 use std::alloc::Global;
@@ -33,28 +33,32 @@ fn step<P: Space>(space: &P, state: &mut P::State) -> Result<(), NoMemory> {
 
 // Takes the default step, once more where it was refused: the state is then as it was before, and what the second call makes of it
 // is what a step makes of its copy.
-fn take<P: Space>(space: &P, state: &mut P::State, told: &mut Told) -> Result<(), NoMemory> {
+fn take<P: Space>(
+    space: &P,
+    state: &mut P::State,
+    counts: &mut CallCounts,
+) -> Result<(), NoMemory> {
     let mut copy = space.copy(state)?;
     let was_refused = step(space, state).is_err();
     if was_refused {
-        told.expect(*state == copy, "a refused step changed the state");
+        counts.expect(*state == copy, "a refused step changed the state");
         step(space, state)?;
     }
     step(space, &mut copy)?;
-    told.expect(*state == copy, "a step of a copy made another state");
-    told.count(was_refused);
+    counts.expect(*state == copy, "a step of a copy made another state");
+    counts.count(was_refused);
     Ok(())
 }
 
 /// The default run, of at most a thousand steps.
-pub fn walks<P: Space>(space: &P) -> Result<Told, NoMemory> {
-    let mut told = Told::new();
+pub fn walks<P: Space>(space: &P) -> Result<CallCounts, NoMemory> {
+    let mut counts = CallCounts::new();
     let mut state = space.root()?;
     for _ in 0..1_000u32 {
         if space.width(&state) == 0 {
-            return Ok(told);
+            return Ok(counts);
         }
-        take(space, &mut state, &mut told)?;
+        take(space, &mut state, &mut counts)?;
     }
-    Ok(told)
+    Ok(counts)
 }

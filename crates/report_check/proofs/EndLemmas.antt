@@ -4,10 +4,10 @@ use Rattle.sched_core.specs.Rules.{stands}
 use Rattle.sched_core.specs.Replay.{EndsAfter}
 use Rattle.vmodel.specs.State.{State}
 use Rattle.vmodel.specs.Run.{Setting, rules_of, state_after, end_of, history_after}
-use Rattle.vmodel.specs.Played.{width_is}
-use Rattle.vmachine.specs.declared.standing.Standing.{Standing}
+use Rattle.vmodel.specs.RunProgress.{width_is}
+use Rattle.vmachine.specs.declared.machine_state.MachineState.{MachineState}
 use Rattle.vmachine.specs.Machines.{Stands, machine_rules}
-use Rattle.report_text.specs.Report.{End as Told}
+use Rattle.report_text.specs.Report.{End as ReportEnd}
 use Rattle.vcd_text.specs.DumpText.{vcd}
 use Rattle.vreport.specs.Dumps.{HasDump}
 use Rattle.vreport.specs.Ends.{IsEndAfter}
@@ -18,16 +18,16 @@ use Rattle.vreport.proofs.WholeLemmas.{RunHere}
 use Rattle.report_check.specs.Inner.{EndsSo, IsToldAt, TellsStanding}
 
 abbrev pub WidthAlike : Setting → Type 0
-WidthAlike setting = (s : Standing) (t : State) → Stands setting s t → (machine_rules setting).width s ≡ (rules_of setting).width t
+WidthAlike setting = (s : MachineState) (t : State) → Stands setting s t → (machine_rules setting).width s ≡ (rules_of setting).width t
 
 -- the run has a dump
-pub so_has_dump : (setting : Setting) (limit : ℕ) (end : Told) (log : List (ℕ × ℕ)) → log ≡ end.log → EndsSo setting limit end → HasDump setting log limit
+pub so_has_dump : (setting : Setting) (limit : ℕ) (end : ReportEnd) (log : List (ℕ × ℕ)) → log ≡ end.log → EndsSo setting limit end → HasDump setting log limit
 so_has_dump setting limit end log is so = subst (λ (l : List (ℕ × ℕ)). HasDump setting l limit) (sym is) (
   vcd setting.design (history_after setting end.log so.steps),
   the_dump setting end.log limit so.steps (end_of (state_after setting end.log so.steps)) (record { within = so.within; ends = so.after.ends; end_is = refl }),
 )
 
-module _ (setting : Setting) (alike : Alike setting) (all : AllStand setting) (there : RunThere setting) (here : RunHere setting) (wide : WidthAlike setting) (limit : ℕ) (end : Told) where
+module _ (setting : Setting) (alike : Alike setting) (all : AllStand setting) (there : RunThere setting) (here : RunHere setting) (wide : WidthAlike setting) (limit : ℕ) (end : ReportEnd) where
   ends_there : (n : ℕ) → EndsAfter (machine_rules setting) end.log n → EndsAfter (rules_of setting) end.log n
   ends_there n ends = record {
     run = there end.log n ends.run;
@@ -42,7 +42,7 @@ module _ (setting : Setting) (alike : Alike setting) (all : AllStand setting) (t
     names = ends.names;
   }
 
-  module _ (s : Standing) (n : ℕ) (ends : EndsAfter (machine_rules setting) end.log n)
+  module _ (s : MachineState) (n : ℕ) (ends : EndsAfter (machine_rules setting) end.log n)
       (at : (machine_rules setting).same s (stands (machine_rules setting) end.log n) ≡ true) (within : n ≤ limit) where
     abbrev t : State
     t = state_after setting end.log n
@@ -73,7 +73,7 @@ module _ (setting : Setting) (alike : Alike setting) (all : AllStand setting) (t
     told_where (Ok answer) tells = told_decides answer tells
     told_where (Err e) tells = tt
 
-  pub told_where_reached : {E : Type 0} (log : List (ℕ × ℕ)) (s : Standing) (n : ℕ) → log ≡ end.log → EndsAfter (machine_rules setting) log n →
+  pub told_where_reached : {E : Type 0} (log : List (ℕ × ℕ)) (s : MachineState) (n : ℕ) → log ≡ end.log → EndsAfter (machine_rules setting) log n →
       (machine_rules setting).same s (stands (machine_rules setting) log n) ≡ true → n ≤ limit →
       (r : Result Bool E) → IfOk r (TellsStanding setting s end) → IfOk r (λ answer. Decides answer (EndsSo setting limit end))
   told_where_reached log s n is ends at within r tells =

@@ -11,17 +11,17 @@ use Rattle.sched_core.specs.Replay.{IsNextChoice}
 use Rattle.sched_core.proofs.RunLemmas.{IsLeft, run_more}
 use Rattle.vmodel.specs.State.{State}
 use Rattle.vmodel.specs.Run.{Setting, rules_of, state_after}
-use Rattle.vmachine.specs.declared.standing.Standing.{Standing}
+use Rattle.vmachine.specs.declared.machine_state.MachineState.{MachineState}
 use Rattle.vmachine.specs.Machines.{Stands, machine_rules}
 use Rattle.racebook.proofs.FoundLemmas.{slot_ends, ends_slot}
 use Rattle.report_text.specs.Report.{Report}
-use Rattle.vreport.specs.Truth.{IsTrueSighting}
+use Rattle.vreport.specs.Truth.{IsTrueWitness}
 use Rattle.vreport.proofs.EndLemmas.{Alike}
 use Rattle.report_check.specs.Inner.{IsSeenAt, IsSeenBefore, IsSeenWithin, TellsSeenByNow}
 use Rattle.report_check.proofs.EndLemmas.{WidthAlike}
 
 abbrev pub AfterAlike : Setting → Type 0
-AfterAlike setting = (s : Standing) (t : State) (i : ℕ) → Stands setting s t → Stands setting ((machine_rules setting).after s i) ((rules_of setting).after t i)
+AfterAlike setting = (s : MachineState) (t : State) (i : ℕ) → Stands setting s t → Stands setting ((machine_rules setting).after s i) ((rules_of setting).after t i)
 
 -- a value that stands there is seen where its text is the one that is told
 pub seen_when : (t : State) (time variable : ℕ) (text : List ℕ) (value : Vector) (answer : Bool) → slot_in t ≡ Some time → slice_get t.values variable ≡ Some value →
@@ -35,7 +35,7 @@ module _ (setting : Setting) (log rest later : List (ℕ × ℕ)) (n choice : �
   pub choice_is : choice ≡ choice_at log n
   choice_is = taken.taken ∙ sym (left.same n (le_refl n))
 
-  module _ (wide : WidthAlike setting) (s : Standing) (at : Stands setting s (state_after setting log n)) where
+  module _ (wide : WidthAlike setting) (s : MachineState) (at : Stands setting s (state_after setting log n)) where
     width_is : (machine_rules setting).width s ≡ (rules_of setting).width (state_after setting log n)
     width_is = wide s (state_after setting log n) at
 
@@ -47,7 +47,7 @@ module _ (setting : Setting) (log rest later : List (ℕ × ℕ)) (n choice : �
     runs_on run lt = run_more (rules_of setting) log n run (omega (arith, lt, width_is, choice_is))
 
     -- the next state
-    pub stands_on : Alike setting → AfterAlike setting → (next : Standing) → (machine_rules setting).same next ((machine_rules setting).after s choice) ≡ true →
+    pub stands_on : Alike setting → AfterAlike setting → (next : MachineState) → (machine_rules setting).same next ((machine_rules setting).after s choice) ≡ true →
         Stands setting next (state_after setting log (n + 1))
     stands_on alike after next same =
         let here : Stands setting next ((rules_of setting).after (state_after setting log n) choice) =
@@ -70,7 +70,7 @@ module _ (setting : Setting) (limit time variable : ℕ) (seen : List ℕ × Lis
   Before k = IsSeenBefore setting time variable seen.0 seen.1 k
 
   -- one more state was looked at
-  pub seen_by_now : (found now : Bool) (s : Standing) → Stands setting s (state_after setting seen.1 n) → Decides found (Before n) →
+  pub seen_by_now : (found now : Bool) (s : MachineState) → Stands setting s (state_after setting seen.1 n) → Decides found (Before n) →
       TellsSeenByNow found setting s time variable seen.0 now → Decides now (Before (n + 1))
   seen_by_now found now s at before tells =
       let d = tells (state_after setting seen.1 n) at in (
@@ -118,7 +118,7 @@ module _ (setting : Setting) (limit time variable : ℕ) (seen : List ℕ × Lis
 -- ---- a true value of a race is one that is so seen, under a log that is short enough
 
 module _ (setting : Setting) (report : Report) (time variable : ℕ) (seen : List ℕ × List (ℕ × ℕ)) where
-  seen_so : IsTrueSighting setting report time variable seen → IsSeenWithin setting report.steps time variable seen
+  seen_so : IsTrueWitness setting report time variable seen → IsSeenWithin setting report.steps time variable seen
   seen_so is = record {
     steps = is.steps;
     run = is.run;
@@ -136,7 +136,7 @@ module _ (setting : Setting) (report : Report) (time variable : ℕ) (seen : Lis
     };
   }
 
-  so_seen : length seen.1 ≤ report.depart → IsSeenWithin setting report.steps time variable seen → IsTrueSighting setting report time variable seen
+  so_seen : length seen.1 ≤ report.depart → IsSeenWithin setting report.steps time variable seen → IsTrueWitness setting report time variable seen
   so_seen short is =
       let at = is.before.at in
       let earlier = is.before.earlier in
@@ -159,7 +159,7 @@ module _ (setting : Setting) (report : Report) (time variable : ℕ) (seen : Lis
         short = short;
       }
 
-  pub sighting_when : {E : Type 0} (r : Result Bool E) → length seen.1 ≤ report.depart →
-      IfOk r (λ is. Decides is (IsSeenWithin setting report.steps time variable seen)) → IfOk r (λ is. Decides is (IsTrueSighting setting report time variable seen))
-  sighting_when (Ok b) short d = (λ h. so_seen short (d.0 h), λ is. d.1 (seen_so is))
-  sighting_when (Err e) short d = tt
+  pub witness_when : {E : Type 0} (r : Result Bool E) → length seen.1 ≤ report.depart →
+      IfOk r (λ is. Decides is (IsSeenWithin setting report.steps time variable seen)) → IfOk r (λ is. Decides is (IsTrueWitness setting report time variable seen))
+  witness_when (Ok b) short d = (λ h. so_seen short (d.0 h), λ is. d.1 (seen_so is))
+  witness_when (Err e) short d = tt

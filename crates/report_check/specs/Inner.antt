@@ -4,7 +4,7 @@ use Rattle.sched_core.specs.Rules.{IsRun, NamesBelow}
 use Rattle.vbits.specs.Vectors.{Vector}
 use Rattle.vmodel.specs.State.{State}
 use Rattle.vmodel.specs.Run.{Setting, rules_of, state_after}
-use Rattle.vmachine.specs.declared.standing.Standing.{Standing}
+use Rattle.vmachine.specs.declared.machine_state.MachineState.{MachineState}
 use Rattle.vmachine.specs.Machines.{Stands}
 use Rattle.vmachine.specs.Reads.{end_in, slot_in}
 use Rattle.report_text.specs.Report.{End, Report}
@@ -22,7 +22,7 @@ pub record IsToldAt (end : End) (t : State) : Type 0 where
   pub line_is : end.line ≡ values_line t.values
 
 -- the answer says whether it has
-abbrev pub TellsStanding : Setting → Standing → End → Bool → Type 0
+abbrev pub TellsStanding : Setting → MachineState → End → Bool → Type 0
 TellsStanding setting s end answer = (t : State) → Stands setting s t → Decides answer (IsToldAt end t)
 
 -- the run under the log of the end ends within so many steps, as is told
@@ -41,11 +41,11 @@ pub record IsSeenAt (time variable : ℕ) (text : List ℕ) (t : State) : Type 0
   pub text_is : text ≡ report_digits value
 
 -- the answer says whether it is so
-abbrev pub TellsSeen : Setting → Standing → ℕ → ℕ → List ℕ → Bool → Type 0
+abbrev pub TellsSeen : Setting → MachineState → ℕ → ℕ → List ℕ → Bool → Type 0
 TellsSeen setting s time variable text answer = (t : State) → Stands setting s t → Decides answer (IsSeenAt time variable text t)
 
 -- whether it was so before, or is so
-abbrev pub TellsSeenByNow : Bool → Setting → Standing → ℕ → ℕ → List ℕ → Bool → Type 0
+abbrev pub TellsSeenByNow : Bool → Setting → MachineState → ℕ → ℕ → List ℕ → Bool → Type 0
 TellsSeenByNow before setting s time variable text answer =
     (t : State) → Stands setting s t → Decides answer ((before ≡ true) ⊎ IsSeenAt time variable text t)
 

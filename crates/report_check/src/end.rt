@@ -10,7 +10,7 @@ use report_text::{End, Report};
 use sched_core::{Log, replay};
 use std::alloc::Global;
 use vcd_text::{Expected, expected_is_whole};
-use vmachine::{Machine, Standing, machine_law};
+use vmachine::{Machine, MachineState, machine_law};
 use vreport::{line_of_values, write_dump};
 
 // Whether the dump of the run, which ends, is this one.
@@ -38,12 +38,12 @@ fn is_dump(
 fn is_told(
     alloc: Global,
     machine: &Machine,
-    standing: &Standing,
+    machine_state: &MachineState,
     end: &End,
 ) -> Result<bool, NoMemory>
-    ensures { IfOk result (TellsStanding machine.now standing.now end.now) }
+    ensures { IfOk result (TellsStanding machine.now machine_state.now end.now) }
 {
-    let Some(told) = machine.end_of(standing) else {
+    let Some(told) = machine.end_of(machine_state) else {
         return Ok(false);
     };
     if told.time != end.time {
@@ -52,7 +52,7 @@ fn is_told(
     if told.cause != end.cause {
         return Ok(false);
     }
-    let line = line_of_values(alloc, machine.values(standing))?;
+    let line = line_of_values(alloc, machine.values(machine_state))?;
     Ok(line == end.line)
 }
 

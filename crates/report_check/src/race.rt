@@ -1,57 +1,57 @@
 // Whether a race of a report is true.
 
 ghost use Rattle.std.specs.Prelude.{◌≡◌, [], true, IfOk, Decides};
-ghost use Rattle.vreport.specs.Truth.{IsTrueRace, IsTrueSighting};
+ghost use Rattle.vreport.specs.Truth.{IsTrueRace, IsTrueWitness};
 ghost use Rattle.report_check.specs.Inner.{IsSeenWithin, TellsSeen, TellsSeenByNow};
 
 use basis::NoMemory;
-use report_text::{Race, Report, Seen};
+use report_text::{Race, RaceValue, Report};
 use sched_core::{Member, Space, next_choice};
 use std::alloc::Global;
-use vmachine::{Machine, Standing, machine_law};
+use vmachine::{Machine, MachineState, machine_law};
 use vreport::text_of_value;
 
 // Whether the slot of the race's time ends here, and its variable has this value.
 fn shows(
     alloc: Global,
     machine: &Machine,
-    standing: &Standing,
+    machine_state: &MachineState,
     race: &Race,
-    seen: &Seen,
+    race_value: &RaceValue,
 ) -> Result<bool, NoMemory>
     ensures { IfOk result
-        (TellsSeen machine.now standing.now race.now.time race.now.variable seen.now.0) }
+        (TellsSeen machine.now machine_state.now race.now.time race.now.variable race_value.now.0) }
 {
-    let Some(time) = machine.slot_of(standing) else {
+    let Some(time) = machine.slot_of(machine_state) else {
         return Ok(false);
     };
     if time != race.time {
         return Ok(false);
     }
-    let Some(value) = machine.values(standing).get(race.variable) else {
+    let Some(value) = machine.values(machine_state).get(race.variable) else {
         return Ok(false);
     };
     let text = text_of_value(alloc, *value)?;
-    Ok(text == seen.value)
+    Ok(text == race_value.value)
 }
 
 // Whether it was so before, or is so here.
 fn shows_by_now(
     alloc: Global,
     machine: &Machine,
-    standing: &Standing,
+    machine_state: &MachineState,
     race: &Race,
-    seen: &Seen,
+    race_value: &RaceValue,
     before: bool,
 ) -> Result<bool, NoMemory>
     ensures { IfOk result
-        (TellsSeenByNow before machine.now standing.now race.now.time race.now.variable
-        seen.now.0) }
+        (TellsSeenByNow before machine.now machine_state.now race.now.time race.now.variable
+        race_value.now.0) }
 {
     if before {
         return Ok(true);
     }
-    shows(alloc, machine, standing, race, seen)
+    shows(alloc, machine, machine_state, race, race_value)
 }
 
 // Whether the value was seen and nothing is left of the log.
@@ -70,18 +70,18 @@ fn is_seen(
     machine: &Machine,
     steps: u32,
     race: &Race,
-    seen: &Seen,
+    race_value: &RaceValue,
 ) -> Result<bool, NoMemory>
     ensures { IfOk result (λ is.
-        Decides is (IsSeenWithin machine.now steps race.now.time race.now.variable seen.now)) }
+        Decides is (IsSeenWithin machine.now steps race.now.time race.now.variable race_value.now)) }
 {
     machine_law();
     let mut state = machine.root()?;
-    let mut rest = seen.log.members();
+    let mut rest = race_value.log.members();
     let mut n = 0;
     let mut found = false;
-    'turns: loop {
-        found = shows_by_now(alloc, machine, &state, race, seen, found)?;
+    'walk: loop {
+        found = shows_by_now(alloc, machine, &state, race, race_value, found)?;
         if has_all(found, rest) {
             return Ok(true);
         }
@@ -101,21 +101,21 @@ fn is_seen(
 // Whether a value of the race is true: the run under its log has no more departures than the head of the report allows,
 // and within the steps that the head allows it comes to the end of that slot with that value and takes all that the log
 // names.
-fn is_true_sighting(
+fn is_true_witness(
     alloc: Global,
     machine: &Machine,
     report: &Report,
     race: &Race,
-    seen: &Seen,
+    race_value: &RaceValue,
 ) -> Result<bool, NoMemory>
     ensures { IfOk result (λ is.
-        Decides is (IsTrueSighting machine.now report.now race.now.time race.now.variable
-        seen.now)) }
+        Decides is (IsTrueWitness machine.now report.now race.now.time race.now.variable
+        race_value.now)) }
 {
-    if seen.log.members().len() > report.depart as usize {
+    if race_value.log.members().len() > report.depart as usize {
         return Ok(false);
     }
-    is_seen(alloc, machine, report.steps, race, seen)
+    is_seen(alloc, machine, report.steps, race, race_value)
 }
 
 /// Whether a race of the report is true: each of its values is seen in the run under its log, at the end of that slot.
@@ -128,8 +128,8 @@ pub fn is_true_race(
 ) -> Result<bool, NoMemory>
     ensures { IfOk result (λ is. Decides is (IsTrueRace machine.now report.now race.now)) }
 {
-    for seen in &race.values {
-        if !is_true_sighting(alloc, machine, report, race, seen)? {
+    for race_value in &race.values {
+        if !is_true_witness(alloc, machine, report, race, race_value)? {
             return Ok(false);
         }
     }

@@ -9,7 +9,7 @@ use Rattle.report_text.specs.declared.report.Version.TheVariants.{One, Two}
 use Rattle.report_text.specs.ReportText.{version_number}
 use Rattle.vast.specs.Names.{has_letters_of_name}
 use Rattle.report_text.specs.Inner.Fronts.{lacks}
-use Rattle.report_text.specs.Inner.Headings.{IsNumberLine, labelled}
+use Rattle.report_text.specs.Inner.Headings.{IsNumberLine, label_line_before}
 use Rattle.report_text.proofs.FrontLemmas.{and_left, and_right, both}
 use Rattle.report_text.proofs.LineLemmas.{lacks_by}
 
@@ -23,7 +23,7 @@ name_in (c ∷ cs) h = both _ _ (begins_in c (and_left _ _ h)) (and_right _ _ h)
 pub name_lacks : (b : ℕ) (name : List ℕ) → is_in_name b ≡ false → has_letters_of_name name ≡ true → lacks b name ≡ true
 name_lacks b name other h = lacks_by is_in_name b other name (name_in name h)
 
-pub version_front : (v : Version) (text rest : List ℕ) → text ≡ labelled (codes "vrace report ") (decimal (version_number v)) rest → IsNumberLine (codes "vrace report ") 1 2 text (version_number v) rest
+pub version_front : (v : Version) (text rest : List ℕ) → text ≡ label_line_before (codes "vrace report ") (decimal (version_number v)) rest → IsNumberLine (codes "vrace report ") 1 2 text (version_number v) rest
 version_front One text rest e = record { small = omega arith; above = omega arith; below = omega arith; whole = e }
 version_front Two text rest e = record { small = omega arith; above = omega arith; below = omega arith; whole = e }
 

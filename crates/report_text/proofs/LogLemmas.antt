@@ -6,7 +6,7 @@ use Rattle.std.specs.Fmt.{decimal}
 use Rattle.sched_core.specs.Logs.{IsLog, IsLogFrom}
 use Rattle.sched_core.specs.LogText.{member_text, more_text, log_text}
 use Rattle.report_text.specs.Report.{Column}
-use Rattle.report_text.specs.ReportText.{cause_word, spaced}
+use Rattle.report_text.specs.ReportText.{cause_word, joined_by_space}
 use Rattle.report_text.specs.WellFormed.{IsValue, IsLineOf, is_digit}
 use Rattle.report_text.specs.Inner.Fronts.{lacks}
 use Rattle.report_text.specs.Inner.Ends.{Ended, ended_text, IsEnded, EndSpelling, IsSpelling, spelled_before}
@@ -50,7 +50,7 @@ feed_outside = record { digit = refl; colon = refl; comma = refl; dash = refl }
 abbrev pub spelling_of : Ended → EndSpelling
 spelling_of ended = record { time = ended.0.time; cause = ended.0.cause; log = log_text ended.0.log; bytes = ended.0.bytes; line = ended.0.line; dump = ended.1 }
 
-spell_end : (e t c l b v d rest : List ℕ) → (((((e ++ spaced t (spaced c (spaced l b))) ++ 10 ∷ []) ++ (v ++ 10 ∷ [])) ++ d) ++ rest) ≡
+spell_end : (e t c l b v d rest : List ℕ) → (((((e ++ joined_by_space t (joined_by_space c (joined_by_space l b))) ++ 10 ∷ []) ++ (v ++ 10 ∷ [])) ++ d) ++ rest) ≡
     e ++ (t ++ 32 ∷ (c ++ 32 ∷ (l ++ 32 ∷ (b ++ 10 ∷ (v ++ 10 ∷ (d ++ rest))))))
 spell_end e t c l b v d rest =
     simp append_assoc (ap (λ r. e ++ (t ++ 32 ∷ (c ++ 32 ∷ (l ++ 32 ∷ r)))) (append_assoc b (10 ∷ (v ++ 10 ∷ d)) rest ∙ ap (λ r. b ++ 10 ∷ r) (append_assoc v (10 ∷ d) rest)))

@@ -25,7 +25,7 @@ use Rattle.report_text.specs.WellFormed.{Each, EachTwo, IsColumn, IsReport, IsVa
 use Rattle.report_text.specs.Inner.Columns.{Differ}
 use Rattle.report_text.specs.Inner.Ends.{Ended, ended_text, IsEnded}
 use Rattle.report_text.specs.Inner.Fronts.{lacks}
-use Rattle.report_text.specs.Inner.Headings.{Heading, IsHeading, heading_before, grain_before, labelled}
+use Rattle.report_text.specs.Inner.Headings.{Heading, IsHeading, heading_before, grain_before, label_line_before}
 use Rattle.report_text.specs.Inner.Races.{Shown, shown_line, IsShown, IsCounted}
 use Rattle.report_text.specs.Inner.Wholes.{IsBodyTaken}
 use Rattle.report_text.proofs.FrontLemmas.{cut_unique}
@@ -38,7 +38,7 @@ use Rattle.report_text.proofs.WordLemmas.{version_injective, grain_injective, ca
 use Rattle.report_text.proofs.SpellingLemmas.{heading_of, body_before}
 use Rattle.report_text.proofs.WholeLemmas.{read_from, same_report}
 
-labelled_one : (w v u x y : List ℕ) → labelled w v x ≡ labelled w u y → lacks 10 v ≡ true → lacks 10 u ≡ true → (v ≡ u) × (x ≡ y)
+labelled_one : (w v u x y : List ℕ) → label_line_before w v x ≡ label_line_before w u y → lacks 10 v ≡ true → lacks 10 u ≡ true → (v ≡ u) × (x ≡ y)
 labelled_one w v u x y e p q = cut_unique 10 v u x y p q (append_cancel_left w (v ++ 10 ∷ x) (u ++ 10 ∷ y) e)
 
 numbers_one : (b m n : ℕ) (x y : List ℕ) → lacks b (decimal m) ≡ true → lacks b (decimal n) ≡ true → m < 2 ^ 64 → n < 2 ^ 64 → decimal m ++ b ∷ x ≡ decimal n ++ b ∷ y → (m ≡ n) × (x ≡ y)
@@ -50,7 +50,7 @@ feed_number m n x y small few e = numbers_one 10 m n x y (decimal_lacks 10 m ref
 space_number : (m n : ℕ) (x y : List ℕ) → m < 2 ^ 64 → n < 2 ^ 64 → decimal m ++ 32 ∷ x ≡ decimal n ++ 32 ∷ y → (m ≡ n) × (x ≡ y)
 space_number m n x y small few e = numbers_one 32 m n x y (decimal_lacks 32 m refl small) (decimal_lacks 32 n refl few) small few e
 
-number_one : (w : List ℕ) (m n : ℕ) (x y : List ℕ) → m < 2 ^ 64 → n < 2 ^ 64 → labelled w (decimal m) x ≡ labelled w (decimal n) y → (m ≡ n) × (x ≡ y)
+number_one : (w : List ℕ) (m n : ℕ) (x y : List ℕ) → m < 2 ^ 64 → n < 2 ^ 64 → label_line_before w (decimal m) x ≡ label_line_before w (decimal n) y → (m ≡ n) × (x ≡ y)
 number_one w m n x y small few e = feed_number m n x y small few (append_cancel_left w (decimal m ++ 10 ∷ x) (decimal n ++ 10 ∷ y) e)
 
 version_small : (v : Version) → version_number v < 2 ^ 64
@@ -85,8 +85,8 @@ heading_one h k x y p q e =
     let u = number_one (codes "until ") h.until k.until _ _ (omega (arith, p.until)) (omega (arith, q.until)) t.1 in
     let d = number_one (codes "depart ") h.depart k.depart _ _ (omega (arith, p.depart)) (omega (arith, q.depart)) u.1 in
     let s = number_one (codes "steps ") h.steps k.steps _ _ (omega (arith, p.few_steps)) (omega (arith, q.few_steps)) d.1 in
-    let below : List ℕ = labelled (codes "state ") (outcome_words k.outcome) y in
-    let g = grain_one h.version h.grain k.grain (labelled (codes "state ") (outcome_words h.outcome) x) below p.grain (λ one. q.grain (sym version ∙ one)) (s.1 ∙ ap (λ w. grain_before w k.grain below) (sym version)) in
+    let below : List ℕ = label_line_before (codes "state ") (outcome_words k.outcome) y in
+    let g = grain_one h.version h.grain k.grain (label_line_before (codes "state ") (outcome_words h.outcome) x) below p.grain (λ one. q.grain (sym version ∙ one)) (s.1 ∙ ap (λ w. grain_before w k.grain below) (sym version)) in
     let o = labelled_one (codes "state ") (outcome_words h.outcome) (outcome_words k.outcome) x y g.1 (outcome_lacks h.outcome) (outcome_lacks k.outcome) in
     let outcome = outcome_injective h.outcome k.outcome o.0 in
     ((λ i. record { version = version i; top = t.0 i; until = u.0 i; depart = d.0 i; steps = s.0 i; grain = g.0 i; outcome = outcome i }), o.1)

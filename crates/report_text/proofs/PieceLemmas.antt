@@ -4,7 +4,7 @@ use Rattle.std.proofs.lemmas.List.{take_more}
 use Rattle.sched_core.specs.LogText.{log_text}
 use Rattle.std.specs.Prelude.{codes, decimal}
 use Rattle.report_text.specs.Report.{Column, End}
-use Rattle.report_text.specs.ReportText.{line, spaced, cause_word, column_line, column_lines, end_text, value_lines}
+use Rattle.report_text.specs.ReportText.{line, joined_by_space, cause_word, column_line, column_lines, end_text, value_lines}
 
 pub column_lines-append : (xs : List Column) (x : Column) → column_lines (xs ++ x ∷ []) ≡ column_lines xs ++ column_line x
 column_lines-append [] x = append-nil (column_line x)
@@ -14,7 +14,7 @@ abbrev pub Value : Type 0
 Value = List ℕ × List (ℕ × ℕ)
 
 abbrev pub value_line : Value → List ℕ
-value_line value = line (spaced value.0 (log_text value.1))
+value_line value = line (joined_by_space value.0 (log_text value.1))
 
 pub value_lines-append : (xs : List Value) (x : Value) → value_lines (xs ++ x ∷ []) ≡ value_lines xs ++ value_line x
 value_lines-append [] x = append-nil (value_line x)

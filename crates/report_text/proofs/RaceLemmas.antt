@@ -12,7 +12,7 @@ use Rattle.std.proofs.lemmas.Bool.Decides.{nat_tests}
 use Rattle.basis.proofs.Lists.{place_within}
 use Rattle.sched_core.specs.LogText.{log_text}
 use Rattle.report_text.specs.Report.{Column, Race}
-use Rattle.report_text.specs.ReportText.{spaced, name_at, race_text, races_text, value_lines}
+use Rattle.report_text.specs.ReportText.{joined_by_space, name_at, race_text, races_text, value_lines}
 use Rattle.report_text.specs.WellFormed.{IsValue, IsRaceForm, IsRaceBefore, EachTwo}
 use Rattle.report_text.specs.Inner.Columns.{Differ}
 use Rattle.report_text.specs.Inner.Races.{Shown, shown_line, IsShown, IsShownBefore, IsRaceLine, IsRaceTaken}
@@ -22,7 +22,7 @@ use Rattle.report_text.proofs.EndedLemmas.{part_at, whole_at}
 use Rattle.report_text.proofs.ColumnLemmas.{no_test}
 
 pub shown_spelled : (shown : Shown) (rest : List ℕ) → shown_line shown ++ rest ≡ shown.0 ++ 32 ∷ (log_text shown.1 ++ 10 ∷ rest)
-shown_spelled shown rest = append_assoc (spaced shown.0 (log_text shown.1)) (10 ∷ []) rest ∙ append_assoc shown.0 (32 ∷ log_text shown.1) (10 ∷ rest)
+shown_spelled shown rest = append_assoc (joined_by_space shown.0 (log_text shown.1)) (10 ∷ []) rest ∙ append_assoc shown.0 (32 ∷ log_text shown.1) (10 ∷ rest)
 
 pub values_spelled : (values : List Shown) → flat_map shown_line values ≡ value_lines values
 values_spelled [] = refl
@@ -65,17 +65,17 @@ place_of columns names name i column shown differ at is =
     by : (n : ℕ) → n ≡ i → i < length names → cond (nat_lt n (length names)) (Some n) None ≡ Some i
     by n e lt = let small : nat_lt n (length names) ≡ true = grind (arith, nat_tests, e, lt) in rw small (ap Some e)
 
-spell_race : (e t n k v rest : List ℕ) → (((e ++ spaced t (spaced n k)) ++ 10 ∷ []) ++ v) ++ rest ≡ e ++ (t ++ 32 ∷ (n ++ 32 ∷ (k ++ 10 ∷ (v ++ rest))))
+spell_race : (e t n k v rest : List ℕ) → (((e ++ joined_by_space t (joined_by_space n k)) ++ 10 ∷ []) ++ v) ++ rest ≡ e ++ (t ++ 32 ∷ (n ++ 32 ∷ (k ++ 10 ∷ (v ++ rest))))
 spell_race e t n k v rest =
-    append_assoc ((e ++ spaced t (spaced n k)) ++ 10 ∷ []) v rest
-    ∙ append_assoc (e ++ spaced t (spaced n k)) (10 ∷ []) (v ++ rest)
-    ∙ append_assoc e (spaced t (spaced n k)) (10 ∷ (v ++ rest))
-    ∙ ap (λ r. e ++ r) (append_assoc t (32 ∷ spaced n k) (10 ∷ (v ++ rest)) ∙ ap (λ r. t ++ 32 ∷ r) (append_assoc n (32 ∷ k) (10 ∷ (v ++ rest))))
+    append_assoc ((e ++ joined_by_space t (joined_by_space n k)) ++ 10 ∷ []) v rest
+    ∙ append_assoc (e ++ joined_by_space t (joined_by_space n k)) (10 ∷ []) (v ++ rest)
+    ∙ append_assoc e (joined_by_space t (joined_by_space n k)) (10 ∷ (v ++ rest))
+    ∙ ap (λ r. e ++ r) (append_assoc t (32 ∷ joined_by_space n k) (10 ∷ (v ++ rest)) ∙ ap (λ r. t ++ 32 ∷ r) (append_assoc n (32 ∷ k) (10 ∷ (v ++ rest))))
 
 pub race_spelled : (columns : List Column) (race : Race) (column : Column) (rest : List ℕ) → slice_get columns race.variable ≡ Some column →
     race_text columns race ++ rest ≡ codes "race " ++ (decimal race.time ++ 32 ∷ (column.name ++ 32 ∷ (decimal (length race.values) ++ 10 ∷ (value_lines race.values ++ rest))))
 race_spelled columns race column rest at =
-    ap (λ o. ((codes "race " ++ spaced (decimal race.time) (spaced (name_at o) (decimal (length race.values)))) ++ 10 ∷ [] ++ value_lines race.values) ++ rest) at
+    ap (λ o. ((codes "race " ++ joined_by_space (decimal race.time) (joined_by_space (name_at o) (decimal (length race.values)))) ++ 10 ∷ [] ++ value_lines race.values) ++ rest) at
     ∙ spell_race (codes "race ") (decimal race.time) column.name (decimal (length race.values)) (value_lines race.values) rest
 
 -- a race's first line and its values

@@ -8,34 +8,34 @@ use Rattle.vmodel.specs.declared.history.Grain.{Grain}
 use Rattle.report_text.specs.declared.report.Version.{Version}
 use Rattle.report_text.specs.declared.report.Version.TheVariants.{One, Two}
 use Rattle.report_text.specs.Report.{Report}
-use Rattle.report_text.specs.ReportText.{line, spaced, version_number, grain_word, outcome_words, grain_lines, column_lines, head_text, ends_text, races_text, report_text}
+use Rattle.report_text.specs.ReportText.{line, joined_by_space, version_number, grain_word, outcome_words, grain_lines, column_lines, head_text, ends_text, races_text, report_text}
 use Rattle.report_text.specs.Inner.Ends.{Ended, ended_text}
-use Rattle.report_text.specs.Inner.Headings.{Heading, heading_before, grain_before, labelled}
+use Rattle.report_text.specs.Inner.Headings.{Heading, heading_before, grain_before, label_line_before}
 
 abbrev before : List ℕ → List ℕ → List ℕ → List ℕ
 before w v y = (w ++ 32 ∷ []) ++ (v ++ 10 ∷ y)
 
-line_before : (w v y : List ℕ) → line (spaced w v) ++ y ≡ before w v y
-line_before w v y = append_assoc (spaced w v) (10 ∷ []) y ∙ append_assoc w (32 ∷ v) (10 ∷ y) ∙ sym (append_assoc w (32 ∷ []) (v ++ 10 ∷ y))
+line_before : (w v y : List ℕ) → line (joined_by_space w v) ++ y ≡ before w v y
+line_before w v y = append_assoc (joined_by_space w v) (10 ∷ []) y ∙ append_assoc w (32 ∷ v) (10 ∷ y) ∙ sym (append_assoc w (32 ∷ []) (v ++ 10 ∷ y))
 
-peel : (p w v y : List ℕ) → (p ++ line (spaced w v)) ++ y ≡ p ++ before w v y
-peel p w v y = append_assoc p (line (spaced w v)) y ∙ ap (λ t. p ++ t) (line_before w v y)
+peel : (p w v y : List ℕ) → (p ++ line (joined_by_space w v)) ++ y ≡ p ++ before w v y
+peel p w v y = append_assoc p (line (joined_by_space w v)) y ∙ ap (λ t. p ++ t) (line_before w v y)
 
 grain_spelled : (version : Version) (grain : Grain) (y : List ℕ) → grain_lines version grain ++ y ≡ grain_before version grain y
 grain_spelled One grain y = refl
 grain_spelled Two grain y = line_before (codes "grain") (grain_word grain) y
 
 peel_all : (w1 v1 w2 v2 w3 v3 w4 v4 w5 v5 g w6 v6 w7 v7 c y : List ℕ) →
-    (((((((((line (spaced w1 v1) ++ line (spaced w2 v2)) ++ line (spaced w3 v3)) ++ line (spaced w4 v4)) ++ line (spaced w5 v5)) ++ g) ++ line (spaced w6 v6)) ++ line (spaced w7 v7)) ++ c) ++ y)
+    (((((((((line (joined_by_space w1 v1) ++ line (joined_by_space w2 v2)) ++ line (joined_by_space w3 v3)) ++ line (joined_by_space w4 v4)) ++ line (joined_by_space w5 v5)) ++ g) ++ line (joined_by_space w6 v6)) ++ line (joined_by_space w7 v7)) ++ c) ++ y)
     ≡ before w1 v1 (before w2 v2 (before w3 v3 (before w4 v4 (before w5 v5 (g ++ before w6 v6 (before w7 v7 (c ++ y)))))))
 peel_all w1 v1 w2 v2 w3 v3 w4 v4 w5 v5 g w6 v6 w7 v7 c y =
-    let l1 : List ℕ = line (spaced w1 v1) in
-    let l2 : List ℕ = l1 ++ line (spaced w2 v2) in
-    let l3 : List ℕ = l2 ++ line (spaced w3 v3) in
-    let l4 : List ℕ = l3 ++ line (spaced w4 v4) in
-    let l5 : List ℕ = l4 ++ line (spaced w5 v5) in
-    let l6 : List ℕ = (l5 ++ g) ++ line (spaced w6 v6) in
-    let l7 : List ℕ = l6 ++ line (spaced w7 v7) in
+    let l1 : List ℕ = line (joined_by_space w1 v1) in
+    let l2 : List ℕ = l1 ++ line (joined_by_space w2 v2) in
+    let l3 : List ℕ = l2 ++ line (joined_by_space w3 v3) in
+    let l4 : List ℕ = l3 ++ line (joined_by_space w4 v4) in
+    let l5 : List ℕ = l4 ++ line (joined_by_space w5 v5) in
+    let l6 : List ℕ = (l5 ++ g) ++ line (joined_by_space w6 v6) in
+    let l7 : List ℕ = l6 ++ line (joined_by_space w7 v7) in
     append_assoc l7 c y
     ∙ peel l6 w7 v7 (c ++ y)
     ∙ peel (l5 ++ g) w6 v6 (before w7 v7 (c ++ y))
@@ -49,21 +49,21 @@ peel_all w1 v1 w2 v2 w3 v3 w4 v4 w5 v5 g w6 v6 w7 v7 c y =
 abbrev pub heading_of : Report → Heading
 heading_of r = record { version = r.version; top = r.top; until = r.until; depart = r.depart; steps = r.steps; grain = r.grain; outcome = r.outcome }
 
-pub head_spelled : (r : Report) (y : List ℕ) → head_text r ++ y ≡ heading_before (heading_of r) (labelled (codes "vars ") (decimal (length r.variables)) (column_lines r.variables ++ y))
+pub head_spelled : (r : Report) (y : List ℕ) → head_text r ++ y ≡ heading_before (heading_of r) (label_line_before (codes "vars ") (decimal (length r.variables)) (column_lines r.variables ++ y))
 head_spelled r y =
     peel_all (codes "vrace report") (decimal (version_number r.version)) (codes "top") r.top (codes "until") (decimal r.until) (codes "depart") (decimal r.depart) (codes "steps") (decimal r.steps)
     (grain_lines r.version r.grain) (codes "state") (outcome_words r.outcome) (codes "vars") (decimal (length r.variables)) (column_lines r.variables) y
     ∙ ap (λ t. before (codes "vrace report") (decimal (version_number r.version)) (before (codes "top") r.top (before (codes "until") (decimal r.until) (before (codes "depart") (decimal r.depart) (before (codes "steps") (decimal r.steps) t)))))
     (grain_spelled r.version r.grain (before (codes "state") (outcome_words r.outcome) (before (codes "vars") (decimal (length r.variables)) (column_lines r.variables ++ y))))
 
-body_peel : (h we ve e wr vr r : List ℕ) → (((h ++ line (spaced we ve)) ++ e) ++ line (spaced wr vr)) ++ r ≡ h ++ before we ve (e ++ before wr vr r)
+body_peel : (h we ve e wr vr r : List ℕ) → (((h ++ line (joined_by_space we ve)) ++ e) ++ line (joined_by_space wr vr)) ++ r ≡ h ++ before we ve (e ++ before wr vr r)
 body_peel h we ve e wr vr r =
-    peel ((h ++ line (spaced we ve)) ++ e) wr vr r ∙ append_assoc (h ++ line (spaced we ve)) e (before wr vr r) ∙ peel h we ve (e ++ before wr vr r)
+    peel ((h ++ line (joined_by_space we ve)) ++ e) wr vr r ∙ append_assoc (h ++ line (joined_by_space we ve)) e (before wr vr r) ∙ peel h we ve (e ++ before wr vr r)
 
 abbrev pub body_before : Report → List (List ℕ) → List ℕ
-body_before r dumps = labelled (codes "ends ") (decimal (length r.ends)) (ends_text r.ends dumps ++ labelled (codes "races ") (decimal (length r.races)) (races_text r.variables r.races))
+body_before r dumps = label_line_before (codes "ends ") (decimal (length r.ends)) (ends_text r.ends dumps ++ label_line_before (codes "races ") (decimal (length r.races)) (races_text r.variables r.races))
 
-pub report_spelled : (r : Report) (dumps : List (List ℕ)) → report_text r dumps ≡ heading_before (heading_of r) (labelled (codes "vars ") (decimal (length r.variables)) (column_lines r.variables ++ body_before r dumps))
+pub report_spelled : (r : Report) (dumps : List (List ℕ)) → report_text r dumps ≡ heading_before (heading_of r) (label_line_before (codes "vars ") (decimal (length r.variables)) (column_lines r.variables ++ body_before r dumps))
 report_spelled r dumps =
     body_peel (head_text r) (codes "ends") (decimal (length r.ends)) (ends_text r.ends dumps) (codes "races") (decimal (length r.races)) (races_text r.variables r.races)
     ∙ head_spelled r (body_before r dumps)
@@ -80,7 +80,7 @@ right_le xs ys = let l = length-append xs ys in omega (arith, l)
 pub left_le : (xs ys : List ℕ) → length xs ≤ length (xs ++ ys)
 left_le xs ys = let l = length-append xs ys in omega (arith, l)
 
-pub labelled_le : (w v y : List ℕ) → length y ≤ length (labelled w v y)
+pub labelled_le : (w v y : List ℕ) → length y ≤ length (label_line_before w v y)
 labelled_le w v y =
     let a = length-append w (v ++ 10 ∷ y) in
     let b = length-append v (10 ∷ y) in
@@ -96,12 +96,12 @@ le_trans a b c p q = omega (arith, p, q)
 
 pub heading_le : (h : Heading) (y : List ℕ) → length y ≤ length (heading_before h y)
 heading_le h y =
-    let t6 : List ℕ = labelled (codes "state ") (outcome_words h.outcome) y in
+    let t6 : List ℕ = label_line_before (codes "state ") (outcome_words h.outcome) y in
     let t5 : List ℕ = grain_before h.version h.grain t6 in
-    let t4 : List ℕ = labelled (codes "steps ") (decimal h.steps) t5 in
-    let t3 : List ℕ = labelled (codes "depart ") (decimal h.depart) t4 in
-    let t2 : List ℕ = labelled (codes "until ") (decimal h.until) t3 in
-    let t1 : List ℕ = labelled (codes "top ") h.top t2 in
+    let t4 : List ℕ = label_line_before (codes "steps ") (decimal h.steps) t5 in
+    let t3 : List ℕ = label_line_before (codes "depart ") (decimal h.depart) t4 in
+    let t2 : List ℕ = label_line_before (codes "until ") (decimal h.until) t3 in
+    let t1 : List ℕ = label_line_before (codes "top ") h.top t2 in
     le_trans (length y) (length t6) _ (labelled_le (codes "state ") (outcome_words h.outcome) y)
     (le_trans (length t6) (length t5) _ (grain_le h.version h.grain t6)
     (le_trans (length t5) (length t4) _ (labelled_le (codes "steps ") (decimal h.steps) t5)

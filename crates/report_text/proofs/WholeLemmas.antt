@@ -7,10 +7,10 @@ use Rattle.std.proofs.lemmas.List.{length-map}
 use Rattle.sched_core.specs.LogText.{log_text}
 use Rattle.std.proofs.lemmas.Option.{same_Some}
 use Rattle.report_text.specs.Report.{Column, End, Race, Report}
-use Rattle.report_text.specs.ReportText.{line, spaced, cause_word, name_at, column_line, column_lines, end_text, ends_text, race_text, races_text, value_lines, report_text}
+use Rattle.report_text.specs.ReportText.{line, joined_by_space, cause_word, name_at, column_line, column_lines, end_text, ends_text, race_text, races_text, value_lines, report_text}
 use Rattle.report_text.specs.WellFormed.{Each, IsEnd, IsEndBefore, HaveBytes, IsReport}
 use Rattle.report_text.specs.Inner.Ends.{Ended, ended_text}
-use Rattle.report_text.specs.Inner.Headings.{Heading, heading_before, labelled}
+use Rattle.report_text.specs.Inner.Headings.{Heading, heading_before, label_line_before}
 use Rattle.report_text.specs.Inner.Races.{shown_line}
 use Rattle.report_text.specs.Inner.Wholes.{IsHeadTaken, IsBodyTaken}
 use Rattle.report_text.proofs.EndedLemmas.{part_at, whole_at}
@@ -77,8 +77,8 @@ is_report h columns all races text mid head body = (
     races_order = body.listed.1;
   },
   head.whole
-      ∙ ap (λ m. heading_before h (labelled (codes "vars ") (decimal (length columns)) (column_lines columns ++ m)))
-      (body.whole ∙ (λ i. labelled (codes "ends ") (decimal (sym (length-map all (λ e. e.0)) i)) (sym (ends_spelled all) i ++ labelled (codes "races ") (decimal (length races)) (append-nil (races_text columns races) i))))
+      ∙ ap (λ m. heading_before h (label_line_before (codes "vars ") (decimal (length columns)) (column_lines columns ++ m)))
+      (body.whole ∙ (λ i. label_line_before (codes "ends ") (decimal (sym (length-map all (λ e. e.0)) i)) (sym (ends_spelled all) i ++ label_line_before (codes "races ") (decimal (length races)) (append-nil (races_text columns races) i))))
       ∙ sym (report_spelled (report_of h columns (map (λ e. e.0) all) races) (map (λ e. e.1) all)),
 )
 
@@ -92,22 +92,22 @@ pub record IsReadFrom (text : List ℕ) (r : Report) (dumps : List (List ℕ)) :
 
 race_some : (columns : List Column) (race : Race) → length race.values ≤ length (race_text columns race)
 race_some columns race =
-    let front : List ℕ = line (codes "race " ++ spaced (decimal race.time) (spaced (name_at (slice_get columns race.variable)) (decimal (length race.values)))) in
+    let front : List ℕ = line (codes "race " ++ joined_by_space (decimal race.time) (joined_by_space (name_at (slice_get columns race.variable)) (decimal (length race.values)))) in
     let a = right_le front (value_lines race.values) in
-    let b = items_le shown_line race.values (λ shown. line_some (spaced shown.0 (log_text shown.1))) in
+    let b = items_le shown_line race.values (λ shown. line_some (joined_by_space shown.0 (log_text shown.1))) in
     let c : length (flat_map shown_line race.values) ≡ length (value_lines race.values) = ap length (values_spelled race.values) in
     omega (arith, a, b, c)
 
 race_one : (columns : List Column) (race : Race) → 1 ≤ length (race_text columns race)
 race_one columns race =
-    let front : List ℕ = codes "race " ++ spaced (decimal race.time) (spaced (name_at (slice_get columns race.variable)) (decimal (length race.values))) in
+    let front : List ℕ = codes "race " ++ joined_by_space (decimal race.time) (joined_by_space (name_at (slice_get columns race.variable)) (decimal (length race.values))) in
     let a = left_le (line front) (value_lines race.values) in
     let b = line_some front in
     omega (arith, a, b)
 
 ended_one : (ended : Ended) → 1 ≤ length (ended_text ended)
 ended_one ended =
-    let front : List ℕ = line (codes "end " ++ spaced (decimal ended.0.time) (spaced (cause_word ended.0.cause) (spaced (log_text ended.0.log) (decimal ended.0.bytes)))) in
+    let front : List ℕ = line (codes "end " ++ joined_by_space (decimal ended.0.time) (joined_by_space (cause_word ended.0.cause) (joined_by_space (log_text ended.0.log) (decimal ended.0.bytes)))) in
     let a = left_le (end_text ended.0) ended.1 in
     let b = right_le front (line ended.0.line) in
     let c = line_some ended.0.line in
@@ -123,9 +123,9 @@ record HasSizes (n : ℕ) (r : Report) (all : List Ended) : Type 0 where
 
 sizes : (text : List ℕ) (r : Report) (dumps : List (List ℕ)) (all : List Ended) → text ≡ report_text r dumps → ends_text r.ends dumps ≡ flat_map ended_text all → HasSizes (length text) r all
 sizes text r dumps all e f =
-    let whole : length text ≡ length (heading_before (heading_of r) (labelled (codes "vars ") (decimal (length r.variables)) (column_lines r.variables ++ body_before r dumps))) = ap length (e ∙ report_spelled r dumps) in
-    let tail : List ℕ = labelled (codes "races ") (decimal (length r.races)) (races_text r.variables r.races) in
-    let a = heading_le (heading_of r) (labelled (codes "vars ") (decimal (length r.variables)) (column_lines r.variables ++ body_before r dumps)) in
+    let whole : length text ≡ length (heading_before (heading_of r) (label_line_before (codes "vars ") (decimal (length r.variables)) (column_lines r.variables ++ body_before r dumps))) = ap length (e ∙ report_spelled r dumps) in
+    let tail : List ℕ = label_line_before (codes "races ") (decimal (length r.races)) (races_text r.variables r.races) in
+    let a = heading_le (heading_of r) (label_line_before (codes "vars ") (decimal (length r.variables)) (column_lines r.variables ++ body_before r dumps)) in
     let b = labelled_le (codes "vars ") (decimal (length r.variables)) (column_lines r.variables ++ body_before r dumps) in
     let c = left_le (column_lines r.variables) (body_before r dumps) in
     let d = right_le (column_lines r.variables) (body_before r dumps) in
@@ -139,7 +139,7 @@ sizes text r dumps all e f =
     let races_len : length (flat_map (race_text r.variables) r.races) ≤ length text = subst (λ t. length t ≤ length text) (sym (races_spelled r.variables r.races)) (omega (arith, body_len, g, k, l)) in
     record {
       columns =
-          let s = items_le column_line r.variables (λ column. line_some (spaced column.name (decimal column.width))) in
+          let s = items_le column_line r.variables (λ column. line_some (joined_by_space column.name (decimal column.width))) in
           let t : length (flat_map column_line r.variables) ≡ length (column_lines r.variables) = ap length (columns_spelled r.variables) in
           omega (arith, s, t, columns_len);
       ends = (let s = items_le ended_text all ended_one in omega (arith, s, ends_len));
@@ -179,7 +179,7 @@ read_from text r dumps small is e =
         few_ends = omega (arith, small, s.ends);
         listed = (λ i x at. (is.races i x at, (let short : length x.values ≤ length text = s.values i x at in omega (arith, short, small))), is.races_order);
         few_races = omega (arith, small, s.races);
-        whole = λ i. labelled (codes "ends ") (decimal (count i)) (same i ++ labelled (codes "races ") (decimal (length r.races)) (sym (append-nil (races_text r.variables r.races)) i));
+        whole = λ i. label_line_before (codes "ends ") (decimal (count i)) (same i ++ label_line_before (codes "races ") (decimal (length r.races)) (sym (append-nil (races_text r.variables r.races)) i));
       };
     }
 

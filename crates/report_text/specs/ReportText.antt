@@ -15,12 +15,12 @@ abbrev pub line : List ℕ → List ℕ
 line text = text ++ 10 ∷ []
 
 -- two words with a space between
-abbrev pub spaced : List ℕ → List ℕ → List ℕ
-spaced left right = left ++ 32 ∷ right
+abbrev pub joined_by_space : List ℕ → List ℕ → List ℕ
+joined_by_space left right = left ++ 32 ∷ right
 
 -- a word, a space and a number
 abbrev pub number_line : List ℕ → ℕ → List ℕ
-number_line word n = line (spaced word (decimal n))
+number_line word n = line (joined_by_space word (decimal n))
 
 -- ---- words
 
@@ -49,10 +49,10 @@ outcome_words CutSteps = codes "cut steps"
 -- a report of version 1 has no line for its grain, which is process
 abbrev pub grain_lines : Version → Grain → List ℕ
 grain_lines One grain = []
-grain_lines Two grain = line (spaced (codes "grain") (grain_word grain))
+grain_lines Two grain = line (joined_by_space (codes "grain") (grain_word grain))
 
 abbrev pub column_line : Column → List ℕ
-column_line column = line (spaced column.name (decimal column.width))
+column_line column = line (joined_by_space column.name (decimal column.width))
 
 abbrev pub column_lines : List Column → List ℕ
 column_lines [] = []
@@ -61,12 +61,12 @@ column_lines (column ∷ columns) = column_line column ++ column_lines columns
 abbrev pub head_text : Report → List ℕ
 head_text r =
     number_line (codes "vrace report") (version_number r.version)
-    ++ line (spaced (codes "top") r.top)
+    ++ line (joined_by_space (codes "top") r.top)
     ++ number_line (codes "until") r.until
     ++ number_line (codes "depart") r.depart
     ++ number_line (codes "steps") r.steps
     ++ grain_lines r.version r.grain
-    ++ line (spaced (codes "state") (outcome_words r.outcome))
+    ++ line (joined_by_space (codes "state") (outcome_words r.outcome))
     ++ number_line (codes "vars") (length r.variables)
     ++ column_lines r.variables
 
@@ -75,7 +75,7 @@ head_text r =
 -- time, cause, log and the count of the dump's bytes; and the line of the values
 abbrev pub end_text : End → List ℕ
 end_text end =
-    line (codes "end " ++ spaced (decimal end.time) (spaced (cause_word end.cause) (spaced (log_text end.log) (decimal end.bytes))))
+    line (codes "end " ++ joined_by_space (decimal end.time) (joined_by_space (cause_word end.cause) (joined_by_space (log_text end.log) (decimal end.bytes))))
     ++ line end.line
 
 -- each end with its dump behind it
@@ -88,7 +88,7 @@ ends_text (end ∷ ends) (dump ∷ dumps) = end_text end ++ dump ++ ends_text en
 
 abbrev pub value_lines : List (List ℕ × List (ℕ × ℕ)) → List ℕ
 value_lines [] = []
-value_lines (value ∷ values) = line (spaced value.0 (log_text value.1)) ++ value_lines values
+value_lines (value ∷ values) = line (joined_by_space value.0 (log_text value.1)) ++ value_lines values
 
 abbrev pub name_at : Option Column → List ℕ
 name_at None = []
@@ -96,7 +96,7 @@ name_at (Some column) = column.name
 
 abbrev pub race_text : List Column → Race → List ℕ
 race_text columns race =
-    line (codes "race " ++ spaced (decimal race.time) (spaced (name_at (slice_get columns race.variable)) (decimal (length race.values))))
+    line (codes "race " ++ joined_by_space (decimal race.time) (joined_by_space (name_at (slice_get columns race.variable)) (decimal (length race.values))))
     ++ value_lines race.values
 
 abbrev pub races_text : List Column → List Race → List ℕ

@@ -12,7 +12,7 @@ use Rattle.vmodel.specs.declared.history.Grain.TheVariants.{Process}
 use Rattle.report_text.specs.declared.report.Version.TheVariants.{One}
 use Rattle.report_text.specs.declared.report.ReportFault.{ReportFault}
 use Rattle.report_text.specs.Report.{Column, End, Race, Report}
-use Rattle.report_text.specs.ReportText.{spaced, cause_word, report_text}
+use Rattle.report_text.specs.ReportText.{joined_by_space, cause_word, report_text}
 
 -- the fact holds of each thing of the list
 abbrev pub Each : {A : Type 0} → (A → Type 0) → List A → Type 0
@@ -41,7 +41,7 @@ abbrev pub IsLineOf : List Column → List ℕ → Type 0
 IsLineOf [] text = text ≡ []
 IsLineOf (column ∷ []) text = IsValue column.width text
 IsLineOf (column ∷ next ∷ columns) text =
-    (value rest : List ℕ) × IsValue column.width value × IsLineOf (next ∷ columns) rest × (text ≡ spaced value rest)
+    (value rest : List ℕ) × IsValue column.width value × IsLineOf (next ∷ columns) rest × (text ≡ joined_by_space value rest)
 
 abbrev pub IsColumn : Column → Type 0
 IsColumn column = (is_path column.name ≡ true) × (1 ≤ column.width) × (column.width ≤ 64)
@@ -104,13 +104,13 @@ abbrev pub IsNoReportText : List ℕ → Type 0
 IsNoReportText text = (r : Report) (dumps : List (List ℕ)) → IsReport r dumps → text ≢ report_text r dumps
 
 -- the text is that of this report with these dumps
-abbrev pub IsTold : List ℕ → Report × List (List ℕ) → Type 0
-IsTold text told = IsReport told.0 told.1 × (text ≡ report_text told.0 told.1)
+abbrev pub IsReportText : List ℕ → Report × List (List ℕ) → Type 0
+IsReportText text with_dumps = IsReport with_dumps.0 with_dumps.1 × (text ≡ report_text with_dumps.0 with_dumps.1)
 
 -- the text of a report is read as that report with its dumps, unless memory was refused
 abbrev pub ReadsEachReport : List ℕ → Result (Report × List (List ℕ)) (OrMemory ReportFault) → Type 0
 ReadsEachReport text answer =
-    (r : Report) (dumps : List (List ℕ)) → IsReport r dumps → text ≡ report_text r dumps → MatchResult answer (λ told. (told.0 ≡ r) × (told.1 ≡ dumps)) (Because (λ _. ⊥))
+    (r : Report) (dumps : List (List ℕ)) → IsReport r dumps → text ≡ report_text r dumps → MatchResult answer (λ with_dumps. (with_dumps.0 ≡ r) × (with_dumps.1 ≡ dumps)) (Because (λ _. ⊥))
 
 -- no two reports, with their dumps, have one text, where its bytes can be counted in 64 bits
 abbrev pub OneReportForText : Type 0

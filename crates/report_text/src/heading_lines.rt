@@ -2,7 +2,7 @@
 
 ghost use Rattle.std.specs.Prelude.{◌≡◌, ℕ, ◌≤◌, List, true, IsTrue, ◌↔◌, codes, decimal};
 ghost use Rattle.report_text.specs.Inner.Headings.{IsGrainIn, IsHeading, IsLabelLine, IsNumberLine, IsTop};
-ghost use Rattle.report_text.specs.Inner.Headings.{grain_before, heading_before, labelled};
+ghost use Rattle.report_text.specs.Inner.Headings.{grain_before, heading_before, label_line_before};
 ghost use Rattle.report_text.specs.Inner.Headings as headings;
 ghost use Rattle.report_text.specs.Inner.Places.{HasSpelled, HasTaken, Stands, TakesEach, TakesSpelled, Took};
 ghost use Rattle.report_text.specs.ReportText as spelled;
@@ -95,8 +95,8 @@ fn version_line(reader: &mut Reader) -> Version
 
 // Takes the line of the top.
 fn top_line<'a>(reader: &mut Reader<'a>) -> &'a [u8]
-    ensures read { HasSpelled reader.old reader.new IsTop (labelled (codes "top ")) result.now }
-    ensures each { TakesSpelled reader.old reader.new IsTop (labelled (codes "top ")) result.now }
+    ensures read { HasSpelled reader.old reader.new IsTop (label_line_before (codes "top ")) result.now }
+    ensures each { TakesSpelled reader.old reader.new IsTop (label_line_before (codes "top ")) result.now }
 {
     let top = label_line(reader, b"top ");
     reader.require(is_name(top));

@@ -20,4 +20,6 @@ mod words;
 pub use law::report_text_law;
 pub use pieces::{end_lines, head_lines, race_count_line, race_lines};
 pub use read::read_report;
-pub use report::{Column, End, Outcome, Race, Report, ReportFault, Seen, Told, Version};
+pub use report::{
+    Column, End, Outcome, Race, RaceValue, Report, ReportFault, ReportWithDumps, Version,
+};

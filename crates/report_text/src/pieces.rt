@@ -4,7 +4,7 @@ ghost use Rattle.std.specs.Prelude.{◌≡◌, ◌++◌, ◌∷◌, [], codes, d
 ghost use Rattle.report_text.specs.Inner.Lists.{PutsBytes};
 ghost use Rattle.report_text.specs.ReportText as spec;
 
-use crate::report::{Column, End, Race, Report, Seen, Version};
+use crate::report::{Column, End, Race, RaceValue, Report, Version};
 use crate::words::{cause_word, grain_word, outcome_words, version_number};
 use basis::NoMemory;
 use itoa::Buffer;
@@ -41,7 +41,7 @@ fn put_number_line(text: &mut Vec<u8>, word: &[u8], n: u64) -> Result<(), NoMemo
 
 // Puts a line of two words last.
 fn put_word_line(text: &mut Vec<u8>, word: &[u8], value: &[u8]) -> Result<(), NoMemory>
-    ensures { PutsBytes text.old text.new result (spec.line (spec.spaced word.now value.now)) }
+    ensures { PutsBytes text.old text.new result (spec.line (spec.joined_by_space word.now value.now)) }
 {
     put_word(text, word)?;
     text.extend_from_slice(value)?;
@@ -117,12 +117,12 @@ pub fn race_count_line(alloc: Global, report: &Report) -> Result<Vec<u8>, NoMemo
 }
 
 // Puts a line for each value last.
-fn put_values(text: &mut Vec<u8>, values: &[Seen]) -> Result<(), NoMemory>
+fn put_values(text: &mut Vec<u8>, values: &[RaceValue]) -> Result<(), NoMemory>
     ensures { PutsBytes text.old text.new result (spec.value_lines values.now) }
 {
-    for seen in values {
-        put_word(text, &seen.value)?;
-        append_log(text, &seen.log)?;
+    for race_value in values {
+        put_word(text, &race_value.value)?;
+        append_log(text, &race_value.log)?;
         text.push(b'\n')?;
     }
     Ok(())

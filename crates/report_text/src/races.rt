@@ -14,12 +14,12 @@ use crate::ends::{is_less, take_log};
 use crate::letters::is_value;
 use crate::names::Names;
 use crate::reader::Reader;
-use crate::report::{Column, Race, Seen};
+use crate::report::{Column, Race, RaceValue};
 use basis::NoMemory;
 use std::alloc::Global;
 
 // Takes the line of a value of this width. Where the reader is lost it means nothing. The error is want of memory, E901.
-fn take_seen(alloc: Global, reader: &mut Reader, width: u32) -> Result<Seen, NoMemory>
+fn take_race_value(alloc: Global, reader: &mut Reader, width: u32) -> Result<RaceValue, NoMemory>
     ensures read { IfOk result (HasTaken reader.old reader.new (inner.IsShownTaken width)) }
     ensures each { IfOk result (TakesEach reader.old reader.new (inner.IsShownTaken width)) }
 {
@@ -28,15 +28,15 @@ fn take_seen(alloc: Global, reader: &mut Reader, width: u32) -> Result<Seen, NoM
     let word = reader.word(b'\n');
     let log = take_log(alloc, reader, word)?;
     let value = copy_of(alloc, value)?;
-    Ok(Seen { value, log })
+    Ok(RaceValue { value, log })
 }
 
 // Whether the value may follow these.
-fn may_follow_value(values: &[Seen], seen: &Seen) -> bool
-    ensures { IsTrue result ↔ inner.FollowsShown values.now seen.now.0 }
+fn may_follow_value(values: &[RaceValue], race_value: &RaceValue) -> bool
+    ensures { IsTrue result ↔ inner.FollowsShown values.now race_value.now.0 }
 {
     match values.last() {
-        Some(last) => is_less(&last.value, &seen.value),
+        Some(last) => is_less(&last.value, &race_value.value),
         None => true,
     }
 }
@@ -47,19 +47,19 @@ fn take_values(
     reader: &mut Reader,
     width: u32,
     count: u64,
-) -> Result<Vec<Seen>, NoMemory>
+) -> Result<Vec<RaceValue>, NoMemory>
     ensures read { IfOk result (λ values.
         inner.HasShown width count reader.old reader.new values.items) }
     ensures each { inner.EachShown width count reader.old reader.new result }
 {
     let mut values = Vec::new(alloc);
     for place in 0..count {
-        let seen = take_seen(alloc, reader, width)?;
-        reader.require(may_follow_value(&values, &seen));
+        let race_value = take_race_value(alloc, reader, width)?;
+        reader.require(may_follow_value(&values, &race_value));
         if !reader.is_ok() {
             return Ok(values);
         }
-        values.push(seen)?;
+        values.push(race_value)?;
     }
     Ok(values)
 }

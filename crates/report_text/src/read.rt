@@ -9,7 +9,7 @@ ghost use Rattle.report_text.specs.Inner.Places.{Stands, Took};
 ghost use Rattle.report_text.specs.Inner.Wholes.{EachBody, HasBody, IsHeadTaken};
 ghost use Rattle.report_text.specs.Report as reports;
 ghost use Rattle.basis.specs.Reasons.{IfFault};
-ghost use Rattle.report_text.specs.WellFormed.{IsColumn, IsNoReportText, IsTold, ReadsEachReport};
+ghost use Rattle.report_text.specs.WellFormed.{IsColumn, IsNoReportText, IsReportText, ReadsEachReport};
 
 use crate::columns::{copy_of, read_columns};
 use crate::ends::read_ends;
@@ -17,7 +17,7 @@ use crate::heading_lines::{Heading, number_line, read_heading};
 use crate::names::Names;
 use crate::races::read_races;
 use crate::reader::Reader;
-use crate::report::{Column, End, Race, Report, ReportFault, Told};
+use crate::report::{Column, End, Race, Report, ReportFault, ReportWithDumps};
 use basis::{NoMemory, OrMemory};
 use std::alloc::Global;
 
@@ -70,8 +70,11 @@ fn read_body<'a>(
 ///
 /// It accepts exactly the texts of reports, of version 1 and 2 (docs/FORMATS.md, "Reports"), in one pass. Any other is
 /// `ReportFault::IllFormed`, E501. The error may also be want of memory, E901.
-pub fn read_report<'a>(alloc: Global, text: &'a [u8]) -> Result<Told<'a>, OrMemory<ReportFault>>
-    ensures read { IfOk result (λ told. IsTold text.now told) }
+pub fn read_report<'a>(
+    alloc: Global,
+    text: &'a [u8],
+) -> Result<ReportWithDumps<'a>, OrMemory<ReportFault>>
+    ensures read { IfOk result (λ with_dumps. IsReportText text.now with_dumps) }
     ensures ill_formed { IfFault result (λ _. IsNoReportText text.now) }
     ensures accepts { ReadsEachReport text.now result }
 {
@@ -99,5 +102,5 @@ pub fn read_report<'a>(alloc: Global, text: &'a [u8]) -> Result<Told<'a>, OrMemo
         ends,
         races,
     };
-    Ok(Told { report, dumps })
+    Ok(ReportWithDumps { report, dumps })
 }

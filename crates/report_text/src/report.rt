@@ -56,12 +56,12 @@ impl Model for End {
 
 /// A value that a variable has at the end of a slot, as its digits, leftmost first, and the log of a run that shows it.
 #[derive(Drop)]
-pub struct Seen {
+pub struct RaceValue {
     pub value: Vec<u8>,
     pub log: Log,
 }
 
-impl Model for Seen {
+impl Model for RaceValue {
     ghost use Rattle.std.specs.Prelude.{ℕ, List};
 
     ghost Value = { List ℕ × List (ℕ × ℕ) };
@@ -74,7 +74,7 @@ impl Model for Seen {
 pub struct Race {
     pub time: u64,
     pub variable: usize,
-    pub values: Vec<Seen>,
+    pub values: Vec<RaceValue>,
 }
 
 impl Model for Race {
@@ -121,12 +121,12 @@ impl Model for Report {
 
 /// A report and the dumps of its ends, in their order.
 #[derive(Drop)]
-pub struct Told<'a> {
+pub struct ReportWithDumps<'a> {
     pub report: Report,
     pub dumps: Vec<&'a [u8]>,
 }
 
-impl<'a> Model for Told<'a> {
+impl<'a> Model for ReportWithDumps<'a> {
     ghost use Rattle.std.specs.Prelude.{ℕ, List, map};
     ghost use Rattle.report_text.specs.Report as reports;
 

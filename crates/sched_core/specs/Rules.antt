@@ -9,7 +9,7 @@ pub record Rules (S : Type 0) : Type 0 where
   pub first : S
   -- how many choices the state has
   pub width : S → ℕ
-  -- the state is one of those that are looked for
+  -- the state is one of those that are looked for, an observable state
   pub mark : S → Bool
   -- the state after the one step that the choice makes
   pub after : S → ℕ → S

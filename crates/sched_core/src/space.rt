@@ -33,7 +33,7 @@ pub trait Space {
         ensures ok { OnOk result (IsAfter (rules self.now) s.old i s.new) }
         ensures err { OnErr result (s.new ≡ s.old) };
 
-    /// Whether the state is one of those that an explorer lists.
+    /// Whether the state is one of those that an explorer lists: an observable state.
     fn is_mark(&self, s: &Self::State) -> bool
         ensures { result ≡ (rules self.now).mark s.now };
 

@@ -7,11 +7,11 @@ use Rattle.std.proofs.lemmas.Option.{same_Some, slice_get-get_or, slice_get-map}
 use Rattle.basis.proofs.Lists.{last_or_before, listed_place, place_within}
 use Rattle.sched_core.specs.Rules.{Rules}
 use Rattle.statebook.specs.Books.{Book, IsClosedAt}
-use Rattle.statebook.specs.ExplorerCore.{AllMet, IsEntry, IsSound}
+use Rattle.statebook.specs.ExplorerCore.{HasSuccessorsAt, IsEntry, IsSound}
 use Rattle.statebook.specs.declared.entry.Entry.{Entry}
 use Rattle.shardbook.specs.Closing.{Closing}
-use Rattle.shardbook.specs.Finishes.{HasMetAll, IsMetBy}
-use Rattle.shardbook.specs.Sights.{Sight, entries_of}
+use Rattle.shardbook.specs.Finishes.{HasAllSuccessors, IsSuccessor}
+use Rattle.shardbook.specs.StoredEntries.{StoredEntry, entries_of}
 use Rattle.shardbook.specs.Inner.Scans.{AllDone, AllAmong, IsAmong, IsDone, IsStart}
 
 -- a list that has at each place one of which P holds there
@@ -37,28 +37,28 @@ choose {X} P (suc n) h =
       ];
     }
 
-entry_of : {S : Type 0} (all : List (Sight S)) (i : ℕ) (s : Sight S) → slice_get all i ≡ Some s → slice_get (entries_of all) i ≡ Some s.entry
-entry_of {S} all i s at = slice_get-map (λ (x : Sight S). x.entry) all i ∙ ap (option_map (λ (x : Sight S). x.entry)) at
+entry_of : {S : Type 0} (all : List (StoredEntry S)) (i : ℕ) (s : StoredEntry S) → slice_get all i ≡ Some s → slice_get (entries_of all) i ≡ Some s.entry
+entry_of {S} all i s at = slice_get-map (λ (x : StoredEntry S). x.entry) all i ∙ ap (option_map (λ (x : StoredEntry S). x.entry)) at
 
 -- an entry of the list was seen
-seen_of : {S : Type 0} (all : List (Sight S)) (i : ℕ) (e : Entry S) → slice_get (entries_of all) i ≡ Some e → (s : Sight S) × (slice_get all i ≡ Some s) × (s.entry ≡ e)
-seen_of {S} all i e at =
-    let lt : i < length all = omega (arith, place_within (entries_of all) i e at, length-map all (λ (x : Sight S). x.entry)) in
+race_values_of : {S : Type 0} (all : List (StoredEntry S)) (i : ℕ) (e : Entry S) → slice_get (entries_of all) i ≡ Some e → (s : StoredEntry S) × (slice_get all i ≡ Some s) × (s.entry ≡ e)
+race_values_of {S} all i e at =
+    let lt : i < length all = omega (arith, place_within (entries_of all) i e at, length-map all (λ (x : StoredEntry S). x.entry)) in
     let s = listed_place all i lt in
     (s.0, s.1, same_Some s.0.entry e (sym (entry_of all i s.0 s.1) ∙ at))
 
-module _ {S : Type 0} (r : Rules S) (k limit : ℕ) (all : List (Sight S)) where
+module _ {S : Type 0} (r : Rules S) (k limit : ℕ) (all : List (StoredEntry S)) where
   -- what a finished entry names: places of the list, one for each choice
   record Names (i : ℕ) (done : Option (List ℕ)) : Type 0 where
     places : List ℕ
     is : done ≡ Some places
-    met : AllMet r (entries_of all) i places
+    met : HasSuccessorsAt r (entries_of all) i places
     inside : (c j : ℕ) → slice_get places c ≡ Some j → j < length all
 
-  module _ (i : ℕ) (s : Sight S) (at : slice_get all i ≡ Some s) (next : List (Sight S)) (met : HasMetAll r s.entry (entries_of next)) (inside : AllAmong all next) where
+  module _ (i : ℕ) (s : StoredEntry S) (at : slice_get all i ≡ Some s) (next : List (StoredEntry S)) (met : HasAllSuccessors r s.entry (entries_of next)) (inside : AllAmong all next) where
     -- the place in the list of what choice c met
     abbrev Stands : ℕ → ℕ → Type 0
-    Stands c j = (f : Sight S) × (slice_get next c ≡ Some f) × (slice_get all j ≡ Some f)
+    Stands c j = (f : StoredEntry S) × (slice_get next c ≡ Some f) × (slice_get all j ≡ Some f)
 
     stands : (c : ℕ) → c < length next → (j : ℕ) × Stands c j
     stands c lt =
@@ -76,10 +76,10 @@ module _ {S : Type 0} (r : Rules S) (k limit : ℕ) (all : List (Sight S)) where
       met = record {
         entry = s.entry;
         at = entry_of all i s at;
-        count = chosen.count ∙ sym (length-map next (λ (x : Sight S). x.entry)) ∙ met.count;
+        count = chosen.count ∙ sym (length-map next (λ (x : StoredEntry S). x.entry)) ∙ met.count;
         met = λ c j place. (
             let here = chosen.each c j place in
-            let by : IsMetBy r s.entry c here.0.entry = met.met c here.0.entry (entry_of next c here.0 here.1) in
+            let by : IsSuccessor r s.entry c here.0.entry = met.met c here.0.entry (entry_of next c here.0 here.1) in
             record { found = here.0.entry; at = entry_of all j here.0 here.2; steps = by.steps; next = by.next; dominates = by.dominates });
       };
       inside = λ c j place. (let here = chosen.each c j place in place_within all j here.0 here.2);
@@ -102,7 +102,7 @@ module _ {S : Type 0} (r : Rules S) (k limit : ℕ) (all : List (Sight S)) where
     places = range_with_len 0 (length (entries_of all))
 
     entries_len : length (entries_of all) ≡ length all
-    entries_len = length-map all (λ (x : Sight S). x.entry)
+    entries_len = length-map all (λ (x : StoredEntry S). x.entry)
 
     in_places : (j : ℕ) → j < length all → Contains places j
     in_places j lt = (j, omega (arith, lt, entries_len, length-range_with_len 0 (length (entries_of all))), get_or-range_with_len 0 (length (entries_of all)) j j (omega (arith, lt, entries_len)) ∙ omega arith)
@@ -119,12 +119,12 @@ module _ {S : Type 0} (r : Rules S) (k limit : ℕ) (all : List (Sight S)) where
     unfolding book
     sound = record {
       entry = λ i e at. (
-          let s = seen_of all i e at in
+          let s = race_values_of all i e at in
           let P : Entry S → Type 0 = λ x. IsEntry r k limit x in
           subst P s.2 ((done i s.0 s.1).wanted r known));
       met = λ i ps at. (
           let n : Names i (Some ps) = finished.each i (Some ps) at in
-          let P : List ℕ → Type 0 = λ l. AllMet r (entries_of all) i l in
+          let P : List ℕ → Type 0 = λ l. HasSuccessorsAt r (entries_of all) i l in
           subst P (same_Some n.places ps (sym n.is)) n.met);
     }
 
@@ -134,7 +134,7 @@ module _ {S : Type 0} (r : Rules S) (k limit : ℕ) (all : List (Sight S)) where
         let n : Names j d.0 = finished.each j d.0 d.1 in
         record { places = n.places; at = d.1 ∙ ap Some n.is; inside = λ c q place. in_places q (n.inside c q place) }
 
-    pub closing : (root : Sight S) → IsStart root.entry → IsAmong all root → Closing r k limit root.entry (entries_of all)
+    pub closing : (root : StoredEntry S) → IsStart root.entry → IsAmong all root → Closing r k limit root.entry (entries_of all)
     unfolding book
     closing root start among = record {
       book = book;

@@ -4,8 +4,8 @@ use Rattle.basis.proofs.Lists.{last_or_before, place_within}
 use Rattle.statebook.specs.Books.{Dominates, IsUndominated}
 use Rattle.statebook.specs.declared.entry.Entry.{Entry}
 use Rattle.statebook.proofs.BookLemmas.{map-append_one}
-use Rattle.shardbook.specs.Meets.{HasNone}
-use Rattle.shardbook.specs.Sights.{Sight, entries_of}
+use Rattle.shardbook.specs.Inserts.{HasNone}
+use Rattle.shardbook.specs.StoredEntries.{StoredEntry, entries_of}
 use Rattle.shardbook.specs.Inner.Codes.{code_of_writes}
 use Rattle.shardbook.specs.Inner.Shards.{IsShard}
 
@@ -34,12 +34,12 @@ grows {S} same input entries codes parts amount e s none = record {
 }
 
 -- A New answer: what was seen of the entry is put last, and its code; the share has one more.
-pub shard_grows : {S : Type 0} (same : S → S → Bool) (input : S → List (List ℕ)) (seens held grown : List (Sight S)) (codes kept more : List ℕ) (parts amount parts' amount' : ℕ) (e : Entry S) (s : Sight S) (code : ℕ)
-    → IsShard same input (entries_of seens) codes parts amount → HasNone same (entries_of seens) e
-    → s.entry ≡ e → code ≡ code_of_writes (input e.state) → grown ≡ held ++ s ∷ [] → held ≡ seens → more ≡ kept ++ code ∷ [] → kept ≡ codes → parts' ≡ parts → amount' ≡ amount + 1
+pub shard_grows : {S : Type 0} (same : S → S → Bool) (input : S → List (List ℕ)) (tokens held grown : List (StoredEntry S)) (codes kept more : List ℕ) (parts amount parts' amount' : ℕ) (e : Entry S) (s : StoredEntry S) (code : ℕ)
+    → IsShard same input (entries_of tokens) codes parts amount → HasNone same (entries_of tokens) e
+    → s.entry ≡ e → code ≡ code_of_writes (input e.state) → grown ≡ held ++ s ∷ [] → held ≡ tokens → more ≡ kept ++ code ∷ [] → kept ≡ codes → parts' ≡ parts → amount' ≡ amount + 1
     → IsShard same input (entries_of grown) more parts' amount'
-shard_grows {S} same input seens held grown codes kept more parts amount parts' amount' e s code shard none entry is seen holds coded keeps part count =
-    let entries : entries_of grown ≡ entries_of seens ++ e ∷ [] =
-    ap entries_of seen ∙ map-append_one (λ (x : Sight S). x.entry) held s ∙ ap (λ l. entries_of l ++ s.entry ∷ []) holds ∙ ap (λ x. entries_of seens ++ x ∷ []) entry in
+shard_grows {S} same input tokens held grown codes kept more parts amount parts' amount' e s code shard none entry is seen holds coded keeps part count =
+    let entries : entries_of grown ≡ entries_of tokens ++ e ∷ [] =
+    ap entries_of seen ∙ map-append_one (λ (x : StoredEntry S). x.entry) held s ∙ ap (λ l. entries_of l ++ s.entry ∷ []) holds ∙ ap (λ x. entries_of tokens ++ x ∷ []) entry in
     let chain : more ≡ codes ++ code_of_writes (input e.state) ∷ [] = coded ∙ ap (λ l. l ++ code ∷ []) keeps ∙ ap (λ c. codes ++ c ∷ []) is in
-    rw (entries, chain, part, count) (grows same input (entries_of seens) codes parts amount e shard none)
+    rw (entries, chain, part, count) (grows same input (entries_of tokens) codes parts amount e shard none)

@@ -1,8 +1,8 @@
-pub mod Quests
+pub mod EntryRules
 pub mod Finishes
 pub mod Closing
-pub mod Meets
+pub mod Inserts
 pub mod Names
 pub mod Passes
-pub mod Sights
+pub mod StoredEntries
 pub mod Inner

@@ -3,7 +3,7 @@
 ghost use Rattle.std.specs.Prelude.{◌≡◌, ◌+◌, ◌^◌, ◌≤◌, vec_len, vec_capacity};
 ghost use Rattle.shardbook.specs.Inner.Ledgers.{AddsUp};
 
-use crate::quest::{Naming, Quest};
+use crate::parameters::{BookIdentity, SearchParameters};
 use crate::shard::{Lock, Shard};
 use crossbeam_utils::CachePadded;
 use std::hash::Hash;
@@ -11,7 +11,7 @@ use std::sync::Mutex;
 use std::sync::ledger::{Share, Total};
 
 // The length of all lists together. Each shard lends its share to `all` until the total is told.
-pub(crate) fn lengths<S: Eq + Hash, Q: Quest<S>, B: Naming>(
+pub(crate) fn lengths<S: Eq + Hash, Q: SearchParameters<S>, B: BookIdentity>(
     shards: &mut Vec<Lock<S, Q, B>>,
     all: &mut Share<B>,
     total: &Total<B>,
@@ -30,16 +30,16 @@ pub(crate) fn lengths<S: Eq + Hash, Q: Quest<S>, B: Naming>(
         return 0;
     };
     let Shard {
-        seens,
+        tokens,
         chains,
         mut share,
     } = lock.into_inner().into_inner();
-    let len = seens.len() as u64;
+    let len = tokens.len() as u64;
     share.give(all, 1, len);
     let others = lengths(shards, all, total);
     all.give(&mut share, 1, len);
     shards.push_reserved(CachePadded::new(Mutex::new(Shard {
-        seens,
+        tokens,
         chains,
         share,
     })));

@@ -2,17 +2,17 @@
 
 ghost use Rattle.std.specs.Prelude.{◌≡◌, ◌+◌, ◌<◌, ◌^◌, IsTrue, IfSome, IfOk, IfErr, OnErr, OnOk, vec_len};
 ghost use Rattle.shardbook.specs.Closing.{Closes};
-ghost use Rattle.shardbook.specs.Meets.{CountsMet, Shows};
+ghost use Rattle.shardbook.specs.Inserts.{CountsInsert, Shows};
 ghost use Rattle.shardbook.specs.Names.{AreNames};
-ghost use Rattle.shardbook.specs.Quests.{IsWanted};
+ghost use Rattle.shardbook.specs.EntryRules.{IsWanted};
 
 use crate::audit::lengths;
 use crate::code::code_of;
 use crate::done::Done;
 use crate::entries::Entries;
 use crate::met::Met;
+use crate::parameters::{BookIdentity, SearchParameters};
 use crate::pass::{ALL, Pass};
-use crate::quest::{Naming, Quest};
 use crate::scan::{are_done, is_among, is_start};
 use crate::seen::Seen;
 use crate::shard::{Lock, Shard};
@@ -26,11 +26,12 @@ use std::hash::Hash;
 use std::sync::ledger::{Share, Total};
 use std::sync::{Mutex, Wait};
 
-/// A book of entries that threads share. A thread meets entries by a pass of its own, and waits
-/// only for the lock of the one shard that an entry belongs to, and for room that another makes in
-/// the list of entries; whatever stands in the book is read and finished without a lock. No state is copied, stepped or hashed under a lock.
+/// A book of entries that threads share: their visited set. A thread meets entries by a pass of its
+/// own, and waits only for the lock of the one shard that an entry belongs to, and for room that
+/// another makes in the list of entries; whatever stands in the book is read and finished without a
+/// lock. No state is copied, stepped or hashed under a lock.
 #[derive(Drop)]
-pub struct Book<S: Eq + Hash, Q: Quest<S>, B: Naming> {
+pub struct Book<S: Eq + Hash, Q: SearchParameters<S>, B: BookIdentity> {
     entries: Entries<S, Q>,
     slots: Slots<S, Q, B>,
     shards: Vec<Lock<S, Q, B>>,
@@ -42,7 +43,7 @@ pub struct Book<S: Eq + Hash, Q: Quest<S>, B: Naming> {
 }
 
 // So many shards, each with a part of the share.
-fn new_shards<S: Eq + Hash + Drop, Q: Quest<S>, B: Naming>(
+fn new_shards<S: Eq + Hash + Drop, Q: SearchParameters<S>, B: BookIdentity>(
     alloc: Global,
     share: &mut Share<B>,
     count: usize,
@@ -60,7 +61,7 @@ fn new_shards<S: Eq + Hash + Drop, Q: Quest<S>, B: Naming>(
     Ok(shards)
 }
 
-impl<S: Eq + Hash + Drop, Q: Quest<S>, B: Naming> Book<S, Q, B> {
+impl<S: Eq + Hash + Drop, Q: SearchParameters<S>, B: BookIdentity> Book<S, Q, B> {
     /// The book, without entries, and the pass with all parts. The error is want of memory, E901.
     pub fn open(
         alloc: Global,
@@ -87,8 +88,8 @@ impl<S: Eq + Hash + Drop, Q: Quest<S>, B: Naming> Book<S, Q, B> {
         Ok((book, Pass::first(share)))
     }
 
-    /// Takes the entry as a new one, only where none of its shard dominates it; else answers with
-    /// one that does, and lets the entry go. After want of memory, E901, the entry is handed back.
+    /// Inserts the entry into the visited set, only where none of its shard dominates it; else answers
+    /// with one that does, and lets the entry go. After want of memory, E901, the entry is handed back.
     pub fn meet<R: Wait>(
         &self,
         rt: &R,
@@ -97,7 +98,7 @@ impl<S: Eq + Hash + Drop, Q: Quest<S>, B: Naming> Book<S, Q, B> {
     ) -> Result<Met<S, Q, B>, (NoMemory, Entry<S>)>
         requires { IsWanted Q.rules Q.depart Q.steps entry }
         ensures shown { IfOk result (Shows S.eq entry) }
-        ensures counted { IfOk result (λ met. CountsMet met pass.old pass.new) }
+        ensures counted { IfOk result (λ met. CountsInsert met pass.old pass.new) }
         ensures handed_back { IfErr result (λ refused. refused.1 ≡ entry) }
         ensures uncounted { OnErr result (pass.new ≡ pass.old) }
     {
@@ -112,13 +113,13 @@ impl<S: Eq + Hash + Drop, Q: Quest<S>, B: Naming> Book<S, Q, B> {
     }
 }
 
-impl<S: Eq + Hash, Q: Quest<S>, B: Naming> Book<S, Q, B> {
+impl<S: Eq + Hash, Q: SearchParameters<S>, B: BookIdentity> Book<S, Q, B> {
     /// The entry that was seen, the same one for good. It is one that the search may add.
     pub fn read(&self, seen: &Seen<S, Q, B>) -> &Entry<S>
         ensures same { result.now ≡ seen.now.entry }
         ensures wanted { IsWanted Q.rules Q.depart Q.steps result.now }
     {
-        &self.entries.kept(seen).entry
+        &self.entries.kept_at(seen).entry
     }
 
     /// What shows the entry at the place, if one stands there by now.
@@ -140,7 +141,7 @@ impl<S: Eq + Hash, Q: Quest<S>, B: Naming> Book<S, Q, B> {
     pub fn finish(&self, done: Done<S, Q, B>) -> Result<(), Done<S, Q, B>>
         ensures { IfErr result (λ back. back ≡ done) }
     {
-        let slot = self.entries.kept(done.entry()).slot;
+        let slot = self.entries.kept_at(done.entry()).slot;
         self.slots.set(slot, done)
     }
 

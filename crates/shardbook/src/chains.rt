@@ -29,9 +29,9 @@ impl Model for Chains {
 
     ghost Value = { Chained };
 
-    ghost use Rattle.shardbook.specs.Inner.Links.{chained, IsLinked};
+    ghost use Rattle.shardbook.specs.Inner.Links.{chains_of, IsLinked};
 
-    ghost view = { λ c. chained c.links c.last };
+    ghost view = { λ c. chains_of c.links c.last };
 
     ghost invariant = { λ c. IsLinked c.links.items (get nat_eq c.last) };
 }

@@ -1,10 +1,10 @@
 // The vector of a book's entries, which every thread reads without a lock.
 
 ghost use Rattle.std.specs.Prelude.{◌≡◌, ℕ, IfSome, IfOk, IfErr};
-ghost use Rattle.shardbook.specs.Quests.{IsWanted};
+ghost use Rattle.shardbook.specs.EntryRules.{IsWanted};
 
+use crate::parameters::{BookIdentity, EntryRule, Kept, SearchParameters};
 use crate::push::push;
-use crate::quest::{Kept, Naming, Quest, Wanted};
 use crate::seen::Seen;
 use basis::NoMemory;
 use boxcar::tag::Tag;
@@ -14,11 +14,11 @@ use std::sync::Wait;
 
 // The entries of a book. A clause sees the name of their vector.
 #[derive(Drop)]
-pub(crate) struct Entries<S, Q: Quest<S>> {
-    vec: boxcar::Vec<Kept<S>, Global, Wanted<Q>>,
+pub(crate) struct Entries<S, Q: SearchParameters<S>> {
+    vec: boxcar::Vec<Kept<S>, Global, EntryRule<Q>>,
 }
 
-impl<S, Q: Quest<S>> Model for Entries<S, Q> {
+impl<S, Q: SearchParameters<S>> Model for Entries<S, Q> {
     ghost use Rattle.boxcar.specs.Table.{Shelves, shelves_coded};
 
     ghost Value = { Shelves };
@@ -28,7 +28,7 @@ impl<S, Q: Quest<S>> Model for Entries<S, Q> {
     ghost view = { λ e. e.vec };
 }
 
-impl<S: Drop, Q: Quest<S>> Entries<S, Q> {
+impl<S: Drop, Q: SearchParameters<S>> Entries<S, Q> {
     // No entries.
     pub(crate) fn new(alloc: Global) -> Result<Entries<S, Q>, NoMemory> {
         Ok(Entries {
@@ -37,7 +37,7 @@ impl<S: Drop, Q: Quest<S>> Entries<S, Q> {
     }
 
     // Puts an entry last, with its slot. It is handed back where memory was refused.
-    pub(crate) fn push<B: Naming, R: Wait>(
+    pub(crate) fn push<B: BookIdentity, R: Wait>(
         &self,
         rt: &R,
         kept: Kept<S>,
@@ -55,9 +55,9 @@ impl<S: Drop, Q: Quest<S>> Entries<S, Q> {
     }
 }
 
-impl<S, Q: Quest<S>> Entries<S, Q> {
+impl<S, Q: SearchParameters<S>> Entries<S, Q> {
     // The entry that was seen, with its slot.
-    pub(crate) fn kept<B: Naming>(&self, seen: &Seen<S, Q, B>) -> &Kept<S>
+    pub(crate) fn kept_at<B: BookIdentity>(&self, seen: &Seen<S, Q, B>) -> &Kept<S>
         requires { self.now ≡ B.entries }
         ensures entry { result.now.entry ≡ seen.now.entry }
         ensures slot { result.now.slot ≡ seen.now.slot }
@@ -68,7 +68,7 @@ impl<S, Q: Quest<S>> Entries<S, Q> {
     }
 
     // What shows the entry at the place, if there is one now.
-    pub(crate) fn at<B: Naming>(&self, place: usize) -> Option<Seen<S, Q, B>>
+    pub(crate) fn at<B: BookIdentity>(&self, place: usize) -> Option<Seen<S, Q, B>>
         requires { self.now ≡ B.entries }
         ensures { IfSome result (λ seen. seen.place ≡ place) }
     {
@@ -80,7 +80,7 @@ impl<S, Q: Quest<S>> Entries<S, Q> {
     }
 
     // One place has one entry.
-    pub(crate) fn agree<B: Naming>(&self, a: &Seen<S, Q, B>, b: &Seen<S, Q, B>)
+    pub(crate) fn agree<B: BookIdentity>(&self, a: &Seen<S, Q, B>, b: &Seen<S, Q, B>)
         requires named { self.now ≡ B.entries }
         requires same { a.now.place ≡ b.now.place }
         ensures { a.now ≡ b.now }

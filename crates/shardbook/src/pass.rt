@@ -3,7 +3,7 @@
 ghost use Rattle.std.specs.Prelude.{◌≡◌, ◌+◌, ◌<◌, ◌≤◌, true};
 ghost use Rattle.shardbook.specs.Passes.{Counts, HasCounted};
 
-use crate::quest::Naming;
+use crate::parameters::BookIdentity;
 use std::marker::Model;
 use std::sync::ledger::{Share, Total};
 
@@ -13,17 +13,17 @@ pub const ALL: u64 = 1 << 62;
 // How many parts a pass gives away, if it has twice as many that count nothing.
 const GIVEN: u64 = 1 << 40;
 
-/// The right to meet entries. It counts the New answers that were given to it. All passes of a
+/// The right to meet entries: an insert permit. It counts the New answers that were given to it. All passes of a
 /// book have `ALL` parts together; a New answer takes up two of them. A clause sees the parts, the
 /// count, and whether there is room for one more.
 #[derive(Drop)]
-pub struct Pass<B: Naming> {
+pub struct Pass<B: BookIdentity> {
     pub(crate) share: Share<B>,
     pub(crate) count: u64,
     left: u64,
 }
 
-impl<B: Naming> Model for Pass<B> {
+impl<B: BookIdentity> Model for Pass<B> {
     ghost use Rattle.std.specs.Prelude.{nat_le};
     ghost use Rattle.shardbook.specs.Inner.Ledgers.{IsPass};
     ghost use Rattle.shardbook.specs.Passes.{Counts};
@@ -35,7 +35,7 @@ impl<B: Naming> Model for Pass<B> {
     ghost invariant = { λ p. IsPass p.share.parts p.share.amount p.count p.left };
 }
 
-impl<B: Naming> Pass<B> {
+impl<B: BookIdentity> Pass<B> {
     // The pass with all parts, of a share that has them, and as large an amount.
     pub(crate) fn first(share: Share<B>) -> Pass<B>
         requires parts { share.parts ≡ ALL }

@@ -4,7 +4,7 @@ ghost use Rattle.std.specs.Prelude.{◌≡◌, ◌↔◌, IsTrue};
 ghost use Rattle.shardbook.specs.Inner.Scans.{AllAmong, AllDone, IsAmong, IsDone, IsStart};
 
 use crate::entries::Entries;
-use crate::quest::{Naming, Quest};
+use crate::parameters::{BookIdentity, SearchParameters};
 use crate::seen::Seen;
 use crate::slots::Slots;
 use statebook::Entry;
@@ -17,7 +17,7 @@ pub(crate) fn is_start<S>(entry: &Entry<S>) -> bool
 }
 
 // Whether one of the list shows the same place, wherever it stands.
-fn is_anywhere<S, Q: Quest<S>, B: Naming>(
+fn is_anywhere<S, Q: SearchParameters<S>, B: BookIdentity>(
     entries: &Entries<S, Q>,
     all: &[Seen<S, Q, B>],
     seen: &Seen<S, Q, B>,
@@ -35,7 +35,7 @@ fn is_anywhere<S, Q: Quest<S>, B: Naming>(
 }
 
 // Whether one of the list shows the same place. In the list of all places it is found at once.
-pub(crate) fn is_among<S, Q: Quest<S>, B: Naming>(
+pub(crate) fn is_among<S, Q: SearchParameters<S>, B: BookIdentity>(
     entries: &Entries<S, Q>,
     all: &[Seen<S, Q, B>],
     seen: &Seen<S, Q, B>,
@@ -53,7 +53,7 @@ pub(crate) fn is_among<S, Q: Quest<S>, B: Naming>(
 }
 
 // Whether each of these is in the list.
-fn are_among<S, Q: Quest<S>, B: Naming>(
+fn are_among<S, Q: SearchParameters<S>, B: BookIdentity>(
     entries: &Entries<S, Q>,
     all: &[Seen<S, Q, B>],
     these: &[Seen<S, Q, B>],
@@ -70,7 +70,7 @@ fn are_among<S, Q: Quest<S>, B: Naming>(
 }
 
 // Whether the entry is finished, and what it met is in the list.
-fn is_done<S, Q: Quest<S>, B: Naming>(
+fn is_done<S, Q: SearchParameters<S>, B: BookIdentity>(
     entries: &Entries<S, Q>,
     slots: &Slots<S, Q, B>,
     all: &[Seen<S, Q, B>],
@@ -79,7 +79,7 @@ fn is_done<S, Q: Quest<S>, B: Naming>(
     requires { entries.now ≡ B.entries }
     ensures { IsTrue result → IsDone Q.rules Q.depart Q.steps all.now seen.now }
 {
-    let Some(done) = slots.get(entries.kept(seen).slot) else {
+    let Some(done) = slots.get(entries.kept_at(seen).slot) else {
         return false;
     };
     if done.entry().place() != seen.place() {
@@ -90,7 +90,7 @@ fn is_done<S, Q: Quest<S>, B: Naming>(
 }
 
 // Whether each of the list is finished, and names only members.
-pub(crate) fn are_done<S, Q: Quest<S>, B: Naming>(
+pub(crate) fn are_done<S, Q: SearchParameters<S>, B: BookIdentity>(
     entries: &Entries<S, Q>,
     slots: &Slots<S, Q, B>,
     all: &[Seen<S, Q, B>],

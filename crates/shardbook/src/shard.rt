@@ -1,17 +1,17 @@
 // A shard: the entries of some codes, in the order of their New answers, under a lock of its own.
 
 ghost use Rattle.std.specs.Prelude.{◌≡◌, ◌<◌, true, [], IfOk, IfErr, OnOk, OnErr, vec_len, vec_capacity};
-ghost use Rattle.shardbook.specs.Meets.{Meets, CountsMet};
-ghost use Rattle.shardbook.specs.Quests.{IsWanted};
+ghost use Rattle.shardbook.specs.Inserts.{Inserts, CountsInsert};
+ghost use Rattle.shardbook.specs.EntryRules.{IsWanted};
 ghost use Rattle.shardbook.specs.Inner.Codes.{code_of_writes};
 
 use crate::chains::Chains;
 use crate::entries::Entries;
 use crate::find::find;
 use crate::met::Met;
+use crate::parameters::{BookIdentity, Kept, SearchParameters};
 use crate::pass::Pass;
 use crate::push::refused_growth;
-use crate::quest::{Kept, Naming, Quest};
 use crate::seen::Seen;
 use crate::slots::Slots;
 use basis::NoMemory;
@@ -25,8 +25,8 @@ use std::sync::{Mutex, Wait};
 
 // What lies under a shard's lock. A clause sees the list of its entries.
 #[derive(Drop)]
-pub(crate) struct Shard<S: Eq + Hash, Q: Quest<S>, B: Naming> {
-    pub(crate) seens: Vec<Seen<S, Q, B>>,
+pub(crate) struct Shard<S: Eq + Hash, Q: SearchParameters<S>, B: BookIdentity> {
+    pub(crate) tokens: Vec<Seen<S, Q, B>>,
     pub(crate) chains: Chains,
     pub(crate) share: Share<B>,
 }
@@ -34,35 +34,35 @@ pub(crate) struct Shard<S: Eq + Hash, Q: Quest<S>, B: Naming> {
 // A shard's lock, away from those of others.
 pub(crate) type Lock<S, Q, B> = CachePadded<Mutex<Shard<S, Q, B>>>;
 
-impl<S: Eq + Hash, Q: Quest<S>, B: Naming> Model for Shard<S, Q, B> {
+impl<S: Eq + Hash, Q: SearchParameters<S>, B: BookIdentity> Model for Shard<S, Q, B> {
     ghost use Rattle.std.specs.Prelude.{List};
     ghost use Rattle.statebook.specs.declared.entry.Entry.{Entry};
-    ghost use Rattle.shardbook.specs.Sights.{entries_of};
+    ghost use Rattle.shardbook.specs.StoredEntries.{entries_of};
     ghost use Rattle.shardbook.specs.Inner.Shards.{IsShard};
 
     ghost Value = { List (Entry S) };
 
-    ghost view = { λ s. entries_of s.seens.items };
+    ghost view = { λ s. entries_of s.tokens.items };
 
-    ghost invariant = { λ s. IsShard S.eq S.hash_input (entries_of s.seens.items) s.chains.codes s.share.parts s.share.amount };
+    ghost invariant = { λ s. IsShard S.eq S.hash_input (entries_of s.tokens.items) s.chains.codes s.share.parts s.share.amount };
 }
 
 // Makes room for one more entry.
-fn make_room<S, Q: Quest<S>, B: Naming>(
-    seens: &mut Vec<Seen<S, Q, B>>,
+fn make_room<S, Q: SearchParameters<S>, B: BookIdentity>(
+    tokens: &mut Vec<Seen<S, Q, B>>,
     chains: &mut Chains,
 ) -> Result<(), NoMemory>
-    ensures seens { seens.new.items ≡ seens.old.items }
+    ensures tokens { tokens.new.items ≡ tokens.old.items }
     ensures codes { chains.new.codes ≡ chains.old.codes }
-    ensures place { OnOk result (vec_len seens.new < vec_capacity seens.new) }
+    ensures place { OnOk result (vec_len tokens.new < vec_capacity tokens.new) }
     ensures link { OnOk result (chains.new.room ≡ true) }
 {
-    seens.reserve(1)?;
+    tokens.reserve(1)?;
     chains.reserve()
 }
 
 // Puts the entry into the vector, with an empty slot. It is handed back where memory was refused.
-fn store<S: Drop, Q: Quest<S>, B: Naming, R: Wait>(
+fn store<S: Drop, Q: SearchParameters<S>, B: BookIdentity, R: Wait>(
     rt: &R,
     entries: &Entries<S, Q>,
     slots: &Slots<S, Q, B>,
@@ -83,7 +83,7 @@ fn store<S: Drop, Q: Quest<S>, B: Naming, R: Wait>(
     }
 }
 
-impl<S: Eq + Hash, Q: Quest<S>, B: Naming> Shard<S, Q, B> {
+impl<S: Eq + Hash, Q: SearchParameters<S>, B: BookIdentity> Shard<S, Q, B> {
     // No entries. The share has one part, and no amount yet.
     pub(crate) fn new(alloc: Global, share: Share<B>) -> Shard<S, Q, B>
         requires part { share.parts ≡ 1 }
@@ -91,14 +91,14 @@ impl<S: Eq + Hash, Q: Quest<S>, B: Naming> Shard<S, Q, B> {
         ensures { result ≡ [] }
     {
         Shard {
-            seens: Vec::new(alloc),
+            tokens: Vec::new(alloc),
             chains: Chains::new(alloc),
             share,
         }
     }
 }
 
-impl<S: Eq + Hash + Drop, Q: Quest<S>, B: Naming> Shard<S, Q, B> {
+impl<S: Eq + Hash + Drop, Q: SearchParameters<S>, B: BookIdentity> Shard<S, Q, B> {
     // Takes the entry as a new one, only where none of the shard dominates it; else answers with
     // one that does, and gives the entry back, to be let go without the lock. After want of
     // memory the entry is handed back.
@@ -114,23 +114,23 @@ impl<S: Eq + Hash + Drop, Q: Quest<S>, B: Naming> Shard<S, Q, B> {
         requires named { entries.now ≡ B.entries }
         requires wanted { IsWanted Q.rules Q.depart Q.steps entry }
         requires code { code ≡ code_of_writes (S.hash_input entry.state) }
-        ensures met { IfOk result (λ met. Meets S.eq self.old entry met.0 self.new) }
-        ensures counted { IfOk result (λ met. CountsMet met.0 pass.old pass.new) }
+        ensures met { IfOk result (λ met. Inserts S.eq self.old entry met.0 self.new) }
+        ensures counted { IfOk result (λ met. CountsInsert met.0 pass.old pass.new) }
         ensures handed_back { IfErr result (λ refused. refused.1 ≡ entry) }
         ensures err { OnErr result (self.new ≡ self.old) }
         ensures uncounted { OnErr result (pass.new ≡ pass.old) }
     {
-        if let Some(i) = find(entries, &self.seens, &self.chains, &entry, code) {
-            return Ok((Met::Known(self.seens[i].again()), Some(entry)));
+        if let Some(i) = find(entries, &self.tokens, &self.chains, &entry, code) {
+            return Ok((Met::Known(self.tokens[i].again()), Some(entry)));
         }
         if !pass.has_room() {
-            return Err((refused_growth(*self.seens.allocator()), entry));
+            return Err((refused_growth(*self.tokens.allocator()), entry));
         }
-        if let Err(refused) = make_room(&mut self.seens, &mut self.chains) {
+        if let Err(refused) = make_room(&mut self.tokens, &mut self.chains) {
             return Err((refused, entry));
         }
         let seen = store(rt, entries, slots, entry)?;
-        self.seens.push_reserved(seen.again());
+        self.tokens.push_reserved(seen.again());
         self.chains.push_reserved(code);
         pass.spend(&mut self.share);
         Ok((Met::New(seen), None))

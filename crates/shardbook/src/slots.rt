@@ -3,19 +3,19 @@
 ghost use Rattle.std.specs.Prelude.{◌≡◌, IfErr};
 
 use crate::done::Done;
+use crate::parameters::{BookIdentity, SearchParameters};
 use crate::push::push;
-use crate::quest::{Naming, Quest};
 use basis::NoMemory;
 use std::alloc::Global;
 use std::sync::{OnceLock, Wait};
 
 // Slots that every thread sets and reads without a lock.
 #[derive(Drop)]
-pub(crate) struct Slots<S, Q: Quest<S>, B: Naming> {
+pub(crate) struct Slots<S, Q: SearchParameters<S>, B: BookIdentity> {
     vec: boxcar::Vec<OnceLock<Done<S, Q, B>>>,
 }
 
-impl<S: Drop, Q: Quest<S>, B: Naming> Slots<S, Q, B> {
+impl<S: Drop, Q: SearchParameters<S>, B: BookIdentity> Slots<S, Q, B> {
     // No slots.
     pub(crate) fn new(alloc: Global) -> Result<Slots<S, Q, B>, NoMemory> {
         Ok(Slots {
@@ -32,7 +32,7 @@ impl<S: Drop, Q: Quest<S>, B: Naming> Slots<S, Q, B> {
     }
 }
 
-impl<S, Q: Quest<S>, B: Naming> Slots<S, Q, B> {
+impl<S, Q: SearchParameters<S>, B: BookIdentity> Slots<S, Q, B> {
     // Sets the slot, unless it is set or being set.
     pub(crate) fn set(&self, slot: usize, done: Done<S, Q, B>) -> Result<(), Done<S, Q, B>>
         ensures { IfErr result (λ back. back ≡ done) }

@@ -8,7 +8,7 @@ use Rattle.std.specs.Cmp.{IsEquivalence}
 use Rattle.basis.proofs.Bools.{and_left, and_right, or_left, or_right}
 use Rattle.basis.proofs.Lists.{last_or_before}
 use Rattle.indexmap.specs.IndexSet.{insert_key}
-use Rattle.statebook.specs.Books.{Book, Dominates, IsFoundAt, IsUndominated, add, places_of, shown}
+use Rattle.statebook.specs.Books.{Book, Dominates, IsFoundAt, IsUndominated, add, places_of, book_of}
 use Rattle.statebook.specs.Inner.Kept.{IsKept, alike}
 use Rattle.statebook.specs.declared.entry.Entry.{Entry}
 use Rattle.std.proofs.lemmas.Option.{slice_get-get_or, slice_get_within}
@@ -159,8 +159,8 @@ pub key_added : {X : Type 0} (eq : X → X → Bool) (keys : List X) (v : X) →
 key_added eq keys v h = rw (all_fail (eq v) keys h) refl
 
 -- an entry and an empty place were put last
-pub shown-add : {S A : Type 0} (keys more : List (Entry S)) (items pushed : List (Option (Vec ℕ A))) (v : Entry S) → more ≡ keys ++ v ∷ [] → pushed ≡ items ++ None ∷ [] → shown more pushed ≡ add (shown keys items) v
-shown-add keys more items pushed v e f =
+pub book_of-add : {S A : Type 0} (keys more : List (Entry S)) (items pushed : List (Option (Vec ℕ A))) (v : Entry S) → more ≡ keys ++ v ∷ [] → pushed ≡ items ++ None ∷ [] → book_of more pushed ≡ add (book_of keys items) v
+book_of-add keys more items pushed v e f =
     let both = ap (λ l. map places_of l) f ∙ map-append_one places_of items None in
     λ i. record { entries = e i; finished = both i }
 

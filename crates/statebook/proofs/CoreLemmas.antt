@@ -5,12 +5,12 @@ use Rattle.std.proofs.lemmas.Option.{same_Some, slice_get-get_or}
 use Rattle.basis.proofs.Lists.{listed_place, stands_in_front, last_or_before}
 use Rattle.sched_core.specs.Rules.{Rules, IsLawful, stands, choice_at, IsRun}
 use Rattle.statebook.specs.declared.entry.Entry.{Entry}
-use Rattle.statebook.specs.Stations.{is_station, forced}
+use Rattle.statebook.specs.Stations.{is_station, forced_state}
 use Rattle.statebook.specs.Covered.{IsCovered}
 use Rattle.statebook.specs.declared.book.Met.{Met}
 use Rattle.statebook.specs.declared.book.Met.TheVariants.{New, Known}
-use Rattle.statebook.specs.Books.{Book, no_entries, add, finish, AllClosed, IsClosedAt, IsClosed, Meets}
-use Rattle.statebook.specs.ExplorerCore.{IsEntry, choices_of, budget_after, IsMet, AllMet, Core, Event, happens, IsAllowed, AreAllowed, after_all, empty, IsListed, IsSound}
+use Rattle.statebook.specs.Books.{Book, no_entries, add, finish, AllClosed, IsClosedAt, IsClosed, Inserts}
+use Rattle.statebook.specs.ExplorerCore.{IsEntry, choices_of, budget_after, IsSuccessorAt, HasSuccessorsAt, Core, Event, happens, IsAllowed, AreAllowed, after_all, empty, IsListed, IsSound}
 use Rattle.statebook.specs.ExplorerCore.Event.{Add, Finish, Give, Take, Open, Shut, Stop}
 use Rattle.statebook.proofs.RunLemmas.{departs, used, used-le, used_grows, is_station_same, mark_is_station, GoesAlong, along}
 
@@ -26,7 +26,7 @@ slice_get-set (z ∷ xs) (suc k) y (suc i) x e = elim (slice_get-set xs k y i x 
 ]
 
 -- what was met stays met as entries are added
-met_more : {S : Type 0} (r : Rules S) (entries : List (Entry S)) (e : Entry S) (i : ℕ) (places : List ℕ) → AllMet r entries i places → AllMet r (entries ++ e ∷ []) i places
+met_more : {S : Type 0} (r : Rules S) (entries : List (Entry S)) (e : Entry S) (i : ℕ) (places : List ℕ) → HasSuccessorsAt r entries i places → HasSuccessorsAt r (entries ++ e ∷ []) i places
 met_more r entries e i places m = record {
   entry = m.entry;
   at = stands_in_front entries (e ∷ []) i m.entry m.at;
@@ -52,7 +52,7 @@ sound_add {S} r k limit b e s h = record {
   ];
 }
 
-pub sound_meets : {S : Type 0} (r : Rules S) (k limit : ℕ) (same : S → S → Bool) (old : Book S) (e : Entry S) (met : Met) (new : Book S) → IsSound r k limit old → IsEntry r k limit e → Meets same old e met new → IsSound r k limit new
+pub sound_meets : {S : Type 0} (r : Rules S) (k limit : ℕ) (same : S → S → Bool) (old : Book S) (e : Entry S) (met : Met) (new : Book S) → IsSound r k limit old → IsEntry r k limit e → Inserts same old e met new → IsSound r k limit new
 sound_meets {S} r k limit same old e (New place) new s h m =
     let P : Book S → Type 0 = λ b. IsSound r k limit b in
     subst P (sym m.1) (sound_add r k limit old e s h)
@@ -60,15 +60,15 @@ sound_meets {S} r k limit same old e (Known place) new s h m =
     let P : Book S → Type 0 = λ b. IsSound r k limit b in
     subst P (sym m.1) s
 
-pub sound_finish : {S : Type 0} (r : Rules S) (k limit : ℕ) (b : Book S) (i : ℕ) (places : List ℕ) → IsSound r k limit b → AllMet r b.entries i places → IsSound r k limit (finish b i places)
+pub sound_finish : {S : Type 0} (r : Rules S) (k limit : ℕ) (b : Book S) (i : ℕ) (places : List ℕ) → IsSound r k limit b → HasSuccessorsAt r b.entries i places → IsSound r k limit (finish b i places)
 sound_finish r k limit b i places s h = record {
   entry = s.entry;
   met = λ j others g. elim (slice_get-set b.finished i (Some places) j (Some others) g) [
     | inl there ↦ s.met j others there
     | inr same ↦ (
         let list : places ≡ others = same_Some places others (same_Some (Some places) (Some others) (ap Some same.1)) in
-        let P : List ℕ → Type 0 = λ l. AllMet r b.entries j l in
-        let Q : ℕ → Type 0 = λ p. AllMet r b.entries p places in
+        let P : List ℕ → Type 0 = λ l. HasSuccessorsAt r b.entries j l in
+        let Q : ℕ → Type 0 = λ p. HasSuccessorsAt r b.entries p places in
         subst P list (subst Q (sym same.0) h))
   ];
 }
@@ -121,15 +121,15 @@ left_after b zero k u h = omega (arith, h)
 left_after b (suc c) k u h = omega (arith, h)
 
 -- a mark is a station, so the end of the run isn't between two
-no_mark_between : {S : Type 0} (r : Rules S) (k limit : ℕ) (b : Book S) (all : List ℕ) (log : List (ℕ × ℕ)) (n from m : ℕ) (t : S) → Way r k limit b all log n → from ≤ n → ((q : ℕ) → q ≤ m → from + q ≤ n → GoesAlong r log t from q (from + q)) → ((j : ℕ) → j < m → is_station r (forced r t j) ≡ false) → n < from + m → ⊥
+no_mark_between : {S : Type 0} (r : Rules S) (k limit : ℕ) (b : Book S) (all : List ℕ) (log : List (ℕ × ℕ)) (n from m : ℕ) (t : S) → Way r k limit b all log n → from ≤ n → ((q : ℕ) → q ≤ m → from + q ≤ n → GoesAlong r log t from q (from + q)) → ((j : ℕ) → j < m → is_station r (forced_state r t j) ≡ false) → n < from + m → ⊥
 no_mark_between {S} r k limit b all log n from m t way le goes passes between =
     let q : ℕ = n - from in
-    let P : ℕ → Type 0 = λ at. r.same (forced r t q) (stands r log at) ≡ true in
+    let P : ℕ → Type 0 = λ at. r.same (forced_state r t q) (stands r log at) ≡ true in
     let end : from + q ≡ n = omega arith in
-    let same : r.same (forced r t q) (stands r log n) ≡ true = subst P end (goes q (omega arith) (omega arith)).same in
-    let alike : is_station r (forced r t q) ≡ is_station r (stands r log n) = is_station_same r way.law _ _ same in
+    let same : r.same (forced_state r t q) (stands r log n) ≡ true = subst P end (goes q (omega arith) (omega arith)).same in
+    let alike : is_station r (forced_state r t q) ≡ is_station r (stands r log n) = is_station_same r way.law _ _ same in
     let is : is_station r (stands r log n) ≡ true = mark_is_station r (stands r log n) way.mark in
-    let not_one : is_station r (forced r t q) ≡ false = passes q (omega arith) in
+    let not_one : is_station r (forced_state r t q) ≡ false = passes q (omega arith) in
     cc
 
 closed_member : (finished : List (Option (List ℕ))) (all : List ℕ) → AllClosed finished all → (place : ℕ) → Contains all place → IsClosedAt finished all place
@@ -141,7 +141,7 @@ step_on : {S : Type 0} (r : Rules S) (k limit : ℕ) (b : Book S) (all : List �
 step_on {S} r k limit b all log n p way on lt =
     let c : ℕ = choice_at log p in
     let closed : IsClosedAt b.finished all on.place = closed_member b.finished all way.members on.place on.inside in
-    let done : AllMet r b.entries on.place closed.places = way.sound.met on.place closed.places closed.at in
+    let done : HasSuccessorsAt r b.entries on.place closed.places = way.sound.met on.place closed.places closed.at in
     let E : Entry S → Type 0 = λ e. length closed.places ≡ choices_of (r.width e.state) e.budget in
     let itself : done.entry ≡ on.entry = same_Some done.entry on.entry (sym done.at ∙ on.at) in
     let wide : r.width on.entry.state ≡ r.width (stands r log p) = way.law.width_same on.entry.state (stands r log p) on.same in
@@ -149,8 +149,8 @@ step_on {S} r k limit b all log n p way on lt =
     let spent : used log p + departs c ≤ k = omega (arith, used_grows log (suc p) n lt, used-le log n, way.short) in
     let few : c < length closed.places = rw (subst E itself done.count) (allowed (r.width on.entry.state) on.entry.budget c k (used log p) choice on.budget spent) in
     let target = listed_place closed.places c few in
-    let M : Entry S → Type 0 = λ e. IsMet r b.entries e c target.0 in
-    let met : IsMet r b.entries on.entry c target.0 = subst M itself (done.met c target.0 target.1) in
+    let M : Entry S → Type 0 = λ e. IsSuccessorAt r b.entries e c target.0 in
+    let met : IsSuccessorAt r b.entries on.entry c target.0 = subst M itself (done.met c target.0 target.1) in
     let t : S = r.after on.entry.state c in
     let start : r.same t (stands r log (suc p)) ≡ true = way.law.after_same on.entry.state (stands r log p) c on.same choice in
     let rest : k ≤ budget_after on.entry.budget c + used log (suc p) = left_after on.entry.budget c k (used log p) on.budget in
@@ -167,7 +167,7 @@ step_on {S} r k limit b all log n p way on lt =
           entry = met.found;
           inside = closed.inside c target.0 target.1;
           at = met.at;
-          same = way.law.transitive met.found.state (forced r t met.steps) (stands r log (suc p + met.steps)) met.dominates.state (goes met.steps (omega arith) reached).same;
+          same = way.law.transitive met.found.state (forced_state r t met.steps) (stands r log (suc p + met.steps)) met.dominates.state (goes met.steps (omega arith) reached).same;
           budget = omega (arith, met.dominates.budget, rest, (goes met.steps (omega arith) reached).used_same);
         },
       )

@@ -6,7 +6,7 @@ use Rattle.sched_core.specs.Inner.Reading.{next_from}
 use Rattle.sched_core.specs.Logs.{IsLog}
 use Rattle.sched_core.specs.Rules.{Rules, IsLawful, stands, choice_at, IsRun, NamesBelow}
 use Rattle.sched_core.proofs.LogLemmas.{IsLogFrom-append}
-use Rattle.statebook.specs.Stations.{is_station, forced, IsNextStation}
+use Rattle.statebook.specs.Stations.{is_station, forced_state, IsNextStation}
 use Rattle.statebook.specs.ExplorerCore.{IsEntry, choices_of, budget_after}
 use Rattle.statebook.specs.declared.entry.Entry.{Entry}
 use Rattle.statebook.proofs.RunLemmas.{departs, is_station_same, width_between}
@@ -107,17 +107,17 @@ first_step {S} r law k limit e after c t is g lt to =
     one_step r law after e.state t e.steps c (record { run = run; at = subst P (sym here) is.at }) g.at lt to
 
 -- and by forced steps
-pub forced_on : {S : Type 0} (r : Rules S) → IsLawful r → (log : List (ℕ × ℕ)) (t : S) (from : ℕ) → NamesBelow log from → Reaches r log t from → (m : ℕ) → ((j : ℕ) → j < m → is_station r (forced r t j) ≡ false) → Reaches r log (forced r t m) (from + m)
+pub forced_on : {S : Type 0} (r : Rules S) → IsLawful r → (log : List (ℕ × ℕ)) (t : S) (from : ℕ) → NamesBelow log from → Reaches r log t from → (m : ℕ) → ((j : ℕ) → j < m → is_station r (forced_state r t j) ≡ false) → Reaches r log (forced_state r t m) (from + m)
 forced_on {S} r law log t from b h zero passes =
     let P : ℕ → Type 0 = λ n. Reaches r log t n in
     let same : from ≡ from + 0 = omega arith in
     subst P same h
 forced_on {S} r law log t from b h (suc m) passes =
-    let before : Reaches r log (forced r t m) (from + m) = forced_on r law log t from b h m (λ j lt. passes j (omega (arith, lt))) in
-    let one : r.width (forced r t m) ≡ 1 = width_between r (forced r t m) (passes m (omega arith)) in
-    let P : ℕ → Type 0 = λ n. Reaches r log (forced r t (suc m)) n in
+    let before : Reaches r log (forced_state r t m) (from + m) = forced_on r law log t from b h m (λ j lt. passes j (omega (arith, lt))) in
+    let one : r.width (forced_state r t m) ≡ 1 = width_between r (forced_state r t m) (passes m (omega arith)) in
+    let P : ℕ → Type 0 = λ n. Reaches r log (forced_state r t (suc m)) n in
     let same : suc (from + m) ≡ from + suc m = omega arith in
-    subst P same (one_step r law log (forced r t m) (forced r t (suc m)) (from + m) 0 before (unnamed log from (from + m) (omega arith) b) (omega arith) (law.reflexive (forced r t (suc m))))
+    subst P same (one_step r law log (forced_state r t m) (forced_state r t (suc m)) (from + m) 0 before (unnamed log from (from + m) (omega arith) b) (omega arith) (law.reflexive (forced_state r t (suc m))))
 
 pub allowed_width : (w b c : ℕ) → c < choices_of w b → c < w
 allowed_width w zero c lt = omega (arith, lt)
@@ -129,29 +129,29 @@ budget_kept w b zero lt = omega arith
 budget_kept w zero (suc c) lt = absurd (omega (arith, lt))
 budget_kept w (suc b) (suc c) lt = omega arith
 
-pub forced_same : {S : Type 0} (r : Rules S) → IsLawful r → (s t : S) (n : ℕ) → r.same s t ≡ true → ((j : ℕ) → j < n → is_station r (forced r s j) ≡ false) → r.same (forced r s n) (forced r t n) ≡ true
+pub forced_same : {S : Type 0} (r : Rules S) → IsLawful r → (s t : S) (n : ℕ) → r.same s t ≡ true → ((j : ℕ) → j < n → is_station r (forced_state r s j) ≡ false) → r.same (forced_state r s n) (forced_state r t n) ≡ true
 forced_same r law s t zero e passes = e
 forced_same r law s t (suc n) e passes =
-    let before : r.same (forced r s n) (forced r t n) ≡ true = forced_same r law s t n e (λ j lt. passes j (omega (arith, lt))) in
-    let one : r.width (forced r s n) ≡ 1 = width_between r (forced r s n) (passes n (omega arith)) in
-    law.after_same (forced r s n) (forced r t n) 0 before (omega arith)
+    let before : r.same (forced_state r s n) (forced_state r t n) ≡ true = forced_same r law s t n e (λ j lt. passes j (omega (arith, lt))) in
+    let one : r.width (forced_state r s n) ≡ 1 = width_between r (forced_state r s n) (passes n (omega arith)) in
+    law.after_same (forced_state r s n) (forced_state r t n) 0 before (omega arith)
 
 -- equal states have their next stations after as many steps
 pub next_same : {S : Type 0} (r : Rules S) → IsLawful r → (s t : S) (n : ℕ) → r.same s t ≡ true → IsNextStation r s n → IsNextStation r t n
 next_same r law s t n e x = record {
   passes = λ j lt.
-      (let alike : r.same (forced r s j) (forced r t j) ≡ true = forced_same r law s t j e (λ i less. x.passes i (omega (arith, less, lt))) in
-      sym (is_station_same r law (forced r s j) (forced r t j) alike) ∙ x.passes j lt);
+      (let alike : r.same (forced_state r s j) (forced_state r t j) ≡ true = forced_same r law s t j e (λ i less. x.passes i (omega (arith, less, lt))) in
+      sym (is_station_same r law (forced_state r s j) (forced_state r t j) alike) ∙ x.passes j lt);
   station =
-      (let alike : r.same (forced r s n) (forced r t n) ≡ true = forced_same r law s t n e x.passes in
-      sym (is_station_same r law (forced r s n) (forced r t n) alike) ∙ x.station);
+      (let alike : r.same (forced_state r s n) (forced_state r t n) ≡ true = forced_same r law s t n e x.passes in
+      sym (is_station_same r law (forced_state r s n) (forced_state r t n) alike) ∙ x.station);
 }
 
 pub follows_from : {S : Type 0} (r : Rules S) → IsLawful r → (e next : Entry S) (c taken n : ℕ) (start : S) → r.same start (r.after e.state c) ≡ true → ComesTo r start taken next.state n → next.budget ≡ budget_after e.budget c → Follows r e c next
 follows_from r law e next c taken n start to way b = record {
   steps = way.forced_steps;
   station = next_same r law start (r.after e.state c) way.forced_steps to way.next;
-  same = law.transitive next.state (forced r start way.forced_steps) (forced r (r.after e.state c) way.forced_steps) way.same
+  same = law.transitive next.state (forced_state r start way.forced_steps) (forced_state r (r.after e.state c) way.forced_steps) way.same
       (forced_same r law start (r.after e.state c) way.forced_steps to way.next.passes);
   budget = b;
 }
@@ -163,14 +163,14 @@ entry_from {S} r law k limit e next c start is lt step high log to way within b 
     let goes : GoesOnBy e.log next.log e.steps c = subst G (sym log) g in
     let L : List (ℕ × ℕ) → Type 0 = λ l. IsLog l in
     let first : Reaches r next.log start (suc e.steps) = first_step r law k limit e next.log c start is goes (allowed_width (r.width e.state) e.budget c lt) to in
-    let P : ℕ → Type 0 = λ n. Reaches r next.log (forced r start way.forced_steps) n in
+    let P : ℕ → Type 0 = λ n. Reaches r next.log (forced_state r start way.forced_steps) n in
     let count : suc e.steps + way.forced_steps ≡ next.steps = omega (arith, way.count) in
-    let there : Reaches r next.log (forced r start way.forced_steps) next.steps =
+    let there : Reaches r next.log (forced_state r start way.forced_steps) next.steps =
     subst P count (forced_on r law next.log start (suc e.steps) goes.names first way.forced_steps way.next.passes) in
     record {
       run = there.run;
-      at = law.transitive next.state (forced r start way.forced_steps) (stands r next.log next.steps) way.same there.at;
-      station = is_station_same r law next.state (forced r start way.forced_steps) way.same ∙ way.next.station;
+      at = law.transitive next.state (forced_state r start way.forced_steps) (stands r next.log next.steps) way.same there.at;
+      station = is_station_same r law next.state (forced_state r start way.forced_steps) way.same ∙ way.next.station;
       within = within;
       log = subst L (sym log) (log_of_is_log e.log e.steps c is.log is.names step high);
       names = names_later next.log (suc e.steps) next.steps (omega (arith, count)) goes.names;
@@ -184,7 +184,7 @@ exceeds_from {S} r law limits e c start is lt to within past =
     let goes : GoesOnBy e.log after e.steps c = goes_on_by e.log e.steps c is.names in
     let first : Reaches r after start (suc e.steps) = first_step r law limits.depart limits.steps e after c start is goes (allowed_width (r.width e.state) e.budget c lt) to in
     let m : ℕ = limits.steps - e.steps in
-    let there : Reaches r after (forced r start m) (suc e.steps + m) =
+    let there : Reaches r after (forced_state r start m) (suc e.steps + m) =
     forced_on r law after start (suc e.steps) goes.names first m (λ j less. past j (omega (arith, less))) in
     record {
       log = after;

@@ -3,7 +3,7 @@ use Rattle.std.proofs.Common.{◌≡◌, ℕ, ◌+◌, suc, List, [], ◌∷◌,
 use Rattle.sched_core.specs.Rules.{Rules}
 use Rattle.statebook.specs.declared.entry.Entry.{Entry}
 use Rattle.statebook.specs.Books.{Book}
-use Rattle.statebook.specs.ExplorerCore.{IsEntry, AllMet, Core, Event, happens, AreAllowed, after_all, empty, IsReached, IsSound}
+use Rattle.statebook.specs.ExplorerCore.{IsEntry, HasSuccessorsAt, Core, Event, happens, AreAllowed, after_all, empty, IsReached, IsSound}
 use Rattle.statebook.specs.ExplorerCore.Event.{Add, Finish}
 
 -- each entry is added, and then comes the rest
@@ -67,7 +67,7 @@ record Ends {S : Type 0} (r : Rules S) (k limit : ℕ) (es : List (Entry S)) (al
 ends_later : {S : Type 0} (r : Rules S) (k limit : ℕ) (es : List (Entry S)) (front : List (Option (List ℕ))) (f : Option (List ℕ)) (fs : List (Option (List ℕ))) (w : Core S) (events : List (Event S)) → Ends r k limit es ((front ++ f ∷ []) ++ fs) w events → Ends r k limit es (front ++ f ∷ fs) w events
 ends_later r k limit es front f fs w events h = record { allowed = h.allowed; entries = h.entries; finished = h.finished ∙ append_assoc front (f ∷ []) fs }
 
-ends : {S : Type 0} (r : Rules S) (k limit : ℕ) (es : List (Entry S)) (front rest : List (Option (List ℕ))) (w : Core S) → IsAt es front rest w → ((j : ℕ) (places : List ℕ) → slice_get rest j ≡ Some (Some places) → AllMet r es (length front + j) places) → Ends r k limit es (front ++ rest) w (finishes (length front) rest)
+ends : {S : Type 0} (r : Rules S) (k limit : ℕ) (es : List (Entry S)) (front rest : List (Option (List ℕ))) (w : Core S) → IsAt es front rest w → ((j : ℕ) (places : List ℕ) → slice_get rest j ≡ Some (Some places) → HasSuccessorsAt r es (length front + j) places) → Ends r k limit es (front ++ rest) w (finishes (length front) rest)
 ends r k limit es front [] w at met = record { allowed = tt; entries = at.entries; finished = at.finished }
 ends {S} r k limit es front (None ∷ fs) w at met =
     let longer = front ++ None ∷ [] in
@@ -77,13 +77,13 @@ ends {S} r k limit es front (None ∷ fs) w at met =
     ends_later r k limit es front None fs w (finishes (suc (length front)) fs)
     (subst P count (ends r k limit es longer fs w next (λ j places h.
     (let same : length front + suc j ≡ length longer + j = omega (arith, count) in
-    subst (λ n. AllMet r es n places) same (met (suc j) places h)))))
+    subst (λ n. HasSuccessorsAt r es n places) same (met (suc j) places h)))))
 ends {S} r k limit es front (Some places ∷ fs) w at met =
     let longer = front ++ Some places ∷ [] in
     let after : Core S = happens w (Finish (length front) places) in
     let opened : slice_get w.book.finished (length front) ≡ Some None = ap (λ l. slice_get l (length front)) at.finished ∙ middle front (open_list (length fs)) None in
     let here : length front + 0 ≡ length front = omega arith in
-    let done : AllMet r es (length front) places = subst (λ n. AllMet r es n places) here (met 0 places refl) in
+    let done : HasSuccessorsAt r es (length front) places = subst (λ n. HasSuccessorsAt r es n places) here (met 0 places refl) in
     let next : IsAt es longer fs after = record {
       entries = at.entries;
       finished = ap (λ l. slice_set l (length front) (Some places)) at.finished ∙ middle_set front (open_list (length fs)) None (Some places) ∙ sym (append_assoc front (Some places ∷ []) (open_list (length fs)));
@@ -93,9 +93,9 @@ ends {S} r k limit es front (Some places ∷ fs) w at met =
     let later : Ends r k limit es (longer ++ fs) after (finishes (suc (length front)) fs) =
     subst P count (ends r k limit es longer fs after next (λ j others h.
     (let same : length front + suc j ≡ length longer + j = omega (arith, count) in
-    subst (λ n. AllMet r es n others) same (met (suc j) others h)))) in
+    subst (λ n. HasSuccessorsAt r es n others) same (met (suc j) others h)))) in
     record {
-      allowed = ((opened, subst (λ l. AllMet r l (length front) places) (sym at.entries) done), later.allowed);
+      allowed = ((opened, subst (λ l. HasSuccessorsAt r l (length front) places) (sym at.entries) done), later.allowed);
       entries = later.entries;
       finished = later.finished ∙ append_assoc front (Some places ∷ []) fs;
     }
@@ -108,7 +108,7 @@ sound_reached {S} r k limit b sound paired =
     let h : Ends r k limit b.entries b.finished all (finishes 0 b.finished) =
     ends r k limit b.entries [] b.finished all (record { entries = entries_added start b.entries; finished = opened }) (λ j places at.
     (let same : j ≡ 0 + j = omega arith in
-    subst (λ n. AllMet r b.entries n places) same (sound.met j places at))) in
+    subst (λ n. HasSuccessorsAt r b.entries n places) same (sound.met j places at))) in
     let events : List (Event S) = adds b.entries (finishes 0 b.finished) in
     let end = after_adds start b.entries (finishes 0 b.finished) in
     record {

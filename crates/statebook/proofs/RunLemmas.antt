@@ -4,7 +4,7 @@ use Rattle.std.proofs.lemmas.Bool.{cases_lt}
 use Rattle.std.proofs.lemmas.Bool.Decides.{nat_tests}
 use Rattle.basis.proofs.Bools.{same_truth}
 use Rattle.sched_core.specs.Rules.{Rules, IsLawful, stands, choice_at, IsRun}
-use Rattle.statebook.specs.Stations.{is_station, forced}
+use Rattle.statebook.specs.Stations.{is_station, forced_state}
 
 -- 1 where the choice departs from choice 0
 abbrev pub departs : ℕ → ℕ
@@ -84,23 +84,23 @@ width_between r s h =
 
 -- between stations a run takes choice 0, so it goes the forced way and departs no more
 pub record GoesAlong {S : Type 0} (r : Rules S) (log : List (ℕ × ℕ)) (t : S) (from q at : ℕ) : Type 0 where
-  pub same : r.same (forced r t q) (stands r log at) ≡ true
+  pub same : r.same (forced_state r t q) (stands r log at) ≡ true
   pub used_same : used log at ≡ used log from
 
-along_one : {S : Type 0} (r : Rules S) → IsLawful r → (log : List (ℕ × ℕ)) (n : ℕ) → IsRun r log n → (t : S) (from q at : ℕ) → GoesAlong r log t from q at → is_station r (forced r t q) ≡ false → at < n → GoesAlong r log t from (suc q) (suc at)
+along_one : {S : Type 0} (r : Rules S) → IsLawful r → (log : List (ℕ × ℕ)) (n : ℕ) → IsRun r log n → (t : S) (from q at : ℕ) → GoesAlong r log t from q at → is_station r (forced_state r t q) ≡ false → at < n → GoesAlong r log t from (suc q) (suc at)
 along_one r law log n run t from q at before between lt =
-    let one : r.width (forced r t q) ≡ 1 = width_between r (forced r t q) between in
-    let alike : r.width (forced r t q) ≡ r.width (stands r log at) = law.width_same _ _ before.same in
+    let one : r.width (forced_state r t q) ≡ 1 = width_between r (forced_state r t q) between in
+    let alike : r.width (forced_state r t q) ≡ r.width (stands r log at) = law.width_same _ _ before.same in
     let choice : choice_at log at ≡ 0 = omega (arith, run at lt) in
-    let taken : r.same (r.after (forced r t q) 0) (r.after (stands r log at) 0) ≡ true = law.after_same _ _ 0 before.same (omega arith) in
-    let P : ℕ → Type 0 = λ c. r.same (r.after (forced r t q) 0) (r.after (stands r log at) c) ≡ true in
+    let taken : r.same (r.after (forced_state r t q) 0) (r.after (stands r log at) 0) ≡ true = law.after_same _ _ 0 before.same (omega arith) in
+    let P : ℕ → Type 0 = λ c. r.same (r.after (forced_state r t q) 0) (r.after (stands r log at) c) ≡ true in
     let none : departs (choice_at log at) ≡ 0 = ap departs choice in
     record {
       same = subst P (sym choice) taken;
       used_same = omega (arith, before.used_same);
     }
 
-pub along : {S : Type 0} (r : Rules S) → IsLawful r → (log : List (ℕ × ℕ)) (n : ℕ) → IsRun r log n → (t : S) (from m : ℕ) → r.same t (stands r log from) ≡ true → ((j : ℕ) → j < m → is_station r (forced r t j) ≡ false) → (q : ℕ) → q ≤ m → from + q ≤ n → GoesAlong r log t from q (from + q)
+pub along : {S : Type 0} (r : Rules S) → IsLawful r → (log : List (ℕ × ℕ)) (n : ℕ) → IsRun r log n → (t : S) (from m : ℕ) → r.same t (stands r log from) ≡ true → ((j : ℕ) → j < m → is_station r (forced_state r t j) ≡ false) → (q : ℕ) → q ≤ m → from + q ≤ n → GoesAlong r log t from q (from + q)
 along {S} r law log n run t from m start passes zero le le' =
     let P : ℕ → Type 0 = λ at. GoesAlong r log t from 0 at in
     let e : from ≡ from + 0 = omega arith in

@@ -68,9 +68,9 @@ pub record IsClosed {S : Type 0} (b : Book S) (root : ℕ) (all : List ℕ) : Ty
 
 -- What a book answers on meeting an entry: New with the last place only where no entry dominates
 -- it, and then it stands there; Known with the place of one that does, and the book stays.
-abbrev pub Meets : {S : Type 0} → (S → S → Bool) → Book S → Entry S → Met → Book S → Type 0
-Meets {S} same old e (New place) new = (place ≡ length old.entries) × (new ≡ add old e) × ((i : ℕ) (f : Entry S) → slice_get old.entries i ≡ Some f → ¬ Dominates same f e.state e.budget)
-Meets same old e (Known place) new = IsFoundAt same old.entries e place × (new ≡ old)
+abbrev pub Inserts : {S : Type 0} → (S → S → Bool) → Book S → Entry S → Met → Book S → Type 0
+Inserts {S} same old e (New place) new = (place ≡ length old.entries) × (new ≡ add old e) × ((i : ℕ) (f : Entry S) → slice_get old.entries i ≡ Some f → ¬ Dominates same f e.state e.budget)
+Inserts same old e (Known place) new = IsFoundAt same old.entries e place × (new ≡ old)
 
 -- No entry comes behind one that dominates it: met in this order, each of them would be new.
 pub record IsUndominated {S : Type 0} (same : S → S → Bool) (entries : List (Entry S)) : Type 0 where
@@ -82,5 +82,5 @@ places_of None = None
 places_of (Some v) = Some v.items
 
 -- the book that these lists show
-abbrev pub shown : {S A : Type 0} → List (Entry S) → List (Option (Vec ℕ A)) → Book S
-shown entries items = record { entries = entries; finished = map places_of items }
+abbrev pub book_of : {S A : Type 0} → List (Entry S) → List (Option (Vec ℕ A)) → Book S
+book_of entries items = record { entries = entries; finished = map places_of items }

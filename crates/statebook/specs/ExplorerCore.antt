@@ -2,7 +2,7 @@
 use Rattle.std.specs.Prelude.{◌≡◌, ℕ, ◌+◌, ◌-◌, ◌<◌, ◌≤◌, ◌==◌, zero, suc, min, Bool, true, false, if◌then◌else◌, List, [], ◌∷◌, ◌++◌, length, replicate, Contains, slice_get, slice_set, slice_index, unwrap_or, Some, None}
 use Rattle.sched_core.specs.Logs.{IsLog}
 use Rattle.sched_core.specs.Rules.{Rules, stands, IsRun, NamesBelow}
-use Rattle.statebook.specs.Stations.{is_station, forced, IsNextStation}
+use Rattle.statebook.specs.Stations.{is_station, forced_state, IsNextStation}
 use Rattle.statebook.specs.Books.{Book, Dominates, no_entries, add, finish}
 use Rattle.statebook.specs.declared.entry.Entry.{Entry}
 
@@ -29,19 +29,19 @@ budget_after b zero = b
 budget_after b (suc c) = b - 1
 
 -- The entry at place j dominates the next station after choice c of e.
-pub record IsMet {S : Type 0} (r : Rules S) (entries : List (Entry S)) (e : Entry S) (c j : ℕ) : Type 0 where
+pub record IsSuccessorAt {S : Type 0} (r : Rules S) (entries : List (Entry S)) (e : Entry S) (c j : ℕ) : Type 0 where
   pub found : Entry S
   pub at : slice_get entries j ≡ Some found
   pub steps : ℕ
   pub next : IsNextStation r (r.after e.state c) steps
-  pub dominates : Dominates r.same found (forced r (r.after e.state c) steps) (budget_after e.budget c)
+  pub dominates : Dominates r.same found (forced_state r (r.after e.state c) steps) (budget_after e.budget c)
 
 -- Finish, save that i isn't finished: one place for each choice that the budget allows, in order.
-pub record AllMet {S : Type 0} (r : Rules S) (entries : List (Entry S)) (i : ℕ) (places : List ℕ) : Type 0 where
+pub record HasSuccessorsAt {S : Type 0} (r : Rules S) (entries : List (Entry S)) (i : ℕ) (places : List ℕ) : Type 0 where
   pub entry : Entry S
   pub at : slice_get entries i ≡ Some entry
   pub count : length places ≡ choices_of (r.width entry.state) entry.budget
-  pub met : (c j : ℕ) → slice_get places c ≡ Some j → IsMet r entries entry c j
+  pub met : (c j : ℕ) → slice_get places c ≡ Some j → IsSuccessorAt r entries entry c j
 
 -- The book, the jobs of each worker, what each seat has counted, and the stop mark.
 pub record Core (S : Type 0) : Type 0 where
@@ -80,7 +80,7 @@ happens w Stop = record w { stopped = true }
 -- when an event may happen, dominance in Add aside
 abbrev pub IsAllowed : {S : Type 0} → Rules S → ℕ → ℕ → Core S → Event S → Type 0
 IsAllowed r k limit w (Add e) = IsEntry r k limit e
-IsAllowed r k limit w (Finish i places) = (slice_get w.book.finished i ≡ Some None) × AllMet r w.book.entries i places
+IsAllowed r k limit w (Finish i places) = (slice_get w.book.finished i ≡ Some None) × HasSuccessorsAt r w.book.entries i places
 IsAllowed r k limit w (Give worker job) = worker < length w.jobs
 IsAllowed r k limit w (Take worker job) = Contains (jobs_of w.jobs worker) job
 IsAllowed r k limit w (Open seat) = seat < length w.opens
@@ -127,4 +127,4 @@ pub record IsListed {S : Type 0} (r : Rules S) (entries : List (Entry S)) (s : S
 -- one has met what Finish asks.
 pub record IsSound {S : Type 0} (r : Rules S) (k limit : ℕ) (b : Book S) : Type 0 where
   pub entry : (i : ℕ) (e : Entry S) → slice_get b.entries i ≡ Some e → IsEntry r k limit e
-  pub met : (i : ℕ) (places : List ℕ) → slice_get b.finished i ≡ Some (Some places) → AllMet r b.entries i places
+  pub met : (i : ℕ) (places : List ℕ) → slice_get b.finished i ≡ Some (Some places) → HasSuccessorsAt r b.entries i places

@@ -1,4 +1,5 @@
--- Stations: where an explorer stops. Between them all steps are forced.
+-- Stations: where an explorer stops, the states that it stores. Between them all steps are forced, and no state is stored
+-- (path compression).
 use Rattle.std.specs.Prelude.{◌≡◌, ℕ, ◌<◌, ◌==◌, zero, suc, Bool, true, false, ◌||◌, not}
 use Rattle.sched_core.specs.Rules.{Rules}
 
@@ -7,11 +8,11 @@ abbrev pub is_station : {S : Type 0} → Rules S → S → Bool
 is_station r s = r.same s r.first || (not (r.width s == 1) || r.mark s)
 
 -- the state after so many steps of choice 0
-abbrev pub forced : {S : Type 0} → Rules S → S → ℕ → S
-forced r s zero = s
-forced r s (suc n) = r.after (forced r s n) 0
+abbrev pub forced_state : {S : Type 0} → Rules S → S → ℕ → S
+forced_state r s zero = s
+forced_state r s (suc n) = r.after (forced_state r s n) 0
 
 -- The next station from s on, s included, is n forced steps away.
 pub record IsNextStation {S : Type 0} (r : Rules S) (s : S) (n : ℕ) : Type 0 where
-  pub passes : (j : ℕ) → j < n → is_station r (forced r s j) ≡ false
-  pub station : is_station r (forced r s n) ≡ true
+  pub passes : (j : ℕ) → j < n → is_station r (forced_state r s j) ≡ false
+  pub station : is_station r (forced_state r s n) ≡ true

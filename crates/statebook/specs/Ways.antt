@@ -2,7 +2,7 @@
 use Rattle.std.specs.Prelude.{◌≡◌, ℕ, ◌+◌, ◌<◌, ◌≤◌, false, List, length}
 use Rattle.sched_core.specs.Rules.{Rules, IsRun}
 use Rattle.statebook.specs.ExplorerCore.{choices_of}
-use Rattle.statebook.specs.Stations.{is_station, forced}
+use Rattle.statebook.specs.Stations.{is_station, forced_state}
 use Rattle.statebook.specs.declared.entry.Entry.{Entry}
 use Rattle.statebook.specs.declared.limits.Limits.{Limits}
 
@@ -12,7 +12,7 @@ Allows r e c = c < choices_of (r.width e.state) e.budget
 
 -- From s, after some steps, the forced way has no station up to the step limit.
 abbrev pub GoesPast : {S : Type 0} → Rules S → S → ℕ → ℕ → Type 0
-GoesPast r s taken limit = (j : ℕ) → taken + j ≤ limit → is_station r (forced r s j) ≡ false
+GoesPast r s taken limit = (j : ℕ) → taken + j ≤ limit → is_station r (forced_state r s j) ≡ false
 
 -- So it is after choice c of the entry.
 abbrev pub ChoiceGoesPast : {S : Type 0} → Rules S → Limits → Entry S → ℕ → Type 0

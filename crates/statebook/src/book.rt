@@ -1,7 +1,7 @@
 // The book of one owner: its entries, each with the places of its successors once it is finished.
 
 ghost use Rattle.std.specs.Prelude.{◌≡◌, ℕ, List, ◌<◌, ◌≤◌, ◌↔◌, true, false, length, slice_get, map, Contains, Some, None, IsTrue, IsSome, IfSome, IfNone, IfOk, IfErr, OnOk, OnErr, option_copied};
-ghost use Rattle.statebook.specs.Books.{AllClosed, AllIn, Book, IsClosed, IsClosedAt, IsFinished, IsFoundAt, IsRootAt, IsUndominated, IsUnfinished, Meets, finish, no_entries, places_of};
+ghost use Rattle.statebook.specs.Books.{AllClosed, AllIn, Book, IsClosed, IsClosedAt, IsFinished, IsFoundAt, IsRootAt, IsUndominated, IsUnfinished, Inserts, finish, no_entries, places_of};
 ghost use Rattle.statebook.specs.Inner.Kept.{HasNoDominator, HasNoEqual, IsEqualAt};
 
 use crate::entry::Entry;
@@ -11,8 +11,8 @@ use std::alloc::Global;
 use std::hash::Hash;
 use std::marker::Model;
 
-/// What a book answers on meeting an entry: the place where it put it, or that of an entry that
-/// dominates it.
+/// What a book answers on meeting an entry, which is an insert into the visited set: the place where
+/// it put it, or that of an entry that dominates it.
 #[derive(Clone, Copy, Debug, PartialEq, Eq)]
 pub enum Met {
     New(usize),
@@ -27,9 +27,9 @@ pub struct Done {
     pub next: Vec<usize>,
 }
 
-/// A book of entries for one owner. A place is the number of an entry, from 0, in the order of
-/// the New answers. A clause sees the list of entries, and beside it, for each, the places of its
-/// successors once it is finished.
+/// A book of entries for one owner: the visited set of a search. A place is the number of an
+/// entry, from 0, in the order of the New answers. A clause sees the list of entries, and beside it,
+/// for each, the places of its successors once it is finished.
 ///
 /// Look-ups go by hash of the state and by budget, one for each budget from the entry's to the
 /// greatest met. Equal hashes are never taken for equal states.
@@ -41,14 +41,14 @@ pub struct PlainBook<S: Eq + Hash> {
 }
 
 impl<S: Eq + Hash> Model for PlainBook<S> {
-    ghost use Rattle.statebook.specs.Books.{Book, shown};
+    ghost use Rattle.statebook.specs.Books.{Book, book_of};
     ghost use Rattle.statebook.specs.Inner.Kept.{IsKept};
 
     ghost Value = { Book S };
 
-    ghost view = { λ b. shown b.entries.keys b.finished.items };
+    ghost view = { λ b. book_of b.entries.keys b.finished.items };
 
-    ghost invariant = { λ b. IsKept S.eq (shown b.entries.keys b.finished.items) b.top };
+    ghost invariant = { λ b. IsKept S.eq (book_of b.entries.keys b.finished.items) b.top };
 }
 
 // The place of the entry that is equal in state and budget.
@@ -143,10 +143,10 @@ impl<S: Eq + Hash + Drop> PlainBook<S> {
         self.finished.len()
     }
 
-    /// Takes the entry as a new one, only where no entry dominates it; else answers with the place
-    /// of one that does, and lets the entry go. After want of memory the entry is handed back.
+    /// Inserts the entry into the visited set, only where no entry dominates it; else answers with the
+    /// place of one that does, and lets the entry go. After want of memory the entry is handed back.
     pub fn meet(&mut self, mut entry: Entry<S>) -> Result<Met, (NoMemory, Entry<S>)>
-        ensures ok { IfOk result (λ met. Meets S.eq self.old entry met self.new) }
+        ensures ok { IfOk result (λ met. Inserts S.eq self.old entry met self.new) }
         ensures handed_back { IfErr result (λ refused. refused.1 ≡ entry) }
         ensures err { OnErr result (self.new ≡ self.old) }
     {

@@ -3,7 +3,7 @@
 ghost use Rattle.std.specs.Prelude.{ℕ};
 ghost use Rattle.statebook.specs.Books.{no_entries};
 ghost use Rattle.statebook.specs.ExplorerCore.{IsSound};
-ghost use Rattle.statebook.specs.Laws.{AllowedKeepSound, ClosedCovers, FinishedKeepsSound, MetKeepsSound};
+ghost use Rattle.statebook.specs.Laws.{AllowedKeepSound, ClosedCovers, FinishKeepsSound, InsertKeepsSound};
 
 use sched_core::Space;
 
@@ -20,6 +20,6 @@ pub fn closed_covers<P: Space>(space: &P)
 /// it is such an entry. It does nothing.
 pub fn book_stays_sound<P: Space>(space: &P)
     ensures none { (k limit : ℕ) → IsSound (P.rules space.now) k limit no_entries }
-    ensures met { MetKeepsSound (P.rules space.now) P.State.eq }
-    ensures finished { FinishedKeepsSound (P.rules space.now) }
+    ensures met { InsertKeepsSound (P.rules space.now) P.State.eq }
+    ensures finished { FinishKeepsSound (P.rules space.now) }
 {}

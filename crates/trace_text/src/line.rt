@@ -9,7 +9,7 @@ use vdesign::design::Design;
 use vdesign::dump::DumpCommand;
 use vmodel::SlowState;
 use vmodel::choice::Choice;
-use vmodel::deed::{Deed, Fate, Shown};
+use vmodel::effect::{Disposition, Effect, Shown};
 use vmodel::history::{Cause, End};
 use vmodel::part::{Kept, Part};
 use vmodel::values::value_after;
@@ -208,11 +208,11 @@ fn shown_word(shown: Shown) -> &'static [u8] {
 }
 
 // The task that shows something now, or at the end of the slot.
-fn put_shown(text: &mut Vec<u8>, deed: &Deed) -> Result<(), NoMemory> {
-    if let Some(shown) = deed.shown {
+fn put_shown(text: &mut Vec<u8>, effect: &Effect) -> Result<(), NoMemory> {
+    if let Some(shown) = effect.shown {
         text.extend_from_slice(shown_word(shown))?;
     }
-    if deed.strobed.is_some() {
+    if effect.strobed.is_some() {
         text.extend_from_slice(b" strobe")?;
     }
     Ok(())
@@ -226,11 +226,11 @@ fn put_trigger(text: &mut Vec<u8>, triggered: Option<usize>) -> Result<(), NoMem
     Ok(())
 }
 
-fn put_fate(text: &mut Vec<u8>, fate: Fate) -> Result<(), NoMemory> {
-    match fate {
-        Fate::GoesOn => {}
-        Fate::Sleeps(amount) => put_delay(text, amount)?,
-        Fate::Waits(_) => text.extend_from_slice(b" wait")?,
+fn put_fate(text: &mut Vec<u8>, disposition: Disposition) -> Result<(), NoMemory> {
+    match disposition {
+        Disposition::Runnable => {}
+        Disposition::Delayed(amount) => put_delay(text, amount)?,
+        Disposition::Waiting(_) => text.extend_from_slice(b" wait")?,
     }
     Ok(())
 }
@@ -249,22 +249,22 @@ fn put_deed(
     text: &mut Vec<u8>,
     design: &Design,
     old: &[Vec4],
-    deed: &Deed,
+    effect: &Effect,
 ) -> Result<(), NoMemory> {
-    match deed.wrote.kept() {
+    match effect.wrote.kept() {
         Kept::One(part) => put_writes(text, design, old, &[part])?,
         Kept::Many(parts) => put_writes(text, design, old, parts)?,
     }
-    if let Some(post) = &deed.posted {
+    if let Some(post) = &effect.posted {
         match post.parts.kept() {
             Kept::One(part) => put_posts(text, design, old, &[part])?,
             Kept::Many(parts) => put_posts(text, design, old, parts)?,
         }
     }
-    put_trigger(text, deed.triggered)?;
-    put_fate(text, deed.fate)?;
-    put_shown(text, deed)?;
-    if let Some(cause) = deed.cause {
+    put_trigger(text, effect.triggered)?;
+    put_fate(text, effect.disposition)?;
+    put_shown(text, effect)?;
+    if let Some(cause) = effect.cause {
         text.extend_from_slice(cause_word(cause))?;
     }
     Ok(())
@@ -276,13 +276,13 @@ fn put_done(
     design: &Design,
     old: &[Vec4],
     taken: Taken,
-    deed: &Deed,
+    effect: &Effect,
     time: u64,
 ) -> Result<(), NoMemory> {
     match taken.choice {
         Choice::Advance => put_counted(text, b" advance ", time),
-        Choice::Run(_) => put_deed(text, design, old, deed),
-        Choice::Update => put_deed(text, design, old, deed),
+        Choice::Run(_) => put_deed(text, design, old, effect),
+        Choice::Update => put_deed(text, design, old, effect),
     }
 }
 
@@ -293,11 +293,11 @@ fn put_step(
     origins: &Origins,
     old: &[Vec4],
     taken: Taken,
-    deed: &Deed,
+    effect: &Effect,
     time: u64,
 ) -> Result<(), NoMemory> {
     put_taken(text, taken, origins)?;
-    put_done(text, design, old, taken, deed, time)?;
+    put_done(text, design, old, taken, effect, time)?;
     text.push(b'\n')?;
     Ok(())
 }
@@ -342,11 +342,11 @@ fn lines_of(
     origins: &Origins,
     old: &[Vec4],
     taken: Taken,
-    deed: &Deed,
+    effect: &Effect,
     state: &SlowState,
 ) -> Result<Vec<u8>, NoMemory> {
     let mut text = Vec::new(alloc);
-    put_step(&mut text, design, origins, old, taken, deed, state.time())?;
+    put_step(&mut text, design, origins, old, taken, effect, state.time())?;
     put_mark(&mut text, state)?;
     Ok(text)
 }
@@ -367,8 +367,8 @@ pub(crate) fn step(
     let values = Vec::from_slice(alloc, state.values())?;
     let mut monitors = Vec::new(alloc);
     match state.step(design, index, &mut monitors) {
-        Ok(deed) => {
-            let text = lines_of(alloc, design, origins, &values, taken, &deed, state)?;
+        Ok(effect) => {
+            let text = lines_of(alloc, design, origins, &values, taken, &effect, state)?;
             Ok(Some(text))
         }
         Err(refused) => Err(refused),

@@ -9,7 +9,7 @@ use Rattle.basis.specs.declared.memory.OrMemory.TheVariants.{Fault, Memory}
 use Rattle.vcd_text.specs.declared.progress.Progress.{Progress}
 use Rattle.vcd_text.specs.declared.progress.Progress.TheVariants.{Failed}
 use Rattle.vcd_text.specs.declared.sink.DumpSink.{DumpSink}
-use Rattle.vcd_text.specs.Outlets.{IsOutlet}
+use Rattle.vcd_text.specs.ByteSinks.{IsByteSink}
 use Rattle.vcd_text.specs.Sinks.{Takes, Fails, IsOver, items_text, progress_over, text_of}
 use Rattle.vcd_text.specs.SinkLaws.{takes_none, takes_joins, fails_after, fails_before}
 
@@ -37,7 +37,7 @@ pub over : {F : Type 0} (fault : OrMemory F) → IsOver fault Failed
 over (Fault fault) = refl
 over (Memory m) = tt
 
-module _ {O F : Type 0} (takes : O → List ℕ → O → Type 0) (fails : O → List ℕ → F → O → Type 0) (laws : IsOutlet takes fails) where
+module _ {O F : Type 0} (takes : O → List ℕ → O → Type 0) (fails : O → List ℕ → F → O → Type 0) (laws : IsByteSink takes fails) where
   -- one item is taken, and then the rest
   pub takes_on : (s t u : DumpSink O) (items : List Item) (i : ℕ) (item : Item) → item ≡ get_or items i item →
       i < length items → Takes takes s (item ∷ []) t → Takes takes t (drop (i + 1) items) u →
@@ -66,7 +66,7 @@ module _ {O F : Type 0} (takes : O → List ℕ → O → Type 0) (fails : O →
       let over : progress_over s.design.now s.progress items ≡ s.progress =
       ap (λ (p : Progress). progress_over s.design.now p items) failed ∙ failed_over s.design.now items ∙ sym failed in
       let text : text_of s items ≡ [] = ap (λ (p : Progress). items_text s.design.now p items) failed ∙ failed_text s.design.now items in
-      ((refl, refl), sym over, subst (λ (xs : List ℕ). takes s.outlet.now xs s.outlet.now) (sym text) (laws.none s.outlet.now))
+      ((refl, refl), sym over, subst (λ (xs : List ℕ). takes s.byte_sink.now xs s.byte_sink.now) (sym text) (laws.none s.byte_sink.now))
 
   -- nothing is left
   pub takes_all : (s : DumpSink O) (items : List Item) (i : ℕ) → length items ≤ i →

@@ -12,8 +12,8 @@ use Rattle.vbits.specs.Letters.{is_same}
 use Rattle.vbits.specs.Vectors.{Vector, same_letters}
 use Rattle.vdesign.specs.declared.dump.DumpCommand.{DumpCommand}
 use Rattle.vdesign.specs.declared.dump.DumpCommand.TheVariants.{Vars, Off, On, All as AllValues}
-use Rattle.vcd_text.specs.DumpText.{Part, Piece, ToldSlot, all_at, change, changed_part, changes, listed, code, command_part, command_parts, digit, framed, is_kept, is_news, is_nothing, later_parts, later_pieces, line, on_after, on_by, part_text, parts_text, piece_text, pieces, spoken, start, value_lines}
-use Rattle.vcd_text.specs.Readers.{AllHave, IsTold, known, known_parts, letters_of, on_over, overlaid, picked}
+use Rattle.vcd_text.specs.DumpText.{Part, Piece, DumpSlot, all_at, change, changed_part, changes, selected_values, code, command_part, command_parts, digit, text_in_frame, is_kept, is_news, is_nothing, later_parts, later_pieces, line, on_after, on_by, part_text, parts_text, piece_text, pieces, nonempty_pieces, start, value_lines}
+use Rattle.vcd_text.specs.Readers.{AllHave, TellsValues, values_after_pieces, values_after_parts, letters_of, on_over, values_after_changes, items_at}
 
 -- ---- values that are kept
 
@@ -71,21 +71,21 @@ merged (mark ∷ marks) (c ∷ cs) (v ∷ vs) = cond mark v c ∷ merged marks c
 
 -- all values that are marked
 over_listed : (marks : List Bool) (vs cs ps : List Vector) (n : ℕ) → length ps ≡ n → length cs ≡ length vs →
-    overlaid (ps ++ cs) (listed n marks vs) ≡ ps ++ merged marks cs vs
+    values_after_changes (ps ++ cs) (selected_values n marks vs) ≡ ps ++ merged marks cs vs
 over_listed marks [] cs ps n is long = refl
 over_listed [] (v ∷ vs) cs ps n is long = refl
 over_listed (mark ∷ marks) (v ∷ vs) [] ps n is long = absurd (omega arith)
 over_listed (true ∷ marks) (v ∷ vs) (c ∷ cs) ps n is long =
-    ap (λ (xs : List Vector). overlaid xs (listed (suc n) marks vs)) (seam ps cs c v n is)
+    ap (λ (xs : List Vector). values_after_changes xs (selected_values (suc n) marks vs)) (seam ps cs c v n is)
     ∙ over_listed marks vs cs (ps ++ v ∷ []) (suc n) (length_more ps v n is) (omega arith)
     ∙ append_assoc ps (v ∷ []) (merged marks cs vs)
 over_listed (false ∷ marks) (v ∷ vs) (c ∷ cs) ps n is long =
-    ap (λ (xs : List Vector). overlaid xs (listed (suc n) marks vs)) (sym (append_assoc ps (c ∷ []) cs))
+    ap (λ (xs : List Vector). values_after_changes xs (selected_values (suc n) marks vs)) (sym (append_assoc ps (c ∷ []) cs))
     ∙ over_listed marks vs cs (ps ++ c ∷ []) (suc n) (length_more ps c n is) (omega arith)
     ∙ append_assoc ps (c ∷ []) (merged marks cs vs)
 
 picked_merged : (marks : List Bool) (cs vs : List Vector) → length cs ≡ length vs →
-    picked marks (letters_of (merged marks cs vs)) ≡ picked marks (letters_of vs)
+    items_at marks (letters_of (merged marks cs vs)) ≡ items_at marks (letters_of vs)
 picked_merged marks [] [] long = refl
 picked_merged marks (c ∷ cs) [] long = absurd (omega arith)
 picked_merged [] [] (v ∷ vs) long = absurd (omega arith)
@@ -104,16 +104,16 @@ renewed (mark ∷ marks) (c ∷ cs) (u ∷ us) (v ∷ vs) = cond (is_news mark u
 
 -- one value that is told or not, where the later ones are
 one_change : (b : Bool) (told : List (ℕ × Vector)) (c v : Vector) (cs ps rest : List Vector) (n : ℕ) → length ps ≡ n →
-    ((w : Vector) → overlaid (ps ++ w ∷ [] ++ cs) told ≡ ps ++ w ∷ [] ++ rest) →
-    overlaid (ps ++ c ∷ cs) (cond b ((n, v) ∷ told) told) ≡ ps ++ cond b v c ∷ rest
+    ((w : Vector) → values_after_changes (ps ++ w ∷ [] ++ cs) told ≡ ps ++ w ∷ [] ++ rest) →
+    values_after_changes (ps ++ c ∷ cs) (cond b ((n, v) ∷ told) told) ≡ ps ++ cond b v c ∷ rest
 one_change true told c v cs ps rest n is next =
-    ap (λ (xs : List Vector). overlaid xs told) (seam ps cs c v n is) ∙ next v ∙ append_assoc ps (v ∷ []) rest
+    ap (λ (xs : List Vector). values_after_changes xs told) (seam ps cs c v n is) ∙ next v ∙ append_assoc ps (v ∷ []) rest
 one_change false told c v cs ps rest n is next =
-    ap (λ (xs : List Vector). overlaid xs told) (sym (append_assoc ps (c ∷ []) cs)) ∙ next c ∙ append_assoc ps (c ∷ []) rest
+    ap (λ (xs : List Vector). values_after_changes xs told) (sym (append_assoc ps (c ∷ []) cs)) ∙ next c ∙ append_assoc ps (c ∷ []) rest
 
 -- the values that are marked and differ from those that are known
 over_changes : (marks : List Bool) (us vs cs ps : List Vector) (n : ℕ) → length ps ≡ n → length us ≡ length vs → length cs ≡ length vs →
-    overlaid (ps ++ cs) (changes n marks us vs) ≡ ps ++ renewed marks cs us vs
+    values_after_changes (ps ++ cs) (changes n marks us vs) ≡ ps ++ renewed marks cs us vs
 over_changes marks us [] cs ps n is long same = refl
 over_changes [] us (v ∷ vs) cs ps n is long same = refl
 over_changes (mark ∷ marks) [] (v ∷ vs) cs ps n is long same = absurd (omega arith)
@@ -128,7 +128,7 @@ one_news true u v c is same = same ∙ kept_letters u v is
 one_news false u v c is same = refl
 
 picked_renewed : (marks : List Bool) (cs us vs : List Vector) → length us ≡ length vs → length cs ≡ length vs →
-    picked marks (letters_of cs) ≡ picked marks (letters_of us) → picked marks (letters_of (renewed marks cs us vs)) ≡ picked marks (letters_of vs)
+    items_at marks (letters_of cs) ≡ items_at marks (letters_of us) → items_at marks (letters_of (renewed marks cs us vs)) ≡ items_at marks (letters_of vs)
 picked_renewed marks [] us [] many long same = refl
 picked_renewed marks (c ∷ cs) us [] many long same = absurd (omega arith)
 picked_renewed [] [] us (v ∷ vs) many long same = absurd (omega arith)
@@ -136,9 +136,9 @@ picked_renewed [] (c ∷ cs) us (v ∷ vs) many long same = refl
 picked_renewed (mark ∷ marks) cs [] (v ∷ vs) many long same = absurd (omega arith)
 picked_renewed (mark ∷ marks) [] (u ∷ us) (v ∷ vs) many long same = absurd (omega arith)
 picked_renewed (true ∷ marks) (c ∷ cs) (u ∷ us) (v ∷ vs) many long same =
-    let first = cons_head c.letters u.letters (picked marks (letters_of cs)) (picked marks (letters_of us)) same in
-    let rest = cons_tail c.letters u.letters (picked marks (letters_of cs)) (picked marks (letters_of us)) same in
-    ap (λ (l : List Bit4). l ∷ picked marks (letters_of (renewed marks cs us vs))) (one_news (is_kept u v) u v c refl first)
+    let first = cons_head c.letters u.letters (items_at marks (letters_of cs)) (items_at marks (letters_of us)) same in
+    let rest = cons_tail c.letters u.letters (items_at marks (letters_of cs)) (items_at marks (letters_of us)) same in
+    ap (λ (l : List Bit4). l ∷ items_at marks (letters_of (renewed marks cs us vs))) (one_news (is_kept u v) u v c refl first)
     ∙ ap (λ (ls : List (List Bit4)). v.letters ∷ ls) (picked_renewed marks cs us vs (omega arith) (omega arith) rest)
 picked_renewed (false ∷ marks) (c ∷ cs) (u ∷ us) (v ∷ vs) many long same = picked_renewed marks cs us vs (omega arith) (omega arith) same
 
@@ -148,7 +148,7 @@ line_says : (xs ys : List ℕ) → is_nothing (line xs ++ ys) ≡ false
 line_says [] ys = refl
 line_says (x ∷ xs) ys = refl
 
-told_nothing : (word : List ℕ) (told : List (ℕ × Vector)) → is_nothing (framed word (value_lines told)) ≡ true → told ≡ []
+told_nothing : (word : List ℕ) (told : List (ℕ × Vector)) → is_nothing (text_in_frame word (value_lines told)) ≡ true → told ≡ []
 told_nothing (c ∷ cs) told e = cc
 told_nothing [] [] e = refl
 told_nothing [] (entry ∷ told) e =
@@ -160,53 +160,53 @@ nothing_parts : (xs ys : List ℕ) → is_nothing (xs ++ ys) ≡ true → (is_no
 nothing_parts [] ys e = (refl, e)
 nothing_parts (x ∷ xs) ys e = cc
 
-parts_nothing : (parts : List Part) (values : List Vector) → is_nothing (parts_text parts) ≡ true → known_parts values parts ≡ values
+parts_nothing : (parts : List Part) (values : List Vector) → is_nothing (parts_text parts) ≡ true → values_after_parts values parts ≡ values
 parts_nothing [] values e = refl
 parts_nothing (part ∷ parts) values e =
     let both = nothing_parts (part_text part) (parts_text parts) e in
-    ap (λ (told : List (ℕ × Vector)). known_parts (overlaid values told) parts) (told_nothing part.word part.told both.0)
+    ap (λ (told : List (ℕ × Vector)). values_after_parts (values_after_changes values told) parts) (told_nothing part.word part.told both.0)
     ∙ parts_nothing parts values both.1
 
 by_text : (b : Bool) (p : Piece) (ps : List Piece) (values : List Vector) → is_nothing (piece_text p) ≡ b →
-    ((vs : List Vector) → known vs (spoken ps) ≡ known vs ps) → known values (spoken (p ∷ ps)) ≡ known values (p ∷ ps)
+    ((vs : List Vector) → values_after_pieces vs (nonempty_pieces ps) ≡ values_after_pieces vs ps) → values_after_pieces values (nonempty_pieces (p ∷ ps)) ≡ values_after_pieces values (p ∷ ps)
 by_text true p ps values e next =
-    ap (λ (b : Bool). known values (cond b (spoken ps) (p ∷ spoken ps))) e
+    ap (λ (b : Bool). values_after_pieces values (cond b (nonempty_pieces ps) (p ∷ nonempty_pieces ps))) e
     ∙ next values
-    ∙ ap (λ (vs : List Vector). known vs ps) (sym (parts_nothing p.parts values e))
+    ∙ ap (λ (vs : List Vector). values_after_pieces vs ps) (sym (parts_nothing p.parts values e))
 by_text false p ps values e next =
-    ap (λ (b : Bool). known values (cond b (spoken ps) (p ∷ spoken ps))) e ∙ next (known_parts values p.parts)
+    ap (λ (b : Bool). values_after_pieces values (cond b (nonempty_pieces ps) (p ∷ nonempty_pieces ps))) e ∙ next (values_after_parts values p.parts)
 
-spoken_known : (ps : List Piece) (values : List Vector) → known values (spoken ps) ≡ known values ps
+spoken_known : (ps : List Piece) (values : List Vector) → values_after_pieces values (nonempty_pieces ps) ≡ values_after_pieces values ps
 spoken_known [] values = refl
 spoken_known (p ∷ ps) values = by_text (is_nothing (piece_text p)) p ps values refl (λ vs. spoken_known ps vs)
 
 -- ---- parts
 
 -- no value more and none less
-overlaid_length : (values : List Vector) (told : List (ℕ × Vector)) → length (overlaid values told) ≡ length values
+overlaid_length : (values : List Vector) (told : List (ℕ × Vector)) → length (values_after_changes values told) ≡ length values
 overlaid_length values [] = refl
 overlaid_length values (entry ∷ told) = overlaid_length (slice_set values entry.0 entry.1) told ∙ length-set values entry.0 entry.1
 
-parts_length : (values : List Vector) (parts : List Part) → length (known_parts values parts) ≡ length values
+parts_length : (values : List Vector) (parts : List Part) → length (values_after_parts values parts) ≡ length values
 parts_length values [] = refl
-parts_length values (part ∷ parts) = parts_length (overlaid values part.told) parts ∙ overlaid_length values part.told
+parts_length values (part ∷ parts) = parts_length (values_after_changes values part.told) parts ∙ overlaid_length values part.told
 
-known_append : (values : List Vector) (xs ys : List Part) → known_parts values (xs ++ ys) ≡ known_parts (known_parts values xs) ys
+known_append : (values : List Vector) (xs ys : List Part) → values_after_parts values (xs ++ ys) ≡ values_after_parts (values_after_parts values xs) ys
 known_append values [] ys = refl
-known_append values (x ∷ xs) ys = known_append (overlaid values x.told) xs ys
+known_append values (x ∷ xs) ys = known_append (values_after_changes values x.told) xs ys
 
 module _ (marks : List Bool) where
   -- what is known where the dump is on
   abbrev pub KnowsIf : Bool → List Vector → List Vector → Type 0
-  KnowsIf on values vs = on ≡ true → picked marks (letters_of values) ≡ picked marks (letters_of vs)
+  KnowsIf on values vs = on ≡ true → items_at marks (letters_of values) ≡ items_at marks (letters_of vs)
 
   all_known : (word : List ℕ) (values vs : List Vector) → length values ≡ length vs →
-      picked marks (letters_of (overlaid values (all_at word marks vs).told)) ≡ picked marks (letters_of vs)
+      items_at marks (letters_of (values_after_changes values (all_at word marks vs).told)) ≡ items_at marks (letters_of vs)
   all_known word values vs long =
-      ap (λ (xs : List Vector). picked marks (letters_of xs)) (over_listed marks vs values [] 0 refl long) ∙ picked_merged marks values vs long
+      ap (λ (xs : List Vector). items_at marks (letters_of xs)) (over_listed marks vs values [] 0 refl long) ∙ picked_merged marks values vs long
 
   by_command : (on : Bool) (command : DumpCommand) (values vs : List Vector) → length values ≡ length vs → KnowsIf on values vs →
-      KnowsIf (on_by on command) (known_parts values (command_part marks on command vs)) vs
+      KnowsIf (on_by on command) (values_after_parts values (command_part marks on command vs)) vs
   by_command on (Vars place) values vs long knows = knows
   by_command true Off values vs long knows = λ e. cc
   by_command false Off values vs long knows = λ e. cc
@@ -216,18 +216,18 @@ module _ (marks : List Bool) where
   by_command false AllValues values vs long knows = knows
 
   by_commands : (on : Bool) (commands : List DumpCommand) (values vs : List Vector) → length values ≡ length vs → KnowsIf on values vs →
-      KnowsIf (on_after on commands) (known_parts values (command_parts marks on commands vs)) vs
+      KnowsIf (on_after on commands) (values_after_parts values (command_parts marks on commands vs)) vs
   by_commands on [] values vs long knows = knows
   by_commands on (command ∷ commands) values vs long knows =
-      subst (λ (known : List Vector). KnowsIf (on_after (on_by on command) commands) known vs)
+      subst (λ (values_after_pieces : List Vector). KnowsIf (on_after (on_by on command) commands) values_after_pieces vs)
       (sym (known_append values (command_part marks on command vs) (command_parts marks (on_by on command) commands vs)))
-      (by_commands (on_by on command) commands (known_parts values (command_part marks on command vs)) vs
+      (by_commands (on_by on command) commands (values_after_parts values (command_part marks on command vs)) vs
       (parts_length values (command_part marks on command vs) ∙ long) (by_command on command values vs long knows))
 
   by_changes : (on : Bool) (values us vs : List Vector) → length us ≡ length vs → length values ≡ length vs → KnowsIf on values us →
-      KnowsIf on (known_parts values (changed_part marks on us vs)) vs
+      KnowsIf on (values_after_parts values (changed_part marks on us vs)) vs
   by_changes true values us vs long same knows = λ e.
-      ap (λ (xs : List Vector). picked marks (letters_of xs)) (over_changes marks us vs values [] 0 refl long same)
+      ap (λ (xs : List Vector). items_at marks (letters_of xs)) (over_changes marks us vs values [] 0 refl long same)
       ∙ picked_renewed marks values us vs long same (knows refl)
   by_changes false values us vs long same knows = λ e. cc
 
@@ -240,51 +240,51 @@ none_is : {A : Type 0} (x : A) → None ≡ Some x → ⊥
 none_is x e = cc
 
 module _ (marks : List Bool) (count : ℕ) where
-  abbrev pub HasCount : ToldSlot → Type 0
+  abbrev pub HasCount : DumpSlot → Type 0
   HasCount slot = length slot.values ≡ count
 
-  start_told : (slot : ToldSlot) (values : List Vector) → length values ≡ count → HasCount slot →
-      KnowsIf marks (on_after true slot.commands) (known_parts values (start marks slot).parts) slot.values
+  start_told : (slot : DumpSlot) (values : List Vector) → length values ≡ count → HasCount slot →
+      KnowsIf marks (on_after true slot.commands) (values_after_parts values (start marks slot).parts) slot.values
   start_told slot values many has =
-      let all : List Vector = overlaid values (all_at (codes "$dumpvars") marks slot.values).told in
+      let all : List Vector = values_after_changes values (all_at (codes "$dumpvars") marks slot.values).told in
       by_commands marks true slot.commands all slot.values (overlaid_length values (all_at (codes "$dumpvars") marks slot.values).told ∙ many ∙ sym has)
       (λ e. all_known marks (codes "$dumpvars") values slot.values (many ∙ sym has))
 
-  later_told : (on : Bool) (before slot : ToldSlot) (values : List Vector) → length values ≡ count → HasCount before → HasCount slot →
-      KnowsIf marks on values before.values → KnowsIf marks (on_after on slot.commands) (known_parts values (later_parts marks on before.values slot)) slot.values
+  later_told : (on : Bool) (before slot : DumpSlot) (values : List Vector) → length values ≡ count → HasCount before → HasCount slot →
+      KnowsIf marks on values before.values → KnowsIf marks (on_after on slot.commands) (values_after_parts values (later_parts marks on before.values slot)) slot.values
   later_told on before slot values many had has knows =
       let changed : List Part = changed_part marks on before.values slot.values in
-      subst (λ (known : List Vector). KnowsIf marks (on_after on slot.commands) known slot.values)
+      subst (λ (values_after_pieces : List Vector). KnowsIf marks (on_after on slot.commands) values_after_pieces slot.values)
       (sym (known_append values changed (command_parts marks on slot.commands slot.values)))
-      (by_commands marks on slot.commands (known_parts values changed) slot.values (parts_length values changed ∙ many ∙ sym has)
+      (by_commands marks on slot.commands (values_after_parts values changed) slot.values (parts_length values changed ∙ many ∙ sym has)
       (by_changes marks on values before.values slot.values (had ∙ sym has) (many ∙ sym has) knows))
 
-  known_later : (later : List ToldSlot) (k : ℕ) (on : Bool) (before slot : ToldSlot) (values : List Vector) → length values ≡ count →
+  known_later : (later : List DumpSlot) (k : ℕ) (on : Bool) (before slot : DumpSlot) (values : List Vector) → length values ≡ count →
       HasCount before → AllHave count later → slice_get later k ≡ Some slot → KnowsIf marks on values before.values →
-      KnowsIf marks (on_over on (take (suc k) later)) (known values (take (suc k) (later_pieces marks on before later))) slot.values
+      KnowsIf marks (on_over on (take (suc k) later)) (values_after_pieces values (take (suc k) (later_pieces marks on before later))) slot.values
   known_later [] k on before slot values many had all is knows = absurd (none_is slot is)
   known_later (next ∷ later) zero on before slot values many had all is knows =
-      subst (λ (s : ToldSlot). KnowsIf marks (on_after on next.commands) (known_parts values (later_parts marks on before.values next)) s.values) (some_is next slot is)
+      subst (λ (s : DumpSlot). KnowsIf marks (on_after on next.commands) (values_after_parts values (later_parts marks on before.values next)) s.values) (some_is next slot is)
       (later_told on before next values many had (All-head HasCount next later all) knows)
   known_later (next ∷ later) (suc k) on before slot values many had all is knows =
       let has : HasCount next = All-head HasCount next later all in
       let parts : List Part = later_parts marks on before.values next in
-      known_later later k (on_after on next.commands) next slot (known_parts values parts) (parts_length values parts ∙ many) has
+      known_later later k (on_after on next.commands) next slot (values_after_parts values parts) (parts_length values parts ∙ many) has
       (All-tail HasCount next later all) is (later_told on before next values many had has knows)
 
-  known_at : (slots : List ToldSlot) (k : ℕ) (slot : ToldSlot) (values : List Vector) → length values ≡ count → AllHave count slots → slice_get slots k ≡ Some slot →
-      KnowsIf marks (on_over true (take (suc k) slots)) (known values (take (suc k) (pieces marks slots))) slot.values
+  known_at : (slots : List DumpSlot) (k : ℕ) (slot : DumpSlot) (values : List Vector) → length values ≡ count → AllHave count slots → slice_get slots k ≡ Some slot →
+      KnowsIf marks (on_over true (take (suc k) slots)) (values_after_pieces values (take (suc k) (pieces marks slots))) slot.values
   known_at [] k slot values many all is = absurd (none_is slot is)
   known_at (first ∷ later) zero slot values many all is =
-      subst (λ (s : ToldSlot). KnowsIf marks (on_after true first.commands) (known_parts values (start marks first).parts) s.values) (some_is first slot is)
+      subst (λ (s : DumpSlot). KnowsIf marks (on_after true first.commands) (values_after_parts values (start marks first).parts) s.values) (some_is first slot is)
       (start_told first values many (All-head HasCount first later all))
   known_at (first ∷ later) (suc k) slot values many all is =
       let has : HasCount first = All-head HasCount first later all in
-      known_later later k (on_after true first.commands) first slot (known_parts values (start marks first).parts)
+      known_later later k (on_after true first.commands) first slot (values_after_parts values (start marks first).parts)
       (parts_length values (start marks first).parts ∙ many) has (All-tail HasCount first later all) is (start_told first values many has)
 
-pub slots_told : (marks : List Bool) (slots : List ToldSlot) → IsTold marks slots
+pub slots_told : (marks : List Bool) (slots : List DumpSlot) → TellsValues marks slots
 slots_told marks slots values k slot all is on =
-    ap (λ (n : ℕ). picked marks (letters_of (known values (spoken (take n (pieces marks slots)))))) (add-one k)
-    ∙ ap (λ (xs : List Vector). picked marks (letters_of xs)) (spoken_known (take (suc k) (pieces marks slots)) values)
+    ap (λ (n : ℕ). items_at marks (letters_of (values_after_pieces values (nonempty_pieces (take n (pieces marks slots)))))) (add-one k)
+    ∙ ap (λ (xs : List Vector). items_at marks (letters_of xs)) (spoken_known (take (suc k) (pieces marks slots)) values)
     ∙ known_at marks (length values) slots k slot values refl all is (ap (λ (n : ℕ). on_over true (take n slots)) (sym (add-one k)) ∙ on)

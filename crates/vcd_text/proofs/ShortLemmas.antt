@@ -3,8 +3,8 @@ use Rattle.std.proofs.Common.{◌≡◌, ℕ, suc, ◌-◌, ◌≤◌, Bool, tru
 use Rattle.std.specs.Prelude.{◌==◌}
 use Rattle.std.proofs.lemmas.Bool.{cases_Bool}
 use Rattle.std.proofs.lemmas.Bool.Decides.{nat_tests}
-use Rattle.vcd_text.specs.DumpText.{extension, shortened}
-use Rattle.vcd_text.specs.Readers.{left_fill, extended}
+use Rattle.vcd_text.specs.DumpText.{extension, short_digits}
+use Rattle.vcd_text.specs.Readers.{left_fill, full_digits}
 
 same_when : (a b : ℕ) → (a == b) ≡ true → a ≡ b
 same_when a b h = grind (arith, nat_tests)
@@ -23,7 +23,7 @@ fill_of digits = left_fill (get_or digits 0 48)
 record IsBack (digits left : List ℕ) : Type 0 where
   shorter : length left ≤ length digits
   fill : fill_of left ≡ fill_of digits
-  whole : extended (length digits) left ≡ digits
+  whole : full_digits (length digits) left ≡ digits
 
 nothing_out : (digits : List ℕ) → IsBack digits digits
 nothing_out digits =
@@ -42,15 +42,15 @@ one_out d e digits left is b =
       whole = ap (λ k. replicate k (fill_of left) ++ left) count ∙ (λ i. fill i ∷ b.whole i);
     }
 
-is_back : (digits : List ℕ) → IsBack digits (shortened digits)
+is_back : (digits : List ℕ) → IsBack digits (short_digits digits)
 is_back [] = nothing_out []
 is_back (d ∷ []) = nothing_out (d ∷ [])
 is_back (d ∷ e ∷ digits) =
-    let by : Bool → List ℕ = λ b. cond b (shortened (e ∷ digits)) (d ∷ e ∷ digits) in
+    let by : Bool → List ℕ = λ b. cond b (short_digits (e ∷ digits)) (d ∷ e ∷ digits) in
     elim (cases_Bool (d == extension e)) [
-      | inl out ↦ subst (IsBack (d ∷ e ∷ digits)) (sym (ap by out)) (one_out d e digits (shortened (e ∷ digits)) (same_when d (extension e) out) (is_back (e ∷ digits)))
+      | inl out ↦ subst (IsBack (d ∷ e ∷ digits)) (sym (ap by out)) (one_out d e digits (short_digits (e ∷ digits)) (same_when d (extension e) out) (is_back (e ∷ digits)))
       | inr stays ↦ subst (IsBack (d ∷ e ∷ digits)) (sym (ap by stays)) (nothing_out (d ∷ e ∷ digits))
     ]
 
-pub digits_back : (digits : List ℕ) → extended (length digits) (shortened digits) ≡ digits
+pub digits_back : (digits : List ℕ) → full_digits (length digits) (short_digits digits) ≡ digits
 digits_back digits = (is_back digits).whole

@@ -8,7 +8,7 @@ use Rattle.vbits.specs.declared.bit4.Bit4.{Bit4}
 use Rattle.vbits.specs.declared.bit4.Bit4.TheVariants.{Zero, One}
 use Rattle.vbits.specs.Vectors.{Vector, case_eq, single, same_letters}
 use Rattle.vbits.specs.Numbers.{number}
-use Rattle.vcd_text.specs.DumpText.{digit, following, shortened, is_kept}
+use Rattle.vcd_text.specs.DumpText.{digit, following, short_digits, is_kept}
 use Rattle.vcd_text.proofs.CodeLemmas.{following_less}
 
 set_parts : (xs : List ℕ) (i v : ℕ) → i < length xs → set xs i v ≡ take i xs ++ v ∷ drop (suc i) xs
@@ -27,7 +27,7 @@ followed xs ys i c so_far same within is lt =
     ∙ following_less c (drop (suc i) xs) lt))
     ∙ so_far
 
-pub shortened_short : (ds : List ℕ) → length ds ≤ 1 → shortened ds ≡ ds
+pub shortened_short : (ds : List ℕ) → length ds ≤ 1 → short_digits ds ≡ ds
 shortened_short [] le = refl
 shortened_short (d ∷ []) le = refl
 shortened_short (d ∷ e ∷ ds) le = absurd (omega arith)

@@ -3,8 +3,8 @@ use Rattle.std.proofs.Common.{◌≡◌, ◌≤◌, ◌^◌, ℕ, ◌+◌, min, 
 use Rattle.std.proofs.Math.Seq.{take-append-add}
 use Rattle.vcd_text.specs.declared.counter.Counter.{Counter}
 use Rattle.vcd_text.specs.declared.fault.TooMany.{TooMany}
-use Rattle.vcd_text.specs.Outlets.{IsOutlet}
-use Rattle.vcd_text.specs.OutletLaws.{take_front}
+use Rattle.vcd_text.specs.ByteSinks.{IsByteSink}
+use Rattle.vcd_text.specs.ByteSinkLaws.{take_front}
 
 -- it counted the text's bytes
 abbrev pub Counts : Counter → List ℕ → Counter → Type 0
@@ -29,5 +29,5 @@ full_before s u xs ys fault (full, (n, p)) =
     subst (λ (text : List ℕ). Counts s text u) (sym (take_front xs ys n)) p in
     (omega (arith, length-append xs ys, full), (min n (length xs), counted))
 
-pub counter_laws : IsOutlet Counts IsFull
+pub counter_laws : IsByteSink Counts IsFull
 counter_laws = record { none = λ s. omega arith; joins = counts_joins; fails_later = full_later; fails_before = full_before }

@@ -6,12 +6,12 @@ use Rattle.vbits.specs.Vectors.{Vector}
 use Rattle.vmodel.specs.History.{History}
 use Rattle.vmodel.specs.declared.history.Item.{Item}
 use Rattle.vmodel.specs.declared.history.Item.TheVariants.{SlotEnd, Dump, Line, Monitor}
-use Rattle.vcd_text.specs.DumpText.{Piece, ToldSlot, body, dump_of, dumped, has_start, header, is_nothing, later_parts, later_pieces, on_after, piece_text, scope_marks, slots_after, spoken, start, time_line, variable_marks, vcd}
+use Rattle.vcd_text.specs.DumpText.{Piece, DumpSlot, body, dump_of, dump_slots, has_start, header, is_nothing, later_parts, later_pieces, on_after, piece_text, scope_marks, slots_after, nonempty_pieces, start, time_line, variable_marks, vcd}
 use Rattle.vcd_text.specs.declared.progress.Progress.{Progress}
 use Rattle.vcd_text.specs.declared.progress.Progress.TheVariants.{Waiting, Started}
-use Rattle.vcd_text.specs.Sinks.{end_text, history_text, items_text, last_line, progress_over, start_text, timed, text_of, Takes, Fails}
-use Rattle.vcd_text.specs.Outlets.{IsOutlet, Stopped}
-use Rattle.vcd_text.specs.OutletLaws.{stopped_after, stopped_before}
+use Rattle.vcd_text.specs.Sinks.{end_text, history_text, items_text, last_line, progress_over, start_text, text_at_time, text_of, Takes, Fails}
+use Rattle.vcd_text.specs.ByteSinks.{IsByteSink, Stopped}
+use Rattle.vcd_text.specs.ByteSinkLaws.{stopped_after, stopped_before}
 use Rattle.basis.specs.declared.memory.OrMemory.{OrMemory}
 use Rattle.vcd_text.specs.declared.sink.DumpSink.{DumpSink}
 
@@ -26,27 +26,27 @@ module _ (design : Design) (end : ℕ) where
   rest p items = items_text design p items ++ end_text (progress_over design p items) end
 
   -- what the definition says from a piece on, of a dump of marked variables that is on or off behind its slot
-  abbrev pub from_piece : List Bool → Piece → Bool → ToldSlot → List ToldSlot → List ℕ
-  from_piece marks p on slot slots = body (p ∷ spoken (later_pieces marks on slot slots)) end
+  abbrev pub from_piece : List Bool → Piece → Bool → DumpSlot → List DumpSlot → List ℕ
+  from_piece marks p on slot slots = body (p ∷ nonempty_pieces (later_pieces marks on slot slots)) end
 
-  later_by_text : (marks : List Bool) (p q : Piece) (on : Bool) (slot : ToldSlot) (slots : List ToldSlot) (items : List Item) (text : List ℕ) → piece_text q ≡ text →
+  later_by_text : (marks : List Bool) (p q : Piece) (on : Bool) (slot : DumpSlot) (slots : List DumpSlot) (items : List Item) (text : List ℕ) → piece_text q ≡ text →
       ((r : Piece) → from_piece marks r on slot slots ≡ time_line r.time ++ piece_text r ++ rest (Started r.time on marks slot.values []) items) →
-      body (p ∷ spoken (q ∷ later_pieces marks on slot slots)) end
+      body (p ∷ nonempty_pieces (q ∷ later_pieces marks on slot slots)) end
       ≡ time_line p.time ++ piece_text p
-      ++ (timed q.time text ++ items_text design (Started (last_line p.time q.time text) on marks slot.values []) items
+      ++ (text_at_time q.time text ++ items_text design (Started (last_line p.time q.time text) on marks slot.values []) items
       ++ end_text (progress_over design (Started (last_line p.time q.time text) on marks slot.values []) items) end)
   later_by_text marks p q on slot slots items [] is next =
-      let later : List Piece = spoken (later_pieces marks on slot slots) in
+      let later : List Piece = nonempty_pieces (later_pieces marks on slot slots) in
       ap (λ (xs : List ℕ). body (p ∷ (if is_nothing xs then later else q ∷ later)) end) is ∙ next p
   later_by_text marks p q on slot slots items (c ∷ cs) is next =
-      let later : List Piece = spoken (later_pieces marks on slot slots) in
+      let later : List Piece = nonempty_pieces (later_pieces marks on slot slots) in
       let added : List ℕ = items_text design (Started q.time on marks slot.values []) items in
       let last : List ℕ = end_text (progress_over design (Started q.time on marks slot.values []) items) end in
       ap (λ (xs : List ℕ). body (p ∷ (if is_nothing xs then later else q ∷ later)) end) is
       ∙ ap (λ (more : List ℕ). time_line p.time ++ piece_text p ++ more)
       (next q ∙ ap (λ (xs : List ℕ). time_line q.time ++ xs ++ (added ++ last)) is ∙ sym (append_assoc (time_line q.time ++ (c ∷ cs)) added last))
 
-  later_text : (marks : List Bool) (p : Piece) (on : Bool) (slot : ToldSlot) (commands : List DumpCommand) (items : List Item) →
+  later_text : (marks : List Bool) (p : Piece) (on : Bool) (slot : DumpSlot) (commands : List DumpCommand) (items : List Item) →
       from_piece marks p on slot (slots_after commands items)
       ≡ time_line p.time ++ piece_text p ++ rest (Started p.time on marks slot.values commands) items
   later_text marks p on slot commands [] = refl
@@ -54,19 +54,19 @@ module _ (design : Design) (end : ℕ) where
   later_text marks p on slot commands (Line text ∷ items) = later_text marks p on slot commands items
   later_text marks p on slot commands (Monitor place ∷ items) = later_text marks p on slot commands items
   later_text marks p on slot commands (SlotEnd t values ∷ items) =
-      let next : ToldSlot = record { commands = commands; time = t; values = values } in
+      let next : DumpSlot = record { commands = commands; time = t; values = values } in
       let piece : Piece = record { time = t; parts = later_parts marks on slot.values next } in
       later_by_text marks p piece (on_after on commands) next (slots_after [] items) items (piece_text piece) refl
       (λ r. later_text marks r (on_after on commands) next [] items)
 
   -- the slot that ended starts the dump, or comes before it
   begin_text : (b : Bool) (commands : List DumpCommand) (t : ℕ) (values : List Vector) (items : List Item) → has_start commands ≡ b →
-      rest (Waiting []) items ≡ dump_of design (dumped (slots_after [] items)) end →
+      rest (Waiting []) items ≡ dump_of design (dump_slots (slots_after [] items)) end →
       rest (Waiting commands) (SlotEnd t values ∷ items)
-      ≡ dump_of design (dumped (record { commands = commands; time = t; values = values } ∷ slots_after [] items)) end
+      ≡ dump_of design (dump_slots (record { commands = commands; time = t; values = values } ∷ slots_after [] items)) end
   begin_text true commands t values items is later =
-      let slot : ToldSlot = record { commands = commands; time = t; values = values } in
-      let slots : List ToldSlot = slots_after [] items in
+      let slot : DumpSlot = record { commands = commands; time = t; values = values } in
+      let slots : List DumpSlot = slots_after [] items in
       let on : Bool = on_after true commands in
       let marks : List Bool = variable_marks design commands in
       let head : List ℕ = header design (scope_marks design commands) in
@@ -74,21 +74,21 @@ module _ (design : Design) (end : ℕ) where
       let last : List ℕ = end_text (progress_over design (Started t on marks values []) items) end in
       ap (λ (b : Bool). (if b then start_text design commands t values else []) ++ items_text design (if b then Started t on marks values [] else Waiting []) items
       ++ end_text (progress_over design (if b then Started t on marks values [] else Waiting []) items) end) is
-      ∙ sym (ap (λ (b : Bool). dump_of design (if b then slot ∷ slots else dumped slots) end) is
+      ∙ sym (ap (λ (b : Bool). dump_of design (if b then slot ∷ slots else dump_slots slots) end) is
       ∙ ap (λ (more : List ℕ). head ++ more) (later_text marks (start marks slot) on slot [] items)
       ∙ start_parts head (time_line t) (piece_text (start marks slot)) added last)
   begin_text false commands t values items is later =
-      let slot : ToldSlot = record { commands = commands; time = t; values = values } in
-      let slots : List ToldSlot = slots_after [] items in
+      let slot : DumpSlot = record { commands = commands; time = t; values = values } in
+      let slots : List DumpSlot = slots_after [] items in
       let on : Bool = on_after true commands in
       let marks : List Bool = variable_marks design commands in
       ap (λ (b : Bool). (if b then start_text design commands t values else []) ++ items_text design (if b then Started t on marks values [] else Waiting []) items
       ++ end_text (progress_over design (if b then Started t on marks values [] else Waiting []) items) end) is
       ∙ later
-      ∙ sym (ap (λ (b : Bool). dump_of design (if b then slot ∷ slots else dumped slots) end) is)
+      ∙ sym (ap (λ (b : Bool). dump_of design (if b then slot ∷ slots else dump_slots slots) end) is)
 
   waiting_text : (commands : List DumpCommand) (items : List Item) →
-      rest (Waiting commands) items ≡ dump_of design (dumped (slots_after commands items)) end
+      rest (Waiting commands) items ≡ dump_of design (dump_slots (slots_after commands items)) end
   waiting_text commands [] = refl
   waiting_text commands (Dump command ∷ items) = waiting_text (commands ++ command ∷ []) items
   waiting_text commands (Line text ∷ items) = waiting_text commands items
@@ -108,27 +108,27 @@ whole_dump s history fresh =
     sym (whole_text s.design.now history)
     ∙ ap (λ (from : Progress). items_text s.design.now from history.items ++ end_text (progress_over s.design.now from history.items) history.end.time) (sym fresh)
 
-module _ {O F : Type 0} (takes : O → List ℕ → O → Type 0) (fails : O → List ℕ → F → O → Type 0) (laws : IsOutlet takes fails)
+module _ {O F : Type 0} (takes : O → List ℕ → O → Type 0) (fails : O → List ℕ → F → O → Type 0) (laws : IsByteSink takes fails)
     (s : DumpSink O) (history : History) (fresh : s.progress ≡ Waiting []) where
   taken_dump : (t : DumpSink O) → Takes takes s history.items t →
       vcd s.design.now history ≡ text_of s history.items ++ end_text t.progress history.end.time
   taken_dump t p = whole_dump s history fresh ∙ ap (λ (after : Progress). text_of s history.items ++ end_text after history.end.time) (sym p.1)
 
-  pub completes : (t : DumpSink O) (m : O) → Takes takes s history.items t → takes t.outlet.now (end_text t.progress history.end.time) m →
-      takes s.outlet.now (vcd s.design.now history) m
+  pub completes : (t : DumpSink O) (m : O) → Takes takes s history.items t → takes t.byte_sink.now (end_text t.progress history.end.time) m →
+      takes s.byte_sink.now (vcd s.design.now history) m
   completes t m p q =
-      subst (λ (text : List ℕ). takes s.outlet.now text m) (sym (taken_dump t p))
-      (laws.joins s.outlet.now t.outlet.now m (text_of s history.items) (end_text t.progress history.end.time) p.2 q)
+      subst (λ (text : List ℕ). takes s.byte_sink.now text m) (sym (taken_dump t p))
+      (laws.joins s.byte_sink.now t.byte_sink.now m (text_of s history.items) (end_text t.progress history.end.time) p.2 q)
 
   pub stops_completing : (t : DumpSink O) (m : O) (fault : OrMemory F) → Takes takes s history.items t →
-      Stopped takes fails t.outlet.now (end_text t.progress history.end.time) fault m → Stopped takes fails s.outlet.now (vcd s.design.now history) fault m
+      Stopped takes fails t.byte_sink.now (end_text t.progress history.end.time) fault m → Stopped takes fails s.byte_sink.now (vcd s.design.now history) fault m
   stops_completing t m fault p q =
-      subst (λ (text : List ℕ). Stopped takes fails s.outlet.now text fault m) (sym (taken_dump t p))
-      (stopped_after takes fails laws s.outlet.now t.outlet.now m (text_of s history.items) (end_text t.progress history.end.time) fault p.2 q)
+      subst (λ (text : List ℕ). Stopped takes fails s.byte_sink.now text fault m) (sym (taken_dump t p))
+      (stopped_after takes fails laws s.byte_sink.now t.byte_sink.now m (text_of s history.items) (end_text t.progress history.end.time) fault p.2 q)
 
   pub stops_taking : (t : DumpSink O) (fault : OrMemory F) → Fails takes fails s history.items fault t →
-      Stopped takes fails s.outlet.now (vcd s.design.now history) fault t.outlet.now
+      Stopped takes fails s.byte_sink.now (vcd s.design.now history) fault t.byte_sink.now
   stops_taking t fault p =
-      subst (λ (text : List ℕ). Stopped takes fails s.outlet.now text fault t.outlet.now) (sym (whole_dump s history fresh))
-      (stopped_before takes fails laws s.outlet.now t.outlet.now (text_of s history.items)
+      subst (λ (text : List ℕ). Stopped takes fails s.byte_sink.now text fault t.byte_sink.now) (sym (whole_dump s history fresh))
+      (stopped_before takes fails laws s.byte_sink.now t.byte_sink.now (text_of s history.items)
       (end_text (progress_over s.design.now s.progress history.items) history.end.time) fault p.1)

@@ -18,7 +18,7 @@ use Rattle.vdesign.specs.declared.dump.DumpCommand.TheVariants.{Vars, Off, On, A
 use Rattle.vmodel.specs.History.{History}
 use Rattle.vmodel.specs.declared.history.Item.{Item}
 use Rattle.vmodel.specs.declared.history.Item.TheVariants.{SlotEnd, Dump, Line, Monitor}
-use Rattle.vcd_text.specs.Comparing.{stripped}
+use Rattle.vcd_text.specs.Comparing.{rest_behind}
 
 abbrev pub line : List ℕ → List ℕ
 line text = text ++ 10 ∷ []
@@ -46,16 +46,16 @@ abbrev pub extension : ℕ → ℕ
 extension d = if d == 49 then 48 else d
 
 -- leftmost digits are dropped while the extension of the next one gives them back
-abbrev pub shortened : List ℕ → List ℕ
-shortened [] = []
-shortened (d ∷ []) = d ∷ []
-shortened (d ∷ e ∷ ds) = if d == extension e then shortened (e ∷ ds) else d ∷ e ∷ ds
+abbrev pub short_digits : List ℕ → List ℕ
+short_digits [] = []
+short_digits (d ∷ []) = d ∷ []
+short_digits (d ∷ e ∷ ds) = if d == extension e then short_digits (e ∷ ds) else d ∷ e ∷ ds
 
 -- one digit and the code, or b, digits, a space and the code
 abbrev pub change : List ℕ → List ℕ → List ℕ
 change [] name = name
 change (d ∷ []) name = d ∷ name
-change (d ∷ e ∷ ds) name = 98 ∷ (shortened (d ∷ e ∷ ds) ++ 32 ∷ name)
+change (d ∷ e ∷ ds) name = 98 ∷ (short_digits (d ∷ e ∷ ds) ++ 32 ∷ name)
 
 -- the digits of a value, leftmost first
 abbrev pub dump_digits : Vector → List ℕ
@@ -83,7 +83,7 @@ is_near levels (Some (c ∷ cs)) = c == 46 && (levels == 0 || nat_lt (dots (c �
 
 -- the scope of this path is of the levels of a chosen one: `top.a` of `top` with 0 levels, or with 2
 abbrev pub is_chosen : List ℕ → Chosen → Bool
-is_chosen path chosen = is_near chosen.levels (stripped chosen.path (Some path))
+is_chosen path chosen = is_near chosen.levels (rest_behind chosen.path (Some path))
 
 -- a selection has the scope; the empty one is everything
 abbrev pub has_scope : List Chosen → List ℕ → Bool
@@ -128,14 +128,14 @@ value_lines [] = []
 value_lines (entry ∷ told) = value_line entry.0 entry.1 ++ value_lines told
 
 -- the values of the selected variables, the first of which has number n
-abbrev pub listed : ℕ → List Bool → List Vector → List (ℕ × Vector)
-listed n marks [] = []
-listed n [] (v ∷ vs) = []
-listed n (mark ∷ marks) (v ∷ vs) = if mark then (n, v) ∷ listed (suc n) marks vs else listed (suc n) marks vs
+abbrev pub selected_values : ℕ → List Bool → List Vector → List (ℕ × Vector)
+selected_values n marks [] = []
+selected_values n [] (v ∷ vs) = []
+selected_values n (mark ∷ marks) (v ∷ vs) = if mark then (n, v) ∷ selected_values (suc n) marks vs else selected_values (suc n) marks vs
 
 -- those from variable 0 on
 abbrev pub all_lines : List Bool → List Vector → List ℕ
-all_lines marks values = value_lines (listed 0 marks values)
+all_lines marks values = value_lines (selected_values 0 marks values)
 
 -- the letters are the same
 abbrev pub is_kept : Vector → Vector → Bool
@@ -228,13 +228,13 @@ header design marks =
 -- ---- slots
 
 -- a slot that ended: the dump commands given in it, its time, and the values at its end
-pub record ToldSlot : Type 0 where
+pub record DumpSlot : Type 0 where
   pub commands : List DumpCommand
   pub time : ℕ
   pub values : List Vector
 
 -- the slots of a history, the first of which was given these commands before; one that $finish cuts short has no end
-abbrev pub slots_after : List DumpCommand → List Item → List ToldSlot
+abbrev pub slots_after : List DumpCommand → List Item → List DumpSlot
 slots_after commands [] = []
 slots_after commands (Dump command ∷ items) = slots_after (commands ++ command ∷ []) items
 slots_after commands (Line text ∷ items) = slots_after commands items
@@ -252,9 +252,9 @@ abbrev pub has_start : List DumpCommand → Bool
 has_start = list_any is_start
 
 -- the slots from the first one with a $dumpvars on: at its end the dump starts (18.1.2)
-abbrev pub dumped : List ToldSlot → List ToldSlot
-dumped [] = []
-dumped (slot ∷ slots) = if has_start slot.commands then slot ∷ slots else dumped slots
+abbrev pub dump_slots : List DumpSlot → List DumpSlot
+dump_slots [] = []
+dump_slots (slot ∷ slots) = if has_start slot.commands then slot ∷ slots else dump_slots slots
 
 -- ---- the body (18.2.1)
 
@@ -270,11 +270,11 @@ pub record Piece : Type 0 where
 
 -- all values of the variables that are marked, behind a command's word
 abbrev pub all_at : List ℕ → List Bool → List Vector → Part
-all_at word marks values = record { word = word; told = listed 0 marks values }
+all_at word marks values = record { word = word; told = selected_values 0 marks values }
 
 -- each as x
-abbrev pub blanked : Vector → Vector
-blanked v = filled (length v.letters) X
+abbrev pub unknown_of : Vector → Vector
+unknown_of v = filled (length v.letters) X
 
 -- whether a dump is on after a command, and after several (18.1.3)
 abbrev pub on_by : Bool → DumpCommand → Bool
@@ -291,7 +291,7 @@ on_after on (command ∷ commands) = on_after (on_by on command) commands
 -- values where it is on
 abbrev pub command_part : List Bool → Bool → DumpCommand → List Vector → List Part
 command_part marks on (Vars place) values = []
-command_part marks on Off values = if on then all_at (codes "$dumpoff") marks (map blanked values) ∷ [] else []
+command_part marks on Off values = if on then all_at (codes "$dumpoff") marks (map unknown_of values) ∷ [] else []
 command_part marks on On values = if on then [] else all_at (codes "$dumpon") marks values ∷ []
 command_part marks on All values = if on then all_at (codes "$dumpall") marks values ∷ [] else []
 
@@ -305,31 +305,31 @@ abbrev pub changed_part : List Bool → Bool → List Vector → List Vector →
 changed_part marks on before values = if on then record { word = []; told = changes 0 marks before values } ∷ [] else []
 
 -- at the first slot's end all values (18.1.2)
-abbrev pub start : List Bool → ToldSlot → Piece
+abbrev pub start : List Bool → DumpSlot → Piece
 start marks slot =
     record { time = slot.time; parts = all_at (codes "$dumpvars") marks slot.values ∷ command_parts marks true slot.commands slot.values }
 
 -- at the end of each later one what changed, and what its commands ask for
-abbrev pub later_parts : List Bool → Bool → List Vector → ToldSlot → List Part
+abbrev pub later_parts : List Bool → Bool → List Vector → DumpSlot → List Part
 later_parts marks on before slot = changed_part marks on before slot.values ++ command_parts marks on slot.commands slot.values
 
-abbrev pub later_pieces : List Bool → Bool → ToldSlot → List ToldSlot → List Piece
+abbrev pub later_pieces : List Bool → Bool → DumpSlot → List DumpSlot → List Piece
 later_pieces marks on before [] = []
 later_pieces marks on before (slot ∷ slots) =
     record { time = slot.time; parts = later_parts marks on before.values slot } ∷ later_pieces marks (on_after on slot.commands) slot slots
 
 -- what is told of the variables that are marked
-abbrev pub pieces : List Bool → List ToldSlot → List Piece
+abbrev pub pieces : List Bool → List DumpSlot → List Piece
 pieces marks [] = []
 pieces marks (first ∷ later) = start marks first ∷ later_pieces marks (on_after true first.commands) first later
 
 -- between the command's word and $end (18.2.3)
-abbrev pub framed : List ℕ → List ℕ → List ℕ
-framed [] text = text
-framed (c ∷ cs) text = line (c ∷ cs) ++ text ++ line (codes "$end")
+abbrev pub text_in_frame : List ℕ → List ℕ → List ℕ
+text_in_frame [] text = text
+text_in_frame (c ∷ cs) text = line (c ∷ cs) ++ text ++ line (codes "$end")
 
 abbrev pub part_text : Part → List ℕ
-part_text part = framed part.word (value_lines part.told)
+part_text part = text_in_frame part.word (value_lines part.told)
 
 abbrev pub parts_text : List Part → List ℕ
 parts_text [] = []
@@ -343,9 +343,9 @@ is_nothing [] = true
 is_nothing (c ∷ cs) = false
 
 -- the pieces that say something
-abbrev pub spoken : List Piece → List Piece
-spoken [] = []
-spoken (p ∷ ps) = if is_nothing (piece_text p) then spoken ps else p ∷ spoken ps
+abbrev pub nonempty_pieces : List Piece → List Piece
+nonempty_pieces [] = []
+nonempty_pieces (p ∷ ps) = if is_nothing (piece_text p) then nonempty_pieces ps else p ∷ nonempty_pieces ps
 
 -- each behind its time, and last the time of the run's end, unless the last one stands there (docs/FORMATS.md)
 abbrev pub body : List Piece → ℕ → List ℕ
@@ -356,12 +356,12 @@ body (p ∷ q ∷ ps) end = time_line p.time ++ piece_text p ++ body (q ∷ ps) 
 -- ---- the whole
 
 -- of these slots, the first of which starts the dump and selects what it is of; where there is none no byte
-abbrev pub dump_of : Design → List ToldSlot → ℕ → List ℕ
+abbrev pub dump_of : Design → List DumpSlot → ℕ → List ℕ
 dump_of design [] end = []
 dump_of design (first ∷ later) end =
     header design (scope_marks design first.commands)
-    ++ body (spoken (pieces (variable_marks design first.commands) (first ∷ later))) end
+    ++ body (nonempty_pieces (pieces (variable_marks design first.commands) (first ∷ later))) end
 
 -- the dump of a design and a history (18.2)
 abbrev pub vcd : Design → History → List ℕ
-vcd design history = dump_of design (dumped (slots_after [] history.items)) history.end.time
+vcd design history = dump_of design (dump_slots (slots_after [] history.items)) history.end.time

@@ -2,14 +2,14 @@
 use Rattle.std.proofs.Common.{◌≡◌, ℕ, List, [], ◌++◌, ap, sym, ◌∙◌}
 use Rattle.std.specs.Prelude.{⊤}
 use Rattle.std.proofs.lemmas.List.{append-nil, append_assoc}
-use Rattle.vcd_text.specs.Outlets.{IsOutlet}
+use Rattle.vcd_text.specs.ByteSinks.{IsByteSink}
 
 -- it keeps the text behind what it kept
 abbrev pub Appended : List ℕ → List ℕ → List ℕ → Type 0
 Appended old text new = new ≡ old ++ text
 
 -- once it is full nothing is said of what it keeps
-pub held_laws : {F : Type 0} → IsOutlet Appended (λ old text (fault : F) new. ⊤)
+pub held_laws : {F : Type 0} → IsByteSink Appended (λ old text (fault : F) new. ⊤)
 held_laws = record {
   none = λ s. sym (append-nil s);
   joins = λ s t u xs ys p q. q ∙ ap (λ (kept : List ℕ). kept ++ ys) p ∙ append_assoc s xs ys;

@@ -7,8 +7,8 @@ pub mod Headers
 pub mod Held
 pub mod Metered
 pub mod MeteredLaws
-pub mod OutletLaws
-pub mod Outlets
+pub mod ByteSinkLaws
+pub mod ByteSinks
 pub mod Readers
 pub mod SinkLaws
 pub mod Sinks

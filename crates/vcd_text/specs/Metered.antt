@@ -27,8 +27,8 @@ abbrev pub one_more : ℕ → ℕ
 one_more n = (n + 1) % 2 ^ 64
 
 -- the count after a call that failed or not
-abbrev pub counted : Bool → ℕ → ℕ
-counted failed n = if failed then one_more n else n
+abbrev pub count_after_call : Bool → ℕ → ℕ
+count_after_call failed n = if failed then one_more n else n
 
 -- the count after this fault: want of memory is no failure of the writer
 abbrev pub count_after : OrMemory WriteFault → ℕ → ℕ
@@ -44,7 +44,7 @@ abbrev pub Stops : {W : Type 0} → (W → Option (List ℕ)) → Metered W → 
 Stops contents old new text fault =
     ((n : ℕ) × Appends (contents old.inner) (contents new.inner) (take n text)) × (new.failures ≡ count_after fault old.failures)
 
--- the same of a writer as an outlet: it took the text
+-- the same of a writer as a byte sink: it took the text
 abbrev pub Written : {W : Type 0} → (W → Option (List ℕ)) → Metered W → List ℕ → Metered W → Type 0
 Written contents old text new = Grows contents old new text
 

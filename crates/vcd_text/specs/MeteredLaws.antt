@@ -8,8 +8,8 @@ use Rattle.basis.specs.declared.memory.OrMemory.{OrMemory}
 use Rattle.basis.specs.declared.memory.OrMemory.TheVariants.{Fault, Memory}
 use Rattle.vcd_text.specs.declared.fault.WriteFault.{WriteFault}
 use Rattle.vcd_text.specs.Metered.{Grows, Stops, Written, Broken, count_after}
-use Rattle.vcd_text.specs.Outlets.{IsOutlet, Stopped}
-use Rattle.vcd_text.specs.OutletLaws.{take_front}
+use Rattle.vcd_text.specs.ByteSinks.{IsByteSink, Stopped}
+use Rattle.vcd_text.specs.ByteSinkLaws.{take_front}
 
 appends_none : (c : Option (List ℕ)) → Appends c c []
 appends_none None = tt
@@ -46,8 +46,8 @@ stops_before contents a b xs ys fault p =
     let written : Appends (contents a.inner) (contents b.inner) (take place (xs ++ ys)) = rw (take_front xs ys p.0.0) p.0.1 in
     ((place, written), p.1)
 
--- a writer is an outlet
-pub metered_laws : {W : Type 0} (contents : W → Option (List ℕ)) → IsOutlet (Written contents) (Broken contents)
+-- a writer is a byte sink
+pub metered_laws : {W : Type 0} (contents : W → Option (List ℕ)) → IsByteSink (Written contents) (Broken contents)
 metered_laws contents = record {
   none = grows_none contents;
   joins = grows_joins contents;
@@ -55,7 +55,7 @@ metered_laws contents = record {
   fails_before = λ s u xs ys fault. stops_before contents s u xs ys (Fault fault);
 }
 
--- where a writer stopped as an outlet, it stopped so
+-- where a writer stopped as a byte sink, it stopped so
 pub stops_of : {W : Type 0} (contents : W → Option (List ℕ)) (a b : Metered W) (text : List ℕ) (fault : OrMemory WriteFault) →
     Stopped (Written contents) (Broken contents) a text fault b → Stops contents a b text fault
 stops_of contents a b text (Fault fault) p = p

@@ -7,7 +7,7 @@ use Rattle.vmodel.specs.declared.history.Item.{Item}
 use Rattle.vmodel.specs.declared.history.Item.TheVariants.{SlotEnd, Dump, Line, Monitor}
 use Rattle.vdesign.specs.declared.dump.DumpCommand.{DumpCommand}
 use Rattle.vcd_text.specs.DumpText.{all_at, changed_part, command_parts, has_start, header, on_after, parts_text, scope_marks, time_line, variable_marks, vcd}
-use Rattle.vcd_text.specs.Outlets.{Stopped}
+use Rattle.vcd_text.specs.ByteSinks.{Stopped}
 use Rattle.basis.specs.declared.memory.OrMemory.{OrMemory}
 use Rattle.basis.specs.declared.memory.OrMemory.TheVariants.{Fault, Memory}
 use Rattle.vcd_text.specs.declared.progress.Progress.{Progress}
@@ -17,9 +17,9 @@ use Rattle.vcd_text.specs.declared.sink.DumpSink.{DumpSink}
 -- ---- from item to item
 
 -- a text behind its time, where there is one
-abbrev pub timed : ℕ → List ℕ → List ℕ
-timed t [] = []
-timed t (c ∷ cs) = time_line t ++ (c ∷ cs)
+abbrev pub text_at_time : ℕ → List ℕ → List ℕ
+text_at_time t [] = []
+text_at_time t (c ∷ cs) = time_line t ++ (c ∷ cs)
 
 -- the last time line after it
 abbrev pub last_line : ℕ → ℕ → List ℕ → ℕ
@@ -46,7 +46,7 @@ slot_lines on marks old commands new = parts_text (changed_part marks on old new
 
 -- what a later slot's end adds
 abbrev pub slot_text : ℕ → Bool → List Bool → List Vector → List DumpCommand → List Vector → List ℕ
-slot_text t on marks old commands new = timed t (slot_lines on marks old commands new)
+slot_text t on marks old commands new = text_at_time t (slot_lines on marks old commands new)
 
 -- the last time line after it
 abbrev pub line_after_slot : ℕ → ℕ → Bool → List Bool → List Vector → List DumpCommand → List Vector → ℕ
@@ -70,25 +70,25 @@ item_text design p (Line text) = []
 item_text design p (Monitor place) = []
 
 -- the slot ended that asked for the dump, or one before it
-abbrev pub begun : Design → List DumpCommand → ℕ → List Vector → Progress
-begun design commands t values =
+abbrev pub progress_at_start : Design → List DumpCommand → ℕ → List Vector → Progress
+progress_at_start design commands t values =
     if has_start commands then Started t (on_after true commands) (variable_marks design commands) values []
     else Waiting []
 
-abbrev pub ended : Design → Progress → ℕ → List Vector → Progress
-ended design (Waiting commands) t values = begun design commands t values
-ended design (Started last on marks old commands) t values =
+abbrev pub progress_at_slot_end : Design → Progress → ℕ → List Vector → Progress
+progress_at_slot_end design (Waiting commands) t values = progress_at_start design commands t values
+progress_at_slot_end design (Started last on marks old commands) t values =
     Started (line_after_slot last t on marks old commands values) (on_after on commands) marks values []
-ended design Failed t values = Failed
+progress_at_slot_end design Failed t values = Failed
 
-abbrev pub asked : Progress → DumpCommand → Progress
-asked (Waiting commands) command = Waiting (commands ++ command ∷ [])
-asked (Started last on marks old commands) command = Started last on marks old (commands ++ command ∷ [])
-asked Failed command = Failed
+abbrev pub progress_at_command : Progress → DumpCommand → Progress
+progress_at_command (Waiting commands) command = Waiting (commands ++ command ∷ [])
+progress_at_command (Started last on marks old commands) command = Started last on marks old (commands ++ command ∷ [])
+progress_at_command Failed command = Failed
 
 abbrev pub progress_after : Design → Progress → Item → Progress
-progress_after design p (SlotEnd t values) = ended design p t values
-progress_after design p (Dump command) = asked p command
+progress_after design p (SlotEnd t values) = progress_at_slot_end design p t values
+progress_after design p (Dump command) = progress_at_command p command
 progress_after design p (Line text) = p
 progress_after design p (Monitor place) = p
 
@@ -128,27 +128,27 @@ progress_at_end Failed t = Failed
 abbrev pub text_of : {O : Type 0} → DumpSink O → List Item → List ℕ
 text_of sink items = items_text sink.design.now sink.progress items
 
--- it is the same borrowed outlet and the same design
+-- it is the same borrowed byte sink and the same design
 abbrev pub IsSameDump : {O : Type 0} → DumpSink O → DumpSink O → Type 0
-IsSameDump old new = (new.outlet.ghost_name ≡ old.outlet.ghost_name) × (new.design.now ≡ old.design.now)
+IsSameDump old new = (new.byte_sink.ghost_name ≡ old.byte_sink.ghost_name) × (new.design.now ≡ old.design.now)
 
--- the outlet took what the items add, and the dump has come as far as they lead
+-- the byte sink took what the items add, and the dump has come as far as they lead
 abbrev pub Takes : {O : Type 0} → (O → List ℕ → O → Type 0) → DumpSink O → List Item → DumpSink O → Type 0
 Takes takes old items new =
     IsSameDump old new
     × (new.progress ≡ progress_over old.design.now old.progress items)
-    × takes old.outlet.now (text_of old items) new.outlet.now
+    × takes old.byte_sink.now (text_of old items) new.byte_sink.now
 
 -- this was done with a dump that failed before: nothing was written
 abbrev pub IsPassedOver : {O : Type 0} → DumpSink O → DumpSink O → Type 0
-IsPassedOver old new = old.progress ≡ Failed → new.outlet.now ≡ old.outlet.now
+IsPassedOver old new = old.progress ≡ Failed → new.byte_sink.now ≡ old.byte_sink.now
 
--- the outlet stopped somewhere in what the items add
+-- the byte sink stopped somewhere in what the items add
 abbrev pub StopsIn : {O F : Type 0} → (O → List ℕ → O → Type 0) → (O → List ℕ → F → O → Type 0) → DumpSink O → List Item → OrMemory F → DumpSink O → Type 0
 StopsIn takes fails old items fault new =
-    IsSameDump old new × Stopped takes fails old.outlet.now (text_of old items) fault new.outlet.now
+    IsSameDump old new × Stopped takes fails old.byte_sink.now (text_of old items) fault new.byte_sink.now
 
--- once the outlet has failed nothing more is written; want of memory may come between two items too
+-- once the byte sink has failed nothing more is written; want of memory may come between two items too
 abbrev pub IsOver : {F : Type 0} → OrMemory F → Progress → Type 0
 IsOver (Fault fault) progress = progress ≡ Failed
 IsOver (Memory m) progress = Unit {0}
@@ -157,7 +157,7 @@ IsOver (Memory m) progress = Unit {0}
 abbrev pub Fails : {O F : Type 0} → (O → List ℕ → O → Type 0) → (O → List ℕ → F → O → Type 0) → DumpSink O → List Item → OrMemory F → DumpSink O → Type 0
 Fails takes fails old items fault new =
     IsSameDump old new
-    × Stopped takes fails old.outlet.now (text_of old items) fault new.outlet.now
+    × Stopped takes fails old.byte_sink.now (text_of old items) fault new.byte_sink.now
     × IsOver fault new.progress
 
 -- ---- the end, and a whole history
@@ -166,18 +166,18 @@ Fails takes fails old items fault new =
 abbrev pub IsAtEnd : {O : Type 0} → DumpSink O → ℕ → DumpSink O → Type 0
 IsAtEnd old t new = new.progress ≡ progress_at_end old.progress t
 
--- the outlet took what the end at this time adds
+-- the byte sink took what the end at this time adds
 abbrev pub TakesEnd : {O : Type 0} → (O → List ℕ → O → Type 0) → DumpSink O → ℕ → DumpSink O → Type 0
-TakesEnd takes old t new = takes old.outlet.now (end_text old.progress t) new.outlet.now
+TakesEnd takes old t new = takes old.byte_sink.now (end_text old.progress t) new.byte_sink.now
 
 -- it stopped somewhere in that
 abbrev pub FailsEnd : {O F : Type 0} → (O → List ℕ → O → Type 0) → (O → List ℕ → F → O → Type 0) → DumpSink O → ℕ → OrMemory F → DumpSink O → Type 0
-FailsEnd takes fails old t fault new = Stopped takes fails old.outlet.now (end_text old.progress t) fault new.outlet.now
+FailsEnd takes fails old t fault new = Stopped takes fails old.byte_sink.now (end_text old.progress t) fault new.byte_sink.now
 
 -- it took the dump of a history
 abbrev pub TakesDump : {O : Type 0} → (O → List ℕ → O → Type 0) → DumpSink O → History → DumpSink O → Type 0
-TakesDump takes old history new = takes old.outlet.now (vcd old.design.now history) new.outlet.now
+TakesDump takes old history new = takes old.byte_sink.now (vcd old.design.now history) new.byte_sink.now
 
 -- it stopped somewhere in that
 abbrev pub FailsDump : {O F : Type 0} → (O → List ℕ → O → Type 0) → (O → List ℕ → F → O → Type 0) → DumpSink O → History → OrMemory F → DumpSink O → Type 0
-FailsDump takes fails old history fault new = Stopped takes fails old.outlet.now (vcd old.design.now history) fault new.outlet.now
+FailsDump takes fails old history fault new = Stopped takes fails old.byte_sink.now (vcd old.design.now history) fault new.byte_sink.now

@@ -2,8 +2,8 @@
 
 ghost use Rattle.std.specs.Prelude.{◌≡◌};
 
+use crate::byte_sink::ByteSink;
 use crate::fault::TooMany;
-use crate::outlet::Outlet;
 
 /// Counts the bytes of texts and keeps none.
 #[derive(Drop)]
@@ -27,7 +27,7 @@ impl Counter {
     }
 }
 
-impl Outlet for Counter {
+impl ByteSink for Counter {
     ghost use Rattle.vcd_text.specs.Counts.{Counts, IsFull, counter_laws};
 
     type Fault = TooMany;

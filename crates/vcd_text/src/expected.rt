@@ -2,8 +2,8 @@
 
 ghost use Rattle.std.specs.Prelude.{◌≡◌, [], Some, Decides};
 
+use crate::byte_sink::ByteSink;
 use crate::fault::Never;
-use crate::outlet::Outlet;
 use std::marker::Model;
 
 /// Compares texts, as they come, with the one that is expected, and keeps none. Its value is what is still expected, or
@@ -40,7 +40,7 @@ impl<'a> Expected<'a> {
     }
 }
 
-impl<'a> Outlet for Expected<'a> {
+impl<'a> ByteSink for Expected<'a> {
     ghost use Rattle.vcd_text.specs.Comparing.{Strips, expected_laws};
 
     type Fault = Never;

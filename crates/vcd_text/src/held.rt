@@ -2,8 +2,8 @@
 
 ghost use Rattle.std.specs.Prelude.{◌≡◌, []};
 
+use crate::byte_sink::ByteSink;
 use crate::fault::Full;
-use crate::outlet::Outlet;
 use std::alloc::Global;
 use std::marker::Model;
 
@@ -45,7 +45,7 @@ impl HeldText {
     }
 }
 
-impl Outlet for HeldText {
+impl ByteSink for HeldText {
     ghost use Rattle.std.specs.Prelude.{⊤};
     ghost use Rattle.vcd_text.specs.Held.{Appended, held_laws};
 

@@ -3,8 +3,8 @@
 ghost use Rattle.std.specs.Prelude.{◌≡◌, ◌+◌, ℕ, Bool, List, All, length};
 ghost use Rattle.vcd_text.specs.CodeLaws.{IsDigit, IsNumeral, number_of};
 ghost use Rattle.vcd_text.specs.Comparing.{IsWhole};
-ghost use Rattle.vcd_text.specs.DumpText.{ToldSlot, code, shortened, vcd};
-ghost use Rattle.vcd_text.specs.Readers.{IsTold, extended};
+ghost use Rattle.vcd_text.specs.DumpText.{DumpSlot, code, short_digits, vcd};
+ghost use Rattle.vcd_text.specs.Readers.{TellsValues, full_digits};
 ghost use Rattle.vcd_text.specs.Sinks.{history_text};
 ghost use Rattle.vdesign.specs.Design.{Design};
 ghost use Rattle.vmodel.specs.History.{History};
@@ -17,8 +17,8 @@ pub fn dumps_are_readable()
     ensures digits { (n : ℕ) → All IsDigit (code n) }
     ensures number { (n : ℕ) → number_of (code n) ≡ n + 1 }
     ensures only { (n : ℕ) (text : List ℕ) → IsNumeral n text → text ≡ code n }
-    ensures back { (digits : List ℕ) → extended (length digits) (shortened digits) ≡ digits }
-    ensures values { (marks : List Bool) (slots : List ToldSlot) → IsTold marks slots }
+    ensures back { (digits : List ℕ) → full_digits (length digits) (short_digits digits) ≡ digits }
+    ensures values { (marks : List Bool) (slots : List DumpSlot) → TellsValues marks slots }
 {}
 
 /// The law of sinks, which does nothing: what the items of a history and then its end add to a dump of which nothing has

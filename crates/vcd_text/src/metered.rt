@@ -3,10 +3,10 @@
 ghost use Rattle.std.specs.Prelude.{◌≡◌, is_err};
 ghost use Rattle.std.specs.Io.{ReadsAtMost, WritesAtMost};
 ghost use Rattle.std.specs.Io.KnownBytes.{Keeps};
-ghost use Rattle.vcd_text.specs.Metered.{Reads, Writes, counted, is_failed_write};
+ghost use Rattle.vcd_text.specs.Metered.{Reads, Writes, count_after_call, is_failed_write};
 
+use crate::byte_sink::ByteSink;
 use crate::fault::WriteFault;
-use crate::outlet::Outlet;
 use std::io;
 use std::io::{Read, Write};
 
@@ -45,7 +45,7 @@ impl<T> Metered<T> {
 
 // The count after a call that failed or not.
 fn count(failures: u64, has_failed: bool) -> u64
-    ensures { result ≡ counted has_failed failures }
+    ensures { result ≡ count_after_call has_failed failures }
 {
     if has_failed {
         failures.wrapping_add(1)
@@ -60,7 +60,7 @@ impl<R: Read> Read for Metered<R> {
     fn read(&mut self, buf: &mut [u8]) -> io::Result<usize>
         ensures bound { ReadsAtMost result buf.new }
         ensures bytes { Reads R.remaining self.old result buf.new self.new }
-        ensures failures { self.new.failures ≡ counted (is_err result) self.old.failures }
+        ensures failures { self.new.failures ≡ count_after_call (is_err result) self.old.failures }
     {
         let answer = self.inner.read(buf);
         self.failures = count(self.failures, answer.is_err());
@@ -85,7 +85,7 @@ impl<W: Write> Write for Metered<W> {
         ensures bound { WritesAtMost result buf.now }
         ensures bytes { Writes W.contents self.old result buf.now self.new }
         ensures failures { self.new.failures
-            ≡ counted (is_failed_write result buf.now) self.old.failures }
+            ≡ count_after_call (is_failed_write result buf.now) self.old.failures }
     {
         let answer = self.inner.write(buf);
         self.failures = count(self.failures, has_failed(&answer, buf));
@@ -94,7 +94,7 @@ impl<W: Write> Write for Metered<W> {
 
     fn flush(&mut self) -> io::Result<()>
         ensures bytes { Keeps (W.contents self.old.inner) (W.contents self.new.inner) }
-        ensures failures { self.new.failures ≡ counted (is_err result) self.old.failures }
+        ensures failures { self.new.failures ≡ count_after_call (is_err result) self.old.failures }
     {
         let answer = self.inner.flush();
         self.failures = count(self.failures, answer.is_err());
@@ -102,7 +102,7 @@ impl<W: Write> Write for Metered<W> {
     }
 }
 
-impl<W: Write> Outlet for Metered<W> {
+impl<W: Write> ByteSink for Metered<W> {
     ghost use Rattle.vcd_text.specs.Metered.{Written, Broken};
     ghost use Rattle.vcd_text.specs.MeteredLaws.{metered_laws};
 

@@ -2,7 +2,7 @@
 
 ghost use Rattle.std.specs.Prelude.{◌≡◌, ◌∷◌, [], ◌++◌, OnOk, IfOk, Some, nat_lt, option_map, replicate};
 ghost use Rattle.std.specs.List.{list_any};
-ghost use Rattle.vcd_text.specs.Comparing.{stripped};
+ghost use Rattle.vcd_text.specs.Comparing.{rest_behind};
 ghost use Rattle.vcd_text.specs.DumpText as spec;
 
 use basis::NoMemory;
@@ -67,7 +67,7 @@ fn dots(path: &[u8]) -> usize
 
 // What stands in a path behind another one that it begins with.
 fn behind<'a>(path: &'a [u8], front: &[u8]) -> Option<&'a [u8]>
-    ensures { option_map (λ rest. rest.now) result ≡ stripped front.now (Some path.now) }
+    ensures { option_map (λ rest. rest.now) result ≡ rest_behind front.now (Some path.now) }
 {
     path.strip_prefix(front)
 }

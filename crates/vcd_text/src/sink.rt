@@ -3,12 +3,12 @@
 ghost use Rattle.std.specs.Prelude.{◌≡◌, ◌≢◌, [], ◌∷◌, OnOk, OnErr, IfOk, IfErr};
 ghost use Rattle.vmodel.specs.declared.history.Item.TheVariants.{SlotEnd, Dump};
 ghost use Rattle.vcd_text.specs.declared.progress.Progress.TheVariants.{Waiting, Failed};
-ghost use Rattle.vcd_text.specs.Sinks.{begun, begun_text, end_line, line_after_slot, slot_text, started_text};
-ghost use Rattle.vcd_text.specs.Outlets.{Stopped};
+ghost use Rattle.vcd_text.specs.Sinks.{progress_at_start, begun_text, end_line, line_after_slot, slot_text, started_text};
+ghost use Rattle.vcd_text.specs.ByteSinks.{Stopped};
 
+use crate::byte_sink::{ByteSink, put};
 use crate::commands::{Commands, have_start, on_after};
 use crate::header::header_of;
-use crate::outlet::{Outlet, put};
 use crate::progress::{Progress, first_text, later_text, line_after, line_of};
 use crate::selected::{scope_marks, spread};
 use basis::OrMemory;
@@ -23,43 +23,43 @@ use vmodel::values::Values;
 /// Writes the dump of a run of a design as its items come: the header and the values at the end of the first slot with a
 /// `$dumpvars`, the changes at each later slot end, all of the variables that the first slot selects (18.1.2, 18.2.1;
 /// docs/FORMATS.md, "Dumps"). Before a start nothing is
-/// written, and nothing after a fault, where items are passed over. `finish` completes the dump, and `into_outlet` gives
+/// written, and nothing after a fault, where items are passed over. `finish` completes the dump, and `into_byte_sink` gives
 /// back what it is written to.
 #[derive(Drop)]
 pub struct DumpSink<'a, O> {
     alloc: Global,
     design: &'a Design,
-    outlet: &'a mut O,
+    byte_sink: &'a mut O,
     progress: Progress,
 }
 
 // A header and the first slot's end, of the variables that are marked.
-fn put_start<O: Outlet>(
+fn put_start<O: ByteSink>(
     alloc: Global,
     head: &[u8],
-    outlet: &mut O,
+    byte_sink: &mut O,
     marks: &[bool],
     commands: &[DumpCommand],
     time: u64,
     values: &[Vec4],
 ) -> Result<(), OrMemory<O::Fault>>
     ensures ok { OnOk result
-        (O.takes outlet.old (started_text head.now marks.now commands.now time values.now)
-        outlet.new) }
-    ensures err { IfErr result (λ fault. Stopped O.takes O.fails outlet.old
-        (started_text head.now marks.now commands.now time values.now) fault outlet.new) }
+        (O.takes byte_sink.old (started_text head.now marks.now commands.now time values.now)
+        byte_sink.new) }
+    ensures err { IfErr result (λ fault. Stopped O.takes O.fails byte_sink.old
+        (started_text head.now marks.now commands.now time values.now) fault byte_sink.new) }
 {
     let text = first_text(alloc, marks, commands, time, values)?;
-    match put(outlet, head) {
-        Ok(()) => put(outlet, &text),
+    match put(byte_sink, head) {
+        Ok(()) => put(byte_sink, &text),
         Err(fault) => Err(fault),
     }
 }
 
 // What a later slot adds. What is kept moves on to its values, and to its time where it has a line.
-fn put_slot<O: Outlet>(
+fn put_slot<O: ByteSink>(
     alloc: Global,
-    outlet: &mut O,
+    byte_sink: &mut O,
     last: &mut u64,
     on: bool,
     marks: &[bool],
@@ -71,14 +71,14 @@ fn put_slot<O: Outlet>(
     ensures last { OnOk result
         (last.new ≡ line_after_slot last.old time on marks.now kept.old commands.now values.now) }
     ensures kept { OnOk result (kept.new ≡ values.now) }
-    ensures ok { OnOk result (O.takes outlet.old
-        (slot_text time on marks.now kept.old commands.now values.now) outlet.new) }
-    ensures err { IfErr result (λ fault. Stopped O.takes O.fails outlet.old
-        (slot_text time on marks.now kept.old commands.now values.now) fault outlet.new) }
+    ensures ok { OnOk result (O.takes byte_sink.old
+        (slot_text time on marks.now kept.old commands.now values.now) byte_sink.new) }
+    ensures err { IfErr result (λ fault. Stopped O.takes O.fails byte_sink.old
+        (slot_text time on marks.now kept.old commands.now values.now) fault byte_sink.new) }
 {
     let text = later_text(alloc, time, on, marks, kept.as_slice(), commands, values)?;
     kept.assign(values)?;
-    match put(outlet, &text) {
+    match put(byte_sink, &text) {
         Ok(()) => {
             *last = line_after(*last, time, &text);
             Ok(())
@@ -88,20 +88,20 @@ fn put_slot<O: Outlet>(
 }
 
 // A slot has ended, and no dump was started before it: how far the dump has come then.
-fn begin<O: Outlet>(
+fn begin<O: ByteSink>(
     alloc: Global,
     design: &Design,
-    outlet: &mut O,
+    byte_sink: &mut O,
     commands: &[DumpCommand],
     time: u64,
     values: &[Vec4],
 ) -> Result<Progress, OrMemory<O::Fault>>
     ensures progress { IfOk result (λ progress.
-        progress ≡ begun design.now commands.now time values.now) }
+        progress ≡ progress_at_start design.now commands.now time values.now) }
     ensures ok { OnOk result
-        (O.takes outlet.old (begun_text design.now commands.now time values.now) outlet.new) }
-    ensures err { IfErr result (λ fault. Stopped O.takes O.fails outlet.old
-        (begun_text design.now commands.now time values.now) fault outlet.new) }
+        (O.takes byte_sink.old (begun_text design.now commands.now time values.now) byte_sink.new) }
+    ensures err { IfErr result (λ fault. Stopped O.takes O.fails byte_sink.old
+        (begun_text design.now commands.now time values.now) fault byte_sink.new) }
 {
     if !have_start(commands) {
         return Ok(Progress::Waiting(Commands::new(alloc)));
@@ -113,7 +113,7 @@ fn begin<O: Outlet>(
     match put_start(
         alloc,
         &head,
-        outlet,
+        byte_sink,
         marks.as_slice(),
         commands,
         time,
@@ -131,37 +131,37 @@ fn begin<O: Outlet>(
 }
 
 // The time of the end, unless the last time line is that.
-fn put_end<O: Outlet>(
+fn put_end<O: ByteSink>(
     alloc: Global,
-    outlet: &mut O,
+    byte_sink: &mut O,
     last: u64,
     time: u64,
 ) -> Result<(), OrMemory<O::Fault>>
-    ensures ok { OnOk result (O.takes outlet.old (end_line last time) outlet.new) }
+    ensures ok { OnOk result (O.takes byte_sink.old (end_line last time) byte_sink.new) }
     ensures err { IfErr result (λ fault.
-        Stopped O.takes O.fails outlet.old (end_line last time) fault outlet.new) }
+        Stopped O.takes O.fails byte_sink.old (end_line last time) fault byte_sink.new) }
 {
     if last == time {
         return Ok(());
     }
     let text = line_of(alloc, time)?;
-    put(outlet, &text)
+    put(byte_sink, &text)
 }
 
-impl<'a, O: Outlet> DumpSink<'a, O> {
+impl<'a, O: ByteSink> DumpSink<'a, O> {
     ghost use Rattle.vcd_text.specs.Sinks.{IsAtEnd, IsPassedOver, IsSameDump, Takes, TakesEnd, FailsEnd, StopsIn};
 
     /// A dump of which nothing has come yet.
-    pub fn new(alloc: Global, design: &'a Design, outlet: &'a mut O) -> DumpSink<'a, O>
-        ensures same_outlet { result.outlet.ghost_name ≡ outlet.entry.ghost_name }
-        ensures unwritten { result.outlet.now ≡ outlet.old }
+    pub fn new(alloc: Global, design: &'a Design, byte_sink: &'a mut O) -> DumpSink<'a, O>
+        ensures same_byte_sink { result.byte_sink.ghost_name ≡ byte_sink.entry.ghost_name }
+        ensures unwritten { result.byte_sink.now ≡ byte_sink.old }
         ensures design { result.design.now ≡ design.now }
         ensures progress { result.progress ≡ Waiting [] }
     {
         DumpSink {
             alloc,
             design,
-            outlet,
+            byte_sink,
             progress: Progress::Waiting(Commands::new(alloc)),
         }
     }
@@ -177,7 +177,7 @@ impl<'a, O: Outlet> DumpSink<'a, O> {
                 self.progress = begin(
                     self.alloc,
                     self.design,
-                    self.outlet,
+                    self.byte_sink,
                     commands.as_slice(),
                     time,
                     values,
@@ -193,7 +193,7 @@ impl<'a, O: Outlet> DumpSink<'a, O> {
             } => {
                 put_slot(
                     self.alloc,
-                    self.outlet,
+                    self.byte_sink,
                     last,
                     *on,
                     marks.as_slice(),
@@ -253,7 +253,7 @@ impl<'a, O: Outlet> DumpSink<'a, O> {
         match &mut self.progress {
             Progress::Waiting(_) => Ok(()),
             Progress::Started { last, .. } => {
-                match put_end(self.alloc, self.outlet, *last, end.time) {
+                match put_end(self.alloc, self.byte_sink, *last, end.time) {
                     Ok(()) => {
                         *last = end.time;
                         Ok(())
@@ -269,21 +269,21 @@ impl<'a, O: Outlet> DumpSink<'a, O> {
     }
 
     /// What the dump is written to, with all that it took.
-    pub fn into_outlet(self) -> &'a mut O
-        ensures same_outlet { result.ghost_name ≡ self.entry.outlet.ghost_name }
-        ensures written { result.now ≡ self.entry.outlet.now }
+    pub fn into_byte_sink(self) -> &'a mut O
+        ensures same_byte_sink { result.ghost_name ≡ self.entry.byte_sink.ghost_name }
+        ensures written { result.now ≡ self.entry.byte_sink.now }
     {
         let DumpSink {
             alloc: _,
             design: _,
-            outlet,
+            byte_sink,
             progress: _,
         } = self;
-        outlet
+        byte_sink
     }
 }
 
-impl<'a, O: Outlet> Sink for DumpSink<'a, O> {
+impl<'a, O: ByteSink> Sink for DumpSink<'a, O> {
     ghost use Rattle.vcd_text.specs.Sinks.{IsPassedOver, Takes, Fails};
     ghost use Rattle.vcd_text.specs.SinkLaws.{takes_none, takes_joins, fails_after};
 

@@ -1,7 +1,7 @@
 // The lines that say what variables are worth (18.2.2).
 
 ghost use Rattle.std.specs.Prelude.{◌≡◌, ◌<◌, ◌++◌, OnOk, true, false, length, drop, map};
-ghost use Rattle.vcd_text.specs.DumpText.{all_lines, blanked, change, changes, digit as digit_code, dump_digits, extension as extension_code, following, is_kept as is_kept_vector, is_news as is_news_of, named_line, shortened, value_lines};
+ghost use Rattle.vcd_text.specs.DumpText.{all_lines, unknown_of, change, changes, digit as digit_code, dump_digits, extension as extension_code, following, is_kept as is_kept_vector, is_news as is_news_of, named_line, short_digits, value_lines};
 
 use basis::NoMemory;
 use std::alloc::Global;
@@ -43,15 +43,15 @@ fn extension(digit: u8) -> u8
 // Whether the extension of the second digit gives the first one back.
 fn is_given_back(digits: &[u8]) -> bool
     ensures some { result ≡ true → 1 < length digits.now }
-    ensures yes { result ≡ true → shortened digits.now ≡ shortened (drop 1 digits.now) }
-    ensures no { result ≡ false → shortened digits.now ≡ digits.now }
+    ensures yes { result ≡ true → short_digits digits.now ≡ short_digits (drop 1 digits.now) }
+    ensures no { result ≡ false → short_digits digits.now ≡ digits.now }
 {
     digits.len() > 1 && digits[0] == extension(digits[1])
 }
 
 // The digits without those on the left that extension gives back.
-fn kept(digits: &[u8]) -> &[u8]
-    ensures { result.now ≡ shortened digits.now }
+fn short_form(digits: &[u8]) -> &[u8]
+    ensures { result.now ≡ short_digits digits.now }
 {
     let mut rest = digits;
     while is_given_back(rest) {
@@ -78,7 +78,7 @@ fn put_change(text: &mut Vec<u8>, digits: &[u8], name: &[u8]) -> Result<(), NoMe
 {
     if digits.len() > 1 {
         text.push(b'b')?;
-        text.extend_from_slice(kept(digits))?;
+        text.extend_from_slice(short_form(digits))?;
         text.push(b' ')?;
     } else {
         text.extend_from_slice(digits)?;
@@ -136,7 +136,7 @@ pub(crate) fn put_blanks(
     values: &[Vec4],
 ) -> Result<(), NoMemory>
     ensures { OnOk result (text.new.items ≡ text.old.items
-        ++ all_lines marks.now (map blanked values.now)) }
+        ++ all_lines marks.now (map unknown_of values.now)) }
 {
     let mut scratch = Vec::new(alloc);
     let mut name = Vec::from_slice(alloc, b"!")?;

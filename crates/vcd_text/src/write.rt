@@ -6,9 +6,9 @@ ghost use Rattle.vcd_text.specs.Metered.{Grows, Stops};
 ghost use Rattle.vcd_text.specs.declared.progress.Progress.TheVariants.{Waiting};
 ghost use Rattle.vcd_text.specs.Sinks.{IsSameDump, TakesDump, FailsDump};
 
+use crate::byte_sink::ByteSink;
 use crate::fault::WriteFault;
 use crate::metered::Metered;
-use crate::outlet::Outlet;
 use crate::sink::DumpSink;
 use basis::OrMemory;
 use std::alloc::Global;
@@ -18,7 +18,10 @@ use vmodel::history::History;
 use vmodel::sink::Sink;
 
 // A whole history into a fresh sink.
-fn fill<O: Outlet>(sink: &mut DumpSink<'_, O>, history: &History) -> Result<(), OrMemory<O::Fault>>
+fn fill<O: ByteSink>(
+    sink: &mut DumpSink<'_, O>,
+    history: &History,
+) -> Result<(), OrMemory<O::Fault>>
     requires { sink.old.progress ≡ Waiting [] }
     ensures same { IsSameDump sink.old sink.new }
     ensures ok { OnOk result (TakesDump O.takes sink.old history.now sink.new) }
@@ -46,7 +49,7 @@ pub fn write_vcd<W: Write>(
 {
     let mut sink = DumpSink::new(alloc, design, writer);
     let result = fill(&mut sink, history);
-    let writer = sink.into_outlet();
+    let writer = sink.into_byte_sink();
     // No effect at run time. The proof reads what the writer holds from this use.
     let _ = &*writer;
     result

@@ -193,13 +193,13 @@ pub enum Action {
         value: Expression,
     },
     /// `targets = #amount value;` (9.7.7): it takes the value, sleeps so long, and then writes it.
-    Held {
+    AssignDelayed {
         amount: Expression,
         targets: Targets,
         value: Expression,
     },
     /// `targets <= #amount value;` (9.2.2, 9.7.7): it takes value and targets, and posts the update for so much later.
-    Posted {
+    NonblockingDelayed {
         amount: Expression,
         targets: Targets,
         value: Expression,
@@ -220,7 +220,7 @@ pub enum Action {
         otherwise: Places,
     },
     /// `while (condition) ..` (9.6), and what a `for` tests
-    Again {
+    While {
         condition: Expression,
         body: Places,
     },
@@ -239,19 +239,19 @@ pub enum Action {
         body: Places,
     },
     /// `@(terms)` and then the body (9.7.2)
-    On {
+    EventControl {
         terms: Terms,
         body: Places,
     },
     /// `wait (condition)` and then the body (9.7.6); where the condition doesn't hold, one of the terms is waited for.
-    Until {
+    Wait {
         condition: Expression,
         terms: Terms,
         body: Places,
     },
     /// `assign net = value` (6.1), a process of its own: it writes the net of this number, and then one of the terms is waited for,
     /// and it writes again.
-    Drive {
+    ContinuousAssign {
         net: u32,
         value: Expression,
         terms: Terms,
@@ -266,7 +266,7 @@ pub enum Action {
     /// `$dumpoff;`, `$dumpon;` or `$dumpall;` (18.1.3, 18.1.4)
     Dump(DumpSwitch),
     /// `$dumpfile(..);` or `$dumpflush;`: a step that does nothing more (18.1.1, 18.1.6)
-    Pass,
+    NoOperation,
     /// `$finish;` (17.4.1)
     Finish,
     /// `$stop;` (17.4.2)

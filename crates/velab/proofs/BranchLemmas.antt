@@ -1,4 +1,4 @@
--- What a `case` lays on the table, branch by branch.
+-- What a `case` puts on the table, branch by branch.
 use Rattle.std.proofs.Common.{◌≡◌, ◌<◌, ◌≤◌, ℕ, ◌+◌, Option, None, List, ◌++◌, length, drop, get_or, Vec, Global, sym, ap, subst, ◌∙◌, append_assoc, append-nil}
 use Rattle.std.specs.Prelude.{Box}
 use Rattle.std.proofs.Math.ListN.{drop_of_length-le}
@@ -13,7 +13,7 @@ use Rattle.vast.specs.declared.statement.Statement.{Statement, Case}
 use Rattle.vast.specs.NumberedWords.{numbered}
 use Rattle.vast.proofs.ToldTrees.{told_case}
 use Rattle.vdesign.specs.declared.action.Branch.{Branch}
-use Rattle.velab.specs.Elaborate.{Table, LaidBranches, laid_branch, laid_branches, broken_branch, broken_branches}
+use Rattle.velab.specs.Elaborate.{Table, LoweredBranches, lowered_branch, lowered_branches, broken_branch, broken_branches}
 use Rattle.velab.specs.declared.fault.ElabFault.{ElabFault}
 use Rattle.velab.specs.Scopes.{Scope}
 use Rattle.velab.specs.Inner.{AreBranches}
@@ -32,35 +32,35 @@ case_tree words statement at kind value branches amount items is same these =
     ∙ ap (λ (bs : List WrittenBranch). case_of kind (tree_of words amount) (branch_trees words bs)) (sym these)
     )
 
--- so many branches are laid: what is left leads to the same as all of them from the start
-pub record LeadsBranches (scope : Scope) (now : Table) (before : List Branch) (default_before : List ℕ) (left : BranchTrees) (all : LaidBranches) (begun : List Branch) (default_begun : List ℕ) : Type 0 where
-  pub table : (laid_branches scope now left).table ≡ all.table
-  pub branches : before ++ (laid_branches scope now left).branches ≡ begun ++ all.branches
-  pub otherwise : default_before ++ (laid_branches scope now left).otherwise ≡ default_begun ++ all.otherwise
+-- so many branches are lowered: what is left leads to the same as all of them from the start
+pub record LeadsBranches (scope : Scope) (now : Table) (before : List Branch) (default_before : List ℕ) (left : BranchTrees) (all : LoweredBranches) (begun : List Branch) (default_begun : List ℕ) : Type 0 where
+  pub table : (lowered_branches scope now left).table ≡ all.table
+  pub branches : before ++ (lowered_branches scope now left).branches ≡ begun ++ all.branches
+  pub otherwise : default_before ++ (lowered_branches scope now left).otherwise ≡ default_begun ++ all.otherwise
 
 module _ (words : List Text) (scope : Scope) (xs : List WrittenBranch) (i : ℕ) where
   module _ (x : WrittenBranch) (within : i < length xs) (is : x ≡ get_or xs i x) where
     pub branches_opened : branch_trees words (drop i xs) ≡ first_branch (branch_tree words x) (branch_trees words (drop (i + 1) xs))
     branches_opened = ap (branch_trees words) (drop_at xs i x within is)
 
-    pub branches_step : (table table_after : Table) (before after : List Branch) (places places_after : List ℕ) (all : LaidBranches) (begun : List Branch) (places_begun : List ℕ) →
-        AreBranches (laid_branch scope table (branch_tree words x)) before places table_after after places_after →
+    pub branches_step : (table table_after : Table) (before after : List Branch) (places places_after : List ℕ) (all : LoweredBranches) (begun : List Branch) (places_begun : List ℕ) →
+        AreBranches (lowered_branch scope table (branch_tree words x)) before places table_after after places_after →
         LeadsBranches scope table before places (branch_trees words (drop i xs)) all begun places_begun →
         LeadsBranches scope table_after after places_after (branch_trees words (drop (i + 1) xs)) all begun places_begun
     branches_step table table_after before after places places_after all begun places_begun put leads =
         let rest : BranchTrees = branch_trees words (drop (i + 1) xs) in
-        let front : LaidBranches = laid_branch scope table (branch_tree words x) in
+        let front : LoweredBranches = lowered_branch scope table (branch_tree words x) in
         let here : LeadsBranches scope table before places (first_branch (branch_tree words x) rest) all begun places_begun =
         subst (λ (t : BranchTrees). LeadsBranches scope table before places t all begun places_begun) branches_opened leads in
         record {
-          table = ap (λ (t : Table). (laid_branches scope t rest).table) put.table ∙ here.table;
-          branches = ap (λ (t : Table). after ++ (laid_branches scope t rest).branches) put.table
-              ∙ ap (λ (p : List Branch). p ++ (laid_branches scope front.table rest).branches) put.branches
-              ∙ append_assoc before front.branches (laid_branches scope front.table rest).branches
+          table = ap (λ (t : Table). (lowered_branches scope t rest).table) put.table ∙ here.table;
+          branches = ap (λ (t : Table). after ++ (lowered_branches scope t rest).branches) put.table
+              ∙ ap (λ (p : List Branch). p ++ (lowered_branches scope front.table rest).branches) put.branches
+              ∙ append_assoc before front.branches (lowered_branches scope front.table rest).branches
               ∙ here.branches;
-          otherwise = ap (λ (t : Table). places_after ++ (laid_branches scope t rest).otherwise) put.table
-              ∙ ap (λ (p : List ℕ). p ++ (laid_branches scope front.table rest).otherwise) put.otherwise
-              ∙ append_assoc places front.otherwise (laid_branches scope front.table rest).otherwise
+          otherwise = ap (λ (t : Table). places_after ++ (lowered_branches scope t rest).otherwise) put.table
+              ∙ ap (λ (p : List ℕ). p ++ (lowered_branches scope front.table rest).otherwise) put.otherwise
+              ∙ append_assoc places front.otherwise (lowered_branches scope front.table rest).otherwise
               ∙ here.otherwise;
         }
 
@@ -69,7 +69,7 @@ module _ (words : List Text) (scope : Scope) (xs : List WrittenBranch) (i : ℕ)
     branches_right all right same =
         goes_on (broken_branch scope (branch_tree words x)) _ _ all (ap (broken_branches scope) branches_opened) right same
 
-  pub branches_end : (table : Table) (before : List Branch) (places : List ℕ) (all : LaidBranches) (begun : List Branch) (places_begun : List ℕ) → length xs ≤ i →
+  pub branches_end : (table : Table) (before : List Branch) (places : List ℕ) (all : LoweredBranches) (begun : List Branch) (places_begun : List ℕ) → length xs ≤ i →
       LeadsBranches scope table before places (branch_trees words (drop i xs)) all begun places_begun → AreBranches all begun places_begun table before places
   branches_end table before places all begun places_begun end leads =
       let here : LeadsBranches scope table before places no_branch all begun places_begun =

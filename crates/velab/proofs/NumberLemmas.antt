@@ -17,7 +17,7 @@ use Rattle.vbits.proofs.LettersOf.{digits-letters_of, letters_of-low, zero_low}
 use Rattle.vast.specs.Words.{Text}
 use Rattle.vlex.specs.Bytes.{is_underscore, is_x_digit, is_z_digit}
 use Rattle.vlex.specs.Forms.{with_digit, spelled_number}
-use Rattle.velab.specs.Literals.{digit_letters, spelled_letters, filling, lettered_value, decimal_value, digit_value, is_marked, unmarked, first_byte, size_of, based_value, spreads_by, based_constant, plain_constant}
+use Rattle.velab.specs.Literals.{digit_letters, spelled_letters, filling_letters, lettered_value, decimal_value, digit_value, is_marked, without_mark, first_byte, size_of, based_value, spreads_by, based_constant, plain_constant}
 use Rattle.vdesign.specs.declared.expression.Constant.{Constant}
 
 -- ---- decimal numbers modulo a power of two
@@ -122,8 +122,8 @@ module _ (count c : ℕ) where
   unfolding of_number
   known_letters x z = sym (λ i. if x i then replicate count X else if z i then replicate count Z else digits count (digit_value c))
 
-pub decimal_known : (size : ℕ) (ds : Text) → is_unknown (filling ds) ≡ false → of_number size (spelled_number ds) ≡ decimal_value size ds
-decimal_known size ds known = sym (ap (λ b. if b then filled size (filling ds) else of_number size (spelled_number ds)) known)
+pub decimal_known : (size : ℕ) (ds : Text) → is_unknown (filling_letters ds) ≡ false → of_number size (spelled_number ds) ≡ decimal_value size ds
+decimal_known size ds known = sym (ap (λ b. if b then filled size (filling_letters ds) else of_number size (spelled_number ds)) known)
 
 -- the letters after one digit more
 abbrev pub shifted : ℕ → ℕ → List Bit4 → List Bit4
@@ -166,7 +166,7 @@ shifted_step count ds i old next all few within is same =
 
 -- the lowest letters of what was read are the number
 pub lettered_from : (size count : ℕ) (ds : Text) (i : ℕ) (value : Vector) → 1 ≤ size → size ≤ 64 → length ds ≤ i → length value.letters ≡ 64 →
-    take 64 (spelled_letters count (drop i ds) ++ value.letters) ≡ take 64 (spelled_letters count ds ++ replicate 64 (filling ds)) →
+    take 64 (spelled_letters count (drop i ds) ++ value.letters) ≡ take 64 (spelled_letters count ds ++ replicate 64 (filling_letters ds)) →
     select value (size - 1) 0 ≡ lettered_value size count ds
 unfolding select
 lettered_from size count ds i value some few end whole same = λ i. record { letters = (ap (λ n. take n value.letters) all ∙ lowest) i; signed = false }
@@ -174,14 +174,14 @@ lettered_from size count ds i value some few end whole same = λ i. record { let
     all : size - 1 + 1 - 0 ≡ size
     all = omega arith
 
-    last : take 64 value.letters ≡ take 64 (spelled_letters count ds ++ replicate 64 (filling ds))
+    last : take 64 value.letters ≡ take 64 (spelled_letters count ds ++ replicate 64 (filling_letters ds))
     last = ap (λ xs. take 64 (spelled_letters count xs ++ value.letters)) (sym (drop_of_length-le ds end)) ∙ same
 
-    lowest : take size value.letters ≡ take size (spelled_letters count ds ++ replicate 64 (filling ds))
+    lowest : take size value.letters ≡ take size (spelled_letters count ds ++ replicate 64 (filling_letters ds))
     lowest =
         sym (take_within size 64 [] value.letters few)
         ∙ ap (take size) last
-        ∙ take_within size 64 [] (spelled_letters count ds ++ replicate 64 (filling ds)) few
+        ∙ take_within size 64 [] (spelled_letters count ds ++ replicate 64 (filling_letters ds)) few
 
 -- what is shifted in comes behind the letters that are kept
 pub concat_shifted : (count c : ℕ) (value letters : Vector) → count ≤ 63 → is_underscore c ≡ false → letters.letters ≡ digit_letters count c →
@@ -204,22 +204,22 @@ plain_from ds n value signed low is marked = λ i. record { value = (marked ∙ 
     number : value ≡ of_number 32 (spelled_number ds)
     number = is ∙ ap (of_number 32) low ∙ of_low_number 32 (spelled_number ds) (lit≤ tt)
 
-pub based_from : (size text behind rest : Text) (marked spreads : Bool) (n base : ℕ) (value signed : Vector) → marked ≡ is_marked text → behind ≡ unmarked text →
+pub based_from : (size text behind rest : Text) (marked spreads : Bool) (n base : ℕ) (value signed : Vector) → marked ≡ is_marked text → behind ≡ without_mark text →
     n ≡ size_of size → base ≡ first_byte behind → rest ≡ drop 1 behind → value ≡ based_value n base rest → signed ≡ with_sign value marked → spreads ≡ spreads_by size marked value →
     let made : Constant = record { value = signed; spreads = spreads } in made ≡ based_constant size text
 based_from size text behind rest marked spreads n base value signed mark behind_is n_is base_is rest_is value_is signed_is spreads_is =
     λ i. record { value = (signed_is ∙ (λ j. with_sign (number j) (mark j))) i; spreads = (spreads_is ∙ (λ j. spreads_by size (mark j) (number j))) i }
   where
-    number : value ≡ based_value (size_of size) (first_byte (unmarked text)) (drop 1 (unmarked text))
+    number : value ≡ based_value (size_of size) (first_byte (without_mark text)) (drop 1 (without_mark text))
     number = value_is ∙ (λ i. based_value (n_is i) ((base_is ∙ ap first_byte behind_is) i) ((rest_is ∙ ap (drop 1) behind_is) i))
 
 -- how many letters stand behind the lost ones and the new ones
-pub length_both : (count c : ℕ) (value selected letters : Vector) → count ≤ 63 → length value.letters ≡ 64 → selected ≡ select value (63 - count) 0 →
-    letters.letters ≡ digit_letters count c → length selected.letters + length letters.letters ≤ 64
+pub length_both : (count c : ℕ) (value selection_of letters : Vector) → count ≤ 63 → length value.letters ≡ 64 → selection_of ≡ select value (63 - count) 0 →
+    letters.letters ≡ digit_letters count c → length selection_of.letters + length letters.letters ≤ 64
 unfolding select
-length_both count c value selected letters few whole is digit_is = sums (length selected.letters) (length letters.letters) kept (ap length digit_is ∙ length_digit_letters count c)
+length_both count c value selection_of letters few whole is digit_is = sums (length selection_of.letters) (length letters.letters) kept (ap length digit_is ∙ length_digit_letters count c)
   where
-    kept : length selected.letters ≡ 63 - count + 1 - 0
+    kept : length selection_of.letters ≡ 63 - count + 1 - 0
     kept = ap (λ (v : Vector). length v.letters) is ∙ length-take-le (63 - count + 1 - 0) value.letters (omega arith)
 
     sums : (a b : ℕ) → a ≡ 63 - count + 1 - 0 → b ≡ count → a + b ≤ 64

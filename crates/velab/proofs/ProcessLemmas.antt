@@ -14,10 +14,10 @@ use Rattle.vast.specs.declared.module.NetKind.{NetKind}
 use Rattle.vast.specs.declared.module.ModuleItem.{ModuleItem}
 use Rattle.vast.specs.NumberedWords.{Word}
 use Rattle.vmodules.specs.Ports.{Port}
-use Rattle.vmodules.specs.Connected.{Tied, value_for}
+use Rattle.vmodules.specs.Connected.{NamedConnection, value_for}
 use Rattle.vmodules.specs.Inner.{port_form}
 use Rattle.vmodules.specs.declared.ports.PortForm.{PortForm}
-use Rattle.velab.specs.Elaborate.{Table, laid_join, laid_joins, broken_join, broken_joins}
+use Rattle.velab.specs.Elaborate.{Table, lowered_join, lowered_joins, broken_join, broken_joins}
 use Rattle.velab.specs.declared.fault.ElabFault.{ElabFault}
 use Rattle.velab.specs.Elaborate.{ProcessTree, broken_processes, process_of, driven_by, process_trees_by}
 use Rattle.velab.specs.Rules.{IsBroken}
@@ -25,57 +25,57 @@ use Rattle.velab.specs.Scopes.{Scope, at}
 use Rattle.velab.specs.Inner.{starts_in, drives_in}
 use Rattle.velab.proofs.FaultLemmas.{goes_on, stops_at}
 use Rattle.velab.proofs.ListLemmas.{drop_at}
-use Rattle.velab.specs.Elaborate.{Laid, Processes, laid_process, laid_processes, laid_items, broken_process, broken_items_from, given_by}
-use Rattle.velab.specs.Inner.{IsLaid, AreLaid}
+use Rattle.velab.specs.Elaborate.{Lowered, Processes, lowered_process, lowered_processes, lowered_items, broken_process, broken_items_from, symbols_by}
+use Rattle.velab.specs.Inner.{IsLowered, AreLowered}
 
--- so many are laid: what is left leads to the same as all of them from the start
+-- so many are lowered: what is left leads to the same as all of them from the start
 pub record LeadTo (scope : Scope) (now : Table) (before : List (List ℕ)) (left : List ProcessTree) (all : Processes) : Type 0 where
-  pub table : (laid_processes scope now left).table ≡ all.table
-  pub begins : before ++ (laid_processes scope now left).begins ≡ all.begins
+  pub table : (lowered_processes scope now left).table ≡ all.table
+  pub begins : before ++ (lowered_processes scope now left).begins ≡ all.begins
 
 -- the same behind processes that there were
 abbrev pub behind : List (List ℕ) → Processes → Processes
 behind before what = record { table = what.table; begins = before ++ what.begins }
 
--- nothing is laid so far
+-- nothing is lowered so far
 pub lead_start : (scope : Scope) (table : Table) (before : List (List ℕ)) (ss : List ProcessTree) →
-    LeadTo scope table before ss (behind before (laid_processes scope table ss))
+    LeadTo scope table before ss (behind before (lowered_processes scope table ss))
 lead_start scope table before ss = record { table = refl; begins = refl }
 
 -- none is left, behind those that there were
 pub lead_behind : (scope : Scope) (table : Table) (before begins : List (List ℕ)) (what : Processes) →
-    LeadTo scope table begins [] (behind before what) → AreLaid what before table begins
+    LeadTo scope table begins [] (behind before what) → AreLowered what before table begins
 lead_behind scope table before begins what lead = record { table = lead.table; begins = sym (append-nil begins) ∙ lead.begins }
 
 -- one item more: it has any number of processes
 pub lead_step : (scope : Scope) (table table_after : Table) (begins begins_after : List (List ℕ)) (front rest : List ProcessTree) (all : Processes) →
-    AreLaid (laid_processes scope table front) begins table_after begins_after → LeadTo scope table begins (front ++ rest) all →
+    AreLowered (lowered_processes scope table front) begins table_after begins_after → LeadTo scope table begins (front ++ rest) all →
     LeadTo scope table_after begins_after rest all
 lead_step scope table table_after begins begins_after [] rest all put lead = record {
-  table = ap (λ (t : Table). (laid_processes scope t rest).table) put.table ∙ lead.table;
-  begins = ap (λ (t : Table). begins_after ++ (laid_processes scope t rest).begins) put.table
-      ∙ ap (λ (b : List (List ℕ)). b ++ (laid_processes scope table rest).begins) (put.begins ∙ append-nil begins)
+  table = ap (λ (t : Table). (lowered_processes scope t rest).table) put.table ∙ lead.table;
+  begins = ap (λ (t : Table). begins_after ++ (lowered_processes scope t rest).begins) put.table
+      ∙ ap (λ (b : List (List ℕ)). b ++ (lowered_processes scope table rest).begins) (put.begins ∙ append-nil begins)
       ∙ lead.begins;
 }
 lead_step scope table table_after begins begins_after (s ∷ front) rest all put lead =
-    let x : Laid = laid_process scope table s in
+    let x : Lowered = lowered_process scope table s in
     lead_step scope x.table table_after (begins ++ x.places ∷ []) begins_after front rest all
-    (record { table = put.table; begins = put.begins ∙ sym (append_assoc begins (x.places ∷ []) (laid_processes scope x.table front).begins) })
+    (record { table = put.table; begins = put.begins ∙ sym (append_assoc begins (x.places ∷ []) (lowered_processes scope x.table front).begins) })
     (record {
       table = lead.table;
-      begins = append_assoc begins (x.places ∷ []) (laid_processes scope x.table (front ++ rest)).begins ∙ lead.begins;
+      begins = append_assoc begins (x.places ∷ []) (lowered_processes scope x.table (front ++ rest)).begins ∙ lead.begins;
     })
 
 -- none is left
 pub lead_end : (scope : Scope) (table : Table) (begins : List (List ℕ)) (all : Processes) → LeadTo scope table begins [] all →
-    AreLaid all [] table begins
+    AreLowered all [] table begins
 lead_end scope table begins all lead = record { table = lead.table; begins = sym (append-nil begins) ∙ lead.begins }
 
--- one process was laid
-pub one_laid : (scope : Scope) (table table_after : Table) (begins begins_after : List (List ℕ)) (s : ProcessTree) (places : List ℕ) →
-    IsLaid (laid_process scope table s) [] table_after places → begins_after ≡ begins ++ places ∷ [] →
-    AreLaid (laid_processes scope table (s ∷ [])) begins table_after begins_after
-one_laid scope table table_after begins begins_after s places put is = record {
+-- one process was lowered
+pub one_lowered : (scope : Scope) (table table_after : Table) (begins begins_after : List (List ℕ)) (s : ProcessTree) (places : List ℕ) →
+    IsLowered (lowered_process scope table s) [] table_after places → begins_after ≡ begins ++ places ∷ [] →
+    AreLowered (lowered_processes scope table (s ∷ [])) begins table_after begins_after
+one_lowered scope table table_after begins begins_after s places put is = record {
   table = put.table;
   begins = is ∙ ap (λ (p : List ℕ). begins ++ p ∷ []) put.places;
 }
@@ -133,19 +133,19 @@ module _ (words : List Text) (scope : Scope) (list : List Setting) (i : ℕ) (x 
 
 -- ---- items, each in the scope of its place
 
--- so many items are laid: what is left leads to the same as all of them from the start
+-- so many items are lowered: what is left leads to the same as all of them from the start
 pub record LeadItems (scope : Scope) (now : Table) (before : List (List ℕ)) (left : List ItemTree) (all : Processes) : Type 0 where
-  pub table : (laid_items scope now left).table ≡ all.table
-  pub begins : before ++ (laid_items scope now left).begins ≡ all.begins
+  pub table : (lowered_items scope now left).table ≡ all.table
+  pub begins : before ++ (lowered_items scope now left).begins ≡ all.begins
 
--- nothing is laid so far
+-- nothing is lowered so far
 pub items_start : (scope : Scope) (table : Table) (before : List (List ℕ)) (items : List ItemTree) →
-    LeadItems scope table before items (behind before (laid_items scope table items))
+    LeadItems scope table before items (behind before (lowered_items scope table items))
 items_start scope table before items = record { table = refl; begins = refl }
 
 -- none is left, behind those that there were
 pub items_behind : (scope : Scope) (table : Table) (before begins : List (List ℕ)) (what : Processes) →
-    LeadItems scope table begins [] (behind before what) → AreLaid what before table begins
+    LeadItems scope table begins [] (behind before what) → AreLowered what before table begins
 items_behind scope table before begins what lead = record { table = lead.table; begins = sym (append-nil begins) ∙ lead.begins }
 
 module _ (words : List Text) (scope : Scope) (items : List ModuleItem) (i : ℕ) (x : ModuleItem) (within : i < length items) (is : x ≡ get_or items i x) where
@@ -153,25 +153,25 @@ module _ (words : List Text) (scope : Scope) (items : List ModuleItem) (i : ℕ)
   items_open = ap (λ (l : List ModuleItem). map (item_tree words) l) (drop_at items i x within is)
 
   pub item_step : (known : ℕ) (now after : Table) (begins begins_after : List (List ℕ)) (all : Processes) →
-      AreLaid (laid_processes (at scope known) now (process_trees_by (item_tree words x))) begins after begins_after →
+      AreLowered (lowered_processes (at scope known) now (process_trees_by (item_tree words x))) begins after begins_after →
       LeadItems (at scope known) now begins (map (item_tree words) (drop i items)) all →
-      LeadItems (at scope (known + length (given_by (item_tree words x)))) after begins_after (map (item_tree words) (drop (i + 1) items)) all
+      LeadItems (at scope (known + length (symbols_by (item_tree words x)))) after begins_after (map (item_tree words) (drop (i + 1) items)) all
   item_step known now after begins begins_after all put lead =
       let rest : List ItemTree = map (item_tree words) (drop (i + 1) items) in
-      let later : Scope = at scope (known + length (given_by (item_tree words x))) in
-      let front : Processes = laid_processes (at scope known) now (process_trees_by (item_tree words x)) in
+      let later : Scope = at scope (known + length (symbols_by (item_tree words x))) in
+      let front : Processes = lowered_processes (at scope known) now (process_trees_by (item_tree words x)) in
       let here : LeadItems (at scope known) now begins (item_tree words x ∷ rest) all = subst (λ (l : List ItemTree). LeadItems (at scope known) now begins l all) items_open lead in
       record {
-        table = ap (λ (t : Table). (laid_items later t rest).table) put.table ∙ here.table;
-        begins = ap (λ (t : Table). begins_after ++ (laid_items later t rest).begins) put.table
-            ∙ ap (λ (b : List (List ℕ)). b ++ (laid_items later front.table rest).begins) put.begins
-            ∙ append_assoc begins front.begins (laid_items later front.table rest).begins
+        table = ap (λ (t : Table). (lowered_items later t rest).table) put.table ∙ here.table;
+        begins = ap (λ (t : Table). begins_after ++ (lowered_items later t rest).begins) put.table
+            ∙ ap (λ (b : List (List ℕ)). b ++ (lowered_items later front.table rest).begins) put.begins
+            ∙ append_assoc begins front.begins (lowered_items later front.table rest).begins
             ∙ here.begins;
       }
 
   pub item_right : (known : ℕ) (all : Option ElabFault) → broken_processes (at scope known) (process_trees_by (item_tree words x)) ≡ None →
       broken_items_from (at scope known) (map (item_tree words) (drop i items)) ≡ all →
-      broken_items_from (at scope (known + length (given_by (item_tree words x)))) (map (item_tree words) (drop (i + 1) items)) ≡ all
+      broken_items_from (at scope (known + length (symbols_by (item_tree words x)))) (map (item_tree words) (drop (i + 1) items)) ≡ all
   item_right known all right same = goes_on _ _ _ all (ap (broken_items_from (at scope known)) items_open) right same
 
   pub item_err : (known : ℕ) (all : Option ElabFault) → broken_items_from (at scope known) (map (item_tree words) (drop i items)) ≡ all → (e : OrMemory ElabFault) →
@@ -179,52 +179,52 @@ module _ (words : List Text) (scope : Scope) (items : List ModuleItem) (i : ℕ)
   item_err known all same = stops_at _ _ _ all (ap (broken_items_from (at scope known)) items_open) same
 
   -- the parameters that are left
-  pub fewer_given : (known : ℕ) → known + length (flat_map given_by (map (item_tree words) (drop i items))) < 2 ^ 64 →
-      (known + length (given_by (item_tree words x))) + length (flat_map given_by (map (item_tree words) (drop (i + 1) items))) < 2 ^ 64
+  pub fewer_given : (known : ℕ) → known + length (flat_map symbols_by (map (item_tree words) (drop i items))) < 2 ^ 64 →
+      (known + length (symbols_by (item_tree words x))) + length (flat_map symbols_by (map (item_tree words) (drop (i + 1) items))) < 2 ^ 64
   fewer_given known small =
-      let opens = ap (λ (l : List ItemTree). length (flat_map given_by l)) items_open in
-      let both = length-append (given_by (item_tree words x)) (flat_map given_by (map (item_tree words) (drop (i + 1) items))) in
+      let opens = ap (λ (l : List ItemTree). length (flat_map symbols_by l)) items_open in
+      let both = length-append (symbols_by (item_tree words x)) (flat_map symbols_by (map (item_tree words) (drop (i + 1) items))) in
       omega (arith, small, opens, both)
 
 -- ---- port connections, one after another
 
-pub record LeadJoins (whose : Word) (outer inner : Scope) (ties : List Tied) (now : Table) (before : List (List ℕ)) (left : List Port) (all : Processes) : Type 0 where
-  pub table : (laid_joins whose outer inner ties now left).table ≡ all.table
-  pub begins : before ++ (laid_joins whose outer inner ties now left).begins ≡ all.begins
+pub record LeadJoins (whose : Word) (outer inner : Scope) (connections : List NamedConnection) (now : Table) (before : List (List ℕ)) (left : List Port) (all : Processes) : Type 0 where
+  pub table : (lowered_joins whose outer inner connections now left).table ≡ all.table
+  pub begins : before ++ (lowered_joins whose outer inner connections now left).begins ≡ all.begins
 
-pub joins_start : (whose : Word) (outer inner : Scope) (ties : List Tied) (table : Table) (before : List (List ℕ)) (left : List Port) →
-    LeadJoins whose outer inner ties table before left (behind before (laid_joins whose outer inner ties table left))
-joins_start whose outer inner ties table before left = record { table = refl; begins = refl }
+pub joins_start : (whose : Word) (outer inner : Scope) (connections : List NamedConnection) (table : Table) (before : List (List ℕ)) (left : List Port) →
+    LeadJoins whose outer inner connections table before left (behind before (lowered_joins whose outer inner connections table left))
+joins_start whose outer inner connections table before left = record { table = refl; begins = refl }
 
-pub joins_behind : (whose : Word) (outer inner : Scope) (ties : List Tied) (table : Table) (before begins : List (List ℕ)) (what : Processes) →
-    LeadJoins whose outer inner ties table begins [] (behind before what) → AreLaid what before table begins
-joins_behind whose outer inner ties table before begins what lead = record { table = lead.table; begins = sym (append-nil begins) ∙ lead.begins }
+pub joins_behind : (whose : Word) (outer inner : Scope) (connections : List NamedConnection) (table : Table) (before begins : List (List ℕ)) (what : Processes) →
+    LeadJoins whose outer inner connections table begins [] (behind before what) → AreLowered what before table begins
+joins_behind whose outer inner connections table before begins what lead = record { table = lead.table; begins = sym (append-nil begins) ∙ lead.begins }
 
-module _ (words : List Text) (whose : Word) (outer inner : Scope) (ties : List Tied) (ports : List PortForm) (i : ℕ) (x : PortForm) (within : i < length ports) (is : x ≡ get_or ports i x) where
+module _ (words : List Text) (whose : Word) (outer inner : Scope) (connections : List NamedConnection) (ports : List PortForm) (i : ℕ) (x : PortForm) (within : i < length ports) (is : x ≡ get_or ports i x) where
   ports_open : map (port_form words) (drop i ports) ≡ port_form words x ∷ map (port_form words) (drop (i + 1) ports)
   ports_open = ap (λ (l : List PortForm). map (port_form words) l) (drop_at ports i x within is)
 
   pub join_step : (now after : Table) (begins begins_after : List (List ℕ)) (all : Processes) →
-      AreLaid (laid_join whose outer inner now (port_form words x) (value_for ties (port_form words x).name.letters)) begins after begins_after →
-      LeadJoins whose outer inner ties now begins (map (port_form words) (drop i ports)) all →
-      LeadJoins whose outer inner ties after begins_after (map (port_form words) (drop (i + 1) ports)) all
+      AreLowered (lowered_join whose outer inner now (port_form words x) (value_for connections (port_form words x).name.letters)) begins after begins_after →
+      LeadJoins whose outer inner connections now begins (map (port_form words) (drop i ports)) all →
+      LeadJoins whose outer inner connections after begins_after (map (port_form words) (drop (i + 1) ports)) all
   join_step now after begins begins_after all put lead =
       let rest : List Port = map (port_form words) (drop (i + 1) ports) in
-      let front : Processes = laid_join whose outer inner now (port_form words x) (value_for ties (port_form words x).name.letters) in
-      let here : LeadJoins whose outer inner ties now begins (port_form words x ∷ rest) all = subst (λ (l : List Port). LeadJoins whose outer inner ties now begins l all) ports_open lead in
+      let front : Processes = lowered_join whose outer inner now (port_form words x) (value_for connections (port_form words x).name.letters) in
+      let here : LeadJoins whose outer inner connections now begins (port_form words x ∷ rest) all = subst (λ (l : List Port). LeadJoins whose outer inner connections now begins l all) ports_open lead in
       record {
-        table = ap (λ (t : Table). (laid_joins whose outer inner ties t rest).table) put.table ∙ here.table;
-        begins = ap (λ (t : Table). begins_after ++ (laid_joins whose outer inner ties t rest).begins) put.table
-            ∙ ap (λ (b : List (List ℕ)). b ++ (laid_joins whose outer inner ties front.table rest).begins) put.begins
-            ∙ append_assoc begins front.begins (laid_joins whose outer inner ties front.table rest).begins
+        table = ap (λ (t : Table). (lowered_joins whose outer inner connections t rest).table) put.table ∙ here.table;
+        begins = ap (λ (t : Table). begins_after ++ (lowered_joins whose outer inner connections t rest).begins) put.table
+            ∙ ap (λ (b : List (List ℕ)). b ++ (lowered_joins whose outer inner connections front.table rest).begins) put.begins
+            ∙ append_assoc begins front.begins (lowered_joins whose outer inner connections front.table rest).begins
             ∙ here.begins;
       }
 
-  pub join_right : (all : Option ElabFault) → broken_join whose outer inner (port_form words x) (value_for ties (port_form words x).name.letters) ≡ None →
-      broken_joins whose outer inner ties (map (port_form words) (drop i ports)) ≡ all →
-      broken_joins whose outer inner ties (map (port_form words) (drop (i + 1) ports)) ≡ all
-  join_right all right same = goes_on _ _ _ all (ap (broken_joins whose outer inner ties) ports_open) right same
+  pub join_right : (all : Option ElabFault) → broken_join whose outer inner (port_form words x) (value_for connections (port_form words x).name.letters) ≡ None →
+      broken_joins whose outer inner connections (map (port_form words) (drop i ports)) ≡ all →
+      broken_joins whose outer inner connections (map (port_form words) (drop (i + 1) ports)) ≡ all
+  join_right all right same = goes_on _ _ _ all (ap (broken_joins whose outer inner connections) ports_open) right same
 
-  pub join_err : (all : Option ElabFault) → broken_joins whose outer inner ties (map (port_form words) (drop i ports)) ≡ all → (e : OrMemory ElabFault) →
-      Because (IsBroken (broken_join whose outer inner (port_form words x) (value_for ties (port_form words x).name.letters))) e → Because (IsBroken all) e
-  join_err all same = stops_at _ _ _ all (ap (broken_joins whose outer inner ties) ports_open) same
+  pub join_err : (all : Option ElabFault) → broken_joins whose outer inner connections (map (port_form words) (drop i ports)) ≡ all → (e : OrMemory ElabFault) →
+      Because (IsBroken (broken_join whose outer inner (port_form words x) (value_for connections (port_form words x).name.letters))) e → Because (IsBroken all) e
+  join_err all same = stops_at _ _ _ all (ap (broken_joins whose outer inner connections) ports_open) same

@@ -21,7 +21,7 @@ use Rattle.basis.specs.Reasons.{Because}
 use Rattle.velab.specs.declared.fault.ElabFault.{ElabFault}
 use Rattle.velab.specs.Rules.{IsBroken}
 use Rattle.velab.specs.Scopes.{Scope, at}
-use Rattle.velab.specs.Elaborate.{Declaration as Declared_as, declared, all_declared, declarations_of, kind_of, bounds_of, variable_by, variable_of, Home, variables_from, broken_declaration, broken_from, given_by}
+use Rattle.velab.specs.Elaborate.{Declaration as Declared_as, declared, all_declared, declarations_of, kind_of, bounds_of, variable_by, variable_of, ScopeDrivers, variables_from, broken_declaration, broken_from, symbols_by}
 use Rattle.velab.specs.Inner.{names_of, declared_in, texts_of, kind_item}
 use Rattle.velab.proofs.ListLemmas.{drop_at}
 use Rattle.velab.proofs.FaultLemmas.{goes_on, stops_at}
@@ -33,10 +33,10 @@ module _ (kind : Kind) (signed : Bool) (range : Option RangeTree) where
   map_names [] = refl
   map_names (t ∷ ts) = ap (λ l. t ∷ l) (map_names ts)
 
-  map_variables : (home : Home) (scope : Scope) (ts : List Word) →
-      map (variable_of home scope) (map (declared kind signed range) ts) ≡ map (λ (t : Word). variable_by home kind signed (option_map (bounds_of scope) range) t.letters) ts
-  map_variables home scope [] = refl
-  map_variables home scope (t ∷ ts) = ap (λ l. variable_by home kind signed (option_map (bounds_of scope) range) t.letters ∷ l) (map_variables home scope ts)
+  map_variables : (drivers : ScopeDrivers) (scope : Scope) (ts : List Word) →
+      map (variable_of drivers scope) (map (declared kind signed range) ts) ≡ map (λ (t : Word). variable_by drivers kind signed (option_map (bounds_of scope) range) t.letters) ts
+  map_variables drivers scope [] = refl
+  map_variables drivers scope (t ∷ ts) = ap (λ l. variable_by drivers kind signed (option_map (bounds_of scope) range) t.letters ∷ l) (map_variables drivers scope ts)
 
   module _ (words : List Text) (list : List Declared) where
     names_view : (ds : List Declared) → map (λ (d : DeclaredTree). d.name) (map (declared_tree words) ds) ≡ texts_of words ds
@@ -46,11 +46,11 @@ module _ (kind : Kind) (signed : Bool) (range : Option RangeTree) where
     pub item_names : texts_of words list ≡ map (λ (d : Declared_as). d.name) (all_declared kind signed range (map (declared_tree words) list))
     item_names = sym (map_names _ ∙ names_view list)
 
-    pub item_variables : (home : Home) (scope : Scope) (bounds : Option Bounds) → bounds ≡ option_map (bounds_of scope) range →
-        map (λ (t : Word). variable_by home kind signed bounds t.letters) (texts_of words list) ≡ map (variable_of home scope) (all_declared kind signed range (map (declared_tree words) list))
-    item_variables home scope bounds bounds_is =
-        ap (λ b. map (λ (t : Word). variable_by home kind signed b t.letters) (texts_of words list)) bounds_is
-        ∙ sym (map_variables home scope _ ∙ ap (map (λ (t : Word). variable_by home kind signed (option_map (bounds_of scope) range) t.letters)) (names_view list))
+    pub item_variables : (drivers : ScopeDrivers) (scope : Scope) (bounds : Option Bounds) → bounds ≡ option_map (bounds_of scope) range →
+        map (λ (t : Word). variable_by drivers kind signed bounds t.letters) (texts_of words list) ≡ map (variable_of drivers scope) (all_declared kind signed range (map (declared_tree words) list))
+    item_variables drivers scope bounds bounds_is =
+        ap (λ b. map (λ (t : Word). variable_by drivers kind signed b t.letters) (texts_of words list)) bounds_is
+        ∙ sym (map_variables drivers scope _ ∙ ap (map (λ (t : Word). variable_by drivers kind signed (option_map (bounds_of scope) range) t.letters)) (names_view list))
 
 -- the names of a declaration
 pub kind_names : (words : List Text) (kind : DeclarationWords) (list : List Declared) → texts_of words list ≡ names_of (kind_item words kind list)
@@ -68,21 +68,21 @@ in_order words item items = map-append (λ (d : Declared_as). d.name) (declarati
 
 -- ---- the variables of items, each in the scope of its place
 
-module _ (words : List Text) (home : Home) (scope : Scope) (items : List ModuleItem) (i : ℕ) (x : ModuleItem) (within : i < length items) (is : x ≡ get_or items i x) where
+module _ (words : List Text) (drivers : ScopeDrivers) (scope : Scope) (items : List ModuleItem) (i : ℕ) (x : ModuleItem) (within : i < length items) (is : x ≡ get_or items i x) where
   items_open : map (item_tree words) (drop i items) ≡ item_tree words x ∷ map (item_tree words) (drop (i + 1) items)
   items_open = ap (λ (l : List ModuleItem). map (item_tree words) l) (drop_at items i x within is)
 
-  pub variables_step : (known : ℕ) (now next all : List Variable) → next ≡ now ++ map (variable_of home (at scope known)) (declarations_of (item_tree words x)) →
-      now ++ variables_from home (at scope known) (map (item_tree words) (drop i items)) ≡ all →
-      next ++ variables_from home (at scope (known + length (given_by (item_tree words x)))) (map (item_tree words) (drop (i + 1) items)) ≡ all
+  pub variables_step : (known : ℕ) (now next all : List Variable) → next ≡ now ++ map (variable_of drivers (at scope known)) (declarations_of (item_tree words x)) →
+      now ++ variables_from drivers (at scope known) (map (item_tree words) (drop i items)) ≡ all →
+      next ++ variables_from drivers (at scope (known + length (symbols_by (item_tree words x)))) (map (item_tree words) (drop (i + 1) items)) ≡ all
   variables_step known now next all put same =
-      let rest : List Variable = variables_from home (at scope (known + length (given_by (item_tree words x)))) (map (item_tree words) (drop (i + 1) items)) in
-      ap (λ (l : List Variable). l ++ rest) put ∙ append_assoc now (map (variable_of home (at scope known)) (declarations_of (item_tree words x))) rest
-      ∙ sym (ap (λ (l : List ItemTree). now ++ variables_from home (at scope known) l) items_open) ∙ same
+      let rest : List Variable = variables_from drivers (at scope (known + length (symbols_by (item_tree words x)))) (map (item_tree words) (drop (i + 1) items)) in
+      ap (λ (l : List Variable). l ++ rest) put ∙ append_assoc now (map (variable_of drivers (at scope known)) (declarations_of (item_tree words x))) rest
+      ∙ sym (ap (λ (l : List ItemTree). now ++ variables_from drivers (at scope known) l) items_open) ∙ same
 
   pub declared_right : (known : ℕ) (all : Option ElabFault) → broken_declaration (at scope known) (item_tree words x) ≡ None →
       broken_from (at scope known) (map (item_tree words) (drop i items)) ≡ all →
-      broken_from (at scope (known + length (given_by (item_tree words x)))) (map (item_tree words) (drop (i + 1) items)) ≡ all
+      broken_from (at scope (known + length (symbols_by (item_tree words x)))) (map (item_tree words) (drop (i + 1) items)) ≡ all
   declared_right known all right same = goes_on _ _ _ all (ap (broken_from (at scope known)) items_open) right same
 
   pub declared_err : (known : ℕ) (all : Option ElabFault) → broken_from (at scope known) (map (item_tree words) (drop i items)) ≡ all → (e : OrMemory ElabFault) →

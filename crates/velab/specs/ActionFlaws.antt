@@ -7,11 +7,11 @@ use Rattle.vdesign.specs.Design.{Variable}
 use Rattle.vdesign.specs.declared.action.Action.{Action}
 use Rattle.vdesign.specs.declared.print.Piece.{Piece}
 use Rattle.vdesign.specs.declared.print.Piece.TheVariants.{Text, Value}
-use Rattle.vdesign.specs.declared.action.Action.TheVariants.{Assign, Nonblocking, Held, Posted, Trigger, Test, Case, Again, Repeat, Forever, Delay, On, Until, Drive, Print, DumpVars, Dump, Pass, Finish, Stop}
+use Rattle.vdesign.specs.declared.action.Action.TheVariants.{Assign, Nonblocking, AssignDelayed, NonblockingDelayed, Trigger, Test, Case, While, Repeat, Forever, Delay, EventControl, Wait, ContinuousAssign, Print, DumpVars, Dump, NoOperation, Finish, Stop}
 use Rattle.vdesign.specs.declared.action.Branch.{Branch}
 use Rattle.vdesign.specs.declared.action.Target.{Target}
 use Rattle.vdesign.specs.Expressions.{ExpressionTree}
-use Rattle.vvalue.specs.Value.{Moment}
+use Rattle.vvalue.specs.Value.{Environment}
 use Rattle.vvalue.specs.Flaws.{flaw_of, targets_flaw}
 use Rattle.vvalue.specs.declared.flaw.Flaw.{Flaw}
 use Rattle.velab.specs.Rules.{rule_of}
@@ -22,44 +22,44 @@ use Rattle.velab.specs.declared.fault.ElabFault.{ElabFault}
 abbrev pub blank : Variable → Vector
 blank v = filled v.length X
 
-abbrev pub blank_moment : List Variable → Moment
-blank_moment variables = record { values = map blank variables; variables = variables; time = 0; factor = 1 }
+abbrev pub blank_environment : List Variable → Environment
+blank_environment variables = record { values = map blank variables; variables = variables; time = 0; factor = 1 }
 
 -- the first that is wrong
 abbrev pub first_flaw : {A : Type 0} → (A → Option Flaw) → List A → Option Flaw
 first_flaw flaw [] = None
 first_flaw flaw (one ∷ more) = option_or (flaw one) (first_flaw flaw more)
 
-abbrev pub branch_flaw : Moment → Branch → Option Flaw
+abbrev pub branch_flaw : Environment → Branch → Option Flaw
 branch_flaw now branch = flaw_of now branch.item
 
-abbrev pub piece_flaw : Moment → Piece → Option Flaw
+abbrev pub piece_flaw : Environment → Piece → Option Flaw
 piece_flaw now (Text bytes) = None
 piece_flaw now (Value form watched value) = flaw_of now value
 
 -- of an assignment: its targets, or else its value
-abbrev pub assignment_flaw : Moment → List Target → ExpressionTree → Option Flaw
+abbrev pub assignment_flaw : Environment → List Target → ExpressionTree → Option Flaw
 assignment_flaw now targets value = option_or (targets_flaw now targets) (flaw_of now value)
 
-abbrev pub action_flaw : Moment → Action → Option Flaw
+abbrev pub action_flaw : Environment → Action → Option Flaw
 action_flaw now (Assign targets value) = assignment_flaw now targets value
 action_flaw now (Nonblocking targets value) = assignment_flaw now targets value
-action_flaw now (Held amount targets value) = option_or (flaw_of now amount) (assignment_flaw now targets value)
-action_flaw now (Posted amount targets value) = option_or (flaw_of now amount) (assignment_flaw now targets value)
+action_flaw now (AssignDelayed amount targets value) = option_or (flaw_of now amount) (assignment_flaw now targets value)
+action_flaw now (NonblockingDelayed amount targets value) = option_or (flaw_of now amount) (assignment_flaw now targets value)
 action_flaw now (Trigger event) = None
 action_flaw now (Test condition when_true otherwise) = flaw_of now condition
 action_flaw now (Case kind value branches otherwise) = option_or (flaw_of now value) (first_flaw (branch_flaw now) branches)
-action_flaw now (Again condition body) = flaw_of now condition
+action_flaw now (While condition body) = flaw_of now condition
 action_flaw now (Repeat count body) = flaw_of now count
 action_flaw now (Forever body) = None
 action_flaw now (Delay amount body) = flaw_of now amount
-action_flaw now (On terms body) = None
-action_flaw now (Until condition terms body) = flaw_of now condition
-action_flaw now (Drive net value terms) = flaw_of now value
+action_flaw now (EventControl terms body) = None
+action_flaw now (Wait condition terms body) = flaw_of now condition
+action_flaw now (ContinuousAssign net value terms) = flaw_of now value
 action_flaw now (Print when pieces) = first_flaw (piece_flaw now) pieces
 action_flaw now (DumpVars selection) = None
 action_flaw now (Dump switch) = None
-action_flaw now Pass = None
+action_flaw now NoOperation = None
 action_flaw now Finish = None
 action_flaw now Stop = None
 
@@ -73,5 +73,5 @@ table_fault rule (action ∷ more) words =
     (table_fault rule more (drop 1 words))
 
 -- whether an expression of it is wrong
-abbrev pub flaw_rule : Moment → Action → Option Rule
+abbrev pub flaw_rule : Environment → Action → Option Rule
 flaw_rule now action = option_map rule_of (action_flaw now action)

@@ -5,14 +5,14 @@ use Rattle.vbits.specs.Numbers as numbers
 use Rattle.vbits.specs.Vectors.{Vector, sign_letter}
 use Rattle.vdesign.specs.Expressions.{ExpressionTree}
 use Rattle.vdesign.specs.declared.expression.Bounds.{Bounds}
-use Rattle.vvalue.specs.Value.{Moment, by_itself}
+use Rattle.vvalue.specs.Value.{Environment, by_itself}
 use Rattle.vvalue.specs.Flaws.{flaw_of}
 use Rattle.vast.specs.NumberedWords.{Word}
 use Rattle.velab.specs.Answers.{unflawed}
 use Rattle.velab.specs.declared.fault.ElabFault.{ElabFault}
 
 -- there are no variables
-abbrev pub nothing : Moment
+abbrev pub nothing : Environment
 nothing = record { values = []; variables = []; time = 0; factor = 1 }
 
 -- what a constant expression is worth

@@ -13,19 +13,19 @@ use Rattle.vast.specs.NumberedStatements.{TargetTree, DelayTree, by_number, by_n
 use Rattle.vast.specs.NumberedStatements as written
 use Rattle.vbits.specs.Vectors.{Vector, with_sign}
 use Rattle.vmodules.specs.Ports.{Port, ports_of}
-use Rattle.vmodules.specs.Connected.{Tied, value_for}
+use Rattle.vmodules.specs.Connected.{NamedConnection, value_for}
 use Rattle.vmodules.specs.Names.{is_declared, letters_of}
 use Rattle.vast.specs.NumberedModules.{RangeTree, ParameterType, integer, typed, HeadParameter, DeclarationKind, variables, integers, SettingTree, DeclaredTree, ItemTree, parameters, declaration, events, assignments, initial, always, instances, ModuleTree, SourceTree}
 use Rattle.vast.specs.declared.module.NetKind.{NetKind}
 use Rattle.vast.specs.declared.module.NetKind.TheVariants as net
 use Rattle.vdesign.specs.Design as design
 use Rattle.vdesign.specs.declared.action.Action.{Action}
-use Rattle.vdesign.specs.declared.action.Action.TheVariants.{Assign, Nonblocking, Held, Posted, Trigger, Test, Case, Again, Repeat, Forever, Delay, On, Until, Drive, Print, DumpVars, Dump, Pass, Finish, Stop}
+use Rattle.vdesign.specs.declared.action.Action.TheVariants.{Assign, Nonblocking, AssignDelayed, NonblockingDelayed, Trigger, Test, Case, While, Repeat, Forever, Delay, EventControl, Wait, ContinuousAssign, Print, DumpVars, Dump, NoOperation, Finish, Stop}
 use Rattle.vdesign.specs.declared.action.Branch.{Branch}
 use Rattle.vdesign.specs.declared.dump.DumpSwitch.TheVariants as switches
 use Rattle.vast.specs.declared.statement.Dumping.{Dumping}
 use Rattle.vast.specs.declared.statement.Dumping.TheVariants as dumps
-use Rattle.velab.specs.Selections.{selected, broken_selection}
+use Rattle.velab.specs.Selections.{selection_of, broken_selection}
 use Rattle.vdesign.specs.declared.action.Target.{Target}
 use Rattle.basis.specs.declared.timescale.Timescale.{Timescale}
 use Rattle.vdesign.specs.declared.design.Kind.{Kind}
@@ -142,29 +142,29 @@ length_of Integer None = 32
 length_of Wire None = 1
 
 -- where variables stand: the path of their instance or the top's name, and the names of the nets in it that something drives
-pub record Home : Type 0 where
+pub record ScopeDrivers : Type 0 where
   pub name : Text
   pub driven : List Text
 
 -- what each bit is until it is first written: z of a net that nothing drives, and else x (4.2.2, 4.6.1)
-abbrev pub start_by : Home → Kind → Text → Bit4
-start_by home Reg text = X
-start_by home Integer text = X
-start_by home Wire text = if is_declared home.driven text then X else Z
+abbrev pub start_by : ScopeDrivers → Kind → Text → Bit4
+start_by drivers Reg text = X
+start_by drivers Integer text = X
+start_by drivers Wire text = if is_declared drivers.driven text then X else Z
 
 -- its name stands behind its instance's and a dot
-abbrev pub variable_by : Home → Kind → Bool → Option Bounds → Text → design.Variable
-variable_by home kind signed bounds text = record {
-  name = home.name ++ 46 ∷ text;
+abbrev pub variable_by : ScopeDrivers → Kind → Bool → Option Bounds → Text → design.Variable
+variable_by drivers kind signed bounds text = record {
+  name = drivers.name ++ 46 ∷ text;
   kind = kind;
   length = length_of kind bounds;
   signed = signed;
-  start = start_by home kind text;
+  start = start_by drivers kind text;
   bounds = bounds;
 }
 
-abbrev pub variable_of : Home → Scope → Declaration → design.Variable
-variable_of home scope d = variable_by home d.kind d.signed (option_map (bounds_of scope) d.range) d.name.letters
+abbrev pub variable_of : ScopeDrivers → Scope → Declaration → design.Variable
+variable_of drivers scope d = variable_by drivers d.kind d.signed (option_map (bounds_of scope) d.range) d.name.letters
 
 -- a net that is declared with a value is driven by it (6.1.1)
 abbrev pub driver_of : DeclaredTree → Option Word
@@ -201,44 +201,44 @@ nets_of ports items = net_names (map port_declaration ports ++ flat_map declarat
 -- ---- parameters (4.10, 12.2), named events (9.7.3) and instances (12.1.2)
 
 -- a parameter as it is written, with its type where one is; a named event; an instance
-pub data Given : Type 0 where
-  given : Option ParameterType → SettingTree → Given
-  event_given : Word → Given
-  instance_given : Word → Given
+pub data Symbol : Type 0 where
+  parameter_symbol : Option ParameterType → SettingTree → Symbol
+  event_symbol : Word → Symbol
+  instance_symbol : Word → Symbol
 
 -- what is said of the parameters of an instance from outside, by their names, and what names mean there (12.2.2)
-pub record Outside : Type 0 where
+pub record Overrides : Type 0 where
   pub scope : Scope
-  pub values : List Tied
+  pub values : List NamedConnection
 
 -- in the head of a module one without a type has that of the one before it
-abbrev pub given_behind : Option ParameterType → List HeadParameter → List Given
-given_behind type [] = []
-given_behind type (head ∷ more) = given (option_or head.kind type) head.setting ∷ given_behind (option_or head.kind type) more
+abbrev pub symbols_behind : Option ParameterType → List HeadParameter → List Symbol
+symbols_behind type [] = []
+symbols_behind type (head ∷ more) = parameter_symbol (option_or head.kind type) head.setting ∷ symbols_behind (option_or head.kind type) more
 
-abbrev pub given_in_head : Option (List HeadParameter) → List Given
-given_in_head None = []
-given_in_head (Some list) = given_behind None list
+abbrev pub symbols_in_head : Option (List HeadParameter) → List Symbol
+symbols_in_head None = []
+symbols_in_head (Some list) = symbols_behind None list
 
 -- the parameters that an item declares
-abbrev pub given_by : ItemTree → List Given
-given_by (parameters local type settings) = map (given (Some type)) settings
-given_by (declaration kind list) = []
-given_by (events names) = []
-given_by (assignments settings) = []
-given_by (initial statement) = []
-given_by (always statement) = []
-given_by (instances letters overrides list) = []
+abbrev pub symbols_by : ItemTree → List Symbol
+symbols_by (parameters local type settings) = map (parameter_symbol (Some type)) settings
+symbols_by (declaration kind list) = []
+symbols_by (events names) = []
+symbols_by (assignments settings) = []
+symbols_by (initial statement) = []
+symbols_by (always statement) = []
+symbols_by (instances letters overrides list) = []
 
 -- its named events and its instances, which have no value
-abbrev pub valueless_by : ItemTree → List Given
+abbrev pub valueless_by : ItemTree → List Symbol
 valueless_by (parameters local type settings) = []
 valueless_by (declaration kind list) = []
-valueless_by (events names) = map event_given names
+valueless_by (events names) = map event_symbol names
 valueless_by (assignments settings) = []
 valueless_by (initial statement) = []
 valueless_by (always statement) = []
-valueless_by (instances letters overrides list) = map (λ one. instance_given one.name) list
+valueless_by (instances letters overrides list) = map (λ one. instance_symbol one.name) list
 
 -- 4.10.1: without a range it has the size of its value, and the value's sign unless it is declared to be signed
 abbrev pub typed_value : Bool → Option Bounds → ExpressionTree → Vector
@@ -266,70 +266,70 @@ parameter_of scope type value =
     let bounds = parameter_bounds scope type in Parameter (parameter_by type bounds value) bounds scope.known
 
 -- 12.2.2: a value from outside stands in the place of the one that a parameter is set to, which is a constant all the same
-abbrev pub valued : Scope → Scope → text.ExpressionTree → Option text.ExpressionTree → ExpressionTree
-valued outer scope value None = resolved_constant scope value
-valued outer scope value (Some other) = resolved_constant outer other
+abbrev pub parameter_value : Scope → Scope → text.ExpressionTree → Option text.ExpressionTree → ExpressionTree
+parameter_value outer scope value None = resolved_constant scope value
+parameter_value outer scope value (Some other) = resolved_constant outer other
 
-abbrev pub broken_valued : Scope → Scope → text.ExpressionTree → Option text.ExpressionTree → Option ElabFault
-broken_valued outer scope value None = broken_constant scope value
-broken_valued outer scope value (Some other) = option_or (broken_constant scope value) (broken_constant outer other)
+abbrev pub broken_parameter_value : Scope → Scope → text.ExpressionTree → Option text.ExpressionTree → Option ElabFault
+broken_parameter_value outer scope value None = broken_constant scope value
+broken_parameter_value outer scope value (Some other) = option_or (broken_constant scope value) (broken_constant outer other)
 
-abbrev pub value_of : Outside → Scope → SettingTree → ExpressionTree
-value_of outside scope setting = valued outside.scope scope setting.value (value_for outside.values setting.name.letters)
+abbrev pub value_of : Overrides → Scope → SettingTree → ExpressionTree
+value_of overrides scope setting = parameter_value overrides.scope scope setting.value (value_for overrides.values setting.name.letters)
 
-abbrev pub broken_value : Outside → Scope → SettingTree → Option ElabFault
-broken_value outside scope setting = broken_valued outside.scope scope setting.value (value_for outside.values setting.name.letters)
+abbrev pub broken_value : Overrides → Scope → SettingTree → Option ElabFault
+broken_value overrides scope setting = broken_parameter_value overrides.scope scope setting.value (value_for overrides.values setting.name.letters)
 
 -- events are numbered through the whole design
-abbrev pub meaning_in : Outside → Scope → Given → Meaning
-meaning_in outside scope (given type setting) = parameter_of scope type (value_of outside scope setting)
-meaning_in outside scope (event_given name) = Event scope.events
-meaning_in outside scope (instance_given name) = Instance
+abbrev pub meaning_in : Overrides → Scope → Symbol → Meaning
+meaning_in overrides scope (parameter_symbol type setting) = parameter_of scope type (value_of overrides scope setting)
+meaning_in overrides scope (event_symbol name) = Event scope.events
+meaning_in overrides scope (instance_symbol name) = Instance
 
-abbrev pub name_in : Given → Word
-name_in (given type setting) = setting.name
-name_in (event_given name) = name
-name_in (instance_given name) = name
+abbrev pub name_in : Symbol → Word
+name_in (parameter_symbol type setting) = setting.name
+name_in (event_symbol name) = name
+name_in (instance_symbol name) = name
 
-abbrev pub events_in : Given → ℕ
-events_in (given type setting) = 0
-events_in (event_given name) = 1
-events_in (instance_given name) = 0
+abbrev pub events_in : Symbol → ℕ
+events_in (parameter_symbol type setting) = 0
+events_in (event_symbol name) = 1
+events_in (instance_symbol name) = 0
 
 -- a parameter is known from its place on, to what stands behind it
-abbrev pub with_given : Outside → Scope → Given → Scope
-with_given outside scope one = record {
+abbrev pub with_symbol : Overrides → Scope → Symbol → Scope
+with_symbol overrides scope one = record {
   top = scope.top;
   names = scope.names ++ (name_in one).letters ∷ [];
   first = scope.first;
   variables = scope.variables;
   events = scope.events + events_in one;
-  others = scope.others ++ meaning_in outside scope one ∷ [];
+  others = scope.others ++ meaning_in overrides scope one ∷ [];
   known = scope.known + 1;
 }
 
-abbrev pub with_all : Outside → Scope → List Given → Scope
-with_all outside scope [] = scope
-with_all outside scope (one ∷ more) = with_all outside (with_given outside scope one) more
+abbrev pub with_all : Overrides → Scope → List Symbol → Scope
+with_all overrides scope [] = scope
+with_all overrides scope (one ∷ more) = with_all overrides (with_symbol overrides scope one) more
 
 -- the range of a parameter is right, and its value constant where it stands; a design has fewer than 2^32 named events (own)
-abbrev pub broken_setting : Outside → Scope → Given → Option ElabFault
-broken_setting outside scope (given type setting) = option_or (broken_type scope type) (broken_value outside scope setting)
-broken_setting outside scope (event_given name) = unless (nat_lt scope.events 4294967295) rule.TooMany (Some name)
-broken_setting outside scope (instance_given name) = None
+abbrev pub broken_setting : Overrides → Scope → Symbol → Option ElabFault
+broken_setting overrides scope (parameter_symbol type setting) = option_or (broken_type scope type) (broken_value overrides scope setting)
+broken_setting overrides scope (event_symbol name) = unless (nat_lt scope.events 4294967295) rule.TooMany (Some name)
+broken_setting overrides scope (instance_symbol name) = None
 
 -- and its name is new
-abbrev pub broken_given : Outside → Scope → Given → Option ElabFault
-broken_given outside scope one =
-    option_or (broken_setting outside scope one) (broken_if (is_declared scope.names (name_in one).letters) rule.Doubled (Some (name_in one)))
+abbrev pub broken_symbol : Overrides → Scope → Symbol → Option ElabFault
+broken_symbol overrides scope one =
+    option_or (broken_setting overrides scope one) (broken_if (is_declared scope.names (name_in one).letters) rule.Doubled (Some (name_in one)))
 
-abbrev pub broken_all : Outside → Scope → List Given → Option ElabFault
-broken_all outside scope [] = None
-broken_all outside scope (one ∷ more) = option_or (broken_given outside scope one) (broken_all outside (with_given outside scope one) more)
+abbrev pub broken_all : Overrides → Scope → List Symbol → Option ElabFault
+broken_all overrides scope [] = None
+broken_all overrides scope (one ∷ more) = option_or (broken_symbol overrides scope one) (broken_all overrides (with_symbol overrides scope one) more)
 
 -- what is known behind an item: what it gives too
 abbrev pub behind_item : Scope → ItemTree → Scope
-behind_item scope item = at scope (scope.known + length (given_by item))
+behind_item scope item = at scope (scope.known + length (symbols_by item))
 
 -- what an instance is told: the top's name, the numbers of its first variable and of its first named event, and what is said from
 -- outside
@@ -337,7 +337,7 @@ pub record Base : Type 0 where
   pub top : Text
   pub first : ℕ
   pub events : ℕ
-  pub outside : Outside
+  pub overrides : Overrides
 
 -- the names of variables, and no others
 abbrev pub first_scope : Base → ModuleTree → Scope
@@ -353,14 +353,14 @@ first_scope base m = record {
 
 -- and those of its named events and instances, wherever they are declared
 abbrev pub valueless_scope : Base → ModuleTree → Scope
-valueless_scope base m = with_all base.outside (first_scope base m) (flat_map valueless_by m.items)
+valueless_scope base m = with_all base.overrides (first_scope base m) (flat_map valueless_by m.items)
 
 -- and the parameters of its head
 abbrev pub head_scope : Base → ModuleTree → Scope
-head_scope base m = with_all base.outside (valueless_scope base m) (given_in_head m.parameters)
+head_scope base m = with_all base.overrides (valueless_scope base m) (symbols_in_head m.parameters)
 
 abbrev pub whole_scope : Base → ModuleTree → Scope
-whole_scope base m = with_all base.outside (head_scope base m) (flat_map given_by m.items)
+whole_scope base m = with_all base.overrides (head_scope base m) (flat_map symbols_by m.items)
 
 -- what is known at the first item: all names, but as constants only the parameters of the head
 abbrev pub item_scope : Base → ModuleTree → Scope
@@ -368,10 +368,10 @@ item_scope base m = at (whole_scope base m) (head_scope base m).known
 
 -- ---- the variables of items, each in the scope of its place
 
-abbrev pub variables_from : Home → Scope → List ItemTree → List design.Variable
-variables_from home scope [] = []
-variables_from home scope (item ∷ more) =
-    map (variable_of home scope) (declarations_of item) ++ variables_from home (behind_item scope item) more
+abbrev pub variables_from : ScopeDrivers → Scope → List ItemTree → List design.Variable
+variables_from drivers scope [] = []
+variables_from drivers scope (item ∷ more) =
+    map (variable_of drivers scope) (declarations_of item) ++ variables_from drivers (behind_item scope item) more
 
 abbrev pub broken_from : Scope → List ItemTree → Option ElabFault
 broken_from scope [] = None
@@ -393,53 +393,53 @@ abbrev pub with_action : Table → Option Word → Action → Table
 with_action table word action = with_numbered table (number_in word) action
 
 -- the table of actions so far, with what a statement adds to it, and the places at which the statement begins
-pub record Laid : Type 0 where
+pub record Lowered : Type 0 where
   pub table : Table
   pub places : List ℕ
 
 -- an action goes by the next place
-abbrev pub placed : Table → Option Word → Action → Laid
-placed table word action = record { table = with_action table word action; places = length table.actions ∷ [] }
+abbrev pub lowered_action : Table → Option Word → Action → Lowered
+lowered_action table word action = record { table = with_action table word action; places = length table.actions ∷ [] }
 
-abbrev pub nothing_laid : Table → Laid
-nothing_laid table = record { table = table; places = [] }
+abbrev pub nothing_lowered : Table → Lowered
+nothing_lowered table = record { table = table; places = [] }
 
 -- an assignment of either kind (9.2), by the amount of its own delay, if it has one (9.7.7)
-abbrev pub assigning : Bool → Option ExpressionTree → List Target → ExpressionTree → Action
-assigning true None targets value = Assign targets value
-assigning true (Some amount) targets value = Held amount targets value
-assigning false None targets value = Nonblocking targets value
-assigning false (Some amount) targets value = Posted amount targets value
+abbrev pub assignment_action : Bool → Option ExpressionTree → List Target → ExpressionTree → Action
+assignment_action true None targets value = Assign targets value
+assignment_action true (Some amount) targets value = AssignDelayed amount targets value
+assignment_action false None targets value = Nonblocking targets value
+assignment_action false (Some amount) targets value = NonblockingDelayed amount targets value
 
 abbrev pub amount_of : Scope → DelayTree → ExpressionTree
 amount_of scope (by_number digits) = resolved scope (text.number digits)
 amount_of scope (by_name letters) = resolved scope (text.name letters)
 amount_of scope (by_value amount) = resolved scope amount
 
-abbrev pub laid_assignment : Bool → Scope → Table → TargetTree → Option DelayTree → text.ExpressionTree → Laid
-laid_assignment blocking scope table target amount value =
-    placed table (first_target target) (assigning blocking (option_map (amount_of scope) amount) (row_of scope target) (resolved scope value))
+abbrev pub lowered_assignment : Bool → Scope → Table → TargetTree → Option DelayTree → text.ExpressionTree → Lowered
+lowered_assignment blocking scope table target amount value =
+    lowered_action table (first_target target) (assignment_action blocking (option_map (amount_of scope) amount) (row_of scope target) (resolved scope value))
 
 -- 18.1.3, 18.1.4, 18.1.6: `$dumpflush` does nothing more
-abbrev pub dumping_by : Dumping → Action
-dumping_by dumps.On = Dump switches.On
-dumping_by dumps.Off = Dump switches.Off
-dumping_by dumps.All = Dump switches.All
-dumping_by dumps.Flush = Pass
+abbrev pub dump_action : Dumping → Action
+dump_action dumps.On = Dump switches.On
+dump_action dumps.Off = Dump switches.Off
+dump_action dumps.All = Dump switches.All
+dump_action dumps.Flush = NoOperation
 
 -- 17.4
-abbrev pub ending : Bool → Action
-ending stops = if stops then Stop else Finish
+abbrev pub end_action : Bool → Action
+end_action stops = if stops then Stop else Finish
 
-abbrev pub laid_task : Scope → Table → TaskTree → Laid
-laid_task scope table (print kind arguments) = placed table (first_argument arguments) (Print (when_of kind) (pieces_in scope arguments))  -- 17.1
-laid_task scope table (dump_file letters) = placed table None Pass  -- 18.1.1
-laid_task scope table (dump_vars selection) = placed table (option_map (λ s. s.levels) selection) (DumpVars (selected scope selection))  -- 18.1.2
-laid_task scope table (dump kind) = placed table None (dumping_by kind)
-laid_task scope table (end_run stops digits) = placed table None (ending stops)
+abbrev pub lowered_task : Scope → Table → TaskTree → Lowered
+lowered_task scope table (print kind arguments) = lowered_action table (first_argument arguments) (Print (when_of kind) (pieces_in scope arguments))  -- 17.1
+lowered_task scope table (dump_file letters) = lowered_action table None NoOperation  -- 18.1.1
+lowered_task scope table (dump_vars selection) = lowered_action table (option_map (λ s. s.levels) selection) (DumpVars (selection_of scope selection))  -- 18.1.2
+lowered_task scope table (dump kind) = lowered_action table None (dump_action kind)
+lowered_task scope table (end_run stops digits) = lowered_action table None (end_action stops)
 
 -- the table of actions so far, with what the branches of a `case` add to it: the branches, and the places of the `default`
-pub record LaidBranches : Type 0 where
+pub record LoweredBranches : Type 0 where
   pub table : Table
   pub branches : List Branch
   pub otherwise : List ℕ
@@ -449,64 +449,64 @@ abbrev pub branches_by : Scope → List ℕ → text.ExpressionTrees → List Br
 branches_by scope places text.none = []
 branches_by scope places (text.first item more) = record { item = resolved scope item; body = places } ∷ branches_by scope places more
 
--- a statement behind what the table has: `begin`, `end` and `;` are no action, and what stands inside is laid first
+-- a statement behind what the table has: `begin`, `end` and `;` are no action, and what stands inside is lowered first
 abbrev mutual
-  pub laid : Scope → Table → StatementTree → Laid
-  laid scope table empty = nothing_laid table
-  laid scope table (block statements) = all_laid scope table statements
-  laid scope table (assign target amount value) = laid_assignment true scope table target amount value
-  laid scope table (nonblocking target amount value) = laid_assignment false scope table target amount value
-  laid scope table (trigger letters) = placed table None (Trigger (event_of scope letters))  -- 9.7.3
-  laid scope table (if_true condition body) =
-      let inner = laid scope table body in placed inner.table (first_in condition) (Test (resolved scope condition) inner.places [])
-  laid scope table (if_else condition body other) =
-      let one = laid scope table body in
-      let two = laid scope one.table other in
-      placed two.table (first_in condition) (Test (resolved scope condition) one.places two.places)
-  laid scope table (case_of kind value branches) =  -- 9.5
-      let inner = laid_branches scope table branches in
-      placed inner.table (first_in value) (Case kind (resolved scope value) inner.branches inner.otherwise)
-  laid scope table (while_true condition body) =
-      let inner = laid scope table body in placed inner.table (first_in condition) (Again (resolved scope condition) inner.places)
-  laid scope table (repeat_times count body) =
-      let inner = laid scope table body in placed inner.table (first_in count) (Repeat (resolved scope count) inner.places)
-  laid scope table (forever body) =
-      let inner = laid scope table body in placed inner.table None (Forever inner.places)
-  laid scope table (for_loop target value condition next_target next_value body) =
-      let first = laid_assignment true scope table target None value in
-      let inner = laid scope first.table body in
-      let next = laid_assignment true scope inner.table next_target None next_value in
-      let turn = placed next.table (first_in condition) (Again (resolved scope condition) (inner.places ++ next.places)) in
-      record { table = turn.table; places = first.places ++ turn.places }
-  laid scope table (wait_for condition body) =  -- 9.7.6
-      let inner = laid scope table body in
-      placed inner.table (first_in condition) (Until (resolved scope condition) (any_of scope (names_in condition)) inner.places)
-  laid scope table (delay amount body) =
-      let inner = laid scope table body in placed inner.table (first_delay amount) (Delay (amount_of scope amount) inner.places)
-  laid scope table (event control body) =  -- 9.7.2
-      let inner = laid scope table body in placed inner.table None (On (terms_of scope control body) inner.places)
-  laid scope table (task call) = laid_task scope table call
+  pub lowered : Scope → Table → StatementTree → Lowered
+  lowered scope table empty = nothing_lowered table
+  lowered scope table (block statements) = all_lowered scope table statements
+  lowered scope table (assign target amount value) = lowered_assignment true scope table target amount value
+  lowered scope table (nonblocking target amount value) = lowered_assignment false scope table target amount value
+  lowered scope table (trigger letters) = lowered_action table None (Trigger (event_of scope letters))  -- 9.7.3
+  lowered scope table (if_true condition body) =
+      let inner = lowered scope table body in lowered_action inner.table (first_in condition) (Test (resolved scope condition) inner.places [])
+  lowered scope table (if_else condition body other) =
+      let one = lowered scope table body in
+      let two = lowered scope one.table other in
+      lowered_action two.table (first_in condition) (Test (resolved scope condition) one.places two.places)
+  lowered scope table (case_of kind value branches) =  -- 9.5
+      let inner = lowered_branches scope table branches in
+      lowered_action inner.table (first_in value) (Case kind (resolved scope value) inner.branches inner.otherwise)
+  lowered scope table (while_true condition body) =
+      let inner = lowered scope table body in lowered_action inner.table (first_in condition) (While (resolved scope condition) inner.places)
+  lowered scope table (repeat_times count body) =
+      let inner = lowered scope table body in lowered_action inner.table (first_in count) (Repeat (resolved scope count) inner.places)
+  lowered scope table (forever body) =
+      let inner = lowered scope table body in lowered_action inner.table None (Forever inner.places)
+  lowered scope table (for_loop target value condition next_target next_value body) =
+      let first = lowered_assignment true scope table target None value in
+      let inner = lowered scope first.table body in
+      let next = lowered_assignment true scope inner.table next_target None next_value in
+      let loop = lowered_action next.table (first_in condition) (While (resolved scope condition) (inner.places ++ next.places)) in
+      record { table = loop.table; places = first.places ++ loop.places }
+  lowered scope table (wait_for condition body) =  -- 9.7.6
+      let inner = lowered scope table body in
+      lowered_action inner.table (first_in condition) (Wait (resolved scope condition) (any_of scope (names_in condition)) inner.places)
+  lowered scope table (delay amount body) =
+      let inner = lowered scope table body in lowered_action inner.table (first_delay amount) (Delay (amount_of scope amount) inner.places)
+  lowered scope table (event control body) =  -- 9.7.2
+      let inner = lowered scope table body in lowered_action inner.table None (EventControl (terms_of scope control body) inner.places)
+  lowered scope table (task call) = lowered_task scope table call
 
-  pub all_laid : Scope → Table → StatementTrees → Laid
-  all_laid scope table no_statement = nothing_laid table
-  all_laid scope table (first_statement statement rest) =
-      let front = laid scope table statement in
-      let behind = all_laid scope front.table rest in
+  pub all_lowered : Scope → Table → StatementTrees → Lowered
+  all_lowered scope table no_statement = nothing_lowered table
+  all_lowered scope table (first_statement statement rest) =
+      let front = lowered scope table statement in
+      let behind = all_lowered scope front.table rest in
       record { table = behind.table; places = front.places ++ behind.places }
 
-  pub laid_branch : Scope → Table → BranchTree → LaidBranches
-  laid_branch scope table (labelled items body) =
-      let inner = laid scope table body in
+  pub lowered_branch : Scope → Table → BranchTree → LoweredBranches
+  lowered_branch scope table (labelled items body) =
+      let inner = lowered scope table body in
       record { table = inner.table; branches = branches_by scope inner.places items; otherwise = [] }
-  laid_branch scope table (default colon body) =
-      let inner = laid scope table body in record { table = inner.table; branches = []; otherwise = inner.places }
+  lowered_branch scope table (default colon body) =
+      let inner = lowered scope table body in record { table = inner.table; branches = []; otherwise = inner.places }
 
   -- the `default` may stand anywhere among them; a case has one at most
-  pub laid_branches : Scope → Table → BranchTrees → LaidBranches
-  laid_branches scope table no_branch = record { table = table; branches = []; otherwise = [] }
-  laid_branches scope table (first_branch branch rest) =
-      let front = laid_branch scope table branch in
-      let behind = laid_branches scope front.table rest in
+  pub lowered_branches : Scope → Table → BranchTrees → LoweredBranches
+  lowered_branches scope table no_branch = record { table = table; branches = []; otherwise = [] }
+  lowered_branches scope table (first_branch branch rest) =
+      let front = lowered_branch scope table branch in
+      let behind = lowered_branches scope front.table rest in
       record {
         table = behind.table;
         branches = front.branches ++ behind.branches;
@@ -515,27 +515,27 @@ abbrev mutual
 
 -- what a process does: a statement, or it drives the net of this name (6.1)
 pub data ProcessTree : Type 0 where
-  does : StatementTree → ProcessTree
-  drives : Word → text.ExpressionTree → ProcessTree
+  procedural : StatementTree → ProcessTree
+  continuous : Word → text.ExpressionTree → ProcessTree
 
 -- 6.1: it writes, and it writes again at any change of a name that is read
-abbrev pub driving : Scope → Word → text.ExpressionTree → Action
-driving scope letters value = Drive (number_of scope letters) (resolved scope value) (any_of scope (names_in value))
+abbrev pub drive_action : Scope → Word → text.ExpressionTree → Action
+drive_action scope letters value = ContinuousAssign (number_of scope letters) (resolved scope value) (any_of scope (names_in value))
 
-abbrev pub laid_process : Scope → Table → ProcessTree → Laid
-laid_process scope table (does statement) = laid scope table statement
-laid_process scope table (drives letters value) = placed table (Some letters) (driving scope letters value)
+abbrev pub lowered_process : Scope → Table → ProcessTree → Lowered
+lowered_process scope table (procedural statement) = lowered scope table statement
+lowered_process scope table (continuous letters value) = lowered_action table (Some letters) (drive_action scope letters value)
 
 -- the table of several processes, and where each of them begins
 pub record Processes : Type 0 where
   pub table : Table
   pub begins : List (List ℕ)
 
-abbrev pub laid_processes : Scope → Table → List ProcessTree → Processes
-laid_processes scope table [] = record { table = table; begins = [] }
-laid_processes scope table (process ∷ rest) =
-    let front = laid_process scope table process in
-    let behind = laid_processes scope front.table rest in
+abbrev pub lowered_processes : Scope → Table → List ProcessTree → Processes
+lowered_processes scope table [] = record { table = table; begins = [] }
+lowered_processes scope table (process ∷ rest) =
+    let front = lowered_process scope table process in
+    let behind = lowered_processes scope front.table rest in
     record { table = behind.table; begins = front.places ∷ behind.begins }
 
 abbrev pub broken_amount : Scope → DelayTree → Option ElabFault
@@ -603,8 +603,8 @@ abbrev pub broken_drive : Scope → Word → text.ExpressionTree → Option Elab
 broken_drive scope letters value = option_or (broken_variable scope letters) (broken_expression scope value)
 
 abbrev pub broken_process : Scope → ProcessTree → Option ElabFault
-broken_process scope (does statement) = broken_in scope statement
-broken_process scope (drives letters value) = broken_drive scope letters value
+broken_process scope (procedural statement) = broken_in scope statement
+broken_process scope (continuous letters value) = broken_drive scope letters value
 
 abbrev pub broken_processes : Scope → List ProcessTree → Option ElabFault
 broken_processes scope [] = None
@@ -612,8 +612,8 @@ broken_processes scope (process ∷ rest) = option_or (broken_process scope proc
 
 -- `reg a = e` is an `initial a = e` at its place (6.2.1), and `wire a = e` drives a (6.1.1)
 abbrev pub process_by : NetKind → Word → text.ExpressionTree → ProcessTree
-process_by net.Wire letters value = drives letters value
-process_by net.Reg letters value = does (assign (written.whole letters) None value)
+process_by net.Wire letters value = continuous letters value
+process_by net.Reg letters value = procedural (assign (written.whole letters) None value)
 
 abbrev pub process_of : NetKind → DeclaredTree → Option ProcessTree
 process_of word declared = option_map (process_by word declared.name) declared.value
@@ -624,7 +624,7 @@ starts_of integers list = filter_map (process_of net.Reg) list
 
 -- 6.1.2
 abbrev pub driven_by : SettingTree → ProcessTree
-driven_by setting = drives setting.name setting.value
+driven_by setting = continuous setting.name setting.value
 
 -- the processes that an item makes
 abbrev pub process_trees_by : ItemTree → List ProcessTree
@@ -632,16 +632,16 @@ process_trees_by (parameters local type settings) = []
 process_trees_by (declaration kind list) = starts_of kind list
 process_trees_by (events names) = []
 process_trees_by (assignments settings) = map driven_by settings
-process_trees_by (initial statement) = does statement ∷ []
-process_trees_by (always statement) = does (forever statement) ∷ []  -- 9.9.2
+process_trees_by (initial statement) = procedural statement ∷ []
+process_trees_by (always statement) = procedural (forever statement) ∷ []  -- 9.9.2
 process_trees_by (instances letters overrides list) = []
 
 -- the processes of items, each in the scope of its place
-abbrev pub laid_items : Scope → Table → List ItemTree → Processes
-laid_items scope table [] = record { table = table; begins = [] }
-laid_items scope table (item ∷ more) =
-    let front = laid_processes scope table (process_trees_by item) in
-    let behind = laid_items (behind_item scope item) front.table more in
+abbrev pub lowered_items : Scope → Table → List ItemTree → Processes
+lowered_items scope table [] = record { table = table; begins = [] }
+lowered_items scope table (item ∷ more) =
+    let front = lowered_processes scope table (process_trees_by item) in
+    let behind = lowered_items (behind_item scope item) front.table more in
     record { table = behind.table; begins = front.begins ++ behind.begins }
 
 abbrev pub broken_items_from : Scope → List ItemTree → Option ElabFault
@@ -652,8 +652,8 @@ broken_items_from scope (item ∷ more) =
 -- ---- port connections (12.3.9.2)
 
 -- an input is driven by what stands outside
-abbrev pub driven_in : Scope → Scope → Word → text.ExpressionTree → Action
-driven_in outer inner port value = Drive (number_of inner port) (resolved outer value) (any_of outer (names_in value))
+abbrev pub input_action : Scope → Scope → Word → text.ExpressionTree → Action
+input_action outer inner port value = ContinuousAssign (number_of inner port) (resolved outer value) (any_of outer (names_in value))
 
 -- the name that an expression is, alone
 abbrev pub only_name : text.ExpressionTree → Option Word
@@ -671,15 +671,15 @@ only_name (text.combine operator left right) = None
 only_name (text.conditional condition when_true when_false) = None
 
 -- an output drives a whole net outside
-abbrev pub driven_out : Scope → Scope → Word → Option Word → Action
-driven_out outer inner port None = Pass
-driven_out outer inner port (Some net) =
-    Drive (number_of outer net) (resolved inner (text.name port)) (any_of inner (port ∷ []))
+abbrev pub output_action : Scope → Scope → Word → Option Word → Action
+output_action outer inner port None = NoOperation
+output_action outer inner port (Some net) =
+    ContinuousAssign (number_of outer net) (resolved inner (text.name port)) (any_of inner (port ∷ []))
 
-abbrev pub joining : Scope → Scope → Port → text.ExpressionTree → Action
-joining outer inner p value =
-    if p.output then driven_out outer inner p.name (only_name value)
-    else driven_in outer inner p.name value
+abbrev pub join_action : Scope → Scope → Port → text.ExpressionTree → Action
+join_action outer inner p value =
+    if p.output then output_action outer inner p.name (only_name value)
+    else input_action outer inner p.name value
 
 -- a process of one action
 abbrev pub one_process : Table → Option Word → Action → Processes
@@ -687,15 +687,15 @@ one_process table word action =
     record { table = with_action table word action; begins = (length table.actions ∷ []) ∷ [] }
 
 -- a port that nothing is connected to makes no process; the others are told by the name of the instance
-abbrev pub laid_join : Word → Scope → Scope → Table → Port → Option text.ExpressionTree → Processes
-laid_join whose outer inner table p None = record { table = table; begins = [] }
-laid_join whose outer inner table p (Some value) = one_process table (Some whose) (joining outer inner p value)
+abbrev pub lowered_join : Word → Scope → Scope → Table → Port → Option text.ExpressionTree → Processes
+lowered_join whose outer inner table p None = record { table = table; begins = [] }
+lowered_join whose outer inner table p (Some value) = one_process table (Some whose) (join_action outer inner p value)
 
-abbrev pub laid_joins : Word → Scope → Scope → List Tied → Table → List Port → Processes
-laid_joins whose outer inner ties table [] = record { table = table; begins = [] }
-laid_joins whose outer inner ties table (p ∷ more) =
-    let front = laid_join whose outer inner table p (value_for ties p.name.letters) in
-    let behind = laid_joins whose outer inner ties front.table more in
+abbrev pub lowered_joins : Word → Scope → Scope → List NamedConnection → Table → List Port → Processes
+lowered_joins whose outer inner connections table [] = record { table = table; begins = [] }
+lowered_joins whose outer inner connections table (p ∷ more) =
+    let front = lowered_join whose outer inner table p (value_for connections p.name.letters) in
+    let behind = lowered_joins whose outer inner connections front.table more in
     record { table = behind.table; begins = front.begins ++ behind.begins }
 
 -- a port is a variable of its instance, and what an output is connected to is a name alone
@@ -711,7 +711,7 @@ broken_join whose outer inner p None = None
 broken_join whose outer inner p (Some value) =
     if p.output then broken_output whose outer inner p.name (only_name value) else broken_input outer inner p.name value
 
-abbrev pub broken_joins : Word → Scope → Scope → List Tied → List Port → Option ElabFault
-broken_joins whose outer inner ties [] = None
-broken_joins whose outer inner ties (p ∷ more) =
-    option_or (broken_join whose outer inner p (value_for ties p.name.letters)) (broken_joins whose outer inner ties more)
+abbrev pub broken_joins : Word → Scope → Scope → List NamedConnection → List Port → Option ElabFault
+broken_joins whose outer inner connections [] = None
+broken_joins whose outer inner connections (p ∷ more) =
+    option_or (broken_join whose outer inner p (value_for connections p.name.letters)) (broken_joins whose outer inner connections more)

@@ -10,12 +10,12 @@ use Rattle.vast.specs.Words.{Text}
 use Rattle.vast.specs.NumberedWords.{Word, numbered}
 use Rattle.vast.specs.declared.statement.Path.{Path}
 use Rattle.vdesign.specs.declared.dump.Chosen.{Chosen}
-use Rattle.velab.specs.Selections.{chosen, dotted}
+use Rattle.velab.specs.Selections.{chosen_of, dotted_path}
 use Rattle.vast.specs.NumberedTrees.{path_tree, statement_tree, statement_trees, branch_tree, branch_trees}
 use Rattle.vast.specs.NumberedModules.{ParameterType, ItemTree, declaration, variables, integers}
 use Rattle.vmodules.specs.Names.{is_declared, again_behind}
 use Rattle.vmodules.specs.Connected.{value_for}
-use Rattle.vmodules.specs.Inner.{Tie, ties_tree, port_form}
+use Rattle.vmodules.specs.Inner.{ConnectionEntry, entries_tree, port_form}
 use Rattle.vmodules.specs.declared.ports.PortForm.{PortForm}
 use Rattle.vast.specs.declared.module.Instance.{Instance}
 use Rattle.vast.specs.NumberedTrees.{instance_tree, range_tree, parameter_type, head_parameter, type_tree, declaration_kind, declared_tree, setting_tree, item_tree}
@@ -40,7 +40,7 @@ use Rattle.velab.specs.Literals.{digit_letters}
 use Rattle.velab.specs.declared.variable.Form.{Form}
 use Rattle.velab.specs.declared.driven.Driver.{Driver}
 use Rattle.format_text.specs.Pieces.{Argument, Printed, pieces_with}
-use Rattle.velab.specs.Elaborate.{Table, Laid, Processes, Outside, instance_given, port_declaration, net_names, laid_join, laid_joins, broken_join, broken_joins, declarations_of, laid, all_laid, laid_processes, laid_items, bounds_of, span, variable_by, variable_of, LaidBranches, laid_branch, laid_branches, process_trees_by, ProcessTree, process_of, driven_by, broken_processes, Home, driver_of, drivers_by, Given, given, event_given, given_by, valueless_by, given_in_head}
+use Rattle.velab.specs.Elaborate.{Table, Lowered, Processes, Overrides, instance_symbol, port_declaration, net_names, lowered_join, lowered_joins, broken_join, broken_joins, declarations_of, lowered, all_lowered, lowered_processes, lowered_items, bounds_of, span, variable_by, variable_of, LoweredBranches, lowered_branch, lowered_branches, process_trees_by, ProcessTree, process_of, driven_by, broken_processes, ScopeDrivers, driver_of, drivers_by, Symbol, parameter_symbol, event_symbol, symbols_by, valueless_by, symbols_in_head}
 use Rattle.vdesign.specs.declared.action.Branch.{Branch}
 
 -- ---- parts of a module
@@ -52,19 +52,19 @@ names_of item = map (λ d. d.name) (declarations_of item)
 abbrev pub declared_in : List ItemTree → List Word
 declared_in items = map (λ d. d.name) (flat_map declarations_of items)
 
--- the table was laid on, and these places put behind others
-pub record IsLaid (what : Laid) (before : List ℕ) (table_after : Table) (places_after : List ℕ) : Type 0 where
+-- the table was extended, and these places put behind others
+pub record IsLowered (what : Lowered) (before : List ℕ) (table_after : Table) (places_after : List ℕ) : Type 0 where
   pub table : table_after ≡ what.table
   pub places : places_after ≡ before ++ what.places
 
 -- the same of the branches of a `case`, and of its `default`
-pub record AreBranches (what : LaidBranches) (before : List Branch) (default_before : List ℕ) (table_after : Table) (after : List Branch) (default_after : List ℕ) : Type 0 where
+pub record AreBranches (what : LoweredBranches) (before : List Branch) (default_before : List ℕ) (table_after : Table) (after : List Branch) (default_after : List ℕ) : Type 0 where
   pub table : table_after ≡ what.table
   pub branches : after ≡ before ++ what.branches
   pub otherwise : default_after ≡ default_before ++ what.otherwise
 
 -- the same of processes
-pub record AreLaid (what : Processes) (before : List (List ℕ)) (table_after : Table) (begins_after : List (List ℕ)) : Type 0 where
+pub record AreLowered (what : Processes) (before : List (List ℕ)) (table_after : Table) (begins_after : List (List ℕ)) : Type 0 where
   pub table : table_after ≡ what.table
   pub begins : begins_after ≡ before ++ what.begins
 
@@ -99,34 +99,34 @@ AreRight scope trees = broken_processes scope trees ≡ None
 abbrev pub type_of : List Text → Option (Bor ParameterWords) → Option ParameterType
 type_of words = option_map (λ kind. parameter_type words kind.now)
 
-abbrev pub given_of : List Text → Option (Bor ParameterWords) → Setting → Given
-given_of words kind setting = given (type_of words kind) (setting_tree words setting)
+abbrev pub symbol_of : List Text → Option (Bor ParameterWords) → Setting → Symbol
+symbol_of words kind setting = parameter_symbol (type_of words kind) (setting_tree words setting)
 
-abbrev pub given_all : List Text → ParameterWords → List Setting → List Given
-given_all words kind list = map (given (Some (parameter_type words kind))) (map (setting_tree words) list)
+abbrev pub symbols_of : List Text → ParameterWords → List Setting → List Symbol
+symbols_of words kind list = map (parameter_symbol (Some (parameter_type words kind))) (map (setting_tree words) list)
 
 -- what is said from outside, told of the program's values
-pub record FromOutside : Type 0 where
+pub record OverrideEntries : Type 0 where
   pub scope : Scope
-  pub values : List Tie
+  pub values : List ConnectionEntry
 
-abbrev pub outside_tree : List Text → FromOutside → Outside
-outside_tree words outside = record { scope = outside.scope; values = ties_tree words outside.values }
+abbrev pub overrides_tree : List Text → OverrideEntries → Overrides
+overrides_tree words overrides = record { scope = overrides.scope; values = entries_tree words overrides.values }
 
-abbrev pub instances_given : List Text → List Instance → List Given
-instances_given words list = map (λ one. instance_given one.name) (map (instance_tree words) list)
+abbrev pub instance_symbols : List Text → List Instance → List Symbol
+instance_symbols words list = map (λ one. instance_symbol one.name) (map (instance_tree words) list)
 
-abbrev pub events_given : List Text → List Token → List Given
-events_given words names = map event_given (map (numbered words) names)
+abbrev pub event_symbols : List Text → List Token → List Symbol
+event_symbols words names = map event_symbol (map (numbered words) names)
 
-abbrev pub given_in : List Text → List ModuleItem → List Given
-given_in words items = flat_map given_by (map (item_tree words) items)
+abbrev pub symbols_in : List Text → List ModuleItem → List Symbol
+symbols_in words items = flat_map symbols_by (map (item_tree words) items)
 
-abbrev pub valueless_in : List Text → List ModuleItem → List Given
+abbrev pub valueless_in : List Text → List ModuleItem → List Symbol
 valueless_in words items = flat_map valueless_by (map (item_tree words) items)
 
-abbrev pub given_at_head : {X : Type 0} → List Text → Option (Vec HeadWords X) → List Given
-given_at_head {X = X} words list = given_in_head (option_map (λ (heads : Vec HeadWords X). map (head_parameter words) heads.items) list)
+abbrev pub symbols_at_head : {X : Type 0} → List Text → Option (Vec HeadWords X) → List Symbol
+symbols_at_head {X = X} words list = symbols_in_head (option_map (λ (heads : Vec HeadWords X). map (head_parameter words) heads.items) list)
 
 -- the names that are declared together, in the words of a text
 abbrev pub texts_of : List Text → List Declared → List Word
@@ -139,21 +139,21 @@ port_texts words ports = map (λ p. p.name) (map (port_form words) ports)
 abbrev pub names_before : List Text → List PortForm → List ModuleItem → List Word
 names_before words ports items = port_texts words ports ++ declared_in (map (item_tree words) items)
 
--- a statement laid on a table, statements, and the statement of an item
-abbrev pub laid_of : List Text → Scope → Table → Statement → Laid
-laid_of words scope table statement = laid scope table (statement_tree words statement)
+-- a statement lowered onto a table, statements, and the statement of an item
+abbrev pub lowered_of : List Text → Scope → Table → Statement → Lowered
+lowered_of words scope table statement = lowered scope table (statement_tree words statement)
 
-abbrev pub all_laid_of : List Text → Scope → Table → List Statement → Laid
-all_laid_of words scope table statements = all_laid scope table (statement_trees words statements)
+abbrev pub all_lowered_of : List Text → Scope → Table → List Statement → Lowered
+all_lowered_of words scope table statements = all_lowered scope table (statement_trees words statements)
 
-abbrev pub branch_laid_of : List Text → Scope → Table → WrittenBranch → LaidBranches
-branch_laid_of words scope table branch = laid_branch scope table (branch_tree words branch)
+abbrev pub branch_lowered_of : List Text → Scope → Table → WrittenBranch → LoweredBranches
+branch_lowered_of words scope table branch = lowered_branch scope table (branch_tree words branch)
 
-abbrev pub branches_laid_of : List Text → Scope → Table → List WrittenBranch → LaidBranches
-branches_laid_of words scope table branches = laid_branches scope table (branch_trees words branches)
+abbrev pub branches_lowered_of : List Text → Scope → Table → List WrittenBranch → LoweredBranches
+branches_lowered_of words scope table branches = lowered_branches scope table (branch_trees words branches)
 
-abbrev pub laid_of_item : List Text → Scope → Table → ModuleItem → Processes
-laid_of_item words scope table item = laid_processes scope table (process_trees_by (item_tree words item))
+abbrev pub lowered_of_item : List Text → Scope → Table → ModuleItem → Processes
+lowered_of_item words scope table item = lowered_processes scope table (process_trees_by (item_tree words item))
 
 -- the processes by which names are declared with a value, and those of an `assign`
 abbrev pub starts_in : List Text → NetKind → List Declared → List ProcessTree
@@ -164,51 +164,51 @@ drives_in words list = map driven_by (map (setting_tree words) list)
 
 -- the processes of items
 abbrev pub processes_of : List Text → Scope → Table → List ModuleItem → Processes
-processes_of words scope table items = laid_items scope table (map (item_tree words) items)
+processes_of words scope table items = lowered_items scope table (map (item_tree words) items)
 
 -- the scopes of paths, each with so many levels
 abbrev pub all_chosen : List Text → ℕ → List Path → List Chosen
-all_chosen words levels paths = map (λ names. chosen levels (dotted names)) (map (path_tree words) paths)
+all_chosen words levels paths = map (λ names. chosen_of levels (dotted_path names)) (map (path_tree words) paths)
 
 -- a name that was found
 abbrev pub name_of : List Text → Option Token → Option Word
 name_of words = option_map (numbered words)
 
 -- those of port connections
-abbrev pub joins_of : List Text → Token → Scope → Scope → List Tie → Table → List PortForm → Processes
-joins_of words whose outer inner ties table ports = laid_joins (numbered words whose) outer inner (ties_tree words ties) table (map (port_form words) ports)
+abbrev pub joins_of : List Text → Token → Scope → Scope → List ConnectionEntry → Table → List PortForm → Processes
+joins_of words whose outer inner connections table ports = lowered_joins (numbered words whose) outer inner (entries_tree words connections) table (map (port_form words) ports)
 
-abbrev pub join_of : List Text → Token → Scope → Scope → List Tie → Table → PortForm → Processes
-join_of words whose outer inner ties table port =
-    laid_join (numbered words whose) outer inner table (port_form words port) (value_for (ties_tree words ties) (port_form words port).name.letters)
+abbrev pub join_of : List Text → Token → Scope → Scope → List ConnectionEntry → Table → PortForm → Processes
+join_of words whose outer inner connections table port =
+    lowered_join (numbered words whose) outer inner table (port_form words port) (value_for (entries_tree words connections) (port_form words port).name.letters)
 
-abbrev pub broken_joins_of : List Text → Token → Scope → Scope → List Tie → List PortForm → Option ElabFault
-broken_joins_of words whose outer inner ties ports = broken_joins (numbered words whose) outer inner (ties_tree words ties) (map (port_form words) ports)
+abbrev pub broken_joins_of : List Text → Token → Scope → Scope → List ConnectionEntry → List PortForm → Option ElabFault
+broken_joins_of words whose outer inner connections ports = broken_joins (numbered words whose) outer inner (entries_tree words connections) (map (port_form words) ports)
 
-abbrev pub broken_join_of : List Text → Token → Scope → Scope → List Tie → PortForm → Option ElabFault
-broken_join_of words whose outer inner ties port =
-    broken_join (numbered words whose) outer inner (port_form words port) (value_for (ties_tree words ties) (port_form words port).name.letters)
+abbrev pub broken_join_of : List Text → Token → Scope → Scope → List ConnectionEntry → PortForm → Option ElabFault
+broken_join_of words whose outer inner connections port =
+    broken_join (numbered words whose) outer inner (port_form words port) (value_for (entries_tree words connections) (port_form words port).name.letters)
 
--- where there was no fault, these were laid
-abbrev pub HasLaid : {A B T E : Type 0} → Result T E → Laid → Vec ℕ A → Table → Vec ℕ B → Type 0
-HasLaid result what before table after = OnOk result (IsLaid what before.items table after.items)
+-- where there was no fault, these were lowered
+abbrev pub HasLowered : {A B T E : Type 0} → Result T E → Lowered → Vec ℕ A → Table → Vec ℕ B → Type 0
+HasLowered result what before table after = OnOk result (IsLowered what before.items table after.items)
 
-abbrev pub HasBranches : {A B C D T E : Type 0} → Result T E → LaidBranches → Vec Branch A → Vec ℕ B → Table → Vec Branch C → Vec ℕ D → Type 0
+abbrev pub HasBranches : {A B C D T E : Type 0} → Result T E → LoweredBranches → Vec Branch A → Vec ℕ B → Table → Vec Branch C → Vec ℕ D → Type 0
 HasBranches result what before default_before table after default_after = OnOk result (AreBranches what before.items default_before.items table after.items default_after.items)
 
-abbrev pub HaveLaid : {A B T E : Type 0} → Result T E → Processes → Vec (List ℕ) A → Table → Vec (List ℕ) B → Type 0
-HaveLaid result what before table after = OnOk result (AreLaid what before.items table after.items)
+abbrev pub HaveLowered : {A B T E : Type 0} → Result T E → Processes → Vec (List ℕ) A → Table → Vec (List ℕ) B → Type 0
+HaveLowered result what before table after = OnOk result (AreLowered what before.items table after.items)
 
 -- the bounds of a range, where there is one
 abbrev pub written_bounds : List Text → Scope → Option Written → Option Bounds
 written_bounds words scope range = option_map (bounds_of scope) (option_map (range_tree words) range)
 
 -- a variable declared in this form
-abbrev pub variable_in : Home → Form → Text → design.Variable
+abbrev pub variable_in : ScopeDrivers → Form → Text → design.Variable
 variable_in scope form = variable_by scope form.kind form.signed form.bounds
 
 -- the variables of names declared in this form, of an item, and of items
-abbrev pub variables_by : List Text → Home → Form → List Declared → List design.Variable
+abbrev pub variables_by : List Text → ScopeDrivers → Form → List Declared → List design.Variable
 variables_by words scope form list = map (λ one. variable_in scope form one.letters) (texts_of words list)
 
 -- a declaration, as an item
@@ -222,11 +222,11 @@ abbrev pub integers_item : List Text → List Declared → ItemTree
 integers_item words list = declaration integers (map (declared_tree words) list)
 
 -- the variables of ports
-abbrev pub port_variables : List Text → Home → Scope → List PortForm → List design.Variable
-port_variables words home scope ports = map (variable_of home scope) (map port_declaration (map (port_form words) ports))
+abbrev pub port_variables : List Text → ScopeDrivers → Scope → List PortForm → List design.Variable
+port_variables words drivers scope ports = map (variable_of drivers scope) (map port_declaration (map (port_form words) ports))
 
-abbrev pub variables_for : List Text → Home → Scope → ModuleItem → List design.Variable
-variables_for words home scope item = map (variable_of home scope) (declarations_of (item_tree words item))
+abbrev pub variables_for : List Text → ScopeDrivers → Scope → ModuleItem → List design.Variable
+variables_for words drivers scope item = map (variable_of drivers scope) (declarations_of (item_tree words item))
 
 -- the words that are driven, one driver each
 abbrev pub driver_word : Driver → Word

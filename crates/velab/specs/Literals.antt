@@ -34,8 +34,8 @@ abbrev pub first_byte : Text → ℕ
 first_byte text = get_or text 0 0
 
 -- what a number is filled with on the left: x or z where its leftmost digit is that, else 0
-abbrev pub filling : Text → Bit4
-filling ds = if is_x_digit (first_byte ds) then X else if is_z_digit (first_byte ds) then Z else Zero
+abbrev pub filling_letters : Text → Bit4
+filling_letters ds = if is_x_digit (first_byte ds) then X else if is_z_digit (first_byte ds) then Z else Zero
 
 abbrev pub is_decimal_base : ℕ → Bool
 is_decimal_base c = c == 100 || c == 68
@@ -46,12 +46,12 @@ letters_per_digit c = if c == 98 || c == 66 then 1 else if c == 111 || c == 79 t
 
 -- base d: x and z stand alone, and the bits of a number that doesn't fit are lost on the left
 abbrev pub decimal_value : ℕ → Text → Vector
-decimal_value size ds = if is_unknown (filling ds) then filled size (filling ds) else of_number size (spelled_number ds)
+decimal_value size ds = if is_unknown (filling_letters ds) then filled size (filling_letters ds) else of_number size (spelled_number ds)
 
 -- bases b, o and h: filled on the left, or what is too long lost there
 abbrev pub lettered_value : ℕ → ℕ → Text → Vector
 lettered_value size count ds = record {
-  letters = take size (spelled_letters count ds ++ replicate 64 (filling ds));
+  letters = take size (spelled_letters count ds ++ replicate 64 (filling_letters ds));
   signed = false;
 }
 
@@ -73,8 +73,8 @@ abbrev pub is_marked : Text → Bool
 is_marked text = first_byte text == 115 || first_byte text == 83
 
 -- the base and what stands behind it
-abbrev pub unmarked : Text → Text
-unmarked text = if is_marked text then drop 1 text else text
+abbrev pub without_mark : Text → Text
+without_mark text = if is_marked text then drop 1 text else text
 
 abbrev pub is_unknown_at : Vector → ℕ → Bool
 is_unknown_at value place = is_unknown (get_or value.letters place Zero)
@@ -86,7 +86,7 @@ spreads_by size marked value = (length size == 0) && not marked && is_unknown_at
 -- a size, or none, and what stands behind the apostrophe
 abbrev pub based_constant : Text → Text → Constant
 based_constant size text =
-    let value = based_value (size_of size) (first_byte (unmarked text)) (drop 1 (unmarked text)) in
+    let value = based_value (size_of size) (first_byte (without_mark text)) (drop 1 (without_mark text)) in
     record { value = with_sign value (is_marked text); spreads = spreads_by size (is_marked text) value }
 
 -- a number whose apostrophe stands there

@@ -43,8 +43,8 @@ bit_in (Parameter value bounds) index = bit_of value bounds index
 
 -- name [ left : right ]; the part of a variable is looked at in the finished design
 abbrev pub part_in : Operand → Bounds → Word → Result ExpressionTree ElabFault
-part_in (Variable number) selected name = Ok (part number selected)
-part_in (Parameter value bounds) selected name = required (is_part bounds selected) Width (Some name) (plain (part_of value bounds selected (part_size selected)))
+part_in (Variable number) selection_of name = Ok (part number selection_of)
+part_in (Parameter value bounds) selection_of name = required (is_part bounds selection_of) Width (Some name) (plain (part_of value bounds selection_of (part_size selection_of)))
 
 -- how many parts a concatenation has
 abbrev pub count_of : text.ExpressionTrees → ℕ

@@ -9,7 +9,7 @@ use Rattle.velab.specs.declared.fault.Rule.{Rule}
 use Rattle.velab.specs.declared.fault.Rule.TheVariants as rule
 use Rattle.vdesign.specs.declared.action.Target.TheVariants.{Whole, Bit, Part}
 use Rattle.vdesign.specs.declared.action.Action.{Action}
-use Rattle.vdesign.specs.declared.action.Action.TheVariants.{Assign, Nonblocking, Held, Posted, Trigger, Test, Case, Again, Repeat, Forever, Delay, On, Until, Drive, Print, DumpVars, Dump, Pass, Finish, Stop}
+use Rattle.vdesign.specs.declared.action.Action.TheVariants.{Assign, Nonblocking, AssignDelayed, NonblockingDelayed, Trigger, Test, Case, While, Repeat, Forever, Delay, EventControl, Wait, ContinuousAssign, Print, DumpVars, Dump, NoOperation, Finish, Stop}
 
 -- 4.2.1
 abbrev pub is_net : Kind → Bool
@@ -35,22 +35,22 @@ writes_variables variables targets = list_all (λ target. not (writes_net variab
 abbrev pub writes_rightly : List Variable → Action → Bool
 writes_rightly variables (Assign targets value) = writes_variables variables targets
 writes_rightly variables (Nonblocking targets value) = writes_variables variables targets
-writes_rightly variables (Held amount targets value) = writes_variables variables targets
-writes_rightly variables (Posted amount targets value) = writes_variables variables targets
+writes_rightly variables (AssignDelayed amount targets value) = writes_variables variables targets
+writes_rightly variables (NonblockingDelayed amount targets value) = writes_variables variables targets
 writes_rightly variables (Trigger event) = true
 writes_rightly variables (Test condition when_true otherwise) = true
 writes_rightly variables (Case kind value branches otherwise) = true
-writes_rightly variables (Again condition body) = true
+writes_rightly variables (While condition body) = true
 writes_rightly variables (Repeat count body) = true
 writes_rightly variables (Forever body) = true
 writes_rightly variables (Delay amount body) = true
-writes_rightly variables (On terms body) = true
-writes_rightly variables (Until condition terms body) = true
-writes_rightly variables (Drive net value terms) = is_some_net (slice_get variables net)
+writes_rightly variables (EventControl terms body) = true
+writes_rightly variables (Wait condition terms body) = true
+writes_rightly variables (ContinuousAssign net value terms) = is_some_net (slice_get variables net)
 writes_rightly variables (Print when pieces) = true
 writes_rightly variables (DumpVars selection) = true
 writes_rightly variables (Dump switch) = true
-writes_rightly variables Pass = true
+writes_rightly variables NoOperation = true
 writes_rightly variables Finish = true
 writes_rightly variables Stop = true
 

@@ -17,22 +17,22 @@ abbrev pub levels_in : Word → Option ℕ
 levels_in digits = number (constant_of digits.letters).value.letters
 
 -- the names of a path, joined by dots
-abbrev pub dotted : List Word → Text
-dotted [] = []
-dotted (name ∷ more) = name.letters ++ flat_map (λ one. 46 ∷ one.letters) more
+abbrev pub dotted_path : List Word → Text
+dotted_path [] = []
+dotted_path (name ∷ more) = name.letters ++ flat_map (λ one. 46 ∷ one.letters) more
 
-abbrev pub chosen : ℕ → Text → Chosen
-chosen levels path = record { path = path; levels = levels }
+abbrev pub chosen_of : ℕ → Text → Chosen
+chosen_of levels path = record { path = path; levels = levels }
 
 -- with a number alone the top is meant (own)
 abbrev pub chosen_by : Text → ℕ → List (List Word) → List Chosen
-chosen_by top levels [] = chosen levels top ∷ []
-chosen_by top levels (path ∷ more) = map (λ names. chosen levels (dotted names)) (path ∷ more)
+chosen_by top levels [] = chosen_of levels top ∷ []
+chosen_by top levels (path ∷ more) = map (λ names. chosen_of levels (dotted_path names)) (path ∷ more)
 
 -- without a number everything is
-abbrev pub selected : Scope → Option SelectionTree → List Chosen
-selected scope None = []
-selected scope (Some selection) = chosen_by scope.top (unwrap_or (levels_in selection.levels) 0) selection.paths
+abbrev pub selection_of : Scope → Option SelectionTree → List Chosen
+selection_of scope None = []
+selection_of scope (Some selection) = chosen_by scope.top (unwrap_or (levels_in selection.levels) 0) selection.paths
 
 -- the number has no unknown bit
 abbrev pub broken_selection : Option SelectionTree → Option ElabFault

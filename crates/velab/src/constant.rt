@@ -16,8 +16,8 @@ use vast::expression::Expression as Written;
 use vbits::{Bit4, Vec4};
 use vdesign::expression::{Bounds, Expression};
 use vvalue::asked::by_itself;
+use vvalue::environment::Environment;
 use vvalue::flaw::{Flaw, flaw_of};
-use vvalue::moment::Moment;
 
 /// What stands for a bound that is none.
 const NO_BOUND: u32 = 65536;
@@ -25,10 +25,10 @@ const NO_BOUND: u32 = 65536;
 const GREATEST_BOUND: u64 = 65535;
 
 /// What is known where there are no variables.
-pub fn nothing() -> Moment<'static>
+pub fn nothing() -> Environment<'static>
     ensures { result ≡ spec.nothing }
 {
-    Moment {
+    Environment {
         values: &[],
         variables: &[],
         time: 0,
@@ -51,9 +51,9 @@ pub fn worth_of(expression: &Expression, written: &Written) -> Result<Vec4, OrMe
     ensures { (words : List Text) → Gives result
         (spec.measured (first_in (tree_of words written.now)) expression.now) }
 {
-    let moment = nothing();
-    match flaw_of(expression, &moment) {
-        None => Ok(by_itself(expression, &moment)),
+    let environment = nothing();
+    match flaw_of(expression, &environment) {
+        None => Ok(by_itself(expression, &environment)),
         Some(flaw) => {
             Err(OrMemory::Fault(ElabFault {
                 rule: rule_of(flaw),

@@ -95,29 +95,29 @@ fn bit_node(operand: Operand) -> Node
 // Puts `name[left:right]` behind others, where both bounds are known. E306 where they are no part of a parameter.
 fn put_part(
     operand: Operand,
-    selected: Bounds,
+    selection_of: Bounds,
     at: Token,
     nodes: &mut Vec<Node>,
 ) -> Result<(), OrMemory<ElabFault>>
     ensures { (words : List Text) → Makes result nodes.new.items
-        (nodes_behind nodes.old.items (spec.part_in operand selected (numbered words at))) }
+        (nodes_behind nodes.old.items (spec.part_in operand selection_of (numbered words at))) }
 {
     match operand {
         Operand::Variable(variable) => Ok(put(
             nodes,
             Node::Part {
                 variable,
-                bounds: selected,
+                bounds: selection_of,
             },
         )?),
         Operand::Parameter { value, bounds } => {
-            if !is_part(bounds, selected) {
+            if !is_part(bounds, selection_of) {
                 return Err(OrMemory::Fault(ElabFault {
                     rule: Rule::Width,
                     at: Some(at.number),
                 }));
             }
-            Ok(put(nodes, plain(part_of(value, bounds, selected)))?)
+            Ok(put(nodes, plain(part_of(value, bounds, selection_of)))?)
         }
     }
 }

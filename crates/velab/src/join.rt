@@ -8,7 +8,7 @@ ghost use Rattle.vast.specs.NumberedWords.{numbered};
 ghost use Rattle.vexpr_parse.specs.Texts.{words_of};
 ghost use Rattle.vmodules.specs.Inner.{port_form, value_tree};
 ghost use Rattle.velab.specs.Elaborate as spec;
-ghost use Rattle.velab.specs.Inner.{name_of, joins_of, join_of, broken_joins_of, broken_join_of, HaveLaid};
+ghost use Rattle.velab.specs.Inner.{name_of, joins_of, join_of, broken_joins_of, broken_join_of, HaveLowered};
 ghost use Rattle.velab.specs.Rules.{IsBroken};
 
 use crate::expression::{expression_of, expression_of_name};
@@ -22,7 +22,7 @@ use vast::expression::Expression as Value;
 use vast::token::Token;
 use vdesign::action::{Action, Places};
 use vlex::Tokens;
-use vmodules::connect::Ties;
+use vmodules::connect::ConnectionMap;
 use vmodules::letters::letters;
 use vmodules::ports::PortForm;
 
@@ -45,7 +45,7 @@ fn put_process(
     table: &mut Table,
     into: &mut Vec<Places>,
 ) -> Result<(), OrMemory<ElabFault>>
-    ensures ok { (words : List Text) → HaveLaid result (spec.one_process table.old
+    ensures ok { (words : List Text) → HaveLowered result (spec.one_process table.old
         (Some (numbered words whose)) action) into.old table.new into.new }
     ensures err { IfFault result (IsBroken None) }
 {
@@ -56,7 +56,7 @@ fn put_process(
 }
 
 // What drives an input from outside.
-fn lay_input(
+fn lower_input(
     alloc: Global,
     outer: &Scope<'_, '_>,
     inner: &Scope<'_, '_>,
@@ -67,8 +67,8 @@ fn lay_input(
     table: &mut Table,
     into: &mut Vec<Places>,
 ) -> Result<(), OrMemory<ElabFault>>
-    ensures ok { HaveLaid result (spec.one_process table.old (Some
-        (numbered (words_of tokens.now) whose)) (spec.driven_in outer.now inner.now
+    ensures ok { HaveLowered result (spec.one_process table.old (Some
+        (numbered (words_of tokens.now) whose)) (spec.input_action outer.now inner.now
         (numbered (words_of tokens.now) port) (text_tree (words_of tokens.now) value.now)))
         into.old table.new into.new }
     ensures right { OnOk result (spec.broken_input outer.now inner.now
@@ -83,14 +83,14 @@ fn lay_input(
     put_process(
         alloc,
         whose,
-        Action::Drive { net, value, terms },
+        Action::ContinuousAssign { net, value, terms },
         table,
         into,
     )
 }
 
 // What an output drives outside: a net of this name.
-fn lay_output(
+fn lower_output(
     alloc: Global,
     outer: &Scope<'_, '_>,
     inner: &Scope<'_, '_>,
@@ -101,8 +101,8 @@ fn lay_output(
     table: &mut Table,
     into: &mut Vec<Places>,
 ) -> Result<(), OrMemory<ElabFault>>
-    ensures ok { HaveLaid result (spec.one_process table.old (Some
-        (numbered (words_of tokens.now) whose)) (spec.driven_out outer.now inner.now
+    ensures ok { HaveLowered result (spec.one_process table.old (Some
+        (numbered (words_of tokens.now) whose)) (spec.output_action outer.now inner.now
         (numbered (words_of tokens.now) port) (Some (numbered (words_of tokens.now) net))))
         into.old table.new into.new }
     ensures right { OnOk result (spec.broken_output (numbered
@@ -119,14 +119,14 @@ fn lay_output(
     put_process(
         alloc,
         whose,
-        Action::Drive { net, value, terms },
+        Action::ContinuousAssign { net, value, terms },
         table,
         into,
     )
 }
 
 // The process of a port that is connected to this. E305 where it is an output and this is no name alone.
-fn lay_tied(
+fn lower_connected(
     alloc: Global,
     outer: &Scope<'_, '_>,
     inner: &Scope<'_, '_>,
@@ -137,7 +137,7 @@ fn lay_tied(
     table: &mut Table,
     into: &mut Vec<Places>,
 ) -> Result<(), OrMemory<ElabFault>>
-    ensures ok { HaveLaid result (spec.laid_join (numbered (words_of tokens.now) whose)
+    ensures ok { HaveLowered result (spec.lowered_join (numbered (words_of tokens.now) whose)
         outer.now inner.now table.old
         (port_form (words_of tokens.now) port.now) (Some
         (text_tree (words_of tokens.now) value.now)))
@@ -152,12 +152,12 @@ fn lay_tied(
         (text_tree (words_of tokens.now) value.now)))) }
 {
     if !port.output {
-        return lay_input(
+        return lower_input(
             alloc, outer, inner, tokens, whose, port.name, value, table, into,
         );
     }
     match only_name(value) {
-        Some(net) => lay_output(
+        Some(net) => lower_output(
             alloc, outer, inner, tokens, whose, port.name, net, table, into,
         ),
         None => Err(OrMemory::Fault(ElabFault {
@@ -168,34 +168,36 @@ fn lay_tied(
 }
 
 // The process of a port, if it is connected.
-fn lay_join(
+fn lower_join(
     alloc: Global,
     outer: &Scope<'_, '_>,
     inner: &Scope<'_, '_>,
     tokens: &Tokens<'_>,
     whose: Token,
-    ties: &Ties<'_, '_>,
+    connections: &ConnectionMap<'_, '_>,
     port: &PortForm<'_>,
     table: &mut Table,
     into: &mut Vec<Places>,
 ) -> Result<(), OrMemory<ElabFault>>
-    ensures ok { HaveLaid result
-        (join_of (words_of tokens.now) whose outer.now inner.now ties.now table.old port.now)
+    ensures ok { HaveLowered result
+        (join_of (words_of tokens.now) whose outer.now inner.now connections.now table.old port.now)
         into.old table.new into.new }
     ensures right { OnOk result
-        (broken_join_of (words_of tokens.now) whose outer.now inner.now ties.now port.now ≡ None) }
+        (broken_join_of (words_of tokens.now) whose outer.now inner.now connections.now port.now ≡ None) }
     ensures err { IfFault result
         (IsBroken (broken_join_of
-        (words_of tokens.now) whose outer.now inner.now ties.now port.now)) }
+        (words_of tokens.now) whose outer.now inner.now connections.now port.now)) }
 {
-    match ties.value(letters(tokens, port.name)) {
+    match connections.value(letters(tokens, port.name)) {
         None => Ok(()),
-        Some(value) => lay_tied(alloc, outer, inner, tokens, whose, port, value, table, into),
+        Some(value) => lower_connected(
+            alloc, outer, inner, tokens, whose, port, value, table, into,
+        ),
     }
 }
 
 /// A process for each port that is connected, in the order of the ports, behind the processes that there are. `outer` are the names
-/// where the instance stands, `inner` its own, `ties` what its ports are connected to, `whose` the token of its name. E303 or E310 where
+/// where the instance stands, `inner` its own, `connections` what its ports are connected to, `whose` the token of its name. E303 or E310 where
 /// a name that is connected is wrong, E305 where an output isn't connected to a name alone; E901.
 pub fn put_joins(
     alloc: Global,
@@ -203,23 +205,33 @@ pub fn put_joins(
     inner: &Scope<'_, '_>,
     tokens: &Tokens<'_>,
     whose: Token,
-    ties: &Ties<'_, '_>,
+    connections: &ConnectionMap<'_, '_>,
     ports: &[PortForm<'_>],
     table: &mut Table,
     into: &mut Vec<Places>,
 ) -> Result<(), OrMemory<ElabFault>>
-    ensures ok { HaveLaid result
-        (joins_of (words_of tokens.now) whose outer.now inner.now ties.now table.old ports.now)
+    ensures ok { HaveLowered result
+        (joins_of (words_of tokens.now) whose outer.now inner.now connections.now table.old ports.now)
         into.old table.new into.new }
     ensures right { OnOk result
         (broken_joins_of
-        (words_of tokens.now) whose outer.now inner.now ties.now ports.now ≡ None) }
+        (words_of tokens.now) whose outer.now inner.now connections.now ports.now ≡ None) }
     ensures err { IfFault result
         (IsBroken (broken_joins_of
-        (words_of tokens.now) whose outer.now inner.now ties.now ports.now)) }
+        (words_of tokens.now) whose outer.now inner.now connections.now ports.now)) }
 {
     for port in ports {
-        lay_join(alloc, outer, inner, tokens, whose, ties, port, table, into)?;
+        lower_join(
+            alloc,
+            outer,
+            inner,
+            tokens,
+            whose,
+            connections,
+            port,
+            table,
+            into,
+        )?;
     }
     Ok(())
 }

@@ -7,10 +7,10 @@
 mod constant;
 pub mod declared;
 pub mod driven;
+pub mod drivers;
 mod expression;
 pub mod fault;
 mod first;
-pub mod home;
 pub mod join;
 pub mod names;
 pub mod nets;

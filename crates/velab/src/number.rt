@@ -99,7 +99,7 @@ fn size_of(digits: &[u8]) -> u32
 fn filled(size: u32, digits: &[u8]) -> Vec4
     requires some { 1 ≤ size }
     requires few { size ≤ 64 }
-    ensures { result ≡ vectors.filled size (literals.filling digits.now) }
+    ensures { result ≡ vectors.filled size (literals.filling_letters digits.now) }
 {
     let leftmost = first_byte(digits);
     if is_x_digit(leftmost) {
@@ -112,7 +112,7 @@ fn filled(size: u32, digits: &[u8]) -> Vec4
 }
 
 fn is_unknown(digits: &[u8]) -> bool
-    ensures { result ≡ letters.is_unknown (literals.filling digits.now) }
+    ensures { result ≡ letters.is_unknown (literals.filling_letters digits.now) }
 {
     let leftmost = first_byte(digits);
     is_x_digit(leftmost) || is_z_digit(leftmost)
@@ -203,8 +203,8 @@ fn is_marked(text: &[u8]) -> bool
     first == b's' || first == b'S'
 }
 
-fn unmarked(text: &[u8]) -> &[u8]
-    ensures { result.now ≡ literals.unmarked text.now }
+fn without_mark(text: &[u8]) -> &[u8]
+    ensures { result.now ≡ literals.without_mark text.now }
 {
     if is_marked(text) {
         behind_first(text)
@@ -238,7 +238,7 @@ fn based_constant(size: &[u8], text: &[u8]) -> Constant
     ensures { result ≡ literals.based_constant size.now text.now }
 {
     let marked = is_marked(text);
-    let behind = unmarked(text);
+    let behind = without_mark(text);
     let value = based_value(size_of(size), first_byte(behind), behind_first(behind));
     Constant {
         value: value.with_sign(marked),

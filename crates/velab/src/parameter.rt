@@ -8,8 +8,8 @@ ghost use Rattle.vast.specs.NumberedWords.{numbered};
 ghost use Rattle.vast.specs.NumberedTrees.{head_parameter, item_tree, parameter_type, setting_tree};
 ghost use Rattle.vexpr_parse.specs.Texts.{words_of};
 ghost use Rattle.velab.specs.Elaborate as spec;
-ghost use Rattle.velab.specs.Elaborate.{with_given, with_all, broken_given, broken_all, broken_type, given, given_by, given_behind, valueless_by, event_given, instance_given};
-ghost use Rattle.velab.specs.Inner.{given_of, given_all, events_given, instances_given, outside_tree, given_in, valueless_in, given_at_head, type_of, IsNarrow};
+ghost use Rattle.velab.specs.Elaborate.{with_symbol, with_all, broken_symbol, broken_all, broken_type, parameter_symbol, symbols_by, symbols_behind, valueless_by, event_symbol, instance_symbol};
+ghost use Rattle.velab.specs.Inner.{symbol_of, symbols_of, event_symbols, instance_symbols, overrides_tree, symbols_in, valueless_in, symbols_at_head, type_of, IsNarrow};
 ghost use Rattle.velab.specs.Rules.{IsBroken};
 
 use crate::constant::nothing;
@@ -26,7 +26,7 @@ use vast::token::Token;
 use vbits::Vec4;
 use vdesign::expression::{Bounds, Expression};
 use vlex::Tokens;
-use vmodules::connect::Ties;
+use vmodules::connect::ConnectionMap;
 use vmodules::letters::letters;
 use vmodules::names::Names;
 use vvalue::asked::{by_itself, right_side};
@@ -82,17 +82,17 @@ impl<'t> Growing<'t> {
 
 /// What is said of the parameters of an instance from outside, by their names, and what names mean there (12.2.2).
 #[derive(Drop)]
-pub struct Outside<'s, 't, 'u> {
+pub struct Overrides<'s, 't, 'u> {
     pub scope: Scope<'s, 't>,
-    pub values: &'s Ties<'t, 'u>,
+    pub values: &'s ConnectionMap<'t, 'u>,
 }
 
-impl<'s, 't, 'u> Model for Outside<'s, 't, 'u> {
+impl<'s, 't, 'u> Model for Overrides<'s, 't, 'u> {
     ghost use Rattle.std.specs.Coded.{codes};
     ghost use Rattle.vast.specs.contracts.expression.Expression as expression;
-    ghost use Rattle.velab.specs.Inner.{FromOutside};
+    ghost use Rattle.velab.specs.Inner.{OverrideEntries};
 
-    ghost Value = { FromOutside };
+    ghost Value = { OverrideEntries };
 
     ghost coded = { Prim.hlevel (codes, expression.the_row.coded) };
 
@@ -156,22 +156,22 @@ fn parameter_by(kind: Option<&ParameterType>, bounds: Option<Bounds>, value: &Ex
 fn value_of(
     alloc: Global,
     tokens: &Tokens<'_>,
-    outside: &Outside<'_, '_, '_>,
+    overrides: &Overrides<'_, '_, '_>,
     scope: &Scope<'_, '_>,
     setting: &Setting,
 ) -> Result<Expression, OrMemory<ElabFault>>
-    ensures ok { IfOk result (λ e. e ≡ spec.value_of (outside_tree (words_of tokens.now)
-        outside.now)
+    ensures ok { IfOk result (λ e. e ≡ spec.value_of (overrides_tree (words_of tokens.now)
+        overrides.now)
         scope.now (setting_tree (words_of tokens.now) setting.now)) }
-    ensures right { OnOk result (spec.broken_value (outside_tree (words_of tokens.now) outside.now)
+    ensures right { OnOk result (spec.broken_value (overrides_tree (words_of tokens.now) overrides.now)
         scope.now (setting_tree (words_of tokens.now) setting.now) ≡ None) }
     ensures err { IfFault result (IsBroken
-        (spec.broken_value (outside_tree (words_of tokens.now) outside.now) scope.now
+        (spec.broken_value (overrides_tree (words_of tokens.now) overrides.now) scope.now
         (setting_tree (words_of tokens.now) setting.now))) }
 {
     let own = constant_expression(alloc, scope, tokens, &setting.value)?;
-    match outside.values.value(letters(tokens, setting.name)) {
-        Some(value) => constant_expression(alloc, &outside.scope, tokens, value),
+    match overrides.values.value(letters(tokens, setting.name)) {
+        Some(value) => constant_expression(alloc, &overrides.scope, tokens, value),
         None => Ok(own),
     }
 }
@@ -180,25 +180,25 @@ fn value_of(
 fn add<'t>(
     alloc: Global,
     tokens: &Tokens<'t>,
-    outside: &Outside<'_, '_, '_>,
+    overrides: &Overrides<'_, '_, '_>,
     kind: Option<&ParameterType>,
     setting: &Setting,
     into: &mut Growing<'t>,
 ) -> Result<(), OrMemory<ElabFault>>
     ensures ok { OnOk result
-        (into.new ≡ with_given (outside_tree (words_of tokens.now) outside.now)
-        into.old (given_of (words_of tokens.now) kind.entry setting.now)) }
+        (into.new ≡ with_symbol (overrides_tree (words_of tokens.now) overrides.now)
+        into.old (symbol_of (words_of tokens.now) kind.entry setting.now)) }
     ensures variables { into.new.variables ≡ into.old.variables }
     ensures right { OnOk result
-        (broken_given (outside_tree (words_of tokens.now) outside.now)
-        into.old (given_of (words_of tokens.now) kind.entry setting.now) ≡ None) }
+        (broken_symbol (overrides_tree (words_of tokens.now) overrides.now)
+        into.old (symbol_of (words_of tokens.now) kind.entry setting.now) ≡ None) }
     ensures err { IfFault result
-        (IsBroken (broken_given (outside_tree (words_of tokens.now) outside.now)
-        into.old (given_of (words_of tokens.now) kind.entry setting.now))) }
+        (IsBroken (broken_symbol (overrides_tree (words_of tokens.now) overrides.now)
+        into.old (symbol_of (words_of tokens.now) kind.entry setting.now))) }
 {
     let scope = into.scope();
     let bounds = bounds_of(alloc, &scope, tokens, kind)?;
-    let value = value_of(alloc, tokens, outside, &scope, setting)?;
+    let value = value_of(alloc, tokens, overrides, &scope, setting)?;
     let meaning = Meaning::Parameter {
         value: parameter_by(kind, bounds, &value),
         bounds,
@@ -214,24 +214,24 @@ fn add<'t>(
 fn add_all<'t>(
     alloc: Global,
     tokens: &Tokens<'t>,
-    outside: &Outside<'_, '_, '_>,
+    overrides: &Overrides<'_, '_, '_>,
     kind: &ParameterType,
     list: &[Setting],
     into: &mut Growing<'t>,
 ) -> Result<(), OrMemory<ElabFault>>
     ensures ok { OnOk result
-        (into.new ≡ with_all (outside_tree (words_of tokens.now) outside.now)
-        into.old (given_all (words_of tokens.now) kind.now list.now)) }
+        (into.new ≡ with_all (overrides_tree (words_of tokens.now) overrides.now)
+        into.old (symbols_of (words_of tokens.now) kind.now list.now)) }
     ensures variables { into.new.variables ≡ into.old.variables }
     ensures right { OnOk result
-        (broken_all (outside_tree (words_of tokens.now) outside.now)
-        into.old (given_all (words_of tokens.now) kind.now list.now) ≡ None) }
+        (broken_all (overrides_tree (words_of tokens.now) overrides.now)
+        into.old (symbols_of (words_of tokens.now) kind.now list.now) ≡ None) }
     ensures err { IfFault result
-        (IsBroken (broken_all (outside_tree (words_of tokens.now) outside.now)
-        into.old (given_all (words_of tokens.now) kind.now list.now))) }
+        (IsBroken (broken_all (overrides_tree (words_of tokens.now) overrides.now)
+        into.old (symbols_of (words_of tokens.now) kind.now list.now))) }
 {
     for one in list {
-        add(alloc, tokens, outside, Some(kind), one, into)?;
+        add(alloc, tokens, overrides, Some(kind), one, into)?;
     }
     Ok(())
 }
@@ -239,20 +239,20 @@ fn add_all<'t>(
 // A named event. E302 where its name is declared, E309 where there are too many.
 fn add_event<'t>(
     tokens: &Tokens<'t>,
-    outside: &Outside<'_, '_, '_>,
+    overrides: &Overrides<'_, '_, '_>,
     name: Token,
     into: &mut Growing<'t>,
 ) -> Result<(), OrMemory<ElabFault>>
     ensures ok { OnOk result
-        (into.new ≡ with_given (outside_tree (words_of tokens.now) outside.now)
-        into.old (event_given (numbered (words_of tokens.now) name))) }
+        (into.new ≡ with_symbol (overrides_tree (words_of tokens.now) overrides.now)
+        into.old (event_symbol (numbered (words_of tokens.now) name))) }
     ensures variables { into.new.variables ≡ into.old.variables }
     ensures right { OnOk result
-        (broken_given (outside_tree (words_of tokens.now) outside.now)
-        into.old (event_given (numbered (words_of tokens.now) name)) ≡ None) }
+        (broken_symbol (overrides_tree (words_of tokens.now) overrides.now)
+        into.old (event_symbol (numbered (words_of tokens.now) name)) ≡ None) }
     ensures err { IfFault result
-        (IsBroken (broken_given (outside_tree (words_of tokens.now) outside.now)
-        into.old (event_given (numbered (words_of tokens.now) name)))) }
+        (IsBroken (broken_symbol (overrides_tree (words_of tokens.now) overrides.now)
+        into.old (event_symbol (numbered (words_of tokens.now) name)))) }
 {
     if into.events >= MOST_EVENTS {
         return Err(OrMemory::Fault(ElabFault {
@@ -269,23 +269,23 @@ fn add_event<'t>(
 // Named events of one item.
 fn add_events<'t>(
     tokens: &Tokens<'t>,
-    outside: &Outside<'_, '_, '_>,
+    overrides: &Overrides<'_, '_, '_>,
     names: &[Token],
     into: &mut Growing<'t>,
 ) -> Result<(), OrMemory<ElabFault>>
     ensures ok { OnOk result
-        (into.new ≡ with_all (outside_tree (words_of tokens.now) outside.now)
-        into.old (events_given (words_of tokens.now) names.now)) }
+        (into.new ≡ with_all (overrides_tree (words_of tokens.now) overrides.now)
+        into.old (event_symbols (words_of tokens.now) names.now)) }
     ensures variables { into.new.variables ≡ into.old.variables }
     ensures right { OnOk result
-        (broken_all (outside_tree (words_of tokens.now) outside.now)
-        into.old (events_given (words_of tokens.now) names.now) ≡ None) }
+        (broken_all (overrides_tree (words_of tokens.now) overrides.now)
+        into.old (event_symbols (words_of tokens.now) names.now) ≡ None) }
     ensures err { IfFault result
-        (IsBroken (broken_all (outside_tree (words_of tokens.now) outside.now)
-        into.old (events_given (words_of tokens.now) names.now))) }
+        (IsBroken (broken_all (overrides_tree (words_of tokens.now) overrides.now)
+        into.old (event_symbols (words_of tokens.now) names.now))) }
 {
     for name in names {
-        add_event(tokens, outside, *name, into)?;
+        add_event(tokens, overrides, *name, into)?;
     }
     Ok(())
 }
@@ -293,20 +293,20 @@ fn add_events<'t>(
 // An instance. E302 where its name is declared.
 fn add_instance<'t>(
     tokens: &Tokens<'t>,
-    outside: &Outside<'_, '_, '_>,
+    overrides: &Overrides<'_, '_, '_>,
     name: Token,
     into: &mut Growing<'t>,
 ) -> Result<(), OrMemory<ElabFault>>
     ensures ok { OnOk result (into.new ≡
-        with_given (outside_tree (words_of tokens.now) outside.now)
-        into.old (instance_given (numbered (words_of tokens.now) name))) }
+        with_symbol (overrides_tree (words_of tokens.now) overrides.now)
+        into.old (instance_symbol (numbered (words_of tokens.now) name))) }
     ensures variables { into.new.variables ≡ into.old.variables }
-    ensures right { OnOk result (broken_given (outside_tree (words_of tokens.now) outside.now)
+    ensures right { OnOk result (broken_symbol (overrides_tree (words_of tokens.now) overrides.now)
         into.old
-        (instance_given (numbered (words_of tokens.now) name)) ≡ None) }
-    ensures err { IfFault result (IsBroken (broken_given
-        (outside_tree (words_of tokens.now) outside.now)
-        into.old (instance_given (numbered (words_of tokens.now) name)))) }
+        (instance_symbol (numbered (words_of tokens.now) name)) ≡ None) }
+    ensures err { IfFault result (IsBroken (broken_symbol
+        (overrides_tree (words_of tokens.now) overrides.now)
+        into.old (instance_symbol (numbered (words_of tokens.now) name)))) }
 {
     note(&mut into.names, letters(tokens, name), name.number)?;
     into.others.push(Meaning::Instance)?;
@@ -316,23 +316,23 @@ fn add_instance<'t>(
 // The instances of one item.
 fn add_instances<'t>(
     tokens: &Tokens<'t>,
-    outside: &Outside<'_, '_, '_>,
+    overrides: &Overrides<'_, '_, '_>,
     list: &[Instance],
     into: &mut Growing<'t>,
 ) -> Result<(), OrMemory<ElabFault>>
     ensures ok { OnOk result
-        (into.new ≡ with_all (outside_tree (words_of tokens.now) outside.now)
-        into.old (instances_given (words_of tokens.now) list.now)) }
+        (into.new ≡ with_all (overrides_tree (words_of tokens.now) overrides.now)
+        into.old (instance_symbols (words_of tokens.now) list.now)) }
     ensures variables { into.new.variables ≡ into.old.variables }
     ensures right { OnOk result
-        (broken_all (outside_tree (words_of tokens.now) outside.now)
-        into.old (instances_given (words_of tokens.now) list.now) ≡ None) }
+        (broken_all (overrides_tree (words_of tokens.now) overrides.now)
+        into.old (instance_symbols (words_of tokens.now) list.now) ≡ None) }
     ensures err { IfFault result
-        (IsBroken (broken_all (outside_tree (words_of tokens.now) outside.now)
-        into.old (instances_given (words_of tokens.now) list.now))) }
+        (IsBroken (broken_all (overrides_tree (words_of tokens.now) overrides.now)
+        into.old (instance_symbols (words_of tokens.now) list.now))) }
 {
     for one in list {
-        add_instance(tokens, outside, one.name, into)?;
+        add_instance(tokens, overrides, one.name, into)?;
     }
     Ok(())
 }
@@ -341,24 +341,24 @@ fn add_instances<'t>(
 fn add_item<'t>(
     alloc: Global,
     tokens: &Tokens<'t>,
-    outside: &Outside<'_, '_, '_>,
+    overrides: &Overrides<'_, '_, '_>,
     item: &ModuleItem,
     into: &mut Growing<'t>,
 ) -> Result<(), OrMemory<ElabFault>>
     ensures ok { OnOk result
-        (into.new ≡ with_all (outside_tree (words_of tokens.now) outside.now)
-        into.old (given_by (item_tree (words_of tokens.now) item.now))) }
+        (into.new ≡ with_all (overrides_tree (words_of tokens.now) overrides.now)
+        into.old (symbols_by (item_tree (words_of tokens.now) item.now))) }
     ensures variables { into.new.variables ≡ into.old.variables }
     ensures right { OnOk result
-        (broken_all (outside_tree (words_of tokens.now) outside.now)
-        into.old (given_by (item_tree (words_of tokens.now) item.now)) ≡ None) }
+        (broken_all (overrides_tree (words_of tokens.now) overrides.now)
+        into.old (symbols_by (item_tree (words_of tokens.now) item.now)) ≡ None) }
     ensures err { IfFault result
-        (IsBroken (broken_all (outside_tree (words_of tokens.now) outside.now)
-        into.old (given_by (item_tree (words_of tokens.now) item.now)))) }
+        (IsBroken (broken_all (overrides_tree (words_of tokens.now) overrides.now)
+        into.old (symbols_by (item_tree (words_of tokens.now) item.now)))) }
 {
     match item {
         ModuleItem::Parameters { kind, settings, .. } => {
-            add_all(alloc, tokens, outside, kind, settings, into)
+            add_all(alloc, tokens, overrides, kind, settings, into)
         }
         ModuleItem::Declaration { .. } => Ok(()),
         ModuleItem::Events { .. } => Ok(()),
@@ -372,59 +372,61 @@ fn add_item<'t>(
 // The named events or instances of an item.
 fn add_valueless_of<'t>(
     tokens: &Tokens<'t>,
-    outside: &Outside<'_, '_, '_>,
+    overrides: &Overrides<'_, '_, '_>,
     item: &ModuleItem,
     into: &mut Growing<'t>,
 ) -> Result<(), OrMemory<ElabFault>>
     ensures ok { OnOk result
-        (into.new ≡ with_all (outside_tree (words_of tokens.now) outside.now)
+        (into.new ≡ with_all (overrides_tree (words_of tokens.now) overrides.now)
         into.old (valueless_by (item_tree (words_of tokens.now) item.now))) }
     ensures variables { into.new.variables ≡ into.old.variables }
     ensures right { OnOk result
-        (broken_all (outside_tree (words_of tokens.now) outside.now)
+        (broken_all (overrides_tree (words_of tokens.now) overrides.now)
         into.old (valueless_by (item_tree (words_of tokens.now) item.now)) ≡ None) }
     ensures err { IfFault result
-        (IsBroken (broken_all (outside_tree (words_of tokens.now) outside.now)
+        (IsBroken (broken_all (overrides_tree (words_of tokens.now) overrides.now)
         into.old (valueless_by (item_tree (words_of tokens.now) item.now)))) }
 {
     match item {
         ModuleItem::Parameters { .. } => Ok(()),
         ModuleItem::Declaration { .. } => Ok(()),
-        ModuleItem::Events { names, .. } => add_events(tokens, outside, names, into),
+        ModuleItem::Events { names, .. } => add_events(tokens, overrides, names, into),
         ModuleItem::Assignments { .. } => Ok(()),
         ModuleItem::Initial { .. } => Ok(()),
         ModuleItem::Always { .. } => Ok(()),
-        ModuleItem::Instances { instances, .. } => add_instances(tokens, outside, instances, into),
+        ModuleItem::Instances { instances, .. } => add_instances(
+            tokens, overrides, instances, into,
+        ),
     }
 }
 
 /// The named events and instances of items, in the order of the text: what has no value. Errors: E302, E309, E901.
 pub fn add_valueless<'t>(
     tokens: &Tokens<'t>,
-    outside: &Outside<'_, '_, '_>,
+    overrides: &Overrides<'_, '_, '_>,
     items: &[ModuleItem],
     into: &mut Growing<'t>,
 ) -> Result<(), OrMemory<ElabFault>>
     ensures ok { OnOk result
-        (into.new ≡ with_all (outside_tree (words_of tokens.now) outside.now)
+        (into.new ≡ with_all (overrides_tree (words_of tokens.now) overrides.now)
         into.old (valueless_in (words_of tokens.now) items.now)) }
     ensures variables { into.new.variables ≡ into.old.variables }
     ensures right { OnOk result
-        (broken_all (outside_tree (words_of tokens.now) outside.now)
+        (broken_all (overrides_tree (words_of tokens.now) overrides.now)
         into.old (valueless_in (words_of tokens.now) items.now) ≡ None) }
     ensures err { IfFault result
-        (IsBroken (broken_all (outside_tree (words_of tokens.now) outside.now)
+        (IsBroken (broken_all (overrides_tree (words_of tokens.now) overrides.now)
         into.old (valueless_in (words_of tokens.now) items.now))) }
 {
     for item in items {
-        add_valueless_of(tokens, outside, item, into)?;
+        add_valueless_of(tokens, overrides, item, into)?;
     }
     Ok(())
 }
 
 /// How many parameters an item declares.
-pub fn given_count(item: &ModuleItem) -> usize
-    ensures { (words : List Text) → result ≡ length (given_by (item_tree words item.now)) }
+pub fn symbol_count(item: &ModuleItem) -> usize
+    ensures { (words : List Text) → result ≡ length (symbols_by (item_tree words item.now)) }
 {
     match item {
         ModuleItem::Parameters { settings, .. } => settings.len(),
@@ -441,23 +443,23 @@ pub fn given_count(item: &ModuleItem) -> usize
 pub fn add_items<'t>(
     alloc: Global,
     tokens: &Tokens<'t>,
-    outside: &Outside<'_, '_, '_>,
+    overrides: &Overrides<'_, '_, '_>,
     items: &[ModuleItem],
     into: &mut Growing<'t>,
 ) -> Result<(), OrMemory<ElabFault>>
     ensures ok { OnOk result
-        (into.new ≡ with_all (outside_tree (words_of tokens.now) outside.now)
-        into.old (given_in (words_of tokens.now) items.now)) }
+        (into.new ≡ with_all (overrides_tree (words_of tokens.now) overrides.now)
+        into.old (symbols_in (words_of tokens.now) items.now)) }
     ensures variables { into.new.variables ≡ into.old.variables }
     ensures right { OnOk result
-        (broken_all (outside_tree (words_of tokens.now) outside.now)
-        into.old (given_in (words_of tokens.now) items.now) ≡ None) }
+        (broken_all (overrides_tree (words_of tokens.now) overrides.now)
+        into.old (symbols_in (words_of tokens.now) items.now) ≡ None) }
     ensures err { IfFault result
-        (IsBroken (broken_all (outside_tree (words_of tokens.now) outside.now)
-        into.old (given_in (words_of tokens.now) items.now))) }
+        (IsBroken (broken_all (overrides_tree (words_of tokens.now) overrides.now)
+        into.old (symbols_in (words_of tokens.now) items.now))) }
 {
     for item in items {
-        add_item(alloc, tokens, outside, item, into)?;
+        add_item(alloc, tokens, overrides, item, into)?;
     }
     Ok(())
 }
@@ -480,25 +482,25 @@ fn kind_of<'a>(
 fn add_listed<'t>(
     alloc: Global,
     tokens: &Tokens<'t>,
-    outside: &Outside<'_, '_, '_>,
+    overrides: &Overrides<'_, '_, '_>,
     list: &[HeadParameter],
     into: &mut Growing<'t>,
 ) -> Result<(), OrMemory<ElabFault>>
     ensures ok { OnOk result
-        (into.new ≡ with_all (outside_tree (words_of tokens.now) outside.now)
-        into.old (given_behind None (map (head_parameter (words_of tokens.now)) list.now))) }
+        (into.new ≡ with_all (overrides_tree (words_of tokens.now) overrides.now)
+        into.old (symbols_behind None (map (head_parameter (words_of tokens.now)) list.now))) }
     ensures variables { into.new.variables ≡ into.old.variables }
     ensures right { OnOk result
-        (broken_all (outside_tree (words_of tokens.now) outside.now)
-        into.old (given_behind None (map (head_parameter (words_of tokens.now)) list.now)) ≡ None) }
+        (broken_all (overrides_tree (words_of tokens.now) overrides.now)
+        into.old (symbols_behind None (map (head_parameter (words_of tokens.now)) list.now)) ≡ None) }
     ensures err { IfFault result
-        (IsBroken (broken_all (outside_tree (words_of tokens.now) outside.now)
-        into.old (given_behind None (map (head_parameter (words_of tokens.now)) list.now)))) }
+        (IsBroken (broken_all (overrides_tree (words_of tokens.now) overrides.now)
+        into.old (symbols_behind None (map (head_parameter (words_of tokens.now)) list.now)))) }
 {
     let mut kind: Option<&ParameterType> = None;
     for head in list {
         kind = kind_of(head, kind);
-        add(alloc, tokens, outside, kind, &head.setting, into)?;
+        add(alloc, tokens, overrides, kind, &head.setting, into)?;
     }
     Ok(())
 }
@@ -507,23 +509,23 @@ fn add_listed<'t>(
 pub fn add_head<'t>(
     alloc: Global,
     tokens: &Tokens<'t>,
-    outside: &Outside<'_, '_, '_>,
+    overrides: &Overrides<'_, '_, '_>,
     list: &Option<Vec<HeadParameter>>,
     into: &mut Growing<'t>,
 ) -> Result<(), OrMemory<ElabFault>>
     ensures ok { OnOk result
-        (into.new ≡ with_all (outside_tree (words_of tokens.now) outside.now)
-        into.old (given_at_head (words_of tokens.now) list.now)) }
+        (into.new ≡ with_all (overrides_tree (words_of tokens.now) overrides.now)
+        into.old (symbols_at_head (words_of tokens.now) list.now)) }
     ensures variables { into.new.variables ≡ into.old.variables }
     ensures right { OnOk result
-        (broken_all (outside_tree (words_of tokens.now) outside.now)
-        into.old (given_at_head (words_of tokens.now) list.now) ≡ None) }
+        (broken_all (overrides_tree (words_of tokens.now) overrides.now)
+        into.old (symbols_at_head (words_of tokens.now) list.now) ≡ None) }
     ensures err { IfFault result
-        (IsBroken (broken_all (outside_tree (words_of tokens.now) outside.now)
-        into.old (given_at_head (words_of tokens.now) list.now))) }
+        (IsBroken (broken_all (overrides_tree (words_of tokens.now) overrides.now)
+        into.old (symbols_at_head (words_of tokens.now) list.now))) }
 {
     match list {
         None => Ok(()),
-        Some(list) => add_listed(alloc, tokens, outside, list, into),
+        Some(list) => add_listed(alloc, tokens, overrides, list, into),
     }
 }

@@ -37,9 +37,9 @@ fn put_names(tokens: &Tokens<'_>, names: &[Token], into: &mut Vec<u8>) -> Result
 }
 
 // A path: its names, joined by dots.
-fn dotted(alloc: Global, tokens: &Tokens<'_>, names: &[Token]) -> Result<Text, NoMemory>
+fn dotted_path(alloc: Global, tokens: &Tokens<'_>, names: &[Token]) -> Result<Text, NoMemory>
     ensures { IfOk result (λ text.
-        text ≡ spec.dotted (map (numbered (words_of tokens.now)) names.now)) }
+        text ≡ spec.dotted_path (map (numbered (words_of tokens.now)) names.now)) }
 {
     match names.split_first() {
         None => Ok(Text::new(Vec::new(alloc))),
@@ -63,7 +63,7 @@ fn put_chosen(
         into.old.items ++ all_chosen (words_of tokens.now) levels paths.now) }
 {
     for path in paths {
-        let path = dotted(alloc, tokens, &path.names)?;
+        let path = dotted_path(alloc, tokens, &path.names)?;
         into.push(Chosen { path, levels })?;
     }
     Ok(())
@@ -102,13 +102,13 @@ pub fn levels_of(selection: &Option<Written>) -> Option<u32>
 }
 
 /// What a `$dumpvars` selects. E310 where the number of levels has an unknown bit.
-pub fn selected(
+pub fn selection_of(
     alloc: Global,
     scope: &Scope<'_, '_>,
     tokens: &Tokens<'_>,
     selection: &Option<Written>,
 ) -> Result<Selection, OrMemory<ElabFault>>
-    ensures ok { IfOk result (λ list. list ≡ spec.selected scope.now
+    ensures ok { IfOk result (λ list. list ≡ spec.selection_of scope.now
         (option_map (selection_tree (words_of tokens.now)) selection.now)) }
     ensures right { OnOk result (spec.broken_selection
         (option_map (selection_tree (words_of tokens.now)) selection.now) ≡ None) }

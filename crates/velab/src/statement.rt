@@ -10,8 +10,8 @@ ghost use Rattle.vexpr_parse.specs.Texts.{words_of};
 ghost use Rattle.velab.specs.Elaborate as spec;
 ghost use Rattle.velab.specs.Prints.{when_of};
 ghost use Rattle.vast.specs.NumberedStatements.{forever, case_of, assign, whole};
-ghost use Rattle.velab.specs.Elaborate.{does, drives, laid, laid_process, laid_processes, broken_process, broken_processes, broken_items_from, branches_by, broken_in, broken_in_all, broken_items, broken_branch, broken_branches, process_trees_by};
-ghost use Rattle.velab.specs.Inner.{laid_of, all_laid_of, branch_laid_of, branches_laid_of, laid_of_item, processes_of, starts_in, drives_in, AreRight, given_in, AreLaid, HasLaid, HasBranches, HaveLaid};
+ghost use Rattle.velab.specs.Elaborate.{procedural, continuous, lowered, lowered_process, lowered_processes, broken_process, broken_processes, broken_items_from, branches_by, broken_in, broken_in_all, broken_items, broken_branch, broken_branches, process_trees_by};
+ghost use Rattle.velab.specs.Inner.{lowered_of, all_lowered_of, branch_lowered_of, branches_lowered_of, lowered_of_item, processes_of, starts_in, drives_in, AreRight, symbols_in, AreLowered, HasLowered, HasBranches, HaveLowered};
 ghost use Rattle.velab.specs.Resolved.{resolved, broken_expression};
 ghost use Rattle.velab.specs.Rules.{IsBroken};
 
@@ -19,10 +19,10 @@ use crate::expression::{alone, expression_of, expression_of_name};
 use crate::fault::ElabFault;
 use crate::first::{first_argument, first_delay, first_in, first_target};
 use crate::number::constant_of;
-use crate::parameter::given_count;
+use crate::parameter::symbol_count;
 use crate::print::{pieces_in, when_of};
 use crate::scope::{Scope, event_of, number_of};
-use crate::select::{levels_of, selected};
+use crate::select::{levels_of, selection_of};
 use crate::target::{first_token, targets_of};
 use crate::wait::{condition_terms, event_terms};
 use basis::{NoMemory, OrMemory};
@@ -84,7 +84,7 @@ pub fn put(
 
 // What an assignment without a delay of its own does.
 fn undelayed(blocking: bool, targets: Targets, value: Expression) -> Action
-    ensures { result ≡ spec.assigning blocking None targets value }
+    ensures { result ≡ spec.assignment_action blocking None targets value }
 {
     if blocking {
         Action::Assign { targets, value }
@@ -95,16 +95,16 @@ fn undelayed(blocking: bool, targets: Targets, value: Expression) -> Action
 
 // What an assignment with a delay of its own does.
 fn delayed(blocking: bool, amount: Expression, targets: Targets, value: Expression) -> Action
-    ensures { result ≡ spec.assigning blocking (Some amount) targets value }
+    ensures { result ≡ spec.assignment_action blocking (Some amount) targets value }
 {
     if blocking {
-        Action::Held {
+        Action::AssignDelayed {
             amount,
             targets,
             value,
         }
     } else {
-        Action::Posted {
+        Action::NonblockingDelayed {
             amount,
             targets,
             value,
@@ -113,13 +113,13 @@ fn delayed(blocking: bool, amount: Expression, targets: Targets, value: Expressi
 }
 
 // What an assignment of either kind does.
-fn assigning(
+fn assignment_action(
     blocking: bool,
     amount: Option<Expression>,
     targets: Targets,
     value: Expression,
 ) -> Action
-    ensures { result ≡ spec.assigning blocking amount targets value }
+    ensures { result ≡ spec.assignment_action blocking amount targets value }
 {
     match amount {
         None => undelayed(blocking, targets, value),
@@ -172,7 +172,7 @@ fn own_amount(
 }
 
 // An assignment of either kind.
-fn lay_assignment(
+fn lower_assignment(
     alloc: Global,
     scope: &Scope<'_, '_>,
     tokens: &Tokens<'_>,
@@ -183,7 +183,7 @@ fn lay_assignment(
     table: &mut Table,
     into: &mut Vec<usize>,
 ) -> Result<(), OrMemory<ElabFault>>
-    ensures ok { HasLaid result (spec.laid_assignment blocking scope.now table.old
+    ensures ok { HasLowered result (spec.lowered_assignment blocking scope.now table.old
         (target_tree (words_of tokens.now) target.now)
         (option_map (delay_tree (words_of tokens.now)) amount.now)
         (text_tree (words_of tokens.now) value.now)) into.old table.new into.new }
@@ -199,7 +199,7 @@ fn lay_assignment(
     let targets = targets_of(alloc, scope, tokens, target)?;
     let amount = own_amount(alloc, scope, tokens, amount)?;
     let value = expression_of(alloc, scope, tokens, value)?;
-    let action = assigning(blocking, amount, targets, value);
+    let action = assignment_action(blocking, amount, targets, value);
     put(
         table,
         into,
@@ -210,7 +210,7 @@ fn lay_assignment(
 }
 
 // What an `if` does.
-fn testing(condition: Expression, when_true: Vec<usize>, otherwise: Vec<usize>) -> Action
+fn test_action(condition: Expression, when_true: Vec<usize>, otherwise: Vec<usize>) -> Action
     ensures { result ≡ Action.Test condition when_true.items otherwise.items }
 {
     Action::Test {
@@ -221,7 +221,7 @@ fn testing(condition: Expression, when_true: Vec<usize>, otherwise: Vec<usize>) 
 }
 
 // What a `case` does.
-fn choosing(
+fn case_action(
     kind: CaseKind,
     value: Expression,
     branches: Vec<Choice>,
@@ -285,46 +285,46 @@ fn put_labels(
 }
 
 // What a loop with a condition does.
-fn turning(condition: Expression, body: Vec<usize>) -> Action
-    ensures { result ≡ Action.Again condition body.items }
+fn while_action(condition: Expression, body: Vec<usize>) -> Action
+    ensures { result ≡ Action.While condition body.items }
 {
-    Action::Again {
+    Action::While {
         condition,
         body: Places::new(body),
     }
 }
 
 // What a `wait` does.
-fn waiting(condition: Expression, terms: Terms, body: Vec<usize>) -> Action
-    ensures { result ≡ Action.Until condition terms body.items }
+fn wait_action(condition: Expression, terms: Terms, body: Vec<usize>) -> Action
+    ensures { result ≡ Action.Wait condition terms body.items }
 {
-    Action::Until {
+    Action::Wait {
         condition,
         terms,
         body: Places::new(body),
     }
 }
 
-fn ending(stops: bool) -> Action
-    ensures { result ≡ spec.ending stops }
+fn end_action(stops: bool) -> Action
+    ensures { result ≡ spec.end_action stops }
 {
     if stops { Action::Stop } else { Action::Finish }
 }
 
 // What a command to a dump that was started does.
-fn dumping_by(dumping: Dumping) -> Action
-    ensures { result ≡ spec.dumping_by dumping }
+fn dump_action(dumping: Dumping) -> Action
+    ensures { result ≡ spec.dump_action dumping }
 {
     match dumping {
         Dumping::On => Action::Dump(DumpSwitch::On),
         Dumping::Off => Action::Dump(DumpSwitch::Off),
         Dumping::All => Action::Dump(DumpSwitch::All),
-        Dumping::Flush => Action::Pass,
+        Dumping::Flush => Action::NoOperation,
     }
 }
 
 // What a print task does.
-fn printing(kind: Printing, pieces: Pieces) -> Action
+fn print_action(kind: Printing, pieces: Pieces) -> Action
     ensures { result ≡ Action.Print (when_of kind) pieces }
 {
     Action::Print {
@@ -334,7 +334,7 @@ fn printing(kind: Printing, pieces: Pieces) -> Action
 }
 
 // A system task.
-fn lay_task(
+fn lower_task(
     alloc: Global,
     scope: &Scope<'_, '_>,
     tokens: &Tokens<'_>,
@@ -343,8 +343,8 @@ fn lay_task(
     table: &mut Table,
     into: &mut Vec<usize>,
 ) -> Result<(), OrMemory<ElabFault>>
-    ensures ok { HasLaid result
-        (spec.laid_task scope.now table.old (task_tree (words_of tokens.now) task.now))
+    ensures ok { HasLowered result
+        (spec.lowered_task scope.now table.old (task_tree (words_of tokens.now) task.now))
         into.old table.new into.new }
     ensures right { OnOk result
         (spec.broken_task scope.now (task_tree (words_of tokens.now) task.now) ≡ None) }
@@ -359,23 +359,23 @@ fn lay_task(
                 into,
                 at,
                 first_argument(arguments),
-                printing(*kind, pieces),
+                print_action(*kind, pieces),
             )
         }
-        Task::DumpFile(_) => put(table, into, at, None, Action::Pass),
+        Task::DumpFile(_) => put(table, into, at, None, Action::NoOperation),
         Task::DumpVars(selection) => {
             let word = levels_of(selection);
-            let selection = selected(alloc, scope, tokens, selection)?;
+            let selection = selection_of(alloc, scope, tokens, selection)?;
             put(table, into, at, word, Action::DumpVars(selection))
         }
-        Task::Dump(dumping) => put(table, into, at, None, dumping_by(*dumping)),
-        Task::End { stops, .. } => put(table, into, at, None, ending(*stops)),
+        Task::Dump(dumping) => put(table, into, at, None, dump_action(*dumping)),
+        Task::End { stops, .. } => put(table, into, at, None, end_action(*stops)),
     }
 }
 
 // Lays a statement on the table, and puts the places at which it begins behind others.
 #[cycle(statements)]
-fn lay(
+fn lower(
     alloc: Global,
     scope: &Scope<'_, '_>,
     tokens: &Tokens<'_>,
@@ -383,7 +383,7 @@ fn lay(
     table: &mut Table,
     into: &mut Vec<usize>,
 ) -> Result<(), OrMemory<ElabFault>>
-    ensures ok { HasLaid result (laid_of (words_of tokens.now) scope.now table.old statement.now)
+    ensures ok { HasLowered result (lowered_of (words_of tokens.now) scope.now table.old statement.now)
         into.old table.new into.new }
     ensures right { OnOk result
         (broken_in scope.now (statement_tree (words_of tokens.now) statement.now) ≡ None) }
@@ -392,13 +392,13 @@ fn lay(
 {
     match statement {
         Statement::Empty => Ok(()),
-        Statement::Block(list) => lay_all(alloc, scope, tokens, list, table, into),
+        Statement::Block(list) => lower_all(alloc, scope, tokens, list, table, into),
         Statement::Assign {
             target,
             delay,
             value,
             ..
-        } => lay_assignment(
+        } => lower_assignment(
             alloc, scope, tokens, true, target, delay, value, table, into,
         ),
         Statement::Nonblocking {
@@ -406,13 +406,13 @@ fn lay(
             delay,
             value,
             ..
-        } => lay_assignment(
+        } => lower_assignment(
             alloc, scope, tokens, false, target, delay, value, table, into,
         ),
         Statement::Delayed { at, delay, body } => {
             let amount = amount_of(alloc, scope, tokens, delay)?;
             let mut inner = Vec::new(alloc);
-            lay(alloc, scope, tokens, body, table, &mut inner)?;
+            lower(alloc, scope, tokens, body, table, &mut inner)?;
             let body = Places::new(inner);
             put(
                 table,
@@ -422,7 +422,9 @@ fn lay(
                 Action::Delay { amount, body },
             )
         }
-        Statement::Task { at, task } => { lay_task(alloc, scope, tokens, *at, task, table, into) },
+        Statement::Task { at, task } => {
+            lower_task(alloc, scope, tokens, *at, task, table, into)
+        },
         Statement::Trigger { at, name } => {
             let event = event_of(scope, tokens, *name)?;
             put(table, into, *at, None, Action::Trigger(event))
@@ -434,8 +436,8 @@ fn lay(
         } => {
             let tested = expression_of(alloc, scope, tokens, condition)?;
             let mut inner = Vec::new(alloc);
-            lay(alloc, scope, tokens, body, table, &mut inner)?;
-            let action = testing(tested, inner, Vec::new(alloc));
+            lower(alloc, scope, tokens, body, table, &mut inner)?;
+            let action = test_action(tested, inner, Vec::new(alloc));
             put(table, into, *at, first_in(condition), action)
         }
         Statement::IfElse {
@@ -446,15 +448,15 @@ fn lay(
         } => {
             let tested = expression_of(alloc, scope, tokens, condition)?;
             let mut inner = Vec::new(alloc);
-            lay(alloc, scope, tokens, body, table, &mut inner)?;
+            lower(alloc, scope, tokens, body, table, &mut inner)?;
             let mut outer = Vec::new(alloc);
-            lay(alloc, scope, tokens, other, table, &mut outer)?;
+            lower(alloc, scope, tokens, other, table, &mut outer)?;
             put(
                 table,
                 into,
                 *at,
                 first_in(condition),
-                testing(tested, inner, outer),
+                test_action(tested, inner, outer),
             )
         }
         Statement::Case {
@@ -462,7 +464,7 @@ fn lay(
             kind,
             value,
             branches,
-        } => lay_case(
+        } => lower_case(
             alloc, scope, tokens, *at, *kind, branches, value, table, into,
         ),
         Statement::While {
@@ -472,19 +474,19 @@ fn lay(
         } => {
             let tested = expression_of(alloc, scope, tokens, condition)?;
             let mut inner = Vec::new(alloc);
-            lay(alloc, scope, tokens, body, table, &mut inner)?;
+            lower(alloc, scope, tokens, body, table, &mut inner)?;
             put(
                 table,
                 into,
                 *at,
                 first_in(condition),
-                turning(tested, inner),
+                while_action(tested, inner),
             )
         }
         Statement::Repeat { at, count, body } => {
             let repeated = expression_of(alloc, scope, tokens, count)?;
             let mut inner = Vec::new(alloc);
-            lay(alloc, scope, tokens, body, table, &mut inner)?;
+            lower(alloc, scope, tokens, body, table, &mut inner)?;
             let action = Action::Repeat {
                 count: repeated,
                 body: Places::new(inner),
@@ -493,7 +495,7 @@ fn lay(
         }
         Statement::Forever { at, body } => {
             let mut inner = Vec::new(alloc);
-            lay(alloc, scope, tokens, body, table, &mut inner)?;
+            lower(alloc, scope, tokens, body, table, &mut inner)?;
             let body = Places::new(inner);
             put(table, into, *at, None, Action::Forever { body })
         }
@@ -506,13 +508,13 @@ fn lay(
             next_value,
             body,
         } => {
-            lay_assignment(
+            lower_assignment(
                 alloc, scope, tokens, true, target, &None, value, table, into,
             )?;
             let tested = expression_of(alloc, scope, tokens, condition)?;
             let mut inner = Vec::new(alloc);
-            lay(alloc, scope, tokens, body, table, &mut inner)?;
-            lay_assignment(
+            lower(alloc, scope, tokens, body, table, &mut inner)?;
+            lower_assignment(
                 alloc,
                 scope,
                 tokens,
@@ -528,7 +530,7 @@ fn lay(
                 into,
                 *at,
                 first_in(condition),
-                turning(tested, inner),
+                while_action(tested, inner),
             )
         }
         Statement::Wait {
@@ -539,27 +541,27 @@ fn lay(
             let awaited = expression_of(alloc, scope, tokens, condition)?;
             let terms = condition_terms(alloc, scope, tokens, condition)?;
             let mut inner = Vec::new(alloc);
-            lay(alloc, scope, tokens, body, table, &mut inner)?;
+            lower(alloc, scope, tokens, body, table, &mut inner)?;
             put(
                 table,
                 into,
                 *at,
                 first_in(condition),
-                waiting(awaited, terms, inner),
+                wait_action(awaited, terms, inner),
             )
         }
         Statement::OnEvent { at, event, body } => {
             let terms = event_terms(alloc, scope, tokens, event, body)?;
             let mut inner = Vec::new(alloc);
-            lay(alloc, scope, tokens, body, table, &mut inner)?;
+            lower(alloc, scope, tokens, body, table, &mut inner)?;
             let body = Places::new(inner);
-            put(table, into, *at, None, Action::On { terms, body })
+            put(table, into, *at, None, Action::EventControl { terms, body })
         }
     }
 }
 
 #[cycle(statements)]
-fn lay_all(
+fn lower_all(
     alloc: Global,
     scope: &Scope<'_, '_>,
     tokens: &Tokens<'_>,
@@ -567,8 +569,8 @@ fn lay_all(
     table: &mut Table,
     into: &mut Vec<usize>,
 ) -> Result<(), OrMemory<ElabFault>>
-    ensures ok { HasLaid result
-        (all_laid_of (words_of tokens.now) scope.now table.old statements.now) into.old table.new
+    ensures ok { HasLowered result
+        (all_lowered_of (words_of tokens.now) scope.now table.old statements.now) into.old table.new
         into.new }
     ensures right { OnOk result
         (broken_in_all scope.now (statement_trees (words_of tokens.now) statements.now) ≡ None) }
@@ -576,14 +578,14 @@ fn lay_all(
         (statement_trees (words_of tokens.now) statements.now))) }
 {
     for statement in statements {
-        lay(alloc, scope, tokens, statement, table, into)?;
+        lower(alloc, scope, tokens, statement, table, into)?;
     }
     Ok(())
 }
 
 // What stands behind a `case`.
 #[cycle(statements)]
-fn lay_case(
+fn lower_case(
     alloc: Global,
     scope: &Scope<'_, '_>,
     tokens: &Tokens<'_>,
@@ -594,7 +596,7 @@ fn lay_case(
     table: &mut Table,
     into: &mut Vec<usize>,
 ) -> Result<(), OrMemory<ElabFault>>
-    ensures ok { HasLaid result (laid scope.now table.old
+    ensures ok { HasLowered result (lowered scope.now table.old
         (case_of kind (text_tree (words_of tokens.now) value.now)
         (branch_trees (words_of tokens.now) branches.now))) into.old table.new into.new }
     ensures right { OnOk result (broken_in scope.now
@@ -604,10 +606,10 @@ fn lay_case(
         (case_of kind (text_tree (words_of tokens.now) value.now)
         (branch_trees (words_of tokens.now) branches.now)))) }
 {
-    let chosen = expression_of(alloc, scope, tokens, value)?;
+    let chosen_of = expression_of(alloc, scope, tokens, value)?;
     let mut choices = Vec::new(alloc);
     let mut otherwise = Vec::new(alloc);
-    lay_branches(
+    lower_branches(
         alloc,
         scope,
         tokens,
@@ -621,13 +623,13 @@ fn lay_case(
         into,
         at,
         first_in(value),
-        choosing(kind, chosen, choices, otherwise),
+        case_action(kind, chosen_of, choices, otherwise),
     )
 }
 
 // The branches of a `case`, and the places of its `default`.
 #[cycle(statements)]
-fn lay_branches(
+fn lower_branches(
     alloc: Global,
     scope: &Scope<'_, '_>,
     tokens: &Tokens<'_>,
@@ -637,7 +639,7 @@ fn lay_branches(
     otherwise: &mut Vec<usize>,
 ) -> Result<(), OrMemory<ElabFault>>
     ensures ok { HasBranches result
-        (branches_laid_of (words_of tokens.now) scope.now table.old branches.now) into.old
+        (branches_lowered_of (words_of tokens.now) scope.now table.old branches.now) into.old
         otherwise.old table.new into.new otherwise.new }
     ensures right { OnOk result
         (broken_branches scope.now (branch_trees (words_of tokens.now) branches.now) ≡ None) }
@@ -645,13 +647,13 @@ fn lay_branches(
         (branch_trees (words_of tokens.now) branches.now))) }
 {
     for branch in branches {
-        lay_branch(alloc, scope, tokens, branch, table, into, otherwise)?;
+        lower_branch(alloc, scope, tokens, branch, table, into, otherwise)?;
     }
     Ok(())
 }
 
 #[cycle(statements)]
-fn lay_branch(
+fn lower_branch(
     alloc: Global,
     scope: &Scope<'_, '_>,
     tokens: &Tokens<'_>,
@@ -661,7 +663,7 @@ fn lay_branch(
     otherwise: &mut Vec<usize>,
 ) -> Result<(), OrMemory<ElabFault>>
     ensures ok { HasBranches result
-        (branch_laid_of (words_of tokens.now) scope.now table.old branch.now) into.old
+        (branch_lowered_of (words_of tokens.now) scope.now table.old branch.now) into.old
         otherwise.old table.new into.new otherwise.new }
     ensures right { OnOk result
         (broken_branch scope.now (branch_tree (words_of tokens.now) branch.now) ≡ None) }
@@ -671,15 +673,15 @@ fn lay_branch(
     match branch {
         Branch::Labelled { labels, body } => {
             let mut places = Vec::new(alloc);
-            lay(alloc, scope, tokens, body, table, &mut places)?;
+            lower(alloc, scope, tokens, body, table, &mut places)?;
             put_labels(alloc, scope, tokens, labels, &places, into)
         }
-        Branch::Default { body, .. } => lay(alloc, scope, tokens, body, table, otherwise),
+        Branch::Default { body, .. } => lower(alloc, scope, tokens, body, table, otherwise),
     }
 }
 
 // The same of a statement that comes again and again (9.9.2).
-fn lay_forever(
+fn lower_forever(
     alloc: Global,
     scope: &Scope<'_, '_>,
     tokens: &Tokens<'_>,
@@ -688,7 +690,7 @@ fn lay_forever(
     table: &mut Table,
     into: &mut Vec<usize>,
 ) -> Result<(), OrMemory<ElabFault>>
-    ensures ok { HasLaid result (laid scope.now table.old
+    ensures ok { HasLowered result (lowered scope.now table.old
         (forever (statement_tree (words_of tokens.now) statement.now))) into.old table.new
         into.new }
     ensures right { OnOk result (broken_in scope.now
@@ -697,13 +699,13 @@ fn lay_forever(
         (forever (statement_tree (words_of tokens.now) statement.now)))) }
 {
     let mut inner = Vec::new(alloc);
-    lay(alloc, scope, tokens, statement, table, &mut inner)?;
+    lower(alloc, scope, tokens, statement, table, &mut inner)?;
     let body = Places::new(inner);
     put(table, into, at, None, Action::Forever { body })
 }
 
 // What drives a net.
-fn lay_drive(
+fn lower_drive(
     alloc: Global,
     scope: &Scope<'_, '_>,
     tokens: &Tokens<'_>,
@@ -712,19 +714,19 @@ fn lay_drive(
     table: &mut Table,
     into: &mut Vec<usize>,
 ) -> Result<(), OrMemory<ElabFault>>
-    ensures ok { HasLaid result (laid_process scope.now table.old (drives
+    ensures ok { HasLowered result (lowered_process scope.now table.old (continuous
         (numbered (words_of tokens.now) net) (text_tree (words_of tokens.now) value.now)))
         into.old table.new into.new }
-    ensures right { OnOk result (broken_process scope.now (drives
+    ensures right { OnOk result (broken_process scope.now (continuous
         (numbered (words_of tokens.now) net) (text_tree (words_of tokens.now) value.now))
         ≡ None) }
-    ensures err { IfFault result (IsBroken (broken_process scope.now (drives
+    ensures err { IfFault result (IsBroken (broken_process scope.now (continuous
         (numbered (words_of tokens.now) net) (text_tree (words_of tokens.now) value.now)))) }
 {
     let number = number_of(scope, tokens, net)?;
     let terms = condition_terms(alloc, scope, tokens, value)?;
     let value = expression_of(alloc, scope, tokens, value)?;
-    let action = Action::Drive {
+    let action = Action::ContinuousAssign {
         net: number,
         value,
         terms,
@@ -733,7 +735,7 @@ fn lay_drive(
 }
 
 // The process that drives a net.
-fn lay_net(
+fn lower_net(
     alloc: Global,
     scope: &Scope<'_, '_>,
     tokens: &Tokens<'_>,
@@ -742,22 +744,22 @@ fn lay_net(
     table: &mut Table,
     into: &mut Vec<Places>,
 ) -> Result<(), OrMemory<ElabFault>>
-    ensures ok { HaveLaid result (laid_processes scope.now table.old (drives
+    ensures ok { HaveLowered result (lowered_processes scope.now table.old (continuous
         (numbered (words_of tokens.now) net) (text_tree (words_of tokens.now) value.now) ∷ []))
         into.old table.new into.new }
-    ensures right { OnOk result (AreRight scope.now (drives
+    ensures right { OnOk result (AreRight scope.now (continuous
         (numbered (words_of tokens.now) net) (text_tree (words_of tokens.now) value.now) ∷ [])) }
-    ensures err { IfFault result (IsBroken (broken_processes scope.now (drives
+    ensures err { IfFault result (IsBroken (broken_processes scope.now (continuous
         (numbered (words_of tokens.now) net) (text_tree (words_of tokens.now) value.now) ∷ []))) }
 {
     let mut begins = Vec::new(alloc);
-    lay_drive(alloc, scope, tokens, net, value, table, &mut begins)?;
+    lower_drive(alloc, scope, tokens, net, value, table, &mut begins)?;
     into.push(Places::new(begins))?;
     Ok(())
 }
 
 // The process of a variable that is declared with a value.
-fn lay_variable(
+fn lower_variable(
     alloc: Global,
     scope: &Scope<'_, '_>,
     tokens: &Tokens<'_>,
@@ -766,19 +768,19 @@ fn lay_variable(
     table: &mut Table,
     into: &mut Vec<Places>,
 ) -> Result<(), OrMemory<ElabFault>>
-    ensures ok { HaveLaid result (laid_processes scope.now table.old (does (assign
+    ensures ok { HaveLowered result (lowered_processes scope.now table.old (procedural (assign
         (whole (numbered (words_of tokens.now) name)) None
         (text_tree (words_of tokens.now) value.now)) ∷ [])) into.old table.new into.new }
-    ensures right { OnOk result (AreRight scope.now (does (assign
+    ensures right { OnOk result (AreRight scope.now (procedural (assign
         (whole (numbered (words_of tokens.now) name)) None
         (text_tree (words_of tokens.now) value.now)) ∷ [])) }
-    ensures err { IfFault result (IsBroken (broken_processes scope.now (does (assign
+    ensures err { IfFault result (IsBroken (broken_processes scope.now (procedural (assign
         (whole (numbered (words_of tokens.now) name)) None
         (text_tree (words_of tokens.now) value.now)) ∷ []))) }
 {
     let target = Written::Whole(name);
     let mut begins = Vec::new(alloc);
-    lay_assignment(
+    lower_assignment(
         alloc,
         scope,
         tokens,
@@ -794,7 +796,7 @@ fn lay_variable(
 }
 
 // The process of a name that is declared with a value, if it is.
-fn lay_start(
+fn lower_start(
     alloc: Global,
     scope: &Scope<'_, '_>,
     tokens: &Tokens<'_>,
@@ -803,7 +805,7 @@ fn lay_start(
     table: &mut Table,
     into: &mut Vec<Places>,
 ) -> Result<(), OrMemory<ElabFault>>
-    ensures ok { HaveLaid result (laid_processes scope.now table.old
+    ensures ok { HaveLowered result (lowered_processes scope.now table.old
         (starts_in (words_of tokens.now) word (one.now ∷ []))) into.old table.new into.new }
     ensures right { OnOk result
         (AreRight scope.now (starts_in (words_of tokens.now) word (one.now ∷ []))) }
@@ -814,14 +816,14 @@ fn lay_start(
     match &one.value {
         None => Ok(()),
         Some(value) => match word {
-            NetKind::Wire => lay_net(alloc, scope, tokens, one.name, value, table, into),
-            NetKind::Reg => lay_variable(alloc, scope, tokens, one.name, value, table, into),
+            NetKind::Wire => lower_net(alloc, scope, tokens, one.name, value, table, into),
+            NetKind::Reg => lower_variable(alloc, scope, tokens, one.name, value, table, into),
         },
     }
 }
 
 // The processes of names that are declared together.
-fn lay_starts(
+fn lower_starts(
     alloc: Global,
     scope: &Scope<'_, '_>,
     tokens: &Tokens<'_>,
@@ -830,7 +832,7 @@ fn lay_starts(
     table: &mut Table,
     into: &mut Vec<Places>,
 ) -> Result<(), OrMemory<ElabFault>>
-    ensures ok { HaveLaid result (laid_processes scope.now table.old
+    ensures ok { HaveLowered result (lowered_processes scope.now table.old
         (starts_in (words_of tokens.now) word list.now)) into.old table.new into.new }
     ensures right { OnOk result (AreRight scope.now (starts_in (words_of tokens.now) word
         list.now)) }
@@ -838,13 +840,13 @@ fn lay_starts(
         (IsBroken (broken_processes scope.now (starts_in (words_of tokens.now) word list.now))) }
 {
     for one in list {
-        lay_start(alloc, scope, tokens, word, one, table, into)?;
+        lower_start(alloc, scope, tokens, word, one, table, into)?;
     }
     Ok(())
 }
 
 // The process of one part of an `assign`.
-fn lay_setting(
+fn lower_setting(
     alloc: Global,
     scope: &Scope<'_, '_>,
     tokens: &Tokens<'_>,
@@ -852,18 +854,18 @@ fn lay_setting(
     table: &mut Table,
     into: &mut Vec<Places>,
 ) -> Result<(), OrMemory<ElabFault>>
-    ensures ok { HaveLaid result (laid_processes scope.now table.old
+    ensures ok { HaveLowered result (lowered_processes scope.now table.old
         (drives_in (words_of tokens.now) (one.now ∷ []))) into.old table.new into.new }
     ensures right { OnOk result (AreRight scope.now (drives_in (words_of tokens.now)
         (one.now ∷ []))) }
     ensures err { IfFault result
         (IsBroken (broken_processes scope.now (drives_in (words_of tokens.now) (one.now ∷ [])))) }
 {
-    lay_net(alloc, scope, tokens, one.name, &one.value, table, into)
+    lower_net(alloc, scope, tokens, one.name, &one.value, table, into)
 }
 
 // The processes of an `assign`.
-fn lay_drives(
+fn lower_drives(
     alloc: Global,
     scope: &Scope<'_, '_>,
     tokens: &Tokens<'_>,
@@ -871,20 +873,20 @@ fn lay_drives(
     table: &mut Table,
     into: &mut Vec<Places>,
 ) -> Result<(), OrMemory<ElabFault>>
-    ensures ok { HaveLaid result (laid_processes scope.now table.old
+    ensures ok { HaveLowered result (lowered_processes scope.now table.old
         (drives_in (words_of tokens.now) list.now)) into.old table.new into.new }
     ensures right { OnOk result (AreRight scope.now (drives_in (words_of tokens.now) list.now)) }
     ensures err { IfFault result
         (IsBroken (broken_processes scope.now (drives_in (words_of tokens.now) list.now))) }
 {
     for one in list {
-        lay_setting(alloc, scope, tokens, one, table, into)?;
+        lower_setting(alloc, scope, tokens, one, table, into)?;
     }
     Ok(())
 }
 
 // The processes of an item.
-fn lay_item(
+fn lower_item(
     alloc: Global,
     scope: &Scope<'_, '_>,
     tokens: &Tokens<'_>,
@@ -892,8 +894,8 @@ fn lay_item(
     table: &mut Table,
     into: &mut Vec<Places>,
 ) -> Result<(), OrMemory<ElabFault>>
-    ensures ok { HaveLaid result
-        (laid_of_item (words_of tokens.now) scope.now table.old item.now) into.old table.new
+    ensures ok { HaveLowered result
+        (lowered_of_item (words_of tokens.now) scope.now table.old item.now) into.old table.new
         into.new }
     ensures right { OnOk result
         (AreRight scope.now (process_trees_by (item_tree (words_of tokens.now) item.now))) }
@@ -904,26 +906,26 @@ fn lay_item(
     match item {
         ModuleItem::Initial { statement, .. } => {
             let mut begins = Vec::new(alloc);
-            lay(alloc, scope, tokens, statement, table, &mut begins)?;
+            lower(alloc, scope, tokens, statement, table, &mut begins)?;
             into.push(Places::new(begins))?;
             Ok(())
         }
         ModuleItem::Parameters { .. } => Ok(()),
         ModuleItem::Declaration { kind, declared, .. } => match kind {
             DeclarationKind::Variables { net, .. } => {
-                lay_starts(alloc, scope, tokens, *net, declared, table, into)
+                lower_starts(alloc, scope, tokens, *net, declared, table, into)
             }
             DeclarationKind::Integers => {
-                lay_starts(alloc, scope, tokens, NetKind::Reg, declared, table, into)
+                lower_starts(alloc, scope, tokens, NetKind::Reg, declared, table, into)
             }
         },
         ModuleItem::Events { .. } => Ok(()),
         ModuleItem::Assignments { settings, .. } => {
-            lay_drives(alloc, scope, tokens, settings, table, into)
+            lower_drives(alloc, scope, tokens, settings, table, into)
         }
         ModuleItem::Always { at, statement } => {
             let mut begins = Vec::new(alloc);
-            lay_forever(alloc, scope, tokens, *at, statement, table, &mut begins)?;
+            lower_forever(alloc, scope, tokens, *at, statement, table, &mut begins)?;
             into.push(Places::new(begins))?;
             Ok(())
         }
@@ -941,8 +943,8 @@ pub fn put_processes(
     table: &mut Table,
     into: &mut Vec<Places>,
 ) -> Result<(), OrMemory<ElabFault>>
-    requires small { scope.now.known + length (given_in (words_of tokens.now) items.now) < 2 ^ 64 }
-    ensures ok { HaveLaid result
+    requires small { scope.now.known + length (symbols_in (words_of tokens.now) items.now) < 2 ^ 64 }
+    ensures ok { HaveLowered result
         (processes_of (words_of tokens.now) scope.now table.old items.now) into.old table.new
         into.new }
     ensures right { OnOk result
@@ -953,8 +955,8 @@ pub fn put_processes(
     let mut known = scope.known;
     for item in items {
         let here = scope.at(known);
-        lay_item(alloc, &here, tokens, item, table, into)?;
-        known += given_count(item);
+        lower_item(alloc, &here, tokens, item, table, into)?;
+        known += symbol_count(item);
     }
     Ok(())
 }

@@ -8,13 +8,13 @@ ghost use Rattle.velab.specs.Elaborate as spec;
 ghost use Rattle.velab.specs.Elaborate.{variable_of, declarations_of, variables_from, broken_declaration, broken_from, broken_ports, broken_range, length_of};
 ghost use Rattle.vmodules.specs.Inner.{port_form};
 ghost use Rattle.vast.specs.Words.{Text};
-ghost use Rattle.velab.specs.Inner.{port_variables, given_in, integers_item, kind_item, net_item, texts_of, variable_in, variables_by, variables_for, IsNarrow};
+ghost use Rattle.velab.specs.Inner.{port_variables, symbols_in, integers_item, kind_item, net_item, texts_of, variable_in, variables_by, variables_for, IsNarrow};
 ghost use Rattle.velab.specs.Rules.{IsBroken};
 ghost use Rattle.velab.specs.Scopes.{Scope as Known};
 
+use crate::drivers::ScopeDrivers;
 use crate::fault::ElabFault;
-use crate::home::Home;
-use crate::parameter::given_count;
+use crate::parameter::symbol_count;
 use crate::range::{range_bounds, span};
 use crate::scope::Scope;
 use basis::{NoMemory, OrMemory};
@@ -49,7 +49,7 @@ fn length_of(form: Form) -> u32
     }
 }
 /// An instance's path or the top's name, a dot and a name.
-pub fn dotted(alloc: Global, scope: &[u8], name: &[u8]) -> Result<Vec<u8>, NoMemory>
+pub fn dotted_path(alloc: Global, scope: &[u8], name: &[u8]) -> Result<Vec<u8>, NoMemory>
     ensures { IfOk result (λ text. text.items ≡ scope.now ++ 46 ∷ name.now) }
 {
     let mut text = Vec::from_slice(alloc, scope)?;
@@ -59,14 +59,14 @@ pub fn dotted(alloc: Global, scope: &[u8], name: &[u8]) -> Result<Vec<u8>, NoMem
 }
 
 // What each bit of a variable is until it is first written.
-fn start_of(home: &Home<'_, '_>, kind: Kind, name: &[u8]) -> Bit4
-    ensures { result ≡ spec.start_by home.now kind name.now }
+fn start_of(drivers: &ScopeDrivers<'_, '_>, kind: Kind, name: &[u8]) -> Bit4
+    ensures { result ≡ spec.start_by drivers.now kind name.now }
 {
     match kind {
         Kind::Reg => Bit4::X,
         Kind::Integer => Bit4::X,
         Kind::Wire => {
-            if home.driven.place(name).is_some() {
+            if drivers.driven.place(name).is_some() {
                 Bit4::X
             } else {
                 Bit4::Z
@@ -77,15 +77,15 @@ fn start_of(home: &Home<'_, '_>, kind: Kind, name: &[u8]) -> Bit4
 
 fn variable(
     alloc: Global,
-    home: &Home<'_, '_>,
+    drivers: &ScopeDrivers<'_, '_>,
     form: Form,
     name: &[u8],
 ) -> Result<Variable, NoMemory>
     requires { IsNarrow form.bounds }
-    ensures { IfOk result (λ v. v ≡ variable_in home.now form name.now) }
+    ensures { IfOk result (λ v. v ≡ variable_in drivers.now form name.now) }
 {
-    let start = start_of(home, form.kind, name);
-    let name = dotted(alloc, home.name, name)?;
+    let start = start_of(drivers, form.kind, name);
+    let name = dotted_path(alloc, drivers.name, name)?;
     Ok(Variable {
         name,
         kind: form.kind,
@@ -100,17 +100,17 @@ fn variable(
 fn put_all(
     alloc: Global,
     tokens: &Tokens<'_>,
-    home: &Home<'_, '_>,
+    drivers: &ScopeDrivers<'_, '_>,
     form: Form,
     list: &[Declared],
     into: &mut Vec<Variable>,
 ) -> Result<(), NoMemory>
     requires { IsNarrow form.bounds }
     ensures { OnOk result (into.new.items ≡
-        into.old.items ++ variables_by (words_of tokens.now) home.now form list.now) }
+        into.old.items ++ variables_by (words_of tokens.now) drivers.now form list.now) }
 {
     for one in list {
-        let variable = variable(alloc, home, form, letters(tokens, one.name))?;
+        let variable = variable(alloc, drivers, form, letters(tokens, one.name))?;
         into.push(variable)?;
     }
     Ok(())
@@ -120,12 +120,12 @@ fn put_all(
 fn put_integers(
     alloc: Global,
     tokens: &Tokens<'_>,
-    home: &Home<'_, '_>,
+    drivers: &ScopeDrivers<'_, '_>,
     list: &[Declared],
     into: &mut Vec<Variable>,
 ) -> Result<(), NoMemory>
     ensures { (scope : Known) → OnOk result (into.new.items ≡ into.old.items
-        ++ map (variable_of home.now scope) (declarations_of
+        ++ map (variable_of drivers.now scope) (declarations_of
         (integers_item (words_of tokens.now) list.now))) }
 {
     let form = Form {
@@ -133,7 +133,7 @@ fn put_integers(
         signed: true,
         bounds: None,
     };
-    put_all(alloc, tokens, home, form, list, into)
+    put_all(alloc, tokens, drivers, form, list, into)
 }
 
 // What a word declares.
@@ -150,7 +150,7 @@ fn kind_of(net: NetKind) -> Kind
 fn put_nets(
     alloc: Global,
     tokens: &Tokens<'_>,
-    home: &Home<'_, '_>,
+    drivers: &ScopeDrivers<'_, '_>,
     scope: &Scope<'_, '_>,
     net: NetKind,
     kind: &SignAndRange,
@@ -158,7 +158,7 @@ fn put_nets(
     into: &mut Vec<Variable>,
 ) -> Result<(), OrMemory<ElabFault>>
     ensures ok { OnOk result (into.new.items ≡ into.old.items
-        ++ map (variable_of home.now scope.now) (declarations_of
+        ++ map (variable_of drivers.now scope.now) (declarations_of
         (net_item (words_of tokens.now) net kind.now list.now))) }
     ensures right { OnOk result
         (broken_declaration scope.now (net_item (words_of tokens.now) net kind.now list.now)
@@ -172,7 +172,7 @@ fn put_nets(
         signed: kind.signed,
         bounds,
     };
-    put_all(alloc, tokens, home, form, list, into)?;
+    put_all(alloc, tokens, drivers, form, list, into)?;
     Ok(())
 }
 
@@ -180,14 +180,14 @@ fn put_nets(
 fn put_kind(
     alloc: Global,
     tokens: &Tokens<'_>,
-    home: &Home<'_, '_>,
+    drivers: &ScopeDrivers<'_, '_>,
     scope: &Scope<'_, '_>,
     kind: &DeclarationKind,
     list: &[Declared],
     into: &mut Vec<Variable>,
 ) -> Result<(), OrMemory<ElabFault>>
     ensures ok { OnOk result (into.new.items ≡ into.old.items
-        ++ map (variable_of home.now scope.now) (declarations_of
+        ++ map (variable_of drivers.now scope.now) (declarations_of
         (kind_item (words_of tokens.now) kind.now list.now))) }
     ensures right { OnOk result
         (broken_declaration scope.now (kind_item (words_of tokens.now) kind.now list.now) ≡ None) }
@@ -196,10 +196,10 @@ fn put_kind(
 {
     match kind {
         DeclarationKind::Variables { net, kind } => {
-            put_nets(alloc, tokens, home, scope, *net, kind, list, into)
+            put_nets(alloc, tokens, drivers, scope, *net, kind, list, into)
         }
         DeclarationKind::Integers => {
-            put_integers(alloc, tokens, home, list, into)?;
+            put_integers(alloc, tokens, drivers, list, into)?;
             Ok(())
         }
     }
@@ -209,13 +209,13 @@ fn put_kind(
 fn put_item(
     alloc: Global,
     tokens: &Tokens<'_>,
-    home: &Home<'_, '_>,
+    drivers: &ScopeDrivers<'_, '_>,
     scope: &Scope<'_, '_>,
     item: &ModuleItem,
     into: &mut Vec<Variable>,
 ) -> Result<(), OrMemory<ElabFault>>
     ensures ok { OnOk result (into.new.items ≡
-        into.old.items ++ variables_for (words_of tokens.now) home.now scope.now item.now) }
+        into.old.items ++ variables_for (words_of tokens.now) drivers.now scope.now item.now) }
     ensures right { OnOk result
         (broken_declaration scope.now (item_tree (words_of tokens.now) item.now) ≡ None) }
     ensures err { IfFault result
@@ -223,7 +223,7 @@ fn put_item(
 {
     match item {
         ModuleItem::Declaration { kind, declared, .. } => {
-            put_kind(alloc, tokens, home, scope, kind, declared, into)
+            put_kind(alloc, tokens, drivers, scope, kind, declared, into)
         }
         ModuleItem::Parameters { .. } => Ok(()),
         ModuleItem::Events { .. } => Ok(()),
@@ -270,13 +270,13 @@ fn port_signed(port: &PortForm<'_>) -> bool
 fn put_port(
     alloc: Global,
     tokens: &Tokens<'_>,
-    home: &Home<'_, '_>,
+    drivers: &ScopeDrivers<'_, '_>,
     scope: &Scope<'_, '_>,
     port: &PortForm<'_>,
     into: &mut Vec<Variable>,
 ) -> Result<(), OrMemory<ElabFault>>
     ensures ok { OnOk result (into.new.items ≡
-        into.old.items ++ port_variables (words_of tokens.now) home.now scope.now (port.now ∷ [])) }
+        into.old.items ++ port_variables (words_of tokens.now) drivers.now scope.now (port.now ∷ [])) }
     ensures right { OnOk result
         (broken_range scope.now (port_form (words_of tokens.now) port.now).type.range ≡ None) }
     ensures err { IfFault result
@@ -288,7 +288,7 @@ fn put_port(
         signed: port_signed(port),
         bounds,
     };
-    let variable = variable(alloc, home, form, letters(tokens, port.name))?;
+    let variable = variable(alloc, drivers, form, letters(tokens, port.name))?;
     into.push(variable)?;
     Ok(())
 }
@@ -297,20 +297,20 @@ fn put_port(
 pub fn put_ports(
     alloc: Global,
     tokens: &Tokens<'_>,
-    home: &Home<'_, '_>,
+    drivers: &ScopeDrivers<'_, '_>,
     scope: &Scope<'_, '_>,
     ports: &[PortForm<'_>],
     into: &mut Vec<Variable>,
 ) -> Result<(), OrMemory<ElabFault>>
     ensures ok { OnOk result (into.new.items ≡
-        into.old.items ++ port_variables (words_of tokens.now) home.now scope.now ports.now) }
+        into.old.items ++ port_variables (words_of tokens.now) drivers.now scope.now ports.now) }
     ensures right { OnOk result
         (broken_ports scope.now (map (port_form (words_of tokens.now)) ports.now) ≡ None) }
     ensures err { IfFault result
         (IsBroken (broken_ports scope.now (map (port_form (words_of tokens.now)) ports.now))) }
 {
     for port in ports {
-        put_port(alloc, tokens, home, scope, port, into)?;
+        put_port(alloc, tokens, drivers, scope, port, into)?;
     }
     Ok(())
 }
@@ -319,14 +319,14 @@ pub fn put_ports(
 pub fn put_variables(
     alloc: Global,
     tokens: &Tokens<'_>,
-    home: &Home<'_, '_>,
+    drivers: &ScopeDrivers<'_, '_>,
     scope: &Scope<'_, '_>,
     items: &[ModuleItem],
     into: &mut Vec<Variable>,
 ) -> Result<(), OrMemory<ElabFault>>
-    requires small { scope.now.known + length (given_in (words_of tokens.now) items.now) < 2 ^ 64 }
+    requires small { scope.now.known + length (symbols_in (words_of tokens.now) items.now) < 2 ^ 64 }
     ensures ok { OnOk result (into.new.items ≡ into.old.items
-        ++ variables_from home.now scope.now (map (item_tree (words_of tokens.now)) items.now)) }
+        ++ variables_from drivers.now scope.now (map (item_tree (words_of tokens.now)) items.now)) }
     ensures right { OnOk result
         (broken_from scope.now (map (item_tree (words_of tokens.now)) items.now) ≡ None) }
     ensures err { IfFault result
@@ -335,8 +335,8 @@ pub fn put_variables(
     let mut known = scope.known;
     for item in items {
         let here = scope.at(known);
-        put_item(alloc, tokens, home, &here, item, into)?;
-        known += given_count(item);
+        put_item(alloc, tokens, drivers, &here, item, into)?;
+        known += symbol_count(item);
     }
     Ok(())
 }

@@ -16,8 +16,8 @@ use vdesign::action::{Action, Branch, Targets};
 use vdesign::design::Variable;
 use vdesign::expression::Expression;
 use vdesign::print::Piece;
+use vvalue::environment::Environment;
 use vvalue::flaw::{Flaw, flaw_of, targets_flaw};
-use vvalue::moment::Moment;
 
 // For each variable as many bits as it has.
 fn blanks(alloc: Global, variables: &[Variable]) -> Result<Vec<Vec4>, NoMemory>
@@ -30,31 +30,31 @@ fn blanks(alloc: Global, variables: &[Variable]) -> Result<Vec<Vec4>, NoMemory>
     Ok(values)
 }
 
-fn branches_flaw(branches: &[Branch], moment: &Moment<'_>) -> Option<Flaw>
-    ensures { result ≡ spec.first_flaw (spec.branch_flaw moment.now) branches.now }
+fn branches_flaw(branches: &[Branch], environment: &Environment<'_>) -> Option<Flaw>
+    ensures { result ≡ spec.first_flaw (spec.branch_flaw environment.now) branches.now }
 {
     for branch in branches {
-        if let Some(flaw) = flaw_of(&branch.item, moment) {
+        if let Some(flaw) = flaw_of(&branch.item, environment) {
             return Some(flaw);
         }
     }
     None
 }
 
-fn piece_flaw(piece: &Piece, moment: &Moment<'_>) -> Option<Flaw>
-    ensures { result ≡ spec.piece_flaw moment.now piece.now }
+fn piece_flaw(piece: &Piece, environment: &Environment<'_>) -> Option<Flaw>
+    ensures { result ≡ spec.piece_flaw environment.now piece.now }
 {
     match piece {
         Piece::Text(_) => None,
-        Piece::Value { value, .. } => flaw_of(value, moment),
+        Piece::Value { value, .. } => flaw_of(value, environment),
     }
 }
 
-fn pieces_flaw(pieces: &[Piece], moment: &Moment<'_>) -> Option<Flaw>
-    ensures { result ≡ spec.first_flaw (spec.piece_flaw moment.now) pieces.now }
+fn pieces_flaw(pieces: &[Piece], environment: &Environment<'_>) -> Option<Flaw>
+    ensures { result ≡ spec.first_flaw (spec.piece_flaw environment.now) pieces.now }
 {
     for piece in pieces {
-        if let Some(flaw) = piece_flaw(piece, moment) {
+        if let Some(flaw) = piece_flaw(piece, environment) {
             return Some(flaw);
         }
     }
@@ -62,10 +62,14 @@ fn pieces_flaw(pieces: &[Piece], moment: &Moment<'_>) -> Option<Flaw>
 }
 
 // What is wrong with an assignment of either kind: with its targets, or else with its value.
-fn assignment_flaw(targets: &Targets, value: &Expression, moment: &Moment<'_>) -> Option<Flaw>
-    ensures { result ≡ spec.assignment_flaw moment.now targets.now value.now }
+fn assignment_flaw(
+    targets: &Targets,
+    value: &Expression,
+    environment: &Environment<'_>,
+) -> Option<Flaw>
+    ensures { result ≡ spec.assignment_flaw environment.now targets.now value.now }
 {
-    targets_flaw(targets, moment).or(flaw_of(value, moment))
+    targets_flaw(targets, environment).or(flaw_of(value, environment))
 }
 
 // The same of one with a delay: with its amount first.
@@ -73,51 +77,51 @@ fn delayed_flaw(
     amount: &Expression,
     targets: &Targets,
     value: &Expression,
-    moment: &Moment<'_>,
+    environment: &Environment<'_>,
 ) -> Option<Flaw>
-    ensures { result ≡ option_or (spec_flaw_of moment.now amount.now)
-        (spec.assignment_flaw moment.now targets.now value.now) }
+    ensures { result ≡ option_or (spec_flaw_of environment.now amount.now)
+        (spec.assignment_flaw environment.now targets.now value.now) }
 {
-    flaw_of(amount, moment).or(assignment_flaw(targets, value, moment))
+    flaw_of(amount, environment).or(assignment_flaw(targets, value, environment))
 }
 
-fn action_flaw(action: &Action, moment: &Moment<'_>) -> Option<Flaw>
-    ensures { result ≡ spec.action_flaw moment.now action.now }
+fn action_flaw(action: &Action, environment: &Environment<'_>) -> Option<Flaw>
+    ensures { result ≡ spec.action_flaw environment.now action.now }
 {
     match action {
-        Action::Assign { targets, value } => assignment_flaw(targets, value, moment),
-        Action::Nonblocking { targets, value } => assignment_flaw(targets, value, moment),
-        Action::Held {
+        Action::Assign { targets, value } => assignment_flaw(targets, value, environment),
+        Action::Nonblocking { targets, value } => assignment_flaw(targets, value, environment),
+        Action::AssignDelayed {
             amount,
             targets,
             value,
-        } => delayed_flaw(amount, targets, value, moment),
-        Action::Posted {
+        } => delayed_flaw(amount, targets, value, environment),
+        Action::NonblockingDelayed {
             amount,
             targets,
             value,
-        } => delayed_flaw(amount, targets, value, moment),
+        } => delayed_flaw(amount, targets, value, environment),
         Action::Trigger(_) => None,
-        Action::Test { condition, .. } => flaw_of(condition, moment),
+        Action::Test { condition, .. } => flaw_of(condition, environment),
         Action::Case {
             value,
             branches,
             ..
-        } => match flaw_of(value, moment) {
+        } => match flaw_of(value, environment) {
             Some(flaw) => Some(flaw),
-            None => branches_flaw(branches.as_slice(), moment),
+            None => branches_flaw(branches.as_slice(), environment),
         },
-        Action::Again { condition, .. } => flaw_of(condition, moment),
-        Action::Repeat { count, .. } => flaw_of(count, moment),
+        Action::While { condition, .. } => flaw_of(condition, environment),
+        Action::Repeat { count, .. } => flaw_of(count, environment),
         Action::Forever { .. } => None,
-        Action::Delay { amount, .. } => flaw_of(amount, moment),
-        Action::On { .. } => None,
-        Action::Until { condition, .. } => flaw_of(condition, moment),
-        Action::Drive { value, .. } => flaw_of(value, moment),
-        Action::Print { pieces, .. } => pieces_flaw(pieces.as_slice(), moment),
+        Action::Delay { amount, .. } => flaw_of(amount, environment),
+        Action::EventControl { .. } => None,
+        Action::Wait { condition, .. } => flaw_of(condition, environment),
+        Action::ContinuousAssign { value, .. } => flaw_of(value, environment),
+        Action::Print { pieces, .. } => pieces_flaw(pieces.as_slice(), environment),
         Action::DumpVars(_) => None,
         Action::Dump(_) => None,
-        Action::Pass => None,
+        Action::NoOperation => None,
         Action::Finish => None,
         Action::Stop => None,
     }
@@ -134,11 +138,15 @@ pub fn word_at(words: &[Option<u32>], place: usize) -> Option<u32>
 }
 
 // The first action of which an expression is wrong, told by its word.
-fn first_flawed(actions: &[Action], words: &[Option<u32>], moment: &Moment<'_>) -> Option<ElabFault>
-    ensures { result ≡ spec.table_fault (spec.flaw_rule moment.now) actions.now words.now }
+fn first_flawed(
+    actions: &[Action],
+    words: &[Option<u32>],
+    environment: &Environment<'_>,
+) -> Option<ElabFault>
+    ensures { result ≡ spec.table_fault (spec.flaw_rule environment.now) actions.now words.now }
 {
     for place in 0..actions.len() {
-        if let Some(flaw) = action_flaw(&actions[place], moment) {
+        if let Some(flaw) = action_flaw(&actions[place], environment) {
             return Some(ElabFault {
                 rule: rule_of(flaw),
                 at: word_at(words, place),
@@ -156,18 +164,18 @@ pub fn check_flaws(
     words: &[Option<u32>],
 ) -> Result<(), OrMemory<ElabFault>>
     ensures right { OnOk result (spec.table_fault
-        (spec.flaw_rule (spec.blank_moment variables.now)) actions.now words.now ≡ None) }
+        (spec.flaw_rule (spec.blank_environment variables.now)) actions.now words.now ≡ None) }
     ensures err { IfFault result (IsBroken (spec.table_fault
-        (spec.flaw_rule (spec.blank_moment variables.now)) actions.now words.now)) }
+        (spec.flaw_rule (spec.blank_environment variables.now)) actions.now words.now)) }
 {
     let values = blanks(alloc, variables)?;
-    let moment = Moment {
+    let environment = Environment {
         values: &values,
         variables,
         time: 0,
         factor: 1,
     };
-    match first_flawed(actions, words, &moment) {
+    match first_flawed(actions, words, &environment) {
         None => Ok(()),
         Some(fault) => Err(OrMemory::Fault(fault)),
     }

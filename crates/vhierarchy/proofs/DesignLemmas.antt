@@ -9,17 +9,17 @@ use Rattle.std.specs.Option.{option_or}
 use Rattle.basis.specs.Reasons.{Because, IfFault}
 use Rattle.vdesign.specs.Design.{Design, Variable, Scope as Room}
 use Rattle.vmodules.specs.Names.{has_double, is_declared, first_again}
-use Rattle.vmodules.specs.Connected.{Tied}
+use Rattle.vmodules.specs.Connected.{NamedConnection}
 use Rattle.vmodules.proofs.NameLemmas.{doubles}
 use Rattle.vmodules.specs.Hierarchy.{top_of, module_names, rival_of}
 use Rattle.velab.specs.declared.fault.Rule.TheVariants.{Doubled, Top}
 use Rattle.velab.specs.declared.fault.ElabFault.{ElabFault}
 use Rattle.velab.specs.Rules.{told, broken_at, IsBroken}
 use Rattle.velab.specs.Right.{kind_rule}
-use Rattle.velab.specs.ActionFlaws.{blank_moment, flaw_rule, table_fault}
+use Rattle.velab.specs.ActionFlaws.{blank_environment, flaw_rule, table_fault}
 use Rattle.velab.proofs.ListLemmas.{drop_at}
 use Rattle.velab.proofs.FaultLemmas.{first_breaks, then_breaks, both_right, same_rule}
-use Rattle.vhierarchy.specs.Instances.{Part, Request, nothing, top_request, grown, broken_grown, broken_rule, broken_top, broken_whole, whole_of, design_by, Elaborates}
+use Rattle.vhierarchy.specs.Instances.{Part, Context, nothing, top_context, with_instances, broken_with_instances, broken_rule, broken_top, broken_whole, whole_of, design_by, Elaborates}
 use Rattle.vhierarchy.specs.Reasons.{IsDesignReason}
 use Rattle.vhierarchy.specs.Inner.{variable_names, scope_names}
 
@@ -36,38 +36,38 @@ scopes_again list i s names all within at same =
 
 -- ---- the whole
 
-module _ (modules : SourceTree) (m : ModuleTree) (levels : ℕ) (part : Part) (request : Request) (deep : levels ≡ 16) (empty : part ≡ nothing) (is_top : request ≡ top_request m) where
-  pub whole_is : grown levels modules part request ≡ whole_of modules m
+module _ (modules : SourceTree) (m : ModuleTree) (levels : ℕ) (part : Part) (context : Context) (deep : levels ≡ 16) (empty : part ≡ nothing) (is_top : context ≡ top_context m) where
+  pub whole_is : with_instances levels modules part context ≡ whole_of modules m
   unfolding whole_of
-  whole_is = λ i. grown (deep i) modules (empty i) (is_top i)
+  whole_is = λ i. with_instances (deep i) modules (empty i) (is_top i)
 
-  pub broken_whole_is : broken_grown levels modules part request ≡ broken_whole modules m
+  pub broken_whole_is : broken_with_instances levels modules part context ≡ broken_whole modules m
   unfolding broken_whole
-  broken_whole_is = λ i. broken_grown (deep i) modules (empty i) (is_top i)
+  broken_whole_is = λ i. broken_with_instances (deep i) modules (empty i) (is_top i)
 
 pub no_ok : {T : Type 0} (P : Type 0) (result : Result T (OrMemory ElabFault)) (e : OrMemory ElabFault) → IsErrAnd result (λ y. y ≡ e) → OnOk result P
 no_ok P (Ok x) e h = absurd h
 no_ok P (Err y) e h = tt
 
 -- the top, told of the program's values
-pub top_is : (m : ModuleTree) (name : Text) (names : List Text) (ties : List Tied) → name ≡ m.name.letters → names ≡ [] → ties ≡ [] →
+pub top_is : (m : ModuleTree) (name : Text) (names : List Text) (connections : List NamedConnection) → name ≡ m.name.letters → names ≡ [] → connections ≡ [] →
     record {
       top = name;
       path = name;
       name = m.name;
       depth = 0;
       unit = m;
-      outside = record { scope = record { top = []; names = names; first = 0; variables = 0; events = 0; others = []; known = 0 }; values = ties };
-      ties = ties;
-    } ≡ top_request m
-top_is m name names ties named none nothing_tied = λ i. record {
+      overrides = record { scope = record { top = []; names = names; first = 0; variables = 0; events = 0; others = []; known = 0 }; values = connections };
+      connections = connections;
+    } ≡ top_context m
+top_is m name names connections named none nothing_tied = λ i. record {
   top = named i;
   path = named i;
   name = m.name;
   depth = 0;
   unit = m;
-  outside = record { scope = record { top = []; names = none i; first = 0; variables = 0; events = 0; others = []; known = 0 }; values = nothing_tied i };
-  ties = nothing_tied i;
+  overrides = record { scope = record { top = []; names = none i; first = 0; variables = 0; events = 0; others = []; known = 0 }; values = nothing_tied i };
+  connections = nothing_tied i;
 }
 
 -- what is looked at behind the count of processes: what is written, and sizes
@@ -75,7 +75,7 @@ abbrev pub broken_kinds : Part → Option ElabFault
 broken_kinds part = table_fault (kind_rule part.variables) part.table.actions part.table.words
 
 abbrev pub broken_sizes : Part → Option ElabFault
-broken_sizes part = table_fault (flaw_rule (blank_moment part.variables)) part.table.actions part.table.words
+broken_sizes part = table_fault (flaw_rule (blank_environment part.variables)) part.table.actions part.table.words
 
 abbrev pub behind_counts : Part → Option ElabFault
 behind_counts part = option_or (broken_kinds part) (broken_sizes part)

@@ -3,5 +3,5 @@ pub mod BrokenLemmas
 pub mod DesignLemmas
 pub mod OwnLemmas
 pub mod DriverLemmas
-pub mod WantedLemmas
+pub mod InstantiationLemmas
 mod NamedLemmas

@@ -16,17 +16,17 @@ use Rattle.vast.specs.NumberedModules.{ConnectionsTree, InstanceTree, ItemTree, 
 use Rattle.vast.specs.NumberedTexts.{IsNumbered}
 use Rattle.vast.specs.TreeWords.{declared_with, instance_with, item_with, declaration_kind_with, connections_with, port_with, module_with, source_with}
 use Rattle.vmodules.specs.Names.{has_double, is_declared, first_again}
-use Rattle.vmodules.specs.Hierarchy.{instantiated, module_names, module_of, roots, only_of, top_of}
+use Rattle.vmodules.specs.Hierarchy.{instantiated_names, module_names, module_of, roots, only_of, top_of}
 use Rattle.vmodules.specs.Ports.{Port, port_by, ports_behind, ports_listed, ports_of}
 use Rattle.vdesign.specs.Named.{AreNamed}
 use Rattle.vdesign.specs.Design.{Variable, Design}
 use Rattle.vdesign.specs.declared.design.Kind.TheVariants.{Integer}
 use Rattle.velab.specs.Scopes.{Scope}
-use Rattle.velab.specs.Elaborate.{Home, Declaration, all_declared, kind_of, declared_as, declarations_of, port_declaration, variable_of, variables_from, behind_item, given_by}
+use Rattle.velab.specs.Elaborate.{ScopeDrivers, Declaration, all_declared, kind_of, declared_as, declarations_of, port_declaration, variable_of, variables_from, behind_item, symbols_by}
 use Rattle.velab.specs.declared.fault.Rule.TheVariants.{Doubled}
 use Rattle.velab.specs.Rules.{broken_if, broken_at}
 use Rattle.velab.proofs.FaultLemmas.{first_right, then_right}
-use Rattle.vhierarchy.specs.Instances.{Wanted, wanted_one, wanted_of, wanted_by, wanted_from, wanted_in, Part, Request, own_by, home_by, with_own, inside, asked, grown, nothing, top_request, whole_of, variable_paths, design_by, broken_paths, broken_table, broken_design, broken_whole, broken_top, broken_rule, Elaborates}
+use Rattle.vhierarchy.specs.Instances.{Instantiation, instantiation_by, instantiations_of, instantiations_by, instantiations_from, instantiations_in, Part, Context, own_by, scope_drivers_by, with_own, inside_scope, child_context, with_instances, nothing, top_context, whole_of, variable_paths, design_by, broken_paths, broken_table, broken_design, broken_whole, broken_top, broken_rule, Elaborates}
 
 -- ---- letters and paths
 
@@ -94,7 +94,7 @@ ports_are_named m = list_all is_name (names (map port_declaration (ports_of m)))
 abbrev is_named : ModuleTree → Bool
 is_named m = is_name m.name.letters && (ports_are_named m && list_all item_is_named m.items)
 
-abbrev wanted_is_named : Wanted → Bool
+abbrev wanted_is_named : Instantiation → Bool
 wanted_is_named w = is_name w.name.letters && is_named w.child
 
 -- ---- what the grammar derives has its names; it knows trees without numbers
@@ -214,26 +214,26 @@ only_passes q (x ∷ y ∷ more) m all is = cc
 top_named : (tree : SourceTree) (top : Option Text) (m : ModuleTree) → list_all is_named tree ≡ true → top_of tree top ≡ Some m → is_named m ≡ true
 top_named tree (Some text) m all is = found_passes (λ x. bytes_eq x.name.letters text) is_named tree m all is
 top_named tree None m all is =
-    only_passes is_named (roots tree) m (kept_pass (λ x. not (is_declared (instantiated tree) x.name.letters)) is_named tree all) is
+    only_passes is_named (roots tree) m (kept_pass (λ x. not (is_declared (instantiated_names tree) x.name.letters)) is_named tree all) is
 
 -- ---- the instances of a module are named
 
 each_named : (child : ModuleTree) (known : ℕ) (overrides : Option ConnectionsTree) (list : List InstanceTree) → is_named child ≡ true →
-    list_all is_name (map (λ (one : InstanceTree). one.name.letters) list) ≡ true → list_all wanted_is_named (map (wanted_one child known overrides) list) ≡ true
+    list_all is_name (map (λ (one : InstanceTree). one.name.letters) list) ≡ true → list_all wanted_is_named (map (instantiation_by child known overrides) list) ≡ true
 each_named child known overrides [] e all = refl
 each_named child known overrides (one ∷ more) e all =
-    and_both (wanted_is_named (wanted_one child known overrides one)) (list_all wanted_is_named (map (wanted_one child known overrides) more))
+    and_both (wanted_is_named (instantiation_by child known overrides one)) (list_all wanted_is_named (map (instantiation_by child known overrides) more))
     (and_both (is_name one.name.letters) (is_named child) (and_left (is_name one.name.letters) (list_all is_name (map (λ (x : InstanceTree). x.name.letters) more)) all) e)
     (each_named child known overrides more e (and_right (is_name one.name.letters) (list_all is_name (map (λ (x : InstanceTree). x.name.letters) more)) all))
 
 of_named : (child : Option ModuleTree) (known : ℕ) (overrides : Option ConnectionsTree) (list : List InstanceTree) →
     ((m : ModuleTree) → child ≡ Some m → is_named m ≡ true) → list_all is_name (map (λ (one : InstanceTree). one.name.letters) list) ≡ true →
-    list_all wanted_is_named (wanted_of child known overrides list) ≡ true
+    list_all wanted_is_named (instantiations_of child known overrides list) ≡ true
 of_named None known overrides list e all = refl
 of_named (Some child) known overrides list e all = each_named child known overrides list (e child refl) all
 
 module _ (modules : SourceTree) (named : list_all is_named modules ≡ true) where
-  by_named : (known : ℕ) (item : ItemTree) → item_is_named item ≡ true → list_all wanted_is_named (wanted_by modules known item) ≡ true
+  by_named : (known : ℕ) (item : ItemTree) → item_is_named item ≡ true → list_all wanted_is_named (instantiations_by modules known item) ≡ true
   by_named known (parameters local type settings) e = refl
   by_named known (declaration kind list) e = refl
   by_named known (events list) e = refl
@@ -243,47 +243,47 @@ module _ (modules : SourceTree) (named : list_all is_named modules ≡ true) whe
   by_named known (instances text overrides list) e =
       of_named (module_of modules text.letters) known overrides list (λ m is. found_passes (λ x. bytes_eq x.name.letters text.letters) is_named modules m named is) e
 
-  from_named : (known : ℕ) (items : List ItemTree) → list_all item_is_named items ≡ true → list_all wanted_is_named (wanted_from modules known items) ≡ true
+  from_named : (known : ℕ) (items : List ItemTree) → list_all item_is_named items ≡ true → list_all wanted_is_named (instantiations_from modules known items) ≡ true
   from_named known [] e = refl
   from_named known (item ∷ more) e =
-      list_all-append wanted_is_named (wanted_by modules known item) (wanted_from modules (known + length (given_by item)) more)
-      ∙ and_both (list_all wanted_is_named (wanted_by modules known item)) (list_all wanted_is_named (wanted_from modules (known + length (given_by item)) more))
+      list_all-append wanted_is_named (instantiations_by modules known item) (instantiations_from modules (known + length (symbols_by item)) more)
+      ∙ and_both (list_all wanted_is_named (instantiations_by modules known item)) (list_all wanted_is_named (instantiations_from modules (known + length (symbols_by item)) more))
       (by_named known item (and_left (item_is_named item) (list_all item_is_named more) e))
-      (from_named (known + length (given_by item)) more (and_right (item_is_named item) (list_all item_is_named more) e))
+      (from_named (known + length (symbols_by item)) more (and_right (item_is_named item) (list_all item_is_named more) e))
 
 -- ---- the variables have paths
 
 abbrev all_paths : List Variable → Bool
 all_paths = list_all (λ v. is_path v.name)
 
-module _ (home : Home) (e : is_path home.name ≡ true) where
-  paths_of : (scope : Scope) (ds : List Declaration) → list_all is_name (names ds) ≡ true → all_paths (map (variable_of home scope) ds) ≡ true
+module _ (drivers : ScopeDrivers) (e : is_path drivers.name ≡ true) where
+  paths_of : (scope : Scope) (ds : List Declaration) → list_all is_name (names ds) ≡ true → all_paths (map (variable_of drivers scope) ds) ≡ true
   paths_of scope [] all = refl
   paths_of scope (d ∷ ds) all =
-      and_both (is_path (home.name ++ 46 ∷ d.name.letters)) (all_paths (map (variable_of home scope) ds))
-      (dotted_is_path home.name d.name.letters e (and_left (is_name d.name.letters) (list_all is_name (names ds)) all))
+      and_both (is_path (drivers.name ++ 46 ∷ d.name.letters)) (all_paths (map (variable_of drivers scope) ds))
+      (dotted_is_path drivers.name d.name.letters e (and_left (is_name d.name.letters) (list_all is_name (names ds)) all))
       (paths_of scope ds (and_right (is_name d.name.letters) (list_all is_name (names ds)) all))
 
-  paths_from : (scope : Scope) (items : List ItemTree) → list_all item_is_named items ≡ true → all_paths (variables_from home scope items) ≡ true
+  paths_from : (scope : Scope) (items : List ItemTree) → list_all item_is_named items ≡ true → all_paths (variables_from drivers scope items) ≡ true
   paths_from scope [] all = refl
   paths_from scope (item ∷ more) all =
-      list_all-append (λ (v : Variable). is_path v.name) (map (variable_of home scope) (declarations_of item)) (variables_from home (behind_item scope item) more)
-      ∙ and_both (all_paths (map (variable_of home scope) (declarations_of item))) (all_paths (variables_from home (behind_item scope item) more))
+      list_all-append (λ (v : Variable). is_path v.name) (map (variable_of drivers scope) (declarations_of item)) (variables_from drivers (behind_item scope item) more)
+      ∙ and_both (all_paths (map (variable_of drivers scope) (declarations_of item))) (all_paths (variables_from drivers (behind_item scope item) more))
       (paths_of scope (declarations_of item)
       (and_left (list_all is_name (names (declarations_of item))) (list_all is_name (instance_names item)) (and_left (item_is_named item) (list_all item_is_named more) all)))
       (paths_from (behind_item scope item) more (and_right (item_is_named item) (list_all item_is_named more) all))
 
-own_paths : (request : Request) (ports : List Port) (wanted : List Wanted) (scope : Scope) (part : Part) → is_path request.path ≡ true →
-    list_all is_name (names (map port_declaration ports)) ≡ true → list_all item_is_named request.unit.items ≡ true →
-    all_paths part.variables ≡ true → all_paths (own_by request ports wanted scope part).variables ≡ true
-own_paths request ports wanted scope part e ports_named items_named before =
-    let home : Home = home_by request ports wanted scope in
-    let first : List Variable = map (variable_of home scope) (map port_declaration ports) in
-    let rest : List Variable = variables_from home scope request.unit.items in
+own_paths : (context : Context) (ports : List Port) (instantiation : List Instantiation) (scope : Scope) (part : Part) → is_path context.path ≡ true →
+    list_all is_name (names (map port_declaration ports)) ≡ true → list_all item_is_named context.unit.items ≡ true →
+    all_paths part.variables ≡ true → all_paths (own_by context ports instantiation scope part).variables ≡ true
+own_paths context ports instantiation scope part e ports_named items_named before =
+    let drivers : ScopeDrivers = scope_drivers_by context ports instantiation scope in
+    let first : List Variable = map (variable_of drivers scope) (map port_declaration ports) in
+    let rest : List Variable = variables_from drivers scope context.unit.items in
     list_all-append (λ (v : Variable). is_path v.name) part.variables (first ++ rest)
     ∙ and_both (all_paths part.variables) (all_paths (first ++ rest)) before
     (list_all-append (λ (v : Variable). is_path v.name) first rest
-    ∙ and_both (all_paths first) (all_paths rest) (paths_of home e scope (map port_declaration ports) ports_named) (paths_from home e scope request.unit.items items_named))
+    ∙ and_both (all_paths first) (all_paths rest) (paths_of drivers e scope (map port_declaration ports) ports_named) (paths_from drivers e scope context.unit.items items_named))
 
 fold_keeps : {A : Type 0} (f : Part → A → Part) (good : A → Bool) →
     ((part : Part) (one : A) → good one ≡ true → all_paths part.variables ≡ true → all_paths (f part one).variables ≡ true) →
@@ -294,24 +294,24 @@ fold_keeps f good step (one ∷ more) part all before =
     (step part one (and_left (good one) (list_all good more) all) before)
 
 module _ (modules : SourceTree) (named : list_all is_named modules ≡ true) where
-  grown_paths : (levels : ℕ) (part : Part) (request : Request) → is_path request.path ≡ true → is_named request.unit ≡ true →
-      all_paths part.variables ≡ true → all_paths (grown levels modules part request).variables ≡ true
-  grown_paths zero part request e unit before = before
-  grown_paths (suc levels) part request e unit before =
-      let scope : Scope = inside part request in
-      let inner = and_right (is_name request.unit.name.letters) (ports_are_named request.unit && list_all item_is_named request.unit.items) unit in
-      let ports = and_left (ports_are_named request.unit) (list_all item_is_named request.unit.items) inner in
-      let items = and_right (ports_are_named request.unit) (list_all item_is_named request.unit.items) inner in
-      fold_keeps (λ (so_far : Part) (one : Wanted). grown levels modules so_far (asked scope request one)) wanted_is_named
-      (λ so_far one good. grown_paths levels so_far (asked scope request one) (dotted_is_path request.path one.name.letters e (and_left (is_name one.name.letters) (is_named one.child) good))
+  grown_paths : (levels : ℕ) (part : Part) (context : Context) → is_path context.path ≡ true → is_named context.unit ≡ true →
+      all_paths part.variables ≡ true → all_paths (with_instances levels modules part context).variables ≡ true
+  grown_paths zero part context e unit before = before
+  grown_paths (suc levels) part context e unit before =
+      let scope : Scope = inside_scope part context in
+      let inner = and_right (is_name context.unit.name.letters) (ports_are_named context.unit && list_all item_is_named context.unit.items) unit in
+      let ports = and_left (ports_are_named context.unit) (list_all item_is_named context.unit.items) inner in
+      let items = and_right (ports_are_named context.unit) (list_all item_is_named context.unit.items) inner in
+      fold_keeps (λ (so_far : Part) (one : Instantiation). with_instances levels modules so_far (child_context scope context one)) wanted_is_named
+      (λ so_far one good. grown_paths levels so_far (child_context scope context one) (dotted_is_path context.path one.name.letters e (and_left (is_name one.name.letters) (is_named one.child) good))
       (and_right (is_name one.name.letters) (is_named one.child) good))
-      (wanted_in modules request.unit) (with_own modules part request) (from_named modules named _ request.unit.items items)
-      (own_paths request (ports_of request.unit) (wanted_in modules request.unit) scope part e ports items before)
+      (instantiations_in modules context.unit) (with_own modules part context) (from_named modules named _ context.unit.items items)
+      (own_paths context (ports_of context.unit) (instantiations_in modules context.unit) scope part e ports items before)
 
 whole_paths : (modules : SourceTree) → list_all is_named modules ≡ true → (m : ModuleTree) → is_path m.name.letters ≡ true → is_named m ≡ true →
     all_paths (whole_of modules m).variables ≡ true
 unfolding whole_of
-whole_paths modules named m e unit = grown_paths modules named 16 nothing (top_request m) e unit refl
+whole_paths modules named m e unit = grown_paths modules named 16 nothing (top_context m) e unit refl
 
 -- ---- one by one
 

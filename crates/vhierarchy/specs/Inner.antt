@@ -10,67 +10,67 @@ use Rattle.vast.specs.declared.module.Connections.{Connections}
 use Rattle.vast.specs.declared.module.ModuleTree.{ModuleTree as Parsed}
 use Rattle.vmodules.specs.Names.{is_declared, letters_of}
 use Rattle.vmodules.specs.Connected.{open_names}
-use Rattle.vmodules.specs.Inner.{Tie, Units, ties_tree, units_tree, port_form}
+use Rattle.vmodules.specs.Inner.{ConnectionEntry, Units, entries_tree, units_tree, port_form}
 use Rattle.vmodules.specs.declared.ports.PortForm.{PortForm}
 use Rattle.velab.specs.declared.fault.ElabFault.{ElabFault}
 use Rattle.velab.specs.Scopes.{Scope}
 use Rattle.basis.specs.declared.timescale.Timescale.{Timescale}
 use Rattle.vdesign.specs.Design.{Variable, Scope as Room, Design}
 use Rattle.velab.specs.Elaborate.{Table, Processes, port_names, nets_of}
-use Rattle.velab.specs.Inner.{outside_tree, item_drivers}
-use Rattle.vhierarchy.specs.Instances.{Wanted, wanted_one, broken_instances, wanted_from, broken_among, Part, Request, asked, grown, broken_grown, broken_each, own_by, broken_own_by, variables_by, broken_variables, processes_by, broken_processes, driven_inside, driven_outputs, driven_outside}
-use Rattle.vhierarchy.specs.declared.wanted.Wanted.{Wanted as Found}
-use Rattle.vhierarchy.specs.declared.wanted.Open.{Open}
-use Rattle.vhierarchy.specs.declared.request.Request.{Request as Asked}
+use Rattle.velab.specs.Inner.{overrides_tree, item_drivers}
+use Rattle.vhierarchy.specs.Instances.{Instantiation, instantiation_by, broken_instances, instantiations_from, broken_among, Part, Context, child_context, with_instances, broken_with_instances, broken_each, own_by, broken_own_by, variables_by, broken_variables, processes_by, broken_processes, driven_inside, driven_outputs, driven_outside}
+use Rattle.vhierarchy.specs.declared.instantiation.Instantiation.{Instantiation as ProgramInstantiation}
+use Rattle.vhierarchy.specs.declared.instantiation.Open.{Open}
+use Rattle.vhierarchy.specs.declared.context.Context.{Context as ProgramContext}
 
 -- an instance that was found, told of the program's values
-abbrev pub wanted_tree : List Text → Found → Wanted
-wanted_tree words found = record {
+abbrev pub instantiation_tree : List Text → ProgramInstantiation → Instantiation
+instantiation_tree words found = record {
   child = module_tree words found.child.now;
   name = numbered words found.name;
   known = found.known;
-  values = ties_tree words found.values;
-  ties = ties_tree words found.ties;
+  values = entries_tree words found.values;
+  connections = entries_tree words found.connections;
 }
 
-abbrev pub wanted_trees : List Text → List Found → List Wanted
-wanted_trees words = map (wanted_tree words)
+abbrev pub instantiation_trees : List Text → List ProgramInstantiation → List Instantiation
+instantiation_trees words = map (instantiation_tree words)
 
 -- what is asked, told of the program's values
-abbrev pub request_tree : List Text → Asked → Request
-request_tree words told = record {
-  top = told.top.now;
-  path = told.path.now;
-  name = numbered words told.name;
-  depth = told.depth;
-  unit = module_tree words told.unit.now;
-  outside = outside_tree words told.outside.now;
-  ties = ties_tree words told.ties.now;
+abbrev pub context_tree : List Text → ProgramContext → Context
+context_tree words context = record {
+  top = context.top.now;
+  path = context.path.now;
+  name = numbered words context.name;
+  depth = context.depth;
+  unit = module_tree words context.unit.now;
+  overrides = overrides_tree words context.overrides.now;
+  connections = entries_tree words context.connections.now;
 }
 
 -- the names that connected inputs drive, and those that outputs of instances do
-abbrev pub inputs_of : List Text → List Tie → List PortForm → List Word
-inputs_of words ties ports = driven_inside (ties_tree words ties) (map (port_form words) ports)
+abbrev pub inputs_of : List Text → List ConnectionEntry → List PortForm → List Word
+inputs_of words connections ports = driven_inside (entries_tree words connections) (map (port_form words) ports)
 
-abbrev pub outputs_of : List Text → List Tie → List PortForm → List Word
-outputs_of words ties ports = driven_outputs (ties_tree words ties) (map (port_form words) ports)
+abbrev pub outputs_of : List Text → List ConnectionEntry → List PortForm → List Word
+outputs_of words connections ports = driven_outputs (entries_tree words connections) (map (port_form words) ports)
 
 -- the names that instances drive outside
-abbrev pub outputs_by : List Text → List Found → List Word
-outputs_by words list = flat_map driven_outside (wanted_trees words list)
+abbrev pub outputs_by : List Text → List ProgramInstantiation → List Word
+outputs_by words list = flat_map driven_outside (instantiation_trees words list)
 
 -- the names that something drives in an instance, and the nets among them
-abbrev pub words_driven : List Text → List Tie → List PortForm → List ModuleItem → List Found → List Word
-words_driven words ties ports items wanted = (inputs_of words ties ports ++ item_drivers words items) ++ outputs_by words wanted
+abbrev pub words_driven : List Text → List ConnectionEntry → List PortForm → List ModuleItem → List ProgramInstantiation → List Word
+words_driven words connections ports items instantiation = (inputs_of words connections ports ++ item_drivers words items) ++ outputs_by words instantiation
 
-abbrev pub nets_driven : List Text → List Tie → List PortForm → List ModuleItem → List Found → List Word
-nets_driven words ties ports items wanted =
+abbrev pub nets_driven : List Text → List ConnectionEntry → List PortForm → List ModuleItem → List ProgramInstantiation → List Word
+nets_driven words connections ports items instantiation =
     filter (λ net. is_declared (nets_of (map (port_form words) ports) (map (item_tree words) items)) net.letters)
-    (words_driven words ties ports items wanted)
+    (words_driven words connections ports items instantiation)
 
 -- the instances of items
-abbrev pub found_in : Units → ℕ → List ModuleItem → List Wanted
-found_in units known items = wanted_from (units_tree units) known (map (item_tree units.words) items)
+abbrev pub program_instantiations_in : Units → ℕ → List ModuleItem → List Instantiation
+program_instantiations_in units known items = instantiations_from (units_tree units) known (map (item_tree units.words) items)
 
 -- what they break, where so many instances stand before
 abbrev pub broken_in : Units → ℕ → List ModuleItem → Option ElabFault
@@ -83,59 +83,59 @@ pub record IsOpen (words : List Text) (child : Parsed) (open_of : Open) : Type 0
   pub ports_are : open_of.ports ≡ letters_of (port_names (module_tree words child))
 
 -- the instances of one item
-abbrev pub each_wanted : List Text → Parsed → ℕ → Option Connections → List Instance → List Wanted
-each_wanted words child known overrides list =
-    map (wanted_one (module_tree words child) known (option_map (connections_tree words) overrides)) (map (instance_tree words) list)
+abbrev pub each_instantiation : List Text → Parsed → ℕ → Option Connections → List Instance → List Instantiation
+each_instantiation words child known overrides list =
+    map (instantiation_by (module_tree words child) known (option_map (connections_tree words) overrides)) (map (instance_tree words) list)
 
 abbrev pub each_broken : List Text → Parsed → Option Connections → List Instance → Option ElabFault
 each_broken words child overrides list =
     broken_instances (module_tree words child) (option_map (connections_tree words) overrides) (map (instance_tree words) list)
 
 -- what an instance adds of its own, told of the program's values
-abbrev pub own_part : List Text → Asked → List PortForm → List Found → Scope → Part → Part
-own_part words asked ports wanted scope part =
-    own_by (request_tree words asked) (map (port_form words) ports) (wanted_trees words wanted) scope part
+abbrev pub own_part : List Text → ProgramContext → List PortForm → List ProgramInstantiation → Scope → Part → Part
+own_part words context ports instantiation scope part =
+    own_by (context_tree words context) (map (port_form words) ports) (instantiation_trees words instantiation) scope part
 
-abbrev pub broken_own_part : List Text → Asked → List PortForm → List Found → Scope → Part → Option ElabFault
-broken_own_part words asked ports wanted scope part =
-    broken_own_by (request_tree words asked) (map (port_form words) ports) (wanted_trees words wanted) scope part
+abbrev pub broken_own_part : List Text → ProgramContext → List PortForm → List ProgramInstantiation → Scope → Part → Option ElabFault
+broken_own_part words context ports instantiation scope part =
+    broken_own_by (context_tree words context) (map (port_form words) ports) (instantiation_trees words instantiation) scope part
 
-abbrev pub own_variables : List Text → Asked → List PortForm → List Found → Scope → List Variable
-own_variables words asked ports wanted scope =
-    variables_by (request_tree words asked) (map (port_form words) ports) (wanted_trees words wanted) scope
+abbrev pub own_variables : List Text → ProgramContext → List PortForm → List ProgramInstantiation → Scope → List Variable
+own_variables words context ports instantiation scope =
+    variables_by (context_tree words context) (map (port_form words) ports) (instantiation_trees words instantiation) scope
 
-abbrev pub broken_own_variables : List Text → Asked → List PortForm → List Found → Scope → Option ElabFault
-broken_own_variables words asked ports wanted scope =
-    broken_variables (request_tree words asked) (map (port_form words) ports) (wanted_trees words wanted) scope
+abbrev pub broken_own_variables : List Text → ProgramContext → List PortForm → List ProgramInstantiation → Scope → Option ElabFault
+broken_own_variables words context ports instantiation scope =
+    broken_variables (context_tree words context) (map (port_form words) ports) (instantiation_trees words instantiation) scope
 
-abbrev pub own_processes : List Text → Asked → List PortForm → List Found → Scope → Table → Processes
-own_processes words asked ports wanted scope table =
-    processes_by (request_tree words asked) (map (port_form words) ports) (wanted_trees words wanted) scope table
+abbrev pub own_processes : List Text → ProgramContext → List PortForm → List ProgramInstantiation → Scope → Table → Processes
+own_processes words context ports instantiation scope table =
+    processes_by (context_tree words context) (map (port_form words) ports) (instantiation_trees words instantiation) scope table
 
-abbrev pub broken_own_processes : List Text → Asked → List PortForm → List Found → Scope → Option ElabFault
-broken_own_processes words asked ports wanted scope =
-    broken_processes (request_tree words asked) (map (port_form words) ports) (wanted_trees words wanted) scope
+abbrev pub broken_own_processes : List Text → ProgramContext → List PortForm → List ProgramInstantiation → Scope → Option ElabFault
+broken_own_processes words context ports instantiation scope =
+    broken_processes (context_tree words context) (map (port_form words) ports) (instantiation_trees words instantiation) scope
 
 -- the instances of a list, one after another
-abbrev pub each_grown : Units → ℕ → Asked → Scope → Part → List Found → Part
-each_grown units levels request scope part list =
-    fold (λ (so_far : Part) (one : Wanted). grown levels (units_tree units) so_far (asked scope (request_tree units.words request) one))
-    part (wanted_trees units.words list)
+abbrev pub with_each_instance : Units → ℕ → ProgramContext → Scope → Part → List ProgramInstantiation → Part
+with_each_instance units levels context scope part list =
+    fold (λ (so_far : Part) (one : Instantiation). with_instances levels (units_tree units) so_far (child_context scope (context_tree units.words context) one))
+    part (instantiation_trees units.words list)
 
-abbrev pub each_broken_grown : Units → ℕ → Asked → Scope → Part → List Found → Option ElabFault
-each_broken_grown units levels request scope part list =
-    broken_each (λ (so_far : Part) (one : Wanted). grown levels (units_tree units) so_far (asked scope (request_tree units.words request) one))
-    (λ (so_far : Part) (one : Wanted). broken_grown levels (units_tree units) so_far (asked scope (request_tree units.words request) one))
-    part (wanted_trees units.words list)
+abbrev pub each_broken_with_instances : Units → ℕ → ProgramContext → Scope → Part → List ProgramInstantiation → Option ElabFault
+each_broken_with_instances units levels context scope part list =
+    broken_each (λ (so_far : Part) (one : Instantiation). with_instances levels (units_tree units) so_far (child_context scope (context_tree units.words context) one))
+    (λ (so_far : Part) (one : Instantiation). broken_with_instances levels (units_tree units) so_far (child_context scope (context_tree units.words context) one))
+    part (instantiation_trees units.words list)
 
 -- an instance that is asked for, and all below it
-abbrev pub one_grown : Units → ℕ → Asked → Scope → Part → Found → Part
-one_grown units levels request scope part one =
-    grown levels (units_tree units) part (asked scope (request_tree units.words request) (wanted_tree units.words one))
+abbrev pub with_instance : Units → ℕ → ProgramContext → Scope → Part → ProgramInstantiation → Part
+with_instance units levels context scope part one =
+    with_instances levels (units_tree units) part (child_context scope (context_tree units.words context) (instantiation_tree units.words one))
 
-abbrev pub one_broken : Units → ℕ → Asked → Scope → Part → Found → Option ElabFault
-one_broken units levels request scope part one =
-    broken_grown levels (units_tree units) part (asked scope (request_tree units.words request) (wanted_tree units.words one))
+abbrev pub one_broken : Units → ℕ → ProgramContext → Scope → Part → ProgramInstantiation → Option ElabFault
+one_broken units levels context scope part one =
+    broken_with_instances levels (units_tree units) part (child_context scope (context_tree units.words context) (instantiation_tree units.words one))
 
 -- the paths of variables
 abbrev pub variable_names : List Variable → List Text

@@ -16,10 +16,10 @@ ghost use Rattle.vhierarchy.specs.Instances.{Elaborates, broken_paths, broken_ta
 ghost use Rattle.vhierarchy.specs.Reasons.{IsDesignReason, IsOnlyDesign, HasNoDesign};
 ghost use Rattle.vhierarchy.specs.Inner.{named_design, scope_names, variable_names};
 
+use crate::context::Context;
 use crate::grow::put_unit;
 use crate::own::MOST_PROCESSES;
 use crate::part::Part;
-use crate::request::Request;
 use crate::select::check_selections;
 use basis::{NoMemory, OrMemory, Timescale};
 use std::alloc::Global;
@@ -28,13 +28,13 @@ use vast::token::Token;
 use vdesign::design::{Design, Scope as Room, Variable};
 use velab::fault::{ElabFault, Rule};
 use velab::names::note;
-use velab::parameter::Outside;
+use velab::parameter::Overrides;
 use velab::right::check_kinds;
 use velab::scope::Scope;
 use velab::statement::Table;
 use velab::width::check_flaws;
 use vlex::Tokens;
-use vmodules::connect::Ties;
+use vmodules::connect::ConnectionMap;
 use vmodules::hierarchy::{Modules, modules_of, rival_of, top_of};
 use vmodules::letters::letters;
 use vmodules::names::Names;
@@ -61,8 +61,8 @@ fn whole_part<'t, 'u>(
 {
     let name = letters(modules.tokens(), unit.name);
     let names = Names::new(alloc);
-    let ties = Ties::new(alloc);
-    let outside = Outside {
+    let connections = ConnectionMap::new(alloc);
+    let overrides = Overrides {
         scope: Scope {
             top: b"",
             names: &names,
@@ -72,19 +72,19 @@ fn whole_part<'t, 'u>(
             others: &[],
             known: 0,
         },
-        values: &ties,
+        values: &connections,
     };
-    let request = Request {
+    let context = Context {
         top: name,
         path: name,
         name: unit.name,
         depth: 0,
         unit,
-        outside: &outside,
-        ties: &ties,
+        overrides: &overrides,
+        connections: &connections,
     };
     let mut part = Part::new(alloc);
-    put_unit(alloc, modules, most_levels(), &request, &mut part)?;
+    put_unit(alloc, modules, most_levels(), &context, &mut part)?;
     Ok(part)
 }
 
@@ -186,7 +186,7 @@ fn design_by(alloc: Global, name: &[u8], scale: Timescale, part: Part) -> Result
 }
 
 // The design of a part, where it is right. Errors: E302, E303, E306, E309, E310, E901.
-fn checked(
+fn checked_design(
     alloc: Global,
     tokens: &Tokens<'_>,
     unit: &ModuleTree,
@@ -222,7 +222,7 @@ fn design_of<'t, 'u>(
         (units_tree modules.now) top (Some (module_tree modules.now.words unit.now)))) }
 {
     let part = whole_part(alloc, modules, unit)?;
-    checked(alloc, modules.tokens(), unit, scale, part)
+    checked_design(alloc, modules.tokens(), unit, scale, part)
 }
 
 // The modules of a text by name. E302 where two have one name.

@@ -8,7 +8,7 @@ ghost use Rattle.vmodules.specs.Names.{first_again, letters_of};
 ghost use Rattle.velab.specs.Inner.{BreaksDrivers, driver_names};
 ghost use Rattle.vhierarchy.specs.Inner.{inputs_of, outputs_of, outputs_by, words_driven, nets_driven};
 
-use crate::wanted::Wanted;
+use crate::instantiation::Instantiation;
 use basis::{NoMemory, OrMemory};
 use std::alloc::Global;
 use vast::module::ModuleItem;
@@ -17,7 +17,7 @@ use velab::fault::ElabFault;
 use velab::join::only_name;
 use velab::nets::{driven_nets, nets_of};
 use vlex::Tokens;
-use vmodules::connect::Ties;
+use vmodules::connect::ConnectionMap;
 use vmodules::letters::letters;
 use vmodules::names::Names;
 use vmodules::ports::{PortForm, ports_of};
@@ -25,14 +25,14 @@ use vmodules::ports::{PortForm, ports_of};
 // The port, where it is an input that is connected.
 fn add_input<'t>(
     tokens: &Tokens<'t>,
-    ties: &Ties<'_, '_>,
+    connections: &ConnectionMap<'_, '_>,
     port: &PortForm<'_>,
     into: &mut Vec<Driver<'t>>,
 ) -> Result<(), NoMemory>
     ensures { OnOk result (driver_names into.new.items ≡
-        driver_names into.old.items ++ inputs_of (words_of tokens.now) ties.now (port.now ∷ [])) }
+        driver_names into.old.items ++ inputs_of (words_of tokens.now) connections.now (port.now ∷ [])) }
 {
-    match ties.value(letters(tokens, port.name)) {
+    match connections.value(letters(tokens, port.name)) {
         None => Ok(()),
         Some(_) => {
             if port.output {
@@ -47,15 +47,15 @@ fn add_input<'t>(
 // The ports that are inputs and connected.
 fn add_inputs<'t>(
     tokens: &Tokens<'t>,
-    ties: &Ties<'_, '_>,
+    connections: &ConnectionMap<'_, '_>,
     ports: &[PortForm<'_>],
     into: &mut Vec<Driver<'t>>,
 ) -> Result<(), NoMemory>
     ensures { OnOk result (driver_names into.new.items ≡
-        driver_names into.old.items ++ inputs_of (words_of tokens.now) ties.now ports.now) }
+        driver_names into.old.items ++ inputs_of (words_of tokens.now) connections.now ports.now) }
 {
     for port in ports {
-        add_input(tokens, ties, port, into)?;
+        add_input(tokens, connections, port, into)?;
     }
     Ok(())
 }
@@ -63,14 +63,14 @@ fn add_inputs<'t>(
 // What an output drives outside.
 fn add_output<'t>(
     tokens: &Tokens<'t>,
-    ties: &Ties<'_, '_>,
+    connections: &ConnectionMap<'_, '_>,
     port: &PortForm<'_>,
     into: &mut Vec<Driver<'t>>,
 ) -> Result<(), NoMemory>
     ensures { OnOk result (driver_names into.new.items ≡
-        driver_names into.old.items ++ outputs_of (words_of tokens.now) ties.now (port.now ∷ [])) }
+        driver_names into.old.items ++ outputs_of (words_of tokens.now) connections.now (port.now ∷ [])) }
 {
-    match ties.value(letters(tokens, port.name)) {
+    match connections.value(letters(tokens, port.name)) {
         None => Ok(()),
         Some(value) => {
             if !port.output {
@@ -87,15 +87,15 @@ fn add_output<'t>(
 // What outputs drive outside.
 fn add_outputs<'t>(
     tokens: &Tokens<'t>,
-    ties: &Ties<'_, '_>,
+    connections: &ConnectionMap<'_, '_>,
     ports: &[PortForm<'_>],
     into: &mut Vec<Driver<'t>>,
 ) -> Result<(), NoMemory>
     ensures { OnOk result (driver_names into.new.items ≡
-        driver_names into.old.items ++ outputs_of (words_of tokens.now) ties.now ports.now) }
+        driver_names into.old.items ++ outputs_of (words_of tokens.now) connections.now ports.now) }
 {
     for port in ports {
-        add_output(tokens, ties, port, into)?;
+        add_output(tokens, connections, port, into)?;
     }
     Ok(())
 }
@@ -104,28 +104,28 @@ fn add_outputs<'t>(
 fn add_instance<'t>(
     alloc: Global,
     tokens: &Tokens<'t>,
-    wanted: &Wanted<'_, '_>,
+    instantiation: &Instantiation<'_, '_>,
     into: &mut Vec<Driver<'t>>,
 ) -> Result<(), NoMemory>
     ensures { OnOk result (driver_names into.new.items ≡
-        driver_names into.old.items ++ outputs_by (words_of tokens.now) (wanted.now ∷ [])) }
+        driver_names into.old.items ++ outputs_by (words_of tokens.now) (instantiation.now ∷ [])) }
 {
-    let ports = ports_of(alloc, wanted.child)?;
-    add_outputs(tokens, &wanted.ties, &ports, into)
+    let ports = ports_of(alloc, instantiation.child)?;
+    add_outputs(tokens, &instantiation.connections, &ports, into)
 }
 
 // What instances drive outside.
 fn add_instances<'t>(
     alloc: Global,
     tokens: &Tokens<'t>,
-    list: &[Wanted<'_, '_>],
+    list: &[Instantiation<'_, '_>],
     into: &mut Vec<Driver<'t>>,
 ) -> Result<(), NoMemory>
     ensures { OnOk result (driver_names into.new.items ≡
         driver_names into.old.items ++ outputs_by (words_of tokens.now) list.now) }
 {
-    for wanted in list {
-        add_instance(alloc, tokens, wanted, into)?;
+    for instantiation in list {
+        add_instance(alloc, tokens, instantiation, into)?;
     }
     Ok(())
 }
@@ -134,18 +134,18 @@ fn add_instances<'t>(
 fn drivers_of<'t>(
     alloc: Global,
     tokens: &Tokens<'t>,
-    ties: &Ties<'_, '_>,
+    connections: &ConnectionMap<'_, '_>,
     ports: &[PortForm<'_>],
     items: &[ModuleItem],
-    wanted: &[Wanted<'_, '_>],
+    instantiation: &[Instantiation<'_, '_>],
 ) -> Result<Vec<Driver<'t>>, NoMemory>
     ensures { IfOk result (λ drivers. driver_names drivers.items ≡
-        words_driven (words_of tokens.now) ties.now ports.now items.now wanted.now) }
+        words_driven (words_of tokens.now) connections.now ports.now items.now instantiation.now) }
 {
     let mut drivers = Vec::new(alloc);
-    add_inputs(tokens, ties, ports, &mut drivers)?;
+    add_inputs(tokens, connections, ports, &mut drivers)?;
     add_items(tokens, items, &mut drivers)?;
-    add_instances(alloc, tokens, wanted, &mut drivers)?;
+    add_instances(alloc, tokens, instantiation, &mut drivers)?;
     Ok(drivers)
 }
 
@@ -153,19 +153,19 @@ fn drivers_of<'t>(
 pub fn driven_names<'t>(
     alloc: Global,
     tokens: &Tokens<'t>,
-    ties: &Ties<'_, '_>,
+    connections: &ConnectionMap<'_, '_>,
     ports: &[PortForm<'_>],
     items: &[ModuleItem],
-    wanted: &[Wanted<'_, '_>],
+    instantiation: &[Instantiation<'_, '_>],
 ) -> Result<Names<'t>, OrMemory<ElabFault>>
     ensures ok { IfOk result (λ names. names ≡ letters_of
-        (nets_driven (words_of tokens.now) ties.now ports.now items.now wanted.now)) }
+        (nets_driven (words_of tokens.now) connections.now ports.now items.now instantiation.now)) }
     ensures right { OnOk result (first_again
-        (nets_driven (words_of tokens.now) ties.now ports.now items.now wanted.now) ≡ None) }
+        (nets_driven (words_of tokens.now) connections.now ports.now items.now instantiation.now) ≡ None) }
     ensures err { IfFault result (BreaksDrivers []
-        (nets_driven (words_of tokens.now) ties.now ports.now items.now wanted.now)) }
+        (nets_driven (words_of tokens.now) connections.now ports.now items.now instantiation.now)) }
 {
-    let drivers = drivers_of(alloc, tokens, ties, ports, items, wanted)?;
+    let drivers = drivers_of(alloc, tokens, connections, ports, items, instantiation)?;
     let nets = nets_of(alloc, tokens, ports, items)?;
     driven_nets(alloc, &nets, &drivers)
 }

@@ -5,18 +5,18 @@ ghost use Rattle.basis.specs.Reasons.{IfFault};
 ghost use Rattle.vmodules.specs.Inner.{units_tree};
 ghost use Rattle.vhierarchy.specs.Instances as spec;
 ghost use Rattle.velab.specs.Rules.{IsBroken};
-ghost use Rattle.vhierarchy.specs.Inner.{request_tree, each_grown, each_broken_grown, one_grown, one_broken};
+ghost use Rattle.vhierarchy.specs.Inner.{context_tree, with_each_instance, each_broken_with_instances, with_instance, one_broken};
 
+use crate::context::Context;
+use crate::instantiation::{Instantiation, instantiations_in};
 use crate::own::{known_names, put_own};
 use crate::part::Part;
-use crate::request::Request;
-use crate::wanted::{Wanted, wanted_in};
 use basis::OrMemory;
 use std::alloc::Global;
 use velab::fault::{ElabFault, Rule};
-use velab::parameter::Outside;
+use velab::parameter::Overrides;
 use velab::scope::Scope;
-use velab::variable::dotted;
+use velab::variable::dotted_path;
 use vmodules::hierarchy::Modules;
 use vmodules::letters::letters;
 use vmodules::ports::ports_of;
@@ -27,31 +27,39 @@ pub fn put_unit<'t, 'u>(
     alloc: Global,
     modules: &Modules<'t, 'u>,
     levels: u32,
-    request: &Request<'_, 't, 'u>,
+    context: &Context<'_, 't, 'u>,
     part: &mut Part,
 ) -> Result<(), OrMemory<ElabFault>>
-    requires { request.now.depth + levels ≤ 16 }
-    ensures ok { OnOk result (part.new ≡ spec.grown levels (units_tree modules.now) part.old
-        (request_tree modules.now.words request.now)) }
-    ensures right { OnOk result (spec.broken_grown levels (units_tree modules.now) part.old
-        (request_tree modules.now.words request.now) ≡ None) }
-    ensures err { IfFault result (IsBroken (spec.broken_grown levels (units_tree modules.now)
+    requires { context.now.depth + levels ≤ 16 }
+    ensures ok { OnOk result (part.new ≡ spec.with_instances levels (units_tree modules.now) part.old
+        (context_tree modules.now.words context.now)) }
+    ensures right { OnOk result (spec.broken_with_instances levels (units_tree modules.now) part.old
+        (context_tree modules.now.words context.now) ≡ None) }
+    ensures err { IfFault result (IsBroken (spec.broken_with_instances levels (units_tree modules.now)
         part.old
-        (request_tree modules.now.words request.now))) }
+        (context_tree modules.now.words context.now))) }
 {
     if levels == 0 {
         return Err(OrMemory::Fault(ElabFault {
             rule: Rule::Depth,
-            at: Some(request.name.number),
+            at: Some(context.name.number),
         }));
     }
     let tokens = modules.tokens();
-    let ports = ports_of(alloc, request.unit)?;
-    let known = known_names(alloc, tokens, part, request, &ports)?;
+    let ports = ports_of(alloc, context.unit)?;
+    let known = known_names(alloc, tokens, part, context, &ports)?;
     let scope = known.growing.scope().at(known.head);
-    let wanted = wanted_in(alloc, modules, known.head, &request.unit.items)?;
-    put_own(alloc, tokens, request, &ports, &wanted, &scope, part)?;
-    put_each(alloc, modules, levels - 1, request, &scope, &wanted, part)
+    let instantiation = instantiations_in(alloc, modules, known.head, &context.unit.items)?;
+    put_own(alloc, tokens, context, &ports, &instantiation, &scope, part)?;
+    put_each(
+        alloc,
+        modules,
+        levels - 1,
+        context,
+        &scope,
+        &instantiation,
+        part,
+    )
 }
 
 // The instances of a list, and all below them, so many levels deep.
@@ -60,57 +68,57 @@ fn put_each<'t, 'u>(
     alloc: Global,
     modules: &Modules<'t, 'u>,
     levels: u32,
-    request: &Request<'_, 't, 'u>,
+    context: &Context<'_, 't, 'u>,
     scope: &Scope<'_, 't>,
-    list: &[Wanted<'t, 'u>],
+    list: &[Instantiation<'t, 'u>],
     part: &mut Part,
 ) -> Result<(), OrMemory<ElabFault>>
-    requires { request.now.depth + levels < 16 }
+    requires { context.now.depth + levels < 16 }
     ensures ok { OnOk result (part.new ≡
-        each_grown modules.now levels request.now scope.now part.old list.now) }
+        with_each_instance modules.now levels context.now scope.now part.old list.now) }
     ensures right { OnOk result
-        (each_broken_grown modules.now levels request.now scope.now part.old list.now ≡ None) }
+        (each_broken_with_instances modules.now levels context.now scope.now part.old list.now ≡ None) }
     ensures err { IfFault result
-        (IsBroken (each_broken_grown modules.now levels request.now scope.now part.old list.now)) }
+        (IsBroken (each_broken_with_instances modules.now levels context.now scope.now part.old list.now)) }
 {
     for one in list {
-        put_asked(alloc, modules, levels, request, scope, one, part)?;
+        put_child(alloc, modules, levels, context, scope, one, part)?;
     }
     Ok(())
 }
 
 // One instance, and all below it, so many levels deep.
 #[cycle(growing)]
-fn put_asked<'t, 'u>(
+fn put_child<'t, 'u>(
     alloc: Global,
     modules: &Modules<'t, 'u>,
     levels: u32,
-    request: &Request<'_, 't, 'u>,
+    context: &Context<'_, 't, 'u>,
     scope: &Scope<'_, 't>,
-    one: &Wanted<'t, 'u>,
+    one: &Instantiation<'t, 'u>,
     part: &mut Part,
 ) -> Result<(), OrMemory<ElabFault>>
-    requires { request.now.depth + levels < 16 }
+    requires { context.now.depth + levels < 16 }
     ensures ok { OnOk result (part.new ≡
-        one_grown modules.now levels request.now scope.now part.old one.now) }
+        with_instance modules.now levels context.now scope.now part.old one.now) }
     ensures right { OnOk result
-        (one_broken modules.now levels request.now scope.now part.old one.now ≡ None) }
+        (one_broken modules.now levels context.now scope.now part.old one.now ≡ None) }
     ensures err { IfFault result
-        (IsBroken (one_broken modules.now levels request.now scope.now part.old one.now)) }
+        (IsBroken (one_broken modules.now levels context.now scope.now part.old one.now)) }
 {
-    let path = dotted(alloc, request.path, letters(modules.tokens(), one.name))?;
-    let outside = Outside {
+    let path = dotted_path(alloc, context.path, letters(modules.tokens(), one.name))?;
+    let overrides = Overrides {
         scope: scope.at(one.known),
         values: &one.values,
     };
-    let asked = Request {
-        top: request.top,
+    let child_context = Context {
+        top: context.top,
         path: &path,
         name: one.name,
-        depth: request.depth + 1,
+        depth: context.depth + 1,
         unit: one.child,
-        outside: &outside,
-        ties: &one.ties,
+        overrides: &overrides,
+        connections: &one.connections,
     };
-    put_unit(alloc, modules, levels, &asked, part)
+    put_unit(alloc, modules, levels, &child_context, part)
 }

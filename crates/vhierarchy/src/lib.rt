@@ -3,14 +3,14 @@
 // The law: a design is the one that `Elaborates` gives the tree, and each fault is a rule that the tree breaks.
 #![tactic(auto)]
 
+mod context;
 mod design;
 mod drivers;
 mod grow;
+mod instantiation;
 pub mod law;
 mod own;
 mod part;
-mod request;
 mod select;
-mod wanted;
 
 pub use design::elaborate;

@@ -9,24 +9,24 @@ ghost use Rattle.vexpr_parse.specs.Texts.{words_of};
 ghost use Rattle.vmodules.specs.Ports.{ports_of};
 ghost use Rattle.vmodules.specs.Inner.{port_form};
 ghost use Rattle.velab.specs.Elaborate.{head_scope, whole_scope};
-ghost use Rattle.velab.specs.Inner.{AreLaid, given_in};
+ghost use Rattle.velab.specs.Inner.{AreLowered, symbols_in};
 ghost use Rattle.velab.specs.Rules.{IsBroken};
 ghost use Rattle.vhierarchy.specs.Instances.{base_of, broken_counts, broken_names};
-ghost use Rattle.vhierarchy.specs.declared.wanted.Wanted.{Wanted as Found};
-ghost use Rattle.vhierarchy.specs.Inner.{broken_own_part, broken_own_processes, broken_own_variables, own_part, own_processes, own_variables, request_tree};
+ghost use Rattle.vhierarchy.specs.declared.instantiation.Instantiation.{Instantiation as ProgramInstantiation};
+ghost use Rattle.vhierarchy.specs.Inner.{broken_own_part, broken_own_processes, broken_own_variables, own_part, own_processes, own_variables, context_tree};
 
+use crate::context::Context;
 use crate::drivers::driven_names;
+use crate::instantiation::Instantiation;
 use crate::part::Part;
-use crate::request::Request;
-use crate::wanted::Wanted;
 use basis::{NoMemory, OrMemory};
 use std::alloc::Global;
 use vast::token::Token;
 use vdesign::action::Places;
 use vdesign::design::{Scope as Room, Variable};
 use velab::declared::declared;
+use velab::drivers::ScopeDrivers;
 use velab::fault::{ElabFault, Rule};
-use velab::home::Home;
 use velab::join::put_joins;
 use velab::parameter::{Growing, MOST_EVENTS, add_head, add_items, add_valueless};
 use velab::scope::Scope;
@@ -55,56 +55,56 @@ pub fn known_names<'t>(
     alloc: Global,
     tokens: &Tokens<'t>,
     part: &Part,
-    request: &Request<'_, 't, '_>,
+    context: &Context<'_, 't, '_>,
     ports: &[PortForm<'_>],
 ) -> Result<Known<'t>, OrMemory<ElabFault>>
     requires { map (port_form (words_of tokens.now)) ports.now ≡
-        ports_of (module_tree (words_of tokens.now) request.now.unit.now) }
+        ports_of (module_tree (words_of tokens.now) context.now.unit.now) }
     ensures whole { IfOk result (λ known. known.growing ≡ whole_scope
-        (base_of part.now (request_tree (words_of tokens.now) request.now))
-        (module_tree (words_of tokens.now) request.now.unit.now)) }
+        (base_of part.now (context_tree (words_of tokens.now) context.now))
+        (module_tree (words_of tokens.now) context.now.unit.now)) }
     ensures head { IfOk result (λ known. known.head ≡ (head_scope
-        (base_of part.now (request_tree (words_of tokens.now) request.now))
-        (module_tree (words_of tokens.now) request.now.unit.now)).known) }
+        (base_of part.now (context_tree (words_of tokens.now) context.now))
+        (module_tree (words_of tokens.now) context.now.unit.now)).known) }
     ensures right { OnOk result
-        (broken_names part.now (request_tree (words_of tokens.now) request.now) ≡ None) }
+        (broken_names part.now (context_tree (words_of tokens.now) context.now) ≡ None) }
     ensures err { IfFault result
-        (IsBroken (broken_names part.now (request_tree (words_of tokens.now) request.now))) }
+        (IsBroken (broken_names part.now (context_tree (words_of tokens.now) context.now))) }
 {
     let first = part.variables.len();
-    let names = declared(alloc, tokens, ports, &request.unit.items)?;
+    let names = declared(alloc, tokens, ports, &context.unit.items)?;
     let variables = names.len();
     if first > MOST_VARIABLES || variables > MOST_VARIABLES - first {
         return Err(OrMemory::Fault(ElabFault {
             rule: Rule::TooMany,
-            at: Some(request.name.number),
+            at: Some(context.name.number),
         }));
     }
     if part.events > MOST_EVENTS {
         return Err(OrMemory::Fault(ElabFault {
             rule: Rule::TooMany,
-            at: Some(request.name.number),
+            at: Some(context.name.number),
         }));
     }
     let mut growing = Growing {
-        top: request.top,
+        top: context.top,
         names,
         first,
         variables,
         events: part.events,
         others: Vec::new(alloc),
     };
-    let items = &request.unit.items;
-    add_valueless(tokens, request.outside, items, &mut growing)?;
+    let items = &context.unit.items;
+    add_valueless(tokens, context.overrides, items, &mut growing)?;
     add_head(
         alloc,
         tokens,
-        request.outside,
-        &request.unit.parameters,
+        context.overrides,
+        &context.unit.parameters,
         &mut growing,
     )?;
     let head = growing.others.len();
-    add_items(alloc, tokens, request.outside, items, &mut growing)?;
+    add_items(alloc, tokens, context.overrides, items, &mut growing)?;
     Ok(Known { growing, head })
 }
 
@@ -112,69 +112,69 @@ pub fn known_names<'t>(
 fn put_own_variables(
     alloc: Global,
     tokens: &Tokens<'_>,
-    request: &Request<'_, '_, '_>,
+    context: &Context<'_, '_, '_>,
     ports: &[PortForm<'_>],
-    wanted: &[Wanted<'_, '_>],
+    instantiation: &[Instantiation<'_, '_>],
     scope: &Scope<'_, '_>,
     into: &mut Vec<Variable>,
 ) -> Result<(), OrMemory<ElabFault>>
     requires small { scope.now.known
-        + length (given_in (words_of tokens.now) request.now.unit.now.items.items) < 2 ^ 64 }
+        + length (symbols_in (words_of tokens.now) context.now.unit.now.items.items) < 2 ^ 64 }
     ensures ok { OnOk result (into.new.items ≡ into.old.items
-        ++ own_variables (words_of tokens.now) request.now ports.now wanted.now scope.now) }
-    ensures right { OnOk result (broken_own_variables (words_of tokens.now) request.now ports.now
-        wanted.now scope.now ≡ None) }
-    ensures err { IfFault result (IsBroken (broken_own_variables (words_of tokens.now) request.now
-        ports.now wanted.now scope.now)) }
+        ++ own_variables (words_of tokens.now) context.now ports.now instantiation.now scope.now) }
+    ensures right { OnOk result (broken_own_variables (words_of tokens.now) context.now ports.now
+        instantiation.now scope.now ≡ None) }
+    ensures err { IfFault result (IsBroken (broken_own_variables (words_of tokens.now) context.now
+        ports.now instantiation.now scope.now)) }
 {
     let driven = driven_names(
         alloc,
         tokens,
-        request.ties,
+        context.connections,
         ports,
-        &request.unit.items,
-        wanted,
+        &context.unit.items,
+        instantiation,
     )?;
-    let home = Home {
-        name: request.path,
+    let drivers = ScopeDrivers {
+        name: context.path,
         driven,
     };
-    put_ports(alloc, tokens, &home, scope, ports, into)?;
-    put_variables(alloc, tokens, &home, scope, &request.unit.items, into)
+    put_ports(alloc, tokens, &drivers, scope, ports, into)?;
+    put_variables(alloc, tokens, &drivers, scope, &context.unit.items, into)
 }
 
 // The processes of an instance: those of its port connections, and its own. Errors: E303, E305, E306, E307, E310, E901.
 fn put_own_processes(
     alloc: Global,
     tokens: &Tokens<'_>,
-    request: &Request<'_, '_, '_>,
+    context: &Context<'_, '_, '_>,
     ports: &[PortForm<'_>],
     scope: &Scope<'_, '_>,
     table: &mut Table,
     into: &mut Vec<Places>,
 ) -> Result<(), OrMemory<ElabFault>>
     requires small { scope.now.known
-        + length (given_in (words_of tokens.now) request.now.unit.now.items.items) < 2 ^ 64 }
-    ensures ok { (wanted : List Found) → OnOk result (AreLaid (own_processes (words_of tokens.now)
-        request.now ports.now wanted scope.now table.old) into.old.items table.new into.new.items) }
-    ensures right { (wanted : List Found) → OnOk result (broken_own_processes
-        (words_of tokens.now) request.now ports.now wanted scope.now ≡ None) }
-    ensures err { (wanted : List Found) → IfFault result (IsBroken (broken_own_processes
-        (words_of tokens.now) request.now ports.now wanted scope.now)) }
+        + length (symbols_in (words_of tokens.now) context.now.unit.now.items.items) < 2 ^ 64 }
+    ensures ok { (instantiation : List ProgramInstantiation) → OnOk result (AreLowered (own_processes (words_of tokens.now)
+        context.now ports.now instantiation scope.now table.old) into.old.items table.new into.new.items) }
+    ensures right { (instantiation : List ProgramInstantiation) → OnOk result (broken_own_processes
+        (words_of tokens.now) context.now ports.now instantiation scope.now ≡ None) }
+    ensures err { (instantiation : List ProgramInstantiation) → IfFault result (IsBroken (broken_own_processes
+        (words_of tokens.now) context.now ports.now instantiation scope.now)) }
 {
-    let outside = request.outside;
+    let overrides = context.overrides;
     put_joins(
         alloc,
-        &outside.scope,
+        &overrides.scope,
         scope,
         tokens,
-        request.name,
-        request.ties,
+        context.name,
+        context.connections,
         ports,
         table,
         into,
     )?;
-    put_processes(alloc, tokens, scope, &request.unit.items, table, into)
+    put_processes(alloc, tokens, scope, &context.unit.items, table, into)
 }
 
 // The scope of an instance.
@@ -226,48 +226,48 @@ fn check_counts(begins: &[Places], scopes: &[Room], name: Token) -> Result<(), O
 pub fn put_own(
     alloc: Global,
     tokens: &Tokens<'_>,
-    request: &Request<'_, '_, '_>,
+    context: &Context<'_, '_, '_>,
     ports: &[PortForm<'_>],
-    wanted: &[Wanted<'_, '_>],
+    instantiation: &[Instantiation<'_, '_>],
     scope: &Scope<'_, '_>,
     part: &mut Part,
 ) -> Result<(), OrMemory<ElabFault>>
     requires small { scope.now.known
-        + length (given_in (words_of tokens.now) request.now.unit.now.items.items) < 2 ^ 64 }
+        + length (symbols_in (words_of tokens.now) context.now.unit.now.items.items) < 2 ^ 64 }
     ensures ok { OnOk result (part.new ≡
-        own_part (words_of tokens.now) request.now ports.now wanted.now scope.now part.old) }
-    ensures right { OnOk result (broken_own_part (words_of tokens.now) request.now ports.now
-        wanted.now scope.now part.old ≡ None) }
-    ensures err { IfFault result (IsBroken (broken_own_part (words_of tokens.now) request.now
-        ports.now wanted.now scope.now part.old)) }
+        own_part (words_of tokens.now) context.now ports.now instantiation.now scope.now part.old) }
+    ensures right { OnOk result (broken_own_part (words_of tokens.now) context.now ports.now
+        instantiation.now scope.now part.old ≡ None) }
+    ensures err { IfFault result (IsBroken (broken_own_part (words_of tokens.now) context.now
+        ports.now instantiation.now scope.now part.old)) }
 {
     put_own_variables(
         alloc,
         tokens,
-        request,
+        context,
         ports,
-        wanted,
+        instantiation,
         scope,
         &mut part.variables,
     )?;
     put_scope(
         alloc,
-        letters(tokens, request.name),
-        request.path,
-        request.depth,
+        letters(tokens, context.name),
+        context.path,
+        context.depth,
         scope.variables,
         &mut part.scopes,
     )?;
     put_own_processes(
         alloc,
         tokens,
-        request,
+        context,
         ports,
         scope,
         &mut part.table,
         &mut part.begins,
     )?;
-    check_counts(&part.begins, &part.scopes, request.name)?;
+    check_counts(&part.begins, &part.scopes, context.name)?;
     part.events = scope.events;
     Ok(())
 }

@@ -1,3 +1,3 @@
 mod StandLemmas
-mod PlayedLemmas
+mod RunProgressLemmas
 mod SlotLemmas

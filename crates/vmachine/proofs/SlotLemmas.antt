@@ -6,11 +6,11 @@ use Rattle.vmodel.specs.declared.history.Cause.{Cause}
 use Rattle.vmodel.specs.declared.history.Item.{Item}
 use Rattle.vmodel.specs.declared.history.Item.TheVariants.{SlotEnd}
 use Rattle.vmodel.specs.declared.part.Part.{Part}
-use Rattle.vmodel.specs.declared.deed.Shown.{Shown}
-use Rattle.vmodel.specs.declared.deed.Shown.TheVariants.{Commands, Prints, Watches}
+use Rattle.vmodel.specs.declared.effect.Shown.{Shown}
+use Rattle.vmodel.specs.declared.effect.Shown.TheVariants.{Commands, Prints, Watches}
 use Rattle.vmodel.specs.State.{State}
 use Rattle.vmodel.specs.Choices.{choices, queue_choices}
-use Rattle.vmodel.specs.Step.{Turn, idle_items, slot_end_by, slot_end_of, shown_items, strobe_items, before_end, items_of}
+use Rattle.vmodel.specs.Step.{Transition, idle_items, slot_end_by, slot_end_of, shown_items, strobe_items, before_end, items_of}
 use Rattle.vmodel.specs.Run.{is_mark}
 use Rattle.vmachine.specs.Handed.{ends_slot, in_first, by_slot, TakesEach}
 use Rattle.vmachine.specs.Inner.{HandsOn}
@@ -120,10 +120,10 @@ before shown strobes [] unended unended_too = (shown, unended, refl)
 before shown strobes (end ∷ rest) unended unended_too =
     (shown ++ strobes, unended_both shown strobes unended unended_too, sym (append_assoc shown strobes (end ∷ rest)))
 
-pub items_wait : (design : Design) (turn : Turn) → Waits (items_of design turn) turn.state
-items_wait design turn =
-    before (shown_items design turn.state turn.deed.shown) (strobe_items design turn.state turn.monitors) (slot_end_of turn.state)
-    (shown_unended design turn.state turn.deed.shown) (strobes_unended design turn.state turn.monitors)
+pub items_wait : (design : Design) (transition : Transition) → Waits (items_of design transition) transition.state
+items_wait design transition =
+    before (shown_items design transition.state transition.effect.shown) (strobe_items design transition.state transition.monitors) (slot_end_of transition.state)
+    (shown_unended design transition.state transition.effect.shown) (strobes_unended design transition.state transition.monitors)
 
 -- ---- handing on
 

@@ -6,35 +6,35 @@ use Rattle.vmodel.specs.Choices.{choices}
 use Rattle.vmodel.specs.Step.{next}
 use Rattle.vmodel.specs.SameLaws.{states_tell}
 use Rattle.vmodel.specs.Run.{Setting, rules_of, opening_of, is_mark, state_after}
-use Rattle.vmachine.specs.declared.standing.Standing.{Standing}
+use Rattle.vmachine.specs.declared.machine_state.MachineState.{MachineState}
 use Rattle.vmachine.specs.Machines.{Stands, machine_rules}
 
 pub first_stands : (setting : Setting) → Stands setting (machine_rules setting).first (opening_of setting)
 unfolding Stands machine_rules rules_of
 first_stands setting = refl
 
-pub width_stands : (setting : Setting) (s : Standing) (t : State) → Stands setting s t → (machine_rules setting).width s ≡ (rules_of setting).width t
+pub width_stands : (setting : Setting) (s : MachineState) (t : State) → Stands setting s t → (machine_rules setting).width s ≡ (rules_of setting).width t
 unfolding Stands machine_rules
 width_stands setting s t h = ap (rules_of setting).width h
 
-pub mark_stands : (setting : Setting) (s : Standing) (t : State) → Stands setting s t → (machine_rules setting).mark s ≡ (rules_of setting).mark t
+pub mark_stands : (setting : Setting) (s : MachineState) (t : State) → Stands setting s t → (machine_rules setting).mark s ≡ (rules_of setting).mark t
 unfolding Stands machine_rules
 mark_stands setting s t h = ap (rules_of setting).mark h
 
-pub after_stands : (setting : Setting) (s : Standing) (t : State) (i : ℕ) → Stands setting s t →
+pub after_stands : (setting : Setting) (s : MachineState) (t : State) (i : ℕ) → Stands setting s t →
     Stands setting ((machine_rules setting).after s i) ((rules_of setting).after t i)
 unfolding Stands machine_rules
 after_stands setting s t i h = ap (λ (u : State). (rules_of setting).after u i) h
 
-pub same_stands : (setting : Setting) (s r : Standing) (t : State) → Stands setting s t → (machine_rules setting).same r s ≡ true → Stands setting r t
+pub same_stands : (setting : Setting) (s r : MachineState) (t : State) → Stands setting s t → (machine_rules setting).same r s ≡ true → Stands setting r t
 unfolding Stands machine_rules rules_of
 same_stands setting s r t h e = (states_tell r s).0 e ∙ h
 
-pub one_stands : (setting : Setting) (s r : Standing) (t : State) → Stands setting s t → Stands setting r t → (machine_rules setting).same s r ≡ true
+pub one_stands : (setting : Setting) (s r : MachineState) (t : State) → Stands setting s t → Stands setting r t → (machine_rules setting).same s r ≡ true
 unfolding Stands machine_rules rules_of
 one_stands setting s r t h k = (states_tell s r).1 (h ∙ sym k)
 
-pub only_stands : (setting : Setting) (s : Standing) (t u : State) → Stands setting s t → Stands setting s u → t ≡ u
+pub only_stands : (setting : Setting) (s : MachineState) (t u : State) → Stands setting s t → Stands setting s u → t ≡ u
 unfolding Stands
 only_stands setting s t u h k = sym h ∙ k
 
@@ -52,27 +52,27 @@ runs_here setting log n run = run
 
 -- ---- the rules by the words of a run
 
-pub opens : (setting : Setting) (s : Standing) → s ≡ opening_of setting → (machine_rules setting).same s (machine_rules setting).first ≡ true
+pub opens : (setting : Setting) (s : MachineState) → s ≡ opening_of setting → (machine_rules setting).same s (machine_rules setting).first ≡ true
 unfolding machine_rules rules_of
 opens setting s h = (states_tell s (opening_of setting)).1 h
 
-pub copies : (setting : Setting) (s t : Standing) → t ≡ s → (machine_rules setting).same t s ≡ true
+pub copies : (setting : Setting) (s t : MachineState) → t ≡ s → (machine_rules setting).same t s ≡ true
 unfolding machine_rules rules_of
 copies setting s t h = (states_tell t s).1 h
 
-pub widths : (setting : Setting) (s : Standing) → (machine_rules setting).width s ≡ length (choices s)
+pub widths : (setting : Setting) (s : MachineState) → (machine_rules setting).width s ≡ length (choices s)
 unfolding machine_rules rules_of
 widths setting s = refl
 
-pub marks : (setting : Setting) (s : Standing) → (machine_rules setting).mark s ≡ is_mark s
+pub marks : (setting : Setting) (s : MachineState) → (machine_rules setting).mark s ≡ is_mark s
 unfolding machine_rules rules_of
 marks setting s = refl
 
-pub steps : (setting : Setting) (s t : Standing) (i : ℕ) → t ≡ (next setting.design s i).state →
+pub steps : (setting : Setting) (s t : MachineState) (i : ℕ) → t ≡ (next setting.design s i).state →
     (machine_rules setting).same t ((machine_rules setting).after s i) ≡ true
 unfolding machine_rules rules_of
 steps setting s t i h = (states_tell t (next setting.design s i).state).1 h
 
-pub seen : (setting : Setting) (s : Standing) (t : State) → Stands setting s t → s ≡ t
+pub seen : (setting : Setting) (s : MachineState) (t : State) → Stands setting s t → s ≡ t
 unfolding Stands
 seen setting s t h = h

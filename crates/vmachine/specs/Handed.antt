@@ -5,8 +5,8 @@ use Rattle.vmodel.specs.declared.history.End.{End}
 use Rattle.vmodel.specs.declared.history.Item.{Item}
 use Rattle.vmodel.specs.declared.history.Item.TheVariants.{SlotEnd, Dump, Line, Monitor}
 use Rattle.vmodel.specs.History.{History}
-use Rattle.vmodel.specs.Run.{Setting, rules_of, given_by, history_after}
-use Rattle.vmodel.specs.Played.{Finishes, IsOnItsWay}
+use Rattle.vmodel.specs.Run.{Setting, rules_of, items_after, history_after}
+use Rattle.vmodel.specs.RunProgress.{Finishes, IsOnItsWay}
 use Rattle.basis.specs.declared.memory.OrMemory.{OrMemory}
 use Rattle.basis.specs.declared.memory.OrMemory.TheVariants.{Fault, Memory}
 use Rattle.vmachine.specs.declared.run.RunFault.{RunFault}
@@ -14,7 +14,7 @@ use Rattle.vmachine.specs.declared.run.RunFault.TheVariants.{Replay, Sink}
 
 -- the run ends with this end, and the sink took all that it gave
 abbrev pub RunsInto : {T : Type 0} → (T → List Item → T → Type 0) → Setting → List (ℕ × ℕ) → ℕ → T → End → T → Type 0
-RunsInto takes setting log steps old end new = (n : ℕ) × Finishes setting log steps n end × takes old (given_by setting log n) new
+RunsInto takes setting log steps old end new = (n : ℕ) × Finishes setting log steps n end × takes old (items_after setting log n) new
 
 abbrev pub ends_slot : Item → Bool
 ends_slot (SlotEnd time values) = true
@@ -40,7 +40,7 @@ TakesEach {T = T} takes old (items ∷ more) new = (between : T) × takes old it
 -- the run ends with this end, and the sink took what each slot gave by itself
 abbrev pub RunsBySlot : {T : Type 0} → (T → List Item → T → Type 0) → Setting → List (ℕ × ℕ) → ℕ → T → End → T → Type 0
 RunsBySlot takes setting log steps old end new =
-    (n : ℕ) × Finishes setting log steps n end × TakesEach takes old (by_slot (given_by setting log n)) new
+    (n : ℕ) × Finishes setting log steps n end × TakesEach takes old (by_slot (items_after setting log n)) new
 
 -- the run under the log ends, and this is its history
 abbrev pub IsHistory : Setting → List (ℕ × ℕ) → ℕ → History → Type 0
@@ -50,11 +50,11 @@ IsHistory setting log steps history =
 -- the sink took the first items of a run on its way
 abbrev pub IsHanded : {T : Type 0} → (T → List Item → T → Type 0) → Setting → List (ℕ × ℕ) → ℕ → T → T → Type 0
 IsHanded takes setting log steps old new =
-    (n k : ℕ) × IsOnItsWay setting log steps n × takes old (take k (given_by setting log n)) new
+    (n k : ℕ) × IsOnItsWay setting log steps n × takes old (take k (items_after setting log n)) new
 
 -- the sink failed somewhere in the items of a run on its way
 abbrev pub IsFailed : {T F : Type 0} → (T → List Item → F → T → Type 0) → Setting → List (ℕ × ℕ) → ℕ → T → F → T → Type 0
-IsFailed fails setting log steps old fault new = (n : ℕ) × IsOnItsWay setting log steps n × fails old (given_by setting log n) fault new
+IsFailed fails setting log steps old fault new = (n : ℕ) × IsOnItsWay setting log steps n × fails old (items_after setting log n) fault new
 
 -- why there is no such run
 abbrev pub IsNoSuchRun : {F : Type 0} → Setting → List (ℕ × ℕ) → ℕ → RunFault F → Type 0

@@ -11,7 +11,7 @@ use Rattle.vmodel.specs.declared.history.Item.{Item}
 use Rattle.vmodel.specs.State.{State}
 use Rattle.vmodel.specs.Choices.{choices}
 use Rattle.vmodel.specs.Run.{Setting, rules_of, state_after, end_of}
-use Rattle.vmodel.specs.Played.{Finishes}
+use Rattle.vmodel.specs.RunProgress.{Finishes}
 use Rattle.vmachine.specs.declared.run.Chosen.{Chosen}
 use Rattle.vmachine.specs.declared.run.RunFault.{RunFault}
 use Rattle.vmachine.specs.declared.run.RunFault.TheVariants.{Replay, Sink}

@@ -3,7 +3,7 @@ use Rattle.std.specs.Prelude.{◌≡◌, ℕ, List, true}
 use Rattle.sched_core.specs.Rules.{IsRun, stands}
 use Rattle.vmodel.specs.State.{State}
 use Rattle.vmodel.specs.Run.{Setting, rules_of, opening_of, state_after}
-use Rattle.vmachine.specs.declared.standing.Standing.{Standing}
+use Rattle.vmachine.specs.declared.machine_state.MachineState.{MachineState}
 use Rattle.vmachine.specs.Machines.{Stands, machine_rules}
 
 -- the first state stands for the opening state
@@ -12,32 +12,32 @@ StandsAtFirst = (setting : Setting) → Stands setting (machine_rules setting).f
 
 -- states that stand for states of a run have as many choices
 abbrev pub HasSameWidth : Type 0
-HasSameWidth = (setting : Setting) (s : Standing) (t : State) →
+HasSameWidth = (setting : Setting) (s : MachineState) (t : State) →
     Stands setting s t → (machine_rules setting).width s ≡ (rules_of setting).width t
 
 -- and are marks together
 abbrev pub HasSameMarks : Type 0
-HasSameMarks = (setting : Setting) (s : Standing) (t : State) →
+HasSameMarks = (setting : Setting) (s : MachineState) (t : State) →
     Stands setting s t → (machine_rules setting).mark s ≡ (rules_of setting).mark t
 
 -- after the same choice they stand for the next states
 abbrev pub StandsAfter : Type 0
-StandsAfter = (setting : Setting) (s : Standing) (t : State) (i : ℕ) →
+StandsAfter = (setting : Setting) (s : MachineState) (t : State) (i : ℕ) →
     Stands setting s t → Stands setting ((machine_rules setting).after s i) ((rules_of setting).after t i)
 
 -- what is equal to such a state stands for the same
 abbrev pub StandsForSame : Type 0
-StandsForSame = (setting : Setting) (s r : Standing) (t : State) →
+StandsForSame = (setting : Setting) (s r : MachineState) (t : State) →
     Stands setting s t → (machine_rules setting).same r s ≡ true → Stands setting r t
 
 -- what stands for one state is equal
 abbrev pub IsSameForOne : Type 0
-IsSameForOne = (setting : Setting) (s r : Standing) (t : State) →
+IsSameForOne = (setting : Setting) (s r : MachineState) (t : State) →
     Stands setting s t → Stands setting r t → (machine_rules setting).same s r ≡ true
 
 -- it stands for one state only
 abbrev pub StandsForOne : Type 0
-StandsForOne = (setting : Setting) (s : Standing) (t u : State) → Stands setting s t → Stands setting s u → t ≡ u
+StandsForOne = (setting : Setting) (s : MachineState) (t u : State) → Stands setting s t → Stands setting s u → t ≡ u
 
 -- so the runs of a machine are those of its setting
 abbrev pub RunsAsSetting : Type 0

@@ -6,13 +6,13 @@ use Rattle.vmodel.specs.State.{State}
 use Rattle.vmodel.specs.Same.{state_same}
 use Rattle.vmodel.specs.Run.{Setting, rules_of}
 use Rattle.vmodel.specs.RulesLaws.{lawful}
-use Rattle.vmachine.specs.declared.standing.Standing.{Standing}
+use Rattle.vmachine.specs.declared.machine_state.MachineState.{MachineState}
 
 -- the machine's state is this state of a run
-unfoldable pub Stands : Setting → Standing → State → Type 0
+unfoldable pub Stands : Setting → MachineState → State → Type 0
 Stands setting s t = s ≡ t
 
-unfoldable pub machine_rules : Setting → Rules Standing
+unfoldable pub machine_rules : Setting → Rules MachineState
 machine_rules setting = rules_of setting
 
 -- ---- laws with their proofs
@@ -21,6 +21,6 @@ pub machine_is_lawful : (setting : Setting) → IsLawful (machine_rules setting)
 unfolding machine_rules
 machine_is_lawful setting = lawful setting
 
-pub same_by_test : (setting : Setting) (s t : Standing) → (machine_rules setting).same s t ≡ state_same s t
+pub same_by_test : (setting : Setting) (s t : MachineState) → (machine_rules setting).same s t ≡ state_same s t
 unfolding machine_rules rules_of
 same_by_test setting s t = refl

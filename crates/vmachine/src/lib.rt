@@ -6,11 +6,11 @@
 
 mod law;
 mod machine;
+mod machine_state;
 mod reads;
 mod run;
-mod standing;
 
 pub use law::machine_law;
 pub use machine::Machine;
+pub use machine_state::MachineState;
 pub use run::RunFault;
-pub use standing::Standing;

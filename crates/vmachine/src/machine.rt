@@ -2,7 +2,7 @@
 
 ghost use Rattle.std.specs.Prelude.{◌≡◌, IfOk};
 
-use crate::standing::Standing;
+use crate::machine_state::MachineState;
 use basis::NoMemory;
 use sched_core::Space;
 use std::alloc::Global;
@@ -74,29 +74,29 @@ impl Space for Machine {
     ghost use Rattle.std.specs.Prelude.{refl};
     ghost use Rattle.vmachine.specs.Machines.{machine_rules, machine_is_lawful, same_by_test};
 
-    type State = Standing;
+    type State = MachineState;
 
     ghost rules = { machine_rules };
 
-    fn root(&self) -> Result<Standing, NoMemory> {
+    fn root(&self) -> Result<MachineState, NoMemory> {
         let state = opening(self.alloc, &self.design, self.until, self.grain)?;
-        Ok(Standing { state })
+        Ok(MachineState { state })
     }
 
-    fn copy(&self, s: &Standing) -> Result<Standing, NoMemory> {
+    fn copy(&self, s: &MachineState) -> Result<MachineState, NoMemory> {
         let state = s.state.copy(self.alloc)?;
-        Ok(Standing { state })
+        Ok(MachineState { state })
     }
 
-    fn width(&self, s: &Standing) -> u32 {
+    fn width(&self, s: &MachineState) -> u32 {
         s.state.width()
     }
 
-    fn step(&self, s: &mut Standing, i: u32) -> Result<(), NoMemory> {
+    fn step(&self, s: &mut MachineState, i: u32) -> Result<(), NoMemory> {
         s.state.go(&self.design, i)
     }
 
-    fn is_mark(&self, s: &Standing) -> bool {
+    fn is_mark(&self, s: &MachineState) -> bool {
         s.state.is_mark()
     }
 

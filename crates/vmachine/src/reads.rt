@@ -6,7 +6,7 @@ ghost use Rattle.vmachine.specs.Machines.{Stands};
 ghost use Rattle.vmachine.specs.Reads.{end_in, slot_in};
 
 use crate::machine::Machine;
-use crate::standing::Standing;
+use crate::machine_state::MachineState;
 use vbits::Vec4;
 use vmodel::SlowState;
 use vmodel::history::End;
@@ -33,21 +33,21 @@ fn slot_at(state: &SlowState) -> Option<u64>
 
 impl Machine {
     /// The end of the run, where it has ended: its time and why.
-    pub fn end_of(&self, s: &Standing) -> Option<End>
+    pub fn end_of(&self, s: &MachineState) -> Option<End>
         ensures { (t : State) → Stands self.now s.now t → result ≡ end_in t }
     {
         end_at(&s.state)
     }
 
     /// The time of the slot, where it has ended here and the run wasn't finished in it.
-    pub fn slot_of(&self, s: &Standing) -> Option<u64>
+    pub fn slot_of(&self, s: &MachineState) -> Option<u64>
         ensures { (t : State) → Stands self.now s.now t → result ≡ slot_in t }
     {
         slot_at(&s.state)
     }
 
     /// The value of each variable, by its number.
-    pub fn values<'s>(&self, s: &'s Standing) -> &'s [Vec4]
+    pub fn values<'s>(&self, s: &'s MachineState) -> &'s [Vec4]
         ensures { (t : State) → Stands self.now s.now t → result.now ≡ t.values }
     {
         s.state.values()

@@ -10,13 +10,13 @@ ghost use Rattle.sched_core.specs.Logs.{IsLogFrom};
 ghost use Rattle.sched_core.specs.Replay.{IsReplayReason};
 ghost use Rattle.vmodel.specs.Run.{Setting, rules_of};
 ghost use Rattle.vmodel.specs.Step.{items_of};
-ghost use Rattle.vmodel.specs.InnerStep.{turn_to};
+ghost use Rattle.vmodel.specs.InnerStep.{transition_to};
 
 use crate::machine::Machine;
 use basis::{NoMemory, OrMemory};
 use sched_core::{Log, Member, ReplayFault, next_choice};
 use vdesign::design::Design;
-use vmodel::deed::Deed;
+use vmodel::effect::Effect;
 use vmodel::history::{End, History, Item};
 use vmodel::sink::Sink;
 use vmodel::values::Values;
@@ -104,13 +104,13 @@ fn note(
     items: &mut Vec<Item>,
     design: &Design,
     state: &SlowState,
-    deed: Deed,
+    effect: Effect,
     monitors: &[usize],
 ) -> Result<(), NoMemory>
     ensures { OnOk result (items.new.items
-        ≡ items.old.items ++ items_of design.now (turn_to state.now deed monitors.now)) }
+        ≡ items.old.items ++ items_of design.now (transition_to state.now effect monitors.now)) }
 {
-    put_items(items, design, state, &deed, monitors)
+    put_items(items, design, state, &effect, monitors)
 }
 
 impl Machine {
@@ -140,15 +140,15 @@ impl Machine {
         let mut monitors = Vec::new(self.alloc);
         let mut rest = log.members();
         let mut n = 0;
-        'turns: loop {
+        'walk: loop {
             hand(sink, &mut pending, state.is_mark())?;
             let chosen = match choose(&state, rest, n, steps) {
                 Ok(Some(chosen)) => chosen,
                 Ok(None) => return Ok(state.end()),
                 Err(fault) => return Err(refused(fault)),
             };
-            let deed = state.step(&self.design, chosen.choice, &mut monitors)?;
-            note(&mut pending, &self.design, &state, deed, &monitors)?;
+            let effect = state.step(&self.design, chosen.choice, &mut monitors)?;
+            note(&mut pending, &self.design, &state, effect, &monitors)?;
             rest = chosen.later;
             n += 1;
         }
@@ -165,7 +165,7 @@ impl Machine {
         let mut monitors = Vec::new(self.alloc);
         let mut rest = log.members();
         let mut n = 0;
-        'turns: loop {
+        'walk: loop {
             let chosen = match choose(&state, rest, n, steps) {
                 Ok(Some(chosen)) => chosen,
                 Ok(None) => {
@@ -175,8 +175,8 @@ impl Machine {
                 }
                 Err(fault) => return Err(OrMemory::Fault(fault)),
             };
-            let deed = state.step(&self.design, chosen.choice, &mut monitors)?;
-            note(&mut items, &self.design, &state, deed, &monitors)?;
+            let effect = state.step(&self.design, chosen.choice, &mut monitors)?;
+            note(&mut items, &self.design, &state, effect, &monitors)?;
             rest = chosen.later;
             n += 1;
         }

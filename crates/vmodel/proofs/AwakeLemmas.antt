@@ -4,11 +4,11 @@ use Rattle.std.specs.Prelude.{slice_get}
 use Rattle.vbits.specs.Vectors.{Vector}
 use Rattle.vdesign.specs.declared.action.Action.{Action}
 use Rattle.vdesign.specs.Design.{Design}
-use Rattle.vmodel.specs.declared.process.Spot.{Spot}
+use Rattle.vmodel.specs.declared.process.Frame.{Frame}
 use Rattle.vmodel.specs.Queue.{Queue, with_process}
 use Rattle.vmodel.specs.State.{Process, State}
 use Rattle.vmodel.specs.Waking.{wakes_at, wakes, awake, with_awake}
-use Rattle.vmodel.specs.Step.{woken}
+use Rattle.vmodel.specs.Step.{with_woken}
 use Rattle.vmodel.specs.Kept.{RisesFrom, IsInOrder, count_in, places, most_places, HasRest, IsInPlace}
 use Rattle.vmodel.proofs.PlaceLemmas.{alike, count-other, count-self, count-with, count-keeps, with_rises}
 use Rattle.vmodel.proofs.MovedLemmas.{most_at, IsWaiting}
@@ -101,17 +101,17 @@ OnlyWaiting comes = (process : Process) → comes process ≡ true → process.w
 abbrev Stands : (Process → Bool) → ℕ → Option Process → Type 0
 Stands comes count o = (count + added comes o ≤ most_at (option_map (awake comes) o)) × IsWaiting (option_map (awake comes) o)
 
-stands_awake : (process : Process) (count : ℕ) (waits : Option ℕ) (left : List Spot) → process.waits ≡ waits → process.left ≡ left → waits ≢ None →
-    count ≤ most_places waits left → HasRest waits left → count + 1 ≤ most_places None process.left
-stands_awake process count None left w l ne few rest = absurd (ne refl)
+stands_awake : (process : Process) (count : ℕ) (waits : Option ℕ) (continuation : List Frame) → process.waits ≡ waits → process.continuation ≡ continuation → waits ≢ None →
+    count ≤ most_places waits continuation → HasRest waits continuation → count + 1 ≤ most_places None process.continuation
+stands_awake process count None continuation w l ne few rest = absurd (ne refl)
 stands_awake process count (Some place) [] w l ne few rest = absurd rest
-stands_awake process count (Some place) (spot ∷ more) w l ne few rest = omega (arith, few, ap (most_places None) l)
+stands_awake process count (Some place) (frame ∷ more) w l ne few rest = omega (arith, few, ap (most_places None) l)
 
 stands_by : (comes : Process → Bool) (count : ℕ) (process : Process) (b : Bool) → comes process ≡ b → OnlyWaiting comes →
     count ≤ most_at (Some process) → IsWaiting (Some process) →
     (count + cond b 1 0 ≤ most_at (Some (cond b (record process { waits = None }) process))) × IsWaiting (Some (cond b (record process { waits = None }) process))
 stands_by comes count process true is only few rest =
-    (stands_awake process count process.waits process.left refl refl (only process is) few rest, tt)
+    (stands_awake process count process.waits process.continuation refl refl (only process is) few rest, tt)
 stands_by comes count process false is only few rest = (omega (arith, few), rest)
 
 stands : (comes : Process → Bool) (count : ℕ) (o : Option Process) → OnlyWaiting comes → count ≤ most_at o → IsWaiting o → Stands comes count o
@@ -137,15 +137,15 @@ waiting_only actions before after triggered process is none =
 
 -- ---- a state in which processes wake
 
-pub order-woken : (design : Design) (before : List Vector) (triggered : Option ℕ) (s : State) → IsInOrder s.queue →
-    IsInOrder (woken design before triggered s).queue
-order-woken design before triggered s h = record {
+pub order-with_woken : (design : Design) (before : List Vector) (triggered : Option ℕ) (s : State) → IsInOrder s.queue →
+    IsInOrder (with_woken design before triggered s).queue
+order-with_woken design before triggered s h = record {
   active = awake_rises (wakes design.actions before s.values triggered) 0 s.processes s.queue.active h.active;
   inactive = h.inactive;
   future = h.future;
 }
 
-pub place-woken : (design : Design) (before : List Vector) (triggered : Option ℕ) (s : State) → IsInPlace s.queue s.processes →
-    IsInPlace (woken design before triggered s).queue (woken design before triggered s).processes
-place-woken design before triggered s h =
+pub place-with_woken : (design : Design) (before : List Vector) (triggered : Option ℕ) (s : State) → IsInPlace s.queue s.processes →
+    IsInPlace (with_woken design before triggered s).queue (with_woken design before triggered s).processes
+place-with_woken design before triggered s h =
     place-awake (wakes design.actions before s.values triggered) s.queue s.processes (waiting_only design.actions before s.values triggered) h

@@ -9,13 +9,13 @@ use Rattle.vmodel.specs.declared.history.Cause.{Cause}
 use Rattle.vdesign.specs.Design.{Design}
 use Rattle.vmodel.specs.declared.history.Item.{Item}
 use Rattle.vmodel.specs.declared.history.Item.TheVariants.{SlotEnd, Dump, Monitor}
-use Rattle.vmodel.specs.declared.deed.Shown.{Shown}
-use Rattle.vmodel.specs.declared.deed.Shown.TheVariants.{Commands, Prints, Watches}
+use Rattle.vmodel.specs.declared.effect.Shown.{Shown}
+use Rattle.vmodel.specs.declared.effect.Shown.TheVariants.{Commands, Prints, Watches}
 use Rattle.vmodel.specs.declared.part.Part.{Part}
 use Rattle.vmodel.specs.State.{State}
-use Rattle.vmodel.specs.Step.{Turn, next, line_item, shown_items, idle_items, slot_end_by, slot_end_of, strobe_items, before_end, end_items, items_of}
-use Rattle.vmodel.specs.Run.{Setting, opening_of, state_after, given_by}
-use Rattle.vmodel.specs.Played.{opening_is, after_is}
+use Rattle.vmodel.specs.Step.{Transition, next, line_item, shown_items, idle_items, slot_end_by, slot_end_of, strobe_items, before_end, end_items, items_of}
+use Rattle.vmodel.specs.Run.{Setting, opening_of, state_after, items_after}
+use Rattle.vmodel.specs.RunProgress.{opening_is, after_is}
 use Rattle.vmodel.specs.Kept.{IsSlotEnd, HasSlotEnd}
 
 -- ---- of one state
@@ -85,43 +85,43 @@ end_of_end design s monitors time values h =
       | inr behind ↦ end_of_items s time values behind
     ]
 
-end_of_turn : (design : Design) (turn : Turn) (time : ℕ) (values : List Vector) → Contains (items_of design turn) (SlotEnd time values) →
-    IsSlotEnd time values turn.state
-end_of_turn design turn time values h =
-    elim (Contains-append_cases (shown_items design turn.state turn.deed.shown) (end_items design turn.state turn.monitors) (SlotEnd time values) h) [
-      | inl front ↦ absurd (no_shown design turn.state turn.deed.shown time values front)
-      | inr behind ↦ end_of_end design turn.state turn.monitors time values behind
+end_of_transition : (design : Design) (transition : Transition) (time : ℕ) (values : List Vector) → Contains (items_of design transition) (SlotEnd time values) →
+    IsSlotEnd time values transition.state
+end_of_transition design transition time values h =
+    elim (Contains-append_cases (shown_items design transition.state transition.effect.shown) (end_items design transition.state transition.monitors) (SlotEnd time values) h) [
+      | inl front ↦ absurd (no_shown design transition.state transition.effect.shown time values front)
+      | inr behind ↦ end_of_end design transition.state transition.monitors time values behind
     ]
 
 -- ---- of a run
 
 pub shown_end : (setting : Setting) (log : List (ℕ × ℕ)) (n time : ℕ) (values : List Vector) →
-    Contains (given_by setting log n) (SlotEnd time values) → HasSlotEnd setting log n time values
+    Contains (items_after setting log n) (SlotEnd time values) → HasSlotEnd setting log n time values
 shown_end setting log zero time values h =
     (0, omega arith, subst (IsSlotEnd time values) (sym (opening_is setting)) (end_of_items (opening_of setting) time values h))
 shown_end setting log (suc n) time values h =
     let s = state_after setting log n in
-    let turn = next setting.design s (choice_at log n) in
-    elim (Contains-append_cases (given_by setting log n) (items_of setting.design turn) (SlotEnd time values) h) [
+    let transition = next setting.design s (choice_at log n) in
+    elim (Contains-append_cases (items_after setting log n) (items_of setting.design transition) (SlotEnd time values) h) [
       | inl before ↦ (let there = shown_end setting log n time values before in (there.0, omega (arith, there.1), there.2))
-      | inr now ↦ (suc n, omega arith, subst (IsSlotEnd time values) (sym (after_is setting s (choice_at log n))) (end_of_turn setting.design turn time values now))
+      | inr now ↦ (suc n, omega arith, subst (IsSlotEnd time values) (sym (after_is setting s (choice_at log n))) (end_of_transition setting.design transition time values now))
     ]
 
 pub end_shown : (setting : Setting) (log : List (ℕ × ℕ)) (n time : ℕ) (values : List Vector) →
-    HasSlotEnd setting log n time values → Contains (given_by setting log n) (SlotEnd time values)
+    HasSlotEnd setting log n time values → Contains (items_after setting log n) (SlotEnd time values)
 end_shown setting log zero time values (k, le, end) =
     let first : k ≡ 0 = omega (arith, le) in
     items_of_end (opening_of setting) time values (subst (IsSlotEnd time values) (ap (state_after setting log) first ∙ opening_is setting) end)
 end_shown setting log (suc n) time values (k, le, end) =
     let s = state_after setting log n in
-    let turn = next setting.design s (choice_at log n) in
+    let transition = next setting.design s (choice_at log n) in
     elim (last_or k n le) [
-      | inl before ↦ Contains-append_left (given_by setting log n) (items_of setting.design turn) (SlotEnd time values)
+      | inl before ↦ Contains-append_left (items_after setting log n) (items_of setting.design transition) (SlotEnd time values)
           (end_shown setting log n time values (k, before, end))
-      | inr now ↦ Contains-append_right (given_by setting log n) (items_of setting.design turn) (SlotEnd time values)
-          (Contains-append_right (shown_items setting.design turn.state turn.deed.shown) (end_items setting.design turn.state turn.monitors) (SlotEnd time values)
-          (before_right (strobe_items setting.design turn.state turn.monitors) (slot_end_of turn.state) (SlotEnd time values)
-          (items_of_end turn.state time values
+      | inr now ↦ Contains-append_right (items_after setting log n) (items_of setting.design transition) (SlotEnd time values)
+          (Contains-append_right (shown_items setting.design transition.state transition.effect.shown) (end_items setting.design transition.state transition.monitors) (SlotEnd time values)
+          (before_right (strobe_items setting.design transition.state transition.monitors) (slot_end_of transition.state) (SlotEnd time values)
+          (items_of_end transition.state time values
           (subst (IsSlotEnd time values) (ap (state_after setting log) now ∙ after_is setting s (choice_at log n)) end))))
     ]
   where

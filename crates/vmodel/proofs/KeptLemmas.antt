@@ -8,19 +8,19 @@ use Rattle.vmodel.specs.declared.history.Cause.{Cause}
 use Rattle.vmodel.specs.declared.history.Grain.{Grain}
 use Rattle.vmodel.specs.declared.history.Grain.TheVariants.{Process, Statement}
 use Rattle.vmodel.specs.declared.part.Part.{Part}
-use Rattle.vmodel.specs.declared.process.Spot.{Spot}
+use Rattle.vmodel.specs.declared.process.Frame.{Frame}
 use Rattle.vmodel.specs.declared.choice.Choice.{Choice}
 use Rattle.vmodel.specs.declared.choice.Choice.TheVariants.{Run, Update, Advance}
 use Rattle.vmodel.specs.Queue.{Later, Queue, without_process}
 use Rattle.vmodel.specs.State.{State}
-use Rattle.vmodel.specs.Choices.{in_order, first_update, or_advance, active_choices, offered, queue_choices, choices}
-use Rattle.vmodel.specs.Step.{moment_of, Did, does_at, held_of, place_of, going, with_moves_by, woken, with_moves, acted, strobing, process_by, turned, takes, goes_from, without_update, updated, advanced_to, turn_of, turn_by, next}
+use Rattle.vmodel.specs.Choices.{in_order, first_update, or_advance, active_choices, offered_choices, queue_choices, choices}
+use Rattle.vmodel.specs.Step.{environment_of, StepResult, execute_at, held_of, place_of, process_to_continue, with_moves_by, with_woken, with_moves, with_step, with_strobe, process_by, transition_with, action_transition, continuation_transition, without_update, with_update, with_advance, transition_of, transition_by, next}
 use Rattle.vmodel.specs.Run.{Setting, busy_from, opening_process, opening_of, state_after}
-use Rattle.vmodel.specs.Played.{opening_is, after_is}
+use Rattle.vmodel.specs.RunProgress.{opening_is, after_is}
 use Rattle.vmodel.specs.Kept.{RisesFrom, IsInOrder, count_in, asleep, IsInPlace, IsIdle, IsKept, IsEmptied}
 use Rattle.vmodel.proofs.PlaceLemmas.{count-other, count-self, count-cons, count-without, rises_below}
-use Rattle.vmodel.proofs.MovedLemmas.{most_at, IsWaiting, LastIsActive, nobody_last, settled_by, order-moved, is_there, place-moved, left_at}
-use Rattle.vmodel.proofs.AwakeLemmas.{order-woken, place-woken}
+use Rattle.vmodel.proofs.MovedLemmas.{most_at, IsWaiting, LastIsActive, nobody_last, settled_by, order-process_with_move, is_there, place-process_with_move, continuation_at}
+use Rattle.vmodel.proofs.AwakeLemmas.{order-with_woken, place-with_woken}
 use Rattle.vmodel.specs.RulesLaws.{idle_when}
 use Rattle.vbits.specs.Vectors.{Vector}
 
@@ -30,9 +30,9 @@ with_moves-kept : (s : State) → IsInOrder s.queue → IsInPlace s.queue s.proc
 with_moves-kept s order place = by_cause s.cause refl
   where
     -- what was inactive is active now, and what was active before is nothing
-    moved_on : (i : ℕ) (is : List ℕ) → s.queue.active ≡ [] → s.queue.inactive ≡ i ∷ is →
+    state_with_move : (i : ℕ) (is : List ℕ) → s.queue.active ≡ [] → s.queue.inactive ≡ i ∷ is →
         IsInPlace (record s.queue { active = i ∷ is; inactive = [] }) s.processes
-    moved_on i is none some = record {
+    state_with_move i is none some = record {
       once = λ p. omega (arith, place.once p, ap (count_in p) none, ap (count_in p) some);
       waiting = place.waiting;
       last = λ p e. absurd (omega (arith, place.last p e, ap (count_in p) none));
@@ -45,7 +45,7 @@ with_moves-kept s order place = by_cause s.cause refl
           (λ i is none some. record { active = subst (RisesFrom 0) some order.inactive; inactive = tt; future = order.future })
           (λ u us. record { active = order.active; inactive = order.inactive; future = order.future })
           (λ idle i p. record { active = order.active; inactive = order.inactive; future = order.future });
-      place = settled_by (λ (q : Queue). IsInPlace q s.processes) s.queue (λ moves. place) moved_on
+      place = settled_by (λ (q : Queue). IsInPlace q s.processes) s.queue (λ moves. place) state_with_move
           (λ u us. record { once = place.once; waiting = place.waiting; last = place.last })
           (λ idle i p. record { once = place.once; waiting = place.waiting; last = place.last });
       moves = λ none. settled_by (λ (q : Queue). IsIdle q → IsEmptied q) s.queue (λ busy idle. absurd (busy idle))
@@ -95,7 +95,7 @@ open_choices : (q : Queue) → LastIsActive q → AreOpen q (active_choices q)
 open_choices q active =
     open_all q (map Run (in_order q.last q.active)) (first_update q.activated) (open_active q q.last refl active) (open_update q q.activated refl)
 
-open_offered : (q : Queue) (grain : Grain) (last : Option ℕ) → q.last ≡ last → LastIsActive q → AreOpen q (offered q grain last)
+open_offered : (q : Queue) (grain : Grain) (last : Option ℕ) → q.last ≡ last → LastIsActive q → AreOpen q (offered_choices q grain last)
 open_offered q Process (Some p) is active = open_one q (Run p) [] (active p is) (open_none q)
 open_offered q Process None is active = open_choices q active
 open_offered q Statement last is active = open_choices q active
@@ -118,27 +118,27 @@ open_choice s i c active e = by_cause s.cause refl e
     by_cause (Some cause) is e = cc
     by_cause None is e = (
       is,
-      open_advance s.queue (offered s.queue s.queue.grain s.queue.last) s.queue.future refl
+      open_advance s.queue (offered_choices s.queue s.queue.grain s.queue.last) s.queue.future refl
           (open_offered s.queue s.queue.grain s.queue.last refl active) (idle_when s.queue) i c e,
     )
 
-woken-kept : (design : Design) (before : List Vector) (triggered : Option ℕ) (s : State) → IsInOrder s.queue → IsInPlace s.queue s.processes →
-    IsKept (with_moves (woken design before triggered s))
-woken-kept design before triggered s order place =
-    with_moves-kept (woken design before triggered s) (order-woken design before triggered s order) (place-woken design before triggered s place)
+with_woken-kept : (design : Design) (before : List Vector) (triggered : Option ℕ) (s : State) → IsInOrder s.queue → IsInPlace s.queue s.processes →
+    IsKept (with_moves (with_woken design before triggered s))
+with_woken-kept design before triggered s order place =
+    with_moves-kept (with_woken design before triggered s) (order-with_woken design before triggered s order) (place-with_woken design before triggered s place)
 
 -- ---- the steps
 
-updated-kept : (s : State) (us : List (List Part)) → IsKept s →
+with_update-kept : (s : State) (us : List (List Part)) → IsKept s →
     IsInOrder (without_update us s.queue) × IsInPlace (without_update us s.queue) s.processes
-updated-kept s [] kept = (kept.order, kept.place)
-updated-kept s (u ∷ us) kept = (
+with_update-kept s [] kept = (kept.order, kept.place)
+with_update-kept s (u ∷ us) kept = (
   record { active = kept.order.active; inactive = kept.order.inactive; future = kept.order.future },
   record { once = kept.place.once; waiting = kept.place.waiting; last = nobody_last (record s.queue { last = None; activated = us }) refl },
 )
 
 advanced-kept : (s : State) (future : List (ℕ × Later)) → s.queue.future ≡ future → IsKept s →
-    IsInOrder (advanced_to future s.queue) × IsInPlace (advanced_to future s.queue) s.processes
+    IsInOrder (with_advance future s.queue) × IsInPlace (with_advance future s.queue) s.processes
 advanced-kept s [] is kept = (kept.order, kept.place)
 advanced-kept s (e ∷ es) is kept =
     let h = rw is at kept.order.future in (
@@ -146,45 +146,45 @@ advanced-kept s (e ∷ es) is kept =
       record {
         once = λ p. omega (arith, kept.place.once p, ap (asleep p) is);
         waiting = kept.place.waiting;
-        last = nobody_last (advanced_to (e ∷ es) s.queue) refl;
+        last = nobody_last (with_advance (e ∷ es) s.queue) refl;
       },
     )
 
-turned-kept : (design : Design) (p : ℕ) (did : Did) (s : State) → IsKept s → 1 ≤ count_in p s.queue.active → p < length s.processes →
-    IsKept (turned design p did s).state
-turned-kept design p did s kept active lt =
-    let q = strobing did.deed.strobed s.queue in
-    woken-kept design s.values did.deed.triggered (acted p did s)
-    (order-moved p did.deed.fate did.deed.posted (going p did.left) q
+transition_with-kept : (design : Design) (p : ℕ) (step : StepResult) (s : State) → IsKept s → 1 ≤ count_in p s.queue.active → p < length s.processes →
+    IsKept (transition_with design p step s).state
+transition_with-kept design p step s kept active lt =
+    let q = with_strobe step.effect.strobed s.queue in
+    with_woken-kept design s.values step.effect.triggered (with_step p step s)
+    (order-process_with_move p step.effect.disposition step.effect.posted (process_to_continue p step.continuation) q
     (record { active = kept.order.active; inactive = kept.order.inactive; future = kept.order.future }))
-    (place-moved p did.deed.fate did.deed.posted (process_by did) q s.processes
+    (place-process_with_move p step.effect.disposition step.effect.posted (process_by step) q s.processes
     (record { once = kept.place.once; waiting = kept.place.waiting; last = kept.place.last }) refl active lt)
 
-takes-kept : (design : Design) (p : ℕ) (spot : Spot) (action : Option Action) (after : List Spot) (s : State) → IsKept s → 1 ≤ count_in p s.queue.active →
-    p < length s.processes → IsKept (takes design p spot action after s).state
-takes-kept design p spot None after s kept active lt = kept
-takes-kept design p spot (Some action) after s kept active lt = turned-kept design p (does_at spot action after (held_of (slice_get s.processes p)) (moment_of design s)) s kept active lt
+action_transition-kept : (design : Design) (p : ℕ) (frame : Frame) (action : Option Action) (after : List Frame) (s : State) → IsKept s → 1 ≤ count_in p s.queue.active →
+    p < length s.processes → IsKept (action_transition design p frame action after s).state
+action_transition-kept design p frame None after s kept active lt = kept
+action_transition-kept design p frame (Some action) after s kept active lt = transition_with-kept design p (execute_at frame action after (held_of (slice_get s.processes p)) (environment_of design s)) s kept active lt
 
-process-kept : (design : Design) (p : ℕ) (left : List Spot) (s : State) → IsKept s → left_at s.processes p ≡ left →
-    1 ≤ count_in p s.queue.active → IsKept (goes_from design p left s).state
+process-kept : (design : Design) (p : ℕ) (continuation : List Frame) (s : State) → IsKept s → continuation_at s.processes p ≡ continuation →
+    1 ≤ count_in p s.queue.active → IsKept (continuation_transition design p continuation s).state
 process-kept design p [] s kept is active = kept
-process-kept design p (spot ∷ after) s kept is active =
-    takes-kept design p spot (slice_get design.actions (place_of spot)) after s kept active (is_there s.processes p spot after is)
+process-kept design p (frame ∷ after) s kept is active =
+    action_transition-kept design p frame (slice_get design.actions (place_of frame)) after s kept active (is_there s.processes p frame after is)
 
-turn-kept : (design : Design) (c : Choice) (s : State) → IsKept s → IsOpen c s.queue → IsKept (turn_of design c s).state
-turn-kept design (Run p) s kept active = process-kept design p (left_at s.processes p) s kept refl active
-turn-kept design Update s kept allowed =
-    let h = updated-kept s s.queue.activated kept in woken-kept design s.values None (updated s) h.0 h.1
-turn-kept design Advance s kept allowed =
+transition-kept : (design : Design) (c : Choice) (s : State) → IsKept s → IsOpen c s.queue → IsKept (transition_of design c s).state
+transition-kept design (Run p) s kept active = process-kept design p (continuation_at s.processes p) s kept refl active
+transition-kept design Update s kept allowed =
+    let h = with_update-kept s s.queue.activated kept in with_woken-kept design s.values None (with_update s) h.0 h.1
+transition-kept design Advance s kept allowed =
     let h = advanced-kept s s.queue.future refl kept in
-    with_moves-kept (record s { queue = advanced_to s.queue.future s.queue }) h.0 h.1
+    with_moves-kept (record s { queue = with_advance s.queue.future s.queue }) h.0 h.1
 
 pub next-kept : (design : Design) (s : State) (i : ℕ) → IsKept s → IsKept (next design s i).state
 next-kept design s i kept = by_choice (slice_get (choices s) i) refl
   where
-    by_choice : (o : Option Choice) → slice_get (choices s) i ≡ o → IsKept (turn_by design o s).state
+    by_choice : (o : Option Choice) → slice_get (choices s) i ≡ o → IsKept (transition_by design o s).state
     by_choice None is = kept
-    by_choice (Some c) is = turn-kept design c s kept (open_choice s i c kept.place.last is).1
+    by_choice (Some c) is = transition-kept design c s kept (open_choice s i c kept.place.last is).1
 
 -- ---- the opening state
 

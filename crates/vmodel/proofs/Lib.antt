@@ -1,8 +1,8 @@
 mod ProcessLemmas
 mod BitLemmas
 mod SetLemmas
-mod SpotLemmas
-mod LeftLemmas
+mod FrameLemmas
+mod ContinuationLemmas
 mod FutureLemmas
 mod OpeningLemmas
 mod PartLemmas

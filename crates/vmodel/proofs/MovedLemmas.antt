@@ -3,14 +3,14 @@ use Rattle.std.proofs.Common.{◌≡◌, ◌≢◌, inl, inr, ℕ, zero, suc, �
 use Rattle.std.specs.Prelude.{slice_get, slice_set}
 use Rattle.std.specs.Option.{ForSome}
 use Rattle.std.proofs.lemmas.Bool.Decides.{nat_tests}
-use Rattle.vmodel.specs.declared.deed.Post.{Post}
-use Rattle.vmodel.specs.declared.deed.Fate.{Fate}
-use Rattle.vmodel.specs.declared.deed.Fate.TheVariants.{GoesOn, Sleeps, Waits}
+use Rattle.vmodel.specs.declared.effect.Post.{Post}
+use Rattle.vmodel.specs.declared.effect.Disposition.{Disposition}
+use Rattle.vmodel.specs.declared.effect.Disposition.TheVariants.{Runnable, Delayed, Waiting}
 use Rattle.vmodel.specs.declared.part.Part.{Part}
-use Rattle.vmodel.specs.declared.process.Spot.{Spot}
+use Rattle.vmodel.specs.declared.process.Frame.{Frame}
 use Rattle.vmodel.specs.State.{Process}
-use Rattle.vmodel.specs.Queue.{Later, Queue, with_process, waking, updating, later_at, later}
-use Rattle.vmodel.specs.Step.{leaves, going, goes_on, sleeps, fares, posts_after, posts, regions, settled, left_of, waits_by}
+use Rattle.vmodel.specs.Queue.{Later, Queue, with_process, slot_with_sleeper, slot_with_update, later_at, later}
+use Rattle.vmodel.specs.Step.{leaves, process_to_continue, goes_on, sleeps, reschedule, posts_after, posts, regions, with_queue_moves, continuation_of, waits_by}
 use Rattle.vmodel.specs.Kept.{IsInOrder, count_in, places, most_places, HasRest, waits_of, IsInPlace, IsIdle}
 use Rattle.vmodel.proofs.PlaceLemmas.{alike, count-other, count-self, count-without_self, count-without, count-with, asleep-wake, asleep-update, without_rises, with_rises, wake_rises, update_rises}
 
@@ -29,23 +29,23 @@ later_by P d put q some past puts = by_limit (nat_lt q.until (q.time + d)) refl
 pub sleeps_by : (P : Queue → Type 0) (d : ℕ) (sleeper : Option ℕ) (q : Queue) → P q →
     ((p : ℕ) → sleeper ≡ Some p → P (record q { inactive = with_process p q.inactive })) →
     P (record q { beyond = true }) →
-    ((t : ℕ) → q.time < t → t ≤ q.until → P (record q { future = later_at t (waking sleeper) q.future })) →
+    ((t : ℕ) → q.time < t → t ≤ q.until → P (record q { future = later_at t (slot_with_sleeper sleeper) q.future })) →
     P (sleeps d sleeper q)
 sleeps_by P zero None q stays lies past wakes = stays
 sleeps_by P zero (Some p) q stays lies past wakes = lies p refl
-sleeps_by P (suc d) sleeper q stays lies past wakes = later_by P (suc d) (waking sleeper) q (omega arith) past wakes
+sleeps_by P (suc d) sleeper q stays lies past wakes = later_by P (suc d) (slot_with_sleeper sleeper) q (omega arith) past wakes
 
 posts_after_by : (P : Queue → Type 0) (d : ℕ) (u : List Part) (q : Queue) → P (record q { posted = q.posted ++ u ∷ [] }) →
     P (record q { beyond = true }) →
-    ((t : ℕ) → q.time < t → t ≤ q.until → P (record q { future = later_at t (updating u) q.future })) →
+    ((t : ℕ) → q.time < t → t ≤ q.until → P (record q { future = later_at t (slot_with_update u) q.future })) →
     P (posts_after d u q)
 posts_after_by P zero u q behind past puts = behind
-posts_after_by P (suc d) u q behind past puts = later_by P (suc d) (updating u) q (omega arith) past puts
+posts_after_by P (suc d) u q behind past puts = later_by P (suc d) (slot_with_update u) q (omega arith) past puts
 
 pub posts_by : (P : Queue → Type 0) (posted : Option Post) (q : Queue) → P q →
     ((post : Post) → posted ≡ Some post → P (record q { posted = q.posted ++ post.parts ∷ [] })) →
     P (record q { beyond = true }) →
-    ((post : Post) (t : ℕ) → posted ≡ Some post → q.time < t → t ≤ q.until → P (record q { future = later_at t (updating post.parts) q.future })) →
+    ((post : Post) (t : ℕ) → posted ≡ Some post → q.time < t → t ≤ q.until → P (record q { future = later_at t (slot_with_update post.parts) q.future })) →
     P (posts posted q)
 posts_by P None q stays behind past puts = stays
 posts_by P (Some post) q stays behind past puts =
@@ -55,7 +55,7 @@ pub settled_by : (P : Queue → Type 0) (q : Queue) → (¬ IsIdle q → P q) �
     ((i : ℕ) (is : List ℕ) → q.active ≡ [] → q.inactive ≡ i ∷ is → P (record q { active = i ∷ is; inactive = [] })) →
     ((u : List Part) (us : List (List Part)) → P (record q { activated = u ∷ us; posted = [] })) →
     (IsIdle q → q.inactive ≡ [] → q.posted ≡ [] → P (record q { strobes = [] })) →
-    P (settled q)
+    P (with_queue_moves q)
 settled_by P q stays wakes activates ends = at q.active q.activated q.inactive q.posted refl refl refl refl
   where
     at : (active : List ℕ) (activated : List (List Part)) (inactive : List ℕ) (posted : List (List Part)) →
@@ -81,7 +81,7 @@ order-sleeps d sleeper q h = sleeps_by IsInOrder d sleeper q h
       future = wake_rises t (suc q.time) q.until sleeper q.future h.future lt within;
     })
 
-order-goes_on : (p : ℕ) (left : Option ℕ) (q : Queue) → IsInOrder q → IsInOrder (goes_on p left q)
+order-goes_on : (p : ℕ) (goes : Option ℕ) (q : Queue) → IsInOrder q → IsInOrder (goes_on p goes q)
 order-goes_on p None q h = order-leaves p q h
 order-goes_on p (Some same) q h = record { active = h.active; inactive = h.inactive; future = h.future }
 
@@ -95,13 +95,13 @@ order-posts posted q h = posts_by IsInOrder posted q h
       future = update_rises t (suc q.time) q.until post.parts q.future h.future lt within;
     })
 
-order-fares : (p : ℕ) (fate : Fate) (left : Option ℕ) (q : Queue) → IsInOrder q → IsInOrder (fares p fate left q)
-order-fares p GoesOn left q h = order-goes_on p left q h
-order-fares p (Sleeps d) left q h = order-leaves p (sleeps d left q) (order-sleeps d left q h)
-order-fares p (Waits place) left q h = order-leaves p q h
+order-reschedule : (p : ℕ) (disposition : Disposition) (goes : Option ℕ) (q : Queue) → IsInOrder q → IsInOrder (reschedule p disposition goes q)
+order-reschedule p Runnable goes q h = order-goes_on p goes q h
+order-reschedule p (Delayed d) goes q h = order-leaves p (sleeps d goes q) (order-sleeps d goes q h)
+order-reschedule p (Waiting place) goes q h = order-leaves p q h
 
-pub order-moved : (p : ℕ) (fate : Fate) (posted : Option Post) (left : Option ℕ) (q : Queue) → IsInOrder q → IsInOrder (fares p fate left (posts posted q))
-order-moved p fate posted left q h = order-fares p fate left (posts posted q) (order-posts posted q h)
+pub order-process_with_move : (p : ℕ) (disposition : Disposition) (posted : Option Post) (goes : Option ℕ) (q : Queue) → IsInOrder q → IsInOrder (reschedule p disposition goes (posts posted q))
+order-process_with_move p disposition posted goes q h = order-reschedule p disposition goes (posts posted q) (order-posts posted q h)
 
 -- ---- places
 
@@ -117,11 +117,11 @@ places-sleeps r d sleeper q =
     (omega arith)
     (λ t lt within. omega (arith, asleep-wake r t sleeper q.future))
 
-count-going : (r p : ℕ) (left : List Spot) → r ≢ p → count_in r (option_to_list (going p left)) ≡ 0
-count-going r p [] ne = refl
-count-going r p (spot ∷ rest) ne = count-other r p [] ne
+count-process_to_continue : (r p : ℕ) (continuation : List Frame) → r ≢ p → count_in r (option_to_list (process_to_continue p continuation)) ≡ 0
+count-process_to_continue r p [] ne = refl
+count-process_to_continue r p (frame ∷ rest) ne = count-other r p [] ne
 
-places-goes_on : (r p : ℕ) (left : Option ℕ) (q : Queue) → places r (goes_on p left q) ≤ places r q
+places-goes_on : (r p : ℕ) (goes : Option ℕ) (q : Queue) → places r (goes_on p goes q) ≤ places r q
 places-goes_on r p None q = places-leaves p r q
 places-goes_on r p (Some same) q = omega arith
 
@@ -132,28 +132,28 @@ places-posts r posted q = posts_by (λ (after : Queue). places r after ≤ place
     (omega arith)
     (λ post t is lt within. omega (arith, asleep-update r t post.parts q.future))
 
-places-fares : (r p : ℕ) (fate : Fate) (left : List Spot) (q : Queue) → r ≢ p → places r (fares p fate (going p left) q) ≤ places r q
-places-fares r p GoesOn left q ne = places-goes_on r p (going p left) q
-places-fares r p (Sleeps d) left q ne =
-    omega (arith, places-leaves p r (sleeps d (going p left) q), places-sleeps r d (going p left) q, count-going r p left ne)
-places-fares r p (Waits place) left q ne = places-leaves p r q
+places-reschedule : (r p : ℕ) (disposition : Disposition) (continuation : List Frame) (q : Queue) → r ≢ p → places r (reschedule p disposition (process_to_continue p continuation) q) ≤ places r q
+places-reschedule r p Runnable continuation q ne = places-goes_on r p (process_to_continue p continuation) q
+places-reschedule r p (Delayed d) continuation q ne =
+    omega (arith, places-leaves p r (sleeps d (process_to_continue p continuation) q), places-sleeps r d (process_to_continue p continuation) q, count-process_to_continue r p continuation ne)
+places-reschedule r p (Waiting place) continuation q ne = places-leaves p r q
 
-places-others : (r p : ℕ) (fate : Fate) (posted : Option Post) (left : List Spot) (q : Queue) → r ≢ p →
-    places r (fares p fate (going p left) (posts posted q)) ≤ places r q
-places-others r p fate posted left q ne = omega (arith, places-fares r p fate left (posts posted q) ne, places-posts r posted q)
+places-others : (r p : ℕ) (disposition : Disposition) (posted : Option Post) (continuation : List Frame) (q : Queue) → r ≢ p →
+    places r (reschedule p disposition (process_to_continue p continuation) (posts posted q)) ≤ places r q
+places-others r p disposition posted continuation q ne = omega (arith, places-reschedule r p disposition continuation (posts posted q) ne, places-posts r posted q)
 
 -- an active process that stands nowhere else stands nowhere once it has left
 left_all : (p : ℕ) (q : Queue) → places p q ≤ 1 → 1 ≤ count_in p q.active → places p (leaves p q) ≡ 0
 left_all p q once active = omega (arith, count-without_self p q.active)
 
-own-goes_on : (p : ℕ) (left : List Spot) (q : Queue) → places p q ≤ 1 → 1 ≤ count_in p q.active →
-    places p (goes_on p (going p left) q) ≤ most_places None left
+own-goes_on : (p : ℕ) (continuation : List Frame) (q : Queue) → places p q ≤ 1 → 1 ≤ count_in p q.active →
+    places p (goes_on p (process_to_continue p continuation) q) ≤ most_places None continuation
 own-goes_on p [] q once active = omega (arith, left_all p q once active)
-own-goes_on p (spot ∷ rest) q once active = once
+own-goes_on p (frame ∷ rest) q once active = once
 
-own-going : (p : ℕ) (left : List Spot) → count_in p (option_to_list (going p left)) ≤ most_places None left
-own-going p [] = omega arith
-own-going p (spot ∷ rest) = omega (arith, count-self p [])
+own-process_to_continue : (p : ℕ) (continuation : List Frame) → count_in p (option_to_list (process_to_continue p continuation)) ≤ most_places None continuation
+own-process_to_continue p [] = omega arith
+own-process_to_continue p (frame ∷ rest) = omega (arith, count-self p [])
 
 -- one that sleeps is where it sleeps, and active no more
 own-sleeps : (p d : ℕ) (sleeper : Option ℕ) (q : Queue) → places p q ≤ 1 → 1 ≤ count_in p q.active →
@@ -165,19 +165,19 @@ own-sleeps p d sleeper q once active =
     (omega (arith, count-without_self p q.active))
     (λ t lt within. omega (arith, count-without_self p q.active, asleep-wake p t sleeper q.future))
 
-own-fares : (p : ℕ) (fate : Fate) (left : List Spot) (q : Queue) → places p q ≤ 1 → 1 ≤ count_in p q.active →
-    places p (fares p fate (going p left) q) ≤ most_places (waits_by fate left) left
-own-fares p GoesOn left q once active = own-goes_on p left q once active
-own-fares p (Sleeps d) left q once active = omega (arith, own-sleeps p d (going p left) q once active, own-going p left)
-own-fares p (Waits place) left q once active = omega (arith, left_all p q once active)
+own-reschedule : (p : ℕ) (disposition : Disposition) (continuation : List Frame) (q : Queue) → places p q ≤ 1 → 1 ≤ count_in p q.active →
+    places p (reschedule p disposition (process_to_continue p continuation) q) ≤ most_places (waits_by disposition continuation) continuation
+own-reschedule p Runnable continuation q once active = own-goes_on p continuation q once active
+own-reschedule p (Delayed d) continuation q once active = omega (arith, own-sleeps p d (process_to_continue p continuation) q once active, own-process_to_continue p continuation)
+own-reschedule p (Waiting place) continuation q once active = omega (arith, left_all p q once active)
 
 active-posts : (posted : Option Post) (q : Queue) → (posts posted q).active ≡ q.active
 active-posts posted q = posts_by (λ (after : Queue). after.active ≡ q.active) posted q refl (λ post is. refl) refl (λ post t is lt within. refl)
 
-places-own : (p : ℕ) (fate : Fate) (posted : Option Post) (left : List Spot) (q : Queue) → places p q ≤ 1 → 1 ≤ count_in p q.active →
-    places p (fares p fate (going p left) (posts posted q)) ≤ most_places (waits_by fate left) left
-places-own p fate posted left q once active =
-    own-fares p fate left (posts posted q) (omega (arith, once, places-posts p posted q)) (omega (arith, active, ap (count_in p) (active-posts posted q)))
+places-own : (p : ℕ) (disposition : Disposition) (posted : Option Post) (continuation : List Frame) (q : Queue) → places p q ≤ 1 → 1 ≤ count_in p q.active →
+    places p (reschedule p disposition (process_to_continue p continuation) (posts posted q)) ≤ most_places (waits_by disposition continuation) continuation
+places-own p disposition posted continuation q once active =
+    own-reschedule p disposition continuation (posts posted q) (omega (arith, once, places-posts p posted q)) (omega (arith, active, ap (count_in p) (active-posts posted q)))
 
 -- the process that made the last step is active
 abbrev pub LastIsActive : Queue → Type 0
@@ -186,28 +186,28 @@ LastIsActive q = ForSome q.last (λ p. 1 ≤ count_in p q.active)
 pub nobody_last : (q : Queue) → q.last ≡ None → LastIsActive q
 nobody_last q none = λ p e. let no : None ≡ Some p = sym none ∙ e in cc
 
-last-goes_on : (p : ℕ) (left : List Spot) (q : Queue) → 1 ≤ count_in p q.active → LastIsActive (goes_on p (going p left) q)
+last-goes_on : (p : ℕ) (continuation : List Frame) (q : Queue) → 1 ≤ count_in p q.active → LastIsActive (goes_on p (process_to_continue p continuation) q)
 last-goes_on p [] q active = nobody_last (leaves p q) refl
-last-goes_on p (spot ∷ rest) q active = λ r e. let same : p ≡ r = cc in subst (λ (n : ℕ). 1 ≤ count_in n q.active) same active
+last-goes_on p (frame ∷ rest) q active = λ r e. let same : p ≡ r = cc in subst (λ (n : ℕ). 1 ≤ count_in n q.active) same active
 
-last-fares : (p : ℕ) (fate : Fate) (left : List Spot) (q : Queue) → 1 ≤ count_in p q.active → LastIsActive (fares p fate (going p left) q)
-last-fares p GoesOn left q active = last-goes_on p left q active
-last-fares p (Sleeps d) left q active = nobody_last (leaves p (sleeps d (going p left) q)) refl
-last-fares p (Waits place) left q active = nobody_last (leaves p q) refl
+last-reschedule : (p : ℕ) (disposition : Disposition) (continuation : List Frame) (q : Queue) → 1 ≤ count_in p q.active → LastIsActive (reschedule p disposition (process_to_continue p continuation) q)
+last-reschedule p Runnable continuation q active = last-goes_on p continuation q active
+last-reschedule p (Delayed d) continuation q active = nobody_last (leaves p (sleeps d (process_to_continue p continuation) q)) refl
+last-reschedule p (Waiting place) continuation q active = nobody_last (leaves p q) refl
 
-last-moved : (p : ℕ) (fate : Fate) (posted : Option Post) (left : List Spot) (q : Queue) → 1 ≤ count_in p q.active →
-    LastIsActive (fares p fate (going p left) (posts posted q))
-last-moved p fate posted left q active = last-fares p fate left (posts posted q) (omega (arith, active, ap (count_in p) (active-posts posted q)))
+last-process_with_move : (p : ℕ) (disposition : Disposition) (posted : Option Post) (continuation : List Frame) (q : Queue) → 1 ≤ count_in p q.active →
+    LastIsActive (reschedule p disposition (process_to_continue p continuation) (posts posted q))
+last-process_with_move p disposition posted continuation q active = last-reschedule p disposition continuation (posts posted q) (omega (arith, active, ap (count_in p) (active-posts posted q)))
 
 -- ---- what a process has left, after one has less
 
-abbrev pub left_at : List Process → ℕ → List Spot
-left_at processes p = left_of (slice_get processes p)
+abbrev pub continuation_at : List Process → ℕ → List Frame
+continuation_at processes p = continuation_of (slice_get processes p)
 
-pub is_there : (processes : List Process) (p : ℕ) (spot : Spot) (rest : List Spot) → left_at processes p ≡ spot ∷ rest → p < length processes
-is_there [] p spot rest e = cc
-is_there (r ∷ rs) zero spot rest e = omega arith
-is_there (r ∷ rs) (suc p) spot rest e = omega (arith, is_there rs p spot rest e)
+pub is_there : (processes : List Process) (p : ℕ) (frame : Frame) (rest : List Frame) → continuation_at processes p ≡ frame ∷ rest → p < length processes
+is_there [] p frame rest e = cc
+is_there (r ∷ rs) zero frame rest e = omega arith
+is_there (r ∷ rs) (suc p) frame rest e = omega (arith, is_there rs p frame rest e)
 
 abbrev pub waits_at : List Process → ℕ → Option ℕ
 waits_at processes p = waits_of (slice_get processes p)
@@ -226,47 +226,47 @@ get-set_other (x ∷ xs) (suc p) (suc r) q ne = get-set_other xs p r q (λ e. ne
 
 -- in how many places one may stand
 abbrev pub most_at : Option Process → ℕ
-most_at o = most_places (waits_of o) (left_of o)
+most_at o = most_places (waits_of o) (continuation_of o)
 
-most-one : (waits : Option ℕ) (left : List Spot) → most_places waits left ≤ 1
-most-one (Some place) left = omega arith
+most-one : (waits : Option ℕ) (continuation : List Frame) → most_places waits continuation ≤ 1
+most-one (Some place) continuation = omega arith
 most-one None [] = omega arith
-most-one None (spot ∷ rest) = omega arith
+most-one None (frame ∷ rest) = omega arith
 
-rest-by : (fate : Fate) (left : List Spot) → HasRest (waits_by fate left) left
-rest-by GoesOn left = tt
-rest-by (Sleeps d) left = tt
-rest-by (Waits place) [] = tt
-rest-by (Waits place) (spot ∷ rest) = tt
+rest-by : (disposition : Disposition) (continuation : List Frame) → HasRest (waits_by disposition continuation) continuation
+rest-by Runnable continuation = tt
+rest-by (Delayed d) continuation = tt
+rest-by (Waiting place) [] = tt
+rest-by (Waiting place) (frame ∷ rest) = tt
 
 abbrev pub IsWaiting : Option Process → Type 0
-IsWaiting o = HasRest (waits_of o) (left_of o)
+IsWaiting o = HasRest (waits_of o) (continuation_of o)
 
-pub place-moved : (p : ℕ) (fate : Fate) (posted : Option Post) (after : Process) (q : Queue) (processes : List Process) → IsInPlace q processes →
-    after.waits ≡ waits_by fate after.left → 1 ≤ count_in p q.active → p < length processes →
-    IsInPlace (fares p fate (going p after.left) (posts posted q)) (slice_set processes p after)
-place-moved p fate posted after q processes h waits active lt = record {
+pub place-process_with_move : (p : ℕ) (disposition : Disposition) (posted : Option Post) (after : Process) (q : Queue) (processes : List Process) → IsInPlace q processes →
+    after.waits ≡ waits_by disposition after.continuation → 1 ≤ count_in p q.active → p < length processes →
+    IsInPlace (reschedule p disposition (process_to_continue p after.continuation) (posts posted q)) (slice_set processes p after)
+place-process_with_move p disposition posted after q processes h waits active lt = record {
   once = λ r. elim (alike r p) [
-    | inl e ↦ subst (λ (n : ℕ). places n moved ≤ most_at (slice_get (slice_set processes p after) n)) (sym e)
+    | inl e ↦ subst (λ (n : ℕ). places n process_with_move ≤ most_at (slice_get (slice_set processes p after) n)) (sym e)
         (omega (
           arith,
-          places-own p fate posted after.left q one active,
-          ap (λ (w : Option ℕ). most_places w after.left) waits,
+          places-own p disposition posted after.continuation q one active,
+          ap (λ (w : Option ℕ). most_places w after.continuation) waits,
           ap most_at (get-set_same processes p after lt),
         ))
-    | inr ne ↦ omega (arith, places-others r p fate posted after.left q ne, h.once r, ap most_at (get-set_other processes p r after ne))
+    | inr ne ↦ omega (arith, places-others r p disposition posted after.continuation q ne, h.once r, ap most_at (get-set_other processes p r after ne))
   ];
   waiting = λ r. elim (alike r p) [
     | inl e ↦ subst (λ (n : ℕ). IsWaiting (slice_get (slice_set processes p after) n)) (sym e)
         (subst IsWaiting (sym (get-set_same processes p after lt))
-        (subst (λ (w : Option ℕ). HasRest w after.left) (sym waits) (rest-by fate after.left)))
+        (subst (λ (w : Option ℕ). HasRest w after.continuation) (sym waits) (rest-by disposition after.continuation)))
     | inr ne ↦ subst IsWaiting (sym (get-set_other processes p r after ne)) (h.waiting r)
   ];
-  last = last-moved p fate posted after.left q active;
+  last = last-process_with_move p disposition posted after.continuation q active;
 }
   where
-    moved : Queue
-    moved = fares p fate (going p after.left) (posts posted q)
+    process_with_move : Queue
+    process_with_move = reschedule p disposition (process_to_continue p after.continuation) (posts posted q)
 
     one : places p q ≤ 1
-    one = omega (arith, h.once p, most-one (waits_at processes p) (left_at processes p))
+    one = omega (arith, h.once p, most-one (waits_at processes p) (continuation_at processes p))

@@ -9,13 +9,13 @@ use Rattle.vbits.specs.Vectors.{Vector, filled, with_sign, resize, select, put}
 use Rattle.vdesign.specs.Expressions.{ExpressionTree}
 use Rattle.vdesign.specs.declared.action.Target.{Target}
 use Rattle.vdesign.specs.declared.action.Target.TheVariants.{Whole as WholeTarget}
-use Rattle.vvalue.specs.Value.{Moment, value_at, right_side}
+use Rattle.vvalue.specs.Value.{Environment, value_at, right_side}
 use Rattle.vvalue.specs.Targets.{target_size, targets_size}
 use Rattle.vvalue.proofs.Lengths.{right_side_length, resized_length}
 use Rattle.vmodel.specs.declared.part.Part.{Part}
 use Rattle.vmodel.specs.declared.part.Part.TheVariants.{Whole, Bits}
-use Rattle.vmodel.specs.Parts.{value_in, with_bits, write, written}
-use Rattle.vmodel.specs.Value.{some_bits, bits_from, parts_of, shared, assigned, resumed}
+use Rattle.vmodel.specs.Parts.{value_in, with_bits, write, with_parts}
+use Rattle.vmodel.specs.Value.{some_bits, bits_from, parts_of, shared_parts, assigned_parts, resumed_parts}
 use Rattle.vmodel.specs.Inner.{variable_of, value_over, over_one, over_all}
 use Rattle.vmodel.proofs.WakingLemmas.{differ_set, other_after}
 
@@ -106,15 +106,15 @@ select_is n low value picked some e =
     back : (n : ℕ) → 1 ≤ n → low + n - 1 + 1 - low ≡ n
     back n some = omega (arith, some)
 
-pub whole_is : (now : Moment) (n : ℕ) (value marked old : Vector) (sign : Bool) → marked ≡ with_sign value sign → sign ≡ old.signed → old ≡ value_at now n →
+pub whole_is : (now : Environment) (n : ℕ) (value marked old : Vector) (sign : Bool) → marked ≡ with_sign value sign → sign ≡ old.signed → old ≡ value_at now n →
     Whole n marked ∷ [] ≡ parts_of now (WholeTarget n) value.letters
 unfolding with_sign
 whole_is now n value marked old sign e mark is =
     ap (λ (v : Vector). Whole n v ∷ []) e
     ∙ ap (λ (b : Bool). Whole n (record { letters = value.letters; signed = b }) ∷ []) (mark ∙ ap (λ (v : Vector). v.signed) is)
 
-pub alone_is : (now : Moment) (target : Target) (e : ExpressionTree) (size : ℕ) (value : Vector) (parts : List Part) → size ≡ target_size now target → size ≤ 64 →
-    value ≡ right_side now size e → parts ≡ parts_of now target value.letters → parts ≡ assigned now (target ∷ []) e
+pub alone_is : (now : Environment) (target : Target) (e : ExpressionTree) (size : ℕ) (value : Vector) (parts : List Part) → size ≡ target_size now target → size ≤ 64 →
+    value ≡ right_side now size e → parts ≡ parts_of now target value.letters → parts ≡ assigned_parts now (target ∷ []) e
 alone_is now target e size value parts is le right are =
     are ∙ fit (target_size now target + 0) (nat_le (target_size now target + 0) 64) (omega (arith, is)) (grind (arith, nat_tests))
   where
@@ -125,60 +125,60 @@ alone_is now target e size value parts is le right are =
         ap (parts_of now target) (ap (λ (v : Vector). v.letters) (right ∙ ap (λ m. right_side now m e) same) ∙ sym (taken_all (target_size now target) (right_side now n e).letters (omega (arith, right_side_length now n e, is, same))))
         ∙ sym (append-nil (parts_of now target (take (target_size now target) (right_side now n e).letters)))
 
-pub row_is : (now : Moment) (targets : List Target) (e : ExpressionTree) (size : ℕ) (value : Vector) (parts : List Part) → size ≡ targets_size now targets → size ≤ 64 →
-    value ≡ right_side now size e → parts ≡ shared now targets value.letters → parts ≡ assigned now targets e
+pub row_is : (now : Environment) (targets : List Target) (e : ExpressionTree) (size : ℕ) (value : Vector) (parts : List Part) → size ≡ targets_size now targets → size ≤ 64 →
+    value ≡ right_side now size e → parts ≡ shared_parts now targets value.letters → parts ≡ assigned_parts now targets e
 row_is now targets e size value parts is le right are =
     are
-    ∙ ap (λ (v : Vector). shared now targets v.letters) (right ∙ ap (λ n. right_side now n e) is)
+    ∙ ap (λ (v : Vector). shared_parts now targets v.letters) (right ∙ ap (λ n. right_side now n e) is)
     ∙ chosen (nat_le (targets_size now targets) 64) (grind (arith, nat_tests))
   where
     all : List Part
-    all = shared now targets (right_side now (targets_size now targets) e).letters
+    all = shared_parts now targets (right_side now (targets_size now targets) e).letters
 
     chosen : (b : Bool) → b ≡ true → all ≡ cond b all []
     chosen true is_true = refl
     chosen false is_true = cc
 
 -- the same of a value that is held
-pub held_is : (now : Moment) (targets : List Target) (size : ℕ) (held value : Vector) (parts : List Part) → size ≡ targets_size now targets → size ≤ 64 →
-    value ≡ resize held size → parts ≡ shared now targets value.letters → parts ≡ resumed now targets (Some held)
+pub held_is : (now : Environment) (targets : List Target) (size : ℕ) (held value : Vector) (parts : List Part) → size ≡ targets_size now targets → size ≤ 64 →
+    value ≡ resize held size → parts ≡ shared_parts now targets value.letters → parts ≡ resumed_parts now targets (Some held)
 held_is now targets size held value parts is le resized are =
     are
-    ∙ ap (λ (v : Vector). shared now targets v.letters) (resized ∙ ap (resize held) is)
+    ∙ ap (λ (v : Vector). shared_parts now targets v.letters) (resized ∙ ap (resize held) is)
     ∙ chosen (nat_le (targets_size now targets) 64) (grind (arith, nat_tests))
   where
     all : List Part
-    all = shared now targets (resize held (targets_size now targets)).letters
+    all = shared_parts now targets (resize held (targets_size now targets)).letters
 
     chosen : (b : Bool) → b ≡ true → all ≡ cond b all []
     chosen true is_true = refl
     chosen false is_true = cc
 
-pub none_held : (now : Moment) (targets : List Target) (held : Vector) → 64 < targets_size now targets → [] ≡ resumed now targets (Some held)
+pub none_held : (now : Environment) (targets : List Target) (held : Vector) → 64 < targets_size now targets → [] ≡ resumed_parts now targets (Some held)
 none_held now targets held lt = chosen (nat_le (targets_size now targets) 64) (grind (arith, nat_tests))
   where
     all : List Part
-    all = shared now targets (resize held (targets_size now targets)).letters
+    all = shared_parts now targets (resize held (targets_size now targets)).letters
 
     chosen : (b : Bool) → b ≡ false → [] ≡ cond b all []
     chosen false is_false = refl
     chosen true is_false = cc
 
-pub held_length : (now : Moment) (targets : List Target) (size : ℕ) (held value : Vector) → size ≡ targets_size now targets →
+pub held_length : (now : Environment) (targets : List Target) (size : ℕ) (held value : Vector) → size ≡ targets_size now targets →
     value ≡ resize held size → length value.letters ≡ targets_size now targets
 held_length now targets size held value is resized = ap (λ (v : Vector). length v.letters) resized ∙ resized_length held size ∙ is
 
-pub none_is : (now : Moment) (targets : List Target) (e : ExpressionTree) → 64 < targets_size now targets → [] ≡ assigned now targets e
+pub none_is : (now : Environment) (targets : List Target) (e : ExpressionTree) → 64 < targets_size now targets → [] ≡ assigned_parts now targets e
 none_is now targets e lt = chosen (nat_le (targets_size now targets) 64) (grind (arith, nat_tests))
   where
     all : List Part
-    all = shared now targets (right_side now (targets_size now targets) e).letters
+    all = shared_parts now targets (right_side now (targets_size now targets) e).letters
 
     chosen : (b : Bool) → b ≡ false → [] ≡ cond b all []
     chosen false is_false = refl
     chosen true is_false = cc
 
-pub row_length : (now : Moment) (targets : List Target) (e : ExpressionTree) (size : ℕ) (value : Vector) → size ≡ targets_size now targets →
+pub row_length : (now : Environment) (targets : List Target) (e : ExpressionTree) (size : ℕ) (value : Vector) → size ≡ targets_size now targets →
     value ≡ right_side now size e → length value.letters ≡ targets_size now targets
 row_length now targets e size value is right = ap (λ (v : Vector). length v.letters) right ∙ right_side_length now size e ∙ is
 
@@ -191,19 +191,19 @@ drop_at (suc i) (first ∷ more) target is lt =
     drop_at i more target is (omega (arith, lt)) ∙ ap (λ n. target ∷ drop n (first ∷ more)) next
 
 -- one target less
-pub size_step : (now : Moment) (targets : List Target) (target : Target) (more : List Target) (behind size : ℕ) → targets ≡ target ∷ more →
+pub size_step : (now : Environment) (targets : List Target) (target : Target) (more : List Target) (behind size : ℕ) → targets ≡ target ∷ more →
     behind ≡ targets_size now targets → size ≡ target_size now target → behind - size ≡ targets_size now more
 size_step now targets target more behind size is at one = omega (arith, ap (targets_size now) is, at, one)
 
 -- one target more has its letters
-pub shared_step : (now : Moment) (targets : List Target) (target : Target) (more : List Target) (value picked : Vector) (behind size : ℕ) (had has part : List Part) →
+pub shared_step : (now : Environment) (targets : List Target) (target : Target) (more : List Target) (value picked : Vector) (behind size : ℕ) (had has part : List Part) →
     targets ≡ target ∷ more → behind ≡ targets_size now more → size ≡ target_size now target → 1 ≤ size →
     picked ≡ select value (behind + size - 1) behind → part ≡ parts_of now target picked.letters → has ≡ had ++ part →
-    has ++ shared now more value.letters ≡ had ++ shared now targets value.letters
+    has ++ shared_parts now more value.letters ≡ had ++ shared_parts now targets value.letters
 shared_step now targets target more value picked behind size had has part is at one some e parts grown =
-    ap (λ ps. ps ++ shared now more value.letters) (grown ∙ ap (λ ps. had ++ ps) (parts ∙ ap (parts_of now target) letters))
-    ∙ append_assoc had (parts_of now target (take (target_size now target) (drop (targets_size now more) value.letters))) (shared now more value.letters)
-    ∙ ap (λ ts. had ++ shared now ts value.letters) (sym is)
+    ap (λ ps. ps ++ shared_parts now more value.letters) (grown ∙ ap (λ ps. had ++ ps) (parts ∙ ap (parts_of now target) letters))
+    ∙ append_assoc had (parts_of now target (take (target_size now target) (drop (targets_size now more) value.letters))) (shared_parts now more value.letters)
+    ∙ ap (λ ts. had ++ shared_parts now ts value.letters) (sym is)
   where
     letters : picked.letters ≡ take (target_size now target) (drop (targets_size now more) value.letters)
     letters = select_is size behind value picked some e ∙ ap (λ n. take n (drop behind value.letters)) one ∙ ap (λ n. take (target_size now target) (drop n value.letters)) at
@@ -244,12 +244,12 @@ nowhere (v ∷ vs) (suc n) le = nowhere vs n (omega (arith, le))
 write_length : (part : Part) (values : List Vector) → length (write part values) ≡ length values
 write_length part values = ap length (write_is part values) ∙ length-set values (variable_of part) (value_over part (value_in values (variable_of part)))
 
-written_length : (parts : List Part) (values : List Vector) → length (written parts values) ≡ length values
+written_length : (parts : List Part) (values : List Vector) → length (with_parts parts values) ≡ length values
 written_length [] values = refl
 written_length (part ∷ parts) values = written_length parts (write part values) ∙ write_length part values
 
-pub nowhere_after : (parts : List Part) (values : List Vector) (n : ℕ) → length values ≤ n → value_in values n ≡ value_in (written parts values) n
-nowhere_after parts values n le = nowhere values n le ∙ sym (nowhere (written parts values) n (omega (arith, le, written_length parts values)))
+pub nowhere_after : (parts : List Part) (values : List Vector) (n : ℕ) → length values ≤ n → value_in values n ≡ value_in (with_parts parts values) n
+nowhere_after parts values n le = nowhere values n le ∙ sym (nowhere (with_parts parts values) n (omega (arith, le, written_length parts values)))
 
 step_is : (part : Part) (values : List Vector) (n : ℕ) → n < length values →
     over_one part n (value_in values n) ≡ value_in (write part values) n
@@ -272,7 +272,7 @@ step_is part values n lt = by (variable_of part == n) refl ∙ sym (ap (λ vs. v
         other_after values m n new other
 
 pub followed_is : (parts : List Part) (values : List Vector) (n : ℕ) → n < length values →
-    over_all parts n (value_in values n) ≡ value_in (written parts values) n
+    over_all parts n (value_in values n) ≡ value_in (with_parts parts values) n
 followed_is [] values n lt = refl
 followed_is (part ∷ parts) values n lt =
     ap (over_all parts n) (step_is part values n lt) ∙ followed_is parts (write part values) n (omega (arith, lt, write_length part values))

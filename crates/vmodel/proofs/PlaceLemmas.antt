@@ -2,7 +2,7 @@
 use Rattle.std.proofs.Common.{◌≡◌, ◌≢◌, ◌⊎◌, inl, inr, ℕ, suc, ◌+◌, ◌≤◌, List, [], ◌∷◌, Option, Some, None, option_to_list, refl, sym, ap, subst, ◌∙◌, arith}
 use Rattle.std.proofs.lemmas.Bool.Decides.{eqb_tells}
 use Rattle.vmodel.specs.declared.part.Part.{Part}
-use Rattle.vmodel.specs.Queue.{Later, with_process, without_process, empty_slot, waking, updating, later_at}
+use Rattle.vmodel.specs.Queue.{Later, with_process, without_process, empty_slot, slot_with_sleeper, slot_with_update, later_at}
 use Rattle.vmodel.specs.Kept.{RisesFrom, FutureFrom, count_in, asleep}
 use Rattle.vmodel.proofs.ProcessLemmas.{less, equal, more, compared, same, differs, with_less, with_same, with_more, without_other, without_same}
 use Rattle.vmodel.proofs.FutureLemmas.{earlier, here, sooner}
@@ -59,10 +59,10 @@ count-keeps p r (q ∷ qs) = elim (compared p q) [
   | more gt ↦ omega (arith, count-keeps p r qs, ap (count_in r) (with_more p q qs gt), count-cons r q qs, count-cons r q (with_process p qs))
 ]
 
-pub count-waking : (r : ℕ) (sleeper : Option ℕ) (slot : Later) →
-    count_in r (waking sleeper slot).processes ≤ count_in r slot.processes + count_in r (option_to_list sleeper)
-count-waking r None slot = omega arith
-count-waking r (Some p) slot = count-with p r slot.processes
+pub count-slot_with_sleeper : (r : ℕ) (sleeper : Option ℕ) (slot : Later) →
+    count_in r (slot_with_sleeper sleeper slot).processes ≤ count_in r slot.processes + count_in r (option_to_list sleeper)
+count-slot_with_sleeper r None slot = omega arith
+count-slot_with_sleeper r (Some p) slot = count-with p r slot.processes
 
 -- where no more than so much is put to what a time holds
 asleep-later : (r t most : ℕ) (put : Later → Later) (es : List (ℕ × Later)) →
@@ -76,11 +76,11 @@ asleep-later r t most put (e ∷ es) few = elim (compared t e.0) [
 ]
 
 pub asleep-wake : (r t : ℕ) (sleeper : Option ℕ) (es : List (ℕ × Later)) →
-    asleep r (later_at t (waking sleeper) es) ≤ asleep r es + count_in r (option_to_list sleeper)
-asleep-wake r t sleeper es = asleep-later r t (count_in r (option_to_list sleeper)) (waking sleeper) es (count-waking r sleeper)
+    asleep r (later_at t (slot_with_sleeper sleeper) es) ≤ asleep r es + count_in r (option_to_list sleeper)
+asleep-wake r t sleeper es = asleep-later r t (count_in r (option_to_list sleeper)) (slot_with_sleeper sleeper) es (count-slot_with_sleeper r sleeper)
 
-pub asleep-update : (r t : ℕ) (u : List Part) (es : List (ℕ × Later)) → asleep r (later_at t (updating u) es) ≤ asleep r es
-asleep-update r t u es = omega (arith, asleep-later r t 0 (updating u) es (λ slot. omega arith))
+pub asleep-update : (r t : ℕ) (u : List Part) (es : List (ℕ × Later)) → asleep r (later_at t (slot_with_update u) es) ≤ asleep r es
+asleep-update r t u es = omega (arith, asleep-later r t 0 (slot_with_update u) es (λ slot. omega arith))
 
 -- ---- rising lists
 
@@ -105,7 +105,7 @@ with_rises p low (q ∷ qs) h le = elim (compared p q) [
   | more gt ↦ subst (RisesFrom low) (sym (with_more p q qs gt)) (h.0, with_rises p (suc q) qs h.1 gt)
 ]
 
-waking_rises : (sleeper : Option ℕ) (slot : Later) → RisesFrom 0 slot.processes → RisesFrom 0 (waking sleeper slot).processes
+waking_rises : (sleeper : Option ℕ) (slot : Later) → RisesFrom 0 slot.processes → RisesFrom 0 (slot_with_sleeper sleeper slot).processes
 waking_rises None slot h = h
 waking_rises (Some p) slot h = with_rises p 0 slot.processes h (omega arith)
 
@@ -122,9 +122,9 @@ later_rises t low until put (e ∷ es) h le within keeps = elim (compared t e.0)
 ]
 
 pub wake_rises : (t low until : ℕ) (sleeper : Option ℕ) (es : List (ℕ × Later)) → FutureFrom low until es → low ≤ t → t ≤ until →
-    FutureFrom low until (later_at t (waking sleeper) es)
-wake_rises t low until sleeper es h le within = later_rises t low until (waking sleeper) es h le within (waking_rises sleeper)
+    FutureFrom low until (later_at t (slot_with_sleeper sleeper) es)
+wake_rises t low until sleeper es h le within = later_rises t low until (slot_with_sleeper sleeper) es h le within (waking_rises sleeper)
 
 pub update_rises : (t low until : ℕ) (u : List Part) (es : List (ℕ × Later)) → FutureFrom low until es → low ≤ t → t ≤ until →
-    FutureFrom low until (later_at t (updating u) es)
-update_rises t low until u es h le within = later_rises t low until (updating u) es h le within (λ slot rises. rises)
+    FutureFrom low until (later_at t (slot_with_update u) es)
+update_rises t low until u es h le within = later_rises t low until (slot_with_update u) es h le within (λ slot rises. rises)

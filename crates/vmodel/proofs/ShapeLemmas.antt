@@ -10,33 +10,33 @@ use Rattle.vbits.specs.Vectors.{Vector, filled, with_sign, resize}
 use Rattle.vdesign.specs.Design.{Variable, Design}
 use Rattle.vdesign.specs.declared.action.Action.{Action}
 use Rattle.vdesign.specs.declared.print.When.TheVariants.{Now, AtSlotEnd, AtChange}
-use Rattle.vdesign.specs.declared.action.Action.TheVariants.{Assign, Nonblocking, Held, Posted, Trigger, Test, Case, Again, Repeat, Forever, Delay, On, Until, Drive, Print, DumpVars, Dump, Pass, Finish, Stop}
+use Rattle.vdesign.specs.declared.action.Action.TheVariants.{Assign, Nonblocking, AssignDelayed, NonblockingDelayed, Trigger, Test, Case, While, Repeat, Forever, Delay, EventControl, Wait, ContinuousAssign, Print, DumpVars, Dump, NoOperation, Finish, Stop}
 use Rattle.vdesign.specs.Expressions.{ExpressionTree}
 use Rattle.vdesign.specs.declared.action.Target.{Target}
 use Rattle.vdesign.specs.declared.action.Target.TheVariants.{Whole as WholeTarget, Bit as BitTarget, Part as PartTarget}
 use Rattle.vmodel.specs.declared.history.Cause.{Cause}
-use Rattle.vmodel.specs.declared.deed.Post.{Post}
-use Rattle.vmodel.specs.declared.deed.Fate.{Fate}
-use Rattle.vmodel.specs.declared.deed.Fate.TheVariants.{GoesOn, Sleeps, Waits}
+use Rattle.vmodel.specs.declared.effect.Post.{Post}
+use Rattle.vmodel.specs.declared.effect.Disposition.{Disposition}
+use Rattle.vmodel.specs.declared.effect.Disposition.TheVariants.{Runnable, Delayed, Waiting}
 use Rattle.vmodel.specs.declared.part.Part.{Part}
 use Rattle.vmodel.specs.declared.part.Part.TheVariants.{Whole, Bits}
-use Rattle.vmodel.specs.declared.process.Spot.{Spot}
-use Rattle.vmodel.specs.declared.process.Spot.TheVariants.{Doing, Turning, Writing}
+use Rattle.vmodel.specs.declared.process.Frame.{Frame}
+use Rattle.vmodel.specs.declared.process.Frame.TheVariants.{Executing, Repeating, Writing}
 use Rattle.vmodel.specs.declared.choice.Choice.{Choice}
 use Rattle.vmodel.specs.declared.choice.Choice.TheVariants.{Run, Update, Advance}
-use Rattle.vvalue.specs.Value.{Moment, value_at, bounds_of, right_side, holds as holds_at, delay_of}
-use Rattle.vmodel.specs.InnerStep.{awaits}
+use Rattle.vvalue.specs.Value.{Environment, value_at, bounds_of, right_side, holds as holds_at, delay_of}
+use Rattle.vmodel.specs.InnerStep.{wait_result}
 use Rattle.vvalue.proofs.Lengths.{right_side_length, resized_length}
 use Rattle.vvalue.specs.Targets.{target_size, targets_size, place_at, both_fall, leftwards}
 use Rattle.vmodel.proofs.PartLemmas.{part_length, spliced_length}
-use Rattle.vmodel.specs.Value.{some_bits, bits_at, parts_of, shared, given, assigned, resumed}
-use Rattle.vmodel.specs.Parts.{value_in, with_bits, written}
-use Rattle.vmodel.specs.Queue.{Later, Queue, waking, updating, empty_slot, later_at}
+use Rattle.vmodel.specs.Value.{some_bits, bits_at, parts_of, shared_parts, given_parts, assigned_parts, resumed_parts}
+use Rattle.vmodel.specs.Parts.{value_in, with_bits, with_parts}
+use Rattle.vmodel.specs.Queue.{Later, Queue, slot_with_sleeper, slot_with_update, empty_slot, later_at}
 use Rattle.vmodel.specs.State.{State}
 use Rattle.vmodel.specs.Choices.{choices}
-use Rattle.vmodel.specs.Step.{moment_of, Did, post_after, does, turns, resumes, does_at, place_of, going, leaves, fares, posts, strobing, regions, with_moves_by, woken, with_moves, acted, takes, goes_from, left_of, held_of, first_of, without_update, updated, advanced_to, turn_of, turn_by, next}
+use Rattle.vmodel.specs.Step.{environment_of, StepResult, post_after, execute, execute_turn, resume, execute_at, place_of, process_to_continue, leaves, reschedule, posts, with_strobe, regions, with_moves_by, with_woken, with_moves, with_step, action_transition, continuation_transition, continuation_of, held_of, first_of, without_update, with_update, with_advance, transition_of, transition_by, next}
 use Rattle.vmodel.specs.Run.{Setting, opening_value, state_after}
-use Rattle.vmodel.specs.Played.{opening_is, after_is}
+use Rattle.vmodel.specs.RunProgress.{opening_is, after_is}
 use Rattle.vmodel.specs.Kept.{HasShape, AreShaped}
 use Rattle.vmodel.proofs.MovedLemmas.{sleeps_by, posts_by}
 
@@ -112,13 +112,13 @@ shaped-bits variables values number low value h = shaped-set variables values nu
         let kept = bits-shape old low value in
         (kept.0 ∙ shape.0, kept.1 ∙ shape.1)
 
-shaped-written : (variables : List Variable) (parts : List Part) (values : List Vector) → AreShaped variables values → AllSuit variables parts →
-    AreShaped variables (written parts values)
-shaped-written variables [] values h suit = h
-shaped-written variables (Whole number value ∷ parts) values h suit =
-    shaped-written variables parts (slice_set values number value) (shaped-set variables values number value h suit.0) suit.1
-shaped-written variables (Bits number low value ∷ parts) values h suit =
-    shaped-written variables parts (slice_set values number (with_bits (value_in values number) low value)) (shaped-bits variables values number low value h) suit.1
+shaped-with_parts : (variables : List Variable) (parts : List Part) (values : List Vector) → AreShaped variables values → AllSuit variables parts →
+    AreShaped variables (with_parts parts values)
+shaped-with_parts variables [] values h suit = h
+shaped-with_parts variables (Whole number value ∷ parts) values h suit =
+    shaped-with_parts variables parts (slice_set values number value) (shaped-set variables values number value h suit.0) suit.1
+shaped-with_parts variables (Bits number low value ∷ parts) values h suit =
+    shaped-with_parts variables parts (slice_set values number (with_bits (value_in values number) low value)) (shaped-bits variables values number low value h) suit.1
 
 marked : (v : Vector) (mark : Bool) → ((with_sign v mark).letters ≡ v.letters) × ((with_sign v mark).signed ≡ mark)
 unfolding with_sign
@@ -134,14 +134,14 @@ at-suits : (variables : List Variable) (n : ℕ) (old : Vector) (place : Option 
 at-suits variables n old None letters = tt
 at-suits variables n old (Some place) letters = some-suit variables n place (take (length old.letters - place) letters)
 
-whole-suits : (variables : List Variable) (now : Moment) (n : ℕ) (letters : List Bit4) → AreShaped variables now.values →
+whole-suits : (variables : List Variable) (now : Environment) (n : ℕ) (letters : List Bit4) → AreShaped variables now.values →
     length letters ≡ length (value_at now n).letters →
     (x : Variable) → slice_get variables n ≡ Some x → HasShape x (record { letters = letters; signed = (value_at now n).signed })
 whole-suits variables now n letters h len x at =
     let shape : HasShape x (value_at now n) = shape_at variables now.values n x (filled 1 X) h at in
     (len ∙ shape.0, shape.1)
 
-parts-suit : (variables : List Variable) (now : Moment) (target : Target) (letters : List Bit4) → AreShaped variables now.values →
+parts-suit : (variables : List Variable) (now : Environment) (target : Target) (letters : List Bit4) → AreShaped variables now.values →
     length letters ≡ target_size now target → AllSuit variables (parts_of now target letters)
 parts-suit variables now (WholeTarget n) letters h len = (whole-suits variables now n letters h len, tt)
 parts-suit variables now (BitTarget n index) letters h len = at-suits variables n (value_at now n) (place_at now n index) letters
@@ -155,36 +155,36 @@ both-suit : (variables : List Variable) (ps qs : List Part) → AllSuit variable
 both-suit variables [] qs h k = k
 both-suit variables (p ∷ ps) qs h k = (h.0, both-suit variables ps qs h.1 k)
 
-shared-suits : (variables : List Variable) (now : Moment) (targets : List Target) (letters : List Bit4) → AreShaped variables now.values →
-    targets_size now targets ≤ length letters → AllSuit variables (shared now targets letters)
-shared-suits variables now [] letters h le = tt
-shared-suits variables now (target ∷ more) letters h le =
-    both-suit variables (parts_of now target (take (target_size now target) (drop (targets_size now more) letters))) (shared now more letters)
+shared_parts-suits : (variables : List Variable) (now : Environment) (targets : List Target) (letters : List Bit4) → AreShaped variables now.values →
+    targets_size now targets ≤ length letters → AllSuit variables (shared_parts now targets letters)
+shared_parts-suits variables now [] letters h le = tt
+shared_parts-suits variables now (target ∷ more) letters h le =
+    both-suit variables (parts_of now target (take (target_size now target) (drop (targets_size now more) letters))) (shared_parts now more letters)
     (parts-suit variables now target (take (target_size now target) (drop (targets_size now more) letters)) h
     (part_length (target_size now target) (targets_size now more) letters le))
-    (shared-suits variables now more letters h (omega (arith, le)))
+    (shared_parts-suits variables now more letters h (omega (arith, le)))
 
-given-suits : (variables : List Variable) (targets : List Target) (value : Vector) (now : Moment) → AreShaped variables now.values →
-    length value.letters ≡ targets_size now targets → AllSuit variables (given now targets value)
-given-suits variables targets value now h len = by (nat_le (targets_size now targets) 64)
+given_parts-suits : (variables : List Variable) (targets : List Target) (value : Vector) (now : Environment) → AreShaped variables now.values →
+    length value.letters ≡ targets_size now targets → AllSuit variables (given_parts now targets value)
+given_parts-suits variables targets value now h len = by (nat_le (targets_size now targets) 64)
   where
-    by : (b : Bool) → AllSuit variables (cond b (shared now targets value.letters) [])
+    by : (b : Bool) → AllSuit variables (cond b (shared_parts now targets value.letters) [])
     by false = tt
-    by true = shared-suits variables now targets value.letters h (omega (arith, len))
+    by true = shared_parts-suits variables now targets value.letters h (omega (arith, len))
 
-assigned-suits : (variables : List Variable) (targets : List Target) (e : ExpressionTree) (now : Moment) → AreShaped variables now.values →
-    AllSuit variables (assigned now targets e)
-assigned-suits variables targets e now h =
+assigned_parts-suits : (variables : List Variable) (targets : List Target) (e : ExpressionTree) (now : Environment) → AreShaped variables now.values →
+    AllSuit variables (assigned_parts now targets e)
+assigned_parts-suits variables targets e now h =
     let size = targets_size now targets in
-    given-suits variables targets (right_side now size e) now h (right_side_length now size e)
+    given_parts-suits variables targets (right_side now size e) now h (right_side_length now size e)
 
 -- 9.7.7: what is held is cut or extended once more, to the bits that the targets have then
-resumed-suits : (variables : List Variable) (targets : List Target) (held : Option Vector) (now : Moment) → AreShaped variables now.values →
-    AllSuit variables (resumed now targets held)
-resumed-suits variables targets None now h = tt
-resumed-suits variables targets (Some value) now h =
+resumed_parts-suits : (variables : List Variable) (targets : List Target) (held : Option Vector) (now : Environment) → AreShaped variables now.values →
+    AllSuit variables (resumed_parts now targets held)
+resumed_parts-suits variables targets None now h = tt
+resumed_parts-suits variables targets (Some value) now h =
     let size = targets_size now targets in
-    given-suits variables targets (resize value size) now h (resized_length value size)
+    given_parts-suits variables targets (resize value size) now h (resized_length value size)
 
 -- ---- what waits
 
@@ -193,10 +193,10 @@ suits-behind : (variables : List Variable) (us : List (List Part)) (u : List Par
 suits-behind variables [] u h suit = (suit, tt)
 suits-behind variables (first ∷ us) u h suit = (h.0, suits-behind variables us u h.1 suit)
 
-waking-suits : (variables : List Variable) (sleeper : Option ℕ) (slot : Later) → UpdatesSuit variables slot.updates →
-    UpdatesSuit variables (waking sleeper slot).updates
-waking-suits variables None slot h = h
-waking-suits variables (Some p) slot h = h
+slot_with_sleeper-suits : (variables : List Variable) (sleeper : Option ℕ) (slot : Later) → UpdatesSuit variables slot.updates →
+    UpdatesSuit variables (slot_with_sleeper sleeper slot).updates
+slot_with_sleeper-suits variables None slot h = h
+slot_with_sleeper-suits variables (Some p) slot h = h
 
 later-suits : (variables : List Variable) (t : ℕ) (put : Later → Later) (es : List (ℕ × Later)) → FutureSuits variables es →
     ((slot : Later) → UpdatesSuit variables slot.updates → UpdatesSuit variables (put slot).updates) →
@@ -215,13 +215,13 @@ later-suits variables t put (e ∷ es) h suits = by (nat_lt t e.0) (t == e.0) (l
     by false false rest = (h.0, rest)
 
 wake-suits : (variables : List Variable) (t : ℕ) (sleeper : Option ℕ) (es : List (ℕ × Later)) → FutureSuits variables es →
-    FutureSuits variables (later_at t (waking sleeper) es)
-wake-suits variables t sleeper es h = later-suits variables t (waking sleeper) es h (waking-suits variables sleeper)
+    FutureSuits variables (later_at t (slot_with_sleeper sleeper) es)
+wake-suits variables t sleeper es h = later-suits variables t (slot_with_sleeper sleeper) es h (slot_with_sleeper-suits variables sleeper)
 
 update-suits : (variables : List Variable) (t : ℕ) (u : List Part) (es : List (ℕ × Later)) → FutureSuits variables es → AllSuit variables u →
-    FutureSuits variables (later_at t (updating u) es)
+    FutureSuits variables (later_at t (slot_with_update u) es)
 update-suits variables t u es h suit =
-    later-suits variables t (updating u) es h (λ slot updates. suits-behind variables slot.updates u updates suit)
+    later-suits variables t (slot_with_update u) es h (λ slot updates. suits-behind variables slot.updates u updates suit)
 
 -- ---- a step
 
@@ -236,17 +236,17 @@ posts-suit variables posted q h suit = posts_by (QueueSuits variables) posted q 
       future = update-suits variables t post.parts q.future h.future (suit post is);
     })
 
-fares-suit : (variables : List Variable) (p : ℕ) (fate : Fate) (left : Option ℕ) (q : Queue) → QueueSuits variables q →
-    QueueSuits variables (fares p fate left q)
-fares-suit variables p GoesOn None q h = record { activated = h.activated; posted = h.posted; future = h.future }
-fares-suit variables p GoesOn (Some same) q h = record { activated = h.activated; posted = h.posted; future = h.future }
-fares-suit variables p (Sleeps d) left q h =
-    sleeps_by (λ (r : Queue). QueueSuits variables (leaves p r)) d left q
+reschedule-suit : (variables : List Variable) (p : ℕ) (disposition : Disposition) (goes : Option ℕ) (q : Queue) → QueueSuits variables q →
+    QueueSuits variables (reschedule p disposition goes q)
+reschedule-suit variables p Runnable None q h = record { activated = h.activated; posted = h.posted; future = h.future }
+reschedule-suit variables p Runnable (Some same) q h = record { activated = h.activated; posted = h.posted; future = h.future }
+reschedule-suit variables p (Delayed d) goes q h =
+    sleeps_by (λ (r : Queue). QueueSuits variables (leaves p r)) d goes q
     (record { activated = h.activated; posted = h.posted; future = h.future })
     (λ r is. record { activated = h.activated; posted = h.posted; future = h.future })
     (record { activated = h.activated; posted = h.posted; future = h.future })
-    (λ t later within. record { activated = h.activated; posted = h.posted; future = wake-suits variables t left q.future h.future })
-fares-suit variables p (Waits place) left q h = record { activated = h.activated; posted = h.posted; future = h.future }
+    (λ t later within. record { activated = h.activated; posted = h.posted; future = wake-suits variables t goes q.future h.future })
+reschedule-suit variables p (Waiting place) goes q h = record { activated = h.activated; posted = h.posted; future = h.future }
 
 regions-suit : (variables : List Variable) (active : List ℕ) (activated : List (List Part)) (inactive : List ℕ) (posted : List (List Part)) (q : Queue) →
     QueueSuits variables q → UpdatesSuit variables posted → QueueSuits variables (regions active activated inactive posted q)
@@ -266,20 +266,20 @@ with_moves-shaped variables s h = by_cause s.cause
       queue = regions-suit variables s.queue.active s.queue.activated s.queue.inactive s.queue.posted s.queue h.queue h.queue.posted;
     }
 
-woken-shaped : (variables : List Variable) (design : Design) (before : List Vector) (triggered : Option ℕ) (s : State) → IsShaped variables s →
-    IsShaped variables (with_moves (woken design before triggered s))
-woken-shaped variables design before triggered s h =
-    with_moves-shaped variables (woken design before triggered s)
+with_woken-shaped : (variables : List Variable) (design : Design) (before : List Vector) (triggered : Option ℕ) (s : State) → IsShaped variables s →
+    IsShaped variables (with_moves (with_woken design before triggered s))
+with_woken-shaped variables design before triggered s h =
+    with_moves-shaped variables (with_woken design before triggered s)
     (record { values = h.values; queue = record { activated = h.queue.activated; posted = h.queue.posted; future = h.queue.future } })
 
 -- what a step writes and posts
-record DeedSuits (variables : List Variable) (did : Did) : Type 0 where
-  pub wrote : AllSuit variables did.deed.wrote
-  pub posted : (post : Post) → did.deed.posted ≡ Some post → AllSuit variables post.parts
+record EffectSuits (variables : List Variable) (step : StepResult) : Type 0 where
+  pub wrote : AllSuit variables step.effect.wrote
+  pub posted : (post : Post) → step.effect.posted ≡ Some post → AllSuit variables post.parts
 
-awaits-suit : (variables : List Variable) (place : ℕ) (holds : Bool) (body : List ℕ) (after : List Spot) → DeedSuits variables (awaits place holds body after)
-awaits-suit variables place true body after = record { wrote = tt; posted = λ post is. cc }
-awaits-suit variables place false body after = record { wrote = tt; posted = λ post is. cc }
+wait_result-suit : (variables : List Variable) (place : ℕ) (holds : Bool) (body : List ℕ) (after : List Frame) → EffectSuits variables (wait_result place holds body after)
+wait_result-suit variables place true body after = record { wrote = tt; posted = λ post is. cc }
+wait_result-suit variables place false body after = record { wrote = tt; posted = λ post is. cc }
 
 posted-suits : (variables : List Variable) (delay : ℕ) (u : List Part) (post : Post) → Some (post_after delay u) ≡ Some post → AllSuit variables u →
     AllSuit variables post.parts
@@ -287,100 +287,100 @@ posted-suits variables delay u post is suit =
     let same : post_after delay u ≡ post = cc in
     subst (λ (one : Post). AllSuit variables one.parts) same suit
 
-does-suits : (variables : List Variable) (place : ℕ) (action : Action) (after : List Spot) (now : Moment) → AreShaped variables now.values →
-    DeedSuits variables (does place action after now)
-does-suits variables place (Assign targets value) after now h = record { wrote = assigned-suits variables targets value now h; posted = λ post is. cc }
-does-suits variables place (Nonblocking targets value) after now h = record {
+execute-suits : (variables : List Variable) (place : ℕ) (action : Action) (after : List Frame) (now : Environment) → AreShaped variables now.values →
+    EffectSuits variables (execute place action after now)
+execute-suits variables place (Assign targets value) after now h = record { wrote = assigned_parts-suits variables targets value now h; posted = λ post is. cc }
+execute-suits variables place (Nonblocking targets value) after now h = record {
   wrote = tt;
-  posted = λ post is. posted-suits variables 0 (assigned now targets value) post is (assigned-suits variables targets value now h);
+  posted = λ post is. posted-suits variables 0 (assigned_parts now targets value) post is (assigned_parts-suits variables targets value now h);
 }
-does-suits variables place (Held amount targets value) after now h = record { wrote = tt; posted = λ post is. cc }
-does-suits variables place (Posted amount targets value) after now h = record {
+execute-suits variables place (AssignDelayed amount targets value) after now h = record { wrote = tt; posted = λ post is. cc }
+execute-suits variables place (NonblockingDelayed amount targets value) after now h = record {
   wrote = tt;
   posted = λ post is.
-      posted-suits variables (delay_of now amount) (assigned now targets value) post is (assigned-suits variables targets value now h);
+      posted-suits variables (delay_of now amount) (assigned_parts now targets value) post is (assigned_parts-suits variables targets value now h);
 }
-does-suits variables place (Trigger event) after now h = record { wrote = tt; posted = λ post is. cc }
-does-suits variables place (Delay amount body) after now h = record { wrote = tt; posted = λ post is. cc }
-does-suits variables place (On terms body) after now h = record { wrote = tt; posted = λ post is. cc }
-does-suits variables place (Until condition terms body) after now h = awaits-suit variables place (holds_at now condition) body after
-does-suits variables place (Case kind value branches otherwise) after now h = record { wrote = tt; posted = λ post is. cc }
-does-suits variables place (Repeat count body) after now h = record { wrote = tt; posted = λ post is. cc }
-does-suits variables place (Drive net value terms) after now h = record { wrote = assigned-suits variables (WholeTarget net ∷ []) value now h; posted = λ post is. cc }
-does-suits variables place (Print Now pieces) after now h = record { wrote = tt; posted = λ post is. cc }
-does-suits variables place (Print AtSlotEnd pieces) after now h = record { wrote = tt; posted = λ post is. cc }
-does-suits variables place (Print AtChange pieces) after now h = record { wrote = tt; posted = λ post is. cc }
-does-suits variables place (DumpVars selection) after now h = record { wrote = tt; posted = λ post is. cc }
-does-suits variables place (Dump switch) after now h = record { wrote = tt; posted = λ post is. cc }
-does-suits variables place Pass after now h = record { wrote = tt; posted = λ post is. cc }
-does-suits variables place Finish after now h = record { wrote = tt; posted = λ post is. cc }
-does-suits variables place Stop after now h = record { wrote = tt; posted = λ post is. cc }
-does-suits variables place (Test condition when_true otherwise) after now h = record { wrote = tt; posted = λ post is. cc }
-does-suits variables place (Again condition body) after now h = record { wrote = tt; posted = λ post is. cc }
-does-suits variables place (Forever body) after now h = record { wrote = tt; posted = λ post is. cc }
+execute-suits variables place (Trigger event) after now h = record { wrote = tt; posted = λ post is. cc }
+execute-suits variables place (Delay amount body) after now h = record { wrote = tt; posted = λ post is. cc }
+execute-suits variables place (EventControl terms body) after now h = record { wrote = tt; posted = λ post is. cc }
+execute-suits variables place (Wait condition terms body) after now h = wait_result-suit variables place (holds_at now condition) body after
+execute-suits variables place (Case kind value branches otherwise) after now h = record { wrote = tt; posted = λ post is. cc }
+execute-suits variables place (Repeat count body) after now h = record { wrote = tt; posted = λ post is. cc }
+execute-suits variables place (ContinuousAssign net value terms) after now h = record { wrote = assigned_parts-suits variables (WholeTarget net ∷ []) value now h; posted = λ post is. cc }
+execute-suits variables place (Print Now pieces) after now h = record { wrote = tt; posted = λ post is. cc }
+execute-suits variables place (Print AtSlotEnd pieces) after now h = record { wrote = tt; posted = λ post is. cc }
+execute-suits variables place (Print AtChange pieces) after now h = record { wrote = tt; posted = λ post is. cc }
+execute-suits variables place (DumpVars selection) after now h = record { wrote = tt; posted = λ post is. cc }
+execute-suits variables place (Dump switch) after now h = record { wrote = tt; posted = λ post is. cc }
+execute-suits variables place NoOperation after now h = record { wrote = tt; posted = λ post is. cc }
+execute-suits variables place Finish after now h = record { wrote = tt; posted = λ post is. cc }
+execute-suits variables place Stop after now h = record { wrote = tt; posted = λ post is. cc }
+execute-suits variables place (Test condition when_true otherwise) after now h = record { wrote = tt; posted = λ post is. cc }
+execute-suits variables place (While condition body) after now h = record { wrote = tt; posted = λ post is. cc }
+execute-suits variables place (Forever body) after now h = record { wrote = tt; posted = λ post is. cc }
 
-turns-suit : (variables : List Variable) (place n : ℕ) (action : Action) (after : List Spot) → DeedSuits variables (turns place n action after)
-turns-suit variables place n (Repeat count body) after = record { wrote = tt; posted = λ post is. cc }
-turns-suit variables place n _ after = record { wrote = tt; posted = λ post is. cc }
+execute_turn-suit : (variables : List Variable) (place n : ℕ) (action : Action) (after : List Frame) → EffectSuits variables (execute_turn place n action after)
+execute_turn-suit variables place n (Repeat count body) after = record { wrote = tt; posted = λ post is. cc }
+execute_turn-suit variables place n _ after = record { wrote = tt; posted = λ post is. cc }
 
-resumes-suit : (variables : List Variable) (place : ℕ) (action : Action) (after : List Spot) (held : Option Vector) (now : Moment) → AreShaped variables now.values →
-    DeedSuits variables (resumes place action after held now)
-resumes-suit variables place (Held amount targets value) after held now h =
-    record { wrote = resumed-suits variables targets held now h; posted = λ post is. cc }
-resumes-suit variables place _ after held now h = record { wrote = tt; posted = λ post is. cc }
+resume-suit : (variables : List Variable) (place : ℕ) (action : Action) (after : List Frame) (held : Option Vector) (now : Environment) → AreShaped variables now.values →
+    EffectSuits variables (resume place action after held now)
+resume-suit variables place (AssignDelayed amount targets value) after held now h =
+    record { wrote = resumed_parts-suits variables targets held now h; posted = λ post is. cc }
+resume-suit variables place _ after held now h = record { wrote = tt; posted = λ post is. cc }
 
-does_at-suits : (variables : List Variable) (spot : Spot) (action : Action) (after : List Spot) (held : Option Vector) (now : Moment) → AreShaped variables now.values →
-    DeedSuits variables (does_at spot action after held now)
-does_at-suits variables (Doing place) action after held now h = does-suits variables place action after now h
-does_at-suits variables (Turning place n) action after held now h = turns-suit variables place n action after
-does_at-suits variables (Writing place) action after held now h = resumes-suit variables place action after held now h
+execute_at-suits : (variables : List Variable) (frame : Frame) (action : Action) (after : List Frame) (held : Option Vector) (now : Environment) → AreShaped variables now.values →
+    EffectSuits variables (execute_at frame action after held now)
+execute_at-suits variables (Executing place) action after held now h = execute-suits variables place action after now h
+execute_at-suits variables (Repeating place n) action after held now h = execute_turn-suit variables place n action after
+execute_at-suits variables (Writing place) action after held now h = resume-suit variables place action after held now h
 
-acted-shaped : (variables : List Variable) (p : ℕ) (did : Did) (s : State) → IsShaped variables s → DeedSuits variables did → IsShaped variables (acted p did s)
-acted-shaped variables p did s h suits = record {
-  values = shaped-written variables did.deed.wrote s.values h.values suits.wrote;
-  queue = let q = strobing did.deed.strobed s.queue in
-      fares-suit variables p did.deed.fate (going p did.left) (posts did.deed.posted q)
-      (posts-suit variables did.deed.posted q (record { activated = h.queue.activated; posted = h.queue.posted; future = h.queue.future }) suits.posted);
+with_step-shaped : (variables : List Variable) (p : ℕ) (step : StepResult) (s : State) → IsShaped variables s → EffectSuits variables step → IsShaped variables (with_step p step s)
+with_step-shaped variables p step s h suits = record {
+  values = shaped-with_parts variables step.effect.wrote s.values h.values suits.wrote;
+  queue = let q = with_strobe step.effect.strobed s.queue in
+      reschedule-suit variables p step.effect.disposition (process_to_continue p step.continuation) (posts step.effect.posted q)
+      (posts-suit variables step.effect.posted q (record { activated = h.queue.activated; posted = h.queue.posted; future = h.queue.future }) suits.posted);
 }
 
-takes-shaped : (variables : List Variable) (design : Design) (p : ℕ) (spot : Spot) (action : Option Action) (after : List Spot) (s : State) → IsShaped variables s →
-    IsShaped variables (takes design p spot action after s).state
-takes-shaped variables design p spot None after s h = h
-takes-shaped variables design p spot (Some action) after s h =
-    let did = does_at spot action after (held_of (slice_get s.processes p)) (moment_of design s) in
-    woken-shaped variables design s.values did.deed.triggered (acted p did s) (acted-shaped variables p did s h (does_at-suits variables spot action after (held_of (slice_get s.processes p)) (moment_of design s) h.values))
+action_transition-shaped : (variables : List Variable) (design : Design) (p : ℕ) (frame : Frame) (action : Option Action) (after : List Frame) (s : State) → IsShaped variables s →
+    IsShaped variables (action_transition design p frame action after s).state
+action_transition-shaped variables design p frame None after s h = h
+action_transition-shaped variables design p frame (Some action) after s h =
+    let step = execute_at frame action after (held_of (slice_get s.processes p)) (environment_of design s) in
+    with_woken-shaped variables design s.values step.effect.triggered (with_step p step s) (with_step-shaped variables p step s h (execute_at-suits variables frame action after (held_of (slice_get s.processes p)) (environment_of design s) h.values))
 
-process-shaped : (variables : List Variable) (design : Design) (p : ℕ) (left : List Spot) (s : State) → IsShaped variables s →
-    IsShaped variables (goes_from design p left s).state
+process-shaped : (variables : List Variable) (design : Design) (p : ℕ) (continuation : List Frame) (s : State) → IsShaped variables s →
+    IsShaped variables (continuation_transition design p continuation s).state
 process-shaped variables design p [] s h = h
-process-shaped variables design p (spot ∷ after) s h = takes-shaped variables design p spot (slice_get design.actions (place_of spot)) after s h
+process-shaped variables design p (frame ∷ after) s h = action_transition-shaped variables design p frame (slice_get design.actions (place_of frame)) after s h
 
-updated-shaped : (variables : List Variable) (us : List (List Part)) (s : State) → UpdatesSuit variables us → IsShaped variables s →
-    IsShaped variables (record s { values = written (first_of us) s.values; queue = without_update us s.queue })
-updated-shaped variables [] s suit h = record { values = h.values; queue = h.queue }
-updated-shaped variables (u ∷ us) s suit h = record {
-  values = shaped-written variables u s.values h.values suit.0;
+with_update-shaped : (variables : List Variable) (us : List (List Part)) (s : State) → UpdatesSuit variables us → IsShaped variables s →
+    IsShaped variables (record s { values = with_parts (first_of us) s.values; queue = without_update us s.queue })
+with_update-shaped variables [] s suit h = record { values = h.values; queue = h.queue }
+with_update-shaped variables (u ∷ us) s suit h = record {
+  values = shaped-with_parts variables u s.values h.values suit.0;
   queue = record { activated = suit.1; posted = h.queue.posted; future = h.queue.future };
 }
 
 advanced-suits : (variables : List Variable) (future : List (ℕ × Later)) (q : Queue) → FutureSuits variables future → QueueSuits variables q →
-    QueueSuits variables (advanced_to future q)
+    QueueSuits variables (with_advance future q)
 advanced-suits variables [] q suit h = h
 advanced-suits variables (e ∷ es) q suit h = record { activated = h.activated; posted = suit.0; future = suit.1 }
 
-turn-shaped : (variables : List Variable) (design : Design) (c : Choice) (s : State) → IsShaped variables s → IsShaped variables (turn_of design c s).state
-turn-shaped variables design (Run p) s h = process-shaped variables design p (left_of (slice_get s.processes p)) s h
-turn-shaped variables design Update s h = woken-shaped variables design s.values None (updated s) (updated-shaped variables s.queue.activated s h.queue.activated h)
-turn-shaped variables design Advance s h =
-    with_moves-shaped variables (record s { queue = advanced_to s.queue.future s.queue })
+transition-shaped : (variables : List Variable) (design : Design) (c : Choice) (s : State) → IsShaped variables s → IsShaped variables (transition_of design c s).state
+transition-shaped variables design (Run p) s h = process-shaped variables design p (continuation_of (slice_get s.processes p)) s h
+transition-shaped variables design Update s h = with_woken-shaped variables design s.values None (with_update s) (with_update-shaped variables s.queue.activated s h.queue.activated h)
+transition-shaped variables design Advance s h =
+    with_moves-shaped variables (record s { queue = with_advance s.queue.future s.queue })
     (record { values = h.values; queue = advanced-suits variables s.queue.future s.queue h.queue.future h.queue })
 
 next-shaped : (variables : List Variable) (design : Design) (s : State) (i : ℕ) → IsShaped variables s → IsShaped variables (next design s i).state
 next-shaped variables design s i h = by_choice (slice_get (choices s) i)
   where
-    by_choice : (o : Option Choice) → IsShaped variables (turn_by design o s).state
+    by_choice : (o : Option Choice) → IsShaped variables (transition_by design o s).state
     by_choice None = h
-    by_choice (Some c) = turn-shaped variables design c s h
+    by_choice (Some c) = transition-shaped variables design c s h
 
 -- ---- the run
 

@@ -8,21 +8,21 @@ use Rattle.vdesign.specs.declared.action.Action.{Action}
 use Rattle.vmodel.specs.declared.history.Cause.{Cause}
 use Rattle.vmodel.specs.declared.history.Item.{Item}
 use Rattle.vmodel.specs.declared.history.Item.TheVariants.{SlotEnd, Dump, Line, Monitor}
-use Rattle.vmodel.specs.declared.deed.Shown.{Shown}
-use Rattle.vmodel.specs.declared.deed.Shown.TheVariants.{Commands, Prints, Watches}
+use Rattle.vmodel.specs.declared.effect.Shown.{Shown}
+use Rattle.vmodel.specs.declared.effect.Shown.TheVariants.{Commands, Prints, Watches}
 use Rattle.vmodel.specs.declared.part.Part.{Part}
-use Rattle.vmodel.specs.declared.deed.Post.{Post}
-use Rattle.vmodel.specs.declared.deed.Fate.{Fate}
-use Rattle.vmodel.specs.declared.deed.Fate.TheVariants.{GoesOn, Sleeps, Waits}
-use Rattle.vmodel.specs.declared.process.Spot.{Spot}
+use Rattle.vmodel.specs.declared.effect.Post.{Post}
+use Rattle.vmodel.specs.declared.effect.Disposition.{Disposition}
+use Rattle.vmodel.specs.declared.effect.Disposition.TheVariants.{Runnable, Delayed, Waiting}
+use Rattle.vmodel.specs.declared.process.Frame.{Frame}
 use Rattle.vmodel.specs.declared.choice.Choice.{Choice}
 use Rattle.vmodel.specs.declared.choice.Choice.TheVariants.{Run, Update, Advance}
 use Rattle.vmodel.specs.Queue.{Later, Queue}
 use Rattle.vmodel.specs.State.{State}
 use Rattle.vmodel.specs.Choices.{choices}
-use Rattle.vmodel.specs.Step.{moment_of, Turn, Did, does_at, place_of, going, goes_on, fares, posts, strobing, settled, with_moves_by, woken, with_moves, acted, turned, takes, goes_from, left_of, held_of, without_update, updated, advanced_to, turn_of, turn_by, next, shown_items, idle_items, slot_end_by, slot_end_of, strobe_items, before_end, end_items, items_of}
-use Rattle.vmodel.specs.Run.{Setting, rules_of, opening_of, state_after, given_by}
-use Rattle.vmodel.specs.Played.{opening_is, after_is, width_is}
+use Rattle.vmodel.specs.Step.{environment_of, Transition, StepResult, execute_at, place_of, process_to_continue, goes_on, reschedule, posts, with_strobe, with_queue_moves, with_moves_by, with_woken, with_moves, with_step, transition_with, action_transition, continuation_transition, continuation_of, held_of, without_update, with_update, with_advance, transition_of, transition_by, next, shown_items, idle_items, slot_end_by, slot_end_of, strobe_items, before_end, end_items, items_of}
+use Rattle.vmodel.specs.Run.{Setting, rules_of, opening_of, state_after, items_after}
+use Rattle.vmodel.specs.RunProgress.{opening_is, after_is, width_is}
 use Rattle.vmodel.specs.Kept.{RisesFrom, IsIdle, IsKept, slot_times, count_in}
 use Rattle.vmodel.proofs.MovedLemmas.{sleeps_by, posts_by, settled_by}
 use Rattle.vmodel.proofs.KeptLemmas.{IsOpen, open_choice, kept}
@@ -98,82 +98,82 @@ times_before strobes [] none = refl
 times_before strobes (end ∷ ends) none = slot_times-append strobes (end ∷ ends) ∙ ap (λ (ts : List ℕ). ts ++ slot_times (end ∷ ends)) none
 
 -- the same after a turn, with all that it gives
-timed_turn : (design : Design) (times : List ℕ) (turn : Turn) → RisesFrom 0 times → free_from 0 times ≤ turn.state.queue.time →
-    IsTimed (times ++ slot_times (items_of design turn)) turn.state
-timed_turn design times turn rises le =
-    let s = turn.state in
+timed_transition : (design : Design) (times : List ℕ) (transition : Transition) → RisesFrom 0 times → free_from 0 times ≤ transition.state.queue.time →
+    IsTimed (times ++ slot_times (items_of design transition)) transition.state
+timed_transition design times transition rises le =
+    let s = transition.state in
     subst (λ (ts : List ℕ). IsTimed (times ++ ts) s)
-    (sym (slot_times-append (shown_items design s turn.deed.shown) (end_items design s turn.monitors)
-    ∙ ap (λ (ts : List ℕ). ts ++ slot_times (end_items design s turn.monitors)) (none_shown design s turn.deed.shown)
-    ∙ times_before (strobe_items design s turn.monitors) (slot_end_of s) (none_strobed design s turn.monitors)))
-    (timed_end times turn.state rises le)
+    (sym (slot_times-append (shown_items design s transition.effect.shown) (end_items design s transition.monitors)
+    ∙ ap (λ (ts : List ℕ). ts ++ slot_times (end_items design s transition.monitors)) (none_shown design s transition.effect.shown)
+    ∙ times_before (strobe_items design s transition.monitors) (slot_end_of s) (none_strobed design s transition.monitors)))
+    (timed_end times transition.state rises le)
 
 -- ---- the time after a step
 
-time-settled : (q : Queue) → (settled q).time ≡ q.time
-time-settled q = settled_by (λ (r : Queue). r.time ≡ q.time) q (λ busy. refl) (λ i is a b. refl) (λ u us. refl) (λ idle i p. refl)
+time-with_queue_moves : (q : Queue) → (with_queue_moves q).time ≡ q.time
+time-with_queue_moves q = settled_by (λ (r : Queue). r.time ≡ q.time) q (λ busy. refl) (λ i is a b. refl) (λ u us. refl) (λ idle i p. refl)
 
 time-with_moves : (s : State) → (with_moves s).queue.time ≡ s.queue.time
 time-with_moves s = by_cause s.cause
   where
     by_cause : (cause : Option Cause) → (with_moves_by cause s).queue.time ≡ s.queue.time
     by_cause (Some cause) = refl
-    by_cause None = time-settled s.queue
+    by_cause None = time-with_queue_moves s.queue
 
-time-goes_on : (p : ℕ) (left : Option ℕ) (q : Queue) → (goes_on p left q).time ≡ q.time
+time-goes_on : (p : ℕ) (goes : Option ℕ) (q : Queue) → (goes_on p goes q).time ≡ q.time
 time-goes_on p None q = refl
 time-goes_on p (Some same) q = refl
 
-time-fares : (p : ℕ) (fate : Fate) (left : Option ℕ) (q : Queue) → (fares p fate left q).time ≡ q.time
-time-fares p GoesOn left q = time-goes_on p left q
-time-fares p (Sleeps d) left q = sleeps_by (λ (r : Queue). r.time ≡ q.time) d left q refl (λ r is. refl) refl (λ t lt within. refl)
-time-fares p (Waits place) left q = refl
+time-reschedule : (p : ℕ) (disposition : Disposition) (goes : Option ℕ) (q : Queue) → (reschedule p disposition goes q).time ≡ q.time
+time-reschedule p Runnable goes q = time-goes_on p goes q
+time-reschedule p (Delayed d) goes q = sleeps_by (λ (r : Queue). r.time ≡ q.time) d goes q refl (λ r is. refl) refl (λ t lt within. refl)
+time-reschedule p (Waiting place) goes q = refl
 
 time-posts : (posted : Option Post) (q : Queue) → (posts posted q).time ≡ q.time
 time-posts posted q = posts_by (λ (r : Queue). r.time ≡ q.time) posted q refl (λ post is. refl) refl (λ post t is lt within. refl)
 
-time-turned : (design : Design) (p : ℕ) (did : Did) (s : State) → (turned design p did s).state.queue.time ≡ s.queue.time
-time-turned design p did s =
-    time-with_moves (woken design s.values did.deed.triggered (acted p did s))
-    ∙ time-fares p did.deed.fate (going p did.left) (posts did.deed.posted (strobing did.deed.strobed s.queue))
-    ∙ time-posts did.deed.posted (strobing did.deed.strobed s.queue)
+time-transition_with : (design : Design) (p : ℕ) (step : StepResult) (s : State) → (transition_with design p step s).state.queue.time ≡ s.queue.time
+time-transition_with design p step s =
+    time-with_moves (with_woken design s.values step.effect.triggered (with_step p step s))
+    ∙ time-reschedule p step.effect.disposition (process_to_continue p step.continuation) (posts step.effect.posted (with_strobe step.effect.strobed s.queue))
+    ∙ time-posts step.effect.posted (with_strobe step.effect.strobed s.queue)
 
-time-takes : (design : Design) (p : ℕ) (spot : Spot) (action : Option Action) (after : List Spot) (s : State) → (takes design p spot action after s).state.queue.time ≡ s.queue.time
-time-takes design p spot None after s = refl
-time-takes design p spot (Some action) after s = time-turned design p (does_at spot action after (held_of (slice_get s.processes p)) (moment_of design s)) s
+time-action_transition : (design : Design) (p : ℕ) (frame : Frame) (action : Option Action) (after : List Frame) (s : State) → (action_transition design p frame action after s).state.queue.time ≡ s.queue.time
+time-action_transition design p frame None after s = refl
+time-action_transition design p frame (Some action) after s = time-transition_with design p (execute_at frame action after (held_of (slice_get s.processes p)) (environment_of design s)) s
 
-time-process : (design : Design) (p : ℕ) (left : List Spot) (s : State) → (goes_from design p left s).state.queue.time ≡ s.queue.time
+time-process : (design : Design) (p : ℕ) (continuation : List Frame) (s : State) → (continuation_transition design p continuation s).state.queue.time ≡ s.queue.time
 time-process design p [] s = refl
-time-process design p (spot ∷ after) s = time-takes design p spot (slice_get design.actions (place_of spot)) after s
+time-process design p (frame ∷ after) s = time-action_transition design p frame (slice_get design.actions (place_of frame)) after s
 
-time-updated : (us : List (List Part)) (q : Queue) → (without_update us q).time ≡ q.time
-time-updated [] q = refl
-time-updated (u ∷ us) q = refl
+time-with_update : (us : List (List Part)) (q : Queue) → (without_update us q).time ≡ q.time
+time-with_update [] q = refl
+time-with_update (u ∷ us) q = refl
 
 time-advanced : (times : List ℕ) (s : State) (future : List (ℕ × Later)) → s.queue.future ≡ future → IsKept s → ¬ (future ≡ []) →
-    free_from 0 times ≤ suc s.queue.time → free_from 0 times ≤ (advanced_to future s.queue).time
+    free_from 0 times ≤ suc s.queue.time → free_from 0 times ≤ (with_advance future s.queue).time
 time-advanced times s [] is kept some le = absurd (some refl)
 time-advanced times s (e ∷ es) is kept some le =
     let h = rw is at kept.order.future in omega (arith, h.0, le)
 
-turn-timed : (design : Design) (times : List ℕ) (c : Choice) (s : State) → IsKept s → s.cause ≡ None → IsOpen c s.queue → IsTimed times s →
-    IsTimed (times ++ slot_times (items_of design (turn_of design c s))) (turn_of design c s).state
-turn-timed design times (Run p) s kept none active timed =
-    timed_turn design times (turn_of design (Run p) s) timed.rises
+transition-timed : (design : Design) (times : List ℕ) (c : Choice) (s : State) → IsKept s → s.cause ≡ None → IsOpen c s.queue → IsTimed times s →
+    IsTimed (times ++ slot_times (items_of design (transition_of design c s))) (transition_of design c s).state
+transition-timed design times (Run p) s kept none active timed =
+    timed_transition design times (transition_of design (Run p) s) timed.rises
     (omega (
       arith,
       timed.before none (λ idle. absurd (omega (arith, active, ap (count_in p) idle.0))),
-      time-process design p (left_of (slice_get s.processes p)) s,
+      time-process design p (continuation_of (slice_get s.processes p)) s,
     ))
-turn-timed design times Update s kept none some timed =
-    timed_turn design times (turn_of design Update s) timed.rises
-    (omega (arith, timed.before none (λ idle. some idle.1), time-with_moves (woken design s.values None (updated s)), time-updated s.queue.activated s.queue))
-turn-timed design times Advance s kept none allowed timed =
-    timed_turn design times (turn_of design Advance s) timed.rises
+transition-timed design times Update s kept none some timed =
+    timed_transition design times (transition_of design Update s) timed.rises
+    (omega (arith, timed.before none (λ idle. some idle.1), time-with_moves (with_woken design s.values None (with_update s)), time-with_update s.queue.activated s.queue))
+transition-timed design times Advance s kept none allowed timed =
+    timed_transition design times (transition_of design Advance s) timed.rises
     (omega (
       arith,
       time-advanced times s s.queue.future refl kept allowed.1 timed.within,
-      time-with_moves (record s { queue = advanced_to s.queue.future s.queue }),
+      time-with_moves (record s { queue = with_advance s.queue.future s.queue }),
     ))
 
 next-timed : (design : Design) (times : List ℕ) (s : State) (i : ℕ) → IsKept s → IsTimed times s → i < length (choices s) →
@@ -181,25 +181,25 @@ next-timed : (design : Design) (times : List ℕ) (s : State) (i : ℕ) → IsKe
 next-timed design times s i kept timed lt =
     let there = listed_place (choices s) i lt in
     let allowed = open_choice s i there.0 kept.place.last there.1 in
-    subst (λ (o : Option Choice). IsTimed (times ++ slot_times (items_of design (turn_by design o s))) (turn_by design o s).state) (sym there.1)
-    (turn-timed design times there.0 s kept allowed.0 allowed.1 timed)
+    subst (λ (o : Option Choice). IsTimed (times ++ slot_times (items_of design (transition_by design o s))) (transition_by design o s).state) (sym there.1)
+    (transition-timed design times there.0 s kept allowed.0 allowed.1 timed)
 
 -- ---- the run
 
 shorter : (setting : Setting) (log : List (ℕ × ℕ)) (n : ℕ) → IsRun (rules_of setting) log (suc n) → IsRun (rules_of setting) log n
 shorter setting log n run = λ k lt. run k (omega (arith, lt))
 
-timed : (setting : Setting) (log : List (ℕ × ℕ)) (n : ℕ) → IsRun (rules_of setting) log n → IsTimed (slot_times (given_by setting log n)) (state_after setting log n)
+timed : (setting : Setting) (log : List (ℕ × ℕ)) (n : ℕ) → IsRun (rules_of setting) log n → IsTimed (slot_times (items_after setting log n)) (state_after setting log n)
 timed setting log zero run =
-    subst (IsTimed (slot_times (given_by setting log 0))) (sym (opening_is setting)) (timed_end [] (opening_of setting) tt (omega arith))
+    subst (IsTimed (slot_times (items_after setting log 0))) (sym (opening_is setting)) (timed_end [] (opening_of setting) tt (omega arith))
 timed setting log (suc n) run =
     let s = state_after setting log n in
     let i = choice_at log n in
-    let turn = next setting.design s i in
-    subst (λ (ts : List ℕ). IsTimed ts (state_after setting log (suc n))) (sym (slot_times-append (given_by setting log n) (items_of setting.design turn)))
-    (subst (IsTimed (slot_times (given_by setting log n) ++ slot_times (items_of setting.design turn))) (sym (after_is setting s i))
-    (next-timed setting.design (slot_times (given_by setting log n)) s i (kept setting log n) (timed setting log n (shorter setting log n run))
+    let transition = next setting.design s i in
+    subst (λ (ts : List ℕ). IsTimed ts (state_after setting log (suc n))) (sym (slot_times-append (items_after setting log n) (items_of setting.design transition)))
+    (subst (IsTimed (slot_times (items_after setting log n) ++ slot_times (items_of setting.design transition))) (sym (after_is setting s i))
+    (next-timed setting.design (slot_times (items_after setting log n)) s i (kept setting log n) (timed setting log n (shorter setting log n run))
     (omega (arith, run n (omega arith), width_is setting s))))
 
-pub times_rise : (setting : Setting) (log : List (ℕ × ℕ)) (n : ℕ) → IsRun (rules_of setting) log n → RisesFrom 0 (slot_times (given_by setting log n))
+pub times_rise : (setting : Setting) (log : List (ℕ × ℕ)) (n : ℕ) → IsRun (rules_of setting) log n → RisesFrom 0 (slot_times (items_after setting log n))
 times_rise setting log n run = (timed setting log n run).rises

@@ -10,30 +10,30 @@ use Rattle.vdesign.specs.declared.action.Action.{Action}
 use Rattle.vmodel.specs.declared.history.Cause.{Cause}
 use Rattle.vmodel.specs.declared.history.Item.{Item}
 use Rattle.vmodel.specs.declared.history.Item.TheVariants.{SlotEnd, Dump, Monitor}
-use Rattle.vmodel.specs.declared.deed.Shown.{Shown}
-use Rattle.vmodel.specs.declared.deed.Shown.TheVariants.{Commands, Prints, Watches}
+use Rattle.vmodel.specs.declared.effect.Shown.{Shown}
+use Rattle.vmodel.specs.declared.effect.Shown.TheVariants.{Commands, Prints, Watches}
 use Rattle.vmodel.specs.declared.part.Part.{Part}
 use Rattle.vmodel.specs.declared.part.Part.TheVariants.{Whole, Bits}
-use Rattle.vmodel.specs.declared.process.Spot.{Spot}
+use Rattle.vmodel.specs.declared.process.Frame.{Frame}
 use Rattle.vmodel.specs.declared.choice.Choice.{Choice}
 use Rattle.vmodel.specs.declared.choice.Choice.TheVariants.{Run, Update, Advance}
 use Rattle.vmodel.specs.State.{State}
 use Rattle.vmodel.specs.Choices.{choices}
-use Rattle.vmodel.specs.Parts.{value_in, with_bits, written}
-use Rattle.vmodel.specs.Step.{moment_of, Turn, does_at, place_of, with_moves_by, woken, with_moves, acted, takes, goes_from, left_of, held_of, first_of, updated, advanced_to, turn_of, turn_by, next, line_item, shown_items, idle_items, slot_end_by, slot_end_of, strobe_items, before_end, end_items, items_of}
-use Rattle.vmodel.specs.Run.{Setting, opening_value, opening_of, state_after, given_by}
-use Rattle.vmodel.specs.Played.{opening_is, after_is}
+use Rattle.vmodel.specs.Parts.{value_in, with_bits, with_parts}
+use Rattle.vmodel.specs.Step.{environment_of, Transition, execute_at, place_of, with_moves_by, with_woken, with_moves, with_step, action_transition, continuation_transition, continuation_of, held_of, first_of, with_update, with_advance, transition_of, transition_by, next, line_item, shown_items, idle_items, slot_end_by, slot_end_of, strobe_items, before_end, end_items, items_of}
+use Rattle.vmodel.specs.Run.{Setting, opening_value, opening_of, state_after, items_after}
+use Rattle.vmodel.specs.RunProgress.{opening_is, after_is}
 use Rattle.vmodel.specs.Kept.{HasValues}
 
 -- ---- a step
 
-length-written : (parts : List Part) (values : List Vector) → length (written parts values) ≡ length values
-length-written [] values = refl
-length-written (Whole variable value ∷ parts) values =
-    length-written parts (slice_set values variable value) ∙ length-set values variable value
-length-written (Bits variable low value ∷ parts) values =
+length-with_parts : (parts : List Part) (values : List Vector) → length (with_parts parts values) ≡ length values
+length-with_parts [] values = refl
+length-with_parts (Whole variable value ∷ parts) values =
+    length-with_parts parts (slice_set values variable value) ∙ length-set values variable value
+length-with_parts (Bits variable low value ∷ parts) values =
     let new = with_bits (value_in values variable) low value in
-    length-written parts (slice_set values variable new) ∙ length-set values variable new
+    length-with_parts parts (slice_set values variable new) ∙ length-set values variable new
 
 length-with_moves : (s : State) → length (with_moves s).values ≡ length s.values
 length-with_moves s = by_cause s.cause
@@ -42,27 +42,27 @@ length-with_moves s = by_cause s.cause
     by_cause (Some cause) = refl
     by_cause None = refl
 
-takes-full : (design : Design) (p : ℕ) (spot : Spot) (action : Option Action) (after : List Spot) (s : State) → length (takes design p spot action after s).state.values ≡ length s.values
-takes-full design p spot None after s = refl
-takes-full design p spot (Some action) after s =
-    let did = does_at spot action after (held_of (slice_get s.processes p)) (moment_of design s) in
-    length-with_moves (woken design s.values did.deed.triggered (acted p did s)) ∙ length-written did.deed.wrote s.values
+action_transition-full : (design : Design) (p : ℕ) (frame : Frame) (action : Option Action) (after : List Frame) (s : State) → length (action_transition design p frame action after s).state.values ≡ length s.values
+action_transition-full design p frame None after s = refl
+action_transition-full design p frame (Some action) after s =
+    let step = execute_at frame action after (held_of (slice_get s.processes p)) (environment_of design s) in
+    length-with_moves (with_woken design s.values step.effect.triggered (with_step p step s)) ∙ length-with_parts step.effect.wrote s.values
 
-process-full : (design : Design) (p : ℕ) (left : List Spot) (s : State) → length (goes_from design p left s).state.values ≡ length s.values
+process-full : (design : Design) (p : ℕ) (continuation : List Frame) (s : State) → length (continuation_transition design p continuation s).state.values ≡ length s.values
 process-full design p [] s = refl
-process-full design p (spot ∷ after) s = takes-full design p spot (slice_get design.actions (place_of spot)) after s
+process-full design p (frame ∷ after) s = action_transition-full design p frame (slice_get design.actions (place_of frame)) after s
 
-turn-full : (design : Design) (c : Choice) (s : State) → length (turn_of design c s).state.values ≡ length s.values
-turn-full design (Run p) s = process-full design p (left_of (slice_get s.processes p)) s
-turn-full design Update s = length-with_moves (woken design s.values None (updated s)) ∙ length-written (first_of s.queue.activated) s.values
-turn-full design Advance s = length-with_moves (record s { queue = advanced_to s.queue.future s.queue })
+transition-full : (design : Design) (c : Choice) (s : State) → length (transition_of design c s).state.values ≡ length s.values
+transition-full design (Run p) s = process-full design p (continuation_of (slice_get s.processes p)) s
+transition-full design Update s = length-with_moves (with_woken design s.values None (with_update s)) ∙ length-with_parts (first_of s.queue.activated) s.values
+transition-full design Advance s = length-with_moves (record s { queue = with_advance s.queue.future s.queue })
 
 next-full : (design : Design) (s : State) (i : ℕ) → length (next design s i).state.values ≡ length s.values
 next-full design s i = by_choice (slice_get (choices s) i)
   where
-    by_choice : (o : Option Choice) → length (turn_by design o s).state.values ≡ length s.values
+    by_choice : (o : Option Choice) → length (transition_by design o s).state.values ≡ length s.values
     by_choice None = refl
-    by_choice (Some c) = turn-full design c s
+    by_choice (Some c) = transition-full design c s
 
 -- ---- what is shown
 
@@ -95,11 +95,11 @@ shown-before : (count : ℕ) (strobes ends : List Item) → All (HasValues count
 shown-before count strobes [] first then = then
 shown-before count strobes (end ∷ ends) first then = All-append (HasValues count) strobes (end ∷ ends) first then
 
-shown-turn : (count : ℕ) (design : Design) (turn : Turn) → length turn.state.values ≡ count → All (HasValues count) (items_of design turn)
-shown-turn count design turn full =
-    let s = turn.state in
-    All-append (HasValues count) (shown_items design s turn.deed.shown) (end_items design s turn.monitors) (shown-at_once count design s turn.deed.shown)
-    (shown-before count (strobe_items design s turn.monitors) (slot_end_of s) (shown-strobes count design s turn.monitors)
+shown-transition : (count : ℕ) (design : Design) (transition : Transition) → length transition.state.values ≡ count → All (HasValues count) (items_of design transition)
+shown-transition count design transition full =
+    let s = transition.state in
+    All-append (HasValues count) (shown_items design s transition.effect.shown) (end_items design s transition.monitors) (shown-at_once count design s transition.effect.shown)
+    (shown-before count (strobe_items design s transition.monitors) (slot_end_of s) (shown-strobes count design s transition.monitors)
     (shown-end count s full))
 
 -- ---- the run
@@ -114,13 +114,13 @@ as_many setting log (suc n) =
     ∙ next-full setting.design s i
     ∙ as_many setting log n
 
-pub as_many_shown : (setting : Setting) (log : List (ℕ × ℕ)) (n : ℕ) → All (HasValues (length setting.design.variables)) (given_by setting log n)
+pub as_many_shown : (setting : Setting) (log : List (ℕ × ℕ)) (n : ℕ) → All (HasValues (length setting.design.variables)) (items_after setting log n)
 as_many_shown setting log zero =
     shown-end (length setting.design.variables) (opening_of setting) (length-map setting.design.variables opening_value)
 as_many_shown setting log (suc n) =
     let s = state_after setting log n in
     let i = choice_at log n in
     let count = length setting.design.variables in
-    let turn = next setting.design s i in
-    All-append (HasValues count) (given_by setting log n) (items_of setting.design turn) (as_many_shown setting log n)
-    (shown-turn count setting.design turn (next-full setting.design s i ∙ as_many setting log n))
+    let transition = next setting.design s i in
+    All-append (HasValues count) (items_after setting log n) (items_of setting.design transition) (as_many_shown setting log n)
+    (shown-transition count setting.design transition (next-full setting.design s i ∙ as_many setting log n))

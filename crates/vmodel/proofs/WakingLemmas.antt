@@ -11,11 +11,11 @@ use Rattle.vdesign.specs.declared.action.Edge.TheVariants.{Any, Rise, Fall}
 use Rattle.vdesign.specs.declared.action.Term.{Term}
 use Rattle.vdesign.specs.declared.action.Term.TheVariants.{Change as ChangeTerm, Event}
 use Rattle.vdesign.specs.declared.action.Action.{Action}
-use Rattle.vdesign.specs.declared.action.Action.TheVariants.{Assign, Nonblocking, Held, Posted, Trigger, Test, Case, Again, Repeat, Forever, Delay, On, Until, Drive, Print, DumpVars, Dump, Pass, Finish, Stop}
+use Rattle.vdesign.specs.declared.action.Action.TheVariants.{Assign, Nonblocking, AssignDelayed, NonblockingDelayed, Trigger, Test, Case, While, Repeat, Forever, Delay, EventControl, Wait, ContinuousAssign, Print, DumpVars, Dump, NoOperation, Finish, Stop}
 use Rattle.vmodel.specs.declared.values.Change.{Change}
 use Rattle.vmodel.specs.Queue.{with_process}
 use Rattle.vmodel.specs.State.{Process, State}
-use Rattle.vmodel.specs.Step.{woken}
+use Rattle.vmodel.specs.Step.{with_woken}
 use Rattle.vmodel.specs.Parts.{value_in}
 use Rattle.vmodel.specs.Waking.{rank, last_bit, is_edge, hears, any_hears, has_come, wakes_at, wakes, awake, with_awake}
 use Rattle.vmodel.specs.declared.values.Changes.{Changes}
@@ -42,24 +42,24 @@ none_hears values (term ∷ terms) =
 
 none_comes : (values : List Vector) (action : Option Action) → has_come action values values None ≡ false
 none_comes values None = refl
-none_comes values (Some (On terms body)) = none_hears values terms
+none_comes values (Some (EventControl terms body)) = none_hears values terms
 none_comes values (Some (Assign targets value)) = refl
 none_comes values (Some (Nonblocking targets value)) = refl
-none_comes values (Some (Held amount targets value)) = refl
-none_comes values (Some (Posted amount targets value)) = refl
+none_comes values (Some (AssignDelayed amount targets value)) = refl
+none_comes values (Some (NonblockingDelayed amount targets value)) = refl
 none_comes values (Some (Trigger event)) = refl
 none_comes values (Some (Test condition when_true otherwise)) = refl
-none_comes values (Some (Again condition body)) = refl
+none_comes values (Some (While condition body)) = refl
 none_comes values (Some (Forever body)) = refl
 none_comes values (Some (Delay amount body)) = refl
-none_comes values (Some (Until condition terms body)) = none_hears values terms
+none_comes values (Some (Wait condition terms body)) = none_hears values terms
 none_comes values (Some (Case kind value branches otherwise)) = refl
 none_comes values (Some (Repeat count body)) = refl
-none_comes values (Some (Drive net value terms)) = none_hears values terms
+none_comes values (Some (ContinuousAssign net value terms)) = none_hears values terms
 none_comes values (Some (Print when pieces)) = refl
 none_comes values (Some (DumpVars selection)) = refl
 none_comes values (Some (Dump switch)) = refl
-none_comes values (Some Pass) = refl
+none_comes values (Some NoOperation) = refl
 none_comes values (Some Finish) = refl
 none_comes values (Some Stop) = refl
 
@@ -78,7 +78,7 @@ with_awake_none comes n [] active h = refl
 with_awake_none comes n (process ∷ rest) active h =
     ap (λ b. with_awake comes (suc n) rest (cond b (with_process n active) active)) (h process) ∙ with_awake_none comes (suc n) rest active h
 
-pub woken_none : (design : Design) (s : State) → s ≡ woken design s.values None s
+pub woken_none : (design : Design) (s : State) → s ≡ with_woken design s.values None s
 woken_none design s =
     let comes = wakes design.actions s.values s.values None in
     let no : (process : Process) → comes process ≡ false = λ process. none_wakes_at design.actions s.values process.waits in
@@ -120,24 +120,24 @@ module _ (news : News) (before after : List Vector) (d : AreChanges news.changes
 
   comes_is_by : (action : Option Action) → has_come action before after news.triggered ≡ comes_by news action
   comes_is_by None = refl
-  comes_is_by (Some (On terms body)) = any_is terms
+  comes_is_by (Some (EventControl terms body)) = any_is terms
   comes_is_by (Some (Assign targets value)) = refl
   comes_is_by (Some (Nonblocking targets value)) = refl
-  comes_is_by (Some (Held amount targets value)) = refl
-  comes_is_by (Some (Posted amount targets value)) = refl
+  comes_is_by (Some (AssignDelayed amount targets value)) = refl
+  comes_is_by (Some (NonblockingDelayed amount targets value)) = refl
   comes_is_by (Some (Trigger event)) = refl
   comes_is_by (Some (Test condition when_true otherwise)) = refl
-  comes_is_by (Some (Again condition body)) = refl
+  comes_is_by (Some (While condition body)) = refl
   comes_is_by (Some (Forever body)) = refl
   comes_is_by (Some (Delay amount body)) = refl
-  comes_is_by (Some (Until condition terms body)) = any_is terms
+  comes_is_by (Some (Wait condition terms body)) = any_is terms
   comes_is_by (Some (Case kind value branches otherwise)) = refl
   comes_is_by (Some (Repeat count body)) = refl
-  comes_is_by (Some (Drive net value terms)) = any_is terms
+  comes_is_by (Some (ContinuousAssign net value terms)) = any_is terms
   comes_is_by (Some (Print when pieces)) = refl
   comes_is_by (Some (DumpVars selection)) = refl
   comes_is_by (Some (Dump switch)) = refl
-  comes_is_by (Some Pass) = refl
+  comes_is_by (Some NoOperation) = refl
   comes_is_by (Some Finish) = refl
   comes_is_by (Some Stop) = refl
 

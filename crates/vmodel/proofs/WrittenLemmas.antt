@@ -6,10 +6,10 @@ use Rattle.std.proofs.lemmas.List.{length-take, length-drop}
 use Rattle.vbits.specs.declared.bit4.Bit4.{Bit4}
 use Rattle.vbits.specs.Vectors.{Vector}
 use Rattle.vdesign.specs.declared.expression.Bounds.{Bounds}
-use Rattle.vvalue.specs.Value.{Moment, bounds_of, place_in}
+use Rattle.vvalue.specs.Value.{Environment, bounds_of, place_in}
 use Rattle.vvalue.specs.Targets.{falls, both_fall, leftwards}
 use Rattle.vvalue.specs.Flaws.{rises, in_order}
-use Rattle.vmodel.specs.Parts.{value_in, with_bits, written}
+use Rattle.vmodel.specs.Parts.{value_in, with_bits, with_parts}
 use Rattle.vmodel.specs.Value.{some_bits}
 use Rattle.vmodel.specs.PartLaws.{span, letter_after, WritesEachBit}
 
@@ -77,7 +77,7 @@ module _ (values : List Vector) (n low : ℕ) (there : n < length values) where
   old = (value_in values n).letters
 
   abbrev new : List Bit4 → List Bit4
-  new given = (value_in (written (some_bits n low given) values) n).letters
+  new given = (value_in (with_parts (some_bits n low given) values) n).letters
 
   new_is : (given : List Bit4) → 1 ≤ length given → length given ≤ length old - low →
       new given ≡ take low old ++ given ++ drop (low + length given) old
@@ -185,7 +185,7 @@ module _ (P : Option ℕ → Type 0) (b : Bounds) (number : ℕ) where
 
 -- ---- a part
 
-module _ (now : Moment) (n : ℕ) (s : Bounds) (letters : List Bit4) (number place : ℕ) (there : n < length now.values) where
+module _ (now : Environment) (n : ℕ) (s : Bounds) (letters : List Bit4) (number place : ℕ) (there : n < length now.values) where
   abbrev b : Bounds
   b = bounds_of now n
 
@@ -196,7 +196,7 @@ module _ (now : Moment) (n : ℕ) (s : Bounds) (letters : List Bit4) (number pla
   after falling =
       let low = leftwards falling s.right b.right in
       let missing = leftwards falling b.right s.right in
-      (value_in (written (some_bits n low (take (length before - low) (drop missing letters))) now.values) n).letters
+      (value_in (with_parts (some_bits n low (take (length before - low) (drop missing letters))) now.values) n).letters
 
   abbrev Told : Bool → Option ℕ → Type 0
   Told falling where_it_is = slice_get (after falling) place ≡ letter_after letters (slice_get before place) where_it_is

@@ -17,26 +17,26 @@ abbrev pub first_update : List (List Part) → List Choice
 first_update [] = []
 first_update (u ∷ us) = Update ∷ []
 
-abbrev pub next_time : List (ℕ × Later) → List Choice
-next_time [] = []
-next_time (e ∷ es) = Advance ∷ []
+abbrev pub advance_choice : List (ℕ × Later) → List Choice
+advance_choice [] = []
+advance_choice (e ∷ es) = Advance ∷ []
 
 -- at a slot end, where nothing is active, the advance if there is a future time within the limit
 abbrev pub or_advance : List Choice → List (ℕ × Later) → List Choice
-or_advance [] future = next_time future
+or_advance [] future = advance_choice future
 or_advance (c ∷ cs) future = c ∷ cs
 
 abbrev pub active_choices : Queue → List Choice
 active_choices q = map Run (in_order q.last q.active) ++ first_update q.activated
 
 -- grain process: the process that made the last step goes on alone
-abbrev pub offered : Queue → Grain → Option ℕ → List Choice
-offered q Process (Some p) = Run p ∷ []
-offered q Process None = active_choices q
-offered q Statement last = active_choices q
+abbrev pub offered_choices : Queue → Grain → Option ℕ → List Choice
+offered_choices q Process (Some p) = Run p ∷ []
+offered_choices q Process None = active_choices q
+offered_choices q Statement last = active_choices q
 
 abbrev pub queue_choices : Queue → List Choice
-queue_choices q = or_advance (offered q q.grain q.last) q.future
+queue_choices q = or_advance (offered_choices q q.grain q.last) q.future
 
 -- once `$finish` or `$stop` was taken there is no choice at all
 abbrev pub choices : State → List Choice

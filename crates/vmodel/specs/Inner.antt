@@ -9,7 +9,7 @@ use Rattle.vmodel.specs.declared.part.Kept.TheVariants.{One, Many}
 use Rattle.std.specs.Prelude.{slice_get}
 use Rattle.std.specs.Borrow.{Bor}
 use Rattle.vdesign.specs.declared.action.Action.{Action}
-use Rattle.vmodel.specs.declared.process.Spot.{Spot}
+use Rattle.vmodel.specs.declared.process.Frame.{Frame}
 use Rattle.vmodel.specs.Queue.{Later, Queue}
 use Rattle.vmodel.specs.Step.{place_of}
 
@@ -67,22 +67,22 @@ NoneIs P (Some e) = ¬ P e
 -- ---- the queue
 
 -- the last monitor event is taken back
-abbrev pub unstrobed : Queue → Queue
-unstrobed q = record q { strobes = take (length q.strobes - 1) q.strobes }
+abbrev pub without_last_strobe : Queue → Queue
+without_last_strobe q = record q { strobes = take (length q.strobes - 1) q.strobes }
 
 -- ---- what a process comes to
 
--- the place that the first of the spots names, if there is one
-abbrev pub first_place : List Spot → Option ℕ
+-- the place that the first of the frames names, if there is one
+abbrev pub first_place : List Frame → Option ℕ
 first_place [] = None
-first_place (spot ∷ after) = Some (place_of spot)
+first_place (frame ∷ after) = Some (place_of frame)
 
 -- the action there
-abbrev pub first_action : List Action → List Spot → Option Action
+abbrev pub first_action : List Action → List Frame → Option Action
 first_action actions [] = None
-first_action actions (spot ∷ after) = slice_get actions (place_of spot)
+first_action actions (frame ∷ after) = slice_get actions (place_of frame)
 
--- the first of the spots and the action at its place, or none where either is missing
-abbrev pub IsFirstAction : List Action → List Spot → Option (Spot × Bor Action) → Type 0
-IsFirstAction actions left None = first_action actions left ≡ None
-IsFirstAction actions left (Some found) = (slice_get left 0 ≡ Some found.0) × (first_action actions left ≡ Some found.1.now)
+-- the first of the frames and the action at its place, or none where either is missing
+abbrev pub IsFirstAction : List Action → List Frame → Option (Frame × Bor Action) → Type 0
+IsFirstAction actions continuation None = first_action actions continuation ≡ None
+IsFirstAction actions continuation (Some found) = (slice_get continuation 0 ≡ Some found.0) × (first_action actions continuation ≡ Some found.1.now)

@@ -1,70 +1,70 @@
 -- How the parts of a step are told: words for the contracts of parts within.
 use Rattle.std.specs.Prelude.{ℕ, Bool, if◌then◌else◌, ◌∷◌, List, Option, Some, None, drop, slice_get, slice_set}
 use Rattle.vbits.specs.Vectors.{Vector}
-use Rattle.vmodel.specs.declared.process.Spot.{Spot}
-use Rattle.vmodel.specs.declared.process.Spot.TheVariants.{Doing}
-use Rattle.vmodel.specs.declared.deed.Deed.{Deed}
-use Rattle.vmodel.specs.declared.deed.Fate.TheVariants.{Waits}
+use Rattle.vmodel.specs.declared.process.Frame.{Frame}
+use Rattle.vmodel.specs.declared.process.Frame.TheVariants.{Executing}
+use Rattle.vmodel.specs.declared.effect.Effect.{Effect}
+use Rattle.vmodel.specs.declared.effect.Disposition.TheVariants.{Waiting}
 use Rattle.vmodel.specs.Queue.{Queue}
 use Rattle.vmodel.specs.declared.history.Cause.{Cause}
 use Rattle.vmodel.specs.State.{Process, State}
-use Rattle.vmodel.specs.Step.{Did, Turn, spots, going, process_by, fares, posts, strobing, left_of, held_of, quiet}
+use Rattle.vmodel.specs.Step.{StepResult, Transition, frames, process_to_continue, process_by, reschedule, posts, with_strobe, continuation_of, held_of, quiet}
 
 -- what a process holds, among all
 abbrev pub held_in : List Process → ℕ → Option Vector
 held_in processes number = held_of (slice_get processes number)
 
 -- what a process has left, among all
-abbrev pub left_in : List Process → ℕ → List Spot
-left_in processes number = left_of (slice_get processes number)
+abbrev pub continuation_in : List Process → ℕ → List Frame
+continuation_in processes number = continuation_of (slice_get processes number)
 
--- what stands behind the places that come next: a spot, where one is given, and the rest
-abbrev pub behind : Option Spot → List Spot → List Spot
+-- what stands behind the places that come next: a frame, where one is given, and the rest
+abbrev pub behind : Option Frame → List Frame → List Frame
 behind None rest = rest
-behind (Some spot) rest = spot ∷ rest
+behind (Some frame) rest = frame ∷ rest
 
 -- a process that had so much left, behind a step after which these places come
-abbrev pub moved : List Spot → Option Spot → List ℕ → Deed → Process
-moved left spot next deed = process_by (record { left = spots next (behind spot (drop 1 left)); deed = deed })
+abbrev pub process_with_move : List Frame → Option Frame → List ℕ → Effect → Process
+process_with_move continuation frame next effect = process_by (record { continuation = frames next (behind frame (drop 1 continuation)); effect = effect })
 
 -- and the queue
-abbrev pub moved_by : ℕ → List Spot → Option Spot → List ℕ → Deed → Queue → Queue
-moved_by number left spot next deed q =
-    fares number deed.fate (going number (spots next (behind spot (drop 1 left)))) (posts deed.posted (strobing deed.strobed q))
+abbrev pub queue_with_move : ℕ → List Frame → Option Frame → List ℕ → Effect → Queue → Queue
+queue_with_move number continuation frame next effect q =
+    reschedule number effect.disposition (process_to_continue number (frames next (behind frame (drop 1 continuation)))) (posts effect.posted (with_strobe effect.strobed q))
 
-abbrev pub with_moved : ℕ → List Process → Option Spot → List ℕ → Deed → List Process
-with_moved number processes spot next deed =
-    slice_set processes number (moved (left_in processes number) spot next deed)
+abbrev pub processes_with_move : ℕ → List Process → Option Frame → List ℕ → Effect → List Process
+processes_with_move number processes frame next effect =
+    slice_set processes number (process_with_move (continuation_in processes number) frame next effect)
 
 -- the state after a process is placed and the queue has it
-abbrev pub moved_on : ℕ → Option Spot → List ℕ → Deed → State → State
-moved_on number spot next deed s = record s {
-  processes = with_moved number s.processes spot next deed;
-  queue = moved_by number (left_in s.processes number) spot next deed s.queue;
+abbrev pub state_with_move : ℕ → Option Frame → List ℕ → Effect → State → State
+state_with_move number frame next effect s = record s {
+  processes = processes_with_move number s.processes frame next effect;
+  queue = queue_with_move number (continuation_in s.processes number) frame next effect s.queue;
 }
 
 -- the state where the run ends for a reason, or goes on
-abbrev pub ended : Option Cause → State → State
-ended cause s = record s { cause = cause }
+abbrev pub with_cause : Option Cause → State → State
+with_cause cause s = record s { cause = cause }
 
--- what a step did, after which these places come, and then this spot where one is given
-abbrev pub did_so : Option Spot → List ℕ → List Spot → Deed → Did
-did_so spot next after deed = record { left = spots next (behind spot after); deed = deed }
+-- what a step did, after which these places come, and then this frame where one is given
+abbrev pub step_result : Option Frame → List ℕ → List Frame → Effect → StepResult
+step_result frame next after effect = record { continuation = frames next (behind frame after); effect = effect }
 
 -- what a loop at a place does where its condition holds, and where it does not
-abbrev pub loops : ℕ → Bool → List ℕ → List Spot → Did
-loops place holds body after = record { left = if holds then spots body (Doing place ∷ after) else after; deed = quiet }
+abbrev pub while_result : ℕ → Bool → List ℕ → List Frame → StepResult
+while_result place holds body after = record { continuation = if holds then frames body (Executing place ∷ after) else after; effect = quiet }
 
 -- what a `wait` at a place does where its condition holds, and where it does not
-abbrev pub awaits : ℕ → Bool → List ℕ → List Spot → Did
-awaits place holds body after =
-    if holds then record { left = spots body after; deed = quiet }
-    else record { left = Doing place ∷ after; deed = record quiet { fate = Waits place } }
+abbrev pub wait_result : ℕ → Bool → List ℕ → List Frame → StepResult
+wait_result place holds body after =
+    if holds then record { continuation = frames body after; effect = quiet }
+    else record { continuation = Executing place ∷ after; effect = record quiet { disposition = Waiting place } }
 
 -- the state after a step, what the step did, and the monitor events that ran
-abbrev pub turn_to : State → Deed → List ℕ → Turn
-turn_to state deed monitors = record { state = state; deed = deed; monitors = monitors }
+abbrev pub transition_to : State → Effect → List ℕ → Transition
+transition_to state effect monitors = record { state = state; effect = effect; monitors = monitors }
 
 -- a step that ends the run
-abbrev pub ending_by : Cause → Deed
-ending_by cause = record quiet { cause = Some cause }
+abbrev pub effect_of_end : Cause → Effect
+effect_of_end cause = record quiet { cause = Some cause }

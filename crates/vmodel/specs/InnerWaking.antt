@@ -5,7 +5,7 @@ use Rattle.vdesign.specs.declared.action.Edge.{Edge}
 use Rattle.vdesign.specs.declared.action.Term.{Term}
 use Rattle.vdesign.specs.declared.action.Term.TheVariants.{Change as ChangeTerm, Event}
 use Rattle.vdesign.specs.declared.action.Action.{Action}
-use Rattle.vdesign.specs.declared.action.Action.TheVariants.{On, Until, Drive}
+use Rattle.vdesign.specs.declared.action.Action.TheVariants.{EventControl, Wait, ContinuousAssign}
 use Rattle.vmodel.specs.declared.values.Change.{Change}
 use Rattle.vmodel.specs.declared.values.Changes.{Changes}
 use Rattle.vmodel.specs.declared.values.Changes.TheVariants.{One, Many}
@@ -13,7 +13,7 @@ use Rattle.vmodel.specs.declared.waking.News.{News}
 use Rattle.vmodel.specs.declared.part.Part.{Part}
 use Rattle.vmodel.specs.Queue.{Queue}
 use Rattle.vmodel.specs.State.{Process}
-use Rattle.vmodel.specs.Parts.{value_in, written}
+use Rattle.vmodel.specs.Parts.{value_in, with_parts}
 use Rattle.vmodel.specs.Waking.{is_edge, is_triggered}
 
 -- the values differ in one variable, and so
@@ -31,7 +31,7 @@ abbrev pub changes_one : Change → Edge → ℕ → Bool
 changes_one change edge variable = (variable == change.variable) && is_edge edge change.old change.new
 
 abbrev pub changes_many : List Vector → List Part → Edge → ℕ → Bool
-changes_many values parts edge variable = is_edge edge (value_in values variable) (value_in (written parts values) variable)
+changes_many values parts edge variable = is_edge edge (value_in values variable) (value_in (with_parts parts values) variable)
 
 abbrev pub changes_so : Changes → Edge → ℕ → Bool
 changes_so (One change) edge variable = changes_one change edge variable
@@ -45,16 +45,16 @@ hears_of news (Event event) = is_triggered news.triggered event
 -- these are the changes between the values before and after
 abbrev pub AreChanges : Changes → List Vector → List Vector → Type 0
 AreChanges (One change) before after = Differ change before after
-AreChanges (Many values parts) before after = (before ≡ values.now) × (after ≡ written parts.now values.now)
+AreChanges (Many values parts) before after = (before ≡ values.now) × (after ≡ with_parts parts.now values.now)
 
 abbrev pub any_hears_of : News → List Term → Bool
 any_hears_of news [] = false
 any_hears_of news (term ∷ terms) = hears_of news term || any_hears_of news terms
 
 abbrev pub comes_by : News → Option Action → Bool
-comes_by news (Some (On terms body)) = any_hears_of news terms
-comes_by news (Some (Until condition terms body)) = any_hears_of news terms
-comes_by news (Some (Drive net value terms)) = any_hears_of news terms
+comes_by news (Some (EventControl terms body)) = any_hears_of news terms
+comes_by news (Some (Wait condition terms body)) = any_hears_of news terms
+comes_by news (Some (ContinuousAssign net value terms)) = any_hears_of news terms
 comes_by news _ = false
 
 abbrev pub comes_at : List Action → News → Option ℕ → Bool

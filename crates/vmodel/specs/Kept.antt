@@ -1,10 +1,10 @@
 -- What every state of a run keeps, under every log (IEEE 1364-2005, 11.3, 11.4; docs/SCHEDULING.md).
 use Rattle.std.specs.Prelude.{◌≡◌, ℕ, suc, ◌+◌, ◌≤◌, ◌==◌, if◌then◌else◌, List, [], ◌∷◌, length, slice_get, Option, Some, None}
 use Rattle.std.specs.Option.{ForSome}
-use Rattle.vmodel.specs.declared.process.Spot.{Spot}
+use Rattle.vmodel.specs.declared.process.Frame.{Frame}
 use Rattle.vmodel.specs.Queue.{Later, Queue}
 use Rattle.vmodel.specs.State.{Process, State}
-use Rattle.vmodel.specs.Step.{left_of}
+use Rattle.vmodel.specs.Step.{continuation_of}
 use Rattle.vmodel.specs.Run.{Setting, state_after}
 use Rattle.vbits.specs.Vectors.{Vector}
 use Rattle.vdesign.specs.Design.{Variable}
@@ -41,16 +41,16 @@ abbrev pub places : ℕ → Queue → ℕ
 places p q = count_in p q.active + count_in p q.inactive + asleep p q.future
 
 -- in how many places at most, by what it waits for and what it has left
-abbrev pub most_places : Option ℕ → List Spot → ℕ
-most_places (Some place) left = 0
+abbrev pub most_places : Option ℕ → List Frame → ℕ
+most_places (Some place) continuation = 0
 most_places None [] = 0
-most_places None (spot ∷ rest) = 1
+most_places None (frame ∷ rest) = 1
 
 -- what waits has something left
-abbrev pub HasRest : Option ℕ → List Spot → Type 0
-HasRest None left = Unit {0}
+abbrev pub HasRest : Option ℕ → List Frame → Type 0
+HasRest None continuation = Unit {0}
 HasRest (Some place) [] = ⊥
-HasRest (Some place) (spot ∷ rest) = Unit {0}
+HasRest (Some place) (frame ∷ rest) = Unit {0}
 
 abbrev pub waits_of : Option Process → Option ℕ
 waits_of None = None
@@ -59,8 +59,8 @@ waits_of (Some process) = process.waits
 -- 9.9.1, 9.7.2: a process with something left stands in one place at most, one that waits or has nothing left in
 -- none; the process that made the last step is active
 pub record IsInPlace (q : Queue) (processes : List Process) : Type 0 where
-  pub once : (p : ℕ) → places p q ≤ most_places (waits_of (slice_get processes p)) (left_of (slice_get processes p))
-  pub waiting : (p : ℕ) → HasRest (waits_of (slice_get processes p)) (left_of (slice_get processes p))
+  pub once : (p : ℕ) → places p q ≤ most_places (waits_of (slice_get processes p)) (continuation_of (slice_get processes p))
+  pub waiting : (p : ℕ) → HasRest (waits_of (slice_get processes p)) (continuation_of (slice_get processes p))
   pub last : ForSome q.last (λ p. 1 ≤ count_in p q.active)
 
 abbrev pub IsIdle : Queue → Type 0

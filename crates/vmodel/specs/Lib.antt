@@ -12,11 +12,11 @@ pub mod Same
 pub mod SameLaws
 pub mod Digest
 pub mod Run
-pub mod Played
+pub mod RunProgress
 pub mod Kept
 pub mod RunLaws
 pub mod PartLaws
 pub mod RulesLaws
 pub mod Inner
-pub mod InnerLeft
+pub mod InnerContinuation
 pub mod InnerStep

@@ -21,6 +21,6 @@ write (Whole variable value) values = slice_set values variable value
 write (Bits variable low value) values = slice_set values variable (with_bits (value_in values variable) low value)
 
 -- the values after the parts are written, from left to right
-abbrev pub written : List Part → List Vector → List Vector
-written [] values = values
-written (part ∷ parts) values = written parts (write part values)
+abbrev pub with_parts : List Part → List Vector → List Vector
+with_parts [] values = values
+with_parts (part ∷ parts) values = with_parts parts (write part values)

@@ -36,13 +36,13 @@ abbrev pub empty_slot : Later
 empty_slot = record { processes = []; updates = [] }
 
 -- what a time holds, with one more process to wake, or none more
-abbrev pub waking : Option ℕ → Later → Later
-waking None slot = slot
-waking (Some p) slot = record slot { processes = with_process p slot.processes }
+abbrev pub slot_with_sleeper : Option ℕ → Later → Later
+slot_with_sleeper None slot = slot
+slot_with_sleeper (Some p) slot = record slot { processes = with_process p slot.processes }
 
 -- 11.4: the same with one more update, behind the others
-abbrev pub updating : List Part → Later → Later
-updating parts slot = record slot { updates = slot.updates ++ parts ∷ [] }
+abbrev pub slot_with_update : List Part → Later → Later
+slot_with_update parts slot = record slot { updates = slot.updates ++ parts ∷ [] }
 
 -- the future where more is put to what a time holds, which becomes a future time also where nothing is there
 abbrev pub later_at : ℕ → (Later → Later) → List (ℕ × Later) → List (ℕ × Later)

@@ -9,7 +9,7 @@ use Rattle.vmodel.specs.declared.history.Grain.TheVariants.{Process, Statement}
 use Rattle.vmodel.specs.declared.part.Part.{Part}
 use Rattle.vmodel.specs.Queue.{Later, Queue}
 use Rattle.vmodel.specs.State.{State}
-use Rattle.vmodel.specs.Choices.{in_order, first_update, or_advance, active_choices, offered, queue_choices, choices}
+use Rattle.vmodel.specs.Choices.{in_order, first_update, or_advance, active_choices, offered_choices, queue_choices, choices}
 use Rattle.vmodel.specs.Step.{next}
 use Rattle.vmodel.specs.Same.{state_same}
 use Rattle.vmodel.specs.Run.{Setting, rules_of, is_mark}
@@ -24,12 +24,12 @@ nothing_active None [] (u ∷ us) h = absurd (omega arith)
 nothing_active None (p ∷ ps) us h = absurd (omega arith)
 nothing_active (Some p) active us h = absurd (omega arith)
 
-nothing_offered : (q : Queue) (grain : Grain) (last : Option ℕ) → length (offered q grain last) ≡ 0 → length (active_choices q) ≡ 0
+nothing_offered : (q : Queue) (grain : Grain) (last : Option ℕ) → length (offered_choices q grain last) ≡ 0 → length (active_choices q) ≡ 0
 nothing_offered q Process (Some p) h = absurd (omega arith)
 nothing_offered q Process None h = h
 nothing_offered q Statement last h = h
 
-pub idle_when : (q : Queue) → length (offered q q.grain q.last) ≡ 0 → IsIdle q
+pub idle_when : (q : Queue) → length (offered_choices q q.grain q.last) ≡ 0 → IsIdle q
 idle_when q h = nothing_active q.last q.active q.activated (nothing_offered q q.grain q.last h)
 
 no_advance : (cs : List Choice) (future : List (ℕ × Later)) → length (or_advance cs future) ≡ 0 → length cs ≡ 0
@@ -45,7 +45,7 @@ end_is_mark : (s : State) → length (choices s) ≡ 0 → is_mark s ≡ true
 end_is_mark s h =
     let q = s.queue in
     ended_or s.cause (queue_choices q) (length q.active == 0 && length q.activated == 0) h
-    (λ none. let idle = idle_when q (no_advance (offered q q.grain q.last) q.future none) in rw (idle.0, idle.1) refl)
+    (λ none. let idle = idle_when q (no_advance (offered_choices q q.grain q.last) q.future none) in rw (idle.0, idle.1) refl)
 
 pub lawful : (setting : Setting) → IsLawful (rules_of setting)
 unfolding rules_of

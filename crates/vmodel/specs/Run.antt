@@ -13,7 +13,7 @@ use Rattle.vmodel.specs.State.{Process, State}
 use Rattle.vmodel.specs.Choices.{choices}
 use Rattle.vmodel.specs.History.{History}
 use Rattle.vmodel.specs.Same.{state_same}
-use Rattle.vmodel.specs.Step.{spots, next, items_of, slot_end_of}
+use Rattle.vmodel.specs.Step.{frames, next, items_of, slot_end_of}
 
 -- a variable starts at x, a net that nothing drives at z (4.2.2, 4.6)
 abbrev pub opening_value : Variable → Vector
@@ -21,7 +21,7 @@ opening_value variable = with_sign (filled variable.length variable.start) varia
 
 -- a process begins at its first places
 abbrev pub opening_process : List ℕ → Process
-opening_process places = record { left = spots places []; held = None; waits = None }
+opening_process places = record { continuation = frames places []; held = None; waits = None }
 
 -- 9.9.1: the numbers of the processes that have something to do, from n on
 abbrev pub busy_from : ℕ → List (List ℕ) → List ℕ
@@ -83,10 +83,10 @@ state_after setting log n = stands (rules_of setting) log n
 
 -- what the run under the log has given to its history after n steps; where no process has anything to do, the opening
 -- state is a slot end
-abbrev pub given_by : Setting → List (ℕ × ℕ) → ℕ → List Item
-given_by setting log zero = slot_end_of (opening_of setting)
-given_by setting log (suc n) =
-    given_by setting log n ++ items_of setting.design (next setting.design (state_after setting log n) (choice_at log n))
+abbrev pub items_after : Setting → List (ℕ × ℕ) → ℕ → List Item
+items_after setting log zero = slot_end_of (opening_of setting)
+items_after setting log (suc n) =
+    items_after setting log n ++ items_of setting.design (next setting.design (state_after setting log n) (choice_at log n))
 
 -- why a run ends where it has no choice: `$finish` or `$stop` (17.4), else something past the limit, else nothing is left
 -- (docs/SCHEDULING.md)
@@ -101,7 +101,7 @@ end_of s = record { time = s.queue.time; cause = cause_of s.cause s.queue.beyond
 -- the history of the run after n steps
 abbrev pub history_after : Setting → List (ℕ × ℕ) → ℕ → History
 history_after setting log n = record {
-  items = given_by setting log n;
+  items = items_after setting log n;
   end = end_of (state_after setting log n);
   values = (state_after setting log n).values;
 }

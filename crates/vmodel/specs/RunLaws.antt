@@ -5,7 +5,7 @@ use Rattle.sched_core.specs.Rules.{IsLawful, IsRun}
 use Rattle.vbits.specs.Vectors.{Vector}
 use Rattle.vmodel.specs.State.{State}
 use Rattle.vmodel.specs.Same.{state_same}
-use Rattle.vmodel.specs.Run.{Setting, rules_of, state_after, given_by}
+use Rattle.vmodel.specs.Run.{Setting, rules_of, state_after, items_after}
 use Rattle.vmodel.specs.declared.history.Item.TheVariants.{SlotEnd}
 use Rattle.vmodel.specs.Kept.{IsKept, RisesFrom, slot_times, AreShaped, HasValues, HasSlotEnd}
 
@@ -24,7 +24,7 @@ IsAlwaysKept = (setting : Setting) (log : List (ℕ × ℕ)) (n : ℕ) → IsKep
 -- no two slots of a run end at one time, and later ones end later
 abbrev pub HasRisingSlots : Type 0
 HasRisingSlots = (setting : Setting) (log : List (ℕ × ℕ)) (n : ℕ) →
-    IsRun (rules_of setting) log n → RisesFrom 0 (slot_times (given_by setting log n))
+    IsRun (rules_of setting) log n → RisesFrom 0 (slot_times (items_after setting log n))
 
 -- each state has as many values as the design has variables
 abbrev pub IsAlwaysFull : Type 0
@@ -39,14 +39,14 @@ IsAlwaysShaped = (setting : Setting) (log : List (ℕ × ℕ)) (n : ℕ) →
 -- each slot end has as many values as the design has variables
 abbrev pub ShowsFullSlots : Type 0
 ShowsFullSlots = (setting : Setting) (log : List (ℕ × ℕ)) (n : ℕ) →
-    All (HasValues (length setting.design.variables)) (given_by setting log n)
+    All (HasValues (length setting.design.variables)) (items_after setting log n)
 
 -- a slot end that a history shows is one that its run was at
 abbrev pub ShowsOnlySlotEnds : Type 0
 ShowsOnlySlotEnds = (setting : Setting) (log : List (ℕ × ℕ)) (n time : ℕ) (values : List Vector) →
-    Contains (given_by setting log n) (SlotEnd time values) → HasSlotEnd setting log n time values
+    Contains (items_after setting log n) (SlotEnd time values) → HasSlotEnd setting log n time values
 
 -- and it shows each
 abbrev pub ShowsEachSlotEnd : Type 0
 ShowsEachSlotEnd = (setting : Setting) (log : List (ℕ × ℕ)) (n time : ℕ) (values : List Vector) →
-    HasSlotEnd setting log n time values → Contains (given_by setting log n) (SlotEnd time values)
+    HasSlotEnd setting log n time values → Contains (items_after setting log n) (SlotEnd time values)

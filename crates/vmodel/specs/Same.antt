@@ -10,22 +10,22 @@ use Rattle.vmodel.specs.declared.history.Grain.{Grain}
 use Rattle.vmodel.specs.declared.history.Grain.TheVariants.{Process as ByProcess, Statement}
 use Rattle.vmodel.specs.declared.part.Part.{Part}
 use Rattle.vmodel.specs.declared.part.Part.TheVariants.{Whole, Bits}
-use Rattle.vmodel.specs.declared.process.Spot.{Spot}
-use Rattle.vmodel.specs.declared.process.Spot.TheVariants.{Doing, Turning, Writing}
+use Rattle.vmodel.specs.declared.process.Frame.{Frame}
+use Rattle.vmodel.specs.declared.process.Frame.TheVariants.{Executing, Repeating, Writing}
 use Rattle.vmodel.specs.Queue.{Later, Queue}
 use Rattle.vmodel.specs.State.{Process, State}
 
 abbrev pub values_same : List Vector → List Vector → Bool
 values_same = pointwise vector_same
 
-abbrev pub spot_same : Spot → Spot → Bool
-spot_same (Doing p) (Doing q) = nat_eq p q
-spot_same (Turning p m) (Turning q n) = nat_eq p q && nat_eq m n
-spot_same (Writing p) (Writing q) = nat_eq p q
-spot_same _ _ = false
+abbrev pub frame_same : Frame → Frame → Bool
+frame_same (Executing p) (Executing q) = nat_eq p q
+frame_same (Repeating p m) (Repeating q n) = nat_eq p q && nat_eq m n
+frame_same (Writing p) (Writing q) = nat_eq p q
+frame_same _ _ = false
 
 abbrev pub process_same : Process → Process → Bool
-process_same p q = (pointwise spot_same p.left q.left && option_eq vector_same p.held q.held) && option_eq nat_eq p.waits q.waits
+process_same p q = (pointwise frame_same p.continuation q.continuation && option_eq vector_same p.held q.held) && option_eq nat_eq p.waits q.waits
 
 abbrev pub grain_same : Grain → Grain → Bool
 grain_same ByProcess ByProcess = true

@@ -11,10 +11,10 @@ use Rattle.vbits.specs.Equal.{vectors_tell}
 use Rattle.vmodel.specs.declared.history.Cause.TheVariants.{Finish, Stop, Quiet, Limit}
 use Rattle.vmodel.specs.declared.history.Grain.TheVariants.{Process as ByProcess, Statement}
 use Rattle.vmodel.specs.declared.part.Part.TheVariants.{Whole, Bits}
-use Rattle.vmodel.specs.declared.process.Spot.TheVariants.{Doing, Turning, Writing}
+use Rattle.vmodel.specs.declared.process.Frame.TheVariants.{Executing, Repeating, Writing}
 use Rattle.vmodel.specs.Queue.{Later, Queue}
 use Rattle.vmodel.specs.State.{Process, State}
-use Rattle.vmodel.specs.Same.{values_same, spot_same, process_same, grain_same, cause_same, part_same, parts_same, slot_same, stand_same, regions_same, queue_same, state_same}
+use Rattle.vmodel.specs.Same.{values_same, frame_same, process_same, grain_same, cause_same, part_same, parts_same, slot_same, stand_same, regions_same, queue_same, state_same}
 
 -- the test decides equality
 abbrev pub Tells : {A : Type 0} → (A → A → Bool) → Type 0
@@ -31,20 +31,20 @@ option_tells same each _ _ = (λ h. cc, λ h. cc)
 pub values_tell : Tells values_same
 values_tell = list_tells vector_same vectors_tell
 
-pub spots_tell : Tells spot_same
-spots_tell (Doing p) (Doing q) = Decides-like (nat_eq p q) (λ (h : p ≡ q). ap Doing h) (λ h. cc) (unsigned_Decides p q)
-spots_tell (Turning p m) (Turning q n) =
-    Decides-like (nat_eq p q && nat_eq m n) (λ (h : (p ≡ q) × (m ≡ n)). λ i. Turning (h.0 i) (h.1 i)) (λ h. (cc, cc))
+pub frames_tell : Tells frame_same
+frames_tell (Executing p) (Executing q) = Decides-like (nat_eq p q) (λ (h : p ≡ q). ap Executing h) (λ h. cc) (unsigned_Decides p q)
+frames_tell (Repeating p m) (Repeating q n) =
+    Decides-like (nat_eq p q && nat_eq m n) (λ (h : (p ≡ q) × (m ≡ n)). λ i. Repeating (h.0 i) (h.1 i)) (λ h. (cc, cc))
     (Decides-and _ _ (unsigned_Decides p q) (unsigned_Decides m n))
-spots_tell (Writing p) (Writing q) = Decides-like (nat_eq p q) (λ (h : p ≡ q). ap Writing h) (λ h. cc) (unsigned_Decides p q)
-spots_tell _ _ = (λ h. cc, λ h. cc)
+frames_tell (Writing p) (Writing q) = Decides-like (nat_eq p q) (λ (h : p ≡ q). ap Writing h) (λ h. cc) (unsigned_Decides p q)
+frames_tell _ _ = (λ h. cc, λ h. cc)
 
 pub processes_tell : Tells process_same
 processes_tell p q = Decides-like (process_same p q)
-    (λ (h : ((p.left ≡ q.left) × (p.held ≡ q.held)) × (p.waits ≡ q.waits)). λ i. record { left = h.0.0 i; held = h.0.1 i; waits = h.1 i })
-    (λ h. ((ap (λ (r : Process). r.left) h, ap (λ (r : Process). r.held) h), ap (λ (r : Process). r.waits) h))
+    (λ (h : ((p.continuation ≡ q.continuation) × (p.held ≡ q.held)) × (p.waits ≡ q.waits)). λ i. record { continuation = h.0.0 i; held = h.0.1 i; waits = h.1 i })
+    (λ h. ((ap (λ (r : Process). r.continuation) h, ap (λ (r : Process). r.held) h), ap (λ (r : Process). r.waits) h))
     (Decides-and _ _ (Decides-and _ _
-    (list_tells spot_same spots_tell p.left q.left)
+    (list_tells frame_same frames_tell p.continuation q.continuation)
     (option_tells vector_same vectors_tell p.held q.held))
     (option_tells nat_eq unsigned_Decides p.waits q.waits))
 
@@ -163,8 +163,8 @@ states_tell s t = Decides-like (state_same s t) whole parts
 pub values_equivalent : IsEquivalence values_same
 values_equivalent = decided values_same values_tell
 
-pub spots_equivalent : IsEquivalence spot_same
-spots_equivalent = decided spot_same spots_tell
+pub frames_equivalent : IsEquivalence frame_same
+frames_equivalent = decided frame_same frames_tell
 
 pub processes_equivalent : IsEquivalence process_same
 processes_equivalent = decided process_same processes_tell

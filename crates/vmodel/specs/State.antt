@@ -5,11 +5,11 @@ use Rattle.std.specs.Prelude.{ℕ, List, Option}
 use Rattle.vbits.specs.Vectors.{Vector}
 use Rattle.vmodel.specs.Queue.{Queue}
 use Rattle.vmodel.specs.declared.history.Cause.{Cause}
-use Rattle.vmodel.specs.declared.process.Spot.{Spot}
+use Rattle.vmodel.specs.declared.process.Frame.{Frame}
 
 -- what a process stands at (9.9.1)
 pub record Process : Type 0 where
-  pub left : List Spot  -- what it has left, the first of it first
+  pub continuation : List Frame  -- what it has left, the first of it first
   pub held : Option Vector  -- the value that a suspended assignment holds (9.7.7)
   pub waits : Option ℕ  -- the place of the action at which it waits for a change or a named event (9.7.2, 9.7.3)
 

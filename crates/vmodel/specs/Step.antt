@@ -5,7 +5,7 @@ use Rattle.vbits.specs.Vectors.{Vector}
 use Rattle.basis.specs.Timescales.{factor}
 use Rattle.vdesign.specs.Design.{Design}
 use Rattle.vdesign.specs.declared.action.Action.{Action}
-use Rattle.vdesign.specs.declared.action.Action.TheVariants.{Assign, Nonblocking, Held, Posted, Trigger, Test, Case, Again, Repeat, Forever, Delay, On, Until, Drive, Print, DumpVars, Dump, Pass, Finish, Stop}
+use Rattle.vdesign.specs.declared.action.Action.TheVariants.{Assign, Nonblocking, AssignDelayed, NonblockingDelayed, Trigger, Test, Case, While, Repeat, Forever, Delay, EventControl, Wait, ContinuousAssign, Print, DumpVars, Dump, NoOperation, Finish, Stop}
 use Rattle.vdesign.specs.declared.dump.DumpSwitch.{DumpSwitch}
 use Rattle.vdesign.specs.declared.dump.DumpSwitch.TheVariants as switch
 use Rattle.vdesign.specs.declared.dump.DumpCommand.{DumpCommand}
@@ -18,21 +18,21 @@ use Rattle.vmodel.specs.declared.history.Cause.{Cause}
 use Rattle.vmodel.specs.declared.history.Cause.TheVariants.{Finish as Finished, Stop as Stopped}
 use Rattle.vmodel.specs.declared.history.Item.{Item}
 use Rattle.vmodel.specs.declared.history.Item.TheVariants.{SlotEnd, Dump as DumpItem, Line, Monitor}
-use Rattle.vmodel.specs.declared.process.Spot.{Spot}
-use Rattle.vmodel.specs.declared.process.Spot.TheVariants.{Doing, Turning, Writing}
-use Rattle.vmodel.specs.declared.deed.Fate.{Fate}
-use Rattle.vmodel.specs.declared.deed.Fate.TheVariants.{GoesOn, Sleeps, Waits}
-use Rattle.vmodel.specs.declared.deed.Deed.{Deed}
-use Rattle.vmodel.specs.declared.deed.Post.{Post}
-use Rattle.vmodel.specs.declared.deed.Shown.{Shown}
-use Rattle.vmodel.specs.declared.deed.Shown.TheVariants.{Commands, Prints, Watches}
+use Rattle.vmodel.specs.declared.process.Frame.{Frame}
+use Rattle.vmodel.specs.declared.process.Frame.TheVariants.{Executing, Repeating, Writing}
+use Rattle.vmodel.specs.declared.effect.Disposition.{Disposition}
+use Rattle.vmodel.specs.declared.effect.Disposition.TheVariants.{Runnable, Delayed, Waiting}
+use Rattle.vmodel.specs.declared.effect.Effect.{Effect}
+use Rattle.vmodel.specs.declared.effect.Post.{Post}
+use Rattle.vmodel.specs.declared.effect.Shown.{Shown}
+use Rattle.vmodel.specs.declared.effect.Shown.TheVariants.{Commands, Prints, Watches}
 use Rattle.vmodel.specs.declared.part.Part.{Part}
-use Rattle.vvalue.specs.Value.{Moment, holds, delay_of}
+use Rattle.vvalue.specs.Value.{Environment, holds, delay_of}
 use Rattle.vvalue.specs.Cases.{places_of_case, turns_of}
 use Rattle.line_text.specs.LineText.{line_of}
-use Rattle.vmodel.specs.Value.{assigned, held_value, resumed}
-use Rattle.vmodel.specs.Parts.{written}
-use Rattle.vmodel.specs.Queue.{Later, Queue, with_process, without_process, waking, updating, later}
+use Rattle.vmodel.specs.Value.{assigned_parts, held_value, resumed_parts}
+use Rattle.vmodel.specs.Parts.{with_parts}
+use Rattle.vmodel.specs.Queue.{Later, Queue, with_process, without_process, slot_with_sleeper, slot_with_update, later}
 use Rattle.vmodel.specs.State.{Process, State}
 use Rattle.vmodel.specs.Waking.{wakes, awake, with_awake}
 use Rattle.vmodel.specs.declared.choice.Choice.{Choice}
@@ -40,18 +40,18 @@ use Rattle.vmodel.specs.declared.choice.Choice.TheVariants.{Run, Update, Advance
 use Rattle.vmodel.specs.Choices.{choices}
 
 -- ---- what a step of a process does: an equation for each action of the table of steps (docs/SCHEDULING.md, "Steps"); an
--- update and an advance stand in `turn_of`
+-- update and an advance stand in `transition_of`
 
 -- what it has left, and all else that it does
-pub record Did : Type 0 where
-  pub left : List Spot
-  pub deed : Deed
+pub record StepResult : Type 0 where
+  pub continuation : List Frame
+  pub effect : Effect
 
 -- a step that does nothing but go on
-abbrev pub quiet : Deed
+abbrev pub quiet : Effect
 quiet = record {
   held = None;
-  fate = GoesOn;
+  disposition = Runnable;
   wrote = [];
   posted = None;
   triggered = None;
@@ -65,98 +65,98 @@ abbrev pub post_after : ℕ → List Part → Post
 post_after delay parts = record { after = delay; parts = parts }
 
 -- at these places in turn, then at what stood behind
-abbrev pub spots : List ℕ → List Spot → List Spot
-spots places after = map Doing places ++ after
+abbrev pub frames : List ℕ → List Frame → List Frame
+frames places after = map Executing places ++ after
 
 -- a `repeat` at a place with so many turns left, before what stands behind it; where none is left it has ended
-abbrev pub turning : ℕ → ℕ → List Spot → List Spot
-turning place zero after = after
-turning place (suc n) after = Turning place (suc n) ∷ after
+abbrev pub turns_left : ℕ → ℕ → List Frame → List Frame
+turns_left place zero after = after
+turns_left place (suc n) after = Repeating place (suc n) ∷ after
 
 -- what a print action at a place shows: `$display` prints at once (17.1.1), `$strobe` makes a monitor event (17.1.2), and `$monitor`
 -- is in force from now on (17.1.3)
-abbrev pub printing : When → ℕ → Deed
-printing Now place = record quiet { shown = Some (Prints place) }
-printing AtSlotEnd place = record quiet { strobed = Some place }
-printing AtChange place = record quiet { shown = Some (Watches place) }
+abbrev pub print_effect : When → ℕ → Effect
+print_effect Now place = record quiet { shown = Some (Prints place) }
+print_effect AtSlotEnd place = record quiet { strobed = Some place }
+print_effect AtChange place = record quiet { shown = Some (Watches place) }
 
 -- the command that a dump task gives, but for $dumpvars (18.1.3, 18.1.4)
-abbrev pub switched : DumpSwitch → DumpCommand
-switched switch.Off = command.Off
-switched switch.On = command.On
-switched switch.All = command.All
+abbrev pub command_of : DumpSwitch → DumpCommand
+command_of switch.Off = command.Off
+command_of switch.On = command.On
+command_of switch.All = command.All
 
 -- what an action at a place does at a moment, of a process that has `after` left behind it
-abbrev pub does : ℕ → Action → List Spot → Moment → Did
+abbrev pub execute : ℕ → Action → List Frame → Environment → StepResult
 -- 9.2.1: `targets = value` writes
-does place (Assign targets value) after now = record { left = after; deed = record quiet { wrote = assigned now targets value } }
+execute place (Assign targets value) after now = record { continuation = after; effect = record quiet { wrote = assigned_parts now targets value } }
 -- 9.2.2, 11.6.4: `targets <= value` takes value and targets, and posts the update
-does place (Nonblocking targets value) after now = record { left = after; deed = record quiet { posted = Some (post_after 0 (assigned now targets value)) } }
+execute place (Nonblocking targets value) after now = record { continuation = after; effect = record quiet { posted = Some (post_after 0 (assigned_parts now targets value)) } }
 -- 9.7.7: `targets = #amount value` takes value and delay, and sleeps until it writes
-does place (Held amount targets value) after now =
-    record { left = Writing place ∷ after; deed = record quiet { held = Some (held_value now targets value); fate = Sleeps (delay_of now amount) } }
+execute place (AssignDelayed amount targets value) after now =
+    record { continuation = Writing place ∷ after; effect = record quiet { held = Some (held_value now targets value); disposition = Delayed (delay_of now amount) } }
 -- 9.2.2, 9.7.7: `targets <= #amount value` takes value, targets and delay, and posts the update for then
-does place (Posted amount targets value) after now =
-    record { left = after; deed = record quiet { posted = Some (post_after (delay_of now amount) (assigned now targets value)) } }
+execute place (NonblockingDelayed amount targets value) after now =
+    record { continuation = after; effect = record quiet { posted = Some (post_after (delay_of now amount) (assigned_parts now targets value)) } }
 -- 9.7.3: `-> event` wakes what waits for the event; where nothing does, it is lost
-does place (Trigger event) after now = record { left = after; deed = record quiet { triggered = Some event } }
+execute place (Trigger event) after now = record { continuation = after; effect = record quiet { triggered = Some event } }
 -- 9.4: `if (condition) .. else ..`
-does place (Test condition when_true otherwise) after now =
-    record { left = spots (if holds now condition then when_true else otherwise) after; deed = quiet }
+execute place (Test condition when_true otherwise) after now =
+    record { continuation = frames (if holds now condition then when_true else otherwise) after; effect = quiet }
 -- 9.5: `case (value) ..`
-does place (Case kind value branches otherwise) after now =
-    record { left = spots (places_of_case now kind value branches otherwise) after; deed = quiet }
+execute place (Case kind value branches otherwise) after now =
+    record { continuation = frames (places_of_case now kind value branches otherwise) after; effect = quiet }
 -- 9.6: `while (condition) ..` tests once more behind its body
-does place (Again condition body) after now =
-    record { left = if holds now condition then spots body (Doing place ∷ after) else after; deed = quiet }
+execute place (While condition body) after now =
+    record { continuation = if holds now condition then frames body (Executing place ∷ after) else after; effect = quiet }
 -- 9.6: `repeat (count) ..` takes its count
-does place (Repeat count body) after now = record { left = turning place (turns_of now count) after; deed = quiet }
+execute place (Repeat count body) after now = record { continuation = turns_left place (turns_of now count) after; effect = quiet }
 -- 9.6: `forever ..` comes again behind its body
-does place (Forever body) after now = record { left = spots body (Doing place ∷ after); deed = quiet }
+execute place (Forever body) after now = record { continuation = frames body (Executing place ∷ after); effect = quiet }
 -- 9.7.1: `#amount` suspends, and the body comes after it
-does place (Delay amount body) after now = record { left = spots body after; deed = record quiet { fate = Sleeps (delay_of now amount) } }
+execute place (Delay amount body) after now = record { continuation = frames body after; effect = record quiet { disposition = Delayed (delay_of now amount) } }
 -- 9.7.2: `@(terms)` waits, and the body comes after it
-does place (On terms body) after now = record { left = spots body after; deed = record quiet { fate = Waits place } }
+execute place (EventControl terms body) after now = record { continuation = frames body after; effect = record quiet { disposition = Waiting place } }
 -- 9.7.6: `wait (condition)` goes on to its body, or waits and then tests once more
-does place (Until condition terms body) after now =
-    if holds now condition then record { left = spots body after; deed = quiet }
-    else record { left = Doing place ∷ after; deed = record quiet { fate = Waits place } }
+execute place (Wait condition terms body) after now =
+    if holds now condition then record { continuation = frames body after; effect = quiet }
+    else record { continuation = Executing place ∷ after; effect = record quiet { disposition = Waiting place } }
 -- 6.1: `assign net = value` writes, waits for a change, and writes again
-does place (Drive net value terms) after now =
-    record { left = Doing place ∷ after; deed = record quiet { wrote = assigned now (WholeTarget net ∷ []) value; fate = Waits place } }
+execute place (ContinuousAssign net value terms) after now =
+    record { continuation = Executing place ∷ after; effect = record quiet { wrote = assigned_parts now (WholeTarget net ∷ []) value; disposition = Waiting place } }
 -- 17.1: `$display(..)`, `$strobe(..)`, `$monitor(..)`
-does place (Print when pieces) after now = record { left = after; deed = printing when place }
+execute place (Print when pieces) after now = record { continuation = after; effect = print_effect when place }
 -- 18.1: `$dumpvars(..)`, whose selection stands at its place, and its kin
-does place (DumpVars selection) after now = record { left = after; deed = record quiet { shown = Some (Commands (command.Vars place)) } }
-does place (Dump asked) after now = record { left = after; deed = record quiet { shown = Some (Commands (switched asked)) } }
+execute place (DumpVars selection) after now = record { continuation = after; effect = record quiet { shown = Some (Commands (command.Vars place)) } }
+execute place (Dump asked) after now = record { continuation = after; effect = record quiet { shown = Some (Commands (command_of asked)) } }
 -- 18.1.1, 18.1.6: `$dumpfile` and `$dumpflush` do nothing more
-does place Pass after now = record { left = after; deed = quiet }
+execute place NoOperation after now = record { continuation = after; effect = quiet }
 -- 17.4.1: `$finish`
-does place Finish after now = record { left = after; deed = record quiet { cause = Some Finished } }
+execute place Finish after now = record { continuation = after; effect = record quiet { cause = Some Finished } }
 -- 17.4.2: `$stop`
-does place Stop after now = record { left = after; deed = record quiet { cause = Some Stopped } }
+execute place Stop after now = record { continuation = after; effect = record quiet { cause = Some Stopped } }
 
 -- 9.6: what the start of a turn of the action at a place does, where so many turns are left: the body comes, and then the turns
 -- that are left behind this one. No other action than `repeat` has turns
-abbrev pub turns : ℕ → ℕ → Action → List Spot → Did
-turns place n (Repeat count body) after = record { left = spots body (turning place (n - 1) after); deed = quiet }
-turns place n _ after = record { left = Turning place n ∷ after; deed = quiet }
+abbrev pub execute_turn : ℕ → ℕ → Action → List Frame → StepResult
+execute_turn place n (Repeat count body) after = record { continuation = frames body (turns_left place (n - 1) after); effect = quiet }
+execute_turn place n _ after = record { continuation = Repeating place n ∷ after; effect = quiet }
 
 -- 9.7.7: what the second step of the suspended assignment at a place does, with the value that its process holds: the targets are
 -- found now, and written. No other action than `targets = #amount value` has such a step
-abbrev pub resumes : ℕ → Action → List Spot → Option Vector → Moment → Did
-resumes place (Held amount targets value) after held now = record { left = after; deed = record quiet { wrote = resumed now targets held } }
-resumes place _ after held now = record { left = Writing place ∷ after; deed = quiet }
+abbrev pub resume : ℕ → Action → List Frame → Option Vector → Environment → StepResult
+resume place (AssignDelayed amount targets value) after held now = record { continuation = after; effect = record quiet { wrote = resumed_parts now targets held } }
+resume place _ after held now = record { continuation = Writing place ∷ after; effect = quiet }
 
 -- what the first of what is left does by the action at its place, with the value that the process holds
-abbrev pub does_at : Spot → Action → List Spot → Option Vector → Moment → Did
-does_at (Doing place) action after held now = does place action after now
-does_at (Turning place n) action after held now = turns place n action after
-does_at (Writing place) action after held now = resumes place action after held now
+abbrev pub execute_at : Frame → Action → List Frame → Option Vector → Environment → StepResult
+execute_at (Executing place) action after held now = execute place action after now
+execute_at (Repeating place n) action after held now = execute_turn place n action after
+execute_at (Writing place) action after held now = resume place action after held now
 
-abbrev pub place_of : Spot → ℕ
-place_of (Doing place) = place
-place_of (Turning place n) = place
+abbrev pub place_of : Frame → ℕ
+place_of (Executing place) = place
+place_of (Repeating place n) = place
 place_of (Writing place) = place
 
 -- ---- what becomes of the process in the queue
@@ -166,9 +166,9 @@ abbrev pub leaves : ℕ → Queue → Queue
 leaves p q = record q { last = None; active = without_process p q.active }
 
 -- the process, where it has something left
-abbrev pub going : ℕ → List Spot → Option ℕ
-going p [] = None
-going p (spot ∷ rest) = Some p
+abbrev pub process_to_continue : ℕ → List Frame → Option ℕ
+process_to_continue p [] = None
+process_to_continue p (frame ∷ rest) = Some p
 
 -- it goes on as the process that made the last step, or has ended, where nothing is left
 abbrev pub goes_on : ℕ → Option ℕ → Queue → Queue
@@ -183,25 +183,25 @@ becomes_inactive (Some p) q = record q { inactive = with_process p q.inactive }
 -- its delay still stands as a future time
 abbrev pub sleeps : ℕ → Option ℕ → Queue → Queue
 sleeps zero sleeper q = becomes_inactive sleeper q
-sleeps (suc d) sleeper q = later (suc d) (waking sleeper) q
+sleeps (suc d) sleeper q = later (suc d) (slot_with_sleeper sleeper) q
 
-abbrev pub fares : ℕ → Fate → Option ℕ → Queue → Queue
-fares p GoesOn left q = goes_on p left q
-fares p (Sleeps d) left q = leaves p (sleeps d left q)
-fares p (Waits place) left q = leaves p q
+abbrev pub reschedule : ℕ → Disposition → Option ℕ → Queue → Queue
+reschedule p Runnable goes q = goes_on p goes q
+reschedule p (Delayed d) goes q = leaves p (sleeps d goes q)
+reschedule p (Waiting place) goes q = leaves p q
 
 -- 11.4: an update stands behind those posted before for its time, which is the current time, or later after a delay
 abbrev pub posts_after : ℕ → List Part → Queue → Queue
 posts_after zero parts q = record q { posted = q.posted ++ parts ∷ [] }
-posts_after (suc d) parts q = later (suc d) (updating parts) q
+posts_after (suc d) parts q = later (suc d) (slot_with_update parts) q
 
 abbrev pub posts : Option Post → Queue → Queue
 posts None q = q
 posts (Some post) q = posts_after post.after post.parts q
 
 -- 11.3, 17.1.2: a monitor event stands behind those created before
-abbrev pub strobing : Option ℕ → Queue → Queue
-strobing strobed q = record q { strobes = q.strobes ++ option_to_list strobed }
+abbrev pub with_strobe : Option ℕ → Queue → Queue
+with_strobe strobed q = record q { strobes = q.strobes ++ option_to_list strobed }
 
 -- ---- the region moves (11.4)
 
@@ -214,8 +214,8 @@ regions [] [] (i ∷ is) posts q = record q { active = i ∷ is; inactive = [] }
 regions [] [] [] (u ∷ us) q = record q { activated = u ∷ us; posted = [] }
 regions [] [] [] [] q = record q { strobes = [] }
 
-abbrev pub settled : Queue → Queue
-settled q = regions q.active q.activated q.inactive q.posted q
+abbrev pub with_queue_moves : Queue → Queue
+with_queue_moves q = regions q.active q.activated q.inactive q.posted q
 
 -- the monitor events that run in these moves, in order of creation (17.1.2)
 abbrev pub run_monitors : List ℕ → List (List Part) → List ℕ → List (List Part) → List ℕ → List ℕ
@@ -231,7 +231,7 @@ monitors_in q = run_monitors q.active q.activated q.inactive q.posted q.strobes
 -- after `$finish` and `$stop` there are none
 abbrev pub with_moves_by : Option Cause → State → State
 with_moves_by (Some cause) s = s
-with_moves_by None s = record s { queue = settled s.queue }
+with_moves_by None s = record s { queue = with_queue_moves s.queue }
 
 abbrev pub with_moves : State → State
 with_moves s = with_moves_by s.cause s
@@ -247,51 +247,51 @@ monitors_of s = monitors_by s.cause s
 -- ---- the step
 
 -- the state after a step, what the step did, and the monitor events that ran where it ended the slot, in order of creation
-pub record Turn : Type 0 where
+pub record Transition : Type 0 where
   pub state : State
-  pub deed : Deed
+  pub effect : Effect
   pub monitors : List ℕ
 
 -- the region moves end the step
-abbrev pub complete : Deed → State → Turn
-complete deed s = record { state = with_moves s; deed = deed; monitors = monitors_of s }
+abbrev pub complete : Effect → State → Transition
+complete effect s = record { state = with_moves s; effect = effect; monitors = monitors_of s }
 
 -- the place at which it waits from now on; where nothing is left it has ended
-abbrev pub waits_by : Fate → List Spot → Option ℕ
-waits_by GoesOn left = None
-waits_by (Sleeps d) left = None
-waits_by (Waits place) [] = None
-waits_by (Waits place) (spot ∷ rest) = Some place
+abbrev pub waits_by : Disposition → List Frame → Option ℕ
+waits_by Runnable continuation = None
+waits_by (Delayed d) continuation = None
+waits_by (Waiting place) [] = None
+waits_by (Waiting place) (frame ∷ rest) = Some place
 
 -- a process after its step
-abbrev pub process_by : Did → Process
-process_by did = record { left = did.left; held = did.deed.held; waits = waits_by did.deed.fate did.left }
+abbrev pub process_by : StepResult → Process
+process_by step = record { continuation = step.continuation; held = step.effect.held; waits = waits_by step.effect.disposition step.continuation }
 
 -- the process is placed, the parts are written, and the queue has what becomes of both
-abbrev pub acted : ℕ → Did → State → State
-acted p did s = record {
-  values = written did.deed.wrote s.values;
-  processes = slice_set s.processes p (process_by did);
-  queue = fares p did.deed.fate (going p did.left) (posts did.deed.posted (strobing did.deed.strobed s.queue));
-  cause = did.deed.cause;
+abbrev pub with_step : ℕ → StepResult → State → State
+with_step p step s = record {
+  values = with_parts step.effect.wrote s.values;
+  processes = slice_set s.processes p (process_by step);
+  queue = reschedule p step.effect.disposition (process_to_continue p step.continuation) (posts step.effect.posted (with_strobe step.effect.strobed s.queue));
+  cause = step.effect.cause;
 }
 
 -- 9.7.2, 9.7.3: what waits for a change of the values from what they were goes on, in the same step, and so does what waits for the
 -- event that the step triggers
-abbrev pub woken : Design → List Vector → Option ℕ → State → State
-woken design before triggered s =
+abbrev pub with_woken : Design → List Vector → Option ℕ → State → State
+with_woken design before triggered s =
     let comes = wakes design.actions before s.values triggered in
     record s {
       processes = map (awake comes) s.processes;
       queue = record s.queue { active = with_awake comes 0 s.processes s.queue.active };
     }
 
-abbrev pub turned : Design → ℕ → Did → State → Turn
-turned design p did s = complete did.deed (woken design s.values did.deed.triggered (acted p did s))
+abbrev pub transition_with : Design → ℕ → StepResult → State → Transition
+transition_with design p step s = complete step.effect (with_woken design s.values step.effect.triggered (with_step p step s))
 
 -- nothing happens
-abbrev pub unmoved : State → Turn
-unmoved s = record { state = s; deed = quiet; monitors = [] }
+abbrev pub no_transition : State → Transition
+no_transition s = record { state = s; effect = quiet; monitors = [] }
 
 -- 17.7.1: a time in units in which delays are written
 abbrev pub written_time : ℕ → ℕ → ℕ
@@ -299,36 +299,36 @@ written_time time zero = zero
 written_time time (suc n) = time / suc n
 
 -- what is known at a time, with these values
-abbrev pub moment_at : Design → List Vector → ℕ → Moment
-moment_at design values time =
+abbrev pub environment_at : Design → List Vector → ℕ → Environment
+environment_at design values time =
     let units = factor design.scale in
     record { values = values; variables = design.variables; time = written_time time units; factor = units }
 
 -- what is known in a state
-abbrev pub moment_of : Design → State → Moment
-moment_of design s = moment_at design s.values s.queue.time
+abbrev pub environment_of : Design → State → Environment
+environment_of design s = environment_at design s.values s.queue.time
 
-abbrev pub left_of : Option Process → List Spot
-left_of None = []
-left_of (Some process) = process.left
+abbrev pub continuation_of : Option Process → List Frame
+continuation_of None = []
+continuation_of (Some process) = process.continuation
 
 abbrev pub held_of : Option Process → Option Vector
 held_of None = None
 held_of (Some process) = process.held
 
 -- the process takes the action, if there is one
-abbrev pub takes : Design → ℕ → Spot → Option Action → List Spot → State → Turn
-takes design p spot None after s = unmoved s
-takes design p spot (Some action) after s =
-    turned design p (does_at spot action after (held_of (slice_get s.processes p)) (moment_of design s)) s
+abbrev pub action_transition : Design → ℕ → Frame → Option Action → List Frame → State → Transition
+action_transition design p frame None after s = no_transition s
+action_transition design p frame (Some action) after s =
+    transition_with design p (execute_at frame action after (held_of (slice_get s.processes p)) (environment_of design s)) s
 
 -- it takes the action at the first of what it has left. One with nothing left is never active (specs/Kept.antt)
-abbrev pub goes_from : Design → ℕ → List Spot → State → Turn
-goes_from design p [] s = unmoved s
-goes_from design p (spot ∷ after) s = takes design p spot (slice_get design.actions (place_of spot)) after s
+abbrev pub continuation_transition : Design → ℕ → List Frame → State → Transition
+continuation_transition design p [] s = no_transition s
+continuation_transition design p (frame ∷ after) s = action_transition design p frame (slice_get design.actions (place_of frame)) after s
 
-abbrev pub process_turn : Design → ℕ → State → Turn
-process_turn design p s = goes_from design p (left_of (slice_get s.processes p)) s
+abbrev pub process_transition : Design → ℕ → State → Transition
+process_transition design p s = continuation_transition design p (continuation_of (slice_get s.processes p)) s
 
 -- the first activated update is written (11.4.1)
 abbrev pub first_of : List (List Part) → List Part
@@ -339,30 +339,30 @@ abbrev pub without_update : List (List Part) → Queue → Queue
 without_update [] q = q
 without_update (u ∷ us) q = record q { last = None; activated = us }
 
-abbrev pub updated : State → State
-updated s = record s {
-  values = written (first_of s.queue.activated) s.values;
+abbrev pub with_update : State → State
+with_update s = record s {
+  values = with_parts (first_of s.queue.activated) s.values;
   queue = without_update s.queue.activated s.queue;
 }
 
 -- the time goes on to the next future time, whose processes become active and whose updates are posted in their order
-abbrev pub advanced_to : List (ℕ × Later) → Queue → Queue
-advanced_to [] q = q
-advanced_to (e ∷ es) q =
+abbrev pub with_advance : List (ℕ × Later) → Queue → Queue
+with_advance [] q = q
+with_advance (e ∷ es) q =
     record q { time = e.0; last = None; active = e.1.processes; posted = e.1.updates; future = es }
 
-abbrev pub turn_of : Design → Choice → State → Turn
-turn_of design (Run p) s = process_turn design p s
-turn_of design Update s = complete (record quiet { wrote = first_of s.queue.activated }) (woken design s.values None (updated s))
-turn_of design Advance s = complete quiet (record s { queue = advanced_to s.queue.future s.queue })
+abbrev pub transition_of : Design → Choice → State → Transition
+transition_of design (Run p) s = process_transition design p s
+transition_of design Update s = complete (record quiet { wrote = first_of s.queue.activated }) (with_woken design s.values None (with_update s))
+transition_of design Advance s = complete quiet (record s { queue = with_advance s.queue.future s.queue })
 
-abbrev pub turn_by : Design → Option Choice → State → Turn
-turn_by design None s = unmoved s
-turn_by design (Some c) s = turn_of design c s
+abbrev pub transition_by : Design → Option Choice → State → Transition
+transition_by design None s = no_transition s
+transition_by design (Some c) s = transition_of design c s
 
 -- the step of choice i
-abbrev pub next : Design → State → ℕ → Turn
-next design s i = turn_by design (slice_get (choices s) i) s
+abbrev pub next : Design → State → ℕ → Transition
+next design s i = transition_by design (slice_get (choices s) i) s
 
 -- ---- what a step gives to the history
 
@@ -376,7 +376,7 @@ pieces_at design place = pieces_of (slice_get design.actions place)
 
 -- 17.1: the line of the print task at a place, as it is printed in a state
 abbrev pub line_item : Design → State → ℕ → Item
-line_item design s place = Line (line_of (moment_of design s) (pieces_at design place))
+line_item design s place = Line (line_of (environment_of design s) (pieces_at design place))
 
 abbrev pub shown_items : Design → State → Option Shown → List Item
 shown_items design s None = []
@@ -413,8 +413,8 @@ abbrev pub end_items : Design → State → List ℕ → List Item
 end_items design s monitors = before_end (strobe_items design s monitors) (slot_end_of s)
 
 -- what the step showed at once, and the slot end where the state after it is one; a print task changes no value
-abbrev pub items_of : Design → Turn → List Item
-items_of design turn = shown_items design turn.state turn.deed.shown ++ end_items design turn.state turn.monitors
+abbrev pub items_of : Design → Transition → List Item
+items_of design transition = shown_items design transition.state transition.effect.shown ++ end_items design transition.state transition.monitors
 
 -- what stood before still stands, and behind it are the first, if any, of those that were to come
 abbrev pub HasFront : List Item → List Item → List Item → Type 0

@@ -9,7 +9,7 @@ use Rattle.vdesign.specs.declared.action.Edge.TheVariants.{Any, Rise, Fall}
 use Rattle.vdesign.specs.declared.action.Term.{Term}
 use Rattle.vdesign.specs.declared.action.Term.TheVariants.{Change, Event}
 use Rattle.vdesign.specs.declared.action.Action.{Action}
-use Rattle.vdesign.specs.declared.action.Action.TheVariants.{On, Until, Drive}
+use Rattle.vdesign.specs.declared.action.Action.TheVariants.{EventControl, Wait, ContinuousAssign}
 use Rattle.vmodel.specs.Parts.{value_in}
 use Rattle.vmodel.specs.Queue.{with_process}
 use Rattle.vmodel.specs.State.{Process}
@@ -46,9 +46,9 @@ any_hears before after triggered (term ∷ terms) = hears before after triggered
 
 -- whether what a process waits for at an action has come: one of its terms is enough (9.7.4)
 abbrev pub has_come : Option Action → List Vector → List Vector → Option ℕ → Bool
-has_come (Some (On terms body)) before after triggered = any_hears before after triggered terms
-has_come (Some (Until condition terms body)) before after triggered = any_hears before after triggered terms
-has_come (Some (Drive net value terms)) before after triggered = any_hears before after triggered terms
+has_come (Some (EventControl terms body)) before after triggered = any_hears before after triggered terms
+has_come (Some (Wait condition terms body)) before after triggered = any_hears before after triggered terms
+has_come (Some (ContinuousAssign net value terms)) before after triggered = any_hears before after triggered terms
 has_come _ before after triggered = false
 
 -- whether a process wakes that waits at this place of the table, or doesn't wait

@@ -1,10 +1,10 @@
 // What the hash of a state is fed (specs/Digest.antt).
 
 ghost use Rattle.std.specs.Prelude.{◌≡◌, slice_get};
-ghost use Rattle.vmodel.specs.Digest.{mixed, end_mixed, vector_mixed, values_mixed, stand_of as stand_of_spot, processes_mixed, half_mixed, set_mixed, numbers_ended, part_mixed, parts_mixed, updates_mixed, updates_ended, time_mixed, future_mixed, last_mixed, acting_mixed, waiting_mixed, queue_mixed};
+ghost use Rattle.vmodel.specs.Digest.{digest_with, digest_of_end, digest_of_vector, digest_of_values, stand_of as stand_of_frame, digest_of_processes, digest_of_half, digest_of_set, digest_of_list, digest_of_part, digest_of_parts, digest_of_updates, digest_of_update_list, digest_of_time, digest_of_future, digest_of_last, digest_of_processes_ready, digest_of_events, digest_of_queue};
 
 use crate::part::{Kept, Part, Parts};
-use crate::process::{Process, Spot};
+use crate::process::{Frame, Process};
 use crate::process_set::ProcessSet;
 use crate::queue::{Future, Queue};
 use crate::state::SlowState;
@@ -20,21 +20,21 @@ const WORD: u128 = 18_446_744_073_709_551_616;
 
 // One word more.
 fn mix(digest: u64, word: u64) -> u64
-    ensures { result ≡ mixed digest word }
+    ensures { result ≡ digest_with digest word }
 {
     digest.wrapping_add(word).wrapping_mul(FACTOR)
 }
 
 // A vector, by its two planes.
 fn mix_vector(digest: u64, value: Vec4) -> u64
-    ensures { result ≡ vector_mixed digest value }
+    ensures { result ≡ digest_of_vector digest value }
 {
     let (known, unknown) = value.planes();
     mix(mix(digest, known), unknown)
 }
 
 fn mix_values(first: u64, values: &[Vec4]) -> u64
-    ensures { result ≡ values_mixed first values.now }
+    ensures { result ≡ digest_of_values first values.now }
 {
     let mut digest = first;
     for value in values {
@@ -45,18 +45,18 @@ fn mix_values(first: u64, values: &[Vec4]) -> u64
 
 // Where a process stands, and how many turns are left there; none, where it is to write what it holds.
 fn stand_of(process: &Process) -> u64
-    ensures { result ≡ stand_of_spot (slice_get process.now.left 0) }
+    ensures { result ≡ stand_of_frame (slice_get process.now.continuation 0) }
 {
     match process.first() {
         None => 0,
-        Some(Spot::Doing(place)) => (place as u64).wrapping_add(1),
-        Some(Spot::Turning(place, turns)) => mix((place as u64).wrapping_add(1), turns),
-        Some(Spot::Writing(place)) => mix((place as u64).wrapping_add(1), 0),
+        Some(Frame::Executing(place)) => (place as u64).wrapping_add(1),
+        Some(Frame::Repeating(place, turns)) => mix((place as u64).wrapping_add(1), turns),
+        Some(Frame::Writing(place)) => mix((place as u64).wrapping_add(1), 0),
     }
 }
 
 fn mix_processes(first: u64, processes: &[Process]) -> u64
-    ensures { result ≡ processes_mixed first processes.now }
+    ensures { result ≡ digest_of_processes first processes.now }
 {
     let mut digest = first;
     for process in processes {
@@ -67,27 +67,27 @@ fn mix_processes(first: u64, processes: &[Process]) -> u64
 
 // The end of a list.
 fn mix_end(digest: u64) -> u64
-    ensures { result ≡ end_mixed digest }
+    ensures { result ≡ digest_of_end digest }
 {
     mix(digest, 256)
 }
 
 // 128 bits, as two words.
 fn mix_half(digest: u64, half: u128) -> u64
-    ensures { result ≡ half_mixed digest half }
+    ensures { result ≡ digest_of_half digest half }
 {
     mix(mix(digest, (half % WORD) as u64), (half / WORD) as u64)
 }
 
 fn mix_set(digest: u64, set: &ProcessSet) -> u64
-    ensures { result ≡ set_mixed digest set.now }
+    ensures { result ≡ digest_of_set digest set.now }
 {
     let (low, high) = set.halves();
     mix_half(mix_half(digest, low), high)
 }
 
 fn mix_places(first: u64, places: &[usize]) -> u64
-    ensures { result ≡ numbers_ended first places.now }
+    ensures { result ≡ digest_of_list first places.now }
 {
     let mut digest = first;
     for place in places {
@@ -97,7 +97,7 @@ fn mix_places(first: u64, places: &[usize]) -> u64
 }
 
 fn mix_part(digest: u64, part: Part) -> u64
-    ensures { result ≡ part_mixed digest part }
+    ensures { result ≡ digest_of_part digest part }
 {
     match part {
         Part::Whole { variable, value } => mix_vector(mix(digest, variable as u64), value),
@@ -110,7 +110,7 @@ fn mix_part(digest: u64, part: Part) -> u64
 }
 
 fn mix_list(first: u64, parts: &[Part]) -> u64
-    ensures { result ≡ parts_mixed first parts.now }
+    ensures { result ≡ digest_of_parts first parts.now }
 {
     let mut digest = first;
     for part in parts {
@@ -120,7 +120,7 @@ fn mix_list(first: u64, parts: &[Part]) -> u64
 }
 
 fn mix_parts(digest: u64, parts: &Parts) -> u64
-    ensures { result ≡ parts_mixed digest parts.now }
+    ensures { result ≡ digest_of_parts digest parts.now }
 {
     match parts.kept() {
         Kept::One(part) => mix_part(digest, part),
@@ -129,7 +129,7 @@ fn mix_parts(digest: u64, parts: &Parts) -> u64
 }
 
 fn mix_slice(first: u64, updates: &[Parts]) -> u64
-    ensures { result ≡ updates_mixed first updates.now }
+    ensures { result ≡ digest_of_updates first updates.now }
 {
     let mut digest = first;
     for parts in updates {
@@ -140,21 +140,21 @@ fn mix_slice(first: u64, updates: &[Parts]) -> u64
 
 #[tactic(auto, using(crate::proofs::DigestLemmas::updates_joined))]
 fn mix_updates(digest: u64, updates: &VecDeque<Parts>) -> u64
-    ensures { result ≡ updates_ended digest updates.now.items }
+    ensures { result ≡ digest_of_update_list digest updates.now.items }
 {
     let (front, back) = updates.as_slices();
     mix_end(mix_slice(mix_slice(digest, front), back))
 }
 
 fn mix_time(digest: u64, entry: &Future) -> u64
-    ensures { result ≡ time_mixed digest entry.now }
+    ensures { result ≡ digest_of_time digest entry.now }
 {
-    let woken = mix_set(mix(digest, entry.time), &entry.processes);
-    mix_updates(woken, &entry.updates)
+    let with_woken = mix_set(mix(digest, entry.time), &entry.processes);
+    mix_updates(with_woken, &entry.updates)
 }
 
 fn mix_future(first: u64, future: &[Future]) -> u64
-    ensures { result ≡ future_mixed first future.now }
+    ensures { result ≡ digest_of_future first future.now }
 {
     let mut digest = first;
     for entry in future {
@@ -164,7 +164,7 @@ fn mix_future(first: u64, future: &[Future]) -> u64
 }
 
 fn mix_last(digest: u64, last: Option<u32>) -> u64
-    ensures { result ≡ last_mixed digest last }
+    ensures { result ≡ digest_of_last digest last }
 {
     match last {
         None => mix_end(digest),
@@ -172,24 +172,27 @@ fn mix_last(digest: u64, last: Option<u32>) -> u64
     }
 }
 
-fn mix_acting(digest: u64, queue: &Queue) -> u64
-    ensures { result ≡ acting_mixed digest queue.now }
+fn mix_processes_ready(digest: u64, queue: &Queue) -> u64
+    ensures { result ≡ digest_of_processes_ready digest queue.now }
 {
     let active = mix_set(mix_last(digest, queue.last), &queue.active);
     mix_set(active, &queue.inactive)
 }
 
-fn mix_waiting(digest: u64, queue: &Queue) -> u64
-    ensures { result ≡ waiting_mixed digest queue.now }
+fn mix_events(digest: u64, queue: &Queue) -> u64
+    ensures { result ≡ digest_of_events digest queue.now }
 {
     let updates = mix_updates(mix_updates(digest, &queue.activated), &queue.posted);
     mix_places(updates, &queue.strobes)
 }
 
 fn mix_queue(digest: u64, queue: &Queue) -> u64
-    ensures { result ≡ queue_mixed digest queue.now }
+    ensures { result ≡ digest_of_queue digest queue.now }
 {
-    mix_future(mix_waiting(mix_acting(digest, queue), queue), &queue.future)
+    mix_future(
+        mix_events(mix_processes_ready(digest, queue), queue),
+        &queue.future,
+    )
 }
 
 /// A hash is fed one number made of the time, the values, where the processes stand and what the queue holds.

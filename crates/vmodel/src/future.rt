@@ -2,7 +2,7 @@
 
 ghost use Rattle.std.specs.Prelude.{◌≡◌, ◌<◌, ◌≤◌, true, length, OnOk, OnErr, IfOk, false, slice_get};
 ghost use Rattle.std.specs.Option.{ForSome};
-ghost use Rattle.vmodel.specs.Queue.{waking, updating, empty_slot, later_at};
+ghost use Rattle.vmodel.specs.Queue.{slot_with_sleeper, slot_with_update, empty_slot, later_at};
 ghost use Rattle.vmodel.specs.Inner.{place_of_time, SomeIs, NoneIs};
 
 use crate::part::Parts;
@@ -41,7 +41,7 @@ fn stands_at(future: &[Future], place: usize, time: u64) -> bool
 // A future time that holds one process to wake, or none.
 fn new_future(alloc: Global, time: u64, sleeper: Option<u32>) -> Future
     requires { ForSome sleeper (λ p. p < 256) }
-    ensures { result ≡ (time, waking sleeper empty_slot) }
+    ensures { result ≡ (time, slot_with_sleeper sleeper empty_slot) }
 {
     let mut processes = ProcessSet::new();
     if let Some(process) = sleeper {
@@ -57,7 +57,7 @@ fn new_future(alloc: Global, time: u64, sleeper: Option<u32>) -> Future
 // One more process to wake at the future time of this place.
 fn wake_with(entry: &mut Future, sleeper: Option<u32>)
     requires { ForSome sleeper (λ p. p < 256) }
-    ensures { entry.new ≡ (entry.old.0, waking sleeper entry.old.1) }
+    ensures { entry.new ≡ (entry.old.0, slot_with_sleeper sleeper entry.old.1) }
 {
     if let Some(process) = sleeper {
         entry.processes.insert(process);
@@ -72,7 +72,7 @@ pub(crate) fn wake_at(
     sleeper: Option<u32>,
 ) -> Result<(), NoMemory>
     requires { ForSome sleeper (λ p. p < 256) }
-    ensures ok { OnOk result (future.new.items ≡ later_at time (waking sleeper) future.old.items) }
+    ensures ok { OnOk result (future.new.items ≡ later_at time (slot_with_sleeper sleeper) future.old.items) }
     ensures err { OnErr result (future.new.items ≡ future.old.items) }
 {
     let place = place_among(future, time);
@@ -88,7 +88,7 @@ pub(crate) fn wake_at(
 
 // A future time that holds one update.
 fn updating_future(alloc: Global, time: u64, parts: Parts) -> Result<Future, NoMemory>
-    ensures { IfOk result (λ entry. entry ≡ (time, updating parts empty_slot)) }
+    ensures { IfOk result (λ entry. entry ≡ (time, slot_with_update parts empty_slot)) }
 {
     let mut updates = VecDeque::new(alloc);
     updates.push_back(parts)?;
@@ -101,7 +101,7 @@ fn updating_future(alloc: Global, time: u64, parts: Parts) -> Result<Future, NoM
 
 // One more update at the future time of this place, behind the others.
 fn update_with(entry: &mut Future, parts: Parts) -> Result<(), NoMemory>
-    ensures ok { OnOk result (entry.new ≡ (entry.old.0, updating parts entry.old.1)) }
+    ensures ok { OnOk result (entry.new ≡ (entry.old.0, slot_with_update parts entry.old.1)) }
     ensures err { OnErr result (entry.new ≡ entry.old) }
 {
     entry.updates.push_back(parts)?;
@@ -110,7 +110,7 @@ fn update_with(entry: &mut Future, parts: Parts) -> Result<(), NoMemory>
 
 /// One more update at a time, which becomes a future time also where there is none. After want of memory the future is as it was.
 pub(crate) fn post_at(future: &mut Vec<Future>, time: u64, parts: Parts) -> Result<(), NoMemory>
-    ensures ok { OnOk result (future.new.items ≡ later_at time (updating parts) future.old.items) }
+    ensures ok { OnOk result (future.new.items ≡ later_at time (slot_with_update parts) future.old.items) }
     ensures err { OnErr result (future.new.items ≡ future.old.items) }
 {
     let place = place_among(future, time);

@@ -8,8 +8,8 @@ use std::marker::Model;
 use vdesign::dump::DumpCommand;
 use vdesign::print::Text;
 
-/// How finely processes take turns (11.4.2): in grain process one that can go on does so alone, in grain
-/// statement any other may come before it.
+/// How finely processes interleave (11.4.2), the granularity of what is atomic: in grain process one that
+/// can go on does so alone, in grain statement any other may come before it.
 #[derive(Clone, Copy, Debug)]
 pub enum Grain {
     Process,

@@ -5,12 +5,12 @@
 
 pub mod choice;
 mod choices;
-pub mod deed;
+mod continuation;
 mod digest;
+pub mod effect;
 mod future;
 pub mod history;
 mod law;
-mod left;
 mod open;
 pub mod part;
 pub mod process;
@@ -29,4 +29,4 @@ pub use law::run_law;
 pub use open::opening;
 pub use shown::{pieces_at, put_items, put_slot_end};
 pub use state::SlowState;
-pub use step::{moment_at, slow_step, slow_width};
+pub use step::{environment_at, slow_step, slow_width};

@@ -1,10 +1,10 @@
 // What a process stands at: what it has left, the value that it holds, and where it waits (IEEE 1364-2005, clause 9).
 
 ghost use Rattle.std.specs.Prelude.{◌≡◌, ◌+◌, ◌≤◌, reverse, length, slice_get, vec_len, vec_capacity, IfOk};
-ghost use Rattle.vmodel.specs.Step.{spots, place_of};
+ghost use Rattle.vmodel.specs.Step.{frames, place_of};
 ghost use Rattle.vmodel.specs.Run.{opening_process};
 
-use crate::left::Left;
+use crate::continuation::Continuation;
 use basis::NoMemory;
 use std::alloc::Global;
 use std::marker::Model;
@@ -12,60 +12,60 @@ use vbits::Vec4;
 
 /// One thing that a process has left.
 #[derive(Clone, Copy, Debug)]
-pub enum Spot {
+pub enum Frame {
     /// The action at this place of the design's table.
-    Doing(usize),
+    Executing(usize),
     /// The `repeat` at this place, with so many turns left: 1 at least (9.6).
-    Turning(usize, u64),
+    Repeating(usize, u64),
     /// What the suspended assignment at this place does with the value that its process holds (9.7.7).
     Writing(usize),
 }
 
 /// Two are equal where they hold the same.
-impl PartialEq for Spot {
+impl PartialEq for Frame {
     ghost use Rattle.std.specs.Cmp.{partial_equiv_from_equiv};
-    ghost use Rattle.vmodel.specs.Same.{spot_same};
-    ghost use Rattle.vmodel.specs.SameLaws.{spots_equivalent};
+    ghost use Rattle.vmodel.specs.Same.{frame_same};
+    ghost use Rattle.vmodel.specs.SameLaws.{frames_equivalent};
 
-    ghost eq = { spot_same };
+    ghost eq = { frame_same };
 
-    ghost laws = { partial_equiv_from_equiv spots_equivalent };
+    ghost laws = { partial_equiv_from_equiv frames_equivalent };
 
-    fn eq(&self, other: &Spot) -> bool {
+    fn eq(&self, other: &Frame) -> bool {
         match (self, other) {
-            (Spot::Doing(place), Spot::Doing(same)) => place == same,
-            (Spot::Turning(place, turns), Spot::Turning(same, like)) => {
+            (Frame::Executing(place), Frame::Executing(same)) => place == same,
+            (Frame::Repeating(place, turns), Frame::Repeating(same, like)) => {
                 place == same && turns == like
             }
-            (Spot::Writing(place), Spot::Writing(same)) => place == same,
+            (Frame::Writing(place), Frame::Writing(same)) => place == same,
             _ => false,
         }
     }
 }
 
-impl Eq for Spot {
-    ghost use Rattle.vmodel.specs.SameLaws.{spots_equivalent};
+impl Eq for Frame {
+    ghost use Rattle.vmodel.specs.SameLaws.{frames_equivalent};
 
-    ghost laws = { spots_equivalent };
+    ghost laws = { frames_equivalent };
 }
 
-/// What a process stands at. A clause sees the spots that are left first one first.
+/// What a process stands at. A clause sees the frames that are left first one first.
 #[derive(Drop)]
 pub struct Process {
-    pub(crate) left: Left,
+    pub(crate) continuation: Continuation,
     pub(crate) held: Option<Vec4>,
     pub(crate) waits: Option<usize>,
 }
 
 impl Model for Process {
     ghost use Rattle.vmodel.specs.State as state;
-    ghost use Rattle.vmodel.specs.InnerLeft.{IsWhole, left_spots};
+    ghost use Rattle.vmodel.specs.InnerContinuation.{IsWhole, continuation_frames};
 
     ghost Value = { state.Process };
 
-    ghost view = { λ p. record { left = left_spots p.left; held = p.held; waits = p.waits } };
+    ghost view = { λ p. record { continuation = continuation_frames p.continuation; held = p.held; waits = p.waits } };
 
-    ghost invariant = { λ p. IsWhole p.left };
+    ghost invariant = { λ p. IsWhole p.continuation };
 }
 
 /// Two are equal where they hold the same.
@@ -80,7 +80,7 @@ impl PartialEq for Process {
 
     fn eq(&self, other: &Process) -> bool {
         let held = (&self.held, &self.waits);
-        held == (&other.held, &other.waits) && self.left.is_like(&other.left)
+        held == (&other.held, &other.waits) && self.continuation.is_like(&other.continuation)
     }
 }
 
@@ -90,15 +90,15 @@ impl Eq for Process {
     ghost laws = { processes_equivalent };
 }
 
-impl Spot {
+impl Frame {
     /// The place in the design's table of the action that it is at.
     pub fn place(self) -> usize
         ensures { result ≡ place_of self }
     {
         match self {
-            Spot::Doing(place) => place,
-            Spot::Turning(place, _) => place,
-            Spot::Writing(place) => place,
+            Frame::Executing(place) => place,
+            Frame::Repeating(place, _) => place,
+            Frame::Writing(place) => place,
         }
     }
 }
@@ -109,17 +109,17 @@ impl Process {
         ensures { IfOk result (λ process. process ≡ opening_process places.now) }
     {
         Ok(Process {
-            left: Left::at(alloc, places)?,
+            continuation: Continuation::at(alloc, places)?,
             held: None,
             waits: None,
         })
     }
 
     /// What it comes to first, if something is left.
-    pub fn first(&self) -> Option<Spot>
-        ensures { result ≡ slice_get self.now.left 0 }
+    pub fn first(&self) -> Option<Frame>
+        ensures { result ≡ slice_get self.now.continuation 0 }
     {
-        self.left.first()
+        self.continuation.first()
     }
 
     /// A process that stands at the same.
@@ -127,7 +127,7 @@ impl Process {
         ensures { IfOk result (λ process. process ≡ self.now) }
     {
         Ok(Process {
-            left: self.left.copy(alloc)?,
+            continuation: self.continuation.copy(alloc)?,
             held: self.held,
             waits: self.waits,
         })
@@ -135,13 +135,13 @@ impl Process {
 }
 
 /// Puts the places before what is left, the first of them first. There is room for them.
-pub(crate) fn put_spots(left: &mut Vec<Spot>, places: &[usize])
-    requires { vec_len left.old + length places.now ≤ vec_capacity left.old }
-    ensures { reverse left.new.items ≡ spots places.now (reverse left.old.items) }
+pub(crate) fn put_frames(continuation: &mut Vec<Frame>, places: &[usize])
+    requires { vec_len continuation.old + length places.now ≤ vec_capacity continuation.old }
+    ensures { reverse continuation.new.items ≡ frames places.now (reverse continuation.old.items) }
 {
     let mut n = places.len();
     while n > 0 {
         n -= 1;
-        left.push_reserved(Spot::Doing(places[n]));
+        continuation.push_reserved(Frame::Executing(places[n]));
     }
 }

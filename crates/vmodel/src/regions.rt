@@ -2,11 +2,11 @@
 
 ghost use Rattle.std.specs.Prelude.{◌≡◌, ◌<◌, ◌==◌, ◌&&◌, OnOk, OnErr, IfOk, length, slice_get, Some};
 ghost use Rattle.std.specs.Option.{ForSome};
-ghost use Rattle.vmodel.specs.Queue.{waking, updating, later};
-ghost use Rattle.vmodel.specs.Inner.{time_after as time_after_of, unstrobed};
-ghost use Rattle.vmodel.specs.Step.{leaves, goes_on, sleeps, fares, posts as posts_update, strobing, settled, monitors_in, without_update, advanced_to};
+ghost use Rattle.vmodel.specs.Queue.{slot_with_sleeper, slot_with_update, later};
+ghost use Rattle.vmodel.specs.Inner.{time_after as time_after_of, without_last_strobe};
+ghost use Rattle.vmodel.specs.Step.{leaves, goes_on, sleeps, reschedule, posts as posts_update, with_strobe, with_queue_moves, monitors_in, without_update, with_advance};
 
-use crate::deed::{Deed, Fate, Post};
+use crate::effect::{Disposition, Effect, Post};
 use crate::future::{copy_future, post_at, wake_at};
 use crate::part::Parts;
 use crate::queue::{Future, Queue, copy_updates};
@@ -28,7 +28,7 @@ impl Queue {
     /// One more process to wake after a delay above 0; past the limit nothing is kept but that something is there.
     fn wake_after(&mut self, delay: u128, sleeper: Option<u32>) -> Result<(), NoMemory>
         requires { ForSome sleeper (λ p. p < 256) }
-        ensures ok { OnOk result (self.new ≡ later delay (waking sleeper) self.old) }
+        ensures ok { OnOk result (self.new ≡ later delay (slot_with_sleeper sleeper) self.old) }
         ensures err { OnErr result (self.new ≡ self.old) }
     {
         let Some(time) = self.time_after(delay) else {
@@ -40,7 +40,7 @@ impl Queue {
 
     /// One more update after a delay above 0; past the limit nothing is kept but that something is there.
     fn post_after(&mut self, delay: u128, parts: Parts) -> Result<(), NoMemory>
-        ensures ok { OnOk result (self.new ≡ later delay (updating parts) self.old) }
+        ensures ok { OnOk result (self.new ≡ later delay (slot_with_update parts) self.old) }
         ensures err { OnErr result (self.new ≡ self.old) }
     {
         let Some(time) = self.time_after(delay) else {
@@ -59,11 +59,11 @@ impl Queue {
     }
 
     /// The process goes on as the one that made the last step, or has ended, where nothing is left of it.
-    fn go_on(&mut self, process: u32, left: Option<u32>)
-        requires { ForSome left (λ p. p < 256) }
-        ensures { self.new ≡ goes_on process left self.old }
+    fn go_on(&mut self, process: u32, goes: Option<u32>)
+        requires { ForSome goes (λ p. p < 256) }
+        ensures { self.new ≡ goes_on process goes self.old }
     {
-        match left {
+        match goes {
             None => self.leave(process),
             Some(same) => self.last = Some(same),
         }
@@ -85,18 +85,23 @@ impl Queue {
     }
 
     /// What becomes of a process by its step. After want of memory the queue is as it was.
-    fn fare(&mut self, process: u32, fate: Fate, left: Option<u32>) -> Result<(), NoMemory>
-        requires { ForSome left (λ p. p < 256) }
-        ensures ok { OnOk result (self.new ≡ fares process fate left self.old) }
+    fn reschedule(
+        &mut self,
+        process: u32,
+        disposition: Disposition,
+        goes: Option<u32>,
+    ) -> Result<(), NoMemory>
+        requires { ForSome goes (λ p. p < 256) }
+        ensures ok { OnOk result (self.new ≡ reschedule process disposition goes self.old) }
         ensures err { OnErr result (self.new ≡ self.old) }
     {
-        match fate {
-            Fate::GoesOn => self.go_on(process, left),
-            Fate::Sleeps(delay) => {
-                self.sleep(delay, left)?;
+        match disposition {
+            Disposition::Runnable => self.go_on(process, goes),
+            Disposition::Delayed(delay) => {
+                self.sleep(delay, goes)?;
                 self.leave(process);
             }
-            Fate::Waits(_) => self.leave(process),
+            Disposition::Waiting(_) => self.leave(process),
         }
         Ok(())
     }
@@ -120,43 +125,43 @@ impl Queue {
         process: u32,
         delay: u128,
         post: &Post,
-        left: Option<u32>,
+        goes: Option<u32>,
     ) -> Result<(), NoMemory>
-        requires { ForSome left (λ p. p < 256) }
+        requires { ForSome goes (λ p. p < 256) }
         ensures ok { OnOk result (self.new
-            ≡ fares process (Fate.Sleeps delay) left (posts_update (Some post.now) self.old)) }
+            ≡ reschedule process (Disposition.Delayed delay) goes (posts_update (Some post.now) self.old)) }
         ensures err { OnErr result (self.new ≡ self.old) }
     {
         let mut after = self.copy(*self.future.allocator())?;
         after.post(post)?;
-        after.fare(process, Fate::Sleeps(delay), left)?;
+        after.reschedule(process, Disposition::Delayed(delay), goes)?;
         mem::swap(self, &mut after);
         Ok(())
     }
 
     /// What becomes of a process and of what its step posted. After want of memory the queue is as it was.
-    fn post_and_fare(
+    fn post_and_reschedule(
         &mut self,
         process: u32,
-        fate: Fate,
+        disposition: Disposition,
         posted: &Option<Post>,
-        left: Option<u32>,
+        goes: Option<u32>,
     ) -> Result<(), NoMemory>
-        requires { ForSome left (λ p. p < 256) }
+        requires { ForSome goes (λ p. p < 256) }
         ensures ok { OnOk result
-            (self.new ≡ fares process fate left (posts_update posted.now self.old)) }
+            (self.new ≡ reschedule process disposition goes (posts_update posted.now self.old)) }
         ensures err { OnErr result (self.new ≡ self.old) }
     {
         let Some(post) = posted else {
-            return self.fare(process, fate, left);
+            return self.reschedule(process, disposition, goes);
         };
-        match fate {
-            Fate::GoesOn => {
+        match disposition {
+            Disposition::Runnable => {
                 self.post(post)?;
-                self.go_on(process, left);
+                self.go_on(process, goes);
             }
-            Fate::Sleeps(delay) => self.post_and_sleep(process, delay, post, left)?,
-            Fate::Waits(_) => {
+            Disposition::Delayed(delay) => self.post_and_sleep(process, delay, post, goes)?,
+            Disposition::Waiting(_) => {
                 self.post(post)?;
                 self.leave(process);
             }
@@ -166,7 +171,7 @@ impl Queue {
 
     // A monitor event stands behind those created before. After want of memory the queue is as it was.
     fn strobe(&mut self, place: usize) -> Result<(), NoMemory>
-        ensures ok { OnOk result (self.new ≡ strobing (Some place) self.old) }
+        ensures ok { OnOk result (self.new ≡ with_strobe (Some place) self.old) }
         ensures err { OnErr result (self.new ≡ self.old) }
     {
         self.strobes.push(place)?;
@@ -175,7 +180,7 @@ impl Queue {
 
     // The last monitor event is gone.
     fn take_strobe_back(&mut self)
-        ensures { self.new ≡ unstrobed self.old }
+        ensures { self.new ≡ without_last_strobe self.old }
     {
         self.strobes.pop();
     }
@@ -185,30 +190,35 @@ impl Queue {
     pub(crate) fn move_by(
         &mut self,
         process: u32,
-        deed: &Deed,
-        left: Option<u32>,
+        effect: &Effect,
+        goes: Option<u32>,
     ) -> Result<(), NoMemory>
-        requires { ForSome left (λ p. p < 256) }
-        ensures ok { OnOk result (self.new ≡ fares process deed.now.fate left
-            (posts_update deed.now.posted (strobing deed.now.strobed self.old))) }
+        requires { ForSome goes (λ p. p < 256) }
+        ensures ok { OnOk result (self.new ≡ reschedule process effect.now.disposition goes
+            (posts_update effect.now.posted (with_strobe effect.now.strobed self.old))) }
         ensures err { OnErr result (self.new ≡ self.old) }
     {
-        let Some(place) = deed.strobed else {
-            return self.post_and_fare(process, deed.fate, &deed.posted, left);
+        let Some(place) = effect.strobed else {
+            return self.post_and_reschedule(process, effect.disposition, &effect.posted, goes);
         };
         self.strobe(place)?;
-        let moved = self.post_and_fare(process, deed.fate, &deed.posted, left);
-        if moved.is_err() {
+        let process_with_move = self.post_and_reschedule(
+            process,
+            effect.disposition,
+            &effect.posted,
+            goes,
+        );
+        if process_with_move.is_err() {
             self.take_strobe_back();
         }
-        moved
+        process_with_move
     }
 
     /// The region moves (11.4): while something is active it stays, else what is inactive becomes active, else what is
     /// posted is activated, else the slot has ended. The list is then that of the monitor events that run, in order of creation, and
     /// else empty.
     pub(crate) fn settle(&mut self, monitors: &mut Vec<usize>)
-        ensures queue { self.new ≡ settled self.old }
+        ensures queue { self.new ≡ with_queue_moves self.old }
         ensures monitors { monitors.new.items ≡ monitors_in self.old }
     {
         monitors.clear();
@@ -227,7 +237,7 @@ impl Queue {
     /// Takes the first activated update out, if there is one.
     pub(crate) fn take_update(&mut self) -> Option<Parts>
         ensures taken { result ≡ slice_get self.old.activated 0 }
-        ensures left { self.new ≡ without_update self.old.activated self.old }
+        ensures goes { self.new ≡ without_update self.old.activated self.old }
     {
         match self.activated.pop_front() {
             None => None,
@@ -240,7 +250,7 @@ impl Queue {
 
     /// The time goes on to the next future time, if there is one.
     pub(crate) fn advance(&mut self)
-        ensures { self.new ≡ advanced_to self.old.future self.old }
+        ensures { self.new ≡ with_advance self.old.future self.old }
     {
         if self.future.is_empty() {
             return;

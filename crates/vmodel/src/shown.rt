@@ -3,11 +3,11 @@
 ghost use Rattle.std.specs.Prelude.{◌≡◌, ◌++◌, IfOk, OnOk, OnErr, slice_get};
 ghost use Rattle.std.specs.Option.{option_to_list};
 ghost use Rattle.vdesign.specs.declared.action.Action.{Action};
-ghost use Rattle.vmodel.specs.InnerStep.{turn_to};
+ghost use Rattle.vmodel.specs.InnerStep.{transition_to};
 ghost use Rattle.vmodel.specs.Step as spec;
 ghost use Rattle.vmodel.specs.Step.{slot_end_of, items_of, HasFront};
 
-use crate::deed::{Deed, Shown};
+use crate::effect::{Effect, Shown};
 use crate::history::Item;
 use crate::state::SlowState;
 use basis::NoMemory;
@@ -43,7 +43,11 @@ impl SlowState {
         ensures { IfOk result (λ item. item ≡ spec.line_item design.now self.now place) }
     {
         let mut bytes = Vec::new(alloc);
-        put_line(&mut bytes, pieces_at(design, place), &self.moment(design))?;
+        put_line(
+            &mut bytes,
+            pieces_at(design, place),
+            &self.environment(design),
+        )?;
         Ok(Item::Line(Text::new(bytes)))
     }
 
@@ -129,15 +133,15 @@ pub fn put_items(
     items: &mut Vec<Item>,
     design: &Design,
     state: &SlowState,
-    deed: &Deed,
+    effect: &Effect,
     monitors: &[usize],
 ) -> Result<(), NoMemory>
     ensures ok { OnOk result (items.new.items
-        ≡ items.old.items ++ items_of design.now (turn_to state.now deed.now monitors.now)) }
+        ≡ items.old.items ++ items_of design.now (transition_to state.now effect.now monitors.now)) }
     ensures front { OnErr result (HasFront items.old.items
-        (items_of design.now (turn_to state.now deed.now monitors.now)) items.new.items) }
+        (items_of design.now (transition_to state.now effect.now monitors.now)) items.new.items) }
 {
-    if let Some(shown) = deed.shown {
+    if let Some(shown) = effect.shown {
         put_shown(items, design, state, shown)?;
     }
     put_end(items, design, state, monitors)

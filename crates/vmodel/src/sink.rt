@@ -5,7 +5,7 @@ ghost use Rattle.vmodel.specs.declared.history.Item.{Item};
 
 use crate::history::Item;
 
-/// What takes the items of a run, in order, some at a time.
+/// A sink of histories: what takes the items of a run, in order, some at a time.
 pub trait Sink {
     type Fault: Drop;
 

@@ -2,22 +2,22 @@
 
 ghost use Rattle.std.specs.Prelude.{◌≡◌, ℕ, List, ◌<◌, ◌++◌, [], IfOk, OnOk, OnErr, IfSome, IfNone, length, slice_get, slice_set, drop};
 ghost use Rattle.std.specs.Option.{option_to_list};
-ghost use Rattle.vmodel.specs.Step.{spots, going, process_by, fares, posts, woken, with_moves, monitors_of, complete, unmoved, left_of, moment_of, process_turn, turn_of, next, slot_end_of, items_of};
-ghost use Rattle.vmodel.specs.Parts.{write, written};
-ghost use Rattle.vmodel.specs.declared.process.Spot.{Spot};
+ghost use Rattle.vmodel.specs.Step.{frames, process_to_continue, process_by, reschedule, posts, with_woken, with_moves, monitors_of, complete, no_transition, continuation_of, environment_of, process_transition, transition_of, next, slot_end_of, items_of};
+ghost use Rattle.vmodel.specs.Parts.{write, with_parts};
+ghost use Rattle.vmodel.specs.declared.process.Frame.{Frame};
 ghost use Rattle.vdesign.specs.Design.{Design};
 ghost use Rattle.vmodel.specs.Step as spec;
 ghost use Rattle.vmodel.specs.Choices.{choices as choices_of};
 ghost use Rattle.vmodel.specs.Inner.{IsFirstAction, first_place};
-ghost use Rattle.vmodel.specs.InnerLeft.{IsWhole, left_spots};
-ghost use Rattle.vmodel.specs.InnerStep.{moved_on, ended, behind, left_in, held_in, moved, moved_by, turn_to, with_moved};
+ghost use Rattle.vmodel.specs.InnerContinuation.{IsWhole, continuation_frames};
+ghost use Rattle.vmodel.specs.InnerStep.{state_with_move, with_cause, behind, continuation_in, held_in, process_with_move, queue_with_move, transition_to, processes_with_move};
 
 use crate::choice::Choice;
-use crate::deed::{Deed, Doing, Fate, deed_at};
+use crate::continuation::Continuation;
+use crate::effect::{Disposition, Effect, Execution, effect_at};
 use crate::history::Item;
-use crate::left::Left;
 use crate::part::{Kept, Part, Parts};
-use crate::process::{Process, Spot};
+use crate::process::{Frame, Process};
 use crate::queue::Queue;
 use crate::shown::put_items;
 use crate::state::SlowState;
@@ -28,32 +28,37 @@ use std::alloc::Global;
 use vbits::Vec4;
 use vdesign::action::Action;
 use vdesign::design::Design;
-use vvalue::moment::Moment;
+use vvalue::environment::Environment;
 
 // The process, where something comes next or stands behind the first that was left.
-#[tactic(auto, using(crate::proofs::LeftLemmas::goes_behind, crate::proofs::LeftLemmas::goes_before, crate::proofs::LeftLemmas::goes_nowhere))]
-fn goes_on_after(number: u32, left: &Left, next: &[usize]) -> Option<u32>
-    requires whole { IsWhole left.now }
-    requires some { 0 < length (left_spots left.now) }
-    ensures { result ≡ going number (spots next.now (drop 1 (left_spots left.now))) }
+#[tactic(auto, using(crate::proofs::ContinuationLemmas::goes_behind, crate::proofs::ContinuationLemmas::goes_before, crate::proofs::ContinuationLemmas::goes_nowhere))]
+fn goes_on_after(number: u32, continuation: &Continuation, next: &[usize]) -> Option<u32>
+    requires whole { IsWhole continuation.now }
+    requires some { 0 < length (continuation_frames continuation.now) }
+    ensures { result ≡ process_to_continue number (frames next.now (drop 1 (continuation_frames continuation.now))) }
 {
-    if left.len() > 1 {
+    if continuation.len() > 1 {
         return Some(number);
     }
     if next.len() == 0 { None } else { Some(number) }
 }
 
 // The process, where it has something left behind a step.
-#[tactic(auto, using(crate::proofs::LeftLemmas::goes_again, crate::proofs::LeftLemmas::goes_rest))]
-fn goes_after(number: u32, left: &Left, then: Option<Spot>, next: &[usize]) -> Option<u32>
-    requires whole { IsWhole left.now }
-    requires some { 0 < length (left_spots left.now) }
-    ensures { result ≡ going number (spots next.now (behind then (drop 1 (left_spots left.now)))) }
+#[tactic(auto, using(crate::proofs::ContinuationLemmas::goes_again, crate::proofs::ContinuationLemmas::goes_rest))]
+fn goes_after(
+    number: u32,
+    continuation: &Continuation,
+    then: Option<Frame>,
+    next: &[usize],
+) -> Option<u32>
+    requires whole { IsWhole continuation.now }
+    requires some { 0 < length (continuation_frames continuation.now) }
+    ensures { result ≡ process_to_continue number (frames next.now (behind then (drop 1 (continuation_frames continuation.now)))) }
 {
     if then.is_some() {
         return Some(number);
     }
-    goes_on_after(number, left, next)
+    goes_on_after(number, continuation, next)
 }
 
 // The process has done what it did, and the queue has what becomes of it. After want of memory both are as they were.
@@ -61,37 +66,37 @@ fn move_process(
     process: &mut Process,
     queue: &mut Queue,
     number: u32,
-    then: Option<Spot>,
+    then: Option<Frame>,
     next: &[usize],
-    deed: &Deed,
+    effect: &Effect,
 ) -> Result<(), NoMemory>
     requires few { number < 256 }
-    requires some { 0 < length process.old.left }
-    ensures ok { OnOk result (process.new ≡ moved process.old.left then next.now deed.now) }
+    requires some { 0 < length process.old.continuation }
+    ensures ok { OnOk result (process.new ≡ process_with_move process.old.continuation then next.now effect.now) }
     ensures queue { OnOk result
-        (queue.new ≡ moved_by number process.old.left then next.now deed.now queue.old) }
+        (queue.new ≡ queue_with_move number process.old.continuation then next.now effect.now queue.old) }
     ensures err { OnErr result (process.new ≡ process.old) }
     ensures err_queue { OnErr result (queue.new ≡ queue.old) }
 {
-    let left = &mut process.left;
-    left.own.reserve(next.len() + 1)?;
-    let goes = goes_after(number, left, then, next);
-    queue.move_by(number, deed, goes)?;
-    left.turn(then, next);
-    process.held = deed.held;
-    process.waits = waits_by(deed.fate, goes);
+    let continuation = &mut process.continuation;
+    continuation.own.reserve(next.len() + 1)?;
+    let goes = goes_after(number, continuation, then, next);
+    queue.move_by(number, effect, goes)?;
+    continuation.advance(then, next);
+    process.held = effect.held;
+    process.waits = waits_by(effect.disposition, goes);
     Ok(())
 }
 
 // Where a process waits from now on that goes on, or has ended.
-fn waits_by(fate: Fate, goes: Option<u32>) -> Option<usize>
-    ensures { (number : ℕ) (left : List Spot) → goes ≡ going number left →
-        result ≡ spec.waits_by fate left }
+fn waits_by(disposition: Disposition, goes: Option<u32>) -> Option<usize>
+    ensures { (number : ℕ) (continuation : List Frame) → goes ≡ process_to_continue number continuation →
+        result ≡ spec.waits_by disposition continuation }
 {
-    match fate {
-        Fate::GoesOn => None,
-        Fate::Sleeps(_) => None,
-        Fate::Waits(place) => match goes {
+    match disposition {
+        Disposition::Runnable => None,
+        Disposition::Delayed(_) => None,
+        Disposition::Waiting(place) => match goes {
             None => None,
             Some(_) => Some(place),
         },
@@ -103,22 +108,22 @@ fn move_one(
     processes: &mut Vec<Process>,
     queue: &mut Queue,
     number: u32,
-    then: Option<Spot>,
+    then: Option<Frame>,
     next: &[usize],
-    deed: &Deed,
+    effect: &Effect,
 ) -> Result<(), NoMemory>
     requires few { number < 256 }
-    requires some { 0 < length (left_in processes.old.items number) }
+    requires some { 0 < length (continuation_in processes.old.items number) }
     ensures ok { OnOk result
-        (processes.new.items ≡ with_moved number processes.old.items then next.now deed.now) }
+        (processes.new.items ≡ processes_with_move number processes.old.items then next.now effect.now) }
     ensures queue { OnOk result
-        (queue.new ≡ moved_by number (left_in processes.old.items number) then next.now deed.now
+        (queue.new ≡ queue_with_move number (continuation_in processes.old.items number) then next.now effect.now
         queue.old) }
     ensures err { OnErr result (processes.new.items ≡ processes.old.items) }
     ensures err_queue { OnErr result (queue.new ≡ queue.old) }
 {
     let process = &mut processes[number as usize];
-    move_process(process, queue, number, then, next, deed)
+    move_process(process, queue, number, then, next, effect)
 }
 
 // A time in units in which delays are written (17.7.1).
@@ -132,11 +137,11 @@ fn written_time(time: u64, factor: u64) -> u64
 }
 
 /// What is known at a time, in units of the precision, where the variables have these values.
-pub fn moment_at<'m>(design: &'m Design, values: &'m [Vec4], time: u64) -> Moment<'m>
-    ensures { result ≡ spec.moment_at design.now values.now time }
+pub fn environment_at<'m>(design: &'m Design, values: &'m [Vec4], time: u64) -> Environment<'m>
+    ensures { result ≡ spec.environment_at design.now values.now time }
 {
     let factor = design.scale.factor();
-    Moment {
+    Environment {
         values,
         variables: &design.variables,
         time: written_time(time, factor),
@@ -158,16 +163,16 @@ impl SlowState {
     }
 
     // Nothing happens.
-    fn stay(&self, monitors: &mut Vec<usize>) -> Deed
-        ensures { turn_to self.now result monitors.new.items ≡ unmoved self.now }
+    fn stay(&self, monitors: &mut Vec<usize>) -> Effect
+        ensures { transition_to self.now result monitors.new.items ≡ no_transition self.now }
     {
         monitors.clear();
-        Deed::quiet()
+        Effect::quiet()
     }
 
     // What a process comes to first, if something is left.
-    fn spot_of(&self, number: u32) -> Option<Spot>
-        ensures { result ≡ slice_get (left_in self.now.processes number) 0 }
+    fn frame_of(&self, number: u32) -> Option<Frame>
+        ensures { result ≡ slice_get (continuation_in self.now.processes number) 0 }
     {
         self.processes.get(number as usize)?.first()
     }
@@ -181,23 +186,23 @@ impl SlowState {
 
     /// The place in the design's table of the action that a process comes to first, if there is one.
     pub fn place_of(&self, number: u32) -> Option<usize>
-        ensures { result ≡ first_place (left_in self.now.processes number) }
+        ensures { result ≡ first_place (continuation_in self.now.processes number) }
     {
-        Some(self.spot_of(number)?.place())
+        Some(self.frame_of(number)?.place())
     }
 
     // What a process comes to first, and the action there, if there is one.
-    fn action_of<'d>(&self, design: &'d Design, number: u32) -> Option<(Spot, &'d Action)>
-        ensures { IsFirstAction design.now.actions (left_in self.now.processes number) result }
+    fn action_of<'d>(&self, design: &'d Design, number: u32) -> Option<(Frame, &'d Action)>
+        ensures { IsFirstAction design.now.actions (continuation_in self.now.processes number) result }
     {
-        let spot = self.spot_of(number)?;
-        let action = design.actions.get(spot.place())?;
-        Some((spot, action))
+        let frame = self.frame_of(number)?;
+        let action = design.actions.get(frame.place())?;
+        Some((frame, action))
     }
 
     // One part is written, and what waits for a change by it goes on.
     fn write_one(&mut self, design: &Design, part: Part)
-        ensures { self.new ≡ woken design.now self.old.values None
+        ensures { self.new ≡ with_woken design.now self.old.values None
             (record self.old { values = write part self.old.values }) }
     {
         if let Some(change) = self.values.write(part) {
@@ -212,8 +217,8 @@ impl SlowState {
     // Several parts are written, and what waits for a change by them, or for the event that is triggered, goes on. A change is the
     // difference of a variable before and after all of them.
     fn write_many(&mut self, design: &Design, parts: &[Part], triggered: Option<usize>)
-        ensures { self.new ≡ woken design.now self.old.values triggered
-            (record self.old { values = written parts.now self.old.values }) }
+        ensures { self.new ≡ with_woken design.now self.old.values triggered
+            (record self.old { values = with_parts parts.now self.old.values }) }
     {
         let changes = Changes::Many {
             values: self.values.as_slice(),
@@ -230,8 +235,8 @@ impl SlowState {
 
     // Where nothing is written and no event is triggered, nobody is asked whether it waits for that.
     fn write_listed(&mut self, design: &Design, parts: &[Part], triggered: Option<usize>)
-        ensures { self.new ≡ woken design.now self.old.values triggered
-            (record self.old { values = written parts.now self.old.values }) }
+        ensures { self.new ≡ with_woken design.now self.old.values triggered
+            (record self.old { values = with_parts parts.now self.old.values }) }
     {
         if !parts.is_empty() || triggered.is_some() {
             self.write_many(design, parts, triggered);
@@ -240,8 +245,8 @@ impl SlowState {
 
     // What a step wrote is written, and what waits for a change by it, or for the event that it triggers, goes on.
     fn write(&mut self, design: &Design, wrote: &Parts, triggered: Option<usize>)
-        ensures { self.new ≡ woken design.now self.old.values triggered
-            (record self.old { values = written wrote.now self.old.values }) }
+        ensures { self.new ≡ with_woken design.now self.old.values triggered
+            (record self.old { values = with_parts wrote.now self.old.values }) }
     {
         match wrote.kept() {
             Kept::One(part) => match triggered {
@@ -253,23 +258,23 @@ impl SlowState {
     }
 
     // What is known now.
-    pub(crate) fn moment<'m>(&'m self, design: &'m Design) -> Moment<'m>
-        ensures { result ≡ moment_of design.now self.now }
+    pub(crate) fn environment<'m>(&'m self, design: &'m Design) -> Environment<'m>
+        ensures { result ≡ environment_of design.now self.now }
     {
-        moment_at(design, self.values.as_slice(), self.queue.time)
+        environment_at(design, self.values.as_slice(), self.queue.time)
     }
 
     // A process has done what it did, and the queue has what becomes of it.
     fn place(
         &mut self,
         number: u32,
-        then: Option<Spot>,
+        then: Option<Frame>,
         next: &[usize],
-        deed: &Deed,
+        effect: &Effect,
     ) -> Result<(), NoMemory>
         requires few { number < 256 }
-        requires some { 0 < length (left_in self.old.processes number) }
-        ensures ok { OnOk result (self.new ≡ moved_on number then next.now deed.now self.old) }
+        requires some { 0 < length (continuation_in self.old.processes number) }
+        ensures ok { OnOk result (self.new ≡ state_with_move number then next.now effect.now self.old) }
         ensures err { OnErr result (self.new ≡ self.old) }
     {
         move_one(
@@ -278,18 +283,18 @@ impl SlowState {
             number,
             then,
             next,
-            deed,
+            effect,
         )
     }
 
     // What the step wrote is written, it may end the run, and the regions move.
-    fn finish(&mut self, design: &Design, deed: &Deed, monitors: &mut Vec<usize>)
-        ensures { turn_to self.new deed.now monitors.new.items ≡ complete deed.now (ended deed.now.cause
-            (woken design.now self.old.values deed.now.triggered
-            (record self.old { values = written deed.now.wrote self.old.values }))) }
+    fn finish(&mut self, design: &Design, effect: &Effect, monitors: &mut Vec<usize>)
+        ensures { transition_to self.new effect.now monitors.new.items ≡ complete effect.now (with_cause effect.now.cause
+            (with_woken design.now self.old.values effect.now.triggered
+            (record self.old { values = with_parts effect.now.wrote self.old.values }))) }
     {
-        self.write(design, &deed.wrote, deed.triggered);
-        self.cause = deed.cause;
+        self.write(design, &effect.wrote, effect.triggered);
+        self.cause = effect.cause;
         self.close(monitors);
     }
 
@@ -299,46 +304,46 @@ impl SlowState {
         design: &Design,
         number: u32,
         monitors: &mut Vec<usize>,
-    ) -> Result<Deed, NoMemory>
+    ) -> Result<Effect, NoMemory>
         requires { number < 256 }
-        ensures ok { IfOk result (λ deed.
-            process_turn design.now number self.old ≡ turn_to self.new deed monitors.new.items) }
+        ensures ok { IfOk result (λ effect.
+            process_transition design.now number self.old ≡ transition_to self.new effect monitors.new.items) }
         ensures err { OnErr result (self.new ≡ self.old) }
     {
-        let Some((spot, action)) = self.action_of(design, number) else {
+        let Some((frame, action)) = self.action_of(design, number) else {
             return Ok(self.stay(monitors));
         };
         let alloc = *self.processes.allocator();
         let held = self.held_by(number);
-        let doing = deed_at(alloc, spot, action, held, &self.moment(design))?;
-        let Doing { next, then, deed } = doing;
-        self.place(number, then, next, &deed)?;
-        self.finish(design, &deed, monitors);
-        Ok(deed)
+        let execution = effect_at(alloc, frame, action, held, &self.environment(design))?;
+        let Execution { next, then, effect } = execution;
+        self.place(number, then, next, &effect)?;
+        self.finish(design, &effect, monitors);
+        Ok(effect)
     }
 
     // The first activated update is written (11.4.1).
-    fn update(&mut self, design: &Design, monitors: &mut Vec<usize>) -> Deed
-        ensures { turn_of design.now Choice.Update self.old
-            ≡ turn_to self.new result monitors.new.items }
+    fn update(&mut self, design: &Design, monitors: &mut Vec<usize>) -> Effect
+        ensures { transition_of design.now Choice.Update self.old
+            ≡ transition_to self.new result monitors.new.items }
     {
-        let mut deed = Deed::quiet();
+        let mut effect = Effect::quiet();
         if let Some(update) = self.queue.take_update() {
-            deed.wrote = update;
+            effect.wrote = update;
         }
-        self.write(design, &deed.wrote, None);
+        self.write(design, &effect.wrote, None);
         self.close(monitors);
-        deed
+        effect
     }
 
     // The time goes on to the next future time.
-    fn advance(&mut self, monitors: &mut Vec<usize>) -> Deed
-        ensures { (design : Design) → turn_of design Choice.Advance self.old
-            ≡ turn_to self.new result monitors.new.items }
+    fn advance(&mut self, monitors: &mut Vec<usize>) -> Effect
+        ensures { (design : Design) → transition_of design Choice.Advance self.old
+            ≡ transition_to self.new result monitors.new.items }
     {
         self.queue.advance();
         self.close(monitors);
-        Deed::quiet()
+        Effect::quiet()
     }
 
     /// The step of choice `i`, in place: one step of a process, the write of an update or the advance of the time, and the
@@ -350,9 +355,9 @@ impl SlowState {
         design: &Design,
         i: u32,
         monitors: &mut Vec<usize>,
-    ) -> Result<Deed, NoMemory>
-        ensures ok { IfOk result (λ deed.
-            next design.now self.old i ≡ turn_to self.new deed monitors.new.items) }
+    ) -> Result<Effect, NoMemory>
+        ensures ok { IfOk result (λ effect.
+            next design.now self.old i ≡ transition_to self.new effect monitors.new.items) }
         ensures err { OnErr result (self.new ≡ self.old) }
     {
         match self.choice(i) {
@@ -397,8 +402,8 @@ pub fn slow_step(
 {
     let mut after = state.copy(alloc)?;
     let mut monitors = Vec::new(alloc);
-    let deed = after.step(design, i, &mut monitors)?;
+    let effect = after.step(design, i, &mut monitors)?;
     let mut items = Vec::new(alloc);
-    put_items(&mut items, design, &after, &deed, &monitors)?;
+    put_items(&mut items, design, &after, &effect, &monitors)?;
     Ok((after, items))
 }

@@ -13,7 +13,7 @@ use vbits::Vec4;
 use vdesign::action::{Target, Targets};
 use vdesign::expression::{Bounds, Expression};
 use vvalue::asked::right_side;
-use vvalue::moment::{Moment, bounds_of, value_at};
+use vvalue::environment::{Environment, bounds_of, value_at};
 use vvalue::target::{both_fall, leftwards, place_at, target_size, targets_size};
 
 /// The most bits of a value.
@@ -46,11 +46,16 @@ fn bits_at(variable: u32, old: Vec4, place: Option<u64>, value: Vec4) -> Option<
 }
 
 // What a part of a variable gets of its letters.
-fn bits_of(variable: u32, selected: Bounds, value: Vec4, moment: &Moment<'_>) -> Option<Part>
+fn bits_of(
+    variable: u32,
+    selected: Bounds,
+    value: Vec4,
+    environment: &Environment<'_>,
+) -> Option<Part>
     ensures { option_to_list result
-        ≡ spec.parts_of moment.now (Target.Part variable selected) value.letters }
+        ≡ spec.parts_of environment.now (Target.Part variable selected) value.letters }
 {
-    let bounds = bounds_of(moment, variable);
+    let bounds = bounds_of(environment, variable);
     let falling = both_fall(bounds, selected);
     let missing = leftwards(falling, bounds.right, selected.right);
     if missing >= value.len() {
@@ -58,32 +63,36 @@ fn bits_of(variable: u32, selected: Bounds, value: Vec4, moment: &Moment<'_>) ->
     }
     let low = leftwards(falling, selected.right, bounds.right);
     let letters = value.select(value.len() - 1, missing);
-    bits_from(variable, value_at(moment, variable), low, letters)
+    bits_from(variable, value_at(environment, variable), low, letters)
 }
 
 // What a target gets of its letters.
-fn part_of(target: &Target, value: Vec4, moment: &Moment<'_>) -> Option<Part>
-    ensures { option_to_list result ≡ spec.parts_of moment.now target.now value.letters }
+fn part_of(target: &Target, value: Vec4, environment: &Environment<'_>) -> Option<Part>
+    ensures { option_to_list result ≡ spec.parts_of environment.now target.now value.letters }
 {
     match target {
         Target::Whole(variable) => Some(Part::Whole {
             variable: *variable,
-            value: value.with_sign(value_at(moment, *variable).signed()),
+            value: value.with_sign(value_at(environment, *variable).signed()),
         }),
         Target::Bit { variable, index } => {
-            let place = place_at(moment, *variable, index);
-            bits_at(*variable, value_at(moment, *variable), place, value)
+            let place = place_at(environment, *variable, index);
+            bits_at(*variable, value_at(environment, *variable), place, value)
         }
-        Target::Part { variable, bounds } => bits_of(*variable, *bounds, value, moment),
+        Target::Part { variable, bounds } => bits_of(*variable, *bounds, value, environment),
     }
 }
 
 /// The parts that an assignment to one target writes (6.2).
-pub fn assigned_one(target: &Target, expression: &Expression, moment: &Moment<'_>) -> Parts
-    ensures { result ≡ spec.assigned moment.now (target.now ∷ []) expression.now }
+pub fn assigned_one(
+    target: &Target,
+    expression: &Expression,
+    environment: &Environment<'_>,
+) -> Parts
+    ensures { result ≡ spec.assigned_parts environment.now (target.now ∷ []) expression.now }
 {
-    let value = right_side(expression, target_size(target, moment), moment);
-    Parts::optional(part_of(target, value, moment))
+    let value = right_side(expression, target_size(target, environment), environment);
+    Parts::optional(part_of(target, value, environment))
 }
 
 // Puts a part behind others, where there is one.
@@ -97,23 +106,23 @@ fn put_part(parts: &mut Vec<Part>, part: Option<Part>) -> Result<(), NoMemory>
 }
 
 // Each target gets as many letters as it has bits.
-fn shared(
+fn shared_parts(
     alloc: Global,
     targets: &[Target],
     value: Vec4,
-    moment: &Moment<'_>,
+    environment: &Environment<'_>,
 ) -> Result<Vec<Part>, NoMemory>
-    requires { length value.letters ≡ size_of_all moment.now targets.now }
-    ensures { IfOk result (λ parts. parts.items ≡ spec.shared moment.now targets.now
+    requires { length value.letters ≡ size_of_all environment.now targets.now }
+    ensures { IfOk result (λ parts. parts.items ≡ spec.shared_parts environment.now targets.now
         value.letters) }
 {
     let mut parts = Vec::new(alloc);
     let mut behind = value.len();
     for target in targets {
-        let size = target_size(target, moment);
+        let size = target_size(target, environment);
         behind -= size;
         let letters = value.select(behind + size - 1, behind);
-        put_part(&mut parts, part_of(target, letters, moment))?;
+        put_part(&mut parts, part_of(target, letters, environment))?;
     }
     Ok(parts)
 }
@@ -125,26 +134,28 @@ fn assigned_all(
     targets: &[Target],
     size: u32,
     expression: &Expression,
-    moment: &Moment<'_>,
+    environment: &Environment<'_>,
 ) -> Result<Parts, NoMemory>
     requires some { 1 ≤ size }
-    requires exact { min 65 size ≡ min 65 (size_of_all moment.now targets.now) }
+    requires exact { min 65 size ≡ min 65 (size_of_all environment.now targets.now) }
     ensures { IfOk result
-        (λ parts. parts ≡ spec.assigned moment.now targets.now expression.now) }
+        (λ parts. parts ≡ spec.assigned_parts environment.now targets.now expression.now) }
 {
     if size > WIDEST {
         return Ok(Parts::none());
     }
-    let value = right_side(expression, size, moment);
-    Parts::of_list(shared(alloc, targets, value, moment)?)
+    let value = right_side(expression, size, environment);
+    Parts::of_list(shared_parts(alloc, targets, value, environment)?)
 }
 
 /// The value that a suspended assignment holds (9.7.7).
-pub fn held_value(targets: &Targets, expression: &Expression, moment: &Moment<'_>) -> Vec4
-    ensures { result ≡ spec.held_value moment.now targets.now expression.now }
+pub fn held_value(targets: &Targets, expression: &Expression, environment: &Environment<'_>) -> Vec4
+    ensures { result ≡ spec.held_value environment.now targets.now expression.now }
 {
-    let size = targets_size(targets.as_slice(), moment).min(WIDEST).max(1);
-    right_side(expression, size, moment)
+    let size = targets_size(targets.as_slice(), environment)
+        .min(WIDEST)
+        .max(1);
+    right_side(expression, size, environment)
 }
 
 // The parts that it writes of the value that it holds, to targets of so many bits.
@@ -154,26 +165,26 @@ fn resumed_all(
     targets: &[Target],
     size: u32,
     held: Vec4,
-    moment: &Moment<'_>,
+    environment: &Environment<'_>,
 ) -> Result<Parts, NoMemory>
     requires some { 1 ≤ size }
-    requires exact { min 65 size ≡ min 65 (size_of_all moment.now targets.now) }
-    ensures { IfOk result (λ parts. parts ≡ spec.resumed moment.now targets.now (Some held)) }
+    requires exact { min 65 size ≡ min 65 (size_of_all environment.now targets.now) }
+    ensures { IfOk result (λ parts. parts ≡ spec.resumed_parts environment.now targets.now (Some held)) }
 {
     if size > WIDEST {
         return Ok(Parts::none());
     }
-    Parts::of_list(shared(alloc, targets, held.resize(size), moment)?)
+    Parts::of_list(shared_parts(alloc, targets, held.resize(size), environment)?)
 }
 
 /// The parts that a suspended assignment writes of the value that it holds, if it holds one, to its targets as they are now (9.7.7).
-pub fn resumed(
+pub fn resumed_parts(
     alloc: Global,
     targets: &Targets,
     held: Option<Vec4>,
-    moment: &Moment<'_>,
+    environment: &Environment<'_>,
 ) -> Result<Parts, NoMemory>
-    ensures { IfOk result (λ parts. parts ≡ spec.resumed moment.now targets.now held) }
+    ensures { IfOk result (λ parts. parts ≡ spec.resumed_parts environment.now targets.now held) }
 {
     let targets = targets.as_slice();
     let Some(held) = held else {
@@ -182,27 +193,27 @@ pub fn resumed(
     let Some((target, more)) = targets.split_first() else {
         return Ok(Parts::none());
     };
-    let size = target_size(target, moment) + targets_size(more, moment);
-    resumed_all(alloc, targets, size, held, moment)
+    let size = target_size(target, environment) + targets_size(more, environment);
+    resumed_all(alloc, targets, size, held, environment)
 }
 
 /// The parts that an assignment writes (6.2).
-pub fn assigned(
+pub fn assigned_parts(
     alloc: Global,
     targets: &Targets,
     expression: &Expression,
-    moment: &Moment<'_>,
+    environment: &Environment<'_>,
 ) -> Result<Parts, NoMemory>
     ensures { IfOk result
-        (λ parts. parts ≡ spec.assigned moment.now targets.now expression.now) }
+        (λ parts. parts ≡ spec.assigned_parts environment.now targets.now expression.now) }
 {
     let targets = targets.as_slice();
     if let Some((target, more)) = targets.split_first() {
         if more.is_empty() {
-            return Ok(assigned_one(target, expression, moment));
+            return Ok(assigned_one(target, expression, environment));
         }
-        let size = target_size(target, moment) + targets_size(more, moment);
-        return assigned_all(alloc, targets, size, expression, moment);
+        let size = target_size(target, environment) + targets_size(more, environment);
+        return assigned_all(alloc, targets, size, expression, environment);
     }
     Ok(Parts::none())
 }

@@ -79,7 +79,7 @@ pub(crate) fn value_in(values: &[Vec4], variable: u32) -> Vec4
 /// The value that a variable has after the parts are written over these values.
 #[tactic(auto, using(crate::proofs::PartLemmas::followed_is, crate::proofs::PartLemmas::nowhere_after))]
 pub fn value_after(values: &[Vec4], parts: &[Part], variable: u32) -> Vec4
-    ensures { result ≡ spec.value_in (spec.written parts.now values.now) variable }
+    ensures { result ≡ spec.value_in (spec.with_parts parts.now values.now) variable }
 {
     let mut value = value_in(values, variable);
     if variable as usize >= values.len() {
@@ -222,7 +222,7 @@ impl Values {
 
     /// Writes the parts from left to right.
     pub(crate) fn write_all(&mut self, parts: &[Part])
-        ensures { self.new ≡ spec.written parts.now self.old }
+        ensures { self.new ≡ spec.with_parts parts.now self.old }
     {
         for part in parts {
             self.write(*part);

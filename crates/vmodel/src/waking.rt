@@ -109,9 +109,9 @@ fn comes(actions: &[Action], news: &News<'_>, process: &Process) -> bool
         return false;
     };
     match actions.get(place) {
-        Some(Action::On { terms, .. }) => any_hears(terms.as_slice(), news),
-        Some(Action::Until { terms, .. }) => any_hears(terms.as_slice(), news),
-        Some(Action::Drive { terms, .. }) => any_hears(terms.as_slice(), news),
+        Some(Action::EventControl { terms, .. }) => any_hears(terms.as_slice(), news),
+        Some(Action::Wait { terms, .. }) => any_hears(terms.as_slice(), news),
+        Some(Action::ContinuousAssign { terms, .. }) => any_hears(terms.as_slice(), news),
         _ => false,
     }
 }

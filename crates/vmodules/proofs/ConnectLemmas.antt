@@ -14,8 +14,8 @@ use Rattle.vast.specs.NumberedTrees.{tree_of}
 use Rattle.vast.specs.NumberedModules.{ConnectionTree}
 use Rattle.vast.specs.declared.expression.Expression.{Expression}
 use Rattle.vmodules.specs.Names.{is_declared, has_double}
-use Rattle.vmodules.specs.Connected.{Tied, tied_by, by_places, misfit_behind, value_for}
-use Rattle.vmodules.specs.Inner.{Tie, tie_tree, ties_tree, tie_names, value_tree}
+use Rattle.vmodules.specs.Connected.{NamedConnection, named_connection, by_places, misfit_behind, value_for}
+use Rattle.vmodules.specs.Inner.{ConnectionEntry, entry_tree, entries_tree, entry_names, value_tree}
 use Rattle.vmodules.proofs.NameLemmas.{doubles}
 use Rattle.vmodules.proofs.ListLemmas.{drop_at}
 use Rattle.vmodules.proofs.HierarchyLemmas.{append_nil}
@@ -23,37 +23,37 @@ use Rattle.vmodules.proofs.HierarchyLemmas.{append_nil}
 abbrev pub Entry : Type 0
 Entry = Bor Text × Option (Bor Expression)
 
-abbrev pub pairs : List Entry → List Tie
+abbrev pub pairs : List Entry → List ConnectionEntry
 pairs = map (λ entry. (entry.0.now, entry.1))
 
 -- ---- entries by name
 
-pub known : (name : Text) (entries : List Entry) → is_some (lookup (λ (k : Bor Text). bytes_eq name k.now) entries) ≡ is_declared (tie_names (pairs entries)) name
+pub known : (name : Text) (entries : List Entry) → is_some (lookup (λ (k : Bor Text). bytes_eq name k.now) entries) ≡ is_declared (entry_names (pairs entries)) name
 known name [] = refl
 known name (e ∷ es) = by (bytes_eq name e.0.now) (known name es)
   where
-    by : (b : Bool) → is_some (lookup (λ (k : Bor Text). bytes_eq name k.now) es) ≡ is_declared (tie_names (pairs es)) name →
-        is_some (cond b (Some e.1) (lookup (λ (k : Bor Text). bytes_eq name k.now) es)) ≡ (b || is_declared (tie_names (pairs es)) name)
+    by : (b : Bool) → is_some (lookup (λ (k : Bor Text). bytes_eq name k.now) es) ≡ is_declared (entry_names (pairs es)) name →
+        is_some (cond b (Some e.1) (lookup (λ (k : Bor Text). bytes_eq name k.now) es)) ≡ (b || is_declared (entry_names (pairs es)) name)
     by true later = refl
     by false later = later
 
 value_at : (words : List Text) (name : Text) (entries : List Entry) →
-    option_and_then (value_tree words) (lookup (λ (k : Bor Text). bytes_eq name k.now) entries) ≡ value_for (ties_tree words (pairs entries)) name
+    option_and_then (value_tree words) (lookup (λ (k : Bor Text). bytes_eq name k.now) entries) ≡ value_for (entries_tree words (pairs entries)) name
 value_at words name [] = refl
 value_at words name (e ∷ es) = by (bytes_eq name e.0.now) (value_at words name es) ∙ ap rest (nat_list_eq_equiv.symm name e.0.now)
   where
     rest : Bool → Option ExpressionTree
-    rest b = option_and_then (λ (c : Tied). c.value) (cond b (Some (tie_tree words (e.0.now, e.1))) (find (λ (c : Tied). bytes_eq c.name name) (ties_tree words (pairs es))))
+    rest b = option_and_then (λ (c : NamedConnection). c.value) (cond b (Some (entry_tree words (e.0.now, e.1))) (find (λ (c : NamedConnection). bytes_eq c.name name) (entries_tree words (pairs es))))
 
-    by : (b : Bool) → option_and_then (value_tree words) (lookup (λ (k : Bor Text). bytes_eq name k.now) es) ≡ value_for (ties_tree words (pairs es)) name →
+    by : (b : Bool) → option_and_then (value_tree words) (lookup (λ (k : Bor Text). bytes_eq name k.now) es) ≡ value_for (entries_tree words (pairs es)) name →
         option_and_then (value_tree words) (cond b (Some e.1) (lookup (λ (k : Bor Text). bytes_eq name k.now) es)) ≡ rest b
     by true later = refl
     by false later = later
 
-pub value_is : (words : List Text) (name : Text) (entries : List Entry) (ties : List Tie) (found : Option (Option (Bor Expression))) → pairs entries ≡ ties →
-    found ≡ lookup (λ (k : Bor Text). bytes_eq name k.now) entries → option_and_then (value_tree words) found ≡ value_for (ties_tree words ties) name
-value_is words name entries ties found are is =
-    ap (option_and_then (value_tree words)) is ∙ value_at words name entries ∙ ap (λ (l : List Tie). value_for (ties_tree words l) name) are
+pub value_is : (words : List Text) (name : Text) (entries : List Entry) (connections : List ConnectionEntry) (found : Option (Option (Bor Expression))) → pairs entries ≡ connections →
+    found ≡ lookup (λ (k : Bor Text). bytes_eq name k.now) entries → option_and_then (value_tree words) found ≡ value_for (entries_tree words connections) name
+value_is words name entries connections found are is =
+    ap (option_and_then (value_tree words)) is ∙ value_at words name entries ∙ ap (λ (l : List ConnectionEntry). value_for (entries_tree words l) name) are
 
 pub is_none : {A : Type 0} (x : Option A) → is_some x ≡ false → x ≡ None
 is_none None e = refl
@@ -92,38 +92,38 @@ not_before names done i name unique is are there =
 
 -- ---- by order
 
-pub order_step : (words names : List Text) (values : List Expression) (i : ℕ) (name : Text) (value : Bor Expression) (ties next : List Tie) (all : List Tied) →
-    slice_get names i ≡ Some name → i < length values → value.now ≡ get_or values i value.now → next ≡ ties ++ (name, Some value) ∷ [] →
-    ties_tree words ties ++ by_places (drop i names) (map (tree_of words) (drop i values)) ≡ all →
-    ties_tree words next ++ by_places (drop (i + 1) names) (map (tree_of words) (drop (i + 1) values)) ≡ all
-order_step words names values i name value ties next all named within valued added same =
-    ap (λ (l : List Tie). ties_tree words l ++ left) added
-    ∙ ap (λ (l : List Tied). l ++ left) (map-append (tie_tree words) ties ((name, Some value) ∷ []))
-    ∙ append_assoc (ties_tree words ties) (tie_tree words (name, Some value) ∷ []) left
-    ∙ sym (λ j. ties_tree words ties ++ by_places (drop_got names i name named j) (map (tree_of words) (drop_at values i value.now within valued j)))
+pub order_step : (words names : List Text) (values : List Expression) (i : ℕ) (name : Text) (value : Bor Expression) (connections next : List ConnectionEntry) (all : List NamedConnection) →
+    slice_get names i ≡ Some name → i < length values → value.now ≡ get_or values i value.now → next ≡ connections ++ (name, Some value) ∷ [] →
+    entries_tree words connections ++ by_places (drop i names) (map (tree_of words) (drop i values)) ≡ all →
+    entries_tree words next ++ by_places (drop (i + 1) names) (map (tree_of words) (drop (i + 1) values)) ≡ all
+order_step words names values i name value connections next all named within valued added same =
+    ap (λ (l : List ConnectionEntry). entries_tree words l ++ left) added
+    ∙ ap (λ (l : List NamedConnection). l ++ left) (map-append (entry_tree words) connections ((name, Some value) ∷ []))
+    ∙ append_assoc (entries_tree words connections) (entry_tree words (name, Some value) ∷ []) left
+    ∙ sym (λ j. entries_tree words connections ++ by_places (drop_got names i name named j) (map (tree_of words) (drop_at values i value.now within valued j)))
     ∙ same
   where
-    left : List Tied
+    left : List NamedConnection
     left = by_places (drop (i + 1) names) (map (tree_of words) (drop (i + 1) values))
 
 -- nothing is left
 pub nothing_left : {A : Type 0} (done left all : List A) → left ≡ [] → done ++ left ≡ all → done ≡ all
 nothing_left done left all none same = sym (append_nil done) ∙ ap (λ l. done ++ l) (sym none) ∙ same
 
-pub order_done : (words names : List Text) (values : List Expression) (i : ℕ) (ties : List Tie) (all : List Tied) → length values ≤ i →
-    ties_tree words ties ++ by_places (drop i names) (map (tree_of words) (drop i values)) ≡ all → ties_tree words ties ≡ all
-order_done words names values i ties all le =
-    nothing_left (ties_tree words ties) (by_places (drop i names) (map (tree_of words) (drop i values))) all
+pub order_done : (words names : List Text) (values : List Expression) (i : ℕ) (connections : List ConnectionEntry) (all : List NamedConnection) → length values ≤ i →
+    entries_tree words connections ++ by_places (drop i names) (map (tree_of words) (drop i values)) ≡ all → entries_tree words connections ≡ all
+order_done words names values i connections all le =
+    nothing_left (entries_tree words connections) (by_places (drop i names) (map (tree_of words) (drop i values))) all
     (ap (λ (l : List Expression). by_places (drop i names) (map (tree_of words) l)) (drop_all i values le) ∙ no_places (drop i names))
   where
     no_places : (xs : List Text) → by_places xs [] ≡ []
     no_places [] = refl
     no_places (x ∷ xs) = refl
 
-pub names_step : (names : List Text) (i : ℕ) (name : Text) (value : Option (Bor Expression)) (ties next : List Tie) → slice_get names i ≡ Some name →
-    next ≡ ties ++ (name, value) ∷ [] → tie_names ties ≡ take i names → tie_names next ≡ take (i + 1) names
-names_step names i name value ties next is added same =
-    ap tie_names added ∙ map-append (λ (t : Tie). t.0) ties ((name, value) ∷ []) ∙ ap (λ l. l ++ name ∷ []) same ∙ sym (take_got names i name is)
+pub names_step : (names : List Text) (i : ℕ) (name : Text) (value : Option (Bor Expression)) (connections next : List ConnectionEntry) → slice_get names i ≡ Some name →
+    next ≡ connections ++ (name, value) ∷ [] → entry_names connections ≡ take i names → entry_names next ≡ take (i + 1) names
+names_step names i name value connections next is added same =
+    ap entry_names added ∙ map-append (λ (t : ConnectionEntry). t.0) connections ((name, value) ∷ []) ∙ ap (λ l. l ++ name ∷ []) same ∙ sym (take_got names i name is)
 
 -- ---- by name
 
@@ -145,16 +145,16 @@ module _ (names before : List Text) (connection : ConnectionTree) (more : List C
   misfit_next e f = λ i. opened (e i) (f i)
 
 -- one connection more
-pub name_step : (words : List Text) (ties next : List Tie) (tie : Tie) (connection : ConnectionTree) (rest : List ConnectionTree) (all : List Tied) → next ≡ ties ++ tie ∷ [] →
-    tie_tree words tie ≡ tied_by connection →
-    ties_tree words ties ++ map tied_by (connection ∷ rest) ≡ all → ties_tree words next ++ map tied_by rest ≡ all
-name_step words ties next tie connection rest all added is same =
-    ap (λ (l : List Tie). ties_tree words l ++ map tied_by rest) added
-    ∙ ap (λ (l : List Tied). l ++ map tied_by rest) (map-append (tie_tree words) ties (tie ∷ []))
-    ∙ append_assoc (ties_tree words ties) (tie_tree words tie ∷ []) (map tied_by rest)
-    ∙ ap (λ (c : Tied). ties_tree words ties ++ c ∷ map tied_by rest) is
+pub name_step : (words : List Text) (connections next : List ConnectionEntry) (entry : ConnectionEntry) (connection : ConnectionTree) (rest : List ConnectionTree) (all : List NamedConnection) → next ≡ connections ++ entry ∷ [] →
+    entry_tree words entry ≡ named_connection connection →
+    entries_tree words connections ++ map named_connection (connection ∷ rest) ≡ all → entries_tree words next ++ map named_connection rest ≡ all
+name_step words connections next entry connection rest all added is same =
+    ap (λ (l : List ConnectionEntry). entries_tree words l ++ map named_connection rest) added
+    ∙ ap (λ (l : List NamedConnection). l ++ map named_connection rest) (map-append (entry_tree words) connections (entry ∷ []))
+    ∙ append_assoc (entries_tree words connections) (entry_tree words entry ∷ []) (map named_connection rest)
+    ∙ ap (λ (c : NamedConnection). entries_tree words connections ++ c ∷ map named_connection rest) is
     ∙ same
 
 -- its name behind the others
-pub names_pushed : (ties next : List Tie) (tie : Tie) → next ≡ ties ++ tie ∷ [] → tie_names next ≡ tie_names ties ++ tie.0 ∷ []
-names_pushed ties next tie added = ap tie_names added ∙ map-append (λ (t : Tie). t.0) ties (tie ∷ [])
+pub names_pushed : (connections next : List ConnectionEntry) (entry : ConnectionEntry) → next ≡ connections ++ entry ∷ [] → entry_names next ≡ entry_names connections ++ entry.0 ∷ []
+names_pushed connections next entry added = ap entry_names added ∙ map-append (λ (t : ConnectionEntry). t.0) connections (entry ∷ [])

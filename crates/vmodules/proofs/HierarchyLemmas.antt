@@ -15,7 +15,7 @@ use Rattle.vast.specs.NumberedModules.{ModuleTree, SourceTree}
 use Rattle.vast.specs.NumberedTrees.{module_tree}
 use Rattle.vast.specs.declared.module.ModuleTree.{ModuleTree as Parsed}
 use Rattle.vmodules.specs.Names.{is_declared, letters_of}
-use Rattle.vmodules.specs.Hierarchy.{module_names, module_of, instantiated, roots, only_of, second_of}
+use Rattle.vmodules.specs.Hierarchy.{module_names, module_of, instantiated_names, roots, only_of, second_of}
 use Rattle.vmodules.specs.Inner.{Units, units_tree, unit_tree, second_behind, HoldSame}
 
 -- ---- modules by name
@@ -122,13 +122,13 @@ outside_same xs ys modules same = λ i. filter (λ m. not (same m.name.letters i
 
 -- the only module outside the names that have instances
 pub root_is : (words same_words : List Text) (list same_list : List Parsed) (names : List Text) (unit : Option (Bor Parsed)) → same_words ≡ words → same_list ≡ list →
-    HoldSame names (instantiated (map (module_tree same_words) same_list)) →
+    HoldSame names (instantiated_names (map (module_tree same_words) same_list)) →
     unit_tree same_words unit ≡ only_of (filter (λ m. not (is_declared names m.name.letters)) (map (module_tree same_words) same_list)) →
     unit_tree words unit ≡ only_of (roots (map (module_tree words) list))
 root_is words same_words list same_list names unit e d same is =
     sym (ap (λ (w : List Text). unit_tree w unit) e)
     ∙ is
-    ∙ ap only_of (outside_same names (instantiated (map (module_tree same_words) same_list)) (map (module_tree same_words) same_list) same)
+    ∙ ap only_of (outside_same names (instantiated_names (map (module_tree same_words) same_list)) (map (module_tree same_words) same_list) same)
     ∙ (λ i. only_of (roots (map (module_tree (e i)) (d i))))
 
 -- ---- the second module outside
@@ -154,10 +154,10 @@ left_inside names m more e = ap (λ b. if not b then m ∷ rest else rest) e
 
 -- the second module outside the names that have instances
 pub second_is : (words same_words : List Text) (list same_list : List Parsed) (names : List Text) (at : Option ℕ) → same_words ≡ words → same_list ≡ list →
-    HoldSame names (instantiated (map (module_tree same_words) same_list)) →
+    HoldSame names (instantiated_names (map (module_tree same_words) same_list)) →
     at ≡ option_map (λ (w : Word). w.number) (second_of (filter (λ m. not (is_declared names m.name.letters)) (map (module_tree same_words) same_list))) →
     at ≡ option_map (λ (w : Word). w.number) (second_of (roots (map (module_tree words) list)))
 second_is words same_words list same_list names at e d same is =
     is
-    ∙ ap (λ l. option_map (λ (w : Word). w.number) (second_of l)) (outside_same names (instantiated (map (module_tree same_words) same_list)) (map (module_tree same_words) same_list) same)
+    ∙ ap (λ l. option_map (λ (w : Word). w.number) (second_of l)) (outside_same names (instantiated_names (map (module_tree same_words) same_list)) (map (module_tree same_words) same_list) same)
     ∙ (λ i. option_map (λ (w : Word). w.number) (second_of (roots (map (module_tree (e i)) (d i)))))

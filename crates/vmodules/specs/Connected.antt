@@ -9,24 +9,24 @@ use Rattle.vast.specs.NumberedModules.{HeadParameter, ConnectionTree, Connection
 use Rattle.vmodules.specs.Names.{is_declared}
 
 -- what is connected to a name, where something is
-pub record Tied : Type 0 where
+pub record NamedConnection : Type 0 where
   pub name : Text
   pub value : Option ExpressionTree
 
 -- 12.3.5: the first value goes to the first name, and so on, as far as both go
-abbrev pub by_places : List Text → List ExpressionTree → List Tied
+abbrev pub by_places : List Text → List ExpressionTree → List NamedConnection
 by_places [] values = []
 by_places (name ∷ names) [] = []
 by_places (name ∷ names) (value ∷ values) = record { name = name; value = Some value } ∷ by_places names values
 
 -- a connection by name
-abbrev pub tied_by : ConnectionTree → Tied
-tied_by c = record { name = c.name.letters; value = c.value }
+abbrev pub named_connection : ConnectionTree → NamedConnection
+named_connection c = record { name = c.name.letters; value = c.value }
 
 -- the connections of these names, each by its name
-abbrev pub matched : List Text → ConnectionsTree → List Tied
-matched names (by_order values) = by_places names values
-matched names (by_name list) = map tied_by list
+abbrev pub named_connections : List Text → ConnectionsTree → List NamedConnection
+named_connections names (by_order values) = by_places names values
+named_connections names (by_name list) = map named_connection list
 
 -- 12.3.6: of connections by name, behind those of these names, the first whose name isn't there, or stands before
 abbrev pub misfit_behind : List Text → List Text → List ConnectionTree → Option Word
@@ -41,13 +41,13 @@ misfit whose names (by_order values) = if nat_le (length values) (length names) 
 misfit whose names (by_name list) = misfit_behind names [] list
 
 -- what is connected to a name, where something is
-abbrev pub value_for : List Tied → Text → Option ExpressionTree
+abbrev pub value_for : List NamedConnection → Text → Option ExpressionTree
 value_for list letters = option_and_then (λ c. c.value) (find (λ c. bytes_eq c.name letters) list)
 
 -- 12.2.2: the same of what may be absent
-abbrev pub matched_if : List Text → Option ConnectionsTree → List Tied
-matched_if names None = []
-matched_if names (Some connections) = matched names connections
+abbrev pub named_connections_if : List Text → Option ConnectionsTree → List NamedConnection
+named_connections_if names None = []
+named_connections_if names (Some connections) = named_connections names connections
 
 abbrev pub misfit_if : Word → List Text → Option ConnectionsTree → Option Word
 misfit_if whose names None = None

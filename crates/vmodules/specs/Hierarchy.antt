@@ -25,12 +25,12 @@ instantiated_by (always statement) = []
 instantiated_by (instances name overrides list) = name.letters ∷ []
 
 -- 12.1.2: the names of the modules that have instances, in the order of the text
-abbrev pub instantiated : SourceTree → List Text
-instantiated modules = flat_map (λ m. flat_map instantiated_by m.items) modules
+abbrev pub instantiated_names : SourceTree → List Text
+instantiated_names modules = flat_map (λ m. flat_map instantiated_by m.items) modules
 
 -- 12.1.1: the modules that have no instances
 abbrev pub roots : SourceTree → List ModuleTree
-roots modules = filter (λ m. not (is_declared (instantiated modules) m.name.letters)) modules
+roots modules = filter (λ m. not (is_declared (instantiated_names modules) m.name.letters)) modules
 
 abbrev pub only_of : List ModuleTree → Option ModuleTree
 only_of (m ∷ []) = Some m

@@ -17,7 +17,7 @@ use Rattle.vast.specs.declared.module.Setting.{Setting}
 use Rattle.vast.specs.declared.module.ModuleItem.{ModuleItem}
 use Rattle.vmodules.specs.Names.{is_declared, letters_of}
 use Rattle.vmodules.specs.Hierarchy.{module_names, second_of}
-use Rattle.vmodules.specs.Connected.{Tied, open_by}
+use Rattle.vmodules.specs.Connected.{NamedConnection, open_by}
 use Rattle.vmodules.specs.Ports.{Port, bare}
 use Rattle.vmodules.specs.declared.ports.PortForm.{PortForm}
 
@@ -72,21 +72,21 @@ abbrev pub port_form : List Text → PortForm → Port
 port_form words form = record { name = numbered words form.name; output = form.output; net = form.net; type = type_for words form.kind }
 
 -- a name, with what is connected to it
-abbrev pub Tie : Type 0
-Tie = Text × Option (Bor Expression)
+abbrev pub ConnectionEntry : Type 0
+ConnectionEntry = Text × Option (Bor Expression)
 
 -- the tree of a value that was found
 abbrev pub value_tree : List Text → Option (Bor Expression) → Option ExpressionTree
 value_tree words = option_map (λ value. tree_of words value.now)
 
-abbrev pub tie_tree : List Text → Tie → Tied
-tie_tree words tie = record { name = tie.0; value = value_tree words tie.1 }
+abbrev pub entry_tree : List Text → ConnectionEntry → NamedConnection
+entry_tree words entry = record { name = entry.0; value = value_tree words entry.1 }
 
-abbrev pub ties_tree : List Text → List Tie → List Tied
-ties_tree words = map (tie_tree words)
+abbrev pub entries_tree : List Text → List ConnectionEntry → List NamedConnection
+entries_tree words = map (entry_tree words)
 
-abbrev pub tie_names : List Tie → List Text
-tie_names = map (λ tie. tie.0)
+abbrev pub entry_names : List ConnectionEntry → List Text
+entry_names = map (λ entry. entry.0)
 
 -- the names of parameters
 abbrev pub setting_names : List Text → List Setting → List Word

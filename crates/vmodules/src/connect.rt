@@ -10,7 +10,7 @@ ghost use Rattle.vexpr_parse.specs.Texts.{words_of};
 ghost use Rattle.vmodules.specs.Names.{is_declared};
 ghost use Rattle.vmodules.specs.Connected as spec;
 ghost use Rattle.vmodules.specs.Connected.{misfit, misfit_behind, misfit_if, value_for};
-ghost use Rattle.vmodules.specs.Inner.{ties_tree, tie_names, value_tree, IsTold};
+ghost use Rattle.vmodules.specs.Inner.{entries_tree, entry_names, value_tree, IsTold};
 
 use crate::letters::letters;
 use crate::names::Names;
@@ -31,30 +31,30 @@ pub struct Misfit {
 
 /// Names with what is connected to each, where something is. A name is found by its bytes, at once.
 #[derive(Drop)]
-pub struct Ties<'t, 'u> {
-    tied: IndexMap<&'t [u8], Option<&'u Expression>>,
+pub struct ConnectionMap<'t, 'u> {
+    entries: IndexMap<&'t [u8], Option<&'u Expression>>,
 }
 
-impl<'t, 'u> Model for Ties<'t, 'u> {
+impl<'t, 'u> Model for ConnectionMap<'t, 'u> {
     ghost use Rattle.std.specs.Prelude.{List, map};
     ghost use Rattle.std.specs.Coded.{codes};
     ghost use Rattle.vast.specs.contracts.expression.Expression as expression;
-    ghost use Rattle.vmodules.specs.Inner.{Tie};
+    ghost use Rattle.vmodules.specs.Inner.{ConnectionEntry};
 
-    ghost Value = { List Tie };
+    ghost Value = { List ConnectionEntry };
 
     ghost coded = { Prim.hlevel (codes, expression.the_row.coded) };
 
-    ghost view = { λ t. map (λ entry. (entry.0.now, entry.1)) t.tied.entries };
+    ghost view = { λ t. map (λ entry. (entry.0.now, entry.1)) t.entries.entries };
 }
 
-impl<'t, 'u> Ties<'t, 'u> {
+impl<'t, 'u> ConnectionMap<'t, 'u> {
     /// None.
     pub fn new(alloc: Global) -> Self
         ensures { result ≡ [] }
     {
-        Ties {
-            tied: IndexMap::new(alloc),
+        ConnectionMap {
+            entries: IndexMap::new(alloc),
         }
     }
 
@@ -66,11 +66,11 @@ impl<'t, 'u> Ties<'t, 'u> {
         at: u32,
     ) -> Result<(), OrMemory<Misfit>>
         ensures added { OnOk result (self.new ≡ self.old ++ (name.now, value.entry) ∷ []) }
-        ensures fresh { OnOk result (is_declared (tie_names self.old) name.now ≡ false) }
+        ensures fresh { OnOk result (is_declared (entry_names self.old) name.now ≡ false) }
         ensures err { IfFault result (λ misfit.
-            (is_declared (tie_names self.old) name.now ≡ true) × (misfit.at ≡ at)) }
+            (is_declared (entry_names self.old) name.now ≡ true) × (misfit.at ≡ at)) }
     {
-        let before = self.tied.insert(name, value)?;
+        let before = self.entries.insert(name, value)?;
         if before.is_some() {
             return Err(OrMemory::Fault(Misfit { at }));
         }
@@ -80,9 +80,9 @@ impl<'t, 'u> Ties<'t, 'u> {
     /// What is connected to a name, where something is.
     pub fn value(&self, name: &[u8]) -> Option<&'u Expression>
         ensures { (words : List Text) →
-            value_tree words result ≡ value_for (ties_tree words self.now) name.now }
+            value_tree words result ≡ value_for (entries_tree words self.now) name.now }
     {
-        match self.tied.get(&name) {
+        match self.entries.get(&name) {
             None => None,
             Some(value) => *value,
         }
@@ -95,22 +95,22 @@ fn by_order<'t, 'u>(
     whose: Token,
     names: &Names<'t>,
     values: &'u [Expression],
-) -> Result<Ties<'t, 'u>, OrMemory<Misfit>>
-    ensures ok { (words : List Text) → IfOk result (λ ties.
-        ties_tree words ties ≡ spec.matched names.now (by_order (map (tree_of words) values.now))) }
+) -> Result<ConnectionMap<'t, 'u>, OrMemory<Misfit>>
+    ensures ok { (words : List Text) → IfOk result (λ connected.
+        entries_tree words connected ≡ spec.named_connections names.now (by_order (map (tree_of words) values.now))) }
     ensures fits { (words : List Text) → OnOk result (misfit (numbered words whose) names.now
         (by_order (map (tree_of words) values.now)) ≡ None) }
     ensures err { (words : List Text) → IfFault result (λ f. IsTold (misfit
         (numbered words whose) names.now (by_order (map (tree_of words) values.now))) f.at) }
 {
-    let mut ties = Ties::new(alloc);
+    let mut connected = ConnectionMap::new(alloc);
     if values.len() > names.len() {
         return Err(OrMemory::Fault(Misfit { at: whose.number }));
     }
     for place in 0..values.len() {
-        ties.add(names.name(place), Some(&values[place]), whose.number)?;
+        connected.add(names.name(place), Some(&values[place]), whose.number)?;
     }
-    Ok(ties)
+    Ok(connected)
 }
 
 // The value of a connection, where there is one.
@@ -130,15 +130,15 @@ fn by_name<'t, 'u>(
     tokens: &Tokens<'t>,
     names: &Names<'t>,
     list: &'u [Connection],
-) -> Result<Ties<'t, 'u>, OrMemory<Misfit>>
-    ensures ok { IfOk result (λ ties. ties_tree (words_of tokens.now) ties ≡ spec.matched names.now
+) -> Result<ConnectionMap<'t, 'u>, OrMemory<Misfit>>
+    ensures ok { IfOk result (λ connected. entries_tree (words_of tokens.now) connected ≡ spec.named_connections names.now
         (by_name (map (connection_tree (words_of tokens.now)) list.now))) }
     ensures fits { OnOk result (misfit_behind names.now []
         (map (connection_tree (words_of tokens.now)) list.now) ≡ None) }
     ensures err { IfFault result (λ f. IsTold (misfit_behind names.now []
         (map (connection_tree (words_of tokens.now)) list.now)) f.at) }
 {
-    let mut ties = Ties::new(alloc);
+    let mut connected = ConnectionMap::new(alloc);
     for connection in list {
         let name = letters(tokens, connection.name);
         if names.place(name).is_none() {
@@ -146,21 +146,21 @@ fn by_name<'t, 'u>(
                 at: connection.name.number,
             }));
         }
-        ties.add(name, value_of(connection), connection.name.number)?;
+        connected.add(name, value_of(connection), connection.name.number)?;
     }
-    Ok(ties)
+    Ok(connected)
 }
 
 /// What is connected to these names; more values than names are told of by the token of whose they are.
-pub fn matched<'t, 'u>(
+pub fn named_connections<'t, 'u>(
     alloc: Global,
     tokens: &Tokens<'t>,
     whose: Token,
     names: &Names<'t>,
     connections: &'u Connections,
-) -> Result<Ties<'t, 'u>, OrMemory<Misfit>>
-    ensures ok { IfOk result (λ ties. ties_tree (words_of tokens.now) ties ≡
-        spec.matched names.now (connections_tree (words_of tokens.now) connections.now)) }
+) -> Result<ConnectionMap<'t, 'u>, OrMemory<Misfit>>
+    ensures ok { IfOk result (λ connected. entries_tree (words_of tokens.now) connected ≡
+        spec.named_connections names.now (connections_tree (words_of tokens.now) connections.now)) }
     ensures fits { OnOk result (misfit (numbered (words_of tokens.now) whose) names.now
         (connections_tree (words_of tokens.now) connections.now) ≡ None) }
     ensures err { IfFault result (λ f. IsTold (misfit (numbered (words_of tokens.now) whose)
@@ -173,14 +173,14 @@ pub fn matched<'t, 'u>(
 }
 
 /// What is connected to these names, where connections are written; else nothing.
-pub fn matched_if<'t, 'u>(
+pub fn named_connections_if<'t, 'u>(
     alloc: Global,
     tokens: &Tokens<'t>,
     whose: Token,
     names: &Names<'t>,
     overrides: &'u Option<Connections>,
-) -> Result<Ties<'t, 'u>, OrMemory<Misfit>>
-    ensures ok { IfOk result (λ ties. ties_tree (words_of tokens.now) ties ≡ spec.matched_if
+) -> Result<ConnectionMap<'t, 'u>, OrMemory<Misfit>>
+    ensures ok { IfOk result (λ connected. entries_tree (words_of tokens.now) connected ≡ spec.named_connections_if
         names.now (option_map (connections_tree (words_of tokens.now)) overrides.now)) }
     ensures fits { OnOk result (misfit_if (numbered (words_of tokens.now) whose) names.now
         (option_map (connections_tree (words_of tokens.now)) overrides.now) ≡ None) }
@@ -188,7 +188,7 @@ pub fn matched_if<'t, 'u>(
         names.now (option_map (connections_tree (words_of tokens.now)) overrides.now)) f.at) }
 {
     match overrides {
-        None => Ok(Ties::new(alloc)),
-        Some(connections) => matched(alloc, tokens, whose, names, connections),
+        None => Ok(ConnectionMap::new(alloc)),
+        Some(connections) => named_connections(alloc, tokens, whose, names, connections),
     }
 }

@@ -9,7 +9,7 @@ ghost use Rattle.vast.specs.NumberedTrees.{item_tree, module_tree};
 ghost use Rattle.vexpr_parse.specs.Texts.{words_of};
 ghost use Rattle.vmodules.specs.Names.{first_again, has_double, is_declared, letters_of};
 ghost use Rattle.vmodules.specs.Hierarchy as spec;
-ghost use Rattle.vmodules.specs.Hierarchy.{instantiated, instantiated_by, only_of, second_of};
+ghost use Rattle.vmodules.specs.Hierarchy.{instantiated_names, instantiated_by, only_of, second_of};
 ghost use Rattle.vmodules.specs.Inner.{unit_names, unit_tree, units_tree, named_text, second_behind, HoldSame, IsTold};
 
 use crate::letters::letters;
@@ -158,13 +158,13 @@ fn add_items<'t>(
 }
 
 // The names of the modules that have instances.
-fn instantiated<'t>(
+fn instantiated_names<'t>(
     alloc: Global,
     tokens: &Tokens<'t>,
     list: &[ModuleTree],
 ) -> Result<Names<'t>, NoMemory>
     ensures { IfOk result (λ names.
-        HoldSame names (instantiated (map (module_tree (words_of tokens.now)) list.now))) }
+        HoldSame names (instantiated_names (map (module_tree (words_of tokens.now)) list.now))) }
 {
     let mut names = Names::new(alloc);
     for unit in list {
@@ -205,7 +205,7 @@ fn only_root<'u>(
 {
     let tokens = modules.tokens();
     let list = modules.list();
-    let names = instantiated(alloc, tokens, list)?;
+    let names = instantiated_names(alloc, tokens, list)?;
     Ok(only_outside(tokens, list, &names))
 }
 
@@ -249,7 +249,7 @@ fn second_root(alloc: Global, modules: &Modules<'_, '_>) -> Result<Option<u32>, 
 {
     let tokens = modules.tokens();
     let list = modules.list();
-    let names = instantiated(alloc, tokens, list)?;
+    let names = instantiated_names(alloc, tokens, list)?;
     Ok(second_outside(tokens, list, &names))
 }
 

@@ -4,12 +4,12 @@ use Rattle.vsrc.specs.Expansion.{expanded_text, expanded_timescale}
 use Rattle.vmodel.specs.Run.{Setting}
 use Rattle.vreport.specs.Agreement.{ExhaustedAgree}
 use Rattle.vreport.specs.Reports.{IsExploration}
-use Rattle.vrace.specs.Asked.{Asked}
+use Rattle.vrace.specs.Request.{Request}
 use Rattle.vrace.specs.Explores.{AskAlike, ExploredFilesAgree, Searched, setting_for}
 use Rattle.vrace.specs.Replays.{IsDesignOfFiles}
 use Rattle.vrace.proofs.LawLemmas.{Laws, one_design_of}
 
-one_setting : Laws → (files : List (List ℕ)) (asked again : Asked) → AskAlike asked again → (s : Searched files asked) (t : Searched files again) → setting_for files asked s ≡ setting_for files again t
+one_setting : Laws → (files : List (List ℕ)) (asked again : Request) → AskAlike asked again → (s : Searched files asked) (t : Searched files again) → setting_for files asked s ≡ setting_for files again t
 one_setting laws files asked again alike s t =
     let design = one_design_of laws (expanded_text files) (expanded_timescale files) again.top s.design t.design
     (subst (λ (top : Option (List ℕ)). IsDesignOfFiles files top s.design) alike.top_is s.is_design) t.is_design in

@@ -4,7 +4,7 @@ use Rattle.std.proofs.lemmas.Option.{same_Some}
 use Rattle.vsrc.specs.Expansion.{expanded_text, expanded_timescale}
 use Rattle.vmodel.specs.Run.{Setting}
 use Rattle.report_text.specs.Report.{End, Report}
-use Rattle.report_text.specs.WellFormed.{IsTold, OneReportForText}
+use Rattle.report_text.specs.WellFormed.{IsReportText, OneReportForText}
 use Rattle.vreport.specs.Truth.{AreTrueEnds, IsTrueEndOf, IsTrueReport}
 use Rattle.report_check.specs.FirstBad.{IsFirstBad}
 use Rattle.report_check.specs.declared.check.FirstBad.{FirstBad}
@@ -35,13 +35,13 @@ none_bad setting report dumps (bad.Race place) truth (head, ends, before, false_
     false_race.not_true (truth.races place false_race.race false_race.at)
 
 module _ (laws : Laws) (one_report : OneReportForText) (files : List (List ℕ)) (text : List ℕ) (short : length text < 2 ^ 64) where
-  same_report : (r s : Report) (dumps others : List (List ℕ)) → IsTold text (r, dumps) → IsTold text (s, others) → (r ≡ s) × (dumps ≡ others)
+  same_report : (r s : Report) (dumps others : List (List ℕ)) → IsReportText text (r, dumps) → IsReportText text (s, others) → (r ≡ s) × (dumps ≡ others)
   same_report r s dumps others one other =
       one_report r s dumps others one.0 other.0 (subst (λ (t : List ℕ). length t < 2 ^ 64) one.1 short) (sym one.1 ∙ other.1)
 
   module _ (p q : Checked files text) where
     same : (p.report ≡ q.report) × (p.dumps ≡ q.dumps)
-    same = same_report p.report q.report p.dumps q.dumps p.told q.told
+    same = same_report p.report q.report p.dumps q.dumps p.is_report_text q.is_report_text
 
     designs : p.searched.design ≡ q.searched.design
     designs =
@@ -62,7 +62,7 @@ module _ (laws : Laws) (one_report : OneReportForText) (files : List (List ℕ))
         (moved truth.checked at.checked item at.first)
 
     not_for_report : (fault : Fault) → IsReportReason files text fault → IsOfMemory fault
-    not_for_report BadReport none = absurd (none truth.checked.report truth.checked.dumps truth.checked.told.0 truth.checked.told.1)
+    not_for_report BadReport none = absurd (none truth.checked.report truth.checked.dumps truth.checked.is_report_text.0 truth.checked.is_report_text.1)
     not_for_report (FalseEnd place) at = absurd (never_false (bad.End place) at)
     not_for_report (FalseRace place) at = absurd (never_false (bad.Race place) at)
     not_for_report FalseHead at = absurd (never_false bad.Head at)
@@ -90,7 +90,7 @@ module _ (laws : Laws) (one_report : OneReportForText) (files : List (List ℕ))
     not_for_files : (fault : Fault) → HasNoSetting files text fault → IsOfMemory fault
     not_for_files fault none =
         let here : Checked files text = truth.checked in
-        let there = same_report here.report none.report here.dumps none.dumps here.told none.told in
+        let there = same_report here.report none.report here.dumps none.dumps here.is_report_text none.is_report_text in
         not_for_design laws files here.searched.are_read (Some none.report.top) here.searched.design
         (subst (λ (r : Report). IsDesignOfFiles files (Some r.top) here.searched.design) there.0 here.searched.is_design) fault none.why
 

@@ -1,7 +1,7 @@
 -- From the check of a machine to that of files.
 use Rattle.std.proofs.Common.{◌≡◌, inl, ℕ, List, [], ◌∷◌, length, Some, refl, sym, ap, subst, ◌∙◌, suc}
 use Rattle.report_text.specs.Report.{End, Report}
-use Rattle.report_text.specs.WellFormed.{HaveBytes, IsTold}
+use Rattle.report_text.specs.WellFormed.{HaveBytes, IsReportText}
 use Rattle.vreport.specs.Truth.{IsTrueReport}
 use Rattle.report_check.specs.FirstBad.{IsFirstBad}
 use Rattle.report_check.specs.declared.check.FirstBad.{FirstBad}
@@ -20,24 +20,24 @@ as_many [] (dump ∷ dumps) h = absurd h
 as_many (end ∷ ends) [] h = absurd h
 as_many (end ∷ ends) (dump ∷ dumps) h = ap suc (as_many ends dumps h.1)
 
-module _ (files : List (List ℕ)) (text : List ℕ) (report : Report) (dumps : List (List ℕ)) (told : IsTold text (report, dumps)) (machine : Setting) (of : IsMachineOf files report machine) where
+module _ (files : List (List ℕ)) (text : List ℕ) (report : Report) (dumps : List (List ℕ)) (is_report_text : IsReportText text (report, dumps)) (machine : Setting) (of : IsMachineOf files report machine) where
   pub true_text : IsTrueReport machine report dumps → IsTrueText files text
   true_text truth = record {
-    checked = record { report = report; dumps = dumps; told = told; searched = of.searched };
+    checked = record { report = report; dumps = dumps; is_report_text = is_report_text; searched = of.searched };
     truth = subst (λ (s : Setting). IsTrueReport s report dumps) of.machine_is truth;
   }
 
   false_item : (bad : FirstBad) → IsFirstBad machine report dumps bad → IsReportReason files text (fault_by bad)
   false_item Head first = record {
-    checked = record { report = report; dumps = dumps; told = told; searched = of.searched };
+    checked = record { report = report; dumps = dumps; is_report_text = is_report_text; searched = of.searched };
     first = subst (λ (s : Setting). IsFirstBad s report dumps Head) of.machine_is first;
   }
   false_item (BadEnd i) first = record {
-    checked = record { report = report; dumps = dumps; told = told; searched = of.searched };
+    checked = record { report = report; dumps = dumps; is_report_text = is_report_text; searched = of.searched };
     first = subst (λ (s : Setting). IsFirstBad s report dumps (BadEnd i)) of.machine_is first;
   }
   false_item (BadRace i) first = record {
-    checked = record { report = report; dumps = dumps; told = told; searched = of.searched };
+    checked = record { report = report; dumps = dumps; is_report_text = is_report_text; searched = of.searched };
     first = subst (λ (s : Setting). IsFirstBad s report dumps (BadRace i)) of.machine_is first;
   }
 

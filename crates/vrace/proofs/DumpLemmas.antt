@@ -5,14 +5,14 @@ use Rattle.sched_core.specs.declared.run.ReplayFault.{ReplayFault}
 use Rattle.sched_core.specs.declared.run.ReplayFault.TheVariants as replay
 use Rattle.vmodel.specs.declared.history.End.{End}
 use Rattle.vmodel.specs.Run.{Setting, rules_of, history_after}
-use Rattle.vmodel.specs.Played.{Finishes}
+use Rattle.vmodel.specs.RunProgress.{Finishes}
 use Rattle.basis.specs.declared.memory.OrMemory.{OrMemory}
 use Rattle.vcd_text.specs.DumpText.{vcd}
 use Rattle.vcd_text.specs.Metered.{Written, Broken}
 use Rattle.vcd_text.specs.MeteredLaws.{stops_of}
 use Rattle.vcd_text.specs.declared.metered.Metered.{Metered}
 use Rattle.vcd_text.specs.declared.fault.WriteFault.{WriteFault}
-use Rattle.vreport.specs.Dumps.{IsRunDump, StopsDump as StopsOutlet}
+use Rattle.vreport.specs.Dumps.{IsRunDump, StopsDump as StopsByteSink}
 use Rattle.vrace.specs.RunDumps.{IsRunFault, StopsText, fault_of, replay_fault_of}
 use Rattle.vrace.specs.declared.fault.Fault.{Fault}
 
@@ -31,7 +31,7 @@ the_dump setting log limit n end finishes = record { steps = n; end = end; finis
 
 -- the fault that came as the dump went out
 pub stops : {W : Type 0} (contents : W → Option (List ℕ)) (setting : Setting) (log : List (ℕ × ℕ)) (limit : ℕ) (old new : Metered W) (cause : OrMemory WriteFault) (fault : Fault) →
-    fault ≡ fault_of cause → StopsOutlet (Written contents) (Broken contents) setting log limit old cause new →
+    fault ≡ fault_of cause → StopsByteSink (Written contents) (Broken contents) setting log limit old cause new →
     StopsText contents (IsRunDump setting log limit) old new fault
 stops contents setting log limit old new cause fault is (dump, known, stopped) =
     record { cause = cause; is = is; text = dump; holds = known; stops = stops_of contents old new dump cause stopped }

@@ -14,8 +14,8 @@ use Rattle.report_text.specs.ReportText.{report_text}
 use Rattle.vreport.specs.Ends.{HasSomeLongDump}
 use Rattle.vreport.specs.Formed.{IsFormed}
 use Rattle.vreport.specs.Reports.{IsExploration}
-use Rattle.vreport.specs.Written.{TakesReport, StopsReport as StopsOutlet}
-use Rattle.vrace.specs.Asked.{Asked}
+use Rattle.vreport.specs.Written.{TakesReport, StopsReport as StopsByteSink}
+use Rattle.vrace.specs.Request.{Request}
 use Rattle.vrace.specs.Explores.{AreWorkers, EndsSearch, Explores, FilesHaveEntriesWhereCut, HasEntriesWhereCut, IsExploreReason, IsReported, IsSearchFault, IsSearchReason, IsSharedReason, IsStatusOf, LeavesReport, Reports, Searched, setting_for}
 use Rattle.vrace.specs.Refusals.{IsOfWriting}
 use Rattle.vrace.specs.RunDumps.{failures_after, fault_of}
@@ -43,7 +43,7 @@ module _ {W : Type 0} (contents : W → Option (List ℕ)) (setting : Setting) (
     written = taken.taken;
   }
 
-  pub report_stops : (cause : OrMemory WriteFault) (fault : Fault) → fault ≡ fault_of cause → StopsOutlet (Written contents) (Broken contents) setting report old cause new →
+  pub report_stops : (cause : OrMemory WriteFault) (fault : Fault) → fault ≡ fault_of cause → StopsByteSink (Written contents) (Broken contents) setting report old cause new →
       EndsSearch contents setting limits old new fault
   report_stops cause fault is stopped = inr (record {
     cause = cause;
@@ -56,7 +56,7 @@ module _ {W : Type 0} (contents : W → Option (List ℕ)) (setting : Setting) (
 
 -- ---- of files
 
-module _ (files : List (List ℕ)) (asked : Asked) (searched : Searched files asked) (limits : Limits) (setting : Setting) (same : setting ≡ setting_for files asked searched) where
+module _ (files : List (List ℕ)) (asked : Request) (searched : Searched files asked) (limits : Limits) (setting : Setting) (same : setting ≡ setting_for files asked searched) where
   pub files_have : (status : Status) → HasEntriesWhereCut setting limits status → FilesHaveEntriesWhereCut files asked limits status
   files_have status has = (searched, subst (λ (s : Setting). HasEntriesWhereCut s limits status) same has)
 

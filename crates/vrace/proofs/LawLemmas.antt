@@ -17,8 +17,8 @@ use Rattle.vhierarchy.specs.Laws.{ElaboratesOneWay}
 use Rattle.sched_core.specs.LogText.{OneLogForText}
 use Rattle.sched_core.specs.Replay.{EndsAfter}
 use Rattle.vmodel.specs.Run.{Setting, rules_of, history_after}
-use Rattle.vrace.specs.Asked.{Asked}
-use Rattle.vrace.specs.Replays.{AreRead, texts_of, IsTreeOf, IsDesignOf, IsDesignOfFiles, grain_under, Played, setting_of, shown, IsShown}
+use Rattle.vrace.specs.Request.{Request}
+use Rattle.vrace.specs.Replays.{AreRead, texts_of, IsTreeOf, IsDesignOf, IsDesignOfFiles, grain_under, Replayed, setting_of, text_of_run, IsShown}
 use Rattle.vrace.specs.declared.replay.Show.{Show}
 use Rattle.vrace.specs.Refusals.{IsDesignFault, IsFileReason, IsTextReason, IsRunReason, IsReason, IsOfMemory, IsOfWriting}
 use Rattle.vrace.specs.declared.fault.Fault.{Fault}
@@ -136,8 +136,8 @@ module _ (laws : Laws) where
       let tree = same_tree text a.tree b.tree a.is_tree b.is_tree in
       laws.one_design b.tree top scale d e (subst (λ t. Elaborates t top scale d) tree a.elaborated) b.elaborated
 
-  module _ (files : List (List ℕ)) (asked : Asked) (log : List ℕ) where
-    module _ (p q : Played files asked log) where
+  module _ (files : List (List ℕ)) (asked : Request) (log : List ℕ) where
+    module _ (p q : Replayed files asked log) where
       designs : p.design ≡ q.design
       designs = one_design_of (expanded_text files) (expanded_timescale files) asked.top p.design q.design p.is_design q.is_design
 
@@ -153,19 +153,19 @@ module _ (laws : Laws) where
 
     pub one_text : (show : Show) (text other : List ℕ) → IsShown show files asked log text → IsShown show files asked log other → text ≡ other
     one_text show text other d e =
-        let p = d.played in
-        let q = e.played in
+        let p = d.replayed in
+        let q = e.replayed in
         let ends = moved p q d.steps d.finishes.ends in
         let steps : d.steps ≡ e.steps = same_end (rules_of (setting_of files asked log q)) q.members d.steps e.steps ends.run ends.end e.finishes.ends in
-        d.is_text ∙ (λ i. shown show (designs p q i) (history_after (settings p q i) ((logs p q).1 i) (steps i))) ∙ sym e.is_text
+        d.is_text ∙ (λ i. text_of_run show (designs p q i) (history_after (settings p q i) ((logs p q).1 i) (steps i))) ∙ sym e.is_text
 
     module _ (show : Show) (text : List ℕ) (d : IsShown show files asked log text) where
       not_for_run : (fault : Fault) → IsRunReason files asked log fault → IsOfWriting fault
-      not_for_run BadLog (read, design, none) = absurd (none d.played.head d.played.members d.played.is_log d.played.written)
-      not_for_run NoSuchChoice (played, missing) =
-          absurd (never_missing (rules_of (setting_of files asked log played)) played.members asked.steps d.steps (moved d.played played d.steps d.finishes.ends) missing)
-      not_for_run TooManySteps (played, more) =
-          absurd (never_more (rules_of (setting_of files asked log played)) played.members asked.steps d.steps (moved d.played played d.steps d.finishes.ends) d.finishes.within more)
+      not_for_run BadLog (read, design, none) = absurd (none d.replayed.head d.replayed.members d.replayed.is_log d.replayed.written)
+      not_for_run NoSuchChoice (replayed, missing) =
+          absurd (never_missing (rules_of (setting_of files asked log replayed)) replayed.members asked.steps d.steps (moved d.replayed replayed d.steps d.finishes.ends) missing)
+      not_for_run TooManySteps (replayed, more) =
+          absurd (never_more (rules_of (setting_of files asked log replayed)) replayed.members asked.steps d.steps (moved d.replayed replayed d.steps d.finishes.ends) d.finishes.within more)
       not_for_run (Memory m) r = tt
       not_for_run Write r = tt
       not_for_run (NotEnded at) r = absurd r
@@ -188,5 +188,5 @@ module _ (laws : Laws) where
       not_for_run TooLong r = absurd r
 
       pub not_refused : (fault : Fault) → IsReason files asked log fault → IsOfWriting fault
-      not_refused fault (inl r) = of_writing fault (not_for_design laws files d.played.are_read asked.top d.played.design d.played.is_design fault r)
+      not_refused fault (inl r) = of_writing fault (not_for_design laws files d.replayed.are_read asked.top d.replayed.design d.replayed.is_design fault r)
       not_refused fault (inr r) = not_for_run fault r

@@ -7,8 +7,8 @@ use Rattle.sched_core.specs.declared.run.ReplayFault.TheVariants as replay
 use Rattle.vdesign.specs.Design.{Design}
 use Rattle.vmodel.specs.declared.history.Item.{Item}
 use Rattle.vmodel.specs.declared.history.End.{End}
-use Rattle.vmodel.specs.Run.{Setting, rules_of, given_by}
-use Rattle.vmodel.specs.Played.{Finishes, IsOnItsWay}
+use Rattle.vmodel.specs.Run.{Setting, rules_of, items_after}
+use Rattle.vmodel.specs.RunProgress.{Finishes, IsOnItsWay}
 use Rattle.vmachine.specs.Handed.{IsHanded, LeavesSink}
 use Rattle.vmachine.specs.declared.run.RunFault.{RunFault}
 use Rattle.vmachine.specs.declared.run.RunFault.TheVariants.{Sink}
@@ -16,7 +16,7 @@ use Rattle.basis.specs.declared.memory.NoMemory.{NoMemory}
 use Rattle.basis.specs.declared.memory.OrMemory.{OrMemory}
 use Rattle.basis.specs.declared.memory.OrMemory.TheVariants as or
 use Rattle.vcd_text.specs.Held.{Appended}
-use Rattle.vcd_text.specs.Outlets.{IsOutlet, Stopped}
+use Rattle.vcd_text.specs.ByteSinks.{IsByteSink, Stopped}
 use Rattle.vcd_text.specs.Metered.{Written, Broken}
 use Rattle.vcd_text.specs.MeteredLaws.{stops_of}
 use Rattle.vcd_text.specs.declared.metered.Metered.{Metered}
@@ -34,7 +34,7 @@ use Rattle.vrace.specs.declared.fault.Fault.{Fault}
 
 -- the lines of a run that ends
 the_lines : (setting : Setting) (log : List (ℕ × ℕ)) (limit n : ℕ) (end : End) → Finishes setting log limit n end →
-    IsRunLines setting log limit (lines setting.design (given_by setting log n))
+    IsRunLines setting log limit (lines setting.design (items_after setting log n))
 the_lines setting log limit n end finishes = record { steps = n; end = end; finishes = finishes; is_text = refl }
 
 -- a run that ends isn't refused
@@ -43,7 +43,7 @@ pub never_by_replay : (setting : Setting) (log : List (ℕ × ℕ)) (limit : ℕ
 never_by_replay setting log limit replay.NoSuchChoice (n, end, finishes) missing = never_missing (rules_of setting) log limit n finishes.ends missing
 never_by_replay setting log limit replay.TooManySteps (n, end, finishes) more = never_more (rules_of setting) log limit n finishes.ends finishes.within more
 
-module _ {O F : Type 0} (takes : O → List ℕ → O → Type 0) (fails : O → List ℕ → F → O → Type 0) (laws : IsOutlet takes fails)
+module _ {O F : Type 0} (takes : O → List ℕ → O → Type 0) (fails : O → List ℕ → F → O → Type 0) (laws : IsByteSink takes fails)
     (setting : Setting) (log : List (ℕ × ℕ)) (limit : ℕ) (s : LinesSink O) (fresh : s.in_force ≡ Nobody) (same : s.design.now ≡ setting.design) where
   -- what items add to nothing are their lines
   text_is : (items : List Item) → text_of s items ≡ lines setting.design items
@@ -52,32 +52,32 @@ module _ {O F : Type 0} (takes : O → List ℕ → O → Type 0) (fails : O →
       ∙ ap (λ (in_force : InForce). lines_from setting.design in_force items) fresh
 
   -- all of it was taken
-  pub takes_whole : (t : LinesSink O) (end : End) → ((n : ℕ) × Finishes setting log limit n end × Takes takes s (given_by setting log n) t) →
-      TakesLines takes setting log limit s.outlet.now t.outlet.now
+  pub takes_whole : (t : LinesSink O) (end : End) → ((n : ℕ) × Finishes setting log limit n end × Takes takes s (items_after setting log n) t) →
+      TakesLines takes setting log limit s.byte_sink.now t.byte_sink.now
   takes_whole t end (n, finishes, taken) = (
-    lines setting.design (given_by setting log n),
+    lines setting.design (items_after setting log n),
     the_lines setting log limit n end finishes,
-    subst (λ (text : List ℕ). takes s.outlet.now text t.outlet.now) (text_is (given_by setting log n)) taken.2,
+    subst (λ (text : List ℕ). takes s.byte_sink.now text t.byte_sink.now) (text_is (items_after setting log n)) taken.2,
   )
 
   -- the fault came as the items went out
   stops_within : (t : LinesSink O) (fault : OrMemory F) → HasEnd setting log limit → (n : ℕ) → IsOnItsWay setting log limit n →
-      Fails takes fails s (given_by setting log n) fault t → StopsLines takes fails setting log limit s.outlet.now fault t.outlet.now
+      Fails takes fails s (items_after setting log n) fault t → StopsLines takes fails setting log limit s.byte_sink.now fault t.byte_sink.now
   stops_within t fault (steps, end, finishes) n underway failed =
       let front = given_front setting log n steps (not_behind (rules_of setting) log n steps underway.run finishes.ends) in
-      let whole : Fails takes fails s (given_by setting log steps) fault t =
-      subst (λ (xs : List Item). Fails takes fails s xs fault t) (sym front.1) (fails_before takes fails laws s t (given_by setting log n) front.0 fault failed) in (
-        lines setting.design (given_by setting log steps),
+      let whole : Fails takes fails s (items_after setting log steps) fault t =
+      subst (λ (xs : List Item). Fails takes fails s xs fault t) (sym front.1) (fails_before takes fails laws s t (items_after setting log n) front.0 fault failed) in (
+        lines setting.design (items_after setting log steps),
         the_lines setting log limit steps end finishes,
-        subst (λ (text : List ℕ). Stopped takes fails s.outlet.now text fault t.outlet.now) (text_is (given_by setting log steps)) whole.1,
+        subst (λ (text : List ℕ). Stopped takes fails s.byte_sink.now text fault t.byte_sink.now) (text_is (items_after setting log steps)) whole.1,
       )
 
   -- want of memory between two items
   stops_between : (t : LinesSink O) (refused : NoMemory) → HasEnd setting log limit → IsHanded (Takes takes) setting log limit s t →
-      StopsLines takes fails setting log limit s.outlet.now (or.Memory refused) t.outlet.now
+      StopsLines takes fails setting log limit s.byte_sink.now (or.Memory refused) t.byte_sink.now
   stops_between t refused known (n, k, underway, taken) =
-      let given : List Item = given_by setting log n in
-      let later : Fails takes fails t (drop k given) (or.Memory refused) t = ((refl, refl), (0, laws.none t.outlet.now)) in
+      let given : List Item = items_after setting log n in
+      let later : Fails takes fails t (drop k given) (or.Memory refused) t = ((refl, refl), (0, laws.none t.byte_sink.now)) in
       let failed : Fails takes fails s given (or.Memory refused) t =
       subst (λ (xs : List Item). Fails takes fails s xs (or.Memory refused) t) (take-append-drop k given)
       (fails_after takes fails laws s t t (take k given) (drop k given) (or.Memory refused) taken later) in
@@ -87,12 +87,12 @@ module _ {O F : Type 0} (takes : O → List ℕ → O → Type 0) (fails : O →
   Left e t = LeavesSink (Takes takes) (Fails takes fails) setting log limit s e t
 
   pub on_memory : (t : LinesSink O) (e : OrMemory (RunFault (OrMemory F))) (refused : NoMemory) → e ≡ or.Memory refused → Left e t →
-      HasEnd setting log limit → StopsLines takes fails setting log limit s.outlet.now (or.Memory refused) t.outlet.now
+      HasEnd setting log limit → StopsLines takes fails setting log limit s.byte_sink.now (or.Memory refused) t.byte_sink.now
   on_memory t e refused is left known = stops_between t refused known (subst (λ x. Left x t) is left)
 
   pub on_sink : (t : LinesSink O) (e : OrMemory (RunFault (OrMemory F))) (why : RunFault (OrMemory F)) (fault : OrMemory F) →
       e ≡ or.Fault why → why ≡ Sink fault → Left e t →
-      HasEnd setting log limit → StopsLines takes fails setting log limit s.outlet.now fault t.outlet.now
+      HasEnd setting log limit → StopsLines takes fails setting log limit s.byte_sink.now fault t.byte_sink.now
   on_sink t e why fault is_fault is_sink left known =
       let (n, underway, failed) = subst (λ x. Left x t) (is_fault ∙ ap or.Fault is_sink) left in
       stops_within t fault known n underway failed

@@ -2,7 +2,7 @@
 use Rattle.std.proofs.Common.{◌≡◌, inl, inr, ℕ, List, Option, refl, sym, ap, subst, ◌∙◌}
 use Rattle.vmodel.specs.Run.{Setting, rules_of, history_after}
 use Rattle.vmodel.specs.declared.history.End.{End}
-use Rattle.vmodel.specs.Played.{Finishes}
+use Rattle.vmodel.specs.RunProgress.{Finishes}
 use Rattle.sched_core.specs.Replay.{IsMissing, TakesMore}
 use Rattle.vcd_text.specs.DumpText.{vcd}
 use Rattle.vcd_text.specs.declared.metered.Metered.{Metered}
@@ -11,8 +11,8 @@ use Rattle.vcd_text.specs.declared.fault.WriteFault.TheVariants as write
 use Rattle.basis.specs.declared.memory.OrMemory.{OrMemory}
 use Rattle.basis.specs.declared.memory.OrMemory.TheVariants as or
 use Rattle.vcd_text.specs.Metered.{count_after}
-use Rattle.vrace.specs.Asked.{Asked}
-use Rattle.vrace.specs.Replays.{Played, setting_of, shown, IsShown, IsDump}
+use Rattle.vrace.specs.Request.{Request}
+use Rattle.vrace.specs.Replays.{Replayed, setting_of, text_of_run, IsShown, IsDump}
 use Rattle.vrace.specs.declared.replay.Show.{Show}
 use Rattle.vrace.specs.declared.replay.Show.TheVariants.{Dump, Lines}
 use Rattle.lines_text.specs.LinesText.{lines}
@@ -28,7 +28,7 @@ of_writing : (cause : OrMemory WriteFault) → IsOfWriting (fault_of cause)
 of_writing (or.Memory m) = tt
 of_writing (or.Fault write.Write) = tt
 
-reason_of_writing : (files : List (List ℕ)) (asked : Asked) (log dump : List ℕ) (cause : OrMemory WriteFault) → IsDump files asked log dump → IsRunReason files asked log (fault_of cause)
+reason_of_writing : (files : List (List ℕ)) (asked : Request) (log dump : List ℕ) (cause : OrMemory WriteFault) → IsDump files asked log dump → IsRunReason files asked log (fault_of cause)
 reason_of_writing files asked log dump (or.Memory m) is = tt
 reason_of_writing files asked log dump (or.Fault write.Write) is = (dump, is)
 
@@ -36,33 +36,33 @@ count_of_writing : (cause : OrMemory WriteFault) (n : ℕ) → count_after cause
 count_of_writing (or.Memory m) n = refl
 count_of_writing (or.Fault write.Write) n = refl
 
-module _ (files : List (List ℕ)) (asked : Asked) (log : List ℕ) (played : Played files asked log) (setting : Setting) (same : setting ≡ setting_of files asked log played) where
-  pub dumped : (dump : List ℕ) → IsRunDump setting played.members asked.steps dump → IsDump files asked log dump
+module _ (files : List (List ℕ)) (asked : Request) (log : List ℕ) (replayed : Replayed files asked log) (setting : Setting) (same : setting ≡ setting_of files asked log replayed) where
+  pub dumped : (dump : List ℕ) → IsRunDump setting replayed.members asked.steps dump → IsDump files asked log dump
   dumped dump d = record {
-    played = played;
+    replayed = replayed;
     steps = d.steps;
     end = d.end;
-    finishes = subst (λ (s : Setting). Finishes s played.members asked.steps d.steps d.end) same d.finishes;
-    is_text = d.is_text ∙ ap (λ (s : Setting). vcd s.design (history_after s played.members d.steps)) same;
+    finishes = subst (λ (s : Setting). Finishes s replayed.members asked.steps d.steps d.end) same d.finishes;
+    is_text = d.is_text ∙ ap (λ (s : Setting). vcd s.design (history_after s replayed.members d.steps)) same;
   }
 
-  printed : (text : List ℕ) → IsRunLines setting played.members asked.steps text → IsShown Lines files asked log text
+  printed : (text : List ℕ) → IsRunLines setting replayed.members asked.steps text → IsShown Lines files asked log text
   printed text d = record {
-    played = played;
+    replayed = replayed;
     steps = d.steps;
     end = d.end;
-    finishes = subst (λ (s : Setting). Finishes s played.members asked.steps d.steps d.end) same d.finishes;
-    is_text = d.is_text ∙ ap (λ (s : Setting). lines s.design (history_after s played.members d.steps).items) same;
+    finishes = subst (λ (s : Setting). Finishes s replayed.members asked.steps d.steps d.end) same d.finishes;
+    is_text = d.is_text ∙ ap (λ (s : Setting). lines s.design (history_after s replayed.members d.steps).items) same;
   }
 
   -- what is shown of the run is what is shown of the files
-  pub shown_so : (show : Show) (text : List ℕ) → IsRunShown show setting played.members asked.steps text → IsShown show files asked log text
+  pub shown_so : (show : Show) (text : List ℕ) → IsRunShown show setting replayed.members asked.steps text → IsShown show files asked log text
   shown_so Dump text d = dumped text d
   shown_so Lines text d = printed text d
 
-  pub run_reason : (fault : Fault) → IsRunFault setting played.members asked.steps fault → IsRunReason files asked log fault
-  run_reason NoSuchChoice p = (played, subst (λ (s : Setting). IsMissing (rules_of s) played.members asked.steps) same p)
-  run_reason TooManySteps p = (played, subst (λ (s : Setting). TakesMore (rules_of s) played.members asked.steps) same p)
+  pub run_reason : (fault : Fault) → IsRunFault setting replayed.members asked.steps fault → IsRunReason files asked log fault
+  run_reason NoSuchChoice p = (replayed, subst (λ (s : Setting). IsMissing (rules_of s) replayed.members asked.steps) same p)
+  run_reason TooManySteps p = (replayed, subst (λ (s : Setting). TakesMore (rules_of s) replayed.members asked.steps) same p)
   run_reason (Memory m) p = tt
   run_reason (NotEnded at) p = absurd p
   run_reason (BadToken at) p = absurd p
@@ -88,25 +88,25 @@ module _ (files : List (List ℕ)) (asked : Asked) (log : List ℕ) (played : Pl
   -- where something is shown there is a dump
   dump_of : (show : Show) (text : List ℕ) → IsShown show files asked log text → (dump : List ℕ) × IsDump files asked log dump
   dump_of show text d = (
-    shown Dump d.played.design (history_after (setting_of files asked log d.played) d.played.members d.steps),
-    record { played = d.played; steps = d.steps; end = d.end; finishes = d.finishes; is_text = refl },
+    text_of_run Dump d.replayed.design (history_after (setting_of files asked log d.replayed) d.replayed.members d.steps),
+    record { replayed = d.replayed; steps = d.steps; end = d.end; finishes = d.finishes; is_text = refl },
   )
 
   -- where the run ends there is a dump, so that a writer that fails has its reason
-  pub writing_reason : (n : ℕ) (end : End) → Finishes setting played.members asked.steps n end → (cause : OrMemory WriteFault) → IsReason files asked log (fault_of cause)
+  pub writing_reason : (n : ℕ) (end : End) → Finishes setting replayed.members asked.steps n end → (cause : OrMemory WriteFault) → IsReason files asked log (fault_of cause)
   writing_reason n end finishes cause =
-      let dump = the_dump setting played.members asked.steps n end finishes in
+      let dump = the_dump setting replayed.members asked.steps n end finishes in
       inr (reason_of_writing files asked log _ cause (dumped _ dump))
 
   module _ {W : Type 0} (contents : W → Option (List ℕ)) (show : Show) (old new : Metered W) where
-    pub reason : (fault : Fault) → Ends contents (IsRunShown show setting played.members asked.steps) setting played.members asked.steps old new fault →
+    pub reason : (fault : Fault) → Ends contents (IsRunShown show setting replayed.members asked.steps) setting replayed.members asked.steps old new fault →
         IsReason files asked log fault
     reason fault (inl (p, kept)) = inr (run_reason fault p)
     reason fault (inr stops) =
         let dump = dump_of show stops.text (shown_so show stops.text stops.holds) in
         inr (subst (IsRunReason files asked log) (sym stops.is) (reason_of_writing files asked log dump.0 stops.cause dump.1))
 
-    pub left : (fault : Fault) → Ends contents (IsRunShown show setting played.members asked.steps) setting played.members asked.steps old new fault →
+    pub left : (fault : Fault) → Ends contents (IsRunShown show setting replayed.members asked.steps) setting replayed.members asked.steps old new fault →
         Leaves contents show files asked log fault old new
     left fault (inl (p, kept)) = inl kept
     left fault (inr stops) = inr (

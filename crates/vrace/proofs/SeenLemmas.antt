@@ -6,7 +6,7 @@ use Rattle.sched_core.specs.declared.run.ReplayFault.{ReplayFault}
 use Rattle.sched_core.specs.declared.run.ReplayFault.TheVariants as replay
 use Rattle.vmodel.specs.declared.history.End.{End}
 use Rattle.vmodel.specs.Run.{Setting, rules_of, state_after, end_of}
-use Rattle.vmodel.specs.Played.{Finishes}
+use Rattle.vmodel.specs.RunProgress.{Finishes}
 use Rattle.vmachine.specs.Machines.{machine_rules}
 use Rattle.vmachine.specs.MachineLaws.{HasSameWidth, RunsAsSetting, StandsThroughout}
 use Rattle.vrace.specs.RunDumps.{IsRunFault, replay_fault_of}

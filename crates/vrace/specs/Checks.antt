@@ -2,27 +2,27 @@
 use Rattle.std.specs.Prelude.{◌≡◌, ℕ, ◌⊎◌, List, Some, map}
 use Rattle.std.specs.Borrow.{Bor}
 use Rattle.report_text.specs.Report.{Report}
-use Rattle.report_text.specs.WellFormed.{IsNoReportText, IsTold}
+use Rattle.report_text.specs.WellFormed.{IsNoReportText, IsReportText}
 use Rattle.vreport.specs.Truth.{IsTrueReport}
 use Rattle.report_check.specs.FirstBad.{IsFirstBad}
 use Rattle.report_check.specs.declared.check.FirstBad.{FirstBad}
 use Rattle.report_check.specs.declared.check.FirstBad.TheVariants.{Head, End, Race}
 use Rattle.vmodel.specs.Run.{Setting}
-use Rattle.vrace.specs.Asked.{Asked}
+use Rattle.vrace.specs.Request.{Request}
 use Rattle.vrace.specs.Explores.{Searched, setting_for}
 use Rattle.vrace.specs.Refusals.{IsDesignFault}
 use Rattle.vrace.specs.declared.fault.Fault.{Fault}
 use Rattle.vrace.specs.declared.fault.Fault.TheVariants.{BadReport, FalseEnd, FalseHead, FalseRace, Memory}
 
 -- what the head of a report asks for
-abbrev pub asked_by : Report → Asked
+abbrev pub asked_by : Report → Request
 asked_by report = record { top = Some report.top; until = report.until; steps = report.steps; grain = report.grain }
 
 -- the text is that of a report with its dumps, and the files have a design by its head
 pub record Checked (files : List (List ℕ)) (text : List ℕ) : Type 0 where
   pub report : Report
   pub dumps : List (List ℕ)
-  pub told : IsTold text (report, dumps)
+  pub is_report_text : IsReportText text (report, dumps)
   pub searched : Searched files (asked_by report)
 
 abbrev pub setting_by : (files : List (List ℕ)) (text : List ℕ) → Checked files text → Setting
@@ -64,7 +64,7 @@ IsReportReason files text other = ⊥
 pub record HasNoSetting (files : List (List ℕ)) (text : List ℕ) (fault : Fault) : Type 0 where
   pub report : Report
   pub dumps : List (List ℕ)
-  pub told : IsTold text (report, dumps)
+  pub is_report_text : IsReportText text (report, dumps)
   pub why : IsDesignFault files (Some report.top) fault
 
 -- why a check is refused: for the report, or for the files
@@ -73,4 +73,4 @@ IsCheckReason files text fault = IsReportReason files text fault ⊎ HasNoSettin
 
 -- so it is of each text that tells this report with these dumps
 abbrev pub OfItsText : Report → List (Bor (List ℕ)) → (List ℕ → Type 0) → Type 0
-OfItsText report dumps P = (text : List ℕ) → IsTold text (report, map (λ dump. dump.now) dumps) → P text
+OfItsText report dumps P = (text : List ℕ) → IsReportText text (report, map (λ dump. dump.now) dumps) → P text

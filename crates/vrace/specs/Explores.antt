@@ -21,7 +21,7 @@ use Rattle.vreport.specs.Agreement.{Agree}
 use Rattle.vreport.specs.Ends.{HasSomeLongDump}
 use Rattle.vreport.specs.Reports.{HasOutcome, IsExploration}
 use Rattle.vreport.specs.Written.{AreDumps}
-use Rattle.vrace.specs.Asked.{Asked}
+use Rattle.vrace.specs.Request.{Request}
 use Rattle.vrace.specs.Refusals.{IsDesignFault, IsOfWriting}
 use Rattle.vrace.specs.Replays.{AreRead, IsDesignOfFiles}
 use Rattle.vrace.specs.RunDumps.{fault_of}
@@ -95,30 +95,30 @@ EndsSearch contents setting limits old new fault =
 -- ---- of files
 
 -- what is explored: the design of the files, under the time limit and in the grain that are asked for
-pub record Searched (files : List (List ℕ)) (asked : Asked) : Type 0 where
+pub record Searched (files : List (List ℕ)) (asked : Request) : Type 0 where
   pub are_read : AreRead files
   pub design : Design
   pub is_design : IsDesignOfFiles files asked.top design
 
-abbrev pub setting_for : (files : List (List ℕ)) (asked : Asked) → Searched files asked → Setting
+abbrev pub setting_for : (files : List (List ℕ)) (asked : Request) → Searched files asked → Setting
 setting_for files asked searched = record { design = searched.design; until = asked.until; grain = asked.grain }
 
 -- The report of the files: the writer grew by just its text.
-pub record Explores {W : Type 0} (contents : W → Option (List ℕ)) (files : List (List ℕ)) (asked : Asked) (limits : Limits) (status : Status) (old new : Metered W) : Type 0 where
+pub record Explores {W : Type 0} (contents : W → Option (List ℕ)) (files : List (List ℕ)) (asked : Request) (limits : Limits) (status : Status) (old new : Metered W) : Type 0 where
   pub searched : Searched files asked
   pub reports : Reports contents (setting_for files asked searched) limits status old new
 
 -- this is what is explored of the files
-pub record IsSearched (files : List (List ℕ)) (asked : Asked) (setting : Setting) : Type 0 where
+pub record IsSearched (files : List (List ℕ)) (asked : Request) (setting : Setting) : Type 0 where
   pub searched : Searched files asked
   pub setting_is : setting ≡ setting_for files asked searched
 
-abbrev pub FilesHaveEntriesWhereCut : List (List ℕ) → Asked → Limits → Status → Type 0
+abbrev pub FilesHaveEntriesWhereCut : List (List ℕ) → Request → Limits → Status → Type 0
 FilesHaveEntriesWhereCut files asked limits status =
     (searched : Searched files asked) × HasEntriesWhereCut (setting_for files asked searched) limits status
 
 -- what a fault of the search or of its report says
-abbrev pub IsSearchReason : List (List ℕ) → Asked → Limits → Fault → Type 0
+abbrev pub IsSearchReason : List (List ℕ) → Request → Limits → Fault → Type 0
 IsSearchReason files asked limits (TooLarge at) =
     (searched : Searched files asked) × HasSomeLongDump (setting_for files asked searched) limits × HasNoPlace at
 IsSearchReason files asked limits (Memory m) = Unit {0}
@@ -127,7 +127,7 @@ IsSearchReason files asked limits Write =
 IsSearchReason files asked limits other = ⊥
 
 -- why an exploration is refused: for its files or their text, or in the search
-abbrev pub IsExploreReason : List (List ℕ) → Asked → Limits → Fault → Type 0
+abbrev pub IsExploreReason : List (List ℕ) → Request → Limits → Fault → Type 0
 IsExploreReason files asked limits fault = IsDesignFault files asked.top fault ⊎ IsSearchReason files asked limits fault
 
 -- so many may work on one book
@@ -135,12 +135,12 @@ abbrev pub AreWorkers : ℕ → Type 0
 AreWorkers workers = (1 ≤ workers) × (workers ≤ 64)
 
 -- the same where several workers are asked for: or their number is out of its limit
-abbrev pub IsSharedReason : List (List ℕ) → Asked → Limits → ℕ → Fault → Type 0
+abbrev pub IsSharedReason : List (List ℕ) → Request → Limits → ℕ → Fault → Type 0
 IsSharedReason files asked limits workers fault =
     (¬ AreWorkers workers × (fault ≡ OutOfLimit)) ⊎ (AreWorkers workers × IsExploreReason files asked limits fault)
 
 -- a front of a report stands written
-pub record IsBegunReport (files : List (List ℕ)) (asked : Asked) (limits : Limits) (old new : Option (List ℕ)) : Type 0 where
+pub record IsBegunReport (files : List (List ℕ)) (asked : Request) (limits : Limits) (old new : Option (List ℕ)) : Type 0 where
   pub searched : Searched files asked
   pub report : Report
   pub dumps : List (List ℕ)
@@ -149,26 +149,26 @@ pub record IsBegunReport (files : List (List ℕ)) (asked : Asked) (limits : Lim
   pub front : Appends old new (take len (report_text report dumps))
 
 -- what a refusal leaves: the writer as it was, or a front of a report in it, where memory or the writer failed as it went out
-abbrev pub LeavesReport : {W : Type 0} → (W → Option (List ℕ)) → List (List ℕ) → Asked → Limits → Fault → Metered W → Metered W → Type 0
+abbrev pub LeavesReport : {W : Type 0} → (W → Option (List ℕ)) → List (List ℕ) → Request → Limits → Fault → Metered W → Metered W → Type 0
 LeavesReport contents files asked limits fault old new =
     (new ≡ old) ⊎ (IsOfWriting fault × IsBegunReport files asked limits (contents old.inner) (contents new.inner))
 
 -- ---- two explorations of the same files
 
 -- they ask for the same top, time limit and grain
-pub record AskAlike (one other : Asked) : Type 0 where
+pub record AskAlike (one other : Request) : Type 0 where
   pub top_is : one.top ≡ other.top
   pub until_is : one.until ≡ other.until
   pub grain_is : one.grain ≡ other.grain
 
 -- the report is of an exploration of the files, as `Explores` has it
-pub record IsReportOf (files : List (List ℕ)) (asked : Asked) (limits : Limits) (report : Report) : Type 0 where
+pub record IsReportOf (files : List (List ℕ)) (asked : Request) (limits : Limits) (report : Report) : Type 0 where
   pub searched : Searched files asked
   pub exploration : IsExploration (setting_for files asked searched) limits report
 
 -- two such reports, under as many departures, that both say exhausted list the same ends and the same races
 abbrev pub ExploredFilesAgree : Type 0
-ExploredFilesAgree = (files : List (List ℕ)) (asked again : Asked) (limits others : Limits) (one other : Report) →
+ExploredFilesAgree = (files : List (List ℕ)) (asked again : Request) (limits others : Limits) (one other : Report) →
     AskAlike asked again → limits.depart ≡ others.depart →
     IsReportOf files asked limits one → IsReportOf files again others other →
     one.outcome ≡ Exhausted → other.outcome ≡ Exhausted → Agree one other

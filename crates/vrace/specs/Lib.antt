@@ -1,4 +1,4 @@
-pub mod Asked
+pub mod Request
 pub mod Refusals
 pub mod Replays
 pub mod Unique

@@ -21,8 +21,8 @@ use Rattle.sched_core.specs.LogText.{IsNoNamedLogText}
 use Rattle.sched_core.specs.Replay.{IsMissing, TakesMore}
 use Rattle.vmodel.specs.Run.{rules_of}
 use Rattle.vcd_text.specs.declared.metered.Metered.{Metered}
-use Rattle.vrace.specs.Asked.{Asked}
-use Rattle.vrace.specs.Replays.{limit, total, AreRead, AreTokens, IsTreeOf, IsDesignOf, IsDesignOfFiles, Played, setting_of, IsShown, IsDump}
+use Rattle.vrace.specs.Request.{Request}
+use Rattle.vrace.specs.Replays.{limit, total, AreRead, AreTokens, IsTreeOf, IsDesignOf, IsDesignOfFiles, Replayed, setting_of, IsShown, IsDump}
 use Rattle.vrace.specs.declared.replay.Show.{Show}
 use Rattle.vrace.specs.declared.fault.At.{At}
 use Rattle.velab.specs.declared.fault.Rule.{Rule}
@@ -95,11 +95,11 @@ IsLogFault log (Memory m) = Unit {0}
 IsLogFault log other = ⊥
 
 -- what a fault of the log or of its run says; where a writer failed there was a run to show, which has a dump
-abbrev pub IsRunReason : List (List ℕ) → Asked → List ℕ → Fault → Type 0
+abbrev pub IsRunReason : List (List ℕ) → Request → List ℕ → Fault → Type 0
 IsRunReason files asked log BadLog =
     AreRead files × ((design : Design) × IsDesignOfFiles files asked.top design) × IsNoNamedLogText log
-IsRunReason files asked log NoSuchChoice = (played : Played files asked log) × IsMissing (rules_of (setting_of files asked log played)) played.members asked.steps
-IsRunReason files asked log TooManySteps = (played : Played files asked log) × TakesMore (rules_of (setting_of files asked log played)) played.members asked.steps
+IsRunReason files asked log NoSuchChoice = (replayed : Replayed files asked log) × IsMissing (rules_of (setting_of files asked log replayed)) replayed.members asked.steps
+IsRunReason files asked log TooManySteps = (replayed : Replayed files asked log) × TakesMore (rules_of (setting_of files asked log replayed)) replayed.members asked.steps
 IsRunReason files asked log (Memory m) = Unit {0}
 IsRunReason files asked log Write = (dump : List ℕ) × IsDump files asked log dump
 IsRunReason files asked log other = ⊥
@@ -109,7 +109,7 @@ abbrev pub IsDesignFault : List (List ℕ) → Option (List ℕ) → Fault → T
 IsDesignFault files top fault = IsFileReason files fault ⊎ ((read : AreRead files) × IsTextReason read.source top fault)
 
 -- why a replay is refused: for its files or their text, or for the log and its run
-abbrev pub IsReason : List (List ℕ) → Asked → List ℕ → Fault → Type 0
+abbrev pub IsReason : List (List ℕ) → Request → List ℕ → Fault → Type 0
 IsReason files asked log fault = IsDesignFault files asked.top fault ⊎ IsRunReason files asked log fault
 
 -- want of memory
@@ -124,14 +124,14 @@ IsOfWriting Write = Unit {0}
 IsOfWriting other = ⊥
 
 -- a front of what is shown stands written
-pub record IsBegun (show : Show) (files : List (List ℕ)) (asked : Asked) (log : List ℕ) (old new : Option (List ℕ)) : Type 0 where
+pub record IsBegun (show : Show) (files : List (List ℕ)) (asked : Request) (log : List ℕ) (old new : Option (List ℕ)) : Type 0 where
   pub text : List ℕ
   pub is_text : IsShown show files asked log text
   pub len : ℕ
   pub front : Appends old new (take len text)
 
 -- what a refusal leaves: the writer as it was, or a front of what is shown in it, where memory or the writer failed as it went out
-abbrev pub Leaves : {W : Type 0} → (W → Option (List ℕ)) → Show → List (List ℕ) → Asked → List ℕ → Fault → Metered W → Metered W → Type 0
+abbrev pub Leaves : {W : Type 0} → (W → Option (List ℕ)) → Show → List (List ℕ) → Request → List ℕ → Fault → Metered W → Metered W → Type 0
 Leaves contents show files asked log fault old new =
     (new ≡ old) ⊎ (IsOfWriting fault × IsBegun show files asked log (contents old.inner) (contents new.inner))
 

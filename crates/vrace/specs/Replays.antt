@@ -19,13 +19,13 @@ use Rattle.vmodel.specs.declared.history.End.{End}
 use Rattle.vmodel.specs.declared.history.Grain.{Grain}
 use Rattle.vmodel.specs.declared.history.Grain.TheVariants as grains
 use Rattle.vmodel.specs.Run.{Setting, history_after}
-use Rattle.vmodel.specs.Played.{Finishes}
+use Rattle.vmodel.specs.RunProgress.{Finishes}
 use Rattle.vmodel.specs.History.{History}
 use Rattle.vcd_text.specs.DumpText.{vcd}
 use Rattle.lines_text.specs.LinesText.{lines}
 use Rattle.vrace.specs.declared.replay.Show.{Show}
 use Rattle.vrace.specs.declared.replay.Show.TheVariants.{Dump, Lines}
-use Rattle.vrace.specs.Asked.{Asked}
+use Rattle.vrace.specs.Request.{Request}
 
 -- the most bytes that the files may have together
 abbrev pub limit : ℕ
@@ -75,7 +75,7 @@ grain_under head.Process grain = grains.Process
 grain_under head.Statement grain = grains.Statement
 
 -- What is run: the design of the files, under the log that the log's text writes.
-pub record Played (files : List (List ℕ)) (asked : Asked) (log : List ℕ) : Type 0 where
+pub record Replayed (files : List (List ℕ)) (asked : Request) (log : List ℕ) : Type 0 where
   pub are_read : AreRead files
   pub design : Design
   pub is_design : IsDesignOfFiles files asked.top design
@@ -84,31 +84,31 @@ pub record Played (files : List (List ℕ)) (asked : Asked) (log : List ℕ) : T
   pub is_log : IsLog members
   pub written : log ≡ named_log_text head members
 
-abbrev pub setting_of : (files : List (List ℕ)) (asked : Asked) (log : List ℕ) → Played files asked log → Setting
-setting_of files asked log played = record {
-  design = played.design;
+abbrev pub setting_of : (files : List (List ℕ)) (asked : Request) (log : List ℕ) → Replayed files asked log → Setting
+setting_of files asked log replayed = record {
+  design = replayed.design;
   until = asked.until;
-  grain = grain_under played.head asked.grain;
+  grain = grain_under replayed.head asked.grain;
 }
 
 -- what is run: this setting, under this log
-abbrev pub IsPlay : List (List ℕ) → Asked → List ℕ → Setting → List (ℕ × ℕ) → Type 0
-IsPlay files asked log setting members =
-    (played : Played files asked log) × (setting ≡ setting_of files asked log played) × (members ≡ played.members)
+abbrev pub IsReplayInput : List (List ℕ) → Request → List ℕ → Setting → List (ℕ × ℕ) → Type 0
+IsReplayInput files asked log setting members =
+    (replayed : Replayed files asked log) × (setting ≡ setting_of files asked log replayed) × (members ≡ replayed.members)
 
 -- what is shown of a run: its value change dump (clause 18), or its printed lines (17.1)
-abbrev pub shown : Show → Design → History → List ℕ
-shown Dump design history = vcd design history
-shown Lines design history = lines design history.items
+abbrev pub text_of_run : Show → Design → History → List ℕ
+text_of_run Dump design history = vcd design history
+text_of_run Lines design history = lines design history.items
 
 -- What is shown of the files under the log: the text of the run to its end.
-pub record IsShown (show : Show) (files : List (List ℕ)) (asked : Asked) (log : List ℕ) (text : List ℕ) : Type 0 where
-  pub played : Played files asked log
+pub record IsShown (show : Show) (files : List (List ℕ)) (asked : Request) (log : List ℕ) (text : List ℕ) : Type 0 where
+  pub replayed : Replayed files asked log
   pub steps : ℕ
   pub end : End
-  pub finishes : Finishes (setting_of files asked log played) played.members asked.steps steps end
-  pub is_text : text ≡ shown show played.design (history_after (setting_of files asked log played) played.members steps)
+  pub finishes : Finishes (setting_of files asked log replayed) replayed.members asked.steps steps end
+  pub is_text : text ≡ text_of_run show replayed.design (history_after (setting_of files asked log replayed) replayed.members steps)
 
 -- their dump
-abbrev pub IsDump : List (List ℕ) → Asked → List ℕ → List ℕ → Type 0
+abbrev pub IsDump : List (List ℕ) → Request → List ℕ → List ℕ → Type 0
 IsDump files asked log dump = IsShown Dump files asked log dump

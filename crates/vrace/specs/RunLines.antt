@@ -2,10 +2,10 @@
 use Rattle.std.specs.Prelude.{◌≡◌, ℕ, List}
 use Rattle.basis.specs.declared.memory.OrMemory.{OrMemory}
 use Rattle.vmodel.specs.declared.history.End.{End}
-use Rattle.vmodel.specs.Run.{Setting, given_by}
-use Rattle.vmodel.specs.Played.{Finishes}
+use Rattle.vmodel.specs.Run.{Setting, items_after}
+use Rattle.vmodel.specs.RunProgress.{Finishes}
 use Rattle.lines_text.specs.LinesText.{lines}
-use Rattle.vcd_text.specs.Outlets.{Stopped}
+use Rattle.vcd_text.specs.ByteSinks.{Stopped}
 
 -- the run under the log ends within so many steps
 abbrev pub HasEnd : Setting → List (ℕ × ℕ) → ℕ → Type 0
@@ -16,7 +16,7 @@ pub record IsRunLines (setting : Setting) (log : List (ℕ × ℕ)) (limit : ℕ
   pub steps : ℕ
   pub end : End
   pub finishes : Finishes setting log limit steps end
-  pub is_text : text ≡ lines setting.design (given_by setting log steps)
+  pub is_text : text ≡ lines setting.design (items_after setting log steps)
 
 -- its lines were taken
 abbrev pub TakesLines : {O : Type 0} → (O → List ℕ → O → Type 0) → Setting → List (ℕ × ℕ) → ℕ → O → O → Type 0

@@ -2,7 +2,7 @@
 
 ghost use Rattle.std.specs.Prelude.{◌≡◌, IfOk, IfErr, IfSome, IfNone};
 ghost use Rattle.statebook.specs.Limits.{AreLimits};
-ghost use Rattle.vrace.specs.Asked.{IsWithin};
+ghost use Rattle.vrace.specs.Request.{IsWithin};
 ghost use Rattle.vrace.specs.declared.fault.Fault.TheVariants.{OutOfLimit};
 
 use crate::fault::Fault;

@@ -1,7 +1,7 @@
 // Whether a report is true of files.
 
 ghost use Rattle.std.specs.Prelude.{◌≡◌, ℕ, List, Some, length, map, OnOk, IfOk, IfErr};
-ghost use Rattle.report_text.specs.WellFormed.{IsTold};
+ghost use Rattle.report_text.specs.WellFormed.{IsReportText};
 ghost use Rattle.vsrc.specs.Source.{file_bytes};
 ghost use Rattle.vrace.specs.Checks.{IsCheckReason, IsMachineOf, IsTrueText, OfItsText, fault_by};
 ghost use Rattle.vrace.specs.Refusals.{IsDesignFault};
@@ -41,7 +41,7 @@ fn machine_of(alloc: Global, files: &[Vec<u8>], report: &Report) -> Result<Machi
 }
 
 // Checks a report that was read.
-fn check_told(
+fn check_with_dumps(
     alloc: Global,
     files: &[Vec<u8>],
     report: &Report,
@@ -74,10 +74,10 @@ pub fn check_text(alloc: Global, files: &[Vec<u8>], report: &[u8]) -> Result<(),
     ensures ok { OnOk result (IsTrueText (file_bytes files.now) report.now) }
     ensures reason { IfErr result (IsCheckReason (file_bytes files.now) report.now) }
 {
-    let told = match read_report(alloc, report) {
-        Ok(told) => told,
+    let with_dumps = match read_report(alloc, report) {
+        Ok(with_dumps) => with_dumps,
         Err(OrMemory::Fault(ReportFault::IllFormed)) => return Err(Fault::BadReport),
         Err(OrMemory::Memory(refused)) => return Err(Fault::Memory(refused)),
     };
-    check_told(alloc, files, &told.report, &told.dumps)
+    check_with_dumps(alloc, files, &with_dumps.report, &with_dumps.dumps)
 }

@@ -6,7 +6,7 @@ ghost use Rattle.explore.specs.declared.findings.Status.TheVariants.{Cut};
 ghost use Rattle.vsrc.specs.Source.{file_bytes};
 ghost use Rattle.vdesign.specs.Named.{AreNamed};
 ghost use Rattle.vreport.specs.Reports.{HoldsDumps, IsReadable, ReportsExploration, TellsBytes, TellsOutcome};
-ghost use Rattle.vrace.specs.Asked.{asked};
+ghost use Rattle.vrace.specs.Request.{request_of};
 ghost use Rattle.vrace.specs.Explores.{AreWorkers, EndsSearch, Explores, FilesHaveEntriesWhereCut, HasEntriesWhereCut, IsCutForEntries, IsExploreReason, IsSearched, IsSharedReason, IsStatusOf, LeavesReport, Reports, TellsSearchFault};
 ghost use Rattle.vrace.specs.Refusals.{IsDesignFault};
 ghost use Rattle.vrace.specs.RunDumps.{IsUnwritten, failures_after};
@@ -67,10 +67,10 @@ fn of_search(fault: OrMemory<TooMany>) -> Fault
 
 // The machine that the files and the options ask for.
 fn machine_of(alloc: Global, files: &[Vec<u8>], options: &Options<'_>) -> Result<Machine, Fault>
-    ensures ok { IfOk result (IsSearched (file_bytes files.now) (asked options.now)) }
+    ensures ok { IfOk result (IsSearched (file_bytes files.now) (request_of options.now)) }
     ensures named { IfOk result (λ machine. AreNamed machine.design) }
     ensures until { IfOk result (λ machine. machine.until ≤ 4611686018427387903) }
-    ensures err { IfErr result (IsDesignFault (file_bytes files.now) (asked options.now).top) }
+    ensures err { IfErr result (IsDesignFault (file_bytes files.now) (request_of options.now).top) }
     ensures unwritten { IfErr result IsUnwritten }
 {
     elaboration_law();
@@ -178,15 +178,15 @@ pub fn explore_text_alone<W: Write>(
     writer: &mut Metered<W>,
 ) -> Result<Status, Fault>
     ensures report { IfOk result (λ status.
-        Explores W.contents (file_bytes files.now) (asked options.now) options.now.limits status
+        Explores W.contents (file_bytes files.now) (request_of options.now) options.now.limits status
         writer.old writer.new) }
     ensures entries { IfOk result (λ status.
-        FilesHaveEntriesWhereCut (file_bytes files.now) (asked options.now) options.now.limits
+        FilesHaveEntriesWhereCut (file_bytes files.now) (request_of options.now) options.now.limits
         status) }
     ensures reason { IfErr result (λ fault.
-        IsExploreReason (file_bytes files.now) (asked options.now) options.now.limits fault) }
+        IsExploreReason (file_bytes files.now) (request_of options.now) options.now.limits fault) }
     ensures left { IfErr result (λ fault.
-        LeavesReport W.contents (file_bytes files.now) (asked options.now) options.now.limits fault
+        LeavesReport W.contents (file_bytes files.now) (request_of options.now) options.now.limits fault
         writer.old writer.new) }
     ensures failures { IfErr result (λ fault.
         writer.new.failures ≡ failures_after fault writer.old.failures) }
@@ -215,13 +215,13 @@ pub fn explore_text<R: Threads + Wait + Sync, G: Gate, W: Write>(
 ) -> Result<Status, Fault>
     ensures workers { ¬ AreWorkers workers → result ≡ Err Fault.OutOfLimit }
     ensures report { IfOk result (λ status.
-        Explores W.contents (file_bytes files.now) (asked options.now) options.now.limits status
+        Explores W.contents (file_bytes files.now) (request_of options.now) options.now.limits status
         writer.old writer.new) }
     ensures reason { IfErr result (λ fault.
-        IsSharedReason (file_bytes files.now) (asked options.now) options.now.limits workers
+        IsSharedReason (file_bytes files.now) (request_of options.now) options.now.limits workers
         fault) }
     ensures left { IfErr result (λ fault.
-        LeavesReport W.contents (file_bytes files.now) (asked options.now) options.now.limits fault
+        LeavesReport W.contents (file_bytes files.now) (request_of options.now) options.now.limits fault
         writer.old writer.new) }
     ensures failures { IfErr result (λ fault.
         writer.new.failures ≡ failures_after fault writer.old.failures) }

@@ -2,7 +2,7 @@
 // nothing agree.
 
 ghost use Rattle.std.specs.Prelude.{◌≡◌, ℕ, ◌<◌, ◌^◌, List, length};
-ghost use Rattle.vrace.specs.Asked.{Asked};
+ghost use Rattle.vrace.specs.Request.{Request};
 ghost use Rattle.vrace.specs.Checks.{IsCheckReason, IsTrueText};
 ghost use Rattle.vrace.specs.Explores.{ExploredFilesAgree};
 ghost use Rattle.vrace.specs.Replays.{IsShown};
@@ -20,9 +20,9 @@ use vreport::agreement_law;
 /// Files have at most one dump under a log, whatever is asked for, and one text of lines, and where they have one no fault has its
 /// reason but want of memory and a failed writer. So such a text and each refusal but E901 and E902 rule each other out.
 pub fn replay_law()
-    ensures one { (show : Show) (files : List (List ℕ)) (asked : Asked) (log text other : List ℕ) →
+    ensures one { (show : Show) (files : List (List ℕ)) (asked : Request) (log text other : List ℕ) →
         IsShown show files asked log text → IsShown show files asked log other → text ≡ other }
-    ensures refused { (show : Show) (files : List (List ℕ)) (asked : Asked) (log text : List ℕ)
+    ensures refused { (show : Show) (files : List (List ℕ)) (asked : Request) (log text : List ℕ)
         (fault : Fault) →
         IsShown show files asked log text → IsReason files asked log fault → IsOfWriting fault }
 {

@@ -11,11 +11,11 @@ use basis::OrMemory;
 use lines_text::LinesSink;
 use sched_core::{Log, ReplayFault};
 use std::alloc::Global;
-use vcd_text::{HeldText, Outlet};
+use vcd_text::{ByteSink, HeldText};
 use vmachine::{Machine, RunFault};
 
 // Runs the design under the log, which ends, into a fresh sink.
-fn fill<O: Outlet>(
+fn fill<O: ByteSink>(
     machine: &Machine,
     log: &Log,
     steps: u32,
@@ -26,10 +26,10 @@ fn fill<O: Outlet>(
     requires ends { HasEnd machine.now log.now steps }
     ensures same { IsSameSink sink.old sink.new }
     ensures ok { OnOk result
-        (TakesLines O.takes machine.now log.now steps sink.old.outlet.now sink.new.outlet.now) }
+        (TakesLines O.takes machine.now log.now steps sink.old.byte_sink.now sink.new.byte_sink.now) }
     ensures err { IfErr result (λ fault.
-        StopsLines O.takes O.fails machine.now log.now steps sink.old.outlet.now fault
-        sink.new.outlet.now) }
+        StopsLines O.takes O.fails machine.now log.now steps sink.old.byte_sink.now fault
+        sink.new.byte_sink.now) }
 {
     match machine.run_into(log, steps, sink) {
         Ok(_) => Ok(()),
@@ -39,25 +39,25 @@ fn fill<O: Outlet>(
     }
 }
 
-// Runs the machine under the log, which ends within so many steps, and hands its lines to the outlet, slot by slot. E901 where
-// memory was refused; else a fault is the outlet's. Then a front of the lines may have been taken.
-pub(crate) fn write_lines<O: Outlet>(
+// Runs the machine under the log, which ends within so many steps, and hands its lines to the byte sink, slot by slot. E901 where
+// memory was refused; else a fault is the byte sink's. Then a front of the lines may have been taken.
+pub(crate) fn write_lines<O: ByteSink>(
     alloc: Global,
     machine: &Machine,
     log: &Log,
     steps: u32,
-    outlet: &mut O,
+    byte_sink: &mut O,
 ) -> Result<(), OrMemory<O::Fault>>
     requires ends { HasEnd machine.now log.now steps }
-    ensures ok { OnOk result (TakesLines O.takes machine.now log.now steps outlet.old outlet.new) }
+    ensures ok { OnOk result (TakesLines O.takes machine.now log.now steps byte_sink.old byte_sink.new) }
     ensures err { IfErr result (λ fault.
-        StopsLines O.takes O.fails machine.now log.now steps outlet.old fault outlet.new) }
+        StopsLines O.takes O.fails machine.now log.now steps byte_sink.old fault byte_sink.new) }
 {
-    let mut sink = LinesSink::new(alloc, machine.design(), outlet);
+    let mut sink = LinesSink::new(alloc, machine.design(), byte_sink);
     let result = fill(machine, log, steps, &mut sink);
-    let outlet = sink.into_outlet();
-    // No effect at run time. The proof reads what the outlet holds from this use.
-    let _ = &*outlet;
+    let byte_sink = sink.into_byte_sink();
+    // No effect at run time. The proof reads what the byte sink holds from this use.
+    let _ = &*byte_sink;
     result
 }
 
@@ -81,8 +81,8 @@ pub(crate) fn hold_lines(
         Err(OrMemory::Fault(RunFault::Sink(_))) => return Ok(None),
         Err(OrMemory::Memory(_)) => return Ok(None),
     }
-    let outlet = sink.into_outlet();
+    let byte_sink = sink.into_byte_sink();
     // No effect at run time. The proof reads what is held from this use.
-    let _ = &*outlet;
+    let _ = &*byte_sink;
     Ok(Some(held))
 }

@@ -5,11 +5,11 @@ ghost use Rattle.sched_core.specs.LogText.{IsNamedLogText};
 ghost use Rattle.sched_core.specs.Replay.{IsReplayReason};
 ghost use Rattle.vsrc.specs.Source.{file_bytes};
 ghost use Rattle.vmodel.specs.declared.history.End.{End};
-ghost use Rattle.vmodel.specs.Played.{Finishes};
+ghost use Rattle.vmodel.specs.RunProgress.{Finishes};
 ghost use Rattle.vmodel.specs.Run.{rules_of};
 ghost use Rattle.vcd_text.specs.Metered.{Grows};
-ghost use Rattle.vrace.specs.Asked.{asked};
-ghost use Rattle.vrace.specs.Replays.{IsShown, IsPlay, grain_under as grain_by};
+ghost use Rattle.vrace.specs.Request.{request_of};
+ghost use Rattle.vrace.specs.Replays.{IsShown, IsReplayInput, grain_under as grain_by};
 ghost use Rattle.vrace.specs.Refusals.{IsLogFault, IsReason, Leaves};
 ghost use Rattle.vreport.specs.Dumps.{HasDump, IsRunDump};
 ghost use Rattle.vrace.specs.RunLines.{HasEnd, IsRunLines};
@@ -239,7 +239,7 @@ fn show_run<W: Write>(
 
 /// What is replayed: a machine, where its statements stand, and a log.
 #[derive(Drop)]
-pub(crate) struct Play {
+pub(crate) struct ReplayInput {
     pub machine: Machine,
     pub origins: Origins,
     pub members: Log,
@@ -258,16 +258,16 @@ fn named_log_of(alloc: Global, log: &[u8]) -> Result<(LogHead, Log), Fault>
 }
 
 // What the files, the options and the log's text ask for.
-pub(crate) fn play_of(
+pub(crate) fn replay_input_of(
     alloc: Global,
     files: &[Vec<u8>],
     options: &Options<'_>,
     log: &[u8],
-) -> Result<Play, Fault>
-    ensures ok { IfOk result (λ play.
-        IsPlay (file_bytes files.now) (asked options.now) log.now play.machine play.members) }
+) -> Result<ReplayInput, Fault>
+    ensures ok { IfOk result (λ input.
+        IsReplayInput (file_bytes files.now) (request_of options.now) log.now input.machine input.members) }
     ensures err { IfErr result (λ fault.
-        IsReason (file_bytes files.now) (asked options.now) log.now fault) }
+        IsReason (file_bytes files.now) (request_of options.now) log.now fault) }
     ensures unwritten { IfErr result IsUnwritten }
 {
     let placed = match placed_design_of(alloc, files, options.top) {
@@ -280,7 +280,7 @@ pub(crate) fn play_of(
     };
     let grain = grain_under(head, options.grain);
     match Machine::new(alloc, placed.design, options.until, grain) {
-        Ok(machine) => Ok(Play {
+        Ok(machine) => Ok(ReplayInput {
             machine,
             origins: placed.origins,
             members,
@@ -307,20 +307,20 @@ pub fn replay_text<W: Write>(
     writer: &mut Metered<W>,
 ) -> Result<(), Fault>
     ensures shown { OnOk result ((text : List ℕ) ×
-        IsShown show (file_bytes files.now) (asked options.now) log.now text ×
+        IsShown show (file_bytes files.now) (request_of options.now) log.now text ×
         Grows W.contents writer.old writer.new text) }
     ensures reason { IfErr result (λ fault.
-        IsReason (file_bytes files.now) (asked options.now) log.now fault) }
+        IsReason (file_bytes files.now) (request_of options.now) log.now fault) }
     ensures left { IfErr result (λ fault.
-        Leaves W.contents show (file_bytes files.now) (asked options.now) log.now fault writer.old
+        Leaves W.contents show (file_bytes files.now) (request_of options.now) log.now fault writer.old
         writer.new) }
     ensures failures { IfErr result (λ fault.
         writer.new.failures ≡ failures_after fault writer.old.failures) }
 {
-    let play = match play_of(alloc, files, options, log) {
-        Ok(play) => play,
+    let input = match replay_input_of(alloc, files, options, log) {
+        Ok(input) => input,
         Err(fault) => return Err(fault),
     };
     let steps = options.limits.steps;
-    show_run(alloc, &play.machine, &play.members, steps, show, writer)
+    show_run(alloc, &input.machine, &input.members, steps, show, writer)
 }

@@ -2,7 +2,7 @@
 
 ghost use Rattle.std.specs.Prelude.{◌≡◌, ℕ, List, IfErr, OnOk};
 ghost use Rattle.vsrc.specs.Source.{file_bytes};
-ghost use Rattle.vrace.specs.Asked.{asked};
+ghost use Rattle.vrace.specs.Request.{request_of};
 ghost use Rattle.trace_text.specs.Traces.{HasGrown};
 ghost use Rattle.vrace.specs.Replays.{IsDump};
 ghost use Rattle.vrace.specs.Refusals.{IsReason, LeavesTrace};
@@ -10,7 +10,7 @@ ghost use Rattle.vrace.specs.RunDumps.{failures_after};
 
 use crate::fault::Fault;
 use crate::options::Options;
-use crate::replay::{of_writing, play_of, see_end};
+use crate::replay::{of_writing, replay_input_of, see_end};
 use std::alloc::Global;
 use std::io::Write;
 use trace_text::write_trace;
@@ -29,28 +29,28 @@ pub fn trace_text<W: Write>(
     writer: &mut Metered<W>,
 ) -> Result<(), Fault>
     ensures ran { OnOk result ((dump : List ℕ) ×
-        IsDump (file_bytes files.now) (asked options.now) log.now dump) }
+        IsDump (file_bytes files.now) (request_of options.now) log.now dump) }
     ensures grown { OnOk result (HasGrown W.contents writer.old writer.new) }
     ensures reason { IfErr result (λ fault.
-        IsReason (file_bytes files.now) (asked options.now) log.now fault) }
+        IsReason (file_bytes files.now) (request_of options.now) log.now fault) }
     ensures left { IfErr result (λ fault. LeavesTrace fault writer.old writer.new) }
     ensures failures { IfErr result (λ fault.
         writer.new.failures ≡ failures_after fault writer.old.failures) }
 {
-    let play = match play_of(alloc, files, options, log) {
-        Ok(play) => play,
+    let input = match replay_input_of(alloc, files, options, log) {
+        Ok(input) => input,
         Err(fault) => return Err(fault),
     };
     let steps = options.limits.steps;
-    match see_end(&play.machine, &play.members, steps) {
+    match see_end(&input.machine, &input.members, steps) {
         Ok(()) => {}
         Err(fault) => return Err(fault),
     }
     match write_trace(
         alloc,
-        &play.machine,
-        &play.origins,
-        &play.members,
+        &input.machine,
+        &input.origins,
+        &input.members,
         steps,
         writer,
     ) {

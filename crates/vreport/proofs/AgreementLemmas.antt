@@ -10,7 +10,7 @@ use Rattle.racebook.specs.Races as found
 use Rattle.report_text.specs.declared.report.Outcome.TheVariants.{Exhausted}
 use Rattle.report_text.specs.Report.{Race, Report}
 use Rattle.vreport.specs.Agreement.{ExhaustedAgree, HasEnd, HasRaced, IsPartOf}
-use Rattle.vreport.specs.Reports.{IsExploration, told_race, told_value}
+use Rattle.vreport.specs.Reports.{IsExploration, report_race, report_value}
 use Rattle.vreport.specs.Values.{report_digits}
 use Rattle.vreport.proofs.MappedLemmas.{of_mapped}
 
@@ -49,21 +49,21 @@ module _ (setting : Setting) (limits others : Limits) (one other : Report) (x : 
 
   part_races : (time variable : ℕ) (digits : List ℕ) → HasRaced one time variable digits → HasRaced other time variable digits
   part_races time variable digits has =
-      let from = of_mapped told_race x.races.races has.place has.race (subst (λ (rs : List Race). slice_get rs has.place ≡ Some has.race) x.races.told_are has.at) in
+      let from = of_mapped report_race x.races.races has.place has.race (subst (λ (rs : List Race). slice_get rs has.place ≡ Some has.race) x.races.told_are has.at) in
       let is = x.races.each has.place from.0 from.1 in
-      let values : map told_value from.0.values ≡ has.race.values = ap (λ (r : Race). r.values) from.2 in
-      let seen = of_mapped told_value from.0.values has.value_place has.seen (subst (λ (vs : List (List ℕ × List (ℕ × ℕ))). slice_get vs has.value_place ≡ Some has.seen) (sym values) has.value_at) in
+      let values : map report_value from.0.values ≡ has.race.values = ap (λ (r : Race). r.values) from.2 in
+      let seen = of_mapped report_value from.0.values has.value_place has.seen (subst (λ (vs : List (List ℕ × List (ℕ × ℕ))). slice_get vs has.value_place ≡ Some has.seen) (sym values) has.value_at) in
       let listed = y.races.every whole from.0.time from.0.variable seen.0.0 (differs setting limits others.depart same from.0 is) (shows setting limits others.depart same from.0 is has.value_place seen.0 seen.1) in
       record {
         place = listed.place;
-        race = told_race listed.race;
-        at = subst (λ (rs : List Race). slice_get rs listed.place ≡ Some (told_race listed.race)) (sym y.races.told_are)
-            (slice_get-map told_race y.races.races listed.place ∙ ap (option_map told_race) listed.at);
+        race = report_race listed.race;
+        at = subst (λ (rs : List Race). slice_get rs listed.place ≡ Some (report_race listed.race)) (sym y.races.told_are)
+            (slice_get-map report_race y.races.races listed.place ∙ ap (option_map report_race) listed.at);
         time_is = listed.time_is ∙ ap (λ (r : Race). r.time) from.2 ∙ has.time_is;
         variable_is = listed.variable_is ∙ ap (λ (r : Race). r.variable) from.2 ∙ has.variable_is;
         value_place = listed.value_place;
-        seen = told_value listed.sighting;
-        value_at = slice_get-map told_value listed.race.values listed.value_place ∙ ap (option_map told_value) listed.value_at;
+        seen = report_value listed.witness;
+        value_at = slice_get-map report_value listed.race.values listed.value_place ∙ ap (option_map report_value) listed.value_at;
         digits_are = ap report_digits listed.value_is ∙ ap (λ (v : List ℕ × List (ℕ × ℕ)). v.0) seen.2 ∙ has.digits_are;
       }
 

@@ -17,21 +17,21 @@ use Rattle.vmodel.specs.declared.history.End.{End}
 use Rattle.vmodel.specs.State.{State}
 use Rattle.vmodel.specs.Choices.{choices}
 use Rattle.vmodel.specs.Run.{Setting, rules_of, state_after, end_of, history_after}
-use Rattle.vmodel.specs.Played.{Finishes, width_is}
-use Rattle.vmachine.specs.declared.standing.Standing.{Standing}
+use Rattle.vmodel.specs.RunProgress.{Finishes, width_is}
+use Rattle.vmachine.specs.declared.machine_state.MachineState.{MachineState}
 use Rattle.vmachine.specs.Machines.{Stands, machine_rules}
 use Rattle.vmachine.specs.Reads.{end_in}
 use Rattle.vcd_text.specs.DumpText.{vcd}
 use Rattle.vreport.specs.declared.row.Row.{Row}
 use Rattle.vreport.specs.Dumps.{HasDump, IsRunDump}
-use Rattle.report_text.specs.Report.{End as Told}
+use Rattle.report_text.specs.Report.{End as ReportEnd}
 use Rattle.vreport.specs.Ends.{HasLongDump, HasSomeLongDump}
 use Rattle.vreport.specs.Inner.{CountsDump, HasTimeAndLog, IsEndOfRow, IsRow, IsRowAt, IsRowOfSome, Repeats, cause_of, key_cmp, order_of}
 use Rattle.vreport.proofs.DumpLemmas.{the_dump}
 use Rattle.vreport.proofs.OrderLemmas.{key_same, same_key}
 
 abbrev pub Alike : Setting → Type 0
-Alike setting = (s r : Standing) (t : State) → Stands setting s t → (machine_rules setting).same r s ≡ true → Stands setting r t
+Alike setting = (s r : MachineState) (t : State) → Stands setting s t → (machine_rules setting).same r s ≡ true → Stands setting r t
 
 abbrev pub AllStand : Setting → Type 0
 AllStand setting = (log : List (ℕ × ℕ)) (n : ℕ) → Stands setting (stands (machine_rules setting) log n) (state_after setting log n)
@@ -67,11 +67,11 @@ cause_back Stop = refl
 
 module _ (setting : Setting) (alike : Alike setting) (all : AllStand setting) (there : RunThere setting) (limits : Limits) where
   -- where the run under a mark's log stands
-  pub stood : (found : Standing × List (ℕ × ℕ)) (f : IsFound (machine_rules setting) limits found) → Stands setting found.0 (state_after setting found.1 f.steps)
+  pub stood : (found : MachineState × List (ℕ × ℕ)) (f : IsFound (machine_rules setting) limits found) → Stands setting found.0 (state_after setting found.1 f.steps)
   stood found f = alike (stands (machine_rules setting) found.1 f.steps) found.0 (state_after setting found.1 f.steps) (all found.1 f.steps) f.at
 
   -- the run under the log of a row's mark ends there
-  pub row_finishes : (found : Standing × List (ℕ × ℕ)) (place : ℕ) (row : Row) (f : IsFound (machine_rules setting) limits found) → IsRow setting found place row →
+  pub row_finishes : (found : MachineState × List (ℕ × ℕ)) (place : ℕ) (row : Row) (f : IsFound (machine_rules setting) limits found) → IsRow setting found place row →
       (end : End) × Finishes setting found.1 limits.steps f.steps end × IsRowAt row end (state_after setting found.1 f.steps)
   row_finishes found place row f of =
       let t = state_after setting found.1 f.steps in
@@ -86,19 +86,19 @@ module _ (setting : Setting) (alike : Alike setting) (all : AllStand setting) (t
         told.2,
       )
 
-  pub row_dump : (found : Standing × List (ℕ × ℕ)) (place : ℕ) (row : Row) → IsFound (machine_rules setting) limits found → IsRow setting found place row →
+  pub row_dump : (found : MachineState × List (ℕ × ℕ)) (place : ℕ) (row : Row) → IsFound (machine_rules setting) limits found → IsRow setting found place row →
       HasDump setting found.1 limits.steps
   row_dump found place row f of =
       let p = row_finishes found place row f of in
       (vcd setting.design (history_after setting found.1 f.steps), the_dump setting found.1 limits.steps f.steps p.0 p.1)
 
-  module _ (marks : List (Standing × List (ℕ × ℕ))) (found : AreFound (machine_rules setting) limits marks) (row : Row) (of : IsRowOfSome setting marks row)
-      (mark : Standing × List (ℕ × ℕ)) (at : slice_get marks row.place ≡ Some mark) where
+  module _ (marks : List (MachineState × List (ℕ × ℕ))) (found : AreFound (machine_rules setting) limits marks) (row : Row) (of : IsRowOfSome setting marks row)
+      (mark : MachineState × List (ℕ × ℕ)) (at : slice_get marks row.place ≡ Some mark) where
     same_mark : of.found ≡ mark
     same_mark = same_Some of.found mark (sym of.at ∙ at)
 
     its_row : IsRow setting mark row.place row
-    its_row = subst (λ (x : Standing × List (ℕ × ℕ)). IsRow setting x row.place row) same_mark of.of
+    its_row = subst (λ (x : MachineState × List (ℕ × ℕ)). IsRow setting x row.place row) same_mark of.of
 
     pub its_dump : HasDump setting mark.1 limits.steps
     its_dump = row_dump mark row.place row (found row.place mark at) its_row
@@ -107,7 +107,7 @@ module _ (setting : Setting) (alike : Alike setting) (all : AllStand setting) (t
     its_long_dump long = (mark.1, (found row.place mark at).short, long)
 
     -- the end that is made of it
-    pub its_end : (end : Told) → end.time ≡ row.time → end.cause ≡ cause_of row.cause → end.line ≡ row.line.items → end.log ≡ mark.1 →
+    pub its_end : (end : ReportEnd) → end.time ≡ row.time → end.cause ≡ cause_of row.cause → end.line ≡ row.line.items → end.log ≡ mark.1 →
         HasTimeAndLog end → CountsDump setting mark.1 limits.steps end.bytes → IsEndOfRow setting limits marks row end
     its_end end time_is cause_is line_is log_is kept counts =
         let f = found row.place mark at in

@@ -9,10 +9,10 @@ use Rattle.statebook.specs.declared.limits.Limits.{Limits}
 use Rattle.explore.specs.Found.{HasEntries}
 use Rattle.vmodel.specs.State.{State}
 use Rattle.vmodel.specs.Run.{Setting, opening_of, rules_of, state_after}
-use Rattle.vmodel.specs.Played.{opening_is}
+use Rattle.vmodel.specs.RunProgress.{opening_is}
 use Rattle.vmodel.specs.RulesLaws.{lawful}
 use Rattle.vmodel.specs.SameLaws.{states_tell}
-use Rattle.vmachine.specs.declared.standing.Standing.{Standing}
+use Rattle.vmachine.specs.declared.machine_state.MachineState.{MachineState}
 use Rattle.vmachine.specs.Machines.{Stands, machine_rules}
 use Rattle.vreport.proofs.EndLemmas.{Alike, AllStand, RunThere}
 use Rattle.vreport.proofs.MappedLemmas.{of_mapped}
@@ -23,10 +23,10 @@ pub record KnowsMachine (setting : Setting) : Type 0 where
   pub alike : Alike setting
   pub all : AllStand setting
   pub first : Stands setting (machine_rules setting).first (opening_of setting)
-  pub width : (s : Standing) (t : State) → Stands setting s t → (machine_rules setting).width s ≡ (rules_of setting).width t
-  pub mark : (s : Standing) (t : State) → Stands setting s t → (machine_rules setting).mark s ≡ (rules_of setting).mark t
-  pub one : (s r : Standing) (t : State) → Stands setting s t → Stands setting r t → (machine_rules setting).same s r ≡ true
-  pub only : (s : Standing) (t u : State) → Stands setting s t → Stands setting s u → t ≡ u
+  pub width : (s : MachineState) (t : State) → Stands setting s t → (machine_rules setting).width s ≡ (rules_of setting).width t
+  pub mark : (s : MachineState) (t : State) → Stands setting s t → (machine_rules setting).mark s ≡ (rules_of setting).mark t
+  pub one : (s r : MachineState) (t : State) → Stands setting s t → Stands setting r t → (machine_rules setting).same s r ≡ true
+  pub only : (s : MachineState) (t u : State) → Stands setting s t → Stands setting s u → t ≡ u
 
 same_is : (setting : Setting) (s t : State) → (rules_of setting).same s t ≡ true → s ≡ t
 unfolding rules_of
@@ -44,10 +44,10 @@ either false false c d f g e = absurd (cc)
 
 module _ (setting : Setting) (known : KnowsMachine setting) where
   -- the state that the entry's run comes to
-  abbrev pub moved : Entry Standing → Entry State
+  abbrev pub moved : Entry MachineState → Entry State
   moved e = record { state = state_after setting e.log e.steps; budget = e.budget; log = e.log; steps = e.steps }
 
-  module _ (k limit : ℕ) (e : Entry Standing) (is : IsEntry (machine_rules setting) k limit e) where
+  module _ (k limit : ℕ) (e : Entry MachineState) (is : IsEntry (machine_rules setting) k limit e) where
     pub stands_there : Stands setting e.state (state_after setting e.log e.steps)
     stands_there = known.alike (stands (machine_rules setting) e.log e.steps) e.state (state_after setting e.log e.steps) (known.all e.log e.steps) is.at
 
@@ -90,7 +90,7 @@ module _ (setting : Setting) (known : KnowsMachine setting) where
         (ap (λ (x : Entry State). x.budget) one.2 ∙ budgets ∙ sym (ap (λ (x : Entry State). x.budget) other.2)));
   }
     where
-      differs : (i j : ℕ) (e f : Entry Standing) → i < j → slice_get has.entries i ≡ Some e → slice_get has.entries j ≡ Some f →
+      differs : (i j : ℕ) (e f : Entry MachineState) → i < j → slice_get has.entries i ≡ Some e → slice_get has.entries j ≡ Some f →
           (rules_of setting).same (moved e).state (moved f).state ≡ true → e.budget ≡ f.budget → ⊥
       differs i j e f before at_e at_f same budgets =
           let equal : (moved e).state ≡ (moved f).state = same_is setting (moved e).state (moved f).state same in

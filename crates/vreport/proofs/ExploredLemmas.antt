@@ -7,7 +7,7 @@ use Rattle.explore.specs.declared.findings.Status.TheVariants.{Exhausted, Cut}
 use Rattle.statebook.specs.declared.reason.Reason.TheVariants.{Memory, Entries, Steps}
 use Rattle.explore.specs.Found.{ListsAll, TellsEntries, TellsSteps}
 use Rattle.vmodel.specs.Run.{Setting}
-use Rattle.vmachine.specs.declared.standing.Standing.{Standing}
+use Rattle.vmachine.specs.declared.machine_state.MachineState.{MachineState}
 use Rattle.vmachine.specs.Machines.{machine_rules}
 use Rattle.racebook.specs.Races.{IsWhole}
 use Rattle.report_text.specs.declared.report.Outcome.TheVariants as outcome
@@ -30,7 +30,7 @@ was_cut (Cut (Memory m)) e = absurd (cc)
 was_cut (Cut Entries) e = absurd (cc)
 was_cut (Cut Steps) e = refl
 
-pub exploration : (setting : Setting) → KnowsMachine setting → (limits : Limits) (findings : Findings Standing) (report : Report) → ListsAll (machine_rules setting) limits findings →
+pub exploration : (setting : Setting) → KnowsMachine setting → (limits : Limits) (findings : Findings MachineState) (report : Report) → ListsAll (machine_rules setting) limits findings →
     TellsSteps (machine_rules setting) limits findings → IsHeadOf setting limits report → HasOutcome findings.status report → Each (IsTrueEnd setting limits) report.ends → EachTwo IsEndBefore report.ends →
     GivesEveryEnd setting limits findings report.ends → ShowsRaces setting limits findings report.races → IsExploration setting limits report
 exploration setting known limits findings report all tells head outcome_is ends order every races =
@@ -54,6 +54,6 @@ exploration setting known limits findings report all tells head outcome_is ends 
     }
 
 -- a cut for entries, of findings that mean it
-pub means_entries : (setting : Setting) → KnowsMachine setting → (limits : Limits) (findings : Findings Standing) (explored : Explored) → TellsEntries (machine_rules setting) limits findings →
+pub means_entries : (setting : Setting) → KnowsMachine setting → (limits : Limits) (findings : Findings MachineState) (explored : Explored) → TellsEntries (machine_rules setting) limits findings →
     explored.status ≡ findings.status → MeansEntries setting limits explored
 means_entries setting known limits findings explored entries same cut = moved_entries setting known limits (entries (sym same ∙ cut))

@@ -11,7 +11,7 @@ use Rattle.vast.specs.Names.{has_letters_of_name, is_path}
 use Rattle.vdesign.specs.Named.{AreNamed}
 use Rattle.vmodel.specs.Kept.{AreShaped, HasShape}
 use Rattle.vmodel.specs.Run.{Setting, state_after}
-use Rattle.vmachine.specs.declared.standing.Standing.{Standing}
+use Rattle.vmachine.specs.declared.machine_state.MachineState.{MachineState}
 use Rattle.racebook.specs.Races as found
 use Rattle.racebook.specs.Order.{AreInTextOrder}
 use Rattle.report_text.specs.declared.report.Version.TheVariants.{One, Two}
@@ -20,7 +20,7 @@ use Rattle.report_text.specs.WellFormed.{Each, EachTwo, HaveBytes, IsColumn, IsE
 use Rattle.vreport.specs.Ends.{IsTrueEnd}
 use Rattle.vreport.specs.Formed.{IsFormed}
 use Rattle.vreport.specs.Inner.{HasTimeAndLog, HasTimeAndLogs, HasWidth}
-use Rattle.vreport.specs.Reports.{IsHeadOf, ShowsRaces, told_race, told_value}
+use Rattle.vreport.specs.Reports.{IsHeadOf, ShowsRaces, report_race, report_value}
 use Rattle.vreport.specs.Truth.{column_of}
 use Rattle.vreport.specs.Written.{AreDumps}
 use Rattle.vreport.proofs.LineLemmas.{its_variable, shaped_line, shaped_value}
@@ -99,18 +99,18 @@ one_shape setting limits shaped race is =
           subst (λ v. HasShape v t.0) (same_Some p.0 first.0 (sym p.1 ∙ first.1)) p.2);
     }
 
-formed_race : (setting : Setting) (limits : Limits) → AllShaped setting → (race : found.Race) → found.IsRace setting limits race → AreInTextOrder race.values → HasTimeAndLogs (told_race race) →
-    IsRaceForm (map column_of setting.design.variables) (told_race race)
+formed_race : (setting : Setting) (limits : Limits) → AllShaped setting → (race : found.Race) → found.IsRace setting limits race → AreInTextOrder race.values → HasTimeAndLogs (report_race race) →
+    IsRaceForm (map column_of setting.design.variables) (report_race race)
 formed_race setting limits shaped race is order kept =
     let one = one_shape setting limits shaped race is in
     record {
       time = kept.0;
       column = column_of one.variable;
       listed = slice_get-map column_of setting.design.variables race.variable ∙ ap (option_map column_of) one.at;
-      two = (let e = length-map race.values told_value in let two = is.two in omega (arith, e, two));
-      values = each_mapped told_value (λ v. IsValue one.variable.length v.0) race.values (λ i s at. shaped_value one.variable s.0 (one.each i s at));
+      two = (let e = length-map race.values report_value in let two = is.two in omega (arith, e, two));
+      values = each_mapped report_value (λ v. IsValue one.variable.length v.0) race.values (λ i s at. shaped_value one.variable s.0 (one.each i s at));
       logs = kept.1;
-      order = two_mapped told_value (λ v w. IsTextLess v.0 w.0) race.values (λ i j s t lt at at'.
+      order = two_mapped report_value (λ v w. IsTextLess v.0 w.0) race.values (λ i j s t lt at at'.
           let p = one.each i s at in
           let q = one.each j t at' in
           text_less s.0 t.0 (p.0 ∙ sym q.0) (p.1 ∙ sym q.1) (order i j s t lt at at'));
@@ -118,17 +118,17 @@ formed_race setting limits shaped race is order kept =
 
 -- ---- the whole
 
-pub formed : (setting : Setting) → AllShaped setting → (limits : Limits) (findings : Findings Standing) (report : Report) → AreNamed setting.design → setting.until ≤ 4611686018427387903 →
+pub formed : (setting : Setting) → AllShaped setting → (limits : Limits) (findings : Findings MachineState) (report : Report) → AreNamed setting.design → setting.until ≤ 4611686018427387903 →
     IsHeadOf setting limits report → Each HasWidth report.variables → Each (IsTrueEnd setting limits) report.ends → Each HasTimeAndLog report.ends →
     EachTwo IsEndBefore report.ends → ShowsRaces setting limits findings report.races → Each HasTimeAndLogs report.races → IsFormed setting report
 formed setting shaped limits findings report named until head widths true_ends ends_kept ends_order races races_kept dumps are =
     let variables = setting.design.variables in
     let columns : report.variables ≡ map column_of variables = head.setting_is.variables_are in
-    let told : report.races ≡ map told_race races.races = races.told_are in
-    let kept : Each HasTimeAndLogs (map told_race races.races) = subst (Each HasTimeAndLogs) told races_kept in
-    let each : Each (IsRaceForm (map column_of variables)) (map told_race races.races) = each_mapped told_race (IsRaceForm (map column_of variables)) races.races (λ i race at.
+    let told : report.races ≡ map report_race races.races = races.told_are in
+    let kept : Each HasTimeAndLogs (map report_race races.races) = subst (Each HasTimeAndLogs) told races_kept in
+    let each : Each (IsRaceForm (map column_of variables)) (map report_race races.races) = each_mapped report_race (IsRaceForm (map column_of variables)) races.races (λ i race at.
     formed_race setting limits shaped race (races.each i race at) (races.values_order i race at)
-    (kept i (told_race race) (slice_get-map told_race races.races i ∙ ap (option_map told_race) at))) in
+    (kept i (report_race race) (slice_get-map report_race races.races i ∙ ap (option_map report_race) at))) in
     record {
       head = formed_head setting limits report head named.top until;
       columns = subst (Each IsColumn) (sym columns) (formed_columns variables named.paths (subst (Each HasWidth) columns widths));
@@ -137,5 +137,5 @@ formed setting shaped limits findings report named until head widths true_ends e
       ends_order = ends_order;
       bytes = formed_bytes setting report.steps report.ends dumps are;
       races = subst (λ cs. Each (IsRaceForm cs) report.races) (sym columns) (subst (Each (IsRaceForm (map column_of variables))) (sym told) each);
-      races_order = subst (EachTwo IsRaceBefore) (sym told) (two_mapped told_race IsRaceBefore races.races races.order);
+      races_order = subst (EachTwo IsRaceBefore) (sym told) (two_mapped report_race IsRaceBefore races.races races.order);
     }

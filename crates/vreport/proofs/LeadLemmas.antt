@@ -3,10 +3,10 @@ use Rattle.std.proofs.Common.{ℕ, List, [], ◌++◌}
 use Rattle.basis.specs.declared.memory.NoMemory.{NoMemory}
 use Rattle.basis.specs.declared.memory.OrMemory.{OrMemory}
 use Rattle.basis.specs.declared.memory.OrMemory.TheVariants.{Memory}
-use Rattle.vcd_text.specs.Outlets.{IsOutlet, Stopped}
-use Rattle.vcd_text.specs.OutletLaws.{stopped_before, stopped_after}
+use Rattle.vcd_text.specs.ByteSinks.{IsByteSink, Stopped}
+use Rattle.vcd_text.specs.ByteSinkLaws.{stopped_before, stopped_after}
 
-module _ {O F : Type 0} (takes : O → List ℕ → O → Type 0) (fails : O → List ℕ → F → O → Type 0) (laws : IsOutlet takes fails) where
+module _ {O F : Type 0} (takes : O → List ℕ → O → Type 0) (fails : O → List ℕ → F → O → Type 0) (laws : IsByteSink takes fails) where
   -- what is left to take now, from a whole text
   pub record Leads (old : O) (text : List ℕ) (now : O) (rest : List ℕ) : Type 0 where
     pub taking : (t : O) → takes now rest t → takes old text t

@@ -8,8 +8,8 @@ use Rattle.statebook.specs.declared.limits.Limits.{Limits}
 use Rattle.vmodel.specs.declared.history.Cause.{Cause}
 use Rattle.vmodel.specs.declared.history.Cause.TheVariants.{Finish, Stop, Quiet, Limit}
 use Rattle.vmodel.specs.Run.{Setting}
-use Rattle.vmachine.specs.declared.standing.Standing.{Standing}
-use Rattle.report_text.specs.Report.{End as Told}
+use Rattle.vmachine.specs.declared.machine_state.MachineState.{MachineState}
+use Rattle.report_text.specs.Report.{End as ReportEnd}
 use Rattle.report_text.specs.ReportText.{cause_word}
 use Rattle.report_text.specs.WellFormed.{IsEndBefore, IsTextLess}
 use Rattle.vreport.specs.declared.row.Row.{Row}
@@ -54,9 +54,9 @@ cause_exact Stop Finish e = absurd (omega arith)
 cause_exact Stop Limit e = absurd (omega arith)
 cause_exact Stop Quiet e = absurd (omega arith)
 
-module _ (setting : Setting) (limits : Limits) (marks : List (Standing × List (ℕ × ℕ))) (rows : List Row) (sorted : AreSortedRows rows) where
+module _ (setting : Setting) (limits : Limits) (marks : List (MachineState × List (ℕ × ℕ))) (rows : List Row) (sorted : AreSortedRows rows) where
   -- ends of rows that stand in order
-  in_order : (r s : Row) (e f : Told) → IsEndOfRow setting limits marks r e → IsEndOfRow setting limits marks s f → key_cmp r s ≡ Less → IsEndBefore e f
+  in_order : (r s : Row) (e f : ReportEnd) → IsEndOfRow setting limits marks r e → IsEndOfRow setting limits marks s f → key_cmp r s ≡ Less → IsEndBefore e f
   in_order r s e f of of' less = elim (key_before r s less) [
     | inl time ↦ inl (subst (λ n. n < f.time) (sym of.time_is) (subst (λ n. r.time < n) (sym of'.time_is) time))
     | inr same ↦ inr (
@@ -102,11 +102,11 @@ module _ (setting : Setting) (limits : Limits) (marks : List (Standing × List (
     | inr from ↦ inr (omega arith)
   ]
 
-  kept_some : (place : ℕ) (e : Told) → IsEndOfSome setting limits marks rows place e → IsEndOfSome setting limits marks rows (place + 1) e
+  kept_some : (place : ℕ) (e : ReportEnd) → IsEndOfSome setting limits marks rows place e → IsEndOfSome setting limits marks rows (place + 1) e
   kept_some place e of = record { place = of.place; row = of.row; below = (let b = of.below in omega arith); at = of.at; of = of.of }
 
   -- an end more, or none
-  pub skips : (ends new : List Told) (place : ℕ) → new ≡ ends → Repeats rows place → AreEndsBelow setting limits marks rows place ends → AreEndsBelow setting limits marks rows (place + 1) new
+  pub skips : (ends new : List ReportEnd) (place : ℕ) → new ≡ ends → Repeats rows place → AreEndsBelow setting limits marks rows place ends → AreEndsBelow setting limits marks rows (place + 1) new
   skips ends new place is again below = subst (AreEndsBelow setting limits marks rows (place + 1)) (sym is) (record {
     each = λ i e at. kept_some place e (below.each i e at);
     whole = λ j row lt at. elim (below_next j place lt) [
@@ -135,7 +135,7 @@ module _ (setting : Setting) (limits : Limits) (marks : List (Standing × List (
       fewer r s alike (inl less) = absurd (let bad : Less ≡ Equal = sym less ∙ alike in cc)
       fewer r s alike (inr same) = same.1
 
-  pub lists : (ends new : List Told) (place : ℕ) (row : Row) (end : Told) → new ≡ ends ++ end ∷ [] → slice_get rows place ≡ Some row → (Repeats rows place → ⊥) →
+  pub lists : (ends new : List ReportEnd) (place : ℕ) (row : Row) (end : ReportEnd) → new ≡ ends ++ end ∷ [] → slice_get rows place ≡ Some row → (Repeats rows place → ⊥) →
       IsEndOfRow setting limits marks row end → AreEndsBelow setting limits marks rows place ends → AreEndsBelow setting limits marks rows (place + 1) new
   lists ends new place row end is row_at begins of below = subst (AreEndsBelow setting limits marks rows (place + 1)) (sym is) (record {
     each = λ i e at. elim (last_or_before ends end i e at) [

@@ -8,8 +8,8 @@ use Rattle.report_text.specs.Report.{End, Report}
 use Rattle.report_text.specs.WellFormed.{Each}
 use Rattle.vreport.specs.Ends.{IsTrueEnd}
 use Rattle.vreport.specs.Formed.{IsTrueWithDumps}
-use Rattle.vreport.specs.Reports.{IsExploration, told_race, told_value}
-use Rattle.vreport.specs.Truth.{AreTrueEnds, IsTrueEndOf, IsTrueRace, IsTrueSighting}
+use Rattle.vreport.specs.Reports.{IsExploration, report_race, report_value}
+use Rattle.vreport.specs.Truth.{AreTrueEnds, IsTrueEndOf, IsTrueRace, IsTrueWitness}
 use Rattle.vreport.specs.Written.{AreDumps, IsDumpOf}
 use Rattle.vreport.proofs.MappedLemmas.{each_mapped}
 
@@ -29,9 +29,9 @@ module _ (setting : Setting) (limits : Limits) (report : Report) (depart_is : re
   true_ends (end ∷ ends) [] each are = absurd are
   true_ends (end ∷ ends) (dump ∷ dumps) each are = (true_end end dump (each 0 end refl) are.0, true_ends ends dumps (λ i e at. each (suc i) e at) are.1)
 
-  -- what is seen after the steps of the sighting
-  true_sighting : (time variable : ℕ) (seen : Vector × List (ℕ × ℕ)) → found.IsSighting setting limits time variable seen.0 seen.1 → IsTrueSighting setting report time variable (told_value seen)
-  true_sighting time variable seen s = record {
+  -- what is seen after the steps of the witness
+  true_witness : (time variable : ℕ) (seen : Vector × List (ℕ × ℕ)) → found.IsWitness setting limits time variable seen.0 seen.1 → IsTrueWitness setting report time variable (report_value seen)
+  true_witness time variable seen s = record {
     value = seen.0;
     text_is = refl;
     steps = s.steps;
@@ -44,13 +44,13 @@ module _ (setting : Setting) (limits : Limits) (report : Report) (depart_is : re
     short = (let few = s.short in omega (arith, few, depart_is));
   }
 
-  true_race : (race : found.Race) → found.IsRace setting limits race → IsTrueRace setting report (told_race race)
-  true_race race is = each_mapped told_value (IsTrueSighting setting report race.time race.variable) race.values (λ i seen at. true_sighting race.time race.variable seen (is.seen i seen at))
+  true_race : (race : found.Race) → found.IsRace setting limits race → IsTrueRace setting report (report_race race)
+  true_race race is = each_mapped report_value (IsTrueWitness setting report race.time race.variable) race.values (λ i seen at. true_witness race.time race.variable seen (is.seen i seen at))
 
 pub exploration_true : (setting : Setting) (limits : Limits) (report : Report) → IsExploration setting limits report → IsTrueWithDumps setting report
 exploration_true setting limits report x dumps are = record {
   head = x.head.setting_is;
   ends = true_ends setting limits report x.head.depart_is x.head.steps_is report.ends dumps x.ends are;
   races = subst (Each (IsTrueRace setting report)) (sym x.races.told_are)
-      (each_mapped told_race (IsTrueRace setting report) x.races.races (λ i race at. true_race setting limits report x.head.depart_is x.head.steps_is race (x.races.each i race at)));
+      (each_mapped report_race (IsTrueRace setting report) x.races.races (λ i race at. true_race setting limits report x.head.depart_is x.head.steps_is race (x.races.each i race at)));
 }

@@ -13,11 +13,11 @@ use Rattle.vmodel.specs.State.{State}
 use Rattle.vmodel.specs.Choices.{choices}
 use Rattle.vmodel.specs.Run.{Setting, rules_of, state_after}
 use Rattle.vmodel.specs.RulesLaws.{lawful}
-use Rattle.vmodel.specs.Played.{width_is}
-use Rattle.vmachine.specs.declared.standing.Standing.{Standing}
+use Rattle.vmodel.specs.RunProgress.{width_is}
+use Rattle.vmachine.specs.declared.machine_state.MachineState.{MachineState}
 use Rattle.vmachine.specs.Machines.{Stands, machine_rules}
 use Rattle.vmachine.specs.Reads.{end_in}
-use Rattle.report_text.specs.Report.{End as Told}
+use Rattle.report_text.specs.Report.{End as ReportEnd}
 use Rattle.report_text.specs.WellFormed.{Each}
 use Rattle.vreport.specs.declared.row.Row.{Row}
 use Rattle.vreport.specs.Ends.{HasBytes, IsEndAfter, IsTrueEnd, ListsEnd, ListsEveryEnd}
@@ -30,14 +30,14 @@ abbrev pub RunHere : Setting → Type 0
 RunHere setting = (log : List (ℕ × ℕ)) (n : ℕ) → IsRun (rules_of setting) log n → IsRun (machine_rules setting) log n
 
 abbrev pub MarkAlike : Setting → Type 0
-MarkAlike setting = (s : Standing) (t : State) → Stands setting s t → (machine_rules setting).mark s ≡ (rules_of setting).mark t
+MarkAlike setting = (s : MachineState) (t : State) → Stands setting s t → (machine_rules setting).mark s ≡ (rules_of setting).mark t
 
 at_contains : {X : Type 0} (xs : List X) (x : X) → Contains xs x → (i : ℕ) × (slice_get xs i ≡ Some x)
 at_contains xs x has = (has.0, slice_get-get_or xs has.0 x has.1 ∙ ap Some has.2)
 
 module _ (setting : Setting) (alike : Alike setting) (all : AllStand setting) (there : RunThere setting) (limits : Limits)
-    (marks : List (Standing × List (ℕ × ℕ))) (rows : List Row) (ends : List Told) (are : AreEnds setting limits marks rows ends) where
-  true_end : AreFound (machine_rules setting) limits marks → (row : Row) (end : Told) → IsEndOfRow setting limits marks row end → IsTrueEnd setting limits end
+    (marks : List (MachineState × List (ℕ × ℕ))) (rows : List Row) (ends : List ReportEnd) (are : AreEnds setting limits marks rows ends) where
+  true_end : AreFound (machine_rules setting) limits marks → (row : Row) (end : ReportEnd) → IsEndOfRow setting limits marks row end → IsTrueEnd setting limits end
   true_end found row end of =
       let f = found row.place of.found of.at in
       let p = row_finishes setting alike all there limits of.found row.place row f of.of in
@@ -67,7 +67,7 @@ module _ (setting : Setting) (alike : Alike setting) (all : AllStand setting) (t
   ends_kept = λ i end at. (are.each i end at).of.kept
 
   module _ (here : RunHere setting) (mark_alike : MarkAlike setting) (of_marks : AreRows setting marks rows) where
-    row_listed : (found : Standing × List (ℕ × ℕ)) (place : ℕ) (t : State) (time : ℕ) (cause : Cause) (line : List ℕ) (departures : ℕ) → Stands setting found.0 t →
+    row_listed : (found : MachineState × List (ℕ × ℕ)) (place : ℕ) (t : State) (time : ℕ) (cause : Cause) (line : List ℕ) (departures : ℕ) → Stands setting found.0 t →
         end_in t ≡ Some (record { time = time; cause = cause }) → line ≡ values_line t.values → length found.1 ≤ departures →
         HasRow setting found place rows ⊎ IsNoEnd setting found.0 → ListsEnd ends time cause line departures
     row_listed found place t time cause line departures st told line_is few (inr bare) = absurd (let bad = bare t st in cc)

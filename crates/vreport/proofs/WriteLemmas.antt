@@ -7,8 +7,8 @@ use Rattle.basis.specs.declared.memory.OrMemory.{OrMemory}
 use Rattle.basis.specs.declared.memory.OrMemory.TheVariants.{Memory}
 use Rattle.vmodel.specs.Run.{Setting, rules_of, history_after}
 use Rattle.vcd_text.specs.DumpText.{vcd}
-use Rattle.vcd_text.specs.Outlets.{IsOutlet, Stopped}
-use Rattle.vcd_text.specs.OutletLaws.{stopped_before, stopped_after}
+use Rattle.vcd_text.specs.ByteSinks.{IsByteSink, Stopped}
+use Rattle.vcd_text.specs.ByteSinkLaws.{stopped_before, stopped_after}
 use Rattle.report_text.specs.Report.{Column, End, Race}
 use Rattle.report_text.specs.ReportText.{end_text, ends_text, race_text, races_text}
 use Rattle.report_text.specs.WellFormed.{Each}
@@ -54,7 +54,7 @@ splits setting steps (e ∷ ends) (d ∷ dumps) (suc i) end are at =
     let s = splits setting steps ends dumps i end are.1 at in
     record { dump = s.dump; of = s.of; ends_are = s.ends_are; dumps_are = s.dumps_are }
 
-module _ {O F : Type 0} (takes : O → List ℕ → O → Type 0) (fails : O → List ℕ → F → O → Type 0) (laws : IsOutlet takes fails) where
+module _ {O F : Type 0} (takes : O → List ℕ → O → Type 0) (fails : O → List ℕ → F → O → Type 0) (laws : IsByteSink takes fails) where
   module _ (setting : Setting) (steps : ℕ) where
     -- ---- one end
 

@@ -3,9 +3,9 @@ use Rattle.std.specs.Prelude.{◌≡◌, ℕ, List}
 use Rattle.basis.specs.declared.memory.OrMemory.{OrMemory}
 use Rattle.vmodel.specs.declared.history.End.{End}
 use Rattle.vmodel.specs.Run.{Setting, history_after}
-use Rattle.vmodel.specs.Played.{Finishes}
+use Rattle.vmodel.specs.RunProgress.{Finishes}
 use Rattle.vcd_text.specs.DumpText.{vcd}
-use Rattle.vcd_text.specs.Outlets.{Stopped}
+use Rattle.vcd_text.specs.ByteSinks.{Stopped}
 
 -- the run under the log ends, within so many steps, and this is its dump
 pub record IsRunDump (setting : Setting) (log : List (ℕ × ℕ)) (limit : ℕ) (dump : List ℕ) : Type 0 where

@@ -2,7 +2,7 @@
 use Rattle.std.specs.Prelude.{◌≡◌, ℕ, ◌≤◌, ◌^◌, List, length, slice_get, Some}
 use Rattle.sched_core.specs.Replay.{EndsAfter}
 use Rattle.explore.specs.declared.findings.Findings.{Findings}
-use Rattle.vmachine.specs.declared.standing.Standing.{Standing}
+use Rattle.vmachine.specs.declared.machine_state.MachineState.{MachineState}
 use Rattle.racebook.specs.Races.{IsWhole}
 use Rattle.statebook.specs.declared.limits.Limits.{Limits}
 use Rattle.vmodel.specs.declared.history.Cause.{Cause}
@@ -55,5 +55,5 @@ ListsEveryEnd setting depart ends = (log : List (ℕ × ℕ)) (steps time : ℕ)
     length log ≤ depart → IsEndAfter setting log steps time cause line → ListsEnd ends time cause line (length log)
 
 -- so it is where the findings are all
-abbrev pub GivesEveryEnd : Setting → Limits → Findings Standing → List End → Type 0
+abbrev pub GivesEveryEnd : Setting → Limits → Findings MachineState → List End → Type 0
 GivesEveryEnd setting limits findings ends = IsWhole setting limits findings → ListsEveryEnd setting limits.depart ends

@@ -11,12 +11,12 @@ use Rattle.vmodel.specs.declared.history.Cause.TheVariants.{Finish, Stop, Quiet,
 use Rattle.vmodel.specs.declared.history.End.{End}
 use Rattle.vmodel.specs.State.{State}
 use Rattle.vmodel.specs.Run.{Setting}
-use Rattle.vmachine.specs.declared.standing.Standing.{Standing}
+use Rattle.vmachine.specs.declared.machine_state.MachineState.{MachineState}
 use Rattle.vmachine.specs.Machines.{Stands}
 use Rattle.vmachine.specs.Reads.{end_in}
 use Rattle.vreport.specs.declared.row.Row.{Row}
 use Rattle.statebook.specs.declared.limits.Limits.{Limits}
-use Rattle.report_text.specs.Report.{Column, End as Told, Race}
+use Rattle.report_text.specs.Report.{Column, End as ReportEnd, Race}
 use Rattle.report_text.specs.WellFormed.{Each, EachTwo, IsEndBefore}
 use Rattle.vreport.specs.Dumps.{IsRunDump}
 use Rattle.vreport.specs.Ends.{HasBytes}
@@ -42,36 +42,36 @@ pub record IsRowAt (row : Row) (end : End) (t : State) : Type 0 where
   pub line_is : row.line.items ≡ values_line t.values
 
 -- the row is of this mark, at which a run ends
-pub record IsRow (setting : Setting) (found : Standing × List (ℕ × ℕ)) (place : ℕ) (row : Row) : Type 0 where
+pub record IsRow (setting : Setting) (found : MachineState × List (ℕ × ℕ)) (place : ℕ) (row : Row) : Type 0 where
   pub at_end : (t : State) → Stands setting found.0 t → (end : End) × (end_in t ≡ Some end) × IsRowAt row end t
   pub departures_are : row.departures ≡ length found.1
   pub place_is : row.place ≡ place
 
 -- at the mark no run ends
-abbrev pub IsNoEnd : Setting → Standing → Type 0
+abbrev pub IsNoEnd : Setting → MachineState → Type 0
 IsNoEnd setting s = (t : State) → Stands setting s t → end_in t ≡ None
 
-abbrev pub TellsRow : Setting → Standing × List (ℕ × ℕ) → ℕ → Option Row → Type 0
+abbrev pub TellsRow : Setting → MachineState × List (ℕ × ℕ) → ℕ → Option Row → Type 0
 TellsRow setting found place None = IsNoEnd setting found.0
 TellsRow setting found place (Some row) = IsRow setting found place row
 
-pub record IsRowOfSome (setting : Setting) (marks : List (Standing × List (ℕ × ℕ))) (row : Row) : Type 0 where
-  pub found : Standing × List (ℕ × ℕ)
+pub record IsRowOfSome (setting : Setting) (marks : List (MachineState × List (ℕ × ℕ))) (row : Row) : Type 0 where
+  pub found : MachineState × List (ℕ × ℕ)
   pub at : slice_get marks row.place ≡ Some found
   pub of : IsRow setting found row.place row
 
-pub record HasRow (setting : Setting) (found : Standing × List (ℕ × ℕ)) (place : ℕ) (rows : List Row) : Type 0 where
+pub record HasRow (setting : Setting) (found : MachineState × List (ℕ × ℕ)) (place : ℕ) (rows : List Row) : Type 0 where
   pub row : Row
   pub among : Contains rows row
   pub of : IsRow setting found place row
 
 -- each row is of a mark, and each of the first marks has its row where a run ends there
-pub record AreRowsBelow (setting : Setting) (marks : List (Standing × List (ℕ × ℕ))) (count : ℕ) (rows : List Row) : Type 0 where
+pub record AreRowsBelow (setting : Setting) (marks : List (MachineState × List (ℕ × ℕ))) (count : ℕ) (rows : List Row) : Type 0 where
   pub each : (row : Row) → Contains rows row → IsRowOfSome setting marks row
-  pub whole : (place : ℕ) (found : Standing × List (ℕ × ℕ)) → place < count → slice_get marks place ≡ Some found →
+  pub whole : (place : ℕ) (found : MachineState × List (ℕ × ℕ)) → place < count → slice_get marks place ≡ Some found →
       HasRow setting found place rows ⊎ IsNoEnd setting found.0
 
-abbrev pub AreRows : Setting → List (Standing × List (ℕ × ℕ)) → List Row → Type 0
+abbrev pub AreRows : Setting → List (MachineState × List (ℕ × ℕ)) → List Row → Type 0
 AreRows setting marks rows = AreRowsBelow setting marks (length marks) rows
 
 -- ---- the order of rows
@@ -104,7 +104,7 @@ abbrev pub HasWidth : Column → Type 0
 HasWidth column = (1 ≤ column.width) × (column.width ≤ 64)
 
 -- the end's time has 64 bits, and its log is one
-abbrev pub HasTimeAndLog : Told → Type 0
+abbrev pub HasTimeAndLog : ReportEnd → Type 0
 HasTimeAndLog end = (end.time < 2 ^ 64) × IsLog end.log
 
 -- the log of the value is one
@@ -126,8 +126,8 @@ abbrev pub CountsDump : Setting → List (ℕ × ℕ) → ℕ → ℕ → Type 0
 CountsDump setting log limit count = (dump : List ℕ) × IsCounted setting log limit count dump
 
 -- the end is that of the row, under the log of its mark
-pub record IsEndOfRow (setting : Setting) (limits : Limits) (marks : List (Standing × List (ℕ × ℕ))) (row : Row) (end : Told) : Type 0 where
-  pub found : Standing × List (ℕ × ℕ)
+pub record IsEndOfRow (setting : Setting) (limits : Limits) (marks : List (MachineState × List (ℕ × ℕ))) (row : Row) (end : ReportEnd) : Type 0 where
+  pub found : MachineState × List (ℕ × ℕ)
   pub at : slice_get marks row.place ≡ Some found
   pub of : IsRow setting found row.place row
   pub time_is : end.time ≡ row.time
@@ -138,9 +138,9 @@ pub record IsEndOfRow (setting : Setting) (limits : Limits) (marks : List (Stand
   pub bytes : HasBytes setting limits.steps end
 
 -- the row's end is listed, under no more departures
-pub record HasEnd (ends : List Told) (row : Row) : Type 0 where
+pub record HasEnd (ends : List ReportEnd) (row : Row) : Type 0 where
   pub place : ℕ
-  pub end : Told
+  pub end : ReportEnd
   pub at : slice_get ends place ≡ Some end
   pub time_is : end.time ≡ row.time
   pub cause_is : row.cause ≡ order_of end.cause
@@ -148,7 +148,7 @@ pub record HasEnd (ends : List Told) (row : Row) : Type 0 where
   pub fewest : length end.log ≤ row.departures
 
 -- the end is that of one of the first rows
-pub record IsEndOfSome (setting : Setting) (limits : Limits) (marks : List (Standing × List (ℕ × ℕ))) (rows : List Row) (count : ℕ) (end : Told) : Type 0 where
+pub record IsEndOfSome (setting : Setting) (limits : Limits) (marks : List (MachineState × List (ℕ × ℕ))) (rows : List Row) (count : ℕ) (end : ReportEnd) : Type 0 where
   pub place : ℕ
   pub row : Row
   pub below : place < count
@@ -156,10 +156,10 @@ pub record IsEndOfSome (setting : Setting) (limits : Limits) (marks : List (Stan
   pub of : IsEndOfRow setting limits marks row end
 
 -- the ends are those of the first rows
-pub record AreEndsBelow (setting : Setting) (limits : Limits) (marks : List (Standing × List (ℕ × ℕ))) (rows : List Row) (count : ℕ) (ends : List Told) : Type 0 where
+pub record AreEndsBelow (setting : Setting) (limits : Limits) (marks : List (MachineState × List (ℕ × ℕ))) (rows : List Row) (count : ℕ) (ends : List ReportEnd) : Type 0 where
   pub each : Each (IsEndOfSome setting limits marks rows count) ends
   pub whole : (place : ℕ) (row : Row) → place < count → slice_get rows place ≡ Some row → HasEnd ends row
   pub order : EachTwo IsEndBefore ends
 
-abbrev pub AreEnds : Setting → Limits → List (Standing × List (ℕ × ℕ)) → List Row → List Told → Type 0
+abbrev pub AreEnds : Setting → Limits → List (MachineState × List (ℕ × ℕ)) → List Row → List ReportEnd → Type 0
 AreEnds setting limits marks rows ends = AreEndsBelow setting limits marks rows (length rows) ends

@@ -9,7 +9,7 @@ use Rattle.statebook.specs.declared.reason.Reason.TheVariants.{Memory, Entries, 
 use Rattle.vdesign.specs.Named.{AreNamed}
 use Rattle.vbits.specs.Vectors.{Vector}
 use Rattle.vmodel.specs.Run.{Setting, rules_of}
-use Rattle.vmachine.specs.declared.standing.Standing.{Standing}
+use Rattle.vmachine.specs.declared.machine_state.MachineState.{MachineState}
 use Rattle.racebook.specs.Races as found
 use Rattle.report_text.specs.declared.report.Outcome.{Outcome}
 use Rattle.report_text.specs.declared.report.Outcome.TheVariants as outcome
@@ -45,17 +45,17 @@ pub record IsHeadOf (setting : Setting) (limits : Limits) (report : Report) : Ty
 -- ---- races
 
 -- a value as its digits, with its log
-abbrev pub told_value : Vector × List (ℕ × ℕ) → List ℕ × List (ℕ × ℕ)
-told_value seen = (report_digits seen.0, seen.1)
+abbrev pub report_value : Vector × List (ℕ × ℕ) → List ℕ × List (ℕ × ℕ)
+report_value seen = (report_digits seen.0, seen.1)
 
-abbrev pub told_race : found.Race → Race
-told_race race = record { time = race.time; variable = race.variable; values = map told_value race.values }
+abbrev pub report_race : found.Race → Race
+report_race race = record { time = race.time; variable = race.variable; values = map report_value race.values }
 
 -- the races told are races, in order, with their values in the order of their digits; where the findings are all, no race
 -- and no value of one is missing, and each log has the fewest departures; whatever the status, so it is of what the marks show
-pub record ShowsRaces (setting : Setting) (limits : Limits) (findings : Findings Standing) (told : List Race) : Type 0 where
+pub record ShowsRaces (setting : Setting) (limits : Limits) (findings : Findings MachineState) (told : List Race) : Type 0 where
   pub races : List found.Race
-  pub told_are : told ≡ map told_race races
+  pub told_are : told ≡ map report_race races
   pub each : found.EachRace (found.IsRace setting limits) races
   pub order : found.AreRacesInOrder races
   pub values_order : found.AreValuesInOrder races
@@ -70,7 +70,7 @@ pub record ShowsRaces (setting : Setting) (limits : Limits) (findings : Findings
 -- no value of one is missing, and each log has the fewest departures.
 pub record AreRaces (setting : Setting) (limits : Limits) (report : Report) : Type 0 where
   pub races : List found.Race
-  pub told_are : report.races ≡ map told_race races
+  pub told_are : report.races ≡ map report_race races
   pub each : found.EachRace (found.IsRace setting limits) races
   pub order : found.AreRacesInOrder races
   pub values_order : found.AreValuesInOrder races

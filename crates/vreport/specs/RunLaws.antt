@@ -6,7 +6,7 @@ use Rattle.sched_core.specs.Rules.{Rules, stands, choice_at, IsRun, NamesBelow}
 use Rattle.sched_core.specs.Replay.{EndsAfter, IsMissing, TakesMore}
 use Rattle.vmodel.specs.declared.history.Item.{Item}
 use Rattle.vmodel.specs.Step.{next, items_of}
-use Rattle.vmodel.specs.Run.{Setting, state_after, given_by}
+use Rattle.vmodel.specs.Run.{Setting, state_after, items_after}
 
 -- no run goes on behind its end
 pub not_behind : {S : Type 0} (r : Rules S) (log : List (ℕ × ℕ)) (n end : ℕ) → IsRun r log n → EndsAfter r log end → n ≤ end
@@ -46,20 +46,20 @@ never_more r log limit end ends within more =
     omega (arith, none, more.goes_on)
 
 -- what is given after n steps stands at the front of what is given after more
-pub given_front : (setting : Setting) (log : List (ℕ × ℕ)) (n end : ℕ) → n ≤ end → (more : List Item) × (given_by setting log end ≡ given_by setting log n ++ more)
+pub given_front : (setting : Setting) (log : List (ℕ × ℕ)) (n end : ℕ) → n ≤ end → (more : List Item) × (items_after setting log end ≡ items_after setting log n ++ more)
 given_front setting log n zero within =
     let same : zero ≡ n = omega (arith, within) in
-    ([], ap (given_by setting log) same ∙ sym (append-nil (given_by setting log n)))
+    ([], ap (items_after setting log) same ∙ sym (append-nil (items_after setting log n)))
 given_front setting log n (suc end) within =
     elim (cases_lt end n) [
       | inl behind ↦
           let same : suc end ≡ n = omega (arith, within, behind) in
-          ([], ap (given_by setting log) same ∙ sym (append-nil (given_by setting log n)))
+          ([], ap (items_after setting log) same ∙ sym (append-nil (items_after setting log n)))
       | inr below ↦ last (given_front setting log n end below)
     ]
   where
-    last : ((more : List Item) × (given_by setting log end ≡ given_by setting log n ++ more)) →
-        (more : List Item) × (given_by setting log (suc end) ≡ given_by setting log n ++ more)
+    last : ((more : List Item) × (items_after setting log end ≡ items_after setting log n ++ more)) →
+        (more : List Item) × (items_after setting log (suc end) ≡ items_after setting log n ++ more)
     last (more, same) =
         let items : List Item = items_of setting.design (next setting.design (state_after setting log end) (choice_at log end)) in
-        (more ++ items, ap (λ (xs : List Item). xs ++ items) same ∙ append_assoc (given_by setting log n) more items)
+        (more ++ items, ap (λ (xs : List Item). xs ++ items) same ∙ append_assoc (items_after setting log n) more items)

@@ -40,7 +40,7 @@ AreTrueEnds setting report (end ∷ ends) (dump ∷ dumps) = IsTrueEndOf setting
 
 -- The run under the log has no more departures than the head allows, comes to the end of the slot of this time with this
 -- value of the variable, and takes all that the log names, both within the steps that the head allows.
-pub record IsTrueSighting (setting : Setting) (report : Report) (time variable : ℕ) (seen : List ℕ × List (ℕ × ℕ)) : Type 0 where
+pub record IsTrueWitness (setting : Setting) (report : Report) (time variable : ℕ) (seen : List ℕ × List (ℕ × ℕ)) : Type 0 where
   pub value : Vector
   pub text_is : seen.0 ≡ report_digits value
   pub steps : ℕ
@@ -54,7 +54,7 @@ pub record IsTrueSighting (setting : Setting) (report : Report) (time variable :
 
 -- each value of the race is so seen; its values are different ones (`IsReport`), so any two are a race
 abbrev pub IsTrueRace : Setting → Report → Race → Type 0
-IsTrueRace setting report race = Each (IsTrueSighting setting report race.time race.variable) race.values
+IsTrueRace setting report race = Each (IsTrueWitness setting report race.time race.variable) race.values
 
 pub record IsTrueReport (setting : Setting) (report : Report) (dumps : List (List ℕ)) : Type 0 where
   pub head : IsTrueHead setting report

@@ -10,11 +10,11 @@ ghost use Rattle.vreport.specs.Dumps.{HasDump, IsRunDump, StopsDump, TakesDump};
 use basis::OrMemory;
 use sched_core::{Log, ReplayFault};
 use std::alloc::Global;
-use vcd_text::{DumpSink, HeldText, Outlet};
+use vcd_text::{ByteSink, DumpSink, HeldText};
 use vmachine::{Machine, RunFault};
 
 // Runs the design under the log, which ends, into a fresh sink.
-fn fill<O: Outlet>(
+fn fill<O: ByteSink>(
     machine: &Machine,
     log: &Log,
     steps: u32,
@@ -25,10 +25,10 @@ fn fill<O: Outlet>(
     requires ends { HasDump machine.now log.now steps }
     ensures same { IsSameDump sink.old sink.new }
     ensures ok { OnOk result
-        (TakesDump O.takes machine.now log.now steps sink.old.outlet.now sink.new.outlet.now) }
+        (TakesDump O.takes machine.now log.now steps sink.old.byte_sink.now sink.new.byte_sink.now) }
     ensures err { IfErr result (λ fault.
-        StopsDump O.takes O.fails machine.now log.now steps sink.old.outlet.now fault
-        sink.new.outlet.now) }
+        StopsDump O.takes O.fails machine.now log.now steps sink.old.byte_sink.now fault
+        sink.new.byte_sink.now) }
 {
     match machine.run_into(log, steps, sink) {
         Ok(end) => match sink.finish(&end) {
@@ -41,26 +41,26 @@ fn fill<O: Outlet>(
     }
 }
 
-/// Runs the machine under the log, which ends within so many steps, and hands its dump to the outlet,
-/// slot by slot. E901 where memory was refused; else a fault is the outlet's. Then a front of the dump may have been taken.
-pub fn write_dump<O: Outlet>(
+/// Runs the machine under the log, which ends within so many steps, and hands its dump to the byte sink,
+/// slot by slot. E901 where memory was refused; else a fault is the byte sink's. Then a front of the dump may have been taken.
+pub fn write_dump<O: ByteSink>(
     alloc: Global,
     machine: &Machine,
     log: &Log,
     steps: u32,
-    outlet: &mut O,
+    byte_sink: &mut O,
 ) -> Result<(), OrMemory<O::Fault>>
     requires ends { HasDump machine.now log.now steps }
     ensures ok { OnOk result
-        (TakesDump O.takes machine.now log.now steps outlet.old outlet.new) }
+        (TakesDump O.takes machine.now log.now steps byte_sink.old byte_sink.new) }
     ensures err { IfErr result (λ fault.
-        StopsDump O.takes O.fails machine.now log.now steps outlet.old fault outlet.new) }
+        StopsDump O.takes O.fails machine.now log.now steps byte_sink.old fault byte_sink.new) }
 {
-    let mut sink = DumpSink::new(alloc, machine.design(), outlet);
+    let mut sink = DumpSink::new(alloc, machine.design(), byte_sink);
     let result = fill(machine, log, steps, &mut sink);
-    let outlet = sink.into_outlet();
-    // No effect at run time. The proof reads what the outlet holds from this use.
-    let _ = &*outlet;
+    let byte_sink = sink.into_byte_sink();
+    // No effect at run time. The proof reads what the byte sink holds from this use.
+    let _ = &*byte_sink;
     result
 }
 
@@ -88,8 +88,8 @@ pub fn hold_dump(
         Ok(()) => {}
         Err(_) => return Ok(None),
     }
-    let outlet = sink.into_outlet();
+    let byte_sink = sink.into_byte_sink();
     // No effect at run time. The proof reads what is held from this use.
-    let _ = &*outlet;
+    let _ = &*byte_sink;
     Ok(Some(held))
 }

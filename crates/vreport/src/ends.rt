@@ -20,7 +20,7 @@ use sched_core::Log;
 use statebook::Limits;
 use std::alloc::Global;
 use vcd_text::{Counter, HELD_BYTES, HeldText, TooMany};
-use vmachine::{Machine, Standing, machine_law};
+use vmachine::{Machine, MachineState, machine_law};
 
 // How many bytes the dump of the run has.
 fn dump_len(
@@ -116,7 +116,7 @@ struct HeldEnd {
 fn end_of(
     alloc: Global,
     machine: &Machine,
-    findings: &Findings<Standing>,
+    findings: &Findings<MachineState>,
     limits: &Limits,
     row: &Row,
     room: usize,
@@ -167,7 +167,7 @@ pub struct HeldEnds {
 fn ends_of_rows(
     alloc: Global,
     machine: &Machine,
-    findings: &Findings<Standing>,
+    findings: &Findings<MachineState>,
     limits: &Limits,
     rows: &[Row],
 ) -> Result<HeldEnds, OrMemory<TooMany>>
@@ -207,7 +207,7 @@ fn ends_of_rows(
 pub fn ends_of(
     alloc: Global,
     machine: &Machine,
-    findings: &Findings<Standing>,
+    findings: &Findings<MachineState>,
     limits: &Limits,
 ) -> Result<HeldEnds, OrMemory<TooMany>>
     requires found { ListsFound (machine_rules machine.now) limits.now findings.now }

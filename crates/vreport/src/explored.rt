@@ -16,7 +16,7 @@ use std::alloc::Global;
 use std::sync::Wait;
 use std::thread::Threads;
 use vcd_text::{HeldText, TooMany};
-use vmachine::{Machine, Standing, machine_law};
+use vmachine::{Machine, MachineState, machine_law};
 use workpool::Gate;
 
 /// The report of an exploration, how that went, and of each end the dump, where it is held. A status that says that memory
@@ -32,7 +32,7 @@ pub struct Explored {
 fn report_found(
     alloc: Global,
     machine: &Machine,
-    findings: &Findings<Standing>,
+    findings: &Findings<MachineState>,
     limits: &Limits,
 ) -> Result<Explored, OrMemory<TooMany>>
     requires found { ListsFound (machine_rules machine.now) limits.now findings.now }

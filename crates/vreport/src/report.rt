@@ -9,7 +9,7 @@ ghost use Rattle.vmachine.specs.Machines.{machine_rules};
 ghost use Rattle.vreport.specs.Ends.{GivesEveryEnd, HasBytes, HasSomeLongDump, IsTrueEnd};
 ghost use Rattle.vreport.specs.Formed.{IsFormed};
 ghost use Rattle.vreport.specs.Inner.{HasLog, HasTimeAndLogs, HasWidth};
-ghost use Rattle.vreport.specs.Reports.{HasOutcome, IsHeadOf, ShowsRaces, outcome_of as outcome_by_status, told_race, told_value};
+ghost use Rattle.vreport.specs.Reports.{HasOutcome, IsHeadOf, ShowsRaces, outcome_of as outcome_by_status, report_race, report_value};
 ghost use Rattle.vreport.specs.Truth.{column_of};
 ghost use Rattle.vreport.specs.Written.{AreHeld};
 
@@ -17,13 +17,13 @@ use crate::ends::{HeldEnds, ends_of};
 use crate::values::text_of_value;
 use basis::{NoMemory, OrMemory};
 use explore::{Findings, Reason, Status};
-use racebook::{Sighting, races};
-use report_text::{Column, Outcome, Race, Report, Seen, Version};
+use racebook::{Witness, races};
+use report_text::{Column, Outcome, Race, RaceValue, Report, Version};
 use statebook::Limits;
 use std::alloc::Global;
 use vcd_text::{HeldText, TooMany};
 use vdesign::design::Variable;
-use vmachine::{Machine, Standing};
+use vmachine::{Machine, MachineState};
 use vmodel::run_law;
 
 // The name and the width of each variable.
@@ -42,18 +42,18 @@ fn columns_of(alloc: Global, variables: &[Variable]) -> Result<Vec<Column>, NoMe
 }
 
 // The values of a race, as texts.
-fn seen_of(alloc: Global, values: &[Sighting]) -> Result<Vec<Seen>, NoMemory>
-    ensures told { IfOk result (λ seen. seen.items ≡ map told_value values.now) }
-    ensures logs { IfOk result (λ seen. Each HasLog seen.items) }
+fn race_values_of(alloc: Global, values: &[Witness]) -> Result<Vec<RaceValue>, NoMemory>
+    ensures told { IfOk result (λ race_values. race_values.items ≡ map report_value values.now) }
+    ensures logs { IfOk result (λ race_values. Each HasLog race_values.items) }
 {
-    let mut seen = Vec::with_capacity(alloc, values.len())?;
-    for sighting in values {
-        seen.push(Seen {
-            value: text_of_value(alloc, sighting.value)?,
-            log: sighting.log.copy()?,
+    let mut race_values = Vec::with_capacity(alloc, values.len())?;
+    for witness in values {
+        race_values.push(RaceValue {
+            value: text_of_value(alloc, witness.value)?,
+            log: witness.log.copy()?,
         })?;
     }
-    Ok(seen)
+    Ok(race_values)
 }
 
 // The time of a race, a number of 64 bits.
@@ -65,8 +65,8 @@ fn time_of(race: &racebook::Race) -> u64
 }
 
 // The races, as a report tells them.
-fn told_races(alloc: Global, races: &[racebook::Race]) -> Result<Vec<Race>, NoMemory>
-    ensures told { IfOk result (λ told. told.items ≡ map told_race races.now) }
+fn report_races(alloc: Global, races: &[racebook::Race]) -> Result<Vec<Race>, NoMemory>
+    ensures told { IfOk result (λ told. told.items ≡ map report_race races.now) }
     ensures kept { IfOk result (λ told. Each HasTimeAndLogs told.items) }
 {
     let mut told = Vec::with_capacity(alloc, races.len())?;
@@ -74,7 +74,7 @@ fn told_races(alloc: Global, races: &[racebook::Race]) -> Result<Vec<Race>, NoMe
         told.push(Race {
             time: time_of(race),
             variable: race.variable,
-            values: seen_of(alloc, &race.values)?,
+            values: race_values_of(alloc, &race.values)?,
         })?;
     }
     Ok(told)
@@ -103,7 +103,7 @@ pub struct HeldReport {
 pub fn hold_report(
     alloc: Global,
     machine: &Machine,
-    findings: &Findings<Standing>,
+    findings: &Findings<MachineState>,
     limits: &Limits,
 ) -> Result<HeldReport, OrMemory<TooMany>>
     requires found { ListsFound (machine_rules machine.now) limits.now findings.now }
@@ -141,7 +141,7 @@ pub fn hold_report(
         outcome: outcome_of(findings.status),
         variables: columns_of(alloc, &design.variables)?,
         ends,
-        races: told_races(alloc, &found)?,
+        races: report_races(alloc, &found)?,
     };
     Ok(HeldReport { report, held })
 }
@@ -155,7 +155,7 @@ pub fn hold_report(
 pub fn report_of(
     alloc: Global,
     machine: &Machine,
-    findings: &Findings<Standing>,
+    findings: &Findings<MachineState>,
     limits: &Limits,
 ) -> Result<Report, OrMemory<TooMany>>
     requires found { ListsFound (machine_rules machine.now) limits.now findings.now }

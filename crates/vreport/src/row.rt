@@ -8,7 +8,7 @@ use basis::NoMemory;
 use explore::Findings;
 use sched_core::Log;
 use std::alloc::Global;
-use vmachine::{Machine, Standing};
+use vmachine::{Machine, MachineState};
 use vmodel::history::Cause;
 
 /// A mark at which a run ends: its time, the order of its cause, the line of its values, how many departures lead there,
@@ -50,19 +50,19 @@ pub fn cause_of(order: u8) -> Cause
 fn row_of(
     alloc: Global,
     machine: &Machine,
-    standing: &Standing,
+    machine_state: &MachineState,
     log: &Log,
     place: usize,
 ) -> Result<Option<Row>, NoMemory>
-    ensures { IfOk result (TellsRow machine.now (standing.now, log.now) place) }
+    ensures { IfOk result (TellsRow machine.now (machine_state.now, log.now) place) }
 {
-    let Some(end) = machine.end_of(standing) else {
+    let Some(end) = machine.end_of(machine_state) else {
         return Ok(None);
     };
     Ok(Some(Row {
         time: end.time,
         cause: order_of(end.cause),
-        line: line_of_values(alloc, machine.values(standing))?,
+        line: line_of_values(alloc, machine.values(machine_state))?,
         departures: log.members().len(),
         place,
     }))
@@ -72,14 +72,14 @@ fn row_of(
 fn all_rows(
     alloc: Global,
     machine: &Machine,
-    findings: &Findings<Standing>,
+    findings: &Findings<MachineState>,
 ) -> Result<Vec<Row>, NoMemory>
     ensures { IfOk result (λ rows. AreRows machine.now findings.now.marks.entries rows.items) }
 {
     let mut rows = Vec::new(alloc);
     for place in 0..findings.marks.len() {
-        if let Some((standing, log)) = findings.marks.get_index(place) {
-            if let Some(row) = row_of(alloc, machine, standing, log, place)? {
+        if let Some((machine_state, log)) = findings.marks.get_index(place) {
+            if let Some(row) = row_of(alloc, machine, machine_state, log, place)? {
                 rows.push(row)?;
             }
         }
@@ -91,7 +91,7 @@ fn all_rows(
 pub fn rows_in_order(
     alloc: Global,
     machine: &Machine,
-    findings: &Findings<Standing>,
+    findings: &Findings<MachineState>,
 ) -> Result<Vec<Row>, NoMemory>
     ensures of { IfOk result (λ rows. AreRows machine.now findings.now.marks.entries rows.items) }
     ensures order { IfOk result (λ rows. AreSortedRows rows.items) }

@@ -1,7 +1,7 @@
 // The text of a report, with the dump of each end.
 
 ghost use Rattle.std.specs.Prelude.{◌≡◌, ℕ, List, OnOk, IfOk, IfErr};
-ghost use Rattle.vcd_text.specs.Outlets.{Stopped};
+ghost use Rattle.vcd_text.specs.ByteSinks.{Stopped};
 ghost use Rattle.report_text.specs.WellFormed.{Each};
 ghost use Rattle.report_text.specs.ReportText.{races_text};
 ghost use Rattle.vreport.specs.Ends.{HasBytes};
@@ -12,85 +12,85 @@ use crate::dump::write_dump;
 use basis::{NoMemory, OrMemory};
 use report_text::{Column, End, Race, Report, end_lines, head_lines, race_count_line, race_lines};
 use std::alloc::Global;
-use vcd_text::{HeldText, Outlet, put};
+use vcd_text::{ByteSink, HeldText, put};
 use vmachine::Machine;
 
 // Hands on a text that was made, unless memory was refused for it.
-fn put_made<O: Outlet>(
-    outlet: &mut O,
+fn put_made<O: ByteSink>(
+    byte_sink: &mut O,
     made: Result<Vec<u8>, NoMemory>,
 ) -> Result<(), OrMemory<O::Fault>>
     ensures ok { (text : List ℕ) → IfOk made (λ lines. lines.items ≡ text) →
-        OnOk result (O.takes outlet.old text outlet.new) }
+        OnOk result (O.takes byte_sink.old text byte_sink.new) }
     ensures err { (text : List ℕ) → IfOk made (λ lines. lines.items ≡ text) →
-        IfErr result (λ fault. Stopped O.takes O.fails outlet.old text fault outlet.new) }
+        IfErr result (λ fault. Stopped O.takes O.fails byte_sink.old text fault byte_sink.new) }
 {
     match made {
-        Ok(lines) => put(outlet, &lines),
+        Ok(lines) => put(byte_sink, &lines),
         Err(refused) => Err(OrMemory::Memory(refused)),
     }
 }
 
 // The dump of an end: the one that is held, or else made again.
-fn put_dump<O: Outlet>(
+fn put_dump<O: ByteSink>(
     alloc: Global,
     machine: &Machine,
     steps: u32,
     end: &End,
     held: &Option<HeldText>,
-    outlet: &mut O,
+    byte_sink: &mut O,
 ) -> Result<(), OrMemory<O::Fault>>
     requires bytes { HasBytes machine.now steps end.now }
     requires held { IsHeld machine.now steps end.now held.now }
     ensures ok { OnOk result
-        (TakesDump O.takes machine.now end.now.log steps outlet.old outlet.new) }
+        (TakesDump O.takes machine.now end.now.log steps byte_sink.old byte_sink.new) }
     ensures err { IfErr result (λ fault.
-        StopsDump O.takes O.fails machine.now end.now.log steps outlet.old fault outlet.new) }
+        StopsDump O.takes O.fails machine.now end.now.log steps byte_sink.old fault byte_sink.new) }
 {
     match held {
-        Some(dump) => put(outlet, dump.text()),
-        None => write_dump(alloc, machine, &end.log, steps, outlet),
+        Some(dump) => put(byte_sink, dump.text()),
+        None => write_dump(alloc, machine, &end.log, steps, byte_sink),
     }
 }
 
 // An end, and its dump behind it.
-fn put_end<O: Outlet>(
+fn put_end<O: ByteSink>(
     alloc: Global,
     machine: &Machine,
     steps: u32,
     end: &End,
     held: &Option<HeldText>,
-    outlet: &mut O,
+    byte_sink: &mut O,
 ) -> Result<(), OrMemory<O::Fault>>
     requires bytes { HasBytes machine.now steps end.now }
     requires held { IsHeld machine.now steps end.now held.now }
-    ensures ok { OnOk result (TakesEnd O.takes machine.now steps end.now outlet.old outlet.new) }
+    ensures ok { OnOk result (TakesEnd O.takes machine.now steps end.now byte_sink.old byte_sink.new) }
     ensures err { IfErr result (λ fault.
-        StopsEnd O.takes O.fails machine.now steps end.now outlet.old fault outlet.new) }
+        StopsEnd O.takes O.fails machine.now steps end.now byte_sink.old fault byte_sink.new) }
 {
-    match put_made(outlet, end_lines(alloc, end)) {
-        Ok(()) => put_dump(alloc, machine, steps, end, held, outlet),
+    match put_made(byte_sink, end_lines(alloc, end)) {
+        Ok(()) => put_dump(alloc, machine, steps, end, held, byte_sink),
         Err(fault) => Err(fault),
     }
 }
 
 // The ends, each with its dump.
-fn put_ends<O: Outlet>(
+fn put_ends<O: ByteSink>(
     alloc: Global,
     machine: &Machine,
     steps: u32,
     ends: &[End],
     held: &[Option<HeldText>],
-    outlet: &mut O,
+    byte_sink: &mut O,
 ) -> Result<(), OrMemory<O::Fault>>
     requires bytes { Each (HasBytes machine.now steps) ends.now }
     requires held { AreHeld machine.now steps ends.now held.now }
-    ensures ok { OnOk result (TakesEnds O.takes machine.now steps ends.now outlet.old outlet.new) }
+    ensures ok { OnOk result (TakesEnds O.takes machine.now steps ends.now byte_sink.old byte_sink.new) }
     ensures err { IfErr result (λ fault.
-        StopsEnds O.takes O.fails machine.now steps ends.now outlet.old fault outlet.new) }
+        StopsEnds O.takes O.fails machine.now steps ends.now byte_sink.old fault byte_sink.new) }
 {
     for place in 0..ends.len() {
-        match put_end(alloc, machine, steps, &ends[place], &held[place], outlet) {
+        match put_end(alloc, machine, steps, &ends[place], &held[place], byte_sink) {
             Ok(()) => {}
             Err(fault) => return Err(fault),
         }
@@ -99,18 +99,18 @@ fn put_ends<O: Outlet>(
 }
 
 // The races, one at a time.
-fn put_races<O: Outlet>(
+fn put_races<O: ByteSink>(
     alloc: Global,
     columns: &[Column],
     races: &[Race],
-    outlet: &mut O,
+    byte_sink: &mut O,
 ) -> Result<(), OrMemory<O::Fault>>
-    ensures ok { OnOk result (O.takes outlet.old (races_text columns.now races.now) outlet.new) }
+    ensures ok { OnOk result (O.takes byte_sink.old (races_text columns.now races.now) byte_sink.new) }
     ensures err { IfErr result (λ fault.
-        Stopped O.takes O.fails outlet.old (races_text columns.now races.now) fault outlet.new) }
+        Stopped O.takes O.fails byte_sink.old (races_text columns.now races.now) fault byte_sink.new) }
 {
     for race in races {
-        match put_made(outlet, race_lines(alloc, columns, race)) {
+        match put_made(byte_sink, race_lines(alloc, columns, race)) {
             Ok(()) => {}
             Err(fault) => return Err(fault),
         }
@@ -118,33 +118,33 @@ fn put_races<O: Outlet>(
     Ok(())
 }
 
-/// Writes the text of a report to the outlet, and behind each end its dump: the one that is held, else that of the run under
-/// its log, which is run again and written slot by slot. E901 where memory was refused; else a fault is the outlet's. Then a
+/// Writes the text of a report to the byte sink, and behind each end its dump: the one that is held, else that of the run under
+/// its log, which is run again and written slot by slot. E901 where memory was refused; else a fault is the byte sink's. Then a
 /// front of the text stands written.
-pub fn write_report<O: Outlet>(
+pub fn write_report<O: ByteSink>(
     alloc: Global,
     machine: &Machine,
     report: &Report,
     held: &[Option<HeldText>],
-    outlet: &mut O,
+    byte_sink: &mut O,
 ) -> Result<(), OrMemory<O::Fault>>
     requires bytes { Each (HasBytes machine.now report.now.steps) report.now.ends }
     requires held { AreHeld machine.now report.now.steps report.now.ends held.now }
-    ensures ok { OnOk result (TakesReport O.takes machine.now report.now outlet.old outlet.new) }
+    ensures ok { OnOk result (TakesReport O.takes machine.now report.now byte_sink.old byte_sink.new) }
     ensures err { IfErr result (λ fault.
-        StopsReport O.takes O.fails machine.now report.now outlet.old fault outlet.new) }
+        StopsReport O.takes O.fails machine.now report.now byte_sink.old fault byte_sink.new) }
 {
-    match put_made(outlet, head_lines(alloc, report)) {
+    match put_made(byte_sink, head_lines(alloc, report)) {
         Ok(()) => {}
         Err(fault) => return Err(fault),
     }
-    match put_ends(alloc, machine, report.steps, &report.ends, held, outlet) {
+    match put_ends(alloc, machine, report.steps, &report.ends, held, byte_sink) {
         Ok(()) => {}
         Err(fault) => return Err(fault),
     }
-    match put_made(outlet, race_count_line(alloc, report)) {
+    match put_made(byte_sink, race_count_line(alloc, report)) {
         Ok(()) => {}
         Err(fault) => return Err(fault),
     }
-    put_races(alloc, &report.variables, &report.races, outlet)
+    put_races(alloc, &report.variables, &report.races, byte_sink)
 }

@@ -17,5 +17,5 @@ state_of walk = record {
 }
 
 -- this was done, with this state and so many bytes behind the word
-abbrev pub Did : Result Done Refusal → State → ℕ → Type 0
-Did outcome state len = outcome ≡ Ok (record { state = state; len = len })
+abbrev pub StepResult : Result Done Refusal → State → ℕ → Type 0
+StepResult outcome state len = outcome ≡ Ok (record { state = state; len = len })

@@ -41,7 +41,7 @@ pub struct Walk<'t> {
 impl<'t> Walk<'t> {
     ghost use Rattle.vsrc.specs.Walk.{start, step, passed, kept, ticked, met, replaced, heeded, obeyed, defined, undefined, opening, alternative, timed, typed, with_opens};
     ghost use Rattle.vsrc.specs.Conditionals.{turned, closed};
-    ghost use Rattle.vsrc.specs.Walking.{Did};
+    ghost use Rattle.vsrc.specs.Walking.{StepResult};
 
     /// Before the first byte.
     pub fn new(alloc: Global) -> Self
@@ -143,7 +143,7 @@ impl<'t> Walk<'t> {
     fn meet(&mut self, name: &'t [u8], rest: &'t [u8]) -> Result<usize, OrMemory<Refusal>>
         requires { self.old.at ≤ text_limit }
         ensures ok { IfOk result
-            (Did (met (directive_of name.now) name.now rest.now (state_of self.old))
+            (StepResult (met (directive_of name.now) name.now rest.now (state_of self.old))
             (state_of self.new)) }
         ensures within { IfOk result (λ len. len ≤ length rest.now) }
         ensures still { self.new.at ≡ self.old.at }
@@ -159,7 +159,7 @@ impl<'t> Walk<'t> {
     // A use of a macro.
     fn replace(&mut self, name: &'t [u8]) -> Result<usize, OrMemory<Refusal>>
         requires { self.old.at ≤ text_limit }
-        ensures ok { IfOk result (Did (replaced name.now (state_of self.old)) (state_of self.new)) }
+        ensures ok { IfOk result (StepResult (replaced name.now (state_of self.old)) (state_of self.new)) }
         ensures none { IfOk result (λ len. len ≡ 0) }
         ensures still { self.new.at ≡ self.old.at }
         ensures err { IfFault result (λ refusal.
@@ -174,7 +174,7 @@ impl<'t> Walk<'t> {
     // A directive, where it is heeded.
     fn heed(&mut self, word: Word, rest: &'t [u8]) -> Result<usize, OrMemory<Refusal>>
         ensures ok { IfOk result
-            (Did (heeded word rest.now (state_of self.old)) (state_of self.new)) }
+            (StepResult (heeded word rest.now (state_of self.old)) (state_of self.new)) }
         ensures within { IfOk result (λ len. len ≤ length rest.now) }
         ensures still { self.new.at ≡ self.old.at }
         ensures err { IfFault result (λ refusal.
@@ -198,7 +198,7 @@ impl<'t> Walk<'t> {
     // A directive and what stands behind its word.
     fn obey(&mut self, word: Word, rest: &'t [u8]) -> Result<usize, OrMemory<Refusal>>
         ensures ok { IfOk result
-            (Did (obeyed word rest.now (state_of self.old)) (state_of self.new)) }
+            (StepResult (obeyed word rest.now (state_of self.old)) (state_of self.new)) }
         ensures within { IfOk result (λ len. len ≤ length rest.now) }
         ensures still { self.new.at ≡ self.old.at }
         ensures err { IfFault result (λ refusal.
@@ -219,7 +219,7 @@ impl<'t> Walk<'t> {
 
     fn define(&mut self, rest: &'t [u8]) -> Result<usize, OrMemory<Refusal>>
         ensures ok { IfOk result
-            (Did (defined (name_behind rest.now) rest.now (state_of self.old))
+            (StepResult (defined (name_behind rest.now) rest.now (state_of self.old))
             (state_of self.new)) }
         ensures within { IfOk result (λ len. len ≤ length rest.now) }
         ensures still { self.new.at ≡ self.old.at }
@@ -241,7 +241,7 @@ impl<'t> Walk<'t> {
 
     fn undefine(&mut self, rest: &'t [u8]) -> Result<usize, OrMemory<Refusal>>
         ensures ok { IfOk result
-            (Did (undefined (name_behind rest.now) (state_of self.old)) (state_of self.new)) }
+            (StepResult (undefined (name_behind rest.now) (state_of self.old)) (state_of self.new)) }
         ensures within { IfOk result (λ len. len ≤ length rest.now) }
         ensures still { self.new.at ≡ self.old.at }
         ensures err { IfFault result (λ refusal.
@@ -256,7 +256,7 @@ impl<'t> Walk<'t> {
 
     fn open(&mut self, wanted: bool, rest: &'t [u8]) -> Result<usize, OrMemory<Refusal>>
         ensures ok { IfOk result
-            (Did (opening wanted (name_behind rest.now) (state_of self.old)) (state_of self.new)) }
+            (StepResult (opening wanted (name_behind rest.now) (state_of self.old)) (state_of self.new)) }
         ensures within { IfOk result (λ len. len ≤ length rest.now) }
         ensures still { self.new.at ≡ self.old.at }
         ensures err { IfFault result (λ refusal.
@@ -284,7 +284,7 @@ impl<'t> Walk<'t> {
 
     fn otherwise_if(&mut self, rest: &'t [u8]) -> Result<usize, OrMemory<Refusal>>
         ensures ok { IfOk result
-            (Did (alternative (name_behind rest.now) (state_of self.old)) (state_of self.new)) }
+            (StepResult (alternative (name_behind rest.now) (state_of self.old)) (state_of self.new)) }
         ensures within { IfOk result (λ len. len ≤ length rest.now) }
         ensures still { self.new.at ≡ self.old.at }
         ensures err { IfFault result (λ refusal.
@@ -300,7 +300,7 @@ impl<'t> Walk<'t> {
 
     fn otherwise(&mut self) -> Result<usize, OrMemory<Refusal>>
         ensures ok { IfOk result
-            (Did (with_opens 0 (state_of self.old) (turned true true self.old.at self.old.opens))
+            (StepResult (with_opens 0 (state_of self.old) (turned true true self.old.at self.old.opens))
             (state_of self.new)) }
         ensures none { IfOk result (λ len. len ≡ 0) }
         ensures still { self.new.at ≡ self.old.at }
@@ -314,7 +314,7 @@ impl<'t> Walk<'t> {
 
     fn close(&mut self) -> Result<usize, OrMemory<Refusal>>
         ensures ok { IfOk result
-            (Did (with_opens 0 (state_of self.old) (closed self.old.at self.old.opens))
+            (StepResult (with_opens 0 (state_of self.old) (closed self.old.at self.old.opens))
             (state_of self.new)) }
         ensures none { IfOk result (λ len. len ≡ 0) }
         ensures still { self.new.at ≡ self.old.at }
@@ -327,7 +327,7 @@ impl<'t> Walk<'t> {
 
     fn time(&mut self, rest: &'t [u8]) -> Result<usize, OrMemory<Refusal>>
         ensures ok { IfOk result
-            (Did (timed (timescale_behind rest.now) (state_of self.old)) (state_of self.new)) }
+            (StepResult (timed (timescale_behind rest.now) (state_of self.old)) (state_of self.new)) }
         ensures within { IfOk result (λ len. len ≤ length rest.now) }
         ensures still { self.new.at ≡ self.old.at }
         ensures err { IfFault result (λ refusal.
@@ -349,7 +349,7 @@ impl<'t> Walk<'t> {
 
     fn set_type(&mut self, rest: &'t [u8]) -> Result<usize, OrMemory<Refusal>>
         ensures ok { IfOk result
-            (Did (typed (name_behind rest.now) (state_of self.old)) (state_of self.new)) }
+            (StepResult (typed (name_behind rest.now) (state_of self.old)) (state_of self.new)) }
         ensures within { IfOk result (λ len. len ≤ length rest.now) }
         ensures still { self.new.at ≡ self.old.at }
         ensures err { IfFault result (λ refusal.

@@ -9,8 +9,8 @@ use Rattle.vbits.specs.Numbers.{number}
 use Rattle.vbits.specs.Vectors.{Vector, sign_letter}
 use Rattle.vdesign.specs.Expressions.{ExpressionTree}
 use Rattle.vdesign.specs.declared.action.Branch.{Branch}
-use Rattle.vvalue.specs.declared.context.Context.{Context}
-use Rattle.vvalue.specs.Value.{Moment, own, common, value_of, by_itself}
+use Rattle.vvalue.specs.declared.size_and_sign.SizeAndSign.{SizeAndSign}
+use Rattle.vvalue.specs.Value.{Environment, own, common, value_of, by_itself}
 
 -- ---- 9.5: `case`
 
@@ -40,23 +40,23 @@ unfoldable pub matches : CaseKind → Vector → Vector → Bool
 matches kind value item = all_pass kind value.letters item.letters
 
 -- 9.5: all expressions of a `case` stand at the longest of their sizes, signed where all are
-abbrev pub widest : Moment → Context → List Branch → Context
+abbrev pub widest : Environment → SizeAndSign → List Branch → SizeAndSign
 widest now here [] = here
 widest now here (branch ∷ more) = widest now (common here (own now branch.item)) more
 
-abbrev pub case_context : Moment → ExpressionTree → List Branch → Context
-case_context now value branches = widest now (own now value) branches
+abbrev pub case_size_and_sign : Environment → ExpressionTree → List Branch → SizeAndSign
+case_size_and_sign now value branches = widest now (own now value) branches
 
 -- what comes next is the body of the first branch whose item matches, or else what stands under `default`
-abbrev pub places_at : Moment → CaseKind → Context → Vector → List Branch → List ℕ → List ℕ
+abbrev pub places_at : Environment → CaseKind → SizeAndSign → Vector → List Branch → List ℕ → List ℕ
 places_at now kind here value [] otherwise = otherwise
 places_at now kind here value (branch ∷ more) otherwise =
     if matches kind value (value_of now branch.item here) then branch.body
     else places_at now kind here value more otherwise
 
-unfoldable pub places_of_case : Moment → CaseKind → ExpressionTree → List Branch → List ℕ → List ℕ
+unfoldable pub places_of_case : Environment → CaseKind → ExpressionTree → List Branch → List ℕ → List ℕ
 places_of_case now kind value branches otherwise =
-    let here = case_context now value branches in
+    let here = case_size_and_sign now value branches in
     places_at now kind here (value_of now value here) branches otherwise
 
 -- ---- 9.6: `repeat`
@@ -65,5 +65,5 @@ places_of_case now kind value branches otherwise =
 abbrev pub turns_in : Vector → ℕ
 turns_in count = if is_one (sign_letter count) then 0 else unwrap_or (number count.letters) 0
 
-unfoldable pub turns_of : Moment → ExpressionTree → ℕ
+unfoldable pub turns_of : Environment → ExpressionTree → ℕ
 turns_of now count = turns_in (by_itself now count)

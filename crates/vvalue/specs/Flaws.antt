@@ -11,7 +11,7 @@ use Rattle.vdesign.specs.declared.action.Target.TheVariants as target
 use Rattle.vdesign.specs.Expressions.{ExpressionTree, constant, variable, bit, bit_of, part, time, conversion, apply, combine, conditional, joined, repeated}
 use Rattle.vvalue.specs.declared.flaw.Flaw.{Flaw}
 use Rattle.vvalue.specs.declared.flaw.Flaw.TheVariants.{NoBits, Size}
-use Rattle.vvalue.specs.Value.{Moment, size_of, bounds_of}
+use Rattle.vvalue.specs.Value.{Environment, size_of, bounds_of}
 use Rattle.vvalue.specs.Targets.{targets_size, both_fall}
 
 abbrev pub unless : Bool → Flaw → Option Flaw
@@ -40,11 +40,11 @@ is_part declared selected =
     nat_le (max selected.left selected.right) 65535
     && (nat_lt (max selected.left selected.right - min selected.left selected.right) 64 && in_order declared selected)
 
-abbrev pub part_flaw : Moment → ℕ → Bounds → Option Flaw
+abbrev pub part_flaw : Environment → ℕ → Bounds → Option Flaw
 part_flaw now n selected =
     option_or (unless (has_bits (slice_get now.variables n)) NoBits) (unless (is_part (bounds_of now n) selected) Size)
 
-abbrev pub flaw_of : Moment → ExpressionTree → Option Flaw
+abbrev pub flaw_of : Environment → ExpressionTree → Option Flaw
 flaw_of now (constant c) = None
 flaw_of now (variable n) = None
 flaw_of now (bit n index) = option_or (unless (has_bits (slice_get now.variables n)) NoBits) (flaw_of now index)
@@ -63,15 +63,15 @@ flaw_of now (repeated count o) =  -- 5.1.14: at least once
 
 -- ---- targets
 
-abbrev pub target_flaw : Moment → Target → Option Flaw
+abbrev pub target_flaw : Environment → Target → Option Flaw
 target_flaw now (target.Whole n) = None
 target_flaw now (target.Bit n index) = option_or (unless (has_bits (slice_get now.variables n)) NoBits) (flaw_of now index)
 target_flaw now (target.Part n selected) = part_flaw now n selected
 
-abbrev pub first_target_flaw : Moment → List Target → Option Flaw
+abbrev pub first_target_flaw : Environment → List Target → Option Flaw
 first_target_flaw now [] = None
 first_target_flaw now (one ∷ more) = option_or (target_flaw now one) (first_target_flaw now more)
 
-abbrev pub targets_flaw : Moment → List Target → Option Flaw
+abbrev pub targets_flaw : Environment → List Target → Option Flaw
 targets_flaw now targets =  -- 5.1.14: at most 64 bits
     option_or (first_target_flaw now targets) (unless (nat_le (targets_size now targets) 64) Size)

@@ -1,4 +1,4 @@
-pub mod Manners
+pub mod OperandRules
 pub mod Value
 pub mod Cases
 pub mod Fits

@@ -5,20 +5,20 @@ use Rattle.vdesign.specs.declared.expression.Bounds.{Bounds}
 use Rattle.vdesign.specs.Expressions.{ExpressionTree}
 use Rattle.vdesign.specs.declared.action.Target.{Target}
 use Rattle.vdesign.specs.declared.action.Target.TheVariants.{Whole, Bit, Part}
-use Rattle.vvalue.specs.Value.{Moment, value_at, bounds_of, place_in, index_in, part_size, by_itself}
+use Rattle.vvalue.specs.Value.{Environment, value_at, bounds_of, place_in, index_in, part_size, by_itself}
 
-abbrev pub target_size : Moment → Target → ℕ
+abbrev pub target_size : Environment → Target → ℕ
 target_size now (Whole n) = length (value_at now n).letters
 target_size now (Bit n index) = 1
 target_size now (Part n selected) = part_size selected
 
 -- those of a concatenation together
-abbrev pub targets_size : Moment → List Target → ℕ
+abbrev pub targets_size : Environment → List Target → ℕ
 targets_size now [] = 0
 targets_size now (target ∷ more) = target_size now target + targets_size now more
 
 -- how far the bit `name[index]` stands from the rightmost; there is none where the index is unknown, negative or out of range
-abbrev pub place_at : Moment → ℕ → ExpressionTree → Option ℕ
+abbrev pub place_at : Environment → ℕ → ExpressionTree → Option ℕ
 place_at now n index = option_and_then (place_in (bounds_of now n)) (index_in (by_itself now index))
 
 -- whether numbers fall from left to right

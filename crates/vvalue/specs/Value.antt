@@ -7,47 +7,47 @@ use Rattle.vbits.specs.Letters.{not_letter, and_letter, or_letter, is_one}
 use Rattle.vbits.specs.Numbers.{number}
 use Rattle.vbits.specs.Vectors as vectors
 use Rattle.vbits.specs.Vectors.{Vector, filled, single, of_number, resize, with_sign, sign_letter, concat, truth, complement}
-use Rattle.vvalue.specs.declared.manner.Shared.{Shared}
-use Rattle.vvalue.specs.declared.manner.Shared.TheVariants as shared
-use Rattle.vvalue.specs.declared.manner.Compared.{Compared}
-use Rattle.vvalue.specs.declared.manner.Compared.TheVariants as compared
-use Rattle.vvalue.specs.declared.manner.Logical.{Logical}
-use Rattle.vvalue.specs.declared.manner.Logical.TheVariants as logical
-use Rattle.vvalue.specs.declared.manner.Shift.{Shift}
-use Rattle.vvalue.specs.declared.manner.Shift.TheVariants as shift
-use Rattle.vvalue.specs.declared.manner.Manner.{Manner}
-use Rattle.vvalue.specs.declared.manner.Manner.TheVariants.{Shares, Compares, Combines, Shifts}
-use Rattle.vvalue.specs.declared.context.Context.{Context}
-use Rattle.vvalue.specs.declared.manner.Sign.{Sign}
-use Rattle.vvalue.specs.declared.manner.Sign.TheVariants as signs
-use Rattle.vvalue.specs.declared.manner.UnaryManner.{UnaryManner}
-use Rattle.vvalue.specs.declared.manner.UnaryManner.TheVariants.{Keeps, Folds, Denies}
-use Rattle.vvalue.specs.Manners.{manner, unary_manner}
+use Rattle.vvalue.specs.declared.operand_rule.Shared.{Shared}
+use Rattle.vvalue.specs.declared.operand_rule.Shared.TheVariants as shared
+use Rattle.vvalue.specs.declared.operand_rule.Compared.{Compared}
+use Rattle.vvalue.specs.declared.operand_rule.Compared.TheVariants as compared
+use Rattle.vvalue.specs.declared.operand_rule.Logical.{Logical}
+use Rattle.vvalue.specs.declared.operand_rule.Logical.TheVariants as logical
+use Rattle.vvalue.specs.declared.operand_rule.Shift.{Shift}
+use Rattle.vvalue.specs.declared.operand_rule.Shift.TheVariants as shift
+use Rattle.vvalue.specs.declared.operand_rule.OperandRule.{OperandRule}
+use Rattle.vvalue.specs.declared.operand_rule.OperandRule.TheVariants.{Shares, Compares, Combines, Shifts}
+use Rattle.vvalue.specs.declared.size_and_sign.SizeAndSign.{SizeAndSign}
+use Rattle.vvalue.specs.declared.operand_rule.Sign.{Sign}
+use Rattle.vvalue.specs.declared.operand_rule.Sign.TheVariants as signs
+use Rattle.vvalue.specs.declared.operand_rule.UnaryOperandRule.{UnaryOperandRule}
+use Rattle.vvalue.specs.declared.operand_rule.UnaryOperandRule.TheVariants.{Keeps, Folds, Denies}
+use Rattle.vvalue.specs.OperandRules.{operand_rule, unary_operand_rule}
 use Rattle.vdesign.specs.Design.{Variable}
 use Rattle.vdesign.specs.declared.expression.Bounds.{Bounds}
 use Rattle.vdesign.specs.Expressions.{ExpressionTree, constant, variable, bit, bit_of, part, time, conversion, apply, combine, conditional, joined, repeated}
 
 -- What is known when an expression is evaluated: the values of the variables, by number, how these are declared, the time in units
 -- in which delays are written, as `$time` tells it (17.7.1), and how many units of the precision make one of these (19.8).
-pub record Moment : Type 0 where
+pub record Environment : Type 0 where
   pub values : List Vector
   pub variables : List Variable
   pub time : ℕ
   pub factor : ℕ
 
 -- the value of the variable of this number; x, one bit wide, where there is none
-abbrev pub value_at : Moment → ℕ → Vector
+abbrev pub value_at : Environment → ℕ → Vector
 value_at now n = unwrap_or (slice_get now.values n) (filled 1 X)
 
 -- ---- the size and the sign of an expression by itself
 
-abbrev pub size_by : Manner → ℕ → ℕ → ℕ
+abbrev pub size_by : OperandRule → ℕ → ℕ → ℕ
 size_by (Shares operator) left right = max left right
 size_by (Compares operator) left right = 1
 size_by (Combines operator) left right = 1
 size_by (Shifts operator) left right = left
 
-abbrev pub unary_size : UnaryManner → ℕ → ℕ
+abbrev pub unary_size : UnaryOperandRule → ℕ → ℕ
 unary_size (Keeps operator) size = size
 unary_size (Folds operator) size = 1
 unary_size Denies size = 1
@@ -58,7 +58,7 @@ part_size bounds = min 64 (max bounds.left bounds.right - min bounds.left bounds
 
 -- 5.4.1, table 5-22: how many bits an expression has by itself. No concatenation of a design has more than 64, and none is repeated
 -- 0 times (E306)
-abbrev pub size_of : Moment → ExpressionTree → ℕ
+abbrev pub size_of : Environment → ExpressionTree → ℕ
 size_of now (constant c) = length c.value.letters
 size_of now (variable n) = length (value_at now n).letters
 size_of now (bit n index) = 1
@@ -66,25 +66,25 @@ size_of now (bit_of v bounds index) = 1
 size_of now (part n bounds) = part_size bounds
 size_of now time = 64
 size_of now (conversion signed o) = size_of now o
-size_of now (apply operator o) = unary_size (unary_manner operator) (size_of now o)
-size_of now (combine operator left right) = size_by (manner operator) (size_of now left) (size_of now right)
+size_of now (apply operator o) = unary_size (unary_operand_rule operator) (size_of now o)
+size_of now (combine operator left right) = size_by (operand_rule operator) (size_of now left) (size_of now right)
 size_of now (conditional condition when_true when_false) = max (size_of now when_true) (size_of now when_false)
 size_of now (joined left right) = min 64 (size_of now left + size_of now right)
 size_of now (repeated count o) = min 64 (max 1 count * size_of now o)
 
-abbrev pub sign_by : Manner → Bool → Bool → Bool
+abbrev pub sign_by : OperandRule → Bool → Bool → Bool
 sign_by (Shares operator) left right = left && right
 sign_by (Compares operator) left right = false
 sign_by (Combines operator) left right = false
 sign_by (Shifts operator) left right = left
 
-abbrev pub unary_sign : UnaryManner → Bool → Bool
+abbrev pub unary_sign : UnaryOperandRule → Bool → Bool
 unary_sign (Keeps operator) sign = sign
 unary_sign (Folds operator) sign = false
 unary_sign Denies sign = false
 
 -- 5.5.1: whether an expression by itself is signed
-abbrev pub is_signed : Moment → ExpressionTree → Bool
+abbrev pub is_signed : Environment → ExpressionTree → Bool
 is_signed now (constant c) = c.value.signed
 is_signed now (variable n) = (value_at now n).signed
 is_signed now (bit n index) = false
@@ -92,8 +92,8 @@ is_signed now (bit_of v bounds index) = false
 is_signed now (part n bounds) = false
 is_signed now time = false
 is_signed now (conversion signed o) = signed
-is_signed now (apply operator o) = unary_sign (unary_manner operator) (is_signed now o)
-is_signed now (combine operator left right) = sign_by (manner operator) (is_signed now left) (is_signed now right)
+is_signed now (apply operator o) = unary_sign (unary_operand_rule operator) (is_signed now o)
+is_signed now (combine operator left right) = sign_by (operand_rule operator) (is_signed now left) (is_signed now right)
 is_signed now (conditional condition when_true when_false) = is_signed now when_true && is_signed now when_false
 is_signed now (joined left right) = false
 is_signed now (repeated count o) = false
@@ -104,7 +104,7 @@ is_signed now (repeated count o) = false
 abbrev pub whole_bounds : Vector → Bounds
 whole_bounds v = record { left = length v.letters - 1; right = 0 }
 
-abbrev pub bounds_of : Moment → ℕ → Bounds
+abbrev pub bounds_of : Environment → ℕ → Bounds
 bounds_of now n = unwrap_or (option_and_then (λ v. v.bounds) (slice_get now.variables n)) (whole_bounds (value_at now n))
 
 -- how far the bit of this number stands from the rightmost, where there is one: bounds fall or rise towards the right
@@ -135,7 +135,7 @@ abbrev pub indexed_bit : Vector → Bounds → Vector → Vector
 indexed_bit v bounds index = single (bit_by v bounds (index_in index))
 
 -- `name[index]`
-abbrev pub bit_value : Moment → ℕ → Vector → Vector
+abbrev pub bit_value : Environment → ℕ → Vector → Vector
 bit_value now n index = indexed_bit (value_at now n) (bounds_of now n) index
 
 -- the number of the bit that stands so far from the right one of these bounds
@@ -152,7 +152,7 @@ abbrev pub part_of : Vector → Bounds → Bounds → ℕ → Vector
 part_of v bounds selected count = record { letters = part_letters v bounds selected count; signed = false }
 
 -- `name[left:right]`
-abbrev pub part_value : Moment → ℕ → Bounds → Vector
+abbrev pub part_value : Environment → ℕ → Bounds → Vector
 part_value now n selected = part_of (value_at now n) (bounds_of now n) selected (part_size selected)
 
 -- ---- concatenations (5.1.14)
@@ -173,12 +173,12 @@ repeated_value count v = copies (count - 1) v
 -- ---- values
 
 -- 5.5.2: extended by the sign given, to where it stands
-abbrev pub extended : Vector → Bool → Context → Vector
-extended v extension here = with_sign (resize (with_sign v extension) here.size) here.signed
+abbrev pub extended_value : Vector → Bool → SizeAndSign → Vector
+extended_value v extension here = with_sign (resize (with_sign v extension) here.size) here.signed
 
 -- extended by the sign of where it stands
-abbrev pub fitted : Vector → Context → Vector
-fitted v here = extended v here.signed here
+abbrev pub fitted_value : Vector → SizeAndSign → Vector
+fitted_value v here = extended_value v here.signed here
 
 abbrev pub kept_value : Sign → Vector → Vector
 kept_value signs.Plus v = v
@@ -216,51 +216,51 @@ shifted_value shift.Right v w = vectors.shr v w
 shifted_value shift.RightSigned v w = vectors.ashr v w
 
 -- 5.1.13: one branch, or where the truth is unknown both joined
-abbrev pub chosen : Bit4 → Vector → Vector → Vector
-chosen One v w = v
-chosen Zero v w = w
-chosen X v w = vectors.join v w
-chosen Z v w = vectors.join v w
+abbrev pub chosen_value : Bit4 → Vector → Vector → Vector
+chosen_value One v w = v
+chosen_value Zero v w = w
+chosen_value X v w = vectors.join v w
+chosen_value Z v w = vectors.join v w
 
 -- ---- what an operand stands in
 
-abbrev pub context : ℕ → Bool → Context
-context size signed = record { size = size; signed = signed }
+abbrev pub size_and_sign : ℕ → Bool → SizeAndSign
+size_and_sign size signed = record { size = size; signed = signed }
 
 -- an expression by itself
-abbrev pub own : Moment → ExpressionTree → Context
-own now e = context (size_of now e) (is_signed now e)
+abbrev pub own : Environment → ExpressionTree → SizeAndSign
+own now e = size_and_sign (size_of now e) (is_signed now e)
 
 -- 5.5.1: operands that are compared
-abbrev pub common : Context → Context → Context
-common left right = context (max left.size right.size) (left.signed && right.signed)
+abbrev pub common : SizeAndSign → SizeAndSign → SizeAndSign
+common left right = size_and_sign (max left.size right.size) (left.signed && right.signed)
 
 -- the left operand of an operator, by what both operands are by themselves and where the result stands
-abbrev pub left_context : Manner → Context → Context → Context → Context
-left_context (Shares operator) left right here = here
-left_context (Compares operator) left right here = common left right
-left_context (Combines operator) left right here = left
-left_context (Shifts operator) left right here = here
+abbrev pub left_size_and_sign : OperandRule → SizeAndSign → SizeAndSign → SizeAndSign → SizeAndSign
+left_size_and_sign (Shares operator) left right here = here
+left_size_and_sign (Compares operator) left right here = common left right
+left_size_and_sign (Combines operator) left right here = left
+left_size_and_sign (Shifts operator) left right here = here
 
 -- the right one
-abbrev pub right_context : Manner → Context → Context → Context → Context
-right_context (Shares operator) left right here = here
-right_context (Compares operator) left right here = common left right
-right_context (Combines operator) left right here = right
-right_context (Shifts operator) left right here = right
+abbrev pub right_size_and_sign : OperandRule → SizeAndSign → SizeAndSign → SizeAndSign → SizeAndSign
+right_size_and_sign (Shares operator) left right here = here
+right_size_and_sign (Compares operator) left right here = common left right
+right_size_and_sign (Combines operator) left right here = right
+right_size_and_sign (Shifts operator) left right here = right
 
 -- the only one
-abbrev pub unary_context : UnaryManner → Context → Context → Context
-unary_context (Keeps operator) operand here = here
-unary_context (Folds operator) operand here = operand
-unary_context Denies operand here = operand
+abbrev pub unary_size_and_sign : UnaryOperandRule → SizeAndSign → SizeAndSign → SizeAndSign
+unary_size_and_sign (Keeps operator) operand here = here
+unary_size_and_sign (Folds operator) operand here = operand
+unary_size_and_sign Denies operand here = operand
 
-abbrev pub unary_value : UnaryManner → Vector → Vector
+abbrev pub unary_value : UnaryOperandRule → Vector → Vector
 unary_value (Keeps operator) v = kept_value operator v
 unary_value (Folds operator) v = vectors.reduce v operator
 unary_value Denies v = single (not_letter (truth v))
 
-abbrev pub binary_value : Manner → Vector → Vector → Vector
+abbrev pub binary_value : OperandRule → Vector → Vector → Vector
 binary_value (Shares operator) v w = shared_value operator v w
 binary_value (Compares operator) v w = compared_value operator v w
 binary_value (Combines operator) v w = combined_value operator v w
@@ -268,46 +268,46 @@ binary_value (Shifts operator) v w = shifted_value operator v w
 
 -- 5.4, 5.5: the value where it stands. What takes its operands by themselves, or at a size of their own, is extended to that. A
 -- number that spreads is extended by its leftmost letter (3.5.1)
-abbrev pub value_of : Moment → ExpressionTree → Context → Vector
-value_of now (constant c) here = extended c.value (c.spreads || here.signed) here
-value_of now (variable n) here = fitted (value_at now n) here
-value_of now (bit n index) here = fitted (bit_value now n (value_of now index (own now index))) here
-value_of now (bit_of v bounds index) here = fitted (indexed_bit v bounds (value_of now index (own now index))) here
-value_of now (part n bounds) here = fitted (part_value now n bounds) here
-value_of now time here = fitted (of_number 64 now.time) here
-value_of now (conversion signed o) here = fitted (with_sign (value_of now o (own now o)) signed) here
+abbrev pub value_of : Environment → ExpressionTree → SizeAndSign → Vector
+value_of now (constant c) here = extended_value c.value (c.spreads || here.signed) here
+value_of now (variable n) here = fitted_value (value_at now n) here
+value_of now (bit n index) here = fitted_value (bit_value now n (value_of now index (own now index))) here
+value_of now (bit_of v bounds index) here = fitted_value (indexed_bit v bounds (value_of now index (own now index))) here
+value_of now (part n bounds) here = fitted_value (part_value now n bounds) here
+value_of now time here = fitted_value (of_number 64 now.time) here
+value_of now (conversion signed o) here = fitted_value (with_sign (value_of now o (own now o)) signed) here
 value_of now (apply operator o) here =
-    let manner = unary_manner operator in
-    fitted (unary_value manner (value_of now o (unary_context manner (own now o) here))) here
+    let operand_rule = unary_operand_rule operator in
+    fitted_value (unary_value operand_rule (value_of now o (unary_size_and_sign operand_rule (own now o) here))) here
 value_of now (combine operator left right) here =
-    let by = manner operator in
-    fitted (binary_value by
-    (value_of now left (left_context by (own now left) (own now right) here))
-    (value_of now right (right_context by (own now left) (own now right) here))) here
+    let by = operand_rule operator in
+    fitted_value (binary_value by
+    (value_of now left (left_size_and_sign by (own now left) (own now right) here))
+    (value_of now right (right_size_and_sign by (own now left) (own now right) here))) here
 value_of now (conditional condition when_true when_false) here =
-    fitted (chosen (truth (value_of now condition (own now condition))) (value_of now when_true here) (value_of now when_false here)) here
-value_of now (joined left right) here = fitted (joined_value (value_of now left (own now left)) (value_of now right (own now right))) here
-value_of now (repeated count o) here = fitted (repeated_value count (value_of now o (own now o))) here
+    fitted_value (chosen_value (truth (value_of now condition (own now condition))) (value_of now when_true here) (value_of now when_false here)) here
+value_of now (joined left right) here = fitted_value (joined_value (value_of now left (own now left)) (value_of now right (own now right))) here
+value_of now (repeated count o) here = fitted_value (repeated_value count (value_of now o (own now o))) here
 
 -- ---- what actions ask of an expression
 
 -- at its own size and sign
-abbrev pub by_itself : Moment → ExpressionTree → Vector
+abbrev pub by_itself : Environment → ExpressionTree → Vector
 by_itself now e = value_of now e (own now e)
 
 -- 9.4: a condition holds where its truth is 1
-unfoldable pub holds : Moment → ExpressionTree → Bool
+unfoldable pub holds : Environment → ExpressionTree → Bool
 holds now e = is_one (truth (by_itself now e))
 
 -- 5.4.1, 5.5.3: the right side of an assignment to so many bits, at the larger size of both sides, extended by its own sign
 -- and cut on the left
-unfoldable pub right_side : Moment → ℕ → ExpressionTree → Vector
-right_side now count e = resize (value_of now e (context (max count (size_of now e)) (is_signed now e))) count
+unfoldable pub right_side : Environment → ℕ → ExpressionTree → Vector
+right_side now count e = resize (value_of now e (size_and_sign (max count (size_of now e)) (is_signed now e))) count
 
 -- 9.7.1: the number of a delay, extended to 64 bits by its own sign and read as unsigned; an unknown one is 0
 abbrev pub amount_in : Vector → ℕ
 amount_in v = unwrap_or (number (resize v 64).letters) 0
 
 -- 9.7.1, 19.8: a delay in units of the precision
-unfoldable pub delay_of : Moment → ExpressionTree → ℕ
+unfoldable pub delay_of : Environment → ExpressionTree → ℕ
 delay_of now e = amount_in (by_itself now e) * now.factor

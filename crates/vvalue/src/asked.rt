@@ -3,47 +3,47 @@
 ghost use Rattle.std.specs.Prelude.{◌≡◌, ◌≤◌};
 ghost use Rattle.vvalue.specs.Value as spec;
 
-use crate::context::Context;
-use crate::moment::Moment;
+use crate::environment::Environment;
 use crate::select::is_one;
 use crate::size::own;
+use crate::size_and_sign::SizeAndSign;
 use crate::value::value_of;
 use vbits::Vec4;
 use vdesign::expression::Expression;
 
 /// The value of an expression at its own size and sign.
-pub fn by_itself(expression: &Expression, moment: &Moment<'_>) -> Vec4
-    ensures { result ≡ spec.by_itself moment.now expression.now }
+pub fn by_itself(expression: &Expression, environment: &Environment<'_>) -> Vec4
+    ensures { result ≡ spec.by_itself environment.now expression.now }
 {
     let nodes = expression.nodes();
-    let (there, _) = own(nodes, moment);
-    let (value, _) = value_of(nodes, moment, there);
+    let (there, _) = own(nodes, environment);
+    let (value, _) = value_of(nodes, environment, there);
     value
 }
 
 /// Whether a condition holds: its truth is 1 (9.4).
 #[tactic(auto, unfolding(crate::specs::Value::holds))]
-pub fn holds(condition: &Expression, moment: &Moment<'_>) -> bool
-    ensures { result ≡ spec.holds moment.now condition.now }
+pub fn holds(condition: &Expression, environment: &Environment<'_>) -> bool
+    ensures { result ≡ spec.holds environment.now condition.now }
 {
-    is_one(by_itself(condition, moment).truth())
+    is_one(by_itself(condition, environment).truth())
 }
 
 /// What so many bits get of an expression that is assigned to them: at the larger of both sizes, extended by its own sign and cut on
 /// the left (5.4.1, 5.5.3).
 #[tactic(auto, unfolding(crate::specs::Value::right_side))]
-pub fn right_side(expression: &Expression, count: u32, moment: &Moment<'_>) -> Vec4
+pub fn right_side(expression: &Expression, count: u32, environment: &Environment<'_>) -> Vec4
     requires some { 1 ≤ count }
     requires few { count ≤ 64 }
-    ensures { result ≡ spec.right_side moment.now count expression.now }
+    ensures { result ≡ spec.right_side environment.now count expression.now }
 {
     let nodes = expression.nodes();
-    let (there, _) = own(nodes, moment);
-    let here = Context {
+    let (there, _) = own(nodes, environment);
+    let here = SizeAndSign {
         size: count.max(there.size),
         signed: there.signed,
     };
-    let (value, _) = value_of(nodes, moment, here);
+    let (value, _) = value_of(nodes, environment, here);
     value.resize(count)
 }
 
@@ -56,8 +56,8 @@ fn amount_of(value: Vec4) -> u64
 
 /// How long a delay lasts, in units of the precision (9.7.1, 19.8).
 #[tactic(auto, unfolding(crate::specs::Value::delay_of))]
-pub fn delay_of(amount: &Expression, moment: &Moment<'_>) -> u128
-    ensures { result ≡ spec.delay_of moment.now amount.now }
+pub fn delay_of(amount: &Expression, environment: &Environment<'_>) -> u128
+    ensures { result ≡ spec.delay_of environment.now amount.now }
 {
-    u128::from(amount_of(by_itself(amount, moment))) * u128::from(moment.factor)
+    u128::from(amount_of(by_itself(amount, environment))) * u128::from(environment.factor)
 }

@@ -4,13 +4,13 @@ ghost use Rattle.std.specs.Prelude.{◌≡◌, length};
 ghost use Rattle.vbits.specs.Letters as letters;
 ghost use Rattle.vvalue.specs.Cases as spec;
 ghost use Rattle.vvalue.specs.Fits.{IsWithin};
-ghost use Rattle.vvalue.specs.Value.{own as own_context, value_of as value_there};
+ghost use Rattle.vvalue.specs.Value.{own as own_size_and_sign, value_of as value_there};
 
 use crate::asked::by_itself;
-use crate::context::{Context, common};
-use crate::moment::Moment;
+use crate::environment::Environment;
 use crate::select::is_negative;
 use crate::size::own;
+use crate::size_and_sign::{SizeAndSign, common};
 use crate::value::value_of;
 use vast::statement::CaseKind;
 use vbits::{Bit4, Vec4};
@@ -86,30 +86,34 @@ fn matches(kind: CaseKind, value: Vec4, item: Vec4) -> bool
 }
 
 // What an expression stands in by itself.
-fn context_of(expression: &Expression, moment: &Moment<'_>) -> Context
-    ensures exact { result ≡ own_context moment.now expression.now }
+fn size_and_sign_of(expression: &Expression, environment: &Environment<'_>) -> SizeAndSign
+    ensures exact { result ≡ own_size_and_sign environment.now expression.now }
     ensures within { IsWithin result }
 {
-    own(expression.nodes(), moment).0
+    own(expression.nodes(), environment).0
 }
 
 // The value of an expression where it stands.
-fn value_at(expression: &Expression, moment: &Moment<'_>, here: Context) -> Vec4
+fn value_at(expression: &Expression, environment: &Environment<'_>, here: SizeAndSign) -> Vec4
     requires { IsWithin here }
-    ensures exact { result ≡ value_there moment.now expression.now here }
+    ensures exact { result ≡ value_there environment.now expression.now here }
     ensures len { length result.letters ≡ here.size }
 {
-    value_of(expression.nodes(), moment, here).0
+    value_of(expression.nodes(), environment, here).0
 }
 
 // What all expressions of a `case` stand in.
-fn case_context(value: &Expression, branches: &[Branch], moment: &Moment<'_>) -> Context
-    ensures exact { result ≡ spec.case_context moment.now value.now branches.now }
+fn case_size_and_sign(
+    value: &Expression,
+    branches: &[Branch],
+    environment: &Environment<'_>,
+) -> SizeAndSign
+    ensures exact { result ≡ spec.case_size_and_sign environment.now value.now branches.now }
     ensures within { IsWithin result }
 {
-    let mut here = context_of(value, moment);
+    let mut here = size_and_sign_of(value, environment);
     for branch in branches {
-        here = common(here, context_of(&branch.item, moment));
+        here = common(here, size_and_sign_of(&branch.item, environment));
     }
     here
 }
@@ -120,16 +124,16 @@ fn places_at<'d>(
     value: Vec4,
     branches: &'d [Branch],
     otherwise: &'d Places,
-    moment: &Moment<'_>,
-    here: Context,
+    environment: &Environment<'_>,
+    here: SizeAndSign,
 ) -> &'d [usize]
     requires within { IsWithin here }
     requires len { length value.letters ≡ here.size }
     ensures { result.now
-        ≡ spec.places_at moment.now kind here value branches.now otherwise.now }
+        ≡ spec.places_at environment.now kind here value branches.now otherwise.now }
 {
     for branch in branches {
-        if matches(kind, value, value_at(&branch.item, moment, here)) {
+        if matches(kind, value, value_at(&branch.item, environment, here)) {
             return branch.body.as_slice();
         }
     }
@@ -144,19 +148,19 @@ pub fn places_of_case<'d>(
     value: &Expression,
     branches: &'d Branches,
     otherwise: &'d Places,
-    moment: &Moment<'_>,
+    environment: &Environment<'_>,
 ) -> &'d [usize]
     ensures { result.now
-        ≡ spec.places_of_case moment.now kind value.now branches.now otherwise.now }
+        ≡ spec.places_of_case environment.now kind value.now branches.now otherwise.now }
 {
     let branches = branches.as_slice();
-    let here = case_context(value, branches, moment);
+    let here = case_size_and_sign(value, branches, environment);
     places_at(
         kind,
-        value_at(value, moment, here),
+        value_at(value, environment, here),
         branches,
         otherwise,
-        moment,
+        environment,
         here,
     )
 }
@@ -174,8 +178,8 @@ fn turns_in(count: Vec4) -> u64
 
 /// How many turns a `repeat` makes: its count by its own sign; one that is unknown is 0, and so is one below 0 (9.6).
 #[tactic(auto, unfolding(crate::specs::Cases::turns_of))]
-pub fn turns_of(count: &Expression, moment: &Moment<'_>) -> u64
-    ensures { result ≡ spec.turns_of moment.now count.now }
+pub fn turns_of(count: &Expression, environment: &Environment<'_>) -> u64
+    ensures { result ≡ spec.turns_of environment.now count.now }
 {
-    turns_in(by_itself(count, moment))
+    turns_in(by_itself(count, environment))
 }

@@ -6,9 +6,9 @@ ghost use Rattle.vvalue.specs.Flaws as spec;
 ghost use Rattle.vvalue.specs.Fits.{IsWithin};
 ghost use Rattle.vvalue.specs.Reads.{IsOfFirst, AreBehindFirst};
 
-use crate::context::Context;
-use crate::moment::{Moment, bounds_of};
+use crate::environment::{Environment, bounds_of};
 use crate::size::own;
+use crate::size_and_sign::SizeAndSign;
 use crate::target::{both_fall, targets_size};
 use vdesign::action::{Target, Targets};
 use vdesign::design::Kind;
@@ -45,10 +45,10 @@ fn kind_has_bits(kind: Kind, ranged: bool) -> bool
 }
 
 // Whether bits may be selected of the variable of this number.
-fn has_bits(moment: &Moment<'_>, variable: u32) -> bool
-    ensures { result ≡ spec.has_bits (slice_get moment.now.variables variable) }
+fn has_bits(environment: &Environment<'_>, variable: u32) -> bool
+    ensures { result ≡ spec.has_bits (slice_get environment.now.variables variable) }
 {
-    match moment.variables.get(variable as usize) {
+    match environment.variables.get(variable as usize) {
         Some(declared) => kind_has_bits(declared.kind, declared.bounds.is_some()),
         None => true,
     }
@@ -76,22 +76,22 @@ pub fn is_part(declared: Bounds, selected: Bounds) -> bool
 }
 
 // Of a bit, without its index.
-fn bit_flaw(moment: &Moment<'_>, variable: u32) -> Option<Flaw>
+fn bit_flaw(environment: &Environment<'_>, variable: u32) -> Option<Flaw>
     ensures { result ≡
-        spec.unless (spec.has_bits (slice_get moment.now.variables variable)) Flaw.NoBits }
+        spec.unless (spec.has_bits (slice_get environment.now.variables variable)) Flaw.NoBits }
 {
-    unless(has_bits(moment, variable), Flaw::NoBits)
+    unless(has_bits(environment, variable), Flaw::NoBits)
 }
 
-fn part_flaw(moment: &Moment<'_>, variable: u32, bounds: Bounds) -> Option<Flaw>
-    ensures { result ≡ spec.part_flaw moment.now variable bounds }
+fn part_flaw(environment: &Environment<'_>, variable: u32, bounds: Bounds) -> Option<Flaw>
+    ensures { result ≡ spec.part_flaw environment.now variable bounds }
 {
-    let right = is_part(bounds_of(moment, variable), bounds);
-    bit_flaw(moment, variable).or(unless(right, Flaw::Size))
+    let right = is_part(bounds_of(environment, variable), bounds);
+    bit_flaw(environment, variable).or(unless(right, Flaw::Size))
 }
 
 // Of what is joined.
-fn joined_flaw(left: Context, right: Context) -> Option<Flaw>
+fn joined_flaw(left: SizeAndSign, right: SizeAndSign) -> Option<Flaw>
     requires left { IsWithin left }
     requires right { IsWithin right }
     ensures { result ≡ spec.unless (nat_le (left.size + right.size) 64) Flaw.Size }
@@ -100,7 +100,7 @@ fn joined_flaw(left: Context, right: Context) -> Option<Flaw>
 }
 
 // Of what is repeated.
-fn repeated_flaw(count: u32, operand: Context) -> Option<Flaw>
+fn repeated_flaw(count: u32, operand: SizeAndSign) -> Option<Flaw>
     requires { IsWithin operand }
     ensures { result ≡
         spec.unless (nat_le 1 count && nat_le (count * operand.size) 64) Flaw.Size }
@@ -110,8 +110,8 @@ fn repeated_flaw(count: u32, operand: Context) -> Option<Flaw>
 }
 
 // Of the expression that these nodes begin with, and the nodes behind it.
-fn flaw_at<'n>(nodes: &'n [Node], moment: &Moment<'_>) -> (Option<Flaw>, &'n [Node])
-    ensures exact { IsOfFirst nodes.now (spec.flaw_of moment.now) result.0 }
+fn flaw_at<'n>(nodes: &'n [Node], environment: &Environment<'_>) -> (Option<Flaw>, &'n [Node])
+    ensures exact { IsOfFirst nodes.now (spec.flaw_of environment.now) result.0 }
     ensures rest { AreBehindFirst nodes.now result.1.now }
     ensures fewer { length result.1.now ≤ length nodes.now - 1 }
 {
@@ -122,65 +122,65 @@ fn flaw_at<'n>(nodes: &'n [Node], moment: &Moment<'_>) -> (Option<Flaw>, &'n [No
         Node::Constant(_) => (None, behind),
         Node::Variable(_) => (None, behind),
         Node::Bit(variable) => {
-            let (index, behind) = flaw_at(behind, moment);
-            (bit_flaw(moment, *variable).or(index), behind)
+            let (index, behind) = flaw_at(behind, environment);
+            (bit_flaw(environment, *variable).or(index), behind)
         }
-        Node::BitOf { .. } => flaw_at(behind, moment),
-        Node::Part { variable, bounds } => (part_flaw(moment, *variable, *bounds), behind),
+        Node::BitOf { .. } => flaw_at(behind, environment),
+        Node::Part { variable, bounds } => (part_flaw(environment, *variable, *bounds), behind),
         Node::Time => (None, behind),
-        Node::Conversion(_) => flaw_at(behind, moment),
-        Node::Unary(_) => flaw_at(behind, moment),
+        Node::Conversion(_) => flaw_at(behind, environment),
+        Node::Unary(_) => flaw_at(behind, environment),
         Node::Binary(_) => {
-            let (left, behind) = flaw_at(behind, moment);
-            let (right, behind) = flaw_at(behind, moment);
+            let (left, behind) = flaw_at(behind, environment);
+            let (right, behind) = flaw_at(behind, environment);
             (left.or(right), behind)
         }
         Node::Conditional => {
-            let (condition, behind) = flaw_at(behind, moment);
-            let (when_true, behind) = flaw_at(behind, moment);
-            let (when_false, behind) = flaw_at(behind, moment);
+            let (condition, behind) = flaw_at(behind, environment);
+            let (when_true, behind) = flaw_at(behind, environment);
+            let (when_false, behind) = flaw_at(behind, environment);
             (condition.or(when_true.or(when_false)), behind)
         }
         Node::Joined => {
-            let (first, next) = own(behind, moment);
-            let (second, _) = own(next, moment);
-            let (left, behind) = flaw_at(behind, moment);
-            let (right, behind) = flaw_at(behind, moment);
+            let (first, next) = own(behind, environment);
+            let (second, _) = own(next, environment);
+            let (left, behind) = flaw_at(behind, environment);
+            let (right, behind) = flaw_at(behind, environment);
             (left.or(right.or(joined_flaw(first, second))), behind)
         }
         Node::Repeated(count) => {
-            let (there, _) = own(behind, moment);
-            let (operand, behind) = flaw_at(behind, moment);
+            let (there, _) = own(behind, environment);
+            let (operand, behind) = flaw_at(behind, environment);
             (operand.or(repeated_flaw(*count, there)), behind)
         }
     }
 }
 
 /// What is wrong with an expression, where something is.
-pub fn flaw_of(expression: &Expression, moment: &Moment<'_>) -> Option<Flaw>
-    ensures { result ≡ spec.flaw_of moment.now expression.now }
+pub fn flaw_of(expression: &Expression, environment: &Environment<'_>) -> Option<Flaw>
+    ensures { result ≡ spec.flaw_of environment.now expression.now }
 {
-    flaw_at(expression.nodes(), moment).0
+    flaw_at(expression.nodes(), environment).0
 }
 
-fn target_flaw(target: &Target, moment: &Moment<'_>) -> Option<Flaw>
-    ensures { result ≡ spec.target_flaw moment.now target.now }
+fn target_flaw(target: &Target, environment: &Environment<'_>) -> Option<Flaw>
+    ensures { result ≡ spec.target_flaw environment.now target.now }
 {
     match target {
         Target::Whole(_) => None,
         Target::Bit { variable, index } => {
-            bit_flaw(moment, *variable).or(flaw_of(index, moment))
+            bit_flaw(environment, *variable).or(flaw_of(index, environment))
         }
-        Target::Part { variable, bounds } => part_flaw(moment, *variable, *bounds),
+        Target::Part { variable, bounds } => part_flaw(environment, *variable, *bounds),
     }
 }
 
 // Of the first target that is wrong.
-fn first_target_flaw(targets: &[Target], moment: &Moment<'_>) -> Option<Flaw>
-    ensures { result ≡ spec.first_target_flaw moment.now targets.now }
+fn first_target_flaw(targets: &[Target], environment: &Environment<'_>) -> Option<Flaw>
+    ensures { result ≡ spec.first_target_flaw environment.now targets.now }
 {
     for target in targets {
-        if let Some(flaw) = target_flaw(target, moment) {
+        if let Some(flaw) = target_flaw(target, environment) {
             return Some(flaw);
         }
     }
@@ -188,10 +188,10 @@ fn first_target_flaw(targets: &[Target], moment: &Moment<'_>) -> Option<Flaw>
 }
 
 /// What is wrong with the targets of an assignment, where something is.
-pub fn targets_flaw(targets: &Targets, moment: &Moment<'_>) -> Option<Flaw>
-    ensures { result ≡ spec.targets_flaw moment.now targets.now }
+pub fn targets_flaw(targets: &Targets, environment: &Environment<'_>) -> Option<Flaw>
+    ensures { result ≡ spec.targets_flaw environment.now targets.now }
 {
     let targets = targets.as_slice();
-    let fits = targets_size(targets, moment) <= WIDEST;
-    first_target_flaw(targets, moment).or(unless(fits, Flaw::Size))
+    let fits = targets_size(targets, environment) <= WIDEST;
+    first_target_flaw(targets, environment).or(unless(fits, Flaw::Size))
 }

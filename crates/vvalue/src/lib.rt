@@ -4,12 +4,12 @@
 
 pub mod asked;
 pub mod cases;
-mod context;
+pub mod environment;
 pub mod flaw;
-pub mod manner;
-pub mod moment;
+pub mod operand_rule;
 mod operators;
 pub mod select;
 mod size;
+mod size_and_sign;
 pub mod target;
 mod value;

@@ -5,8 +5,8 @@ ghost use Rattle.vbits.specs.Letters.{and_letter, or_letter};
 ghost use Rattle.vvalue.specs.Value as spec;
 ghost use Rattle.vvalue.specs.Fits.{IsWithin, AreFit};
 
-use crate::context::Context;
-use crate::manner::{Compared, Logical, Manner, Shared, Shift, Sign, UnaryManner};
+use crate::operand_rule::{Compared, Logical, OperandRule, Shared, Shift, Sign, UnaryOperandRule};
+use crate::size_and_sign::SizeAndSign;
 use vbits::{Bit4, Vec4};
 
 /// Of an operator that keeps its operand's size.
@@ -139,9 +139,9 @@ pub fn shifted_value(operator: Shift, left: Vec4, right: Vec4) -> Vec4
 }
 
 /// One branch, or where the truth is unknown both joined (5.1.13).
-pub fn chosen(truth: Bit4, when_true: Vec4, when_false: Vec4) -> Vec4
+pub fn chosen_value(truth: Bit4, when_true: Vec4, when_false: Vec4) -> Vec4
     requires { length when_true.letters ≡ length when_false.letters }
-    ensures { result ≡ spec.chosen truth when_true when_false }
+    ensures { result ≡ spec.chosen_value truth when_true when_false }
 {
     match truth {
         Bit4::One => when_true,
@@ -152,33 +152,33 @@ pub fn chosen(truth: Bit4, when_true: Vec4, when_false: Vec4) -> Vec4
 }
 
 /// Of an operator with one operand.
-pub fn unary_value(manner: UnaryManner, value: Vec4) -> Vec4
-    ensures { result ≡ spec.unary_value manner value }
+pub fn unary_value(operand_rule: UnaryOperandRule, value: Vec4) -> Vec4
+    ensures { result ≡ spec.unary_value operand_rule value }
 {
-    match manner {
-        UnaryManner::Keeps(operator) => kept_value(operator, value),
-        UnaryManner::Folds(operator) => value.reduce(operator),
-        UnaryManner::Denies => Vec4::of_bit(value.truth().not()),
+    match operand_rule {
+        UnaryOperandRule::Keeps(operator) => kept_value(operator, value),
+        UnaryOperandRule::Folds(operator) => value.reduce(operator),
+        UnaryOperandRule::Denies => Vec4::of_bit(value.truth().not()),
     }
 }
 
 /// Of an operator with two operands.
-pub fn binary_value(manner: Manner, left: Vec4, right: Vec4) -> Vec4
-    requires { AreFit manner left right }
-    ensures { result ≡ spec.binary_value manner left right }
+pub fn binary_value(operand_rule: OperandRule, left: Vec4, right: Vec4) -> Vec4
+    requires { AreFit operand_rule left right }
+    ensures { result ≡ spec.binary_value operand_rule left right }
 {
-    match manner {
-        Manner::Shares(operator) => shared_value(operator, left, right),
-        Manner::Compares(operator) => compared_value(operator, left, right),
-        Manner::Combines(operator) => combined_value(operator, left, right),
-        Manner::Shifts(operator) => shifted_value(operator, left, right),
+    match operand_rule {
+        OperandRule::Shares(operator) => shared_value(operator, left, right),
+        OperandRule::Compares(operator) => compared_value(operator, left, right),
+        OperandRule::Combines(operator) => combined_value(operator, left, right),
+        OperandRule::Shifts(operator) => shifted_value(operator, left, right),
     }
 }
 
 /// Extended by the sign given, to where it stands (5.5.2).
-pub fn extended(value: Vec4, extension: bool, here: Context) -> Vec4
+pub fn extended_value(value: Vec4, extension: bool, here: SizeAndSign) -> Vec4
     requires { IsWithin here }
-    ensures exact { result ≡ spec.extended value extension here }
+    ensures exact { result ≡ spec.extended_value value extension here }
     ensures len { length result.letters ≡ here.size }
     ensures mark { result.signed ≡ here.signed }
 {
@@ -189,11 +189,11 @@ pub fn extended(value: Vec4, extension: bool, here: Context) -> Vec4
 }
 
 /// Extended by the sign of where it stands.
-pub fn fitted(value: Vec4, here: Context) -> Vec4
+pub fn fitted_value(value: Vec4, here: SizeAndSign) -> Vec4
     requires { IsWithin here }
-    ensures exact { result ≡ spec.fitted value here }
+    ensures exact { result ≡ spec.fitted_value value here }
     ensures len { length result.letters ≡ here.size }
     ensures mark { result.signed ≡ here.signed }
 {
-    extended(value, here.signed, here)
+    extended_value(value, here.signed, here)
 }

@@ -5,7 +5,7 @@ ghost use Rattle.vbits.specs.Letters as letters;
 ghost use Rattle.vbits.specs.Vectors.{sign_letter};
 ghost use Rattle.vvalue.specs.Value as spec;
 
-use crate::moment::{Moment, bounds_of, value_at};
+use crate::environment::{Environment, bounds_of, value_at};
 use vbits::{Bit4, Vec4};
 use vdesign::expression::Bounds;
 
@@ -98,12 +98,12 @@ pub fn indexed_bit(value: Vec4, bounds: Bounds, index: Vec4) -> Vec4
 }
 
 /// `name[index]`
-pub fn bit_value(moment: &Moment<'_>, variable: u32, index: Vec4) -> Vec4
-    ensures { result ≡ spec.bit_value moment.now variable index }
+pub fn bit_value(environment: &Environment<'_>, variable: u32, index: Vec4) -> Vec4
+    ensures { result ≡ spec.bit_value environment.now variable index }
 {
     indexed_bit(
-        value_at(moment, variable),
-        bounds_of(moment, variable),
+        value_at(environment, variable),
+        bounds_of(environment, variable),
         index,
     )
 }
@@ -130,12 +130,12 @@ fn number_of_bit(bounds: Bounds, place: u32) -> u64
 }
 
 /// `name[left:right]`
-pub fn part_value(moment: &Moment<'_>, variable: u32, part: Bounds) -> Vec4
-    ensures { result ≡ spec.part_value moment.now variable part }
+pub fn part_value(environment: &Environment<'_>, variable: u32, part: Bounds) -> Vec4
+    ensures { result ≡ spec.part_value environment.now variable part }
 {
     part_of(
-        value_at(moment, variable),
-        bounds_of(moment, variable),
+        value_at(environment, variable),
+        bounds_of(environment, variable),
         part,
     )
 }

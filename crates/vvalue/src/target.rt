@@ -5,7 +5,7 @@ ghost use Rattle.vvalue.specs.Targets as spec;
 ghost use Rattle.vvalue.specs.Value.{part_size as size_of_part};
 
 use crate::asked::by_itself;
-use crate::moment::{Moment, bounds_of, value_at};
+use crate::environment::{Environment, bounds_of, value_at};
 use crate::select::{index_in, part_size, place_in};
 use vdesign::action::Target;
 use vdesign::expression::{Bounds, Expression};
@@ -14,36 +14,36 @@ use vdesign::expression::{Bounds, Expression};
 const TOO_WIDE: u32 = 65;
 
 /// How many bits a target has.
-pub fn target_size(target: &Target, moment: &Moment<'_>) -> u32
-    ensures exact { result ≡ spec.target_size moment.now target.now }
+pub fn target_size(target: &Target, environment: &Environment<'_>) -> u32
+    ensures exact { result ≡ spec.target_size environment.now target.now }
     ensures some { 1 ≤ result }
     ensures few { result ≤ 64 }
 {
     match target {
-        Target::Whole(variable) => value_at(moment, *variable).len(),
+        Target::Whole(variable) => value_at(environment, *variable).len(),
         Target::Bit { .. } => 1,
         Target::Part { bounds, .. } => part_size(*bounds),
     }
 }
 
 /// How many bits the targets of a concatenation have together; 65 where they have more than 64.
-pub fn targets_size(targets: &[Target], moment: &Moment<'_>) -> u32
-    ensures { result ≡ min 65 (spec.targets_size moment.now targets.now) }
+pub fn targets_size(targets: &[Target], environment: &Environment<'_>) -> u32
+    ensures { result ≡ min 65 (spec.targets_size environment.now targets.now) }
 {
     let mut size = 0;
     for target in targets {
-        size = (size + target_size(target, moment)).min(TOO_WIDE);
+        size = (size + target_size(target, environment)).min(TOO_WIDE);
     }
     size
 }
 
 /// How far the bit of this index stands from the rightmost of a variable, where there is one.
-pub fn place_at(moment: &Moment<'_>, variable: u32, index: &Expression) -> Option<u64>
-    ensures { result ≡ spec.place_at moment.now variable index.now }
+pub fn place_at(environment: &Environment<'_>, variable: u32, index: &Expression) -> Option<u64>
+    ensures { result ≡ spec.place_at environment.now variable index.now }
 {
-    match index_in(by_itself(index, moment)) {
+    match index_in(by_itself(index, environment)) {
         None => None,
-        Some(number) => place_in(bounds_of(moment, variable), number),
+        Some(number) => place_in(bounds_of(environment, variable), number),
     }
 }
 

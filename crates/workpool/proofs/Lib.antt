@@ -6,4 +6,4 @@ pub mod WorkLemmas
 pub mod JoinLemmas
 pub mod RootLemmas
 pub mod TimesLemmas
-pub mod ToldLemmas
+pub mod TotalsLemmas

@@ -4,15 +4,15 @@ use Rattle.sched_core.specs.Rules.{Rules, NamesBelow, stands}
 use Rattle.statebook.specs.ExplorerCore.{IsEntry}
 use Rattle.statebook.specs.declared.entry.Entry.{Entry}
 use Rattle.statebook.specs.declared.limits.Limits.{Limits}
-use Rattle.shardbook.specs.Quests.{IsWanted}
-use Rattle.workpool.specs.Searches.{IsQuestOf, IsRootOf}
+use Rattle.shardbook.specs.EntryRules.{IsWanted}
+use Rattle.workpool.specs.Searches.{AreParametersOf, IsRootOf}
 
--- what a book's quest asks of an entry is what the limits do
-pub wanted_entry : {S : Type 0} (rules : Option (Rules S)) (depart steps : ℕ) (r : Rules S) (limits : Limits) (e : Entry S) → IsQuestOf rules depart steps r limits → IsWanted rules depart steps e → IsEntry r limits.depart limits.steps e
-wanted_entry {S} rules depart steps r limits e quest wanted =
+-- what a book's search parameters ask of an entry is what the limits do
+pub wanted_entry : {S : Type 0} (rules : Option (Rules S)) (depart steps : ℕ) (r : Rules S) (limits : Limits) (e : Entry S) → AreParametersOf rules depart steps r limits → IsWanted rules depart steps e → IsEntry r limits.depart limits.steps e
+wanted_entry {S} rules depart steps r limits e parameters wanted =
     let P : ℕ → Type 0 = λ k. IsEntry r k limits.steps e in
     let Q : ℕ → Type 0 = λ n. IsEntry r depart n e in
-    subst P quest.depart_is (subst Q quest.steps_are (wanted r quest.rules_are))
+    subst P parameters.depart_is (subst Q parameters.steps_are (wanted r parameters.rules_are))
 
 no_names : (log : List (ℕ × ℕ)) → NamesBelow log 0 → log ≡ []
 no_names [] b = refl

@@ -6,7 +6,7 @@ use native.Mathlib.Nat.{mod-add-mod}
 use Rattle.atomic_table.proofs.Lists.{at_set, at_snoc}
 use Rattle.atomic_table.specs.Table.{State, Me, Allows, Splits, Joins, Final, Seen, keeps}
 use Rattle.workpool.specs.declared.rule.Counted.{Counted}
-use Rattle.workpool.specs.Inner.Rules.{FindsAll, IsTallied, opened, shut, heard, stopping, split_left, split_right, joined, spent}
+use Rattle.workpool.specs.Inner.Rules.{FindsAll, IsTallied, with_open, with_shut, with_mark, with_stop, split_left, split_right, join_of, no_counts}
 use Rattle.workpool.specs.Inner.Sums.{total}
 use Rattle.workpool.proofs.SumLemmas.{total_set, total_snoc, alone}
 
@@ -55,22 +55,22 @@ module _ (words : List ℕ) (views : List Counted) (seat : ℕ) (v : Counted) (a
     idle = idle_set views seat w none t.idle;
   }
 
-  pub keeps_open : 0 < v.parts → IsTallied (slice_set words 0 ((slice_index words 0 + 1) % 2 ^ 64)) (set views seat (opened v))
+  pub keeps_open : 0 < v.parts → IsTallied (slice_set words 0 ((slice_index words 0 + 1) % 2 ^ 64)) (set views seat (with_open v))
   keeps_open some_part =
-      let P : List ℕ → Type 0 = λ ws. slice_set ws 0 ((slice_index ws 0 + 1) % 2 ^ 64) ≡ sums (set views seat (opened v)) t.mark in
-      kept _ (opened v) t.mark (subst P (sym t.words_are) (three (one_more (λ (x : Counted). x.opens) (opened v) refl) (same_word (λ (x : Counted). x.shuts) (opened v) refl) refl))
+      let P : List ℕ → Type 0 = λ ws. slice_set ws 0 ((slice_index ws 0 + 1) % 2 ^ 64) ≡ sums (set views seat (with_open v)) t.mark in
+      kept _ (with_open v) t.mark (subst P (sym t.words_are) (three (one_more (λ (x : Counted). x.opens) (with_open v) refl) (same_word (λ (x : Counted). x.shuts) (with_open v) refl) refl))
       (λ up. up) (t.told seat v at) refl (λ none. absurd (omega (arith, none, some_part)))
 
-  pub keeps_shut : 0 < v.parts → IsTallied (slice_set words 1 ((slice_index words 1 + 1) % 2 ^ 64)) (set views seat (shut v))
+  pub keeps_shut : 0 < v.parts → IsTallied (slice_set words 1 ((slice_index words 1 + 1) % 2 ^ 64)) (set views seat (with_shut v))
   keeps_shut some_part =
-      let P : List ℕ → Type 0 = λ ws. slice_set ws 1 ((slice_index ws 1 + 1) % 2 ^ 64) ≡ sums (set views seat (shut v)) t.mark in
-      kept _ (shut v) t.mark (subst P (sym t.words_are) (three (same_word (λ (x : Counted). x.opens) (shut v) refl) (one_more (λ (x : Counted). x.shuts) (shut v) refl) refl))
+      let P : List ℕ → Type 0 = λ ws. slice_set ws 1 ((slice_index ws 1 + 1) % 2 ^ 64) ≡ sums (set views seat (with_shut v)) t.mark in
+      kept _ (with_shut v) t.mark (subst P (sym t.words_are) (three (same_word (λ (x : Counted). x.opens) (with_shut v) refl) (one_more (λ (x : Counted). x.shuts) (with_shut v) refl) refl))
       (λ up. up) (t.told seat v at) refl (λ none. absurd (omega (arith, none, some_part)))
 
-  pub keeps_stop : IsTallied (slice_set words 2 1) (set views seat (stopping v))
+  pub keeps_stop : IsTallied (slice_set words 2 1) (set views seat (with_stop v))
   keeps_stop =
-      let P : List ℕ → Type 0 = λ ws. slice_set ws 2 1 ≡ sums (set views seat (stopping v)) 1 in
-      kept _ (stopping v) 1 (subst P (sym t.words_are) (three (same_word (λ (x : Counted). x.opens) (stopping v) refl) (same_word (λ (x : Counted). x.shuts) (stopping v) refl) refl))
+      let P : List ℕ → Type 0 = λ ws. slice_set ws 2 1 ≡ sums (set views seat (with_stop v)) 1 in
+      kept _ (with_stop v) 1 (subst P (sym t.words_are) (three (same_word (λ (x : Counted). x.opens) (with_stop v) refl) (same_word (λ (x : Counted). x.shuts) (with_stop v) refl) refl))
       (λ up. omega arith) (λ s. omega arith) refl (t.idle seat v at)
 
   -- a word that is read stays
@@ -106,9 +106,9 @@ module _ (words : List ℕ) (views : List Counted) (seat : ℕ) (v : Counted) (a
   mark_found : slice_index words 2 ≡ t.mark
   mark_found = ap (λ ws. slice_index ws 2) t.words_are
 
-  pub keeps_hear : IsTallied (slice_set words 2 (slice_index words 2)) (set views seat (heard v (slice_index words 2)))
+  pub keeps_hear : IsTallied (slice_set words 2 (slice_index words 2)) (set views seat (with_mark v (slice_index words 2)))
   keeps_hear =
-      let w : Counted = heard v (slice_index words 2) in
+      let w : Counted = with_mark v (slice_index words 2) in
       let P : List ℕ → Type 0 = λ ws. slice_set ws 2 (slice_index ws 2) ≡ sums (set views seat w) t.mark in
       kept _ w t.mark (subst P (sym t.words_are) (three (same_word (λ (x : Counted). x.opens) w refl) (same_word (λ (x : Counted). x.shuts) w refl) refl))
       (λ up. up) (λ s. (let lt : 0 < slice_index words 2 = ltb-true 0 (slice_index words 2) s in omega (arith, lt, mark_found))) refl (t.idle seat v at)
@@ -136,19 +136,19 @@ module _ (words : List ℕ) (views : List Counted) (seat : ℕ) (v : Counted) (a
       }
 
   -- two seats in one
-  pub keeps_join : (other : ℕ) (w : Counted) → ¬ (other ≡ seat) → get_elem? (set views seat (joined v w)) other ≡ some w → IsTallied words (set (set views seat (joined v w)) other spent)
+  pub keeps_join : (other : ℕ) (w : Counted) → ¬ (other ≡ seat) → get_elem? (set views seat (join_of v w)) other ≡ some w → IsTallied words (set (set views seat (join_of v w)) other no_counts)
   keeps_join other w apart there =
-      let at_other : get_elem? views other ≡ some w = elim (at_set views seat other (joined v w) w there) [ inl same ↦ absurd (apart same.0) | inr old ↦ old.1 ] in
-      let sum : (f : Counted → ℕ) → f (joined v w) ≡ f v + f w → f spent ≡ 0 → total f views ≡ total f (set (set views seat (joined v w)) other spent) = λ f e z.
-      (let s = total_set f views seat v (joined v w) at in let n = total_set f (set views seat (joined v w)) other w spent there in omega (arith, s, n, e, z)) in
+      let at_other : get_elem? views other ≡ some w = elim (at_set views seat other (join_of v w) w there) [ inl same ↦ absurd (apart same.0) | inr old ↦ old.1 ] in
+      let sum : (f : Counted → ℕ) → f (join_of v w) ≡ f v + f w → f no_counts ≡ 0 → total f views ≡ total f (set (set views seat (join_of v w)) other no_counts) = λ f e z.
+      (let s = total_set f views seat v (join_of v w) at in let n = total_set f (set views seat (join_of v w)) other w no_counts there in omega (arith, s, n, e, z)) in
       record {
         mark = t.mark;
         words_are = t.words_are ∙ three (ap (λ n. n % 2 ^ 64) (sum (λ (x : Counted). x.opens) refl refl)) (ap (λ n. n % 2 ^ 64) (sum (λ (x : Counted). x.shuts) refl refl)) refl;
-        told = told_set (set views seat (joined v w)) other spent t.mark (λ no. absurd (true≢false (sym no)))
-            (told_set views seat (joined v w) t.mark (λ either. or_told v.stopped w.stopped either (t.told seat v at) (t.told other w at_other)) t.told);
+        told = told_set (set views seat (join_of v w)) other no_counts t.mark (λ no. absurd (true≢false (sym no)))
+            (told_set views seat (join_of v w) t.mark (λ either. or_told v.stopped w.stopped either (t.told seat v at) (t.told other w at_other)) t.told);
         parts = sym (sum (λ (x : Counted). x.parts) refl refl) ∙ t.parts;
-        idle = idle_set (set views seat (joined v w)) other spent (λ none. (refl, refl))
-            (idle_set views seat (joined v w)
+        idle = idle_set (set views seat (join_of v w)) other no_counts (λ none. (refl, refl))
+            (idle_set views seat (join_of v w)
             (λ none.
             let mine = t.idle seat v at (omega (arith, none)) in
             let others = t.idle other w at_other (omega (arith, none)) in
@@ -165,14 +165,14 @@ abbrev holds : State (Unit {0}) Counted → Type 0
 holds s = IsTallied s.words s.views
 
 module _ (slots id : ℕ) (me : Me (Unit {0}) Counted) where
-  pub may_open : 0 < me.0.parts → Allows holds slots id me 0 (λ n. (n + 1) % 2 ^ 64) (λ found after. after ≡ (opened me.0, me.1))
-  may_open some_part s kept len at fits = (opened me.0, keeps, tt, keeps_open s.words s.views id me.0 at kept some_part, refl)
+  pub may_open : 0 < me.0.parts → Allows holds slots id me 0 (λ n. (n + 1) % 2 ^ 64) (λ found after. after ≡ (with_open me.0, me.1))
+  may_open some_part s kept len at fits = (with_open me.0, keeps, tt, keeps_open s.words s.views id me.0 at kept some_part, refl)
 
-  pub may_shut : 0 < me.0.parts → Allows holds slots id me 1 (λ n. (n + 1) % 2 ^ 64) (λ found after. after ≡ (shut me.0, me.1))
-  may_shut some_part s kept len at fits = (shut me.0, keeps, tt, keeps_shut s.words s.views id me.0 at kept some_part, refl)
+  pub may_shut : 0 < me.0.parts → Allows holds slots id me 1 (λ n. (n + 1) % 2 ^ 64) (λ found after. after ≡ (with_shut me.0, me.1))
+  may_shut some_part s kept len at fits = (with_shut me.0, keeps, tt, keeps_shut s.words s.views id me.0 at kept some_part, refl)
 
-  pub may_stop : Allows holds slots id me 2 (λ n. 1) (λ found after. after ≡ (stopping me.0, me.1))
-  may_stop s kept len at fits = (stopping me.0, keeps, tt, keeps_stop s.words s.views id me.0 at kept, refl)
+  pub may_stop : Allows holds slots id me 2 (λ n. 1) (λ found after. after ≡ (with_stop me.0, me.1))
+  may_stop s kept len at fits = (with_stop me.0, keeps, tt, keeps_stop s.words s.views id me.0 at kept, refl)
 
   pub may_read_opens : Allows holds slots id me 0 (λ n. n) (λ found after. (after ≡ me) × FindsAll me.0 me.0.opens found)
   may_read_opens s kept len at fits = (me.0, keeps, tt, keeps_read s.words s.views id me.0 at kept 0 (omega arith), (refl, finds_opens s.words s.views id me.0 at kept))
@@ -180,13 +180,13 @@ module _ (slots id : ℕ) (me : Me (Unit {0}) Counted) where
   pub may_read_shuts : Allows holds slots id me 1 (λ n. n) (λ found after. (after ≡ me) × FindsAll me.0 me.0.shuts found)
   may_read_shuts s kept len at fits = (me.0, keeps, tt, keeps_read s.words s.views id me.0 at kept 1 (omega arith), (refl, finds_shuts s.words s.views id me.0 at kept))
 
-  pub may_hear : Allows holds slots id me 2 (λ n. n) (λ found after. (after ≡ (heard me.0 found, me.1)) × (me.0.stopped ≡ true → 0 < found))
-  may_hear s kept len at fits = (heard me.0 (slice_index s.words 2), keeps, tt, keeps_hear s.words s.views id me.0 at kept, (refl, hears s.words s.views id me.0 at kept))
+  pub may_hear : Allows holds slots id me 2 (λ n. n) (λ found after. (after ≡ (with_mark me.0 found, me.1)) × (me.0.stopped ≡ true → 0 < found))
+  may_hear s kept len at fits = (with_mark me.0 (slice_index s.words 2), keeps, tt, keeps_hear s.words s.views id me.0 at kept, (refl, hears s.words s.views id me.0 at kept))
 
 pub may_split : (id : ℕ) (v : Counted) → 2 ≤ v.parts → Splits holds id v (split_left v) (split_right v)
 may_split id v two s kept at = keeps_split s.words s.views id v at kept two
 
-pub may_join : (id : ℕ) (v : Counted) (other : ℕ) (w : Counted) → Joins holds id v other w (joined v w) spent
+pub may_join : (id : ℕ) (v : Counted) (other : ℕ) (w : Counted) → Joins holds id v other w (join_of v w) no_counts
 may_join id v other w s kept at apart there = keeps_join s.words s.views id v at kept other w apart there
 
 -- The words at the end, where one seat has all parts.

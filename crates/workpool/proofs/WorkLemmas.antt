@@ -9,10 +9,10 @@ use Rattle.shardbook.specs.Passes.{Counts}
 use Rattle.sched_core.specs.Rules.{Rules, IsLawful}
 use Rattle.statebook.specs.Books.{Dominates}
 use Rattle.statebook.specs.ExplorerCore.{choices_of}
-use Rattle.statebook.specs.Stations.{forced}
+use Rattle.statebook.specs.Stations.{forced_state}
 use Rattle.statebook.specs.declared.entry.Entry.{Entry}
-use Rattle.shardbook.specs.Finishes.{HasMetAll, IsMetBy}
-use Rattle.shardbook.specs.Sights.{Sight, entries_of}
+use Rattle.shardbook.specs.Finishes.{HasAllSuccessors, IsSuccessor}
+use Rattle.shardbook.specs.StoredEntries.{StoredEntry, entries_of}
 use Rattle.workpool.specs.Tallies.{Seated}
 use Rattle.statebook.specs.Inner.Forced.{Follows}
 use Rattle.workpool.specs.Inner.Works.{IsCounted, IsSamePlace, IsSeated}
@@ -40,49 +40,49 @@ counted_hearing running w s e c =
     record { opens = c.opens ∙ sym opens; fewer = omega (arith, c.fewer, opens); all = λ none. c.all none ∙ sym opens; given = c.given; taken = c.taken; shut = (let shuts : s.shuts ≡ w.tally.shuts = ap (λ (x : Seated). x.shuts) e in omega (arith, c.shut, shuts)) }
 
 -- an entry that dominates what follows is met by the choice
-pub met_by : {S : Type 0} (r : Rules S) → IsLawful r → (same : S → S → Bool) → ((s t : S) → r.same s t ≡ same s t) → (e next found : Entry S) (c : ℕ) → Follows r e c next → Dominates same found next.state next.budget → IsMetBy r e c found
+pub met_by : {S : Type 0} (r : Rules S) → IsLawful r → (same : S → S → Bool) → ((s t : S) → r.same s t ≡ same s t) → (e next found : Entry S) (c : ℕ) → Follows r e c next → Dominates same found next.state next.budget → IsSuccessor r e c found
 met_by r law same agree e next found c f d = record {
   steps = f.steps;
   next = f.station;
   dominates = record {
-    state = law.transitive found.state next.state (forced r (r.after e.state c) f.steps) (agree found.state next.state ∙ d.state) f.same;
+    state = law.transitive found.state next.state (forced_state r (r.after e.state c) f.steps) (agree found.state next.state ∙ d.state) f.same;
     budget = omega (arith, d.budget, f.budget);
   };
 }
 
 -- one entry was found for each of the last choices, so many of all, in order
-pub record HasMetLast {S : Type 0} (r : Rules S) (e : Entry S) (all n : ℕ) (found : List (Entry S)) : Type 0 where
+pub record HasLastSuccessors {S : Type 0} (r : Rules S) (e : Entry S) (all n : ℕ) (found : List (Entry S)) : Type 0 where
   pub count : length found ≡ n
-  pub met : (i c : ℕ) (f : Entry S) → slice_get found i ≡ Some f → c + n ≡ all + i → IsMetBy r e c f
+  pub met : (i c : ℕ) (f : Entry S) → slice_get found i ≡ Some f → c + n ≡ all + i → IsSuccessor r e c f
 
-pub met_none : {S : Type 0} (r : Rules S) (e : Entry S) (all : ℕ) (next : List (Sight S)) → next ≡ [] → HasMetLast r e all 0 (entries_of (reverse next))
+pub met_none : {S : Type 0} (r : Rules S) (e : Entry S) (all : ℕ) (next : List (StoredEntry S)) → next ≡ [] → HasLastSuccessors r e all 0 (entries_of (reverse next))
 met_none {S} r e all next none =
-    let P : List (Sight S) → Type 0 = λ l. HasMetLast r e all 0 (entries_of (reverse l)) in
+    let P : List (StoredEntry S) → Type 0 = λ l. HasLastSuccessors r e all 0 (entries_of (reverse l)) in
     subst P (sym none) (record { count = refl; met = λ i c f at is. absurd cc })
 
 -- of what is found with the choice before them
-met_at : {S : Type 0} (r : Rules S) (e : Entry S) (all n c : ℕ) (found : List (Entry S)) (f : Entry S) → HasMetLast r e all n found → c + (n + 1) ≡ all → IsMetBy r e c f →
-    (i d : ℕ) (g : Entry S) → slice_get (f ∷ found) i ≡ Some g → d + (n + 1) ≡ all + i → IsMetBy r e d g
+met_at : {S : Type 0} (r : Rules S) (e : Entry S) (all n c : ℕ) (found : List (Entry S)) (f : Entry S) → HasLastSuccessors r e all n found → c + (n + 1) ≡ all → IsSuccessor r e c f →
+    (i d : ℕ) (g : Entry S) → slice_get (f ∷ found) i ≡ Some g → d + (n + 1) ≡ all + i → IsSuccessor r e d g
 met_at {S} r e all n c found f h before m zero d g at is =
-    let P : Entry S → Type 0 = λ x. IsMetBy r e d x in
-    let Q : ℕ → Type 0 = λ k. IsMetBy r e k f in
+    let P : Entry S → Type 0 = λ x. IsSuccessor r e d x in
+    let Q : ℕ → Type 0 = λ k. IsSuccessor r e k f in
     let itself : f ≡ g = cc in
     let here : c ≡ d = omega (arith, before, is) in
     subst P itself (subst Q here m)
 met_at r e all n c found f h before m (suc i) d g at is = h.met i d g at (omega (arith, is))
 
-met_cons : {S : Type 0} (r : Rules S) (e : Entry S) (all n c : ℕ) (found : List (Entry S)) (f : Entry S) → HasMetLast r e all n found → c + (n + 1) ≡ all → IsMetBy r e c f → HasMetLast r e all (n + 1) (f ∷ found)
+met_cons : {S : Type 0} (r : Rules S) (e : Entry S) (all n c : ℕ) (found : List (Entry S)) (f : Entry S) → HasLastSuccessors r e all n found → c + (n + 1) ≡ all → IsSuccessor r e c f → HasLastSuccessors r e all (n + 1) (f ∷ found)
 met_cons r e all n c found f h before m = record { count = omega (arith, h.count); met = met_at r e all n c found f h before m }
 
-pub met_more : {S : Type 0} (r : Rules S) (e : Entry S) (all n c : ℕ) (old new : List (Sight S)) (s : Sight S) → new ≡ old ++ s ∷ [] → c + (n + 1) ≡ all → HasMetLast r e all n (entries_of (reverse old)) → IsMetBy r e c s.entry → HasMetLast r e all (n + 1) (entries_of (reverse new))
+pub met_more : {S : Type 0} (r : Rules S) (e : Entry S) (all n c : ℕ) (old new : List (StoredEntry S)) (s : StoredEntry S) → new ≡ old ++ s ∷ [] → c + (n + 1) ≡ all → HasLastSuccessors r e all n (entries_of (reverse old)) → IsSuccessor r e c s.entry → HasLastSuccessors r e all (n + 1) (entries_of (reverse new))
 met_more {S} r e all n c old new s is before h m =
-    let P : List (Entry S) → Type 0 = λ l. HasMetLast r e all (n + 1) l in
-    let grown : entries_of (reverse new) ≡ s.entry ∷ entries_of (reverse old) = ap (λ (l : List (Sight S)). entries_of (reverse l)) is ∙ ap entries_of (reverse-append old (s ∷ [])) in
+    let P : List (Entry S) → Type 0 = λ l. HasLastSuccessors r e all (n + 1) l in
+    let grown : entries_of (reverse new) ≡ s.entry ∷ entries_of (reverse old) = ap (λ (l : List (StoredEntry S)). entries_of (reverse l)) is ∙ ap entries_of (reverse-append old (s ∷ [])) in
     subst P (sym grown) (met_cons r e all n c (entries_of (reverse old)) s.entry h before m)
 
-pub met_all : {S : Type 0} (r : Rules S) (e : Entry S) (all n : ℕ) (old new : List (Sight S)) → new ≡ reverse old → HasMetLast r e all n (entries_of (reverse old)) → n ≡ all → all ≡ choices_of (r.width e.state) e.budget → HasMetAll r e (entries_of new)
+pub met_all : {S : Type 0} (r : Rules S) (e : Entry S) (all n : ℕ) (old new : List (StoredEntry S)) → new ≡ reverse old → HasLastSuccessors r e all n (entries_of (reverse old)) → n ≡ all → all ≡ choices_of (r.width e.state) e.budget → HasAllSuccessors r e (entries_of new)
 met_all {S} r e all n old new is h each whole =
-    let P : List (Sight S) → Type 0 = λ l. HasMetAll r e (entries_of l) in
+    let P : List (StoredEntry S) → Type 0 = λ l. HasAllSuccessors r e (entries_of l) in
     subst P (sym is) (record { count = h.count ∙ each ∙ whole; met = λ c f at. h.met c c f at (omega (arith, each)) })
 
 -- a pass that counted nothing more

@@ -5,4 +5,4 @@ pub mod Fair
 pub mod Works
 pub mod Joined
 pub mod Rooms
-pub mod Told
+pub mod Totals

@@ -5,8 +5,8 @@ use Rattle.statebook.specs.ExplorerCore.{IsEntry}
 use Rattle.statebook.specs.declared.entry.Entry.{Entry}
 use Rattle.statebook.specs.declared.limits.Limits.{Limits}
 
--- A book's quest is for the runs of these rules within these limits.
-pub record IsQuestOf {S : Type 0} (rules : Option (Rules S)) (depart steps : ℕ) (r : Rules S) (limits : Limits) : Type 0 where
+-- A book's search parameters are those of the runs of these rules within these limits.
+pub record AreParametersOf {S : Type 0} (rules : Option (Rules S)) (depart steps : ℕ) (r : Rules S) (limits : Limits) : Type 0 where
   pub rules_are : rules ≡ Some r
   pub depart_is : depart ≡ limits.depart
   pub steps_are : steps ≡ limits.steps

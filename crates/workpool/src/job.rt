@@ -2,20 +2,20 @@
 
 ghost use Rattle.std.specs.Prelude.{◌≡◌};
 ghost use Rattle.statebook.specs.ExplorerCore.{choices_of};
-ghost use Rattle.shardbook.specs.Finishes.{HasMetAll, IsMetBy};
-ghost use Rattle.shardbook.specs.Sights.{entries_of};
-ghost use Rattle.workpool.specs.Searches.{IsQuestOf};
+ghost use Rattle.shardbook.specs.Finishes.{HasAllSuccessors, IsSuccessor};
+ghost use Rattle.shardbook.specs.StoredEntries.{entries_of};
+ghost use Rattle.workpool.specs.Searches.{AreParametersOf};
 ghost use Rattle.statebook.specs.Ways.{Allows, ChoiceGoesPast, SomeRunExceeds};
 ghost use Rattle.statebook.specs.Inner.Forced.{IfPast, IfReached, IsFirst, MayBeAdded};
 ghost use Rattle.workpool.specs.Inner.Works.{IsCounted, IsSamePlace, IsSeated, StaysCounted, TellsPast};
 
-use crate::meet::meet;
+use crate::insert::insert;
 use crate::next::next_entry;
 use crate::tally::Tally;
 use crate::work::Work;
 use basis::NoMemory;
 use sched_core::Space;
-use shardbook::{Book, Done, Naming, Quest, Seen};
+use shardbook::{Book, BookIdentity, Done, SearchParameters, Seen};
 use statebook::{Entry, Limits};
 use std::alloc::Global;
 use std::sync::Wait;
@@ -34,7 +34,7 @@ fn choice_count<P: Space>(space: &P, entry: &Entry<P::State>) -> u32
 
 // Meets the book with the next station after the choice, and answers with what shows an entry that
 // dominates it; None where the way there takes more steps than the limit.
-fn meet_choice<P: Space, Q: Quest<P::State>, B: Naming, R: Wait>(
+fn insert_choice<P: Space, Q: SearchParameters<P::State>, B: BookIdentity, R: Wait>(
     alloc: Global,
     rt: &R,
     space: &P,
@@ -46,20 +46,20 @@ fn meet_choice<P: Space, Q: Quest<P::State>, B: Naming, R: Wait>(
     entry: &Entry<P::State>,
     choice: u32,
 ) -> Result<Option<Seen<P::State, Q, B>>, NoMemory>
-    requires quest { IsQuestOf Q.rules Q.depart Q.steps (P.rules space.now) limits.now }
+    requires parameters { AreParametersOf Q.rules Q.depart Q.steps (P.rules space.now) limits.now }
     requires root { IsFirst (P.rules space.now) root.now }
     requires entry { MayBeAdded (P.rules space.now) limits.now entry.now }
     requires choice { Allows (P.rules space.now) entry.now choice }
     requires seated { IsSeated tally.now work.old }
     ensures met { IfReached result (λ seen.
-        IsMetBy (P.rules space.now) entry.now choice seen.entry) }
+        IsSuccessor (P.rules space.now) entry.now choice seen.entry) }
     ensures past { IfPast result (ChoiceGoesPast (P.rules space.now) limits.now entry.now choice) }
     ensures counted { StaysCounted work.old work.new }
     ensures same { IsSamePlace work.old work.new }
     ensures noted { work.new.past ≡ work.old.past }
 {
     match next_entry(space, limits, root, entry, choice)? {
-        Some(next) => Ok(Some(meet(alloc, rt, book, tally, work, next)?)),
+        Some(next) => Ok(Some(insert(alloc, rt, book, tally, work, next)?)),
         None => Ok(None),
     }
 }
@@ -69,7 +69,7 @@ fn meet_choice<P: Space, Q: Quest<P::State>, B: Naming, R: Wait>(
 // are met all the same. The last choice is met first, so that the job of choice 0, which keeps the
 // budget, is put last and taken first: else most entries would be met with a low budget before a
 // greater one.
-fn meet_all<P: Space, Q: Quest<P::State>, B: Naming, R: Wait>(
+fn insert_all<P: Space, Q: SearchParameters<P::State>, B: BookIdentity, R: Wait>(
     alloc: Global,
     rt: &R,
     space: &P,
@@ -80,12 +80,12 @@ fn meet_all<P: Space, Q: Quest<P::State>, B: Naming, R: Wait>(
     work: &mut Work<B>,
     entry: &Entry<P::State>,
 ) -> Result<Option<Vec<Seen<P::State, Q, B>>>, NoMemory>
-    requires quest { IsQuestOf Q.rules Q.depart Q.steps (P.rules space.now) limits.now }
+    requires parameters { AreParametersOf Q.rules Q.depart Q.steps (P.rules space.now) limits.now }
     requires root { IsFirst (P.rules space.now) root.now }
     requires entry { MayBeAdded (P.rules space.now) limits.now entry.now }
     requires seated { IsSeated tally.now work.old }
     ensures met { IfReached result (λ all.
-        HasMetAll (P.rules space.now) entry.now (entries_of all.items)) }
+        HasAllSuccessors (P.rules space.now) entry.now (entries_of all.items)) }
     ensures past { IfPast result (SomeRunExceeds (P.rules space.now) limits.now) }
     ensures counted { StaysCounted work.old work.new }
     ensures same { IsSamePlace work.old work.new }
@@ -96,7 +96,7 @@ fn meet_all<P: Space, Q: Quest<P::State>, B: Naming, R: Wait>(
     let mut within = true;
     for met in 0..count {
         let choice = count - 1 - met;
-        match meet_choice(
+        match insert_choice(
             alloc, rt, space, limits, book, tally, root, work, entry, choice,
         )? {
             Some(seen) => next.push_reserved(seen),
@@ -110,7 +110,7 @@ fn meet_all<P: Space, Q: Quest<P::State>, B: Naming, R: Wait>(
 // Runs the job at the place: it meets the book with what stands after each choice of the entry there,
 // and finishes the entry. Where a way took more steps than the limit the entry is left unfinished, and
 // that is noted; where memory was refused, all workers are told to stop.
-pub(crate) fn run_job<P: Space, Q: Quest<P::State>, B: Naming, R: Wait>(
+pub(crate) fn run_job<P: Space, Q: SearchParameters<P::State>, B: BookIdentity, R: Wait>(
     alloc: Global,
     rt: &R,
     space: &P,
@@ -121,7 +121,7 @@ pub(crate) fn run_job<P: Space, Q: Quest<P::State>, B: Naming, R: Wait>(
     work: &mut Work<B>,
     job: u64,
 )
-    requires quest { IsQuestOf Q.rules Q.depart Q.steps (P.rules space.now) limits.now }
+    requires parameters { AreParametersOf Q.rules Q.depart Q.steps (P.rules space.now) limits.now }
     requires root { IsFirst (P.rules space.now) root.now }
     requires seated { IsSeated tally.now work.old }
     requires counted { IsCounted 1 work.old }
@@ -132,7 +132,7 @@ pub(crate) fn run_job<P: Space, Q: Quest<P::State>, B: Naming, R: Wait>(
 {
     if let Some(seen) = book.at(job as usize) {
         let entry = book.read(&seen);
-        match meet_all(alloc, rt, space, limits, book, tally, root, work, entry) {
+        match insert_all(alloc, rt, space, limits, book, tally, root, work, entry) {
             Ok(Some(next)) => {
                 let _ = book.finish(Done::new(seen, next));
             }

@@ -6,8 +6,8 @@
 mod deque;
 mod gate;
 mod hand;
+mod insert;
 mod job;
-mod meet;
 mod next;
 mod ran;
 mod ring;

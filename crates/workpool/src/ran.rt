@@ -1,7 +1,7 @@
 // What is left when the workers of a search have ended.
 
 use crate::deque::Owner;
-use shardbook::{Naming, Pass, Quest, Seen};
+use shardbook::{BookIdentity, Pass, SearchParameters, Seen};
 use statebook::Reason;
 
 /// What is left when the workers of a search have ended: how many entries they opened and shut; how
@@ -9,7 +9,7 @@ use statebook::Reason;
 /// back; why they stopped short, if they did; what shows the root's entry; and the pass, with the New
 /// answers of all of them.
 #[derive(Drop)]
-pub struct Ran<S, Q: Quest<S>, B: Naming> {
+pub struct Ran<S, Q: SearchParameters<S>, B: BookIdentity> {
     pub opens: u64,
     pub shuts: u64,
     pub given: u64,

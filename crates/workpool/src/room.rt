@@ -8,13 +8,13 @@ use crate::ring::{Seat, new_ring};
 use crate::tally::{Tally, TallySeat};
 use crate::work::Work;
 use basis::NoMemory;
-use shardbook::Naming;
+use shardbook::BookIdentity;
 use std::alloc::Global;
 
 // A tally, its seat with all parts, a ring of deques, and room for as many workers, and for the
 // deques once the workers have ended.
 #[derive(Drop)]
-pub(crate) struct Room<B: Naming> {
+pub(crate) struct Room<B: BookIdentity> {
     pub(crate) tally: Tally,
     pub(crate) all: TallySeat,
     pub(crate) ring: Vec<Seat>,
@@ -23,7 +23,7 @@ pub(crate) struct Room<B: Naming> {
 }
 
 // Room for so many workers. It is all that is allocated before they begin.
-pub(crate) fn make_room<B: Naming>(alloc: Global, count: usize) -> Result<Room<B>, NoMemory>
+pub(crate) fn make_room<B: BookIdentity>(alloc: Global, count: usize) -> Result<Room<B>, NoMemory>
     requires { 0 < count }
     ensures { IfOk result (IsRoomFor count) }
 {

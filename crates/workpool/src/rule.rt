@@ -1,7 +1,7 @@
 // The rule of the tally's words, and what each step on them tells. Only contracts read these types.
 
 ghost use Rattle.std.specs.Prelude.{◌≡◌};
-ghost use Rattle.workpool.specs.Inner.Rules.{FindsAll, IsTallied, fresh, opened, shut, heard, stopping, split_left, split_right, joined, spent, StaysHeard};
+ghost use Rattle.workpool.specs.Inner.Rules.{FindsAll, IsTallied, fresh, with_open, with_shut, with_mark, with_stop, split_left, split_right, join_of, no_counts, StaysHeard};
 
 use atomic_table::{Join, Play, Split, TableRule};
 
@@ -27,21 +27,21 @@ impl TableRule<(), Counted, ()> for Tallied {
 pub struct Opens;
 
 impl Play<(), Counted> for Opens {
-    ghost then = { λ _ me _ after. after ≡ (opened me.0, me.1) };
+    ghost then = { λ _ me _ after. after ≡ (with_open me.0, me.1) };
 }
 
 // One entry more was shut.
 pub struct Shuts;
 
 impl Play<(), Counted> for Shuts {
-    ghost then = { λ _ me _ after. after ≡ (shut me.0, me.1) };
+    ghost then = { λ _ me _ after. after ≡ (with_shut me.0, me.1) };
 }
 
 // The mark was set.
 pub struct Stops;
 
 impl Play<(), Counted> for Stops {
-    ghost then = { λ _ me _ after. after ≡ (stopping me.0, me.1) };
+    ghost then = { λ _ me _ after. after ≡ (with_stop me.0, me.1) };
 }
 
 // The count of opens was read.
@@ -62,7 +62,7 @@ impl Play<(), Counted> for ReadsShuts {
 pub struct Hears;
 
 impl Play<(), Counted> for Hears {
-    ghost then = { λ _ me found after. (after ≡ (heard me.0 found, me.1)) × StaysHeard me.0 found };
+    ghost then = { λ _ me found after. (after ≡ (with_mark me.0 found, me.1)) × StaysHeard me.0 found };
 }
 
 // One part is cut off.
@@ -78,7 +78,7 @@ impl Split<Counted> for OneOff {
 pub struct Both;
 
 impl Join<Counted> for Both {
-    ghost both = { joined };
+    ghost both = { join_of };
 
-    ghost spent = { spent };
+    ghost spent = { no_counts };
 }

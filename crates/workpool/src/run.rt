@@ -3,11 +3,11 @@
 ghost use Rattle.std.specs.Prelude.{◌≡◌, ℕ, ◌+◌, ◌<◌, ◌≤◌, ◌⊎◌, true, [], length, vec_len, vec_capacity, Some, None, IfErr, IfNone, IfOk, IfSome};
 ghost use Rattle.workpool.specs.Rings.{IsRing};
 ghost use Rattle.workpool.specs.Runs.{AreGiven, AreJobs, HasNoRoot, IsRefused, TellsFull};
-ghost use Rattle.workpool.specs.Searches.{IsQuestOf, IsRootOf};
+ghost use Rattle.workpool.specs.Searches.{AreParametersOf, IsRootOf};
 ghost use Rattle.statebook.specs.Ways.{SomeRunExceeds};
 ghost use Rattle.statebook.specs.Inner.Forced.{IsFirst};
 ghost use Rattle.workpool.specs.Inner.Joined.{AreReady, AreSamePlaces, IsSummed, all_opens};
-ghost use Rattle.workpool.specs.Inner.Told.{RunsNothing, TellsSums};
+ghost use Rattle.workpool.specs.Inner.Totals.{RunsNothing, TellsSums};
 ghost use Rattle.workpool.specs.Inner.Works.{TellsPast};
 
 use crate::deque::Owner;
@@ -15,14 +15,14 @@ use crate::gate::Gate;
 use crate::ran::Ran;
 use crate::ring::{Seat, settle_all};
 use crate::room::{Room, make_room};
-use crate::root::{meet_root, root_of};
+use crate::root::{insert_root, root_of};
 use crate::sum::{Sum, either};
 use crate::tally::{SEATS, Tally};
 use crate::work::Work;
 use crate::workers::{join_workers, run_each, seat_workers};
 use basis::NoMemory;
 use sched_core::Space;
-use shardbook::{Book, Naming, Pass, Quest, Seen};
+use shardbook::{Book, BookIdentity, Pass, SearchParameters, Seen};
 use statebook::{Limits, Reason};
 use std::alloc::Global;
 use std::sync::Wait;
@@ -44,7 +44,7 @@ fn cut_of(refused: Option<NoMemory>, opens: u64, past: bool, limits: &Limits) ->
 }
 
 // Where memory was refused before the workers began.
-fn not_begun<S, Q: Quest<S>, B: Naming>(
+fn not_begun<S, Q: SearchParameters<S>, B: BookIdentity>(
     alloc: Global,
     pass: Pass<B>,
     refused: NoMemory,
@@ -64,7 +64,7 @@ fn not_begun<S, Q: Quest<S>, B: Naming>(
 }
 
 // Worker 0, the last of the list, meets the book with the root's entry.
-fn start<P: Space, Q: Quest<P::State>, B: Naming, R: Wait>(
+fn start<P: Space, Q: SearchParameters<P::State>, B: BookIdentity, R: Wait>(
     alloc: Global,
     rt: &R,
     space: &P,
@@ -73,7 +73,7 @@ fn start<P: Space, Q: Quest<P::State>, B: Naming, R: Wait>(
     tally: &Tally,
     works: &mut Vec<Work<B>>,
 ) -> Result<Seen<P::State, Q, B>, NoMemory>
-    requires quest { IsQuestOf Q.rules Q.depart Q.steps (P.rules space.now) limits.now }
+    requires parameters { AreParametersOf Q.rules Q.depart Q.steps (P.rules space.now) limits.now }
     requires some { 0 < length works.old.items }
     requires ready { AreReady (P.rules space.now) limits.now tally.now (length works.old.items)
         works.old.items }
@@ -87,7 +87,7 @@ fn start<P: Space, Q: Quest<P::State>, B: Naming, R: Wait>(
     let Some(mut work) = works.pop() else {
         unreachable!()
     };
-    let met = meet_root(alloc, rt, space, limits, book, tally, &mut work);
+    let met = insert_root(alloc, rt, space, limits, book, tally, &mut work);
     works.push_reserved(work);
     met
 }
@@ -95,8 +95,8 @@ fn start<P: Space, Q: Quest<P::State>, B: Naming, R: Wait>(
 // Meets the root, and runs each worker.
 fn search<
     P: Space + Sync,
-    Q: Quest<P::State> + Send + Sync,
-    B: Naming + Send + Sync,
+    Q: SearchParameters<P::State> + Send + Sync,
+    B: BookIdentity + Send + Sync,
     R: Threads + Wait + Sync,
     G: Gate,
 >(
@@ -109,7 +109,7 @@ fn search<
     gate: &G,
     works: &mut Vec<Work<B>>,
 ) -> Result<Seen<P::State, Q, B>, NoMemory>
-    requires quest { IsQuestOf Q.rules Q.depart Q.steps (P.rules space.now) limits.now }
+    requires parameters { AreParametersOf Q.rules Q.depart Q.steps (P.rules space.now) limits.now }
     requires some { 0 < length works.old.items }
     requires ready { AreReady (P.rules space.now) limits.now tally.now (length works.old.items)
         works.old.items }
@@ -138,7 +138,7 @@ fn search<
 
 // What is left when all workers are joined: the tally's words, the first reason to stop short, and
 // what shows the root's entry. All deques settle.
-fn tell<P: Space, Q: Quest<P::State>, B: Naming>(
+fn tell<P: Space, Q: SearchParameters<P::State>, B: BookIdentity>(
     space: &P,
     limits: &Limits,
     book: &Book<P::State, Q, B>,
@@ -148,7 +148,7 @@ fn tell<P: Space, Q: Quest<P::State>, B: Naming>(
     deques: Vec<Owner>,
     met: Result<Seen<P::State, Q, B>, NoMemory>,
 ) -> Ran<P::State, Q, B>
-    requires quest { IsQuestOf Q.rules Q.depart Q.steps (P.rules space.now) limits.now }
+    requires parameters { AreParametersOf Q.rules Q.depart Q.steps (P.rules space.now) limits.now }
     requires parts { sum.tally.parts ≡ SEATS }
     requires here { sum.tally.tally ≡ tally }
     requires ring { IsRing ring.items }
@@ -209,8 +209,8 @@ fn tell<P: Space, Q: Quest<P::State>, B: Naming>(
 /// Whether an entry was missed isn't told by this: that is for the book's closing scan.
 pub fn run_workers<
     P: Space + Sync,
-    Q: Quest<P::State> + Send + Sync,
-    B: Naming + Send + Sync,
+    Q: SearchParameters<P::State> + Send + Sync,
+    B: BookIdentity + Send + Sync,
     R: Threads + Wait + Sync,
     G: Gate,
 >(
@@ -224,7 +224,7 @@ pub fn run_workers<
     gate: &G,
 ) -> Ran<P::State, Q, B>
     requires count { (1 ≤ count) × (count ≤ 64) }
-    requires quest { IsQuestOf Q.rules Q.depart Q.steps (P.rules space.now) limits.now }
+    requires parameters { AreParametersOf Q.rules Q.depart Q.steps (P.rules space.now) limits.now }
     ensures parts { result.pass.parts ≡ pass.parts }
     ensures opens { result.pass.count ≡ pass.count + result.opens }
     ensures given { AreGiven result.given result.opens result.cut }

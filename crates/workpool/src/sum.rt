@@ -7,12 +7,12 @@ use crate::ring::Seat;
 use crate::tally::{Tally, TallySeat};
 use crate::work::Work;
 use basis::NoMemory;
-use shardbook::{Book, Naming, Pass, Quest};
+use shardbook::{Book, BookIdentity, Pass, SearchParameters};
 use std::hash::Hash;
 
 // What the workers that were joined have counted together.
 #[derive(Drop)]
-pub(crate) struct Sum<B: Naming> {
+pub(crate) struct Sum<B: BookIdentity> {
     pub(crate) tally: TallySeat,
     pub(crate) pass: Pass<B>,
     pub(crate) given: u64,
@@ -32,7 +32,7 @@ pub(crate) fn either(one: Option<NoMemory>, other: Option<NoMemory>) -> Option<N
 }
 
 // Takes a worker in, and gives its ends of the deques back.
-pub(crate) fn add<S: Eq + Hash + Drop, Q: Quest<S>, B: Naming>(
+pub(crate) fn add<S: Eq + Hash + Drop, Q: SearchParameters<S>, B: BookIdentity>(
     book: &Book<S, Q, B>,
     tally: &Tally,
     sum: Sum<B>,

@@ -49,11 +49,11 @@ pub struct TallySeat {
 impl Model for TallySeat {
     ghost use Rattle.std.specs.Prelude.{◌≡◌, []};
     ghost use Rattle.workpool.specs.Tallies.{Seated};
-    ghost use Rattle.workpool.specs.Inner.Rules.{seated};
+    ghost use Rattle.workpool.specs.Inner.Rules.{seat_of};
 
     ghost Value = { Seated };
 
-    ghost view = { λ s. seated s.seat.table_id s.seat.me.0 };
+    ghost view = { λ s. seat_of s.seat.table_id s.seat.me.0 };
 
     ghost invariant = { λ s. s.seat.me.1 ≡ [] };
 }

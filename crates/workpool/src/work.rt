@@ -3,12 +3,12 @@
 use crate::ring::Seat;
 use crate::tally::TallySeat;
 use basis::NoMemory;
-use shardbook::{Naming, Pass};
+use shardbook::{BookIdentity, Pass};
 
 // What a worker holds. It counts the jobs that it has given and taken, modulo 2^64, keeps want of
 // memory if it met it, and notes whether a way went past the limit of steps.
 #[derive(Drop)]
-pub(crate) struct Work<B: Naming> {
+pub(crate) struct Work<B: BookIdentity> {
     pub(crate) seat: Seat,
     pub(crate) tally: TallySeat,
     pub(crate) pass: Pass<B>,

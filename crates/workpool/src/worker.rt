@@ -1,18 +1,18 @@
 // The loop of one worker.
 
 ghost use Rattle.std.specs.Prelude.{◌≡◌};
-ghost use Rattle.workpool.specs.Searches.{IsQuestOf};
+ghost use Rattle.workpool.specs.Searches.{AreParametersOf};
 ghost use Rattle.statebook.specs.Inner.Forced.{IsFirst};
 ghost use Rattle.workpool.specs.Inner.Works.{IsSamePlace};
 ghost use Rattle.workpool.specs.Inner.Joined.{IsReady};
 
 use crate::gate::Gate;
+use crate::insert::next_job;
 use crate::job::run_job;
-use crate::meet::next_job;
 use crate::tally::{Tally, TallySeat};
 use crate::work::Work;
 use sched_core::Space;
-use shardbook::{Book, Naming, Quest};
+use shardbook::{Book, BookIdentity, SearchParameters};
 use statebook::Limits;
 use std::alloc::Global;
 use std::sync::Wait;
@@ -39,7 +39,13 @@ fn is_over(tally: &Tally, limits: &Limits, seat: &mut TallySeat) -> bool
 
 // Takes jobs and runs them, until there is nothing left to do or all are to stop. Before it takes one
 // it looks whether it is to end, and before it runs one it passes the gate.
-pub(crate) fn run_worker<P: Space, Q: Quest<P::State>, B: Naming, R: Wait, G: Gate>(
+pub(crate) fn run_worker<
+    P: Space,
+    Q: SearchParameters<P::State>,
+    B: BookIdentity,
+    R: Wait,
+    G: Gate,
+>(
     alloc: Global,
     rt: &R,
     space: &P,
@@ -51,7 +57,7 @@ pub(crate) fn run_worker<P: Space, Q: Quest<P::State>, B: Naming, R: Wait, G: Ga
     worker: u32,
     work: &mut Work<B>,
 )
-    requires quest { IsQuestOf Q.rules Q.depart Q.steps (P.rules space.now) limits.now }
+    requires parameters { AreParametersOf Q.rules Q.depart Q.steps (P.rules space.now) limits.now }
     requires root { IsFirst (P.rules space.now) root.now }
     requires ready { IsReady (P.rules space.now) limits.now tally.now work.old }
     ensures ready { IsReady (P.rules space.now) limits.now tally.now work.new }

@@ -2,7 +2,7 @@
 
 ghost use Rattle.std.specs.Prelude.{◌≡◌, ◌+◌, ◌-◌, ◌<◌, ◌≤◌, [], length, vec_len, vec_capacity};
 ghost use Rattle.workpool.specs.Rings.{AreIdle};
-ghost use Rattle.workpool.specs.Searches.{IsQuestOf};
+ghost use Rattle.workpool.specs.Searches.{AreParametersOf};
 ghost use Rattle.statebook.specs.Inner.Forced.{IsFirst};
 ghost use Rattle.workpool.specs.Inner.Joined.{AreReady, AreSamePlaces, IsReady, IsSummed, all_opens, all_parts, seats_onto};
 ghost use Rattle.workpool.specs.Inner.Works.{IsSamePlace};
@@ -15,7 +15,7 @@ use crate::tally::{Tally, TallySeat};
 use crate::work::Work;
 use crate::worker::run_worker;
 use sched_core::Space;
-use shardbook::{Book, Naming, Pass, Quest};
+use shardbook::{Book, BookIdentity, Pass, SearchParameters};
 use statebook::Limits;
 use std::alloc::Global;
 use std::hash::Hash;
@@ -25,7 +25,7 @@ use std::thread::Threads;
 
 // Seats a worker at each of the ring's seats, the last one first, so that worker 0 comes last. Each has
 // one part of the tally's seat, and some of the pass.
-pub(crate) fn seat_workers<P: Space, B: Naming>(
+pub(crate) fn seat_workers<P: Space, B: BookIdentity>(
     space: &P,
     limits: &Limits,
     tally: &Tally,
@@ -74,8 +74,8 @@ fn number_of(last: usize, place: usize) -> u32 {
 // does the work of all.
 pub(crate) fn run_each<
     P: Space + Sync,
-    Q: Quest<P::State> + Send + Sync,
-    B: Naming + Send + Sync,
+    Q: SearchParameters<P::State> + Send + Sync,
+    B: BookIdentity + Send + Sync,
     R: Threads + Wait + Sync,
     G: Gate,
 >(
@@ -89,7 +89,7 @@ pub(crate) fn run_each<
     gate: &G,
     works: &mut [Work<B>],
 )
-    requires quest { IsQuestOf Q.rules Q.depart Q.steps (P.rules space.now) limits.now }
+    requires parameters { AreParametersOf Q.rules Q.depart Q.steps (P.rules space.now) limits.now }
     requires root { IsFirst (P.rules space.now) root.now }
     requires some { 0 < length works.old }
     requires ready { AreReady (P.rules space.now) limits.now tally.now (length works.old)
@@ -101,7 +101,7 @@ pub(crate) fn run_each<
     let last = works.len() - 1;
     let each = |place: usize, work: &mut Work<B>|
         requires send { IsSend P.State.row }
-        requires quest { IsQuestOf Q.rules Q.depart Q.steps (P.rules space.now) limits.now }
+        requires parameters { AreParametersOf Q.rules Q.depart Q.steps (P.rules space.now) limits.now }
         requires root { IsFirst (P.rules space.now) root.now }
         requires ready { IsReady (P.rules space.now) limits.now tally.now work.now }
         ensures ready { IsReady (P.rules space.entry.now) limits.entry.now tally.entry.now
@@ -117,7 +117,7 @@ pub(crate) fn run_each<
 }
 
 // Joins the workers, worker 0 first, and puts their ends back into the ring.
-pub(crate) fn join_workers<P: Space, Q: Quest<P::State>, B: Naming>(
+pub(crate) fn join_workers<P: Space, Q: SearchParameters<P::State>, B: BookIdentity>(
     space: &P,
     limits: &Limits,
     book: &Book<P::State, Q, B>,

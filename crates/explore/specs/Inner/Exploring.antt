@@ -4,11 +4,11 @@ use Rattle.basis.specs.declared.memory.OrMemory.{OrMemory}
 use Rattle.basis.specs.declared.memory.OrMemory.TheVariants.{Fault}
 use Rattle.sched_core.specs.Rules.{Rules}
 use Rattle.statebook.specs.Books.{Book, IsClosed, IsFinished, IsRootAt, add}
-use Rattle.statebook.specs.ExplorerCore.{IsMet, IsSound, choices_of}
+use Rattle.statebook.specs.ExplorerCore.{IsSuccessorAt, IsSound, choices_of}
 use Rattle.statebook.specs.declared.entry.Entry.{Entry}
 use Rattle.statebook.specs.declared.limits.Limits.{Limits}
 use Rattle.statebook.specs.Ways.{Allows}
-use Rattle.explore.specs.Told.{AllChoicesLeadOn, SomeChoiceGoesPast, SomeWayGoesPast}
+use Rattle.explore.specs.BookFindings.{AllChoicesLeadOn, SomeChoiceGoesPast, SomeWayGoesPast}
 use Rattle.explore.specs.declared.classes.Full.{Full}
 
 -- It is so of the entry at the place.
@@ -42,8 +42,8 @@ abbrev pub AllowsAt : {S : Type 0} → Rules S → Book S → ℕ → ℕ → Ty
 AllowsAt r b place c = OfEntry b place (λ e. Allows r e c)
 
 -- The entry at place j dominates the next station after choice c of the entry at the place.
-abbrev pub IsMetAt : {S : Type 0} → Rules S → Book S → ℕ → ℕ → ℕ → Type 0
-IsMetAt r b place c j = OfEntry b place (λ e. IsMet r b.entries e c j)
+abbrev pub IsSuccessorOfPlace : {S : Type 0} → Rules S → Book S → ℕ → ℕ → ℕ → Type 0
+IsSuccessorOfPlace r b place c j = OfEntry b place (λ e. IsSuccessorAt r b.entries e c j)
 
 -- All choices of the entry at the place lead on.
 abbrev pub LeadsOnAt : {S : Type 0} → Rules S → Limits → Book S → ℕ → Type 0

@@ -2,7 +2,7 @@
 use Rattle.std.specs.Prelude.{◌≡◌, ℕ, ◌≤◌, Bool, true, List, length, slice_get, Some}
 use Rattle.sched_core.specs.Rules.{Rules}
 use Rattle.statebook.specs.declared.entry.Entry.{Entry}
-use Rattle.shardbook.specs.Sights.{Sight}
+use Rattle.shardbook.specs.StoredEntries.{StoredEntry}
 use Rattle.explore.specs.Found.{IsListedMark}
 
 -- A state equal to this one is listed, under a log of at most d departures: `IsListedMark` by the code's own test, which is
@@ -31,5 +31,5 @@ abbrev pub KeepsListed : {S : Type 0} → Rules S → List (S × List (ℕ × �
 KeepsListed {S} r old new = (s : S) (d : ℕ) → IsListedMark r old s d → IsListedMark r new s d
 
 -- Each of the list shows the entry of the place at which it stands in the list.
-abbrev pub InPlace : {S : Type 0} → List (Sight S) → Type 0
-InPlace {S} all = (i : ℕ) (s : Sight S) → slice_get all i ≡ Some s → s.place ≡ i
+abbrev pub InPlace : {S : Type 0} → List (StoredEntry S) → Type 0
+InPlace {S} all = (i : ℕ) (s : StoredEntry S) → slice_get all i ≡ Some s → s.place ≡ i

@@ -1,14 +1,14 @@
 -- What an explorer remembers of forced ways, so that ways that join needn't each be walked to the end.
 use Rattle.std.specs.Prelude.{◌≡◌, ℕ, ◌+◌, ◌-◌, ◌<◌, ◌≤◌, ◌⊎◌, Bool, true, false, List, length, Option, Some, None, slice_get}
 use Rattle.sched_core.specs.Rules.{Rules}
-use Rattle.statebook.specs.Stations.{is_station, forced}
+use Rattle.statebook.specs.Stations.{is_station, forced_state}
 use Rattle.statebook.specs.declared.entry.Entry.{Entry}
 use Rattle.statebook.specs.declared.limits.Limits.{Limits}
 use Rattle.statebook.specs.Ways.{ChoiceGoesPast, GoesPast}
 use Rattle.statebook.specs.Inner.Forced.{ComesTo}
 use Rattle.explore.specs.Inner.Exploring.{IsUnderWay, OfEntry}
 use Rattle.explore.specs.declared.search.Onward.{Onward}
-use Rattle.explore.specs.declared.search.Landmark.{Landmark}
+use Rattle.explore.specs.declared.search.Checkpoint.{Checkpoint}
 use Rattle.explore.specs.declared.search.Search.{Search}
 use Rattle.explore.specs.declared.ways.TheConstants.{ROOM}
 use Rattle.explore.specs.declared.way.Ahead.{Ahead}
@@ -17,7 +17,7 @@ use Rattle.explore.specs.declared.way.Ahead.TheVariants.{Station, Past, Unknown}
 -- From s on there is no station for so many steps; with a place, there is one then, the state of the entry at the place.
 abbrev pub LeadsTo : {S : Type 0} → Rules S → List (Entry S) → S → ℕ → Option ℕ → Type 0
 LeadsTo {S} r entries s steps (Some place) = (e : Entry S) × (slice_get entries place ≡ Some e) × ComesTo r s 0 e.state steps
-LeadsTo r entries s steps None = (j : ℕ) → j < steps → is_station r (forced r s j) ≡ false
+LeadsTo r entries s steps None = (j : ℕ) → j < steps → is_station r (forced_state r s j) ≡ false
 
 -- Each remembered state leads where it is said to.
 abbrev pub AllLead : {S : Type 0} → Rules S → List (Entry S) → List (S × Onward) → Type 0
@@ -49,29 +49,29 @@ IsUnknown {S} same ways s = (i : ℕ) (p : S × Onward) → slice_get ways i ≡
 abbrev pub IsKnown : {S : Type 0} → (S → S → Bool) → List (S × Onward) → S → Type 0
 IsKnown same ways s = (onward : Onward) × IsKnownAs same ways s onward
 
--- Something is remembered of each landmark's state.
-abbrev pub AreKnown : {S : Type 0} → (S → S → Bool) → List (Landmark S) → List (S × Onward) → Type 0
-AreKnown {S} same landmarks ways = (i : ℕ) (l : Landmark S) → slice_get landmarks i ≡ Some l → IsKnown same ways l.state
+-- Something is remembered of each checkpoint's state.
+abbrev pub AreKnown : {S : Type 0} → (S → S → Bool) → List (Checkpoint S) → List (S × Onward) → Type 0
+AreKnown {S} same checkpoints ways = (i : ℕ) (l : Checkpoint S) → slice_get checkpoints i ≡ Some l → IsKnown same ways l.state
 
--- From each landmark the way comes to t, after n steps in all.
-abbrev pub AllCome : {S : Type 0} → Rules S → List (Landmark S) → S → ℕ → Type 0
-AllCome {S} r landmarks t n = (i : ℕ) (l : Landmark S) → slice_get landmarks i ≡ Some l → ComesTo r l.state l.taken t n
+-- From each checkpoint the way comes to t, after n steps in all.
+abbrev pub AllCome : {S : Type 0} → Rules S → List (Checkpoint S) → S → ℕ → Type 0
+AllCome {S} r checkpoints t n = (i : ℕ) (l : Checkpoint S) → slice_get checkpoints i ≡ Some l → ComesTo r l.state l.taken t n
 
--- From each landmark the way comes to the entry, after its steps in all.
-abbrev pub AllComeTo : {S : Type 0} → Rules S → List (Landmark S) → Entry S → Type 0
-AllComeTo r landmarks e = AllCome r landmarks e.state e.steps
+-- From each checkpoint the way comes to the entry, after its steps in all.
+abbrev pub AllComeTo : {S : Type 0} → Rules S → List (Checkpoint S) → Entry S → Type 0
+AllComeTo r checkpoints e = AllCome r checkpoints e.state e.steps
 
--- The landmark is within the limit of steps, and no station stands on the way from it up to that limit.
-abbrev pub LandmarkGoesPast : {S : Type 0} → Rules S → Limits → Landmark S → Type 0
-LandmarkGoesPast r limits l = (l.taken ≤ limits.steps) × GoesPast r l.state l.taken limits.steps
+-- The checkpoint is within the limit of steps, and no station stands on the way from it up to that limit.
+abbrev pub CheckpointGoesPast : {S : Type 0} → Rules S → Limits → Checkpoint S → Type 0
+CheckpointGoesPast r limits l = (l.taken ≤ limits.steps) × GoesPast r l.state l.taken limits.steps
 
--- Each landmark is within the limit of steps, and no station stands on the way from it up to that limit.
-abbrev pub AllGoPast : {S : Type 0} → Rules S → List (Landmark S) → Limits → Type 0
-AllGoPast {S} r landmarks limits = (i : ℕ) (l : Landmark S) → slice_get landmarks i ≡ Some l → LandmarkGoesPast r limits l
+-- Each checkpoint is within the limit of steps, and no station stands on the way from it up to that limit.
+abbrev pub AllGoPast : {S : Type 0} → Rules S → List (Checkpoint S) → Limits → Type 0
+AllGoPast {S} r checkpoints limits = (i : ℕ) (l : Checkpoint S) → slice_get checkpoints i ≡ Some l → CheckpointGoesPast r limits l
 
--- No landmark stands behind so many steps.
-abbrev pub AllBefore : {S : Type 0} → List (Landmark S) → ℕ → Type 0
-AllBefore {S} landmarks end = (i : ℕ) (l : Landmark S) → slice_get landmarks i ≡ Some l → l.taken ≤ end
+-- No checkpoint stands behind so many steps.
+abbrev pub AllBefore : {S : Type 0} → List (Checkpoint S) → ℕ → Type 0
+AllBefore {S} checkpoints end = (i : ℕ) (l : Checkpoint S) → slice_get checkpoints i ≡ Some l → l.taken ≤ end
 
 -- What is known ahead of s, after n steps: the station that t is now, that there is none up to the limit, or nothing, and then t is s.
 abbrev pub IsAhead : {S : Type 0} → Rules S → S → ℕ → Limits → S → Ahead → Type 0
@@ -79,27 +79,27 @@ IsAhead r s n limits t (Station reached) = ComesTo r s n t reached × (reached �
 IsAhead r s n limits t Past = GoesPast r s n limits.steps
 IsAhead r s n limits t Unknown = t ≡ s
 
--- What is remembered of the state is of a landmark that is equal, and leads on to the end.
-pub record IsOfLandmark {S : Type 0} (same : S → S → Bool) (landmarks : List (Landmark S)) (end : ℕ) (station : Option ℕ) (known : S × Onward) : Type 0 where
+-- What is remembered of the state is of a checkpoint that is equal, and leads on to the end.
+pub record IsOfCheckpoint {S : Type 0} (same : S → S → Bool) (checkpoints : List (Checkpoint S)) (end : ℕ) (station : Option ℕ) (known : S × Onward) : Type 0 where
   pub place : ℕ
-  pub landmark : Landmark S
-  pub at : slice_get landmarks place ≡ Some landmark
-  pub equal : same landmark.state known.0 ≡ true
-  pub onward : known.1 ≡ record { steps = end - landmark.taken; station = station }
+  pub checkpoint : Checkpoint S
+  pub at : slice_get checkpoints place ≡ Some checkpoint
+  pub equal : same checkpoint.state known.0 ≡ true
+  pub onward : known.1 ≡ record { steps = end - checkpoint.taken; station = station }
 
--- It was remembered before, or is of a landmark.
-abbrev pub IsOldOrOfLandmark : {S : Type 0} → (S → S → Bool) → List (S × Onward) → List (Landmark S) → ℕ → Option ℕ → S × Onward → Type 0
-IsOldOrOfLandmark same old landmarks end station p = ((j : ℕ) × (slice_get old j ≡ Some p)) ⊎ IsOfLandmark same landmarks end station p
+-- It was remembered before, or is of a checkpoint.
+abbrev pub IsOldOrOfCheckpoint : {S : Type 0} → (S → S → Bool) → List (S × Onward) → List (Checkpoint S) → ℕ → Option ℕ → S × Onward → Type 0
+IsOldOrOfCheckpoint same old checkpoints end station p = ((j : ℕ) × (slice_get old j ≡ Some p)) ⊎ IsOfCheckpoint same checkpoints end station p
 
 -- So it is of all that is remembered.
-abbrev pub AreRemembered : {S : Type 0} → (S → S → Bool) → List (S × Onward) → List (Landmark S) → ℕ → Option ℕ → List (S × Onward) → Type 0
-AreRemembered {S} same old landmarks end station new =
-    (i : ℕ) (p : S × Onward) → slice_get new i ≡ Some p → IsOldOrOfLandmark same old landmarks end station p
+abbrev pub AreRemembered : {S : Type 0} → (S → S → Bool) → List (S × Onward) → List (Checkpoint S) → ℕ → Option ℕ → List (S × Onward) → Type 0
+AreRemembered {S} same old checkpoints end station new =
+    (i : ℕ) (p : S × Onward) → slice_get new i ≡ Some p → IsOldOrOfCheckpoint same old checkpoints end station p
 
 -- The search remembers nothing more.
-abbrev pub RemembersNoMore : {S : Type 0} → (S → S → Bool) → Search S → List (Landmark S) → ℕ → Option ℕ → Search S → Type 0
-RemembersNoMore same old landmarks end station new = AreRemembered same old.ways.entries landmarks end station new.ways.entries
+abbrev pub RemembersNoMore : {S : Type 0} → (S → S → Bool) → Search S → List (Checkpoint S) → ℕ → Option ℕ → Search S → Type 0
+RemembersNoMore same old checkpoints end station new = AreRemembered same old.ways.entries checkpoints end station new.ways.entries
 
--- With room for all, something is remembered of each landmark.
-abbrev pub RemembersAll : {S : Type 0} → (S → S → Bool) → Search S → List (Landmark S) → Search S → Type 0
-RemembersAll same old landmarks new = HasRoomFor old (length landmarks) → AreKnown same landmarks new.ways.entries
+-- With room for all, something is remembered of each checkpoint.
+abbrev pub RemembersAll : {S : Type 0} → (S → S → Bool) → Search S → List (Checkpoint S) → Search S → Type 0
+RemembersAll same old checkpoints new = HasRoomFor old (length checkpoints) → AreKnown same checkpoints new.ways.entries

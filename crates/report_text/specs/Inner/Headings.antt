@@ -31,23 +31,23 @@ pub record Heading : Type 0 where
   pub outcome : Outcome
 
 -- a label and a value, before the rest
-abbrev pub labelled : List ℕ → List ℕ → List ℕ → List ℕ
-labelled label value rest = label ++ (value ++ 10 ∷ rest)
+abbrev pub label_line_before : List ℕ → List ℕ → List ℕ → List ℕ
+label_line_before label value rest = label ++ (value ++ 10 ∷ rest)
 
 abbrev pub grain_before : Version → Grain → List ℕ → List ℕ
 grain_before One grain rest = rest
-grain_before Two grain rest = labelled (codes "grain ") (grain_word grain) rest
+grain_before Two grain rest = label_line_before (codes "grain ") (grain_word grain) rest
 
 -- these lines, before the rest
 abbrev pub heading_before : Heading → List ℕ → List ℕ
 heading_before h rest =
-    labelled (codes "vrace report ") (decimal (version_number h.version))
-    (labelled (codes "top ") h.top
-    (labelled (codes "until ") (decimal h.until)
-    (labelled (codes "depart ") (decimal h.depart)
-    (labelled (codes "steps ") (decimal h.steps)
+    label_line_before (codes "vrace report ") (decimal (version_number h.version))
+    (label_line_before (codes "top ") h.top
+    (label_line_before (codes "until ") (decimal h.until)
+    (label_line_before (codes "depart ") (decimal h.depart)
+    (label_line_before (codes "steps ") (decimal h.steps)
     (grain_before h.version h.grain
-    (labelled (codes "state ") (outcome_words h.outcome) rest))))))
+    (label_line_before (codes "state ") (outcome_words h.outcome) rest))))))
 
 pub record IsHeading (h : Heading) : Type 0 where
   pub top : has_letters_of_name h.top ≡ true
@@ -58,10 +58,10 @@ pub record IsHeading (h : Heading) : Type 0 where
   pub grain : h.version ≡ One → h.grain ≡ Process
 
 abbrev pub IsVersionLine : List ℕ → Version → List ℕ → Type 0
-IsVersionLine text version rest = text ≡ labelled (codes "vrace report ") (decimal (version_number version)) rest
+IsVersionLine text version rest = text ≡ label_line_before (codes "vrace report ") (decimal (version_number version)) rest
 
 abbrev pub IsOutcomeLine : List ℕ → Outcome → List ℕ → Type 0
-IsOutcomeLine text outcome rest = text ≡ labelled (codes "state ") (outcome_words outcome) rest
+IsOutcomeLine text outcome rest = text ≡ label_line_before (codes "state ") (outcome_words outcome) rest
 
 -- the name of a top module
 abbrev pub IsTop : List ℕ → Type 0

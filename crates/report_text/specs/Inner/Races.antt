@@ -3,7 +3,7 @@ use Rattle.std.specs.Prelude.{◌≡◌, ℕ, ◌<◌, ◌≤◌, ◌-◌, ◌^�
 use Rattle.sched_core.specs.Logs.{IsLog}
 use Rattle.sched_core.specs.LogText.{log_text}
 use Rattle.report_text.specs.Report.{Column, Race}
-use Rattle.report_text.specs.ReportText.{line, spaced, race_text, races_text, value_lines}
+use Rattle.report_text.specs.ReportText.{line, joined_by_space, race_text, races_text, value_lines}
 use Rattle.report_text.specs.declared.races.RaceLine.{RaceLine}
 use Rattle.report_text.specs.Inner.Lists.{Listed}
 use Rattle.report_text.specs.Inner.Places.{Place, Stands, Took}
@@ -14,7 +14,7 @@ abbrev pub Shown : Type 0
 Shown = List ℕ × List (ℕ × ℕ)
 
 abbrev pub shown_line : Shown → List ℕ
-shown_line shown = line (spaced shown.0 (log_text shown.1))
+shown_line shown = line (joined_by_space shown.0 (log_text shown.1))
 
 abbrev pub IsShown : ℕ → Shown → Type 0
 IsShown width shown = IsValue width shown.0 × IsLog shown.1

@@ -6,7 +6,7 @@ use Rattle.report_text.specs.ReportText.{column_lines, races_text}
 use Rattle.report_text.specs.WellFormed.{IsColumn, IsRaceBefore}
 use Rattle.report_text.specs.Inner.Columns.{Differ}
 use Rattle.report_text.specs.Inner.Ends.{Ended, ended_text, IsEnded, IsEndedBefore}
-use Rattle.report_text.specs.Inner.Headings.{Heading, IsHeading, heading_before, labelled}
+use Rattle.report_text.specs.Inner.Headings.{Heading, IsHeading, heading_before, label_line_before}
 use Rattle.report_text.specs.Inner.Lists.{Listed}
 use Rattle.report_text.specs.Inner.Places.{Place, Stands, Took}
 use Rattle.report_text.specs.Inner.Races.{IsCounted}
@@ -16,7 +16,7 @@ pub record IsHeadTaken (text : List ℕ) (h : Heading) (columns : List Column) (
   pub heading : IsHeading h
   pub listed : Listed IsColumn Differ columns
   pub few : length columns < 2 ^ 64
-  pub whole : text ≡ heading_before h (labelled (codes "vars ") (decimal (length columns)) (column_lines columns ++ rest))
+  pub whole : text ≡ heading_before h (label_line_before (codes "vars ") (decimal (length columns)) (column_lines columns ++ rest))
 
 -- the text is these ends with their dumps and these races, and then the rest
 pub record IsBodyTaken (columns : List Column) (text : List ℕ) (all : List Ended) (races : List Race) (rest : List ℕ) : Type 0 where
@@ -24,8 +24,8 @@ pub record IsBodyTaken (columns : List Column) (text : List ℕ) (all : List End
   pub few_ends : length all < 2 ^ 64
   pub listed : Listed (IsCounted columns) IsRaceBefore races
   pub few_races : length races < 2 ^ 64
-  pub whole : text ≡ labelled (codes "ends ") (decimal (length all))
-      (flat_map ended_text all ++ labelled (codes "races ") (decimal (length races)) (races_text columns races ++ rest))
+  pub whole : text ≡ label_line_before (codes "ends ") (decimal (length all))
+      (flat_map ended_text all ++ label_line_before (codes "races ") (decimal (length races)) (races_text columns races ++ rest))
 
 -- these ends with these dumps and these races stood there
 abbrev pub HasBody : List Column → Place → Place → List End → List (Bor (List ℕ)) → List Race → Type 0

@@ -8,8 +8,8 @@ abbrev pub codes_of : List Link → List ℕ
 codes_of links = map (λ (l : Link). l.code) links
 
 -- what is seen of an index: its members' codes; there is room for one more where both parts have it
-abbrev pub chained : {A H : Type 0} → Vec Link A → IndexMap ℕ ℕ H → Chained
-chained links last = record {
+abbrev pub chains_of : {A H : Type 0} → Vec Link A → IndexMap ℕ ℕ H → Chained
+chains_of links last = record {
   codes = codes_of links.items;
   room = nat_lt (vec_len links) (vec_capacity links) && nat_lt 0 (spare last);
 }

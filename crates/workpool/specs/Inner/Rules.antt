@@ -8,24 +8,24 @@ use Rattle.workpool.specs.Inner.Sums.{total}
 use Rattle.workpool.specs.declared.rule.Counted.{Counted}
 
 -- a seat at a tally, by what it has counted
-abbrev pub seated : TableId → Counted → Seated
-seated tally v = record { tally = tally; parts = v.parts; opens = v.opens; shuts = v.shuts; stopped = v.stopped }
+abbrev pub seat_of : TableId → Counted → Seated
+seat_of tally v = record { tally = tally; parts = v.parts; opens = v.opens; shuts = v.shuts; stopped = v.stopped }
 
 abbrev pub fresh : ℕ → Counted
 fresh parts = record { parts = parts; opens = 0; shuts = 0; stopped = false }
 
-abbrev pub opened : Counted → Counted
-opened v = record { parts = v.parts; opens = v.opens + 1; shuts = v.shuts; stopped = v.stopped }
+abbrev pub with_open : Counted → Counted
+with_open v = record { parts = v.parts; opens = v.opens + 1; shuts = v.shuts; stopped = v.stopped }
 
-abbrev pub shut : Counted → Counted
-shut v = record { parts = v.parts; opens = v.opens; shuts = v.shuts + 1; stopped = v.stopped }
+abbrev pub with_shut : Counted → Counted
+with_shut v = record { parts = v.parts; opens = v.opens; shuts = v.shuts + 1; stopped = v.stopped }
 
-abbrev pub stopping : Counted → Counted
-stopping v = record { parts = v.parts; opens = v.opens; shuts = v.shuts; stopped = true }
+abbrev pub with_stop : Counted → Counted
+with_stop v = record { parts = v.parts; opens = v.opens; shuts = v.shuts; stopped = true }
 
 -- the mark was found to be this
-abbrev pub heard : Counted → ℕ → Counted
-heard v found = record { parts = v.parts; opens = v.opens; shuts = v.shuts; stopped = nat_lt 0 found }
+abbrev pub with_mark : Counted → ℕ → Counted
+with_mark v found = record { parts = v.parts; opens = v.opens; shuts = v.shuts; stopped = nat_lt 0 found }
 
 -- who knows of the mark finds it
 abbrev pub StaysHeard : Counted → ℕ → Type 0
@@ -42,11 +42,11 @@ split_left v = record { parts = v.parts - 1; opens = v.opens; shuts = v.shuts; s
 abbrev pub split_right : Counted → Counted
 split_right v = record { parts = 1; opens = 0; shuts = 0; stopped = v.stopped }
 
-abbrev pub joined : Counted → Counted → Counted
-joined v w = record { parts = v.parts + w.parts; opens = v.opens + w.opens; shuts = v.shuts + w.shuts; stopped = v.stopped || w.stopped }
+abbrev pub join_of : Counted → Counted → Counted
+join_of v w = record { parts = v.parts + w.parts; opens = v.opens + w.opens; shuts = v.shuts + w.shuts; stopped = v.stopped || w.stopped }
 
-abbrev pub spent : Counted
-spent = fresh 0
+abbrev pub no_counts : Counted
+no_counts = fresh 0
 
 -- The words are the sums of what was counted, modulo 2^64, and the mark, which is set where a seat knows of it. All parts are
 -- 65, and who has none has counted nothing.

@@ -1,6 +1,6 @@
 use Rattle.std.proofs.Common.{◌≡◌, ◌+◌, ◌-◌, ◌≤◌, true, false, length}
 use Rattle.statebook.specs.Books.{IsFinished}
-use Rattle.explore.specs.Told.{IsBounded, SomeWayGoesPast}
+use Rattle.explore.specs.BookFindings.{IsBounded, SomeWayGoesPast}
 use Rattle.explore.specs.Inner.Exploring.{WasVisited, width_limit}
 use Rattle.explore.specs.Inner.Ways.{IsSearching}
 use Rattle.explore.proofs.ClassLemmas.{EachFrom}

@@ -6,7 +6,7 @@ pub loop-seen-init : goal.loop-seen-init
 loop-seen-init g c = nothing_listed (g.P.Space.rules c.args.space.now) c.args.limits.now g.P.State.PartialEq.eq c.args.all.now c.new-marks.result.entries c.new-marks.ensures.empty c.new-marks.ensures.unique
 
 pub list_entry-requires-clause-allowed : goal.list_entry-requires-clause-allowed
-list_entry-requires-clause-allowed g c = λ κs within. wanted g.Q.Quest.rules g.Q.Quest.depart g.Q.Quest.steps (g.P.Space.rules c.args.space.now) c.args.limits.now c.read.result.now c.requires c.read.ensures.wanted
+list_entry-requires-clause-allowed g c = λ κs within. wanted g.Q.SearchParameters.rules g.Q.SearchParameters.depart g.Q.SearchParameters.steps (g.P.Space.rules c.args.space.now) c.args.limits.now c.read.result.now c.requires c.read.ensures.wanted
 
 pub list_entry-requires-clause-found : goal.list_entry-requires-clause-found
 list_entry-requires-clause-found g c = λ κs within. c.loop-seen.invariant.found

@@ -12,7 +12,7 @@ use Rattle.explore.proofs.way.to_station.Goals.{Then-n-limits, In_ok-reached-2, 
 pub loop-reached-init : goal.loop-reached-init
 loop-reached-init g c = record {
   high = c.requires.within;
-  way = way_opens (g.P.Space.rules c.args.space.now) (g.met.P.Space.lawful c.args.space.now) c.args.state.now c.args.taken c.args.landmarks.now.items c.requires.none_yet;
+  way = way_opens (g.P.Space.rules c.args.space.now) (g.met.P.Space.lawful c.args.space.now) c.args.state.now c.args.taken c.args.checkpoints.now.items c.requires.none_yet;
 }
 
 pub walk-requires-clause-root : goal.walk-requires-clause-root
@@ -23,12 +23,12 @@ walk-requires-clause-within g c = λ κs h. omega (arith, c.loop-reached.invaria
 
 pub returns-in-Some-clause-there : goal.returns-in-Some-clause-there
 returns-in-Some-clause-there g c =
-    way_comes (g.P.Space.rules c.args.space.now) (g.met.P.Space.lawful c.args.space.now) c.args.state.now c.loop-reached.state c.walk.new.state c.args.taken c.loop-reached.n c.in-Some.reached c.loop-reached.landmarks.items
+    way_comes (g.P.Space.rules c.args.space.now) (g.met.P.Space.lawful c.args.space.now) c.args.state.now c.loop-reached.state c.walk.new.state c.args.taken c.loop-reached.n c.in-Some.reached c.loop-reached.checkpoints.items
     c.loop-reached.invariant.way (rw c.in-Some.is at c.in_ok-reached.ensures.there)
 
 pub returns-in-Some-clause-come : goal.returns-in-Some-clause-come
 returns-in-Some-clause-come g c =
-    marks_come (g.P.Space.rules c.args.space.now) (g.met.P.Space.lawful c.args.space.now) c.args.state.now c.loop-reached.state c.walk.new.state c.args.taken c.loop-reached.n c.in-Some.reached c.loop-reached.landmarks.items
+    marks_come (g.P.Space.rules c.args.space.now) (g.met.P.Space.lawful c.args.space.now) c.args.state.now c.loop-reached.state c.walk.new.state c.args.taken c.loop-reached.n c.in-Some.reached c.loop-reached.checkpoints.items
     c.loop-reached.invariant.way (rw c.in-Some.is at c.in_ok-reached.ensures.there)
 
 -- nothing up to the limit
@@ -39,12 +39,12 @@ none_left g c =
 
 pub returns-then-n-limits-clause-past : goal.returns-then-n-limits-clause-past
 returns-then-n-limits-clause-past g c =
-    way_past (g.P.Space.rules c.args.space.now) (g.met.P.Space.lawful c.args.space.now) c.args.state.now c.loop-reached.state c.args.taken c.loop-reached.n c.args.limits.now.steps c.loop-reached.landmarks.items
+    way_past (g.P.Space.rules c.args.space.now) (g.met.P.Space.lawful c.args.space.now) c.args.state.now c.loop-reached.state c.args.taken c.loop-reached.n c.args.limits.now.steps c.loop-reached.checkpoints.items
     c.loop-reached.invariant.way c.loop-reached.invariant.high (none_left g c)
 
 pub returns-then-n-limits-clause-go_past : goal.returns-then-n-limits-clause-go_past
 returns-then-n-limits-clause-go_past g c =
-    marks_past (g.P.Space.rules c.args.space.now) (g.met.P.Space.lawful c.args.space.now) c.args.state.now c.loop-reached.state c.args.taken c.loop-reached.n c.args.limits.now c.loop-reached.landmarks.items
+    marks_past (g.P.Space.rules c.args.space.now) (g.met.P.Space.lawful c.args.space.now) c.args.state.now c.loop-reached.state c.args.taken c.loop-reached.n c.args.limits.now c.loop-reached.checkpoints.items
     c.loop-reached.invariant.way c.loop-reached.invariant.high (none_left g c)
 
 open_way : (g : Over) (c : In_ok-reached-2 g) → Passes (g.P.Space.rules c.args.space.now) c.loop-reached.state c.walk.new.state (c.min-until.result - c.loop-reached.n)
@@ -52,10 +52,10 @@ open_way g c =
     let past : GoesPast (g.P.Space.rules c.args.space.now) c.loop-reached.state c.loop-reached.n c.min-until.result = rw c.in_default.is at c.in_ok-reached.ensures.past in
     record { same = rw c.in_default.is at c.in_ok-reached.ensures.on; passes = λ j lt. past j (omega (arith, lt)) }
 
--- the way goes on to the next landmark
-walked : (g : Over) (c : In_ok-reached-2 g) → OnWay (g.P.Space.rules c.args.space.now) c.args.state.now c.walk.new.state c.args.taken c.min-until.result c.loop-reached.landmarks.items
+-- the way goes on to the next checkpoint
+walked : (g : Over) (c : In_ok-reached-2 g) → OnWay (g.P.Space.rules c.args.space.now) c.args.state.now c.walk.new.state c.args.taken c.min-until.result c.loop-reached.checkpoints.items
 walked g c =
-    way_goes_on (g.P.Space.rules c.args.space.now) (g.met.P.Space.lawful c.args.space.now) c.args.state.now c.loop-reached.state c.walk.new.state c.args.taken c.loop-reached.n (c.min-until.result - c.loop-reached.n) c.min-until.result c.loop-reached.landmarks.items
+    way_goes_on (g.P.Space.rules c.args.space.now) (g.met.P.Space.lawful c.args.space.now) c.args.state.now c.loop-reached.state c.walk.new.state c.args.taken c.loop-reached.n (c.min-until.result - c.loop-reached.n) c.min-until.result c.loop-reached.checkpoints.items
     c.loop-reached.invariant.way (open_way g c) (omega (arith, c.loop-reached.invariant.high, c.min-until.ensures))
 
 within : (g : Over) (c : In_ok-reached-2 g) → c.min-until.result ≤ c.args.limits.now.steps
@@ -71,22 +71,22 @@ ahead_past g c = rw c.in-Past.is at c.in_ok-reached-2.ensures.ahead
 
 pub returns-in-Station-clause-there : goal.returns-in-Station-clause-there
 returns-in-Station-clause-there g c =
-    way_comes (g.P.Space.rules c.args.space.now) (g.met.P.Space.lawful c.args.space.now) c.args.state.now c.walk.new.state c.look_ahead.new.state c.args.taken c.min-until.result c.in-Station.reached c.loop-reached.landmarks.items
+    way_comes (g.P.Space.rules c.args.space.now) (g.met.P.Space.lawful c.args.space.now) c.args.state.now c.walk.new.state c.look_ahead.new.state c.args.taken c.min-until.result c.in-Station.reached c.loop-reached.checkpoints.items
     (walked g (goal.at.returns-in-Station-clause-there g c).In_ok-reached-2) (ahead_comes g c)
 
 pub returns-in-Station-clause-come : goal.returns-in-Station-clause-come
 returns-in-Station-clause-come g c =
-    marks_come (g.P.Space.rules c.args.space.now) (g.met.P.Space.lawful c.args.space.now) c.args.state.now c.walk.new.state c.look_ahead.new.state c.args.taken c.min-until.result c.in-Station.reached c.loop-reached.landmarks.items
+    marks_come (g.P.Space.rules c.args.space.now) (g.met.P.Space.lawful c.args.space.now) c.args.state.now c.walk.new.state c.look_ahead.new.state c.args.taken c.min-until.result c.in-Station.reached c.loop-reached.checkpoints.items
     (walked g (goal.at.returns-in-Station-clause-come g c).In_ok-reached-2) (ahead_comes g c)
 
 pub returns-in-Past-clause-past : goal.returns-in-Past-clause-past
 returns-in-Past-clause-past g c =
-    way_past (g.P.Space.rules c.args.space.now) (g.met.P.Space.lawful c.args.space.now) c.args.state.now c.walk.new.state c.args.taken c.min-until.result c.args.limits.now.steps c.loop-reached.landmarks.items
+    way_past (g.P.Space.rules c.args.space.now) (g.met.P.Space.lawful c.args.space.now) c.args.state.now c.walk.new.state c.args.taken c.min-until.result c.args.limits.now.steps c.loop-reached.checkpoints.items
     (walked g (goal.at.returns-in-Past-clause-past g c).In_ok-reached-2) (within g (goal.at.returns-in-Past-clause-past g c).In_ok-reached-2) (ahead_past g c)
 
 pub returns-in-Past-clause-go_past : goal.returns-in-Past-clause-go_past
 returns-in-Past-clause-go_past g c =
-    marks_past (g.P.Space.rules c.args.space.now) (g.met.P.Space.lawful c.args.space.now) c.args.state.now c.walk.new.state c.args.taken c.min-until.result c.args.limits.now c.loop-reached.landmarks.items
+    marks_past (g.P.Space.rules c.args.space.now) (g.met.P.Space.lawful c.args.space.now) c.args.state.now c.walk.new.state c.args.taken c.min-until.result c.args.limits.now c.loop-reached.checkpoints.items
     (walked g (goal.at.returns-in-Past-clause-go_past g c).In_ok-reached-2) (within g (goal.at.returns-in-Past-clause-go_past g c).In_ok-reached-2) (ahead_past g c)
 
 pub loop-reached-preserved : goal.loop-reached-preserved
@@ -94,9 +94,9 @@ loop-reached-preserved g c =
     let r = g.P.Space.rules c.args.space.now in
     let back = goal.at.loop-reached-preserved g c in
     let stays : c.look_ahead.new.state ≡ c.walk.new.state = rw c.in-Unknown.is at c.in_ok-reached-2.ensures.ahead in
-    let P : g.row.P-State.Denot → Type 0 = λ s. OnWay r c.args.state.now s c.args.taken c.min-until.result c.loop-reached.landmarks.items in
+    let P : g.row.P-State.Denot → Type 0 = λ s. OnWay r c.args.state.now s c.args.taken c.min-until.result c.loop-reached.checkpoints.items in
     record {
       high = within g back.In_ok-reached-2;
-      way = way_marked r (g.met.P.Space.lawful c.args.space.now) c.args.state.now c.look_ahead.new.state c.in_ok-copy-in-Unknown.field-0 c.args.taken c.min-until.result c.loop-reached.landmarks.items c.push.new.self.items
+      way = way_marked r (g.met.P.Space.lawful c.args.space.now) c.args.state.now c.look_ahead.new.state c.in_ok-copy-in-Unknown.field-0 c.args.taken c.min-until.result c.loop-reached.checkpoints.items c.push.new.self.items
           (subst P (sym stays) (walked g back.In_ok-reached-2)) c.in_ok-copy-in-Unknown.ensures c.in_ok-push-in-Unknown.ensures.items;
     }

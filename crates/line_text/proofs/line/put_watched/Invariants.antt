@@ -4,4 +4,4 @@ use Rattle.line_text.proofs.line.put_watched.Given as goal
 
 abbrev pub invariant-loop-piece : goal.invariant-loop-piece
 invariant-loop-piece l =
-    l.values.items ++ watched l.moment (drop l.piece-index l.pieces) ≡ l.initial.values.items ++ watched l.moment l.pieces
+    l.values.items ++ watched l.environment (drop l.piece-index l.pieces) ≡ l.initial.values.items ++ watched l.environment l.pieces

@@ -1,16 +1,16 @@
 use Rattle.std.proofs.Common.{◌≡◌, slice_get, get_or, Some, arith}
 use Rattle.std.proofs.lemmas.Option.{slice_get-get_or}
-use Rattle.racebook.specs.declared.glimpse.Glimpse.{Glimpse}
+use Rattle.racebook.specs.declared.slot_state.SlotState.{SlotState}
 use Rattle.racebook.proofs.SlotLemmas.{slot_of, gap_on, up_on, at_end}
 use Rattle.racebook.proofs.book.races_among.Goals as goal
 
 pub slots-preserved : goal.slots-preserved
 slots-preserved c =
-    let gs = c.args.glimpses.now in
+    let gs = c.args.slot_states.now in
     let start = c.slots.start in
     let end = c.slot_end-end.result in
-    let first : Glimpse = get_or gs start c.index-glimpses-start.result in
-    let at : slice_get gs start ≡ Some first = slice_get-get_or gs start c.index-glimpses-start.result c.slots-test.true in
+    let first : SlotState = get_or gs start c.index-slot_states-start.result in
+    let at : slice_get gs start ≡ Some first = slice_get-get_or gs start c.index-slot_states-start.result c.slots-test.true in
     let is = c.slot_end-end.ensures in
     let gap = c.slots.invariant.gap in
     let order = c.requires.order in
@@ -24,4 +24,4 @@ slots-preserved c =
     }
 
 pub returns : goal.returns
-returns c = at_end c.args.glimpses.now c.slots.start c.slots.races.items (omega (arith, c.slots-test.false)) c.slots.invariant.up_to
+returns c = at_end c.args.slot_states.now c.slots.start c.slots.races.items (omega (arith, c.slots-test.false)) c.slots.invariant.up_to

@@ -5,10 +5,10 @@ use Rattle.racebook.proofs.book.races_among.Given as goal
 
 abbrev pub invariant-slots : goal.invariant-slots
 invariant-slots l = record {
-  within : l.start ≤ length l.glimpses;
-  up_to : (time : ℕ) → ComeBefore l.glimpses l.start time → ComeFrom l.glimpses l.start time → AreUpTo l.glimpses l.races.items time 0;
-  gap : HasGap l.glimpses l.start;
+  within : l.start ≤ length l.slot_states;
+  up_to : (time : ℕ) → ComeBefore l.slot_states l.start time → ComeFrom l.slot_states l.start time → AreUpTo l.slot_states l.races.items time 0;
+  gap : HasGap l.slot_states l.start;
 }
 
 abbrev pub decreases-slots : goal.decreases-slots
-decreases-slots l = length l.glimpses - l.start
+decreases-slots l = length l.slot_states - l.start

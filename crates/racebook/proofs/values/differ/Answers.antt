@@ -20,27 +20,27 @@ together v w e = (vectors_tell v w).0 (not_not (vector_same v w) e)
 pub returns-then-ne : goal.returns-then-ne
 returns-then-ne c =
     let slot = c.args.slot.now in
-    let i = c.loop-glimpse.glimpse-index in
-    let lt = c.loop-glimpse-test.true in
-    let at : slice_get slot i ≡ Some c.glimpse-item.result = slice_get_read slot (length slot) i c.glimpse-item.result refl (omega arith) c.glimpse-item.is in
+    let i = c.loop-slot_state.slot_state-index in
+    let lt = c.loop-slot_state-test.true in
+    let at : slice_get slot i ≡ Some c.slot_state-item.result = slice_get_read slot (length slot) i c.slot_state-item.result refl (omega arith) c.slot_state-item.is in
     let first : slice_get slot 0 ≡ Some c.index-slot-0.result = slice_get_read slot (length slot) 0 c.index-slot-0.result refl (omega arith) c.index-slot-0.is in
     let differ = apart c.value_at.result c.value_at-first.result (sym c.if-ne.true ∙ c.ne.ensures) in
-    two_differ c.args.variable slot i 0 c.glimpse-item.result c.index-slot-0.result at first
+    two_differ c.args.variable slot i 0 c.slot_state-item.result c.index-slot-0.result at first
     (λ same. differ (c.value_at.ensures ∙ same ∙ sym c.value_at-first.ensures))
 
-pub loop-glimpse-preserved : goal.loop-glimpse-preserved
-loop-glimpse-preserved c = λ k g lt there. elim (cases_lt k c.loop-glimpse.glimpse-index) [
-  | inl before ↦ c.loop-glimpse.invariant k g before there
+pub loop-slot_state-preserved : goal.loop-slot_state-preserved
+loop-slot_state-preserved c = λ k g lt there. elim (cases_lt k c.loop-slot_state.slot_state-index) [
+  | inl before ↦ c.loop-slot_state.invariant k g before there
   | inr from ↦
       let slot = c.args.slot.now in
-      let i = c.loop-glimpse.glimpse-index in
-      let in_slot = c.loop-glimpse-test.true in
-      let at : slice_get slot i ≡ Some c.glimpse-item.result = slice_get_read slot (length slot) i c.glimpse-item.result refl (omega arith) c.glimpse-item.is in
+      let i = c.loop-slot_state.slot_state-index in
+      let in_slot = c.loop-slot_state-test.true in
+      let at : slice_get slot i ≡ Some c.slot_state-item.result = slice_get_read slot (length slot) i c.slot_state-item.result refl (omega arith) c.slot_state-item.is in
       let here : k ≡ i = omega arith in
-      let is : g ≡ c.glimpse-item.result = same_Some g c.glimpse-item.result (sym there ∙ ap (slice_get slot) here ∙ at) in
+      let is : g ≡ c.slot_state-item.result = same_Some g c.slot_state-item.result (sym there ∙ ap (slice_get slot) here ∙ at) in
       ap (value_in c.args.variable) is ∙ sym c.value_at.ensures ∙ together c.value_at.result c.value_at-first.result (sym c.if-ne.false ∙ c.ne.ensures)
 ]
 
 pub returns : goal.returns
 returns c = all_same c.args.variable c.args.slot.now c.value_at-first.result (λ k g at.
-    c.loop-glimpse.invariant k g (let lt = slice_get_within c.args.slot.now k g at in omega (arith, c.loop-glimpse-test.false)) at)
+    c.loop-slot_state.invariant k g (let lt = slice_get_within c.args.slot.now k g at in omega (arith, c.loop-slot_state-test.false)) at)

@@ -1,7 +1,7 @@
 use Rattle.std.proofs.Common.{◌≡◌, ℕ, ◌<◌, slice_get, Some}
-use Rattle.racebook.specs.declared.glimpse.Glimpse.{Glimpse}
+use Rattle.racebook.specs.declared.slot_state.SlotState.{SlotState}
 use Rattle.racebook.specs.Inner.{value_in}
 use Rattle.racebook.proofs.values.differ.Given as goal
 
-abbrev pub invariant-loop-glimpse : goal.invariant-loop-glimpse
-invariant-loop-glimpse l = (k : ℕ) (g : Glimpse) → k < l.glimpse-index → slice_get l.slot k ≡ Some g → value_in l.variable g ≡ l.first
+abbrev pub invariant-loop-slot_state : goal.invariant-loop-slot_state
+invariant-loop-slot_state l = (k : ℕ) (g : SlotState) → k < l.slot_state-index → slice_get l.slot k ≡ Some g → value_in l.variable g ≡ l.first

@@ -8,8 +8,8 @@ use Rattle.racebook.proofs.BestLemmas.{best_kept, best_put, noted_within}
 use Rattle.racebook.proofs.values.note.Goals as goal
 use Rattle.racebook.proofs.values.note.Goals.{in-Some+else-departures, in_default}
 
-pub glimpse_at-other-requires : goal.glimpse_at-other-requires
-glimpse_at-other-requires c =
+pub slot_state_at-other-requires : goal.slot_state_at-other-requires
+slot_state_at-other-requires c =
     let noted : get key_cmp c.args.best.now c.key-key.result ≡ Some c.in-Some.noted = sym c.get.ensures.value ∙ sym c.copied.ensures ∙ c.in-Some.is in
     let lt = noted_within (rows_of c.args.variable c.args.slot.now) c.args.place (get key_cmp c.args.best.now) c.key-key.result c.in-Some.noted c.requires.best noted in
     let e = length_rows c.args.variable c.args.slot.now in
@@ -19,32 +19,32 @@ pub returns-then-departures : goal.returns-then-departures
 returns-then-departures c =
     let slot = c.args.slot.now in
     let variable = c.args.variable in
-    let glimpse = c.glimpse_at-glimpse.result.now in
-    let other = c.glimpse_at-other.result.now in
-    let key : c.key-key.result ≡ key_of (value_in variable glimpse) = c.key-key.ensures ∙ ap key_of c.value_at.ensures in
+    let slot_state = c.slot_state_at-slot_state.result.now in
+    let other = c.slot_state_at-other.result.now in
+    let key : c.key-key.result ≡ key_of (value_in variable slot_state) = c.key-key.ensures ∙ ap key_of c.value_at.ensures in
     let noted : get key_cmp c.args.best.now c.key-key.result ≡ Some c.in-Some.noted = sym c.get.ensures.value ∙ sym c.copied.ensures ∙ c.in-Some.is in
-    best_kept (rows_of variable slot) c.args.place (row_of variable glimpse) (row_of variable other) (get key_cmp c.args.best.now) c.in-Some.noted
-    (row_at variable slot c.args.place glimpse c.glimpse_at-glimpse.ensures) c.requires.best (ap (get key_cmp c.args.best.now) (sym key) ∙ noted)
-    (row_at variable slot c.in-Some.noted other c.glimpse_at-other.ensures) (omega (arith, c.departures.ensures, c.departures-in-Some.ensures, c.if-departures.true))
+    best_kept (rows_of variable slot) c.args.place (row_of variable slot_state) (row_of variable other) (get key_cmp c.args.best.now) c.in-Some.noted
+    (row_at variable slot c.args.place slot_state c.slot_state_at-slot_state.ensures) c.requires.best (ap (get key_cmp c.args.best.now) (sym key) ∙ noted)
+    (row_at variable slot c.in-Some.noted other c.slot_state_at-other.ensures) (omega (arith, c.departures.ensures, c.departures-in-Some.ensures, c.if-departures.true))
 
 pub returns : goal.returns
 returns c =
     let slot = c.args.slot.now in
     let variable = c.args.variable in
     let rows = rows_of variable slot in
-    let glimpse = c.glimpse_at-glimpse.result.now in
-    let row = row_of variable glimpse in
+    let slot_state = c.slot_state_at-slot_state.result.now in
+    let row = row_of variable slot_state in
     let key : c.key-key.result ≡ key_of row.0 = c.key-key.ensures ∙ ap key_of c.value_at.ensures in
     let found : get key_cmp c.args.best.now (key_of row.0) ≡ c.copied.result = ap (get key_cmp c.args.best.now) (sym key) ∙ sym c.get.ensures.value ∙ sym c.copied.ensures in
     let fewer : (p : ℕ) (h : Vector × List (ℕ × ℕ)) → get key_cmp c.args.best.now (key_of row.0) ≡ Some p → slice_get rows p ≡ Some h → length row.1 ≤ length h.1 =
     elim c.match-copied.branch [
       | in-Some+else-departures w ↦ λ p h noted there.
-          (let other = w.glimpse_at-other.result.now in
+          (let other = w.slot_state_at-other.result.now in
           let n : p ≡ w.in-Some.noted = same_Some p w.in-Some.noted (sym noted ∙ found ∙ w.in-Some.is) in
-          let is : row_of variable other ≡ h = same_Some (row_of variable other) h (sym (row_at variable slot w.in-Some.noted other w.glimpse_at-other.ensures) ∙ sym (ap (slice_get rows) n) ∙ there) in
+          let is : row_of variable other ≡ h = same_Some (row_of variable other) h (sym (row_at variable slot w.in-Some.noted other w.slot_state_at-other.ensures) ∙ sym (ap (slice_get rows) n) ∙ there) in
           let le : length row.1 ≤ length (row_of variable other).1 = omega (arith, w.departures.ensures, w.departures-in-Some.ensures, w.if-departures.false) in
           subst (λ (x : Vector × List (ℕ × ℕ)). length row.1 ≤ length x.1) is le)
       | in_default w ↦ λ p h noted there. absurd (w.in_default.not-Some p (sym found ∙ noted))
     ] in
-    best_put rows c.args.place row (get key_cmp c.args.best.now) (get key_cmp c.insert.new.self) (row_at variable slot c.args.place glimpse c.glimpse_at-glimpse.ensures) c.requires.best fewer
+    best_put rows c.args.place row (get key_cmp c.args.best.now) (get key_cmp c.insert.new.self) (row_at variable slot c.args.place slot_state c.slot_state_at-slot_state.ensures) c.requires.best fewer
     (λ q. c.in_ok-insert.ensures.updates.0 q ∙ ap (λ (k : ℕ × ℕ). cond (is_eq (key_cmp k q)) (Some c.args.place) (get key_cmp c.args.best.now q)) key)

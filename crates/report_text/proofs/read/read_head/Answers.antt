@@ -2,7 +2,7 @@ use Rattle.std.proofs.Common.{◌<◌, ◌^◌, ◌++◌, ◌∙◌, ap, sym, su
 use Rattle.std.specs.Prelude.{codes}
 use Rattle.std.specs.Fmt.{decimal}
 use Rattle.report_text.specs.ReportText.{column_lines}
-use Rattle.report_text.specs.Inner.Headings.{heading_before, labelled}
+use Rattle.report_text.specs.Inner.Headings.{heading_before, label_line_before}
 use Rattle.report_text.proofs.read.read_head.Goals as goal
 
 pub returns-clause-read : goal.returns-clause-read
@@ -16,7 +16,7 @@ returns-clause-read c = λ ok.
           heading = h.1.0;
           listed = k.1.0;
           few = subst (λ x. x < 2 ^ 64) (sym k.1.1) n.1.small;
-          whole = h.1.1 ∙ ap (heading_before c.read_heading-heading.result) (n.1.whole ∙ (λ i. labelled (codes "vars ") (decimal (sym k.1.1 i)) (k.1.3 i)));
+          whole = h.1.1 ∙ ap (heading_before c.read_heading-heading.result) (n.1.whole ∙ (λ i. label_line_before (codes "vars ") (decimal (sym k.1.1 i)) (k.1.3 i)));
         },
         k.1.2,
       ),

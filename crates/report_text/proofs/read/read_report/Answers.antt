@@ -1,7 +1,7 @@
 use Rattle.std.proofs.Common.{◌≡◌, ◌∙◌, ◌==◌, ◌&&◌, true, false, List, [], ℕ, ap, sym, subst, map, length}
 use Rattle.basis.proofs.Lists.{empty_from_test}
 use Rattle.report_text.specs.Report.{Report}
-use Rattle.report_text.specs.WellFormed.{IsColumn, IsNoReportText, IsTold}
+use Rattle.report_text.specs.WellFormed.{IsColumn, IsNoReportText, IsReportText}
 use Rattle.report_text.specs.Inner.Columns.{Differ}
 use Rattle.report_text.specs.Inner.Lists.{Listed}
 use Rattle.report_text.specs.Inner.Wholes.{IsHeadTaken, IsBodyTaken}
@@ -55,7 +55,7 @@ returns-clause-read c =
     let body = subst (λ t. IsBodyTaken c.in_ok-heading.variables.items c.read_head.new.reader.rest b.1.0 c.in_ok-ends.races.items t) done
     (subst (λ cs. IsBodyTaken cs c.read_head.new.reader.rest b.1.0 c.in_ok-ends.races.items c.read_body.new.reader.rest) c.deref.ensures.value b.1.1) in
     let told = is_report c.in_ok-heading.heading c.in_ok-heading.variables.items b.1.0 c.in_ok-ends.races.items c.args.text.now c.read_head.new.reader.rest head body in
-    subst (λ (k : Report × List (List ℕ)). IsTold c.args.text.now k)
+    subst (λ (k : Report × List (List ℕ)). IsReportText c.args.text.now k)
     (λ i. (
       record {
         version = (sym c.heading.view_is i).version;

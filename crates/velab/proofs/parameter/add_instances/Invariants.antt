@@ -1,14 +1,14 @@
 use Rattle.std.proofs.Common.{◌≡◌, drop}
 use Rattle.vexpr_parse.specs.Texts.{words_of}
 use Rattle.velab.specs.Elaborate.{with_all, broken_all}
-use Rattle.velab.specs.Inner.{outside_tree, instances_given}
+use Rattle.velab.specs.Inner.{overrides_tree, instance_symbols}
 use Rattle.velab.proofs.parameter.add_instances.Given as goal
 
 abbrev pub invariant-loop-one : goal.invariant-loop-one
 invariant-loop-one l = record {
-  ok : with_all (outside_tree (words_of l.tokens) l.outside) l.into (instances_given (words_of l.tokens) (drop l.one-index l.list))
-      ≡ with_all (outside_tree (words_of l.tokens) l.outside) l.initial.into (instances_given (words_of l.tokens) l.list);
-  right : broken_all (outside_tree (words_of l.tokens) l.outside) l.into (instances_given (words_of l.tokens) (drop l.one-index l.list))
-      ≡ broken_all (outside_tree (words_of l.tokens) l.outside) l.initial.into (instances_given (words_of l.tokens) l.list);
+  ok : with_all (overrides_tree (words_of l.tokens) l.overrides) l.into (instance_symbols (words_of l.tokens) (drop l.one-index l.list))
+      ≡ with_all (overrides_tree (words_of l.tokens) l.overrides) l.initial.into (instance_symbols (words_of l.tokens) l.list);
+  right : broken_all (overrides_tree (words_of l.tokens) l.overrides) l.into (instance_symbols (words_of l.tokens) (drop l.one-index l.list))
+      ≡ broken_all (overrides_tree (words_of l.tokens) l.overrides) l.initial.into (instance_symbols (words_of l.tokens) l.list);
   variables : l.into.variables ≡ l.initial.into.variables;
 }

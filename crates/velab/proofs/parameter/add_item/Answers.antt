@@ -4,15 +4,15 @@ use Rattle.vast.specs.NumberedTrees.{item_tree}
 use Rattle.vast.specs.declared.module.ModuleItem.{ModuleItem}
 use Rattle.vast.specs.declared.module.Setting.{Setting}
 use Rattle.vexpr_parse.specs.Texts.{words_of}
-use Rattle.velab.specs.Elaborate.{Given, given_by, broken_all}
-use Rattle.velab.specs.Inner.{given_all, outside_tree}
+use Rattle.velab.specs.Elaborate.{Symbol, symbols_by, broken_all}
+use Rattle.velab.specs.Inner.{symbols_of, overrides_tree}
 use Rattle.velab.specs.Rules.{IsBroken}
 use Rattle.velab.proofs.parameter.add_item.Goals as goal
 
 pub returns-in-Parameters-clause-err : goal.returns-in-Parameters-clause-err
 returns-in-Parameters-clause-err c =
     let words = words_of c.args.tokens.now in
-    subst (λ (list : List Given). IfFault c.add_all.result (IsBroken (broken_all (outside_tree words c.args.outside.now) c.args.into.now list)))
-    (ap (λ (list : List Setting). given_all words c.in-Parameters.kind list) c.deref.ensures.value
-    ∙ sym (ap (λ (item : ModuleItem). given_by (item_tree words item)) c.in-Parameters.is))
+    subst (λ (list : List Symbol). IfFault c.add_all.result (IsBroken (broken_all (overrides_tree words c.args.overrides.now) c.args.into.now list)))
+    (ap (λ (list : List Setting). symbols_of words c.in-Parameters.kind list) c.deref.ensures.value
+    ∙ sym (ap (λ (item : ModuleItem). symbols_by (item_tree words item)) c.in-Parameters.is))
     c.add_all.ensures.err

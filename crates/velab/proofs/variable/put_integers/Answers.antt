@@ -7,4 +7,4 @@ use Rattle.velab.proofs.variable.put_integers.Goals as goal
 pub returns : goal.returns
 returns c = λ scope.
     subst (λ l. OnOk c.put_all.result (c.put_all.new.into.items ≡ c.args.into.now.items ++ l))
-    (item_variables Integer true None (words_of c.args.tokens.now) c.args.list.now c.args.home.now scope None refl) c.put_all.ensures
+    (item_variables Integer true None (words_of c.args.tokens.now) c.args.list.now c.args.drivers.now scope None refl) c.put_all.ensures

@@ -9,4 +9,4 @@ pub returns-in_ok-put_integers-in-Integers-clause-ok : goal.returns-in_ok-put_in
 returns-in_ok-put_integers-in-Integers-clause-ok c =
     c.in_ok-put_integers-in-Integers.ensures c.args.scope.now
     ∙ sym (ap (λ (k : DeclarationWords). c.args.into.now.items
-    ++ map (variable_of c.args.home.now c.args.scope.now) (declarations_of (kind_item (words_of c.args.tokens.now) k c.args.list.now))) c.in-Integers.is)
+    ++ map (variable_of c.args.drivers.now c.args.scope.now) (declarations_of (kind_item (words_of c.args.tokens.now) k c.args.list.now))) c.in-Integers.is)

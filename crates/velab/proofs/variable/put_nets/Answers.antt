@@ -13,7 +13,7 @@ returns-clause-ok c =
     let words = words_of c.args.tokens.now in
     c.in_ok-put_all.ensures ∙ ap (λ l. c.args.into.now.items ++ l)
     (
-    ap (λ (k : Kind). map (λ (t : Word). variable_by c.args.home.now k c.args.kind.now.signed c.in_ok-bounds.bounds t.letters) (texts_of words c.args.list.now)) c.kind_of.ensures
-    ∙ item_variables (kind_of c.args.net) c.args.kind.now.signed (option_map (range_tree words) c.args.kind.now.range) words c.args.list.now c.args.home.now c.args.scope.now
+    ap (λ (k : Kind). map (λ (t : Word). variable_by c.args.drivers.now k c.args.kind.now.signed c.in_ok-bounds.bounds t.letters) (texts_of words c.args.list.now)) c.kind_of.ensures
+    ∙ item_variables (kind_of c.args.net) c.args.kind.now.signed (option_map (range_tree words) c.args.kind.now.range) words c.args.list.now c.args.drivers.now c.args.scope.now
     c.in_ok-bounds.bounds c.in_ok-bounds.ensures.ok
     )

@@ -7,8 +7,8 @@ use Rattle.velab.proofs.variable.put_ports.Given as goal
 
 abbrev pub invariant-loop-port : goal.invariant-loop-port
 invariant-loop-port l = record {
-  ok : l.into.items ++ port_variables (words_of l.tokens) l.home l.scope (drop l.port-index l.ports)
-      ≡ l.initial.into.items ++ port_variables (words_of l.tokens) l.home l.scope l.ports;
+  ok : l.into.items ++ port_variables (words_of l.tokens) l.drivers l.scope (drop l.port-index l.ports)
+      ≡ l.initial.into.items ++ port_variables (words_of l.tokens) l.drivers l.scope l.ports;
   right : broken_ports l.scope (map (port_form (words_of l.tokens)) (drop l.port-index l.ports))
       ≡ broken_ports l.scope (map (port_form (words_of l.tokens)) l.ports);
 }

@@ -3,14 +3,14 @@ use Rattle.std.specs.List.{flat_map}
 use Rattle.vast.specs.NumberedTrees.{item_tree}
 use Rattle.vexpr_parse.specs.Texts.{words_of}
 use Rattle.velab.specs.Scopes.{at}
-use Rattle.velab.specs.Elaborate.{variables_from, broken_from, given_by}
+use Rattle.velab.specs.Elaborate.{variables_from, broken_from, symbols_by}
 use Rattle.velab.proofs.variable.put_variables.Given as goal
 
 abbrev pub invariant-loop-item : goal.invariant-loop-item
 invariant-loop-item l = record {
-  ok : l.into.items ++ variables_from l.home (at l.scope l.known) (map (item_tree (words_of l.tokens)) (drop l.item-index l.items))
-      ≡ l.initial.into.items ++ variables_from l.home l.scope (map (item_tree (words_of l.tokens)) l.items);
+  ok : l.into.items ++ variables_from l.drivers (at l.scope l.known) (map (item_tree (words_of l.tokens)) (drop l.item-index l.items))
+      ≡ l.initial.into.items ++ variables_from l.drivers l.scope (map (item_tree (words_of l.tokens)) l.items);
   right : broken_from (at l.scope l.known) (map (item_tree (words_of l.tokens)) (drop l.item-index l.items))
       ≡ broken_from l.scope (map (item_tree (words_of l.tokens)) l.items);
-  small : l.known + length (flat_map given_by (map (item_tree (words_of l.tokens)) (drop l.item-index l.items))) < 2 ^ 64;
+  small : l.known + length (flat_map symbols_by (map (item_tree (words_of l.tokens)) (drop l.item-index l.items))) < 2 ^ 64;
 }

@@ -8,10 +8,10 @@ use Rattle.velab.proofs.width.first_flawed.Goals as goal
 pub returns-in-Some : goal.returns-in-Some
 returns-in-Some c =
     (λ i. Some (record { rule = c.rule_of.ensures i; at = c.word_at.ensures i }))
-    ∙ sym (breaks_at (flaw_rule c.args.moment.now) c.args.actions.now c.args.words.now c.loop-place.place c.index-actions-place.result (omega (arith, c.loop-place-test.true)) c.index-actions-place.is
+    ∙ sym (breaks_at (flaw_rule c.args.environment.now) c.args.actions.now c.args.words.now c.loop-place.place c.index-actions-place.result (omega (arith, c.loop-place-test.true)) c.index-actions-place.is
     (rule_of c.in-Some.flaw) _ (ap (option_map rule_of) (sym c.action_flaw.ensures ∙ c.in-Some.is)) c.loop-place.invariant)
 
 pub loop-place-preserved : goal.loop-place-preserved
 loop-place-preserved c =
-    breaks_later (flaw_rule c.args.moment.now) c.args.actions.now c.args.words.now c.loop-place.place c.index-actions-place.result (omega (arith, c.loop-place-test.true)) c.index-actions-place.is
+    breaks_later (flaw_rule c.args.environment.now) c.args.actions.now c.args.words.now c.loop-place.place c.index-actions-place.result (omega (arith, c.loop-place-test.true)) c.index-actions-place.is
     _ (ap (option_map rule_of) (sym c.action_flaw.ensures ∙ c.in_default.is)) c.loop-place.invariant

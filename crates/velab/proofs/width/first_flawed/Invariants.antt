@@ -4,4 +4,4 @@ use Rattle.velab.specs.ActionFlaws.{table_fault}
 use Rattle.velab.proofs.width.first_flawed.Given as goal
 
 abbrev pub invariant-loop-place : goal.invariant-loop-place
-invariant-loop-place l = table_fault (flaw_rule l.moment) (drop l.place l.actions) (drop l.place l.words) ≡ table_fault (flaw_rule l.moment) l.actions l.words
+invariant-loop-place l = table_fault (flaw_rule l.environment) (drop l.place l.actions) (drop l.place l.words) ≡ table_fault (flaw_rule l.environment) l.actions l.words

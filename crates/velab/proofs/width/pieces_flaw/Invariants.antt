@@ -3,4 +3,4 @@ use Rattle.velab.specs.ActionFlaws.{first_flaw, piece_flaw}
 use Rattle.velab.proofs.width.pieces_flaw.Given as goal
 
 abbrev pub invariant-loop-piece : goal.invariant-loop-piece
-invariant-loop-piece l = first_flaw (piece_flaw l.moment) l.pieces ≡ first_flaw (piece_flaw l.moment) (drop l.piece-index l.pieces)
+invariant-loop-piece l = first_flaw (piece_flaw l.environment) l.pieces ≡ first_flaw (piece_flaw l.environment) (drop l.piece-index l.pieces)

@@ -20,24 +20,24 @@ returns-in_err-part-clause-err c top =
 
 pub returns-clause-ok : goal.returns-clause-ok
 returns-clause-ok c =
-    on_ok_value c.checked.result
+    on_ok_value c.checked_design.result
     (λ design is. is ∙ (λ i. design_by c.args.scale (module_tree (c.tokens.ensures i) c.args.unit.now) (c.in_ok-part.ensures.ok i)))
-    c.checked.ensures.ok
+    c.checked_design.ensures.ok
 
 pub returns-clause-right : goal.returns-clause-right
 returns-clause-right c top =
     let words : List Text = c.args.modules.now.words in
     let modules : SourceTree = units_tree c.args.modules.now in
     let m : ModuleTree = module_tree words c.args.unit.now in
-    on_ok c.checked.result
+    on_ok c.checked_design.result
     (λ right. both_right (broken_whole modules m) (broken_design m.name (whole_of modules m)) c.in_ok-part.ensures.right ((λ i. broken_design (numbered ((sym c.tokens.ensures) i) c.args.unit.now.name) ((sym c.in_ok-part.ensures.ok) i)) ∙ right))
-    c.checked.ensures.right
+    c.checked_design.ensures.right
 
 pub returns-clause-err : goal.returns-clause-err
 returns-clause-err c top =
     let words : List Text = c.args.modules.now.words in
     let modules : SourceTree = units_tree c.args.modules.now in
     let m : ModuleTree = module_tree words c.args.unit.now in
-    fault_leads c.checked.result _ _
+    fault_leads c.checked_design.result _ _
     (λ e h. then_breaks (broken_whole modules m) (broken_design m.name (whole_of modules m)) c.in_ok-part.ensures.right e (same_rule _ _ (λ i. broken_design (numbered (c.tokens.ensures i) c.args.unit.now.name) (c.in_ok-part.ensures.ok i)) e h))
-    c.checked.ensures.err
+    c.checked_design.ensures.err

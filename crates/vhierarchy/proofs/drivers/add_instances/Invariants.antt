@@ -4,6 +4,6 @@ use Rattle.velab.specs.Inner.{driver_names}
 use Rattle.vhierarchy.specs.Inner.{outputs_by}
 use Rattle.vhierarchy.proofs.drivers.add_instances.Given as goal
 
-abbrev pub invariant-loop-wanted : goal.invariant-loop-wanted
-invariant-loop-wanted l =
-    driver_names l.into.items ++ outputs_by (words_of l.tokens) (drop l.wanted-index l.list) ≡ driver_names l.initial.into.items ++ outputs_by (words_of l.tokens) l.list
+abbrev pub invariant-loop-instantiation : goal.invariant-loop-instantiation
+invariant-loop-instantiation l =
+    driver_names l.into.items ++ outputs_by (words_of l.tokens) (drop l.instantiation-index l.list) ≡ driver_names l.initial.into.items ++ outputs_by (words_of l.tokens) l.list

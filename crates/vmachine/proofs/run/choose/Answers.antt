@@ -1,6 +1,6 @@
 use Rattle.std.proofs.Common.{◌≤◌, ℕ, sym, subst, ◌∙◌}
 use Rattle.vmodel.specs.Run.{end_of}
-use Rattle.vmachine.proofs.PlayedLemmas.{finishes, too_early, takes_more, no_choice}
+use Rattle.vmachine.proofs.RunProgressLemmas.{finishes, too_early, takes_more, no_choice}
 use Rattle.vmachine.proofs.run.choose.Goals as goal
 
 pub returns-then-is_empty : goal.returns-then-is_empty

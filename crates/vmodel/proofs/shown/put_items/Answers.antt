@@ -12,8 +12,8 @@ returns-clause-front c =
     let shown = shown_items c.args.design.now c.args.state.now in
     let ending = end_items c.args.design.now c.args.state.now in
     on_err_weaker c.put_end.result
-    (behind_first old (shown c.args.deed.now.shown) (ending c.args.monitors.now) c.match-deed.items.items c.put_end.new.items.items
-    (elim c.match-deed.branch [
+    (behind_first old (shown c.args.effect.now.shown) (ending c.args.monitors.now) c.match-effect.items.items c.put_end.new.items.items
+    (elim c.match-effect.branch [
       | in-Some+in_ok-put_shown w ↦ ap (λ v. v.items) w.items-is ∙ w.in_ok-put_shown.ensures.ok ∙ ap (λ one. old ++ shown one) (sym w.in-Some.is)
       | in_default w ↦ ap (λ v. v.items) w.items-is ∙ sym (append-nil old) ∙ ap (λ one. old ++ shown one) (sym w.in_default.is)
     ]))

@@ -18,4 +18,4 @@ returns c =
     (omega (arith, c.len.ensures, c.len-2.ensures, c.if-missing-len.false)) c.select-letters.ensures in
     c.bits_from.ensures
     ∙ (λ i. bits_from c.args.variable (c.value_at.ensures i) (low i) (letters i))
-    ∙ ap (λ n. bits_from c.args.variable (value_at c.args.moment.now c.args.variable) (leftwards (both_fall (bounds_of c.args.moment.now c.args.variable) selected) selected.right (bounds_of c.args.moment.now c.args.variable).right) (drop n c.args.value.letters)) missing
+    ∙ ap (λ n. bits_from c.args.variable (value_at c.args.environment.now c.args.variable) (leftwards (both_fall (bounds_of c.args.environment.now c.args.variable) selected) selected.right (bounds_of c.args.environment.now c.args.variable).right) (drop n c.args.value.letters)) missing

@@ -6,5 +6,5 @@ use Rattle.vmodel.proofs.value.part_of.Goals as goal
 
 pub returns-in-Whole : goal.returns-in-Whole
 returns-in-Whole c =
-    whole_is c.args.moment.now c.in-Whole.variable c.args.value c.with_sign.result c.value_at.result c.signed.result c.with_sign.ensures c.signed.ensures c.value_at.ensures
-    ∙ sym (ap (λ (t : Target). parts_of c.args.moment.now t c.args.value.letters) c.in-Whole.is)
+    whole_is c.args.environment.now c.in-Whole.variable c.args.value c.with_sign.result c.value_at.result c.signed.result c.with_sign.ensures c.signed.ensures c.value_at.ensures
+    ∙ sym (ap (λ (t : Target). parts_of c.args.environment.now t c.args.value.letters) c.in-Whole.is)

@@ -1,7 +1,7 @@
 use Rattle.std.proofs.Common.{◌≡◌}
 use Rattle.std.proofs.lemmas.Result.{IfErr-weaker, IfOk-weaker}
 use Rattle.vsrc.specs.Source.{file_bytes}
-use Rattle.vrace.specs.Asked.{asked}
+use Rattle.vrace.specs.Request.{request_of}
 use Rattle.vrace.specs.Explores.{FilesHaveEntriesWhereCut, HasEntriesWhereCut, EndsSearch, Explores, IsExploreReason, LeavesReport, Reports}
 use Rattle.vrace.specs.RunDumps.{failures_after}
 use Rattle.vrace.proofs.ExploreLemmas.{explore_failures, explore_left, explore_reason, explores, files_have}
@@ -13,28 +13,28 @@ returns-in-Err-clause-failures g c = c.in-Err.ensures.unwritten c.args.writer.no
 pub returns-clause-report : goal.returns-clause-report
 returns-clause-report g c =
     IfOk-weaker c.explore_machine_alone.result (λ status. Reports g.W.Write.contents c.in-Ok.machine c.args.options.now.limits status c.args.writer.now c.explore_machine_alone.new.writer)
-    (λ status. Explores g.W.Write.contents (file_bytes c.args.files.now) (asked c.args.options.now) c.args.options.now.limits status c.args.writer.now c.explore_machine_alone.new.writer)
-    (explores (file_bytes c.args.files.now) (asked c.args.options.now) c.in-Ok.ensures.ok.searched c.args.options.now.limits c.in-Ok.machine c.in-Ok.ensures.ok.setting_is g.W.Write.contents c.args.writer.now c.explore_machine_alone.new.writer) c.explore_machine_alone.ensures.ok
+    (λ status. Explores g.W.Write.contents (file_bytes c.args.files.now) (request_of c.args.options.now) c.args.options.now.limits status c.args.writer.now c.explore_machine_alone.new.writer)
+    (explores (file_bytes c.args.files.now) (request_of c.args.options.now) c.in-Ok.ensures.ok.searched c.args.options.now.limits c.in-Ok.machine c.in-Ok.ensures.ok.setting_is g.W.Write.contents c.args.writer.now c.explore_machine_alone.new.writer) c.explore_machine_alone.ensures.ok
 
 pub returns-clause-entries : goal.returns-clause-entries
 returns-clause-entries g c =
-    IfOk-weaker c.explore_machine_alone.result (HasEntriesWhereCut c.in-Ok.machine c.args.options.now.limits) (FilesHaveEntriesWhereCut (file_bytes c.args.files.now) (asked c.args.options.now) c.args.options.now.limits)
-    (files_have (file_bytes c.args.files.now) (asked c.args.options.now) c.in-Ok.ensures.ok.searched c.args.options.now.limits c.in-Ok.machine c.in-Ok.ensures.ok.setting_is) c.explore_machine_alone.ensures.entries
+    IfOk-weaker c.explore_machine_alone.result (HasEntriesWhereCut c.in-Ok.machine c.args.options.now.limits) (FilesHaveEntriesWhereCut (file_bytes c.args.files.now) (request_of c.args.options.now) c.args.options.now.limits)
+    (files_have (file_bytes c.args.files.now) (request_of c.args.options.now) c.in-Ok.ensures.ok.searched c.args.options.now.limits c.in-Ok.machine c.in-Ok.ensures.ok.setting_is) c.explore_machine_alone.ensures.entries
 
 pub returns-clause-reason : goal.returns-clause-reason
 returns-clause-reason g c =
     IfErr-weaker c.explore_machine_alone.result (λ fault. EndsSearch g.W.Write.contents c.in-Ok.machine c.args.options.now.limits c.args.writer.now c.explore_machine_alone.new.writer fault)
-    (λ fault. IsExploreReason (file_bytes c.args.files.now) (asked c.args.options.now) c.args.options.now.limits fault)
-    (explore_reason (file_bytes c.args.files.now) (asked c.args.options.now) c.in-Ok.ensures.ok.searched c.args.options.now.limits c.in-Ok.machine c.in-Ok.ensures.ok.setting_is g.W.Write.contents c.args.writer.now c.explore_machine_alone.new.writer) c.explore_machine_alone.ensures.err
+    (λ fault. IsExploreReason (file_bytes c.args.files.now) (request_of c.args.options.now) c.args.options.now.limits fault)
+    (explore_reason (file_bytes c.args.files.now) (request_of c.args.options.now) c.in-Ok.ensures.ok.searched c.args.options.now.limits c.in-Ok.machine c.in-Ok.ensures.ok.setting_is g.W.Write.contents c.args.writer.now c.explore_machine_alone.new.writer) c.explore_machine_alone.ensures.err
 
 pub returns-clause-left : goal.returns-clause-left
 returns-clause-left g c =
     IfErr-weaker c.explore_machine_alone.result (λ fault. EndsSearch g.W.Write.contents c.in-Ok.machine c.args.options.now.limits c.args.writer.now c.explore_machine_alone.new.writer fault)
-    (λ fault. LeavesReport g.W.Write.contents (file_bytes c.args.files.now) (asked c.args.options.now) c.args.options.now.limits fault c.args.writer.now c.explore_machine_alone.new.writer)
-    (explore_left (file_bytes c.args.files.now) (asked c.args.options.now) c.in-Ok.ensures.ok.searched c.args.options.now.limits c.in-Ok.machine c.in-Ok.ensures.ok.setting_is g.W.Write.contents c.args.writer.now c.explore_machine_alone.new.writer) c.explore_machine_alone.ensures.err
+    (λ fault. LeavesReport g.W.Write.contents (file_bytes c.args.files.now) (request_of c.args.options.now) c.args.options.now.limits fault c.args.writer.now c.explore_machine_alone.new.writer)
+    (explore_left (file_bytes c.args.files.now) (request_of c.args.options.now) c.in-Ok.ensures.ok.searched c.args.options.now.limits c.in-Ok.machine c.in-Ok.ensures.ok.setting_is g.W.Write.contents c.args.writer.now c.explore_machine_alone.new.writer) c.explore_machine_alone.ensures.err
 
 pub returns-clause-failures : goal.returns-clause-failures
 returns-clause-failures g c =
     IfErr-weaker c.explore_machine_alone.result (λ fault. EndsSearch g.W.Write.contents c.in-Ok.machine c.args.options.now.limits c.args.writer.now c.explore_machine_alone.new.writer fault)
     (λ fault. c.explore_machine_alone.new.writer.failures ≡ failures_after fault c.args.writer.now.failures)
-    (explore_failures (file_bytes c.args.files.now) (asked c.args.options.now) c.in-Ok.ensures.ok.searched c.args.options.now.limits c.in-Ok.machine c.in-Ok.ensures.ok.setting_is g.W.Write.contents c.args.writer.now c.explore_machine_alone.new.writer) c.explore_machine_alone.ensures.err
+    (explore_failures (file_bytes c.args.files.now) (request_of c.args.options.now) c.in-Ok.ensures.ok.searched c.args.options.now.limits c.in-Ok.machine c.in-Ok.ensures.ok.setting_is g.W.Write.contents c.args.writer.now c.explore_machine_alone.new.writer) c.explore_machine_alone.ensures.err

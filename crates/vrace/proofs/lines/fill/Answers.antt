@@ -3,16 +3,16 @@ use Rattle.vrace.proofs.lines.fill.Goals as goal
 
 pub returns-in-Ok-clause-ok : goal.returns-in-Ok-clause-ok
 returns-in-Ok-clause-ok g c =
-    takes_whole g.O.Outlet.takes g.O.Outlet.fails g.met.O.Outlet.lawful c.args.machine.now c.args.log.now c.args.steps c.args.sink.now c.requires.fresh
+    takes_whole g.O.ByteSink.takes g.O.ByteSink.fails g.met.O.ByteSink.lawful c.args.machine.now c.args.log.now c.args.steps c.args.sink.now c.requires.fresh
     c.requires.design c.run_into.new.sink c.in-Ok.field-0 c.in-Ok.ensures.ends
 
 pub returns-in-Err-Fault-Sink-clause-err : goal.returns-in-Err-Fault-Sink-clause-err
 returns-in-Err-Fault-Sink-clause-err g c =
-    on_sink g.O.Outlet.takes g.O.Outlet.fails g.met.O.Outlet.lawful c.args.machine.now c.args.log.now c.args.steps c.args.sink.now c.requires.fresh
+    on_sink g.O.ByteSink.takes g.O.ByteSink.fails g.met.O.ByteSink.lawful c.args.machine.now c.args.log.now c.args.steps c.args.sink.now c.requires.fresh
     c.requires.design c.run_into.new.sink c.in-Err-Fault-Sink.field-0 c.in-Err-Fault-Sink.field-0-0 c.in-Err-Fault-Sink.fault c.in-Err-Fault-Sink.field-0-is
     c.in-Err-Fault-Sink.field-0-0-is c.in-Err-Fault-Sink.ensures.left c.requires.ends
 
 pub returns-in-Err-Memory-clause-err : goal.returns-in-Err-Memory-clause-err
 returns-in-Err-Memory-clause-err g c =
-    on_memory g.O.Outlet.takes g.O.Outlet.fails g.met.O.Outlet.lawful c.args.machine.now c.args.log.now c.args.steps c.args.sink.now c.requires.fresh
+    on_memory g.O.ByteSink.takes g.O.ByteSink.fails g.met.O.ByteSink.lawful c.args.machine.now c.args.log.now c.args.steps c.args.sink.now c.requires.fresh
     c.requires.design c.run_into.new.sink c.in-Err-Memory.field-0 c.in-Err-Memory.refused c.in-Err-Memory.field-0-is c.in-Err-Memory.ensures.left c.requires.ends

@@ -1,6 +1,6 @@
 use Rattle.std.proofs.Common.{IfErr, subst}
 use Rattle.vsrc.specs.Source.{file_bytes}
-use Rattle.vrace.specs.Asked.{asked}
+use Rattle.vrace.specs.Request.{request_of}
 use Rattle.vrace.specs.RunDumps.{Ends, IsRunShown}
 use Rattle.vrace.proofs.DumpLemmas.{on_ok, if_err}
 use Rattle.vrace.proofs.ReplayLemmas.{shown_so, reason, left}
@@ -11,12 +11,12 @@ returns-in-Err-clause-failures g c = c.in-Err.ensures.unwritten c.args.writer.no
 
 pub returns-clause-shown : goal.returns-clause-shown
 returns-clause-shown g c =
-    let machine = c.in-Ok.play.machine in
-    let (played, same, members) = c.in-Ok.ensures.ok in
+    let machine = c.in-Ok.input.machine in
+    let (replayed, same, members) = c.in-Ok.ensures.ok in
     on_ok c.show_run.result
     (λ done. (
       done.0,
-      shown_so (file_bytes c.args.files.now) (asked c.args.options.now) c.args.log.now played machine same c.args.show done.0
+      shown_so (file_bytes c.args.files.now) (request_of c.args.options.now) c.args.log.now replayed machine same c.args.show done.0
           (subst (λ log. IsRunShown c.args.show machine log c.args.options.now.limits.steps done.0) members done.1),
       done.2,
     ))
@@ -24,20 +24,20 @@ returns-clause-shown g c =
 
 pub returns-clause-reason : goal.returns-clause-reason
 returns-clause-reason g c =
-    let machine = c.in-Ok.play.machine in
-    let (played, same, members) = c.in-Ok.ensures.ok in
+    let machine = c.in-Ok.input.machine in
+    let (replayed, same, members) = c.in-Ok.ensures.ok in
     if_err c.show_run.result
-    (reason (file_bytes c.args.files.now) (asked c.args.options.now) c.args.log.now played machine same g.W.Write.contents c.args.show
+    (reason (file_bytes c.args.files.now) (request_of c.args.options.now) c.args.log.now replayed machine same g.W.Write.contents c.args.show
     c.args.writer.now c.show_run.new.writer)
     (subst (λ log. IfErr c.show_run.result (Ends g.W.Write.contents (IsRunShown c.args.show machine log c.args.options.now.limits.steps) machine log
     c.args.options.now.limits.steps c.args.writer.now c.show_run.new.writer)) members c.show_run.ensures.err)
 
 pub returns-clause-left : goal.returns-clause-left
 returns-clause-left g c =
-    let machine = c.in-Ok.play.machine in
-    let (played, same, members) = c.in-Ok.ensures.ok in
+    let machine = c.in-Ok.input.machine in
+    let (replayed, same, members) = c.in-Ok.ensures.ok in
     if_err c.show_run.result
-    (left (file_bytes c.args.files.now) (asked c.args.options.now) c.args.log.now played machine same g.W.Write.contents c.args.show
+    (left (file_bytes c.args.files.now) (request_of c.args.options.now) c.args.log.now replayed machine same g.W.Write.contents c.args.show
     c.args.writer.now c.show_run.new.writer)
     (subst (λ log. IfErr c.show_run.result (Ends g.W.Write.contents (IsRunShown c.args.show machine log c.args.options.now.limits.steps) machine log
     c.args.options.now.limits.steps c.args.writer.now c.show_run.new.writer)) members c.show_run.ensures.err)

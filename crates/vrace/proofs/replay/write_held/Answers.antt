@@ -7,5 +7,5 @@ returns-in-Err-clause-err g c = record {
   is = c.of_writing.ensures;
   text = c.text.result.now;
   holds = c.text.ensures;
-  stops = stops_of g.W.Write.contents c.args.writer.now c.put.new.outlet c.text.result.now c.in-Err.fault c.in-Err.ensures.err;
+  stops = stops_of g.W.Write.contents c.args.writer.now c.put.new.byte_sink c.text.result.now c.in-Err.fault c.in-Err.ensures.err;
 }

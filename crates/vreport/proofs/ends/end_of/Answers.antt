@@ -1,7 +1,7 @@
 use Rattle.std.proofs.Common.{ℕ, List, sym, ap, ◌∙◌, option_map, subst}
 use Rattle.std.specs.Map.Iter.{deref_pair}
 use Rattle.sched_core.specs.Logs.{IsLog}
-use Rattle.vmachine.specs.declared.standing.Standing.{Standing}
+use Rattle.vmachine.specs.declared.machine_state.MachineState.{MachineState}
 use Rattle.vreport.proofs.EndLemmas.{because, its_dump, its_end, its_long_dump}
 use Rattle.vreport.proofs.HeldLemmas.{its_held}
 use Rattle.vreport.proofs.ends.end_of.Goals as goal
@@ -10,7 +10,7 @@ pub measure_dump-requires : goal.measure_dump-requires
 measure_dump-requires c =
     let law = c.machine_law.ensures in
     let setting = c.args.machine.now in
-    let mark : Standing × List (ℕ × ℕ) = (c.in-Some.field-0-0.now, c.in-Some.log.now) in
+    let mark : MachineState × List (ℕ × ℕ) = (c.in-Some.field-0-0.now, c.in-Some.log.now) in
     record {
       ends = its_dump setting (law.same setting) (law.stands setting) (law.runs setting) c.args.limits.now c.args.findings.now.marks.entries c.requires.found c.args.row.now c.requires.of
           mark (sym c.get_index.ensures.entry ∙ ap (option_map deref_pair) c.in-Some.is);
@@ -20,7 +20,7 @@ pub returns-in-Err-clause-long : goal.returns-in-Err-clause-long
 returns-in-Err-clause-long c =
     let law = c.machine_law.ensures in
     let setting = c.args.machine.now in
-    let mark : Standing × List (ℕ × ℕ) = (c.in-Some.field-0-0.now, c.in-Some.log.now) in
+    let mark : MachineState × List (ℕ × ℕ) = (c.in-Some.field-0-0.now, c.in-Some.log.now) in
     because c.in-Err.fault (λ _ long. its_long_dump setting (law.same setting) (law.stands setting) (law.runs setting) c.args.limits.now c.args.findings.now.marks.entries c.requires.found
     c.args.row.now c.requires.of mark (sym c.get_index.ensures.entry ∙ ap (option_map deref_pair) c.in-Some.is) long) c.in-Err.ensures.long
 
@@ -28,7 +28,7 @@ pub returns-clause-ok : goal.returns-clause-ok
 returns-clause-ok c =
     let law = c.machine_law.ensures in
     let setting = c.args.machine.now in
-    let mark : Standing × List (ℕ × ℕ) = (c.in-Some.field-0-0.now, c.in-Some.log.now) in
+    let mark : MachineState × List (ℕ × ℕ) = (c.in-Some.field-0-0.now, c.in-Some.log.now) in
     its_end setting (law.same setting) (law.stands setting) (law.runs setting) c.args.limits.now c.args.findings.now.marks.entries c.requires.found c.args.row.now c.requires.of
     mark (sym c.get_index.ensures.entry ∙ ap (option_map deref_pair) c.in-Some.is) _ c.time_of.ensures.same c.cause_of.ensures
     (c.in_ok-from_slice.ensures.items ∙ c.deref.ensures.value) c.in_ok-copy.ensures.equal (c.time_of.ensures.bits, subst IsLog (sym c.in_ok-copy.ensures.equal) c.copy.ensures.lawful) c.in-Ok.ensures.ok

@@ -1,5 +1,5 @@
 use Rattle.std.proofs.Common.{rules, ap, ◌∙◌, map}
-use Rattle.vreport.specs.Reports.{told_race}
+use Rattle.vreport.specs.Reports.{report_race}
 use Rattle.vreport.proofs.FormedLemmas.{formed}
 use Rattle.vreport.proofs.report.hold_report.Goals as goal
 
@@ -11,7 +11,7 @@ returns-clause-races c =
     let limits = c.args.limits.now in
     record {
       races = c.in_ok-found.found.items;
-      told_are = c.in_ok-told_races.ensures.told ∙ ap (map told_race) c.deref-3.ensures.value;
+      told_are = c.in_ok-report_races.ensures.told ∙ ap (map report_race) c.deref-3.ensures.value;
       each = c.in_ok-found.ensures.found limits c.requires.found;
       order = c.in_ok-found.ensures.order;
       values_order = c.in_ok-found.ensures.values;
@@ -24,4 +24,4 @@ returns-clause-races c =
 pub returns-clause-formed : goal.returns-clause-formed
 returns-clause-formed c = λ named until dumps are.
     formed c.args.machine.now (c.run_law.ensures.shapes c.args.machine.now) c.args.limits.now c.args.findings.now _ named until (returns-clause-head c) c.in_ok-columns_of.ensures.widths c.in-Ok.ensures.true_ends
-    c.in-Ok.ensures.kept c.in-Ok.ensures.order (returns-clause-races c) c.in_ok-told_races.ensures.kept dumps are
+    c.in-Ok.ensures.kept c.in-Ok.ensures.order (returns-clause-races c) c.in_ok-report_races.ensures.kept dumps are

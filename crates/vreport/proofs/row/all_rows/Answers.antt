@@ -1,6 +1,6 @@
 use Rattle.std.proofs.Common.{ℕ, List, ap, sym, ◌∙◌, subst, option_map}
 use Rattle.std.specs.Map.Iter.{deref_pair}
-use Rattle.vmachine.specs.declared.standing.Standing.{Standing}
+use Rattle.vmachine.specs.declared.machine_state.MachineState.{MachineState}
 use Rattle.vreport.specs.Inner.{TellsRow}
 use Rattle.vreport.proofs.RowLemmas.{rows_more, rows_none, rows_skip}
 use Rattle.vreport.proofs.row.all_rows.Goals as goal
@@ -14,12 +14,12 @@ loop-place-preserved c =
     let new = c.match-get_index.rows.items in
     elim c.match-get_index.branch [
       | in-Some+in_ok-row+in-Some-2+in_ok-push w ↦
-          let mark : Standing × List (ℕ × ℕ) = (w.in-Some.standing.now, w.in-Some.log.now) in
+          let mark : MachineState × List (ℕ × ℕ) = (w.in-Some.machine_state.now, w.in-Some.log.now) in
           rows_more setting marks rows new c.loop-place.place mark w.in-Some-2.row (ap (λ v. v.items) w.rows-is ∙ w.in_ok-push.ensures.items)
           (sym c.get_index.ensures.entry ∙ ap (option_map deref_pair) w.in-Some.is)
           (subst (TellsRow setting mark c.loop-place.place) w.in-Some-2.is w.in_ok-row.ensures) c.loop-place.invariant
       | in-Some+in_ok-row+in_default-2 w ↦
-          let mark : Standing × List (ℕ × ℕ) = (w.in-Some.standing.now, w.in-Some.log.now) in
+          let mark : MachineState × List (ℕ × ℕ) = (w.in-Some.machine_state.now, w.in-Some.log.now) in
           rows_skip setting marks rows new c.loop-place.place mark (ap (λ v. v.items) w.rows-is)
           (sym c.get_index.ensures.entry ∙ ap (option_map deref_pair) w.in-Some.is)
           (subst (TellsRow setting mark c.loop-place.place) w.in_default-2.is w.in_ok-row.ensures) c.loop-place.invariant

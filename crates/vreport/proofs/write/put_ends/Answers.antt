@@ -21,18 +21,18 @@ put_end-requires-clause-held g c =
     (omega (arith, held_len c.args.machine.now c.args.steps c.args.ends.now c.args.held.now c.requires.held, c.loop-place-test.true)) c.index-held-place.is)
 
 pub loop-place-init : goal.loop-place-init
-loop-place-init g c = ends_first g.O.Outlet.takes g.O.Outlet.fails g.met.O.Outlet.lawful c.args.machine.now c.args.steps c.args.ends.now c.args.outlet.now
+loop-place-init g c = ends_first g.O.ByteSink.takes g.O.ByteSink.fails g.met.O.ByteSink.lawful c.args.machine.now c.args.steps c.args.ends.now c.args.byte_sink.now
 
 pub returns-in-Err-clause-err : goal.returns-in-Err-clause-err
 returns-in-Err-clause-err g c =
-    ends_stop g.O.Outlet.takes g.O.Outlet.fails g.met.O.Outlet.lawful c.args.machine.now c.args.steps c.args.ends.now c.loop-place.place c.index-ends-place.result c.args.outlet.now c.loop-place.outlet c.put_end.new.outlet c.in-Err.fault
+    ends_stop g.O.ByteSink.takes g.O.ByteSink.fails g.met.O.ByteSink.lawful c.args.machine.now c.args.steps c.args.ends.now c.loop-place.place c.index-ends-place.result c.args.byte_sink.now c.loop-place.byte_sink c.put_end.new.byte_sink c.in-Err.fault
     (slice_get_read c.args.ends.now _ c.loop-place.place c.index-ends-place.result refl c.loop-place-test.true c.index-ends-place.is) c.loop-place.invariant c.in-Err.ensures.err
 
 pub loop-place-preserved : goal.loop-place-preserved
 loop-place-preserved g c =
-    ends_on g.O.Outlet.takes g.O.Outlet.fails g.met.O.Outlet.lawful c.args.machine.now c.args.steps c.args.ends.now c.loop-place.place c.index-ends-place.result c.args.outlet.now c.loop-place.outlet c.put_end.new.outlet
+    ends_on g.O.ByteSink.takes g.O.ByteSink.fails g.met.O.ByteSink.lawful c.args.machine.now c.args.steps c.args.ends.now c.loop-place.place c.index-ends-place.result c.args.byte_sink.now c.loop-place.byte_sink c.put_end.new.byte_sink
     (slice_get_read c.args.ends.now _ c.loop-place.place c.index-ends-place.result refl c.loop-place-test.true c.index-ends-place.is) c.loop-place.invariant c.in-Ok.ensures.ok
 
 pub returns-clause-ok : goal.returns-clause-ok
 returns-clause-ok g c =
-    ends_over g.O.Outlet.takes g.O.Outlet.fails g.met.O.Outlet.lawful c.args.machine.now c.args.steps c.args.ends.now c.loop-place.place c.args.outlet.now c.loop-place.outlet (drop_all c.loop-place.place c.args.ends.now (omega (arith, c.loop-place-test.false))) c.loop-place.invariant
+    ends_over g.O.ByteSink.takes g.O.ByteSink.fails g.met.O.ByteSink.lawful c.args.machine.now c.args.steps c.args.ends.now c.loop-place.place c.args.byte_sink.now c.loop-place.byte_sink (drop_all c.loop-place.place c.args.ends.now (omega (arith, c.loop-place-test.false))) c.loop-place.invariant

@@ -1,6 +1,6 @@
 use Rattle.std.proofs.Common.{List, ◌++◌, codes, length, subst}
 use Rattle.std.proofs.lemmas.Result.{IfErr-weaker, on_ok_weaker}
-use Rattle.vcd_text.specs.Outlets.{Stopped}
+use Rattle.vcd_text.specs.ByteSinks.{Stopped}
 use Rattle.report_text.specs.Report.{Column, End, Race, Report}
 use Rattle.report_text.specs.ReportText.{head_text, number_line, races_text}
 use Rattle.vreport.specs.Written.{StopsEnds, StopsReport, TakesEnds}
@@ -9,43 +9,43 @@ use Rattle.vreport.proofs.write.write_report.Goals as goal
 
 pub returns-in-Err-clause-err : goal.returns-in-Err-clause-err
 returns-in-Err-clause-err g c =
-    report_stops_first g.O.Outlet.takes g.O.Outlet.fails g.met.O.Outlet.lawful c.args.machine.now c.args.report.now c.requires.bytes c.args.outlet.now c.put_made.new.outlet c.in-Err.fault (c.in-Err.ensures.err (head_text c.args.report.now ++ number_line (codes "ends") (length c.args.report.now.ends)) c.head_lines.ensures)
+    report_stops_first g.O.ByteSink.takes g.O.ByteSink.fails g.met.O.ByteSink.lawful c.args.machine.now c.args.report.now c.requires.bytes c.args.byte_sink.now c.put_made.new.byte_sink c.in-Err.fault (c.in-Err.ensures.err (head_text c.args.report.now ++ number_line (codes "ends") (length c.args.report.now.ends)) c.head_lines.ensures)
 
 pub returns-in-Err-put_ends-clause-err : goal.returns-in-Err-put_ends-clause-err
 returns-in-Err-put_ends-clause-err g c =
-    report_stops_second g.O.Outlet.takes g.O.Outlet.fails g.met.O.Outlet.lawful c.args.machine.now c.args.report.now c.requires.bytes c.args.outlet.now c.put_made.new.outlet c.put_ends.new.outlet c.in-Err-put_ends.fault
+    report_stops_second g.O.ByteSink.takes g.O.ByteSink.fails g.met.O.ByteSink.lawful c.args.machine.now c.args.report.now c.requires.bytes c.args.byte_sink.now c.put_made.new.byte_sink c.put_ends.new.byte_sink c.in-Err-put_ends.fault
     (c.in-Ok.ensures.ok (head_text c.args.report.now ++ number_line (codes "ends") (length c.args.report.now.ends)) c.head_lines.ensures)
-    (subst (λ (r : Report). StopsEnds g.O.Outlet.takes g.O.Outlet.fails c.args.machine.now r.steps r.ends c.put_made.new.outlet c.in-Err-put_ends.fault c.put_ends.new.outlet) c.report.view_is
-    (subst (λ (es : List End). StopsEnds g.O.Outlet.takes g.O.Outlet.fails c.args.machine.now c.report.inside.steps es c.put_made.new.outlet c.in-Err-put_ends.fault c.put_ends.new.outlet) c.deref.ensures.value c.in-Err-put_ends.ensures.err))
+    (subst (λ (r : Report). StopsEnds g.O.ByteSink.takes g.O.ByteSink.fails c.args.machine.now r.steps r.ends c.put_made.new.byte_sink c.in-Err-put_ends.fault c.put_ends.new.byte_sink) c.report.view_is
+    (subst (λ (es : List End). StopsEnds g.O.ByteSink.takes g.O.ByteSink.fails c.args.machine.now c.report.inside.steps es c.put_made.new.byte_sink c.in-Err-put_ends.fault c.put_ends.new.byte_sink) c.deref.ensures.value c.in-Err-put_ends.ensures.err))
 
 pub returns-in-Err-put_made-clause-err : goal.returns-in-Err-put_made-clause-err
 returns-in-Err-put_made-clause-err g c =
-    report_stops_third g.O.Outlet.takes g.O.Outlet.fails g.met.O.Outlet.lawful c.args.machine.now c.args.report.now c.requires.bytes c.args.outlet.now c.put_made.new.outlet c.put_ends.new.outlet c.put_made-2.new.outlet c.in-Err-put_made.fault
+    report_stops_third g.O.ByteSink.takes g.O.ByteSink.fails g.met.O.ByteSink.lawful c.args.machine.now c.args.report.now c.requires.bytes c.args.byte_sink.now c.put_made.new.byte_sink c.put_ends.new.byte_sink c.put_made-2.new.byte_sink c.in-Err-put_made.fault
     (c.in-Ok.ensures.ok (head_text c.args.report.now ++ number_line (codes "ends") (length c.args.report.now.ends)) c.head_lines.ensures)
-    (subst (λ (r : Report). TakesEnds g.O.Outlet.takes c.args.machine.now r.steps r.ends c.put_made.new.outlet c.put_ends.new.outlet) c.report.view_is
-    (subst (λ (es : List End). TakesEnds g.O.Outlet.takes c.args.machine.now c.report.inside.steps es c.put_made.new.outlet c.put_ends.new.outlet) c.deref.ensures.value c.in-Ok-put_ends.ensures.ok))
+    (subst (λ (r : Report). TakesEnds g.O.ByteSink.takes c.args.machine.now r.steps r.ends c.put_made.new.byte_sink c.put_ends.new.byte_sink) c.report.view_is
+    (subst (λ (es : List End). TakesEnds g.O.ByteSink.takes c.args.machine.now c.report.inside.steps es c.put_made.new.byte_sink c.put_ends.new.byte_sink) c.deref.ensures.value c.in-Ok-put_ends.ensures.ok))
     (c.in-Err-put_made.ensures.err (number_line (codes "races") (length c.args.report.now.races)) c.race_count_line.ensures)
 
 pub returns-clause-ok : goal.returns-clause-ok
 returns-clause-ok g c =
     on_ok_weaker c.put_races.result (λ taken.
-    report_taken g.O.Outlet.takes g.O.Outlet.fails g.met.O.Outlet.lawful c.args.machine.now c.args.report.now c.requires.bytes c.args.outlet.now c.put_made.new.outlet c.put_ends.new.outlet c.put_made-2.new.outlet c.put_races.new.outlet
+    report_taken g.O.ByteSink.takes g.O.ByteSink.fails g.met.O.ByteSink.lawful c.args.machine.now c.args.report.now c.requires.bytes c.args.byte_sink.now c.put_made.new.byte_sink c.put_ends.new.byte_sink c.put_made-2.new.byte_sink c.put_races.new.byte_sink
     (c.in-Ok.ensures.ok (head_text c.args.report.now ++ number_line (codes "ends") (length c.args.report.now.ends)) c.head_lines.ensures)
-    (subst (λ (r : Report). TakesEnds g.O.Outlet.takes c.args.machine.now r.steps r.ends c.put_made.new.outlet c.put_ends.new.outlet) c.report.view_is
-    (subst (λ (es : List End). TakesEnds g.O.Outlet.takes c.args.machine.now c.report.inside.steps es c.put_made.new.outlet c.put_ends.new.outlet) c.deref.ensures.value c.in-Ok-put_ends.ensures.ok))
+    (subst (λ (r : Report). TakesEnds g.O.ByteSink.takes c.args.machine.now r.steps r.ends c.put_made.new.byte_sink c.put_ends.new.byte_sink) c.report.view_is
+    (subst (λ (es : List End). TakesEnds g.O.ByteSink.takes c.args.machine.now c.report.inside.steps es c.put_made.new.byte_sink c.put_ends.new.byte_sink) c.deref.ensures.value c.in-Ok-put_ends.ensures.ok))
     (c.in-Ok-put_made.ensures.ok (number_line (codes "races") (length c.args.report.now.races)) c.race_count_line.ensures)
-    (subst (λ (r : Report). g.O.Outlet.takes c.put_made-2.new.outlet (races_text r.variables r.races) c.put_races.new.outlet) c.report.view_is
-    (subst (λ (vs : List Column). g.O.Outlet.takes c.put_made-2.new.outlet (races_text vs c.report.inside.races.items) c.put_races.new.outlet) c.deref-2.ensures.value (subst (λ (rs : List Race). g.O.Outlet.takes c.put_made-2.new.outlet (races_text c.deref-2.result.now rs) c.put_races.new.outlet) c.deref-3.ensures.value taken)))) c.put_races.ensures.ok
+    (subst (λ (r : Report). g.O.ByteSink.takes c.put_made-2.new.byte_sink (races_text r.variables r.races) c.put_races.new.byte_sink) c.report.view_is
+    (subst (λ (vs : List Column). g.O.ByteSink.takes c.put_made-2.new.byte_sink (races_text vs c.report.inside.races.items) c.put_races.new.byte_sink) c.deref-2.ensures.value (subst (λ (rs : List Race). g.O.ByteSink.takes c.put_made-2.new.byte_sink (races_text c.deref-2.result.now rs) c.put_races.new.byte_sink) c.deref-3.ensures.value taken)))) c.put_races.ensures.ok
 
 pub returns-clause-err : goal.returns-clause-err
 returns-clause-err g c =
-    IfErr-weaker c.put_races.result (λ fault. Stopped g.O.Outlet.takes g.O.Outlet.fails c.put_made-2.new.outlet (races_text c.deref-2.result.now c.deref-3.result.now) fault c.put_races.new.outlet)
-    (λ fault. StopsReport g.O.Outlet.takes g.O.Outlet.fails c.args.machine.now c.args.report.now c.args.outlet.now fault c.put_races.new.outlet)
+    IfErr-weaker c.put_races.result (λ fault. Stopped g.O.ByteSink.takes g.O.ByteSink.fails c.put_made-2.new.byte_sink (races_text c.deref-2.result.now c.deref-3.result.now) fault c.put_races.new.byte_sink)
+    (λ fault. StopsReport g.O.ByteSink.takes g.O.ByteSink.fails c.args.machine.now c.args.report.now c.args.byte_sink.now fault c.put_races.new.byte_sink)
     (λ fault stopped.
-    report_stops_last g.O.Outlet.takes g.O.Outlet.fails g.met.O.Outlet.lawful c.args.machine.now c.args.report.now c.requires.bytes c.args.outlet.now c.put_made.new.outlet c.put_ends.new.outlet c.put_made-2.new.outlet c.put_races.new.outlet fault
+    report_stops_last g.O.ByteSink.takes g.O.ByteSink.fails g.met.O.ByteSink.lawful c.args.machine.now c.args.report.now c.requires.bytes c.args.byte_sink.now c.put_made.new.byte_sink c.put_ends.new.byte_sink c.put_made-2.new.byte_sink c.put_races.new.byte_sink fault
     (c.in-Ok.ensures.ok (head_text c.args.report.now ++ number_line (codes "ends") (length c.args.report.now.ends)) c.head_lines.ensures)
-    (subst (λ (r : Report). TakesEnds g.O.Outlet.takes c.args.machine.now r.steps r.ends c.put_made.new.outlet c.put_ends.new.outlet) c.report.view_is
-    (subst (λ (es : List End). TakesEnds g.O.Outlet.takes c.args.machine.now c.report.inside.steps es c.put_made.new.outlet c.put_ends.new.outlet) c.deref.ensures.value c.in-Ok-put_ends.ensures.ok))
+    (subst (λ (r : Report). TakesEnds g.O.ByteSink.takes c.args.machine.now r.steps r.ends c.put_made.new.byte_sink c.put_ends.new.byte_sink) c.report.view_is
+    (subst (λ (es : List End). TakesEnds g.O.ByteSink.takes c.args.machine.now c.report.inside.steps es c.put_made.new.byte_sink c.put_ends.new.byte_sink) c.deref.ensures.value c.in-Ok-put_ends.ensures.ok))
     (c.in-Ok-put_made.ensures.ok (number_line (codes "races") (length c.args.report.now.races)) c.race_count_line.ensures)
-    (subst (λ (r : Report). Stopped g.O.Outlet.takes g.O.Outlet.fails c.put_made-2.new.outlet (races_text r.variables r.races) fault c.put_races.new.outlet) c.report.view_is
-    (subst (λ (vs : List Column). Stopped g.O.Outlet.takes g.O.Outlet.fails c.put_made-2.new.outlet (races_text vs c.report.inside.races.items) fault c.put_races.new.outlet) c.deref-2.ensures.value (subst (λ (rs : List Race). Stopped g.O.Outlet.takes g.O.Outlet.fails c.put_made-2.new.outlet (races_text c.deref-2.result.now rs) fault c.put_races.new.outlet) c.deref-3.ensures.value stopped)))) c.put_races.ensures.err
+    (subst (λ (r : Report). Stopped g.O.ByteSink.takes g.O.ByteSink.fails c.put_made-2.new.byte_sink (races_text r.variables r.races) fault c.put_races.new.byte_sink) c.report.view_is
+    (subst (λ (vs : List Column). Stopped g.O.ByteSink.takes g.O.ByteSink.fails c.put_made-2.new.byte_sink (races_text vs c.report.inside.races.items) fault c.put_races.new.byte_sink) c.deref-2.ensures.value (subst (λ (rs : List Race). Stopped g.O.ByteSink.takes g.O.ByteSink.fails c.put_made-2.new.byte_sink (races_text c.deref-2.result.now rs) fault c.put_races.new.byte_sink) c.deref-3.ensures.value stopped)))) c.put_races.ensures.err

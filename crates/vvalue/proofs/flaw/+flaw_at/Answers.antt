@@ -2,7 +2,7 @@ use Rattle.std.proofs.Common.{◌≡◌, ◌++◌, ◌+◌, ◌*◌, ◌&&◌, n
 use Rattle.std.specs.Option.{option_or}
 use Rattle.vdesign.specs.Nodes.{nodes_of}
 use Rattle.vdesign.specs.declared.expression.Node.TheVariants.{Constant, Variable, Bit, BitOf, Part, Time, Conversion, Unary, Binary, Conditional, Joined, Repeated}
-use Rattle.vvalue.specs.declared.context.Context.{Context}
+use Rattle.vvalue.specs.declared.size_and_sign.SizeAndSign.{SizeAndSign}
 use Rattle.vvalue.specs.declared.flaw.Flaw.{Flaw}
 use Rattle.vvalue.specs.declared.flaw.Flaw.TheVariants.{Size}
 use Rattle.vvalue.specs.Value.{own}
@@ -12,11 +12,11 @@ use Rattle.vvalue.proofs.flaw.+flaw_at.Goals as goal
 
 pub returns-in_default-clause-exact : goal.returns-in_default-clause-exact
 returns-in_default-clause-exact t c =
-    by_none (λ tree more. None ≡ flaw_of c.args.moment.now tree) c.args.nodes.now c.in_default.ensures.cases
+    by_none (λ tree more. None ≡ flaw_of c.args.environment.now tree) c.args.nodes.now c.in_default.ensures.cases
 
 pub returns-in-Constant-clause-exact : goal.returns-in-Constant-clause-exact
 returns-in-Constant-clause-exact t c =
-    by_node (λ tree more. None ≡ flaw_of c.args.moment.now tree) c.args.nodes.now c.in-Some.node.now
+    by_node (λ tree more. None ≡ flaw_of c.args.environment.now tree) c.args.nodes.now c.in-Some.node.now
     (Constant c.in-Constant.field-0) c.in-Some.behind.now c.in-Some.ensures.cases.0 c.in-Constant.is
     refl
 
@@ -28,7 +28,7 @@ returns-in-Constant-clause-rest t c =
 
 pub returns-in-Variable-clause-exact : goal.returns-in-Variable-clause-exact
 returns-in-Variable-clause-exact t c =
-    by_node (λ tree more. None ≡ flaw_of c.args.moment.now tree) c.args.nodes.now c.in-Some.node.now
+    by_node (λ tree more. None ≡ flaw_of c.args.environment.now tree) c.args.nodes.now c.in-Some.node.now
     (Variable c.in-Variable.field-0) c.in-Some.behind.now c.in-Some.ensures.cases.0 c.in-Variable.is
     refl
 
@@ -40,7 +40,7 @@ returns-in-Variable-clause-rest t c =
 
 pub returns-in-Bit-clause-exact : goal.returns-in-Bit-clause-exact
 returns-in-Bit-clause-exact t c =
-    by_node (λ tree more. c.or.result ≡ flaw_of c.args.moment.now tree) c.args.nodes.now c.in-Some.node.now
+    by_node (λ tree more. c.or.result ≡ flaw_of c.args.environment.now tree) c.args.nodes.now c.in-Some.node.now
     (Bit c.in-Bit.variable) c.in-Some.behind.now c.in-Some.ensures.cases.0 c.in-Bit.is
     (λ index more is. c.or.ensures
     ∙ ap (λ (o : Option Flaw). option_or o c.flaw_at-index.result.0) c.bit_flaw.ensures
@@ -54,7 +54,7 @@ returns-in-Bit-clause-rest t c =
 
 pub returns-in-BitOf-clause-exact : goal.returns-in-BitOf-clause-exact
 returns-in-BitOf-clause-exact t c =
-    by_node (λ tree more. c.flaw_at.result.0 ≡ flaw_of c.args.moment.now tree) c.args.nodes.now c.in-Some.node.now
+    by_node (λ tree more. c.flaw_at.result.0 ≡ flaw_of c.args.environment.now tree) c.args.nodes.now c.in-Some.node.now
     (BitOf c.in-BitOf.value c.in-BitOf.bounds) c.in-Some.behind.now c.in-Some.ensures.cases.0 c.in-BitOf.is
     c.flaw_at.ensures.exact
 
@@ -66,7 +66,7 @@ returns-in-BitOf-clause-rest t c =
 
 pub returns-in-Part-clause-exact : goal.returns-in-Part-clause-exact
 returns-in-Part-clause-exact t c =
-    by_node (λ tree more. c.part_flaw.result ≡ flaw_of c.args.moment.now tree) c.args.nodes.now c.in-Some.node.now
+    by_node (λ tree more. c.part_flaw.result ≡ flaw_of c.args.environment.now tree) c.args.nodes.now c.in-Some.node.now
     (Part c.in-Part.variable c.in-Part.bounds) c.in-Some.behind.now c.in-Some.ensures.cases.0 c.in-Part.is
     c.part_flaw.ensures
 
@@ -78,7 +78,7 @@ returns-in-Part-clause-rest t c =
 
 pub returns-in-Time-clause-exact : goal.returns-in-Time-clause-exact
 returns-in-Time-clause-exact t c =
-    by_node (λ tree more. None ≡ flaw_of c.args.moment.now tree) c.args.nodes.now c.in-Some.node.now
+    by_node (λ tree more. None ≡ flaw_of c.args.environment.now tree) c.args.nodes.now c.in-Some.node.now
     Time c.in-Some.behind.now c.in-Some.ensures.cases.0 c.in-Time.is
     refl
 
@@ -90,7 +90,7 @@ returns-in-Time-clause-rest t c =
 
 pub returns-in-Conversion-clause-exact : goal.returns-in-Conversion-clause-exact
 returns-in-Conversion-clause-exact t c =
-    by_node (λ tree more. c.flaw_at-in-Conversion.result.0 ≡ flaw_of c.args.moment.now tree) c.args.nodes.now c.in-Some.node.now
+    by_node (λ tree more. c.flaw_at-in-Conversion.result.0 ≡ flaw_of c.args.environment.now tree) c.args.nodes.now c.in-Some.node.now
     (Conversion c.in-Conversion.field-0) c.in-Some.behind.now c.in-Some.ensures.cases.0 c.in-Conversion.is
     c.flaw_at-in-Conversion.ensures.exact
 
@@ -102,7 +102,7 @@ returns-in-Conversion-clause-rest t c =
 
 pub returns-in-Unary-clause-exact : goal.returns-in-Unary-clause-exact
 returns-in-Unary-clause-exact t c =
-    by_node (λ tree more. c.flaw_at-in-Unary.result.0 ≡ flaw_of c.args.moment.now tree) c.args.nodes.now c.in-Some.node.now
+    by_node (λ tree more. c.flaw_at-in-Unary.result.0 ≡ flaw_of c.args.environment.now tree) c.args.nodes.now c.in-Some.node.now
     (Unary c.in-Unary.field-0) c.in-Some.behind.now c.in-Some.ensures.cases.0 c.in-Unary.is
     c.flaw_at-in-Unary.ensures.exact
 
@@ -114,11 +114,11 @@ returns-in-Unary-clause-rest t c =
 
 pub returns-in-Binary-clause-exact : goal.returns-in-Binary-clause-exact
 returns-in-Binary-clause-exact t c =
-    by_node (λ tree more. c.or-in-Binary.result ≡ flaw_of c.args.moment.now tree) c.args.nodes.now c.in-Some.node.now
+    by_node (λ tree more. c.or-in-Binary.result ≡ flaw_of c.args.environment.now tree) c.args.nodes.now c.in-Some.node.now
     (Binary c.in-Binary.field-0) c.in-Some.behind.now c.in-Some.ensures.cases.0 c.in-Binary.is
     (λ left right more is. c.or-in-Binary.ensures
     ∙ ap (λ (o : Option Flaw). option_or o c.flaw_at-right.result.0) (c.flaw_at-left.ensures.exact left (nodes_of right ++ more) is)
-    ∙ ap (option_or (flaw_of c.args.moment.now left)) (c.flaw_at-right.ensures.exact right more (c.flaw_at-left.ensures.rest left (nodes_of right ++ more) is)))
+    ∙ ap (option_or (flaw_of c.args.environment.now left)) (c.flaw_at-right.ensures.exact right more (c.flaw_at-left.ensures.rest left (nodes_of right ++ more) is)))
 
 pub returns-in-Binary-clause-rest : goal.returns-in-Binary-clause-rest
 returns-in-Binary-clause-rest t c =
@@ -128,14 +128,14 @@ returns-in-Binary-clause-rest t c =
 
 pub returns-in-Conditional-clause-exact : goal.returns-in-Conditional-clause-exact
 returns-in-Conditional-clause-exact t c =
-    by_node (λ tree more. c.or-in-Conditional-2.result ≡ flaw_of c.args.moment.now tree) c.args.nodes.now c.in-Some.node.now
+    by_node (λ tree more. c.or-in-Conditional-2.result ≡ flaw_of c.args.environment.now tree) c.args.nodes.now c.in-Some.node.now
     Conditional c.in-Some.behind.now c.in-Some.ensures.cases.0 c.in-Conditional.is
     (λ condition when_true when_false more is. c.or-in-Conditional-2.ensures
     ∙ ap (λ (o : Option Flaw). option_or o c.or-in-Conditional.result) (c.flaw_at-condition.ensures.exact condition (nodes_of when_true ++ (nodes_of when_false ++ more)) is)
-    ∙ ap (option_or (flaw_of c.args.moment.now condition)) (c.or-in-Conditional.ensures
+    ∙ ap (option_or (flaw_of c.args.environment.now condition)) (c.or-in-Conditional.ensures
     ∙ ap (λ (o : Option Flaw). option_or o c.flaw_at-when_false.result.0)
     (c.flaw_at-when_true.ensures.exact when_true (nodes_of when_false ++ more) (c.flaw_at-condition.ensures.rest condition (nodes_of when_true ++ (nodes_of when_false ++ more)) is))
-    ∙ ap (option_or (flaw_of c.args.moment.now when_true)) (c.flaw_at-when_false.ensures.exact when_false more
+    ∙ ap (option_or (flaw_of c.args.environment.now when_true)) (c.flaw_at-when_false.ensures.exact when_false more
     (c.flaw_at-when_true.ensures.rest when_true (nodes_of when_false ++ more) (c.flaw_at-condition.ensures.rest condition (nodes_of when_true ++ (nodes_of when_false ++ more)) is)))))
 
 pub returns-in-Conditional-clause-rest : goal.returns-in-Conditional-clause-rest
@@ -147,15 +147,15 @@ returns-in-Conditional-clause-rest t c =
 
 pub returns-in-Joined-clause-exact : goal.returns-in-Joined-clause-exact
 returns-in-Joined-clause-exact t c =
-    by_node (λ tree more. c.or-in-Joined-2.result ≡ flaw_of c.args.moment.now tree) c.args.nodes.now c.in-Some.node.now
+    by_node (λ tree more. c.or-in-Joined-2.result ≡ flaw_of c.args.environment.now tree) c.args.nodes.now c.in-Some.node.now
     Joined c.in-Some.behind.now c.in-Some.ensures.cases.0 c.in-Joined.is
     (λ left right more is. c.or-in-Joined-2.ensures
     ∙ ap (λ (o : Option Flaw). option_or o c.or-in-Joined.result) (c.flaw_at-left-in-Joined.ensures.exact left (nodes_of right ++ more) is)
-    ∙ ap (option_or (flaw_of c.args.moment.now left)) (c.or-in-Joined.ensures
+    ∙ ap (option_or (flaw_of c.args.environment.now left)) (c.or-in-Joined.ensures
     ∙ ap (λ (o : Option Flaw). option_or o c.joined_flaw.result) (c.flaw_at-right-in-Joined.ensures.exact right more (c.flaw_at-left-in-Joined.ensures.rest left (nodes_of right ++ more) is))
-    ∙ ap (option_or (flaw_of c.args.moment.now right)) (c.joined_flaw.ensures
-    ∙ ap (λ (x : Context). unless (nat_le (x.size + c.own-in-Joined.result.0.size) 64) Size) (c.own.ensures.exact left (nodes_of right ++ more) is)
-    ∙ ap (λ (x : Context). unless (nat_le ((own c.args.moment.now left).size + x.size) 64) Size)
+    ∙ ap (option_or (flaw_of c.args.environment.now right)) (c.joined_flaw.ensures
+    ∙ ap (λ (x : SizeAndSign). unless (nat_le (x.size + c.own-in-Joined.result.0.size) 64) Size) (c.own.ensures.exact left (nodes_of right ++ more) is)
+    ∙ ap (λ (x : SizeAndSign). unless (nat_le ((own c.args.environment.now left).size + x.size) 64) Size)
     (c.own-in-Joined.ensures.exact right more (c.own.ensures.rest left (nodes_of right ++ more) is)))))
 
 pub returns-in-Joined-clause-rest : goal.returns-in-Joined-clause-rest
@@ -166,12 +166,12 @@ returns-in-Joined-clause-rest t c =
 
 pub returns-in-Repeated-clause-exact : goal.returns-in-Repeated-clause-exact
 returns-in-Repeated-clause-exact t c =
-    by_node (λ tree more. c.or-in-Repeated.result ≡ flaw_of c.args.moment.now tree) c.args.nodes.now c.in-Some.node.now
+    by_node (λ tree more. c.or-in-Repeated.result ≡ flaw_of c.args.environment.now tree) c.args.nodes.now c.in-Some.node.now
     (Repeated c.in-Repeated.count) c.in-Some.behind.now c.in-Some.ensures.cases.0 c.in-Repeated.is
     (λ operand more is. c.or-in-Repeated.ensures
     ∙ ap (λ (o : Option Flaw). option_or o c.repeated_flaw.result) (c.flaw_at-operand.ensures.exact operand more is)
-    ∙ ap (option_or (flaw_of c.args.moment.now operand)) (c.repeated_flaw.ensures
-    ∙ ap (λ (x : Context). unless (nat_le 1 c.in-Repeated.count && nat_le (c.in-Repeated.count * x.size) 64) Size) (c.own-in-Repeated.ensures.exact operand more is)))
+    ∙ ap (option_or (flaw_of c.args.environment.now operand)) (c.repeated_flaw.ensures
+    ∙ ap (λ (x : SizeAndSign). unless (nat_le 1 c.in-Repeated.count && nat_le (c.in-Repeated.count * x.size) 64) Size) (c.own-in-Repeated.ensures.exact operand more is)))
 
 pub returns-in-Repeated-clause-rest : goal.returns-in-Repeated-clause-rest
 returns-in-Repeated-clause-rest t c =

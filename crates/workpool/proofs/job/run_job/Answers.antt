@@ -11,10 +11,10 @@ running : (g : Over) (c : After-shut g) → IsCounted 1 c.match-at.work
 running g c =
     let P : Work g.row.B.Denot → Type 0 = λ w. IsCounted 1 w in
     elim c.match-at.branch [
-      | in-Some+in-Ok-Some+in-Err-1 w ↦ subst P (sym w.work-is) (w.meet_all.ensures.counted 1 c.requires.counted)
-      | in-Some+in-Ok-Some+in-Ok-finish w ↦ subst P (sym w.work-is) (w.meet_all.ensures.counted 1 c.requires.counted)
-      | in-Some+in-Ok-None w ↦ subst P (sym w.work-is) (counted_past 1 w.meet_all.new.work _ (w.meet_all.ensures.counted 1 c.requires.counted))
-      | in-Some+in-Err w ↦ subst P (sym w.work-is) (counted_refused 1 w.meet_all.new.work w.in-Err.refused w.stop.new.seat w.stop.ensures (w.meet_all.ensures.counted 1 c.requires.counted))
+      | in-Some+in-Ok-Some+in-Err-1 w ↦ subst P (sym w.work-is) (w.insert_all.ensures.counted 1 c.requires.counted)
+      | in-Some+in-Ok-Some+in-Ok-finish w ↦ subst P (sym w.work-is) (w.insert_all.ensures.counted 1 c.requires.counted)
+      | in-Some+in-Ok-None w ↦ subst P (sym w.work-is) (counted_past 1 w.insert_all.new.work _ (w.insert_all.ensures.counted 1 c.requires.counted))
+      | in-Some+in-Err w ↦ subst P (sym w.work-is) (counted_refused 1 w.insert_all.new.work w.in-Err.refused w.stop.new.seat w.stop.ensures (w.insert_all.ensures.counted 1 c.requires.counted))
       | in_default w ↦ subst P (sym w.work-is) c.requires.counted
     ]
 

@@ -8,7 +8,7 @@ use Rattle.workpool.proofs.root.root_of.Goals.{After-read}
 -- what was seen is an entry that may be added
 seen : (g : Over) (c : After-read g) → IsEntry (g.P.Space.rules c.args.space.now) c.args.limits.now.depart c.args.limits.now.steps c.args.seen.entry
 seen g c =
-    wanted_entry g.Q.Quest.rules g.Q.Quest.depart g.Q.Quest.steps (g.P.Space.rules c.args.space.now) c.args.limits.now c.args.seen.entry c.requires.quest (rw c.read.ensures.same at c.read.ensures.wanted)
+    wanted_entry g.Q.SearchParameters.rules g.Q.SearchParameters.depart g.Q.SearchParameters.steps (g.P.Space.rules c.args.space.now) c.args.limits.now c.args.seen.entry c.requires.parameters (rw c.read.ensures.same at c.read.ensures.wanted)
 
 pub returns-then-read-eq0-clause-root : goal.returns-then-read-eq0-clause-root
 returns-then-read-eq0-clause-root g c =

@@ -1,7 +1,7 @@
 use Rattle.std.proofs.Common.{◌≡◌, ◌∙◌, length, arith, ap, sym}
 use Rattle.workpool.specs.Tallies.{Seated}
 use Rattle.workpool.specs.Inner.Rooms.{IsRoomFor}
-use Rattle.workpool.specs.Inner.Told.{TellsSums}
+use Rattle.workpool.specs.Inner.Totals.{TellsSums}
 use Rattle.workpool.proofs.JoinLemmas.{as_many, parts_stay, ring_back, stay_of}
 use Rattle.workpool.proofs.run.run_workers.Given.{Over}
 use Rattle.workpool.proofs.run.run_workers.Goals as goal

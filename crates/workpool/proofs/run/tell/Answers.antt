@@ -1,5 +1,5 @@
 use Rattle.std.proofs.Common.{arith, refl}
-use Rattle.workpool.proofs.ToldLemmas.{sums_told}
+use Rattle.workpool.proofs.TotalsLemmas.{sums_told}
 use Rattle.workpool.proofs.run.tell.Goals as goal
 
 pub returns-clause-sums : goal.returns-clause-sums

@@ -7,7 +7,7 @@ use Rattle.lines_text.proofs.sink.LinesSinkSink.take.Given as goal
 -- what taking the rest does, taking all does
 abbrev pub invariant-loop-item : goal.invariant-loop-item
 invariant-loop-item g l =
-    ((t : LinesSink _) → Takes g.O.Outlet.takes l.self (drop l.item-index l.items) t →
-    Takes g.O.Outlet.takes l.initial.self l.items t)
-    × ((t : LinesSink _) (fault : OrMemory _) → Fails g.O.Outlet.takes g.O.Outlet.fails l.self (drop l.item-index l.items) fault t →
-    Fails g.O.Outlet.takes g.O.Outlet.fails l.initial.self l.items fault t)
+    ((t : LinesSink _) → Takes g.O.ByteSink.takes l.self (drop l.item-index l.items) t →
+    Takes g.O.ByteSink.takes l.initial.self l.items t)
+    × ((t : LinesSink _) (fault : OrMemory _) → Fails g.O.ByteSink.takes g.O.ByteSink.fails l.self (drop l.item-index l.items) fault t →
+    Fails g.O.ByteSink.takes g.O.ByteSink.fails l.initial.self l.items fault t)

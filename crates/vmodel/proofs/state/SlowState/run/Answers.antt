@@ -1,17 +1,17 @@
 use Rattle.std.proofs.Common.{sym, ap, ◌∙◌}
-use Rattle.vmodel.specs.Parts.{written}
+use Rattle.vmodel.specs.Parts.{with_parts}
 use Rattle.vmodel.specs.State.{State}
-use Rattle.vmodel.specs.Step.{woken, complete}
-use Rattle.vmodel.specs.InnerStep.{ended}
+use Rattle.vmodel.specs.Step.{with_woken, complete}
+use Rattle.vmodel.specs.InnerStep.{with_cause}
 use Rattle.vmodel.proofs.RanLemmas.{ran}
 use Rattle.vmodel.proofs.state.SlowState.run.Goals as goal
 
 pub returns-clause-ok : goal.returns-clause-ok
 returns-clause-ok c =
-    let doing = c.in_ok-doing.doing in
-    let deed = doing.deed in
-    ran c.args.design.now c.args.number c.in-Some.spot c.in-Some.action.now c.held_by-held.result c.moment.result doing.then doing.next.now deed c.args.self.now
-    c.in-Some.ensures.0 c.in-Some.ensures.1 c.held_by-held.ensures c.moment.ensures c.in_ok-doing.ensures
-    ∙ ap (λ (t : State). complete deed (ended deed.cause (woken c.args.design.now t.values deed.triggered (record t { values = written deed.wrote t.values }))))
+    let execution = c.in_ok-execution.execution in
+    let effect = execution.effect in
+    ran c.args.design.now c.args.number c.in-Some.frame c.in-Some.action.now c.held_by-held.result c.environment.result execution.then execution.next.now effect c.args.self.now
+    c.in-Some.ensures.0 c.in-Some.ensures.1 c.held_by-held.ensures c.environment.ensures c.in_ok-execution.ensures
+    ∙ ap (λ (t : State). complete effect (with_cause effect.cause (with_woken c.args.design.now t.values effect.triggered (record t { values = with_parts effect.wrote t.values }))))
     (sym c.in_ok-place.ensures.ok)
     ∙ sym c.finish.ensures

@@ -1,7 +1,7 @@
 use Rattle.std.proofs.Common.{◌≡◌, ap, subst, ◌∙◌, sym}
-use Rattle.vmodel.specs.Parts.{written}
+use Rattle.vmodel.specs.Parts.{with_parts}
 use Rattle.vmodel.specs.State.{State}
-use Rattle.vmodel.specs.Step.{woken}
+use Rattle.vmodel.specs.Step.{with_woken}
 use Rattle.vmodel.specs.declared.values.Changes.TheVariants.{Many}
 use Rattle.vdesign.specs.Design.{Design}
 use Rattle.vmodel.proofs.RanLemmas.{awoken_is}
@@ -13,7 +13,7 @@ returns c =
     let actions = c.deref.ensures.value ∙ ap (λ (d : Design). d.actions) c.design.view_is in
     let after : State = Rattle.vmodel.specs.contracts.state.SlowState.the_view
     (record { values = c.write_all.new.self; processes = c.wake.new.processes; queue = c.wake.new.queue; cause = c.self.inside.cause }) in
-    subst (λ (t : State). after ≡ woken c.args.design.now t.values c.args.triggered (record t { values = written c.args.parts.now t.values }))
+    subst (λ (t : State). after ≡ with_woken c.args.design.now t.values c.args.triggered (record t { values = with_parts c.args.parts.now t.values }))
     c.self.view_is
     (awoken_is c.args.design.now c.args.parts.now s c.write_all.new.self c.wake.new.processes.items c.wake.new.queue c.deref.result.now (record { changes = Many c.as_slice.result c.args.parts; triggered = c.args.triggered })
-    c.write_all.ensures (sym c.as_slice.ensures, c.write_all.ensures ∙ ap (written c.args.parts.now) (sym c.as_slice.ensures)) actions c.wake.ensures.processes c.wake.ensures.queue)
+    c.write_all.ensures (sym c.as_slice.ensures, c.write_all.ensures ∙ ap (with_parts c.args.parts.now) (sym c.as_slice.ensures)) actions c.wake.ensures.processes c.wake.ensures.queue)

@@ -1,7 +1,7 @@
 use Rattle.std.proofs.Common.{◌≡◌, ◌∷◌, [], None, ap, subst, ◌∙◌}
 use Rattle.vmodel.specs.Parts.{write}
 use Rattle.vmodel.specs.State.{State}
-use Rattle.vmodel.specs.Step.{woken}
+use Rattle.vmodel.specs.Step.{with_woken}
 use Rattle.vmodel.specs.declared.values.Changes.TheVariants.{One}
 use Rattle.vdesign.specs.Design.{Design}
 use Rattle.vmodel.proofs.RanLemmas.{written_same, awoken_is}
@@ -13,7 +13,7 @@ returns-in-Some c =
     let actions = c.deref.ensures.value ∙ ap (λ (d : Design). d.actions) c.design.view_is in
     let after : State = Rattle.vmodel.specs.contracts.state.SlowState.the_view
     (record { values = c.write.new.self; processes = c.wake.new.processes; queue = c.wake.new.queue; cause = c.self.inside.cause }) in
-    subst (λ (t : State). after ≡ woken c.args.design.now t.values None (record t { values = write c.args.part t.values }))
+    subst (λ (t : State). after ≡ with_woken c.args.design.now t.values None (record t { values = write c.args.part t.values }))
     c.self.view_is
     (awoken_is c.args.design.now (c.args.part ∷ []) s c.write.new.self c.wake.new.processes.items c.wake.new.queue c.deref.result.now (record { changes = One c.in-Some.change; triggered = None })
     c.in-Some.ensures.values c.in-Some.ensures.change actions c.wake.ensures.processes c.wake.ensures.queue)
@@ -21,6 +21,6 @@ returns-in-Some c =
 pub returns-in_default : goal.returns-in_default
 returns-in_default c =
     let s : State = Rattle.vmodel.specs.contracts.state.SlowState.the_view c.self.inside in
-    subst (λ (t : State). Rattle.vmodel.specs.contracts.state.SlowState.the_view (record c.self.inside { values = c.write.new.self }) ≡ woken c.args.design.now t.values None (record t { values = write c.args.part t.values }))
+    subst (λ (t : State). Rattle.vmodel.specs.contracts.state.SlowState.the_view (record c.self.inside { values = c.write.new.self }) ≡ with_woken c.args.design.now t.values None (record t { values = write c.args.part t.values }))
     c.self.view_is
     (written_same c.args.design.now (c.args.part ∷ []) s c.write.new.self c.in_default.ensures.values c.in_default.ensures.change)

@@ -1,0 +1,537 @@
+// What a step of a process does (IEEE 1364-2005, clause 9): its disposition, what it writes, posts, shows, and whether it ends the run.
+
+ghost use Rattle.std.specs.Prelude.{◌≡◌, [], ℕ, List, cond, IfOk};
+ghost use Rattle.vvalue.specs.Value.{holds as holds_at, delay_of as delay_at};
+ghost use Rattle.vmodel.specs.declared.process.Frame.{Frame};
+ghost use Rattle.vmodel.specs.Step as spec;
+ghost use Rattle.vmodel.specs.Value.{assigned_parts as assigned_at, held_value as held_at, resumed_parts as resumed_at};
+ghost use Rattle.vmodel.specs.Step.{execute, execute_at};
+ghost use Rattle.vmodel.specs.InnerStep.{wait_result, behind, step_result, effect_of_end, while_result};
+
+use crate::history::Cause;
+use crate::part::Parts;
+use crate::process::Frame;
+use crate::value::{assigned_one, assigned_parts, held_value, resumed_parts};
+use basis::NoMemory;
+use std::alloc::Global;
+use vbits::Vec4;
+use vdesign::action::{Action, Places, Target, Targets};
+use vdesign::dump::{DumpCommand, DumpSwitch};
+use vdesign::expression::Expression;
+use vdesign::print::When;
+use vvalue::asked::{delay_of, holds};
+use vvalue::cases::{places_of_case, turns_of};
+use vvalue::environment::Environment;
+
+/// What becomes of a process by its step.
+#[derive(Clone, Copy, Debug, PartialEq, Eq)]
+pub enum Disposition {
+    /// It goes on, or has ended where it has nothing left.
+    Runnable,
+    /// It sleeps so long, in units of the precision (9.7.1).
+    Delayed(u128),
+    /// It waits for a change or a named event, at the action of this place (9.7.2, 9.7.3).
+    Waiting(usize),
+}
+
+/// An update that a step posts, for so much later, in units of the precision (9.7.7, 11.4).
+#[derive(Drop)]
+pub struct Post {
+    pub after: u128,
+    pub parts: Parts,
+}
+
+/// What a step shows at once.
+#[derive(Clone, Copy, Debug, PartialEq, Eq)]
+pub enum Shown {
+    /// A command to the dump (18.1).
+    Commands(DumpCommand),
+    /// The line of the print task at this place (17.1.1).
+    Prints(usize),
+    /// The monitor at this place is in force from now on (17.1.3).
+    Watches(usize),
+}
+
+/// What a step does, beside what its process has left.
+#[derive(Drop)]
+pub struct Effect {
+    /// The value that a suspended assignment holds from now on (9.7.7).
+    pub held: Option<Vec4>,
+    pub disposition: Disposition,
+    /// What is written, from left to right.
+    pub wrote: Parts,
+    /// A nonblocking update that is posted (11.4).
+    pub posted: Option<Post>,
+    /// The named event that is triggered (9.7.3).
+    pub triggered: Option<usize>,
+    /// What it shows at once.
+    pub shown: Option<Shown>,
+    /// A monitor event that is created: the line of the print task at this place, at the end of the slot (11.3, 17.1.2).
+    pub strobed: Option<usize>,
+    /// Why the run ends, if it does (17.4).
+    pub cause: Option<Cause>,
+}
+
+impl Effect {
+    /// What a step does that only goes on.
+    pub fn quiet() -> Effect
+        ensures { result ≡ spec.quiet }
+    {
+        Effect {
+            held: None,
+            disposition: Disposition::Runnable,
+            wrote: Parts::none(),
+            posted: None,
+            triggered: None,
+            shown: None,
+            strobed: None,
+            cause: None,
+        }
+    }
+}
+
+// A step that ends the run (17.4).
+fn end_effect(cause: Cause) -> Effect
+    ensures { result ≡ effect_of_end cause }
+{
+    Effect {
+        cause: Some(cause),
+        ..Effect::quiet()
+    }
+}
+
+// A step that writes (6.2).
+fn write_effect(parts: Parts) -> Effect
+    ensures { result ≡ record spec.quiet { wrote = parts } }
+{
+    Effect {
+        wrote: parts,
+        ..Effect::quiet()
+    }
+}
+
+// A step that posts an update for so much later (11.4).
+fn post_effect(after: u128, parts: Parts) -> Effect
+    ensures { result ≡ record spec.quiet { posted = Some (spec.post_after after parts) } }
+{
+    Effect {
+        posted: Some(Post { after, parts }),
+        ..Effect::quiet()
+    }
+}
+
+// A step that triggers a named event (9.7.3).
+fn trigger_effect(event: usize) -> Effect
+    ensures { result ≡ record spec.quiet { triggered = Some event } }
+{
+    Effect {
+        triggered: Some(event),
+        ..Effect::quiet()
+    }
+}
+
+// A step that suspends its process (9.7).
+fn suspend_effect(disposition: Disposition) -> Effect
+    ensures { result ≡ record spec.quiet { disposition = disposition } }
+{
+    Effect {
+        disposition,
+        ..Effect::quiet()
+    }
+}
+
+// The command that a dump task gives, but for `$dumpvars` (18.1).
+fn command_of(switch: DumpSwitch) -> DumpCommand
+    ensures { result ≡ spec.command_of switch }
+{
+    match switch {
+        DumpSwitch::Off => DumpCommand::Off,
+        DumpSwitch::On => DumpCommand::On,
+        DumpSwitch::All => DumpCommand::All,
+    }
+}
+
+// A step that shows something at once.
+fn show_effect(shown: Shown) -> Effect
+    ensures { result ≡ record spec.quiet { shown = Some shown } }
+{
+    Effect {
+        shown: Some(shown),
+        ..Effect::quiet()
+    }
+}
+
+// A step that creates a monitor event (17.1.2).
+fn strobe_effect(place: usize) -> Effect
+    ensures { result ≡ record spec.quiet { strobed = Some place } }
+{
+    Effect {
+        strobed: Some(place),
+        ..Effect::quiet()
+    }
+}
+
+// What the print task of this place does (17.1).
+fn print_effect(when: When, place: usize) -> Effect
+    ensures { result ≡ spec.print_effect when place }
+{
+    match when {
+        When::Now => show_effect(Shown::Prints(place)),
+        When::AtSlotEnd => strobe_effect(place),
+        When::AtChange => show_effect(Shown::Watches(place)),
+    }
+}
+
+/// What an action does: the places that come next, what comes behind them before the rest, and all else.
+#[derive(Drop)]
+pub struct Execution<'d> {
+    pub next: &'d [usize],
+    pub then: Option<Frame>,
+    pub effect: Effect,
+}
+
+// What comes next where an action only goes on.
+fn goes_to<'d>(next: &'d [usize]) -> Execution<'d>
+    ensures next { result.next.now ≡ next.now }
+    ensures then { result.then ≡ None }
+    ensures effect { result.effect ≡ spec.quiet }
+{
+    Execution {
+        next,
+        then: None,
+        effect: Effect::quiet(),
+    }
+}
+
+// What comes next where an action does this, and goes on.
+fn goes_by<'d>(next: &'d [usize], effect: Effect) -> Execution<'d>
+    ensures next { result.next.now ≡ next.now }
+    ensures then { result.then ≡ None }
+    ensures effect { result.effect ≡ effect }
+{
+    Execution {
+        next,
+        then: None,
+        effect,
+    }
+}
+
+// What comes next where an action comes again behind these places.
+fn comes_again<'d>(place: usize, next: &'d [usize]) -> Execution<'d>
+    ensures next { result.next.now ≡ next.now }
+    ensures then { result.then ≡ Some (Frame.Executing place) }
+    ensures effect { result.effect ≡ spec.quiet }
+{
+    Execution {
+        next,
+        then: Some(Frame::Executing(place)),
+        effect: Effect::quiet(),
+    }
+}
+
+// A `repeat` with so many turns left, where one is left (9.6).
+#[tactic(auto, using(crate::proofs::ContinuationLemmas::turning_left, crate::proofs::ContinuationLemmas::turning_done))]
+fn frame_of_turns(place: usize, turns: u64) -> Option<Frame>
+    ensures { (after : List Frame) → spec.turns_left place turns after ≡ behind result after }
+{
+    if turns == 0 {
+        None
+    } else {
+        Some(Frame::Repeating(place, turns))
+    }
+}
+
+// What comes next where a `repeat` has so many turns left behind these places (9.6).
+fn turns_first<'d>(place: usize, next: &'d [usize], turns: u64) -> Execution<'d>
+    ensures next { result.next.now ≡ next.now }
+    ensures then { (after : List Frame) →
+        spec.turns_left place turns after ≡ behind result.then after }
+    ensures effect { result.effect ≡ spec.quiet }
+{
+    Execution {
+        next,
+        then: frame_of_turns(place, turns),
+        effect: Effect::quiet(),
+    }
+}
+
+// What a `while` does (9.6).
+fn while_of<'d>(
+    place: usize,
+    condition: &Expression,
+    body: &'d Places,
+    environment: &Environment<'_>,
+) -> Execution<'d>
+    ensures { (after : List Frame) →
+        while_result place (holds_at environment.now condition.now) body.now after
+        ≡ step_result result.then result.next.now after result.effect }
+{
+    if holds(condition, environment) {
+        comes_again(place, body.as_slice())
+    } else {
+        goes_to(&[])
+    }
+}
+
+// What a `wait` does (9.7.6).
+fn wait_of<'d>(
+    place: usize,
+    condition: &Expression,
+    body: &'d Places,
+    environment: &Environment<'_>,
+) -> Execution<'d>
+    ensures { (after : List Frame) →
+        wait_result place (holds_at environment.now condition.now) body.now after
+        ≡ step_result result.then result.next.now after result.effect }
+{
+    if holds(condition, environment) {
+        return goes_to(body.as_slice());
+    }
+    Execution {
+        next: &[],
+        then: Some(Frame::Executing(place)),
+        effect: suspend_effect(Disposition::Waiting(place)),
+    }
+}
+
+// The branch of an `if` that comes next (9.4).
+fn branch_of<'d>(
+    condition: &Expression,
+    when_true: &'d Places,
+    otherwise: &'d Places,
+    environment: &Environment<'_>,
+) -> &'d [usize]
+    ensures { result.now ≡ cond (holds_at environment.now condition.now) when_true.now otherwise.now }
+{
+    if holds(condition, environment) {
+        when_true.as_slice()
+    } else {
+        otherwise.as_slice()
+    }
+}
+
+// What an `assign` does (6.1): it writes, and waits before it comes again.
+fn continuous_assign_of<'d>(place: usize, parts: Parts) -> Execution<'d>
+    ensures next { result.next.now ≡ [] }
+    ensures then { result.then ≡ Some (Frame.Executing place) }
+    ensures effect { result.effect ≡ record spec.quiet { wrote = parts; disposition = Disposition.Waiting place } }
+{
+    Execution {
+        next: &[],
+        then: Some(Frame::Executing(place)),
+        effect: Effect {
+            wrote: parts,
+            disposition: Disposition::Waiting(place),
+            ..Effect::quiet()
+        },
+    }
+}
+
+// What an assignment does (9.2.1).
+fn assign_of<'d>(
+    alloc: Global,
+    targets: &Targets,
+    value: &Expression,
+    environment: &Environment<'_>,
+) -> Result<Execution<'d>, NoMemory>
+    ensures next { IfOk result (λ execution. execution.next.now ≡ []) }
+    ensures then { IfOk result (λ execution. execution.then ≡ None) }
+    ensures effect { IfOk result (λ execution. execution.effect
+        ≡ record spec.quiet { wrote = assigned_at environment.now targets.now value.now }) }
+{
+    let parts = assigned_parts(alloc, targets, value, environment)?;
+    Ok(goes_by(&[], write_effect(parts)))
+}
+
+// What a nonblocking assignment does that is written so much later (9.2.2, 9.7.7).
+fn post_of<'d>(
+    alloc: Global,
+    delay: u128,
+    targets: &Targets,
+    value: &Expression,
+    environment: &Environment<'_>,
+) -> Result<Execution<'d>, NoMemory>
+    ensures next { IfOk result (λ execution. execution.next.now ≡ []) }
+    ensures then { IfOk result (λ execution. execution.then ≡ None) }
+    ensures effect { IfOk result (λ execution. execution.effect ≡ record spec.quiet {
+      posted = Some (spec.post_after delay (assigned_at environment.now targets.now value.now));
+    }) }
+{
+    let parts = assigned_parts(alloc, targets, value, environment)?;
+    Ok(goes_by(&[], post_effect(delay, parts)))
+}
+
+// What a suspended assignment does first (9.7.7): it takes its value, and sleeps before it writes.
+fn assign_delayed_of<'d>(
+    place: usize,
+    amount: &Expression,
+    targets: &Targets,
+    value: &Expression,
+    environment: &Environment<'_>,
+) -> Execution<'d>
+    ensures next { result.next.now ≡ [] }
+    ensures then { result.then ≡ Some (Frame.Writing place) }
+    ensures effect { result.effect ≡ record spec.quiet {
+      held = Some (held_at environment.now targets.now value.now);
+      disposition = Disposition.Delayed (delay_at environment.now amount.now);
+    } }
+{
+    Execution {
+        next: &[],
+        then: Some(Frame::Writing(place)),
+        effect: Effect {
+            held: Some(held_value(targets, value, environment)),
+            disposition: Disposition::Delayed(delay_of(amount, environment)),
+            ..Effect::quiet()
+        },
+    }
+}
+
+/// What the action of this place does at this moment. E901 is the only refusal.
+pub fn effect_of<'d>(
+    alloc: Global,
+    place: usize,
+    action: &'d Action,
+    environment: &Environment<'_>,
+) -> Result<Execution<'d>, NoMemory>
+    ensures { IfOk result (λ execution. (after : List Frame) →
+        execute place action.now after environment.now
+        ≡ step_result execution.then execution.next.now after execution.effect) }
+{
+    match action {
+        Action::Assign { targets, value } => assign_of(alloc, targets, value, environment),
+        Action::Nonblocking { targets, value } => post_of(alloc, 0, targets, value, environment),
+        Action::AssignDelayed {
+            amount,
+            targets,
+            value,
+        } => Ok(assign_delayed_of(place, amount, targets, value, environment)),
+        Action::NonblockingDelayed {
+            amount,
+            targets,
+            value,
+        } => post_of(
+            alloc,
+            delay_of(amount, environment),
+            targets,
+            value,
+            environment,
+        ),
+        Action::Trigger(event) => Ok(goes_by(&[], trigger_effect(*event))),
+        Action::Test {
+            condition,
+            when_true,
+            otherwise,
+        } => Ok(goes_to(branch_of(condition, when_true, otherwise, environment))),
+        Action::Case {
+            kind,
+            value,
+            branches,
+            otherwise,
+        } => Ok(goes_to(places_of_case(*kind, value, branches, otherwise, environment))),
+        Action::While { condition, body } => Ok(while_of(place, condition, body, environment)),
+        Action::Repeat { count, .. } => Ok(turns_first(place, &[], turns_of(count, environment))),
+        Action::Forever { body } => Ok(comes_again(place, body.as_slice())),
+        Action::Delay { amount, body } => {
+            let disposition = Disposition::Delayed(delay_of(amount, environment));
+            Ok(goes_by(body.as_slice(), suspend_effect(disposition)))
+        }
+        Action::EventControl { body, .. } => {
+            Ok(goes_by(body.as_slice(), suspend_effect(Disposition::Waiting(place))))
+        }
+        Action::Wait {
+            condition,
+            body,
+            ..
+        } => Ok(wait_of(place, condition, body, environment)),
+        Action::ContinuousAssign { net, value, .. } => {
+            let parts = assigned_one(&Target::Whole(*net), value, environment);
+            Ok(continuous_assign_of(place, parts))
+        }
+        Action::Print { when, .. } => Ok(goes_by(&[], print_effect(*when, place))),
+        Action::DumpVars(_) => {
+            Ok(goes_by(&[], show_effect(Shown::Commands(DumpCommand::Vars(place)))))
+        }
+        Action::Dump(switch) => {
+            Ok(goes_by(&[], show_effect(Shown::Commands(command_of(*switch)))))
+        }
+        Action::NoOperation => Ok(goes_to(&[])),
+        Action::Finish => Ok(goes_by(&[], end_effect(Cause::Finish))),
+        Action::Stop => Ok(goes_by(&[], end_effect(Cause::Stop))),
+    }
+}
+
+// What the start of a turn of the action at this place does, where so many turns are left (9.6).
+fn turn_of<'d>(place: usize, turns: u64, action: &'d Action) -> Execution<'d>
+    ensures { (after : List Frame) →
+        spec.execute_turn place turns action.now after
+        ≡ step_result result.then result.next.now after result.effect }
+{
+    match action {
+        Action::Repeat { body, .. } => {
+            turns_first(place, body.as_slice(), turns.saturating_sub(1))
+        }
+        _ => Execution {
+            next: &[],
+            then: Some(Frame::Repeating(place, turns)),
+            effect: Effect::quiet(),
+        },
+    }
+}
+
+// What a suspended assignment writes of the value that its process holds (9.7.7).
+fn written_of<'d>(
+    alloc: Global,
+    targets: &Targets,
+    held: Option<Vec4>,
+    environment: &Environment<'_>,
+) -> Result<Execution<'d>, NoMemory>
+    ensures next { IfOk result (λ execution. execution.next.now ≡ []) }
+    ensures then { IfOk result (λ execution. execution.then ≡ None) }
+    ensures effect { IfOk result (λ execution. execution.effect
+        ≡ record spec.quiet { wrote = resumed_at environment.now targets.now held }) }
+{
+    let parts = resumed_parts(alloc, targets, held, environment)?;
+    Ok(goes_by(&[], write_effect(parts)))
+}
+
+// What the second step of the suspended assignment at this place does, with the value that its process holds (9.7.7).
+fn resume_of<'d>(
+    alloc: Global,
+    place: usize,
+    action: &'d Action,
+    held: Option<Vec4>,
+    environment: &Environment<'_>,
+) -> Result<Execution<'d>, NoMemory>
+    ensures { IfOk result (λ execution. (after : List Frame) →
+        spec.resume place action.now after held environment.now
+        ≡ step_result execution.then execution.next.now after execution.effect) }
+{
+    match action {
+        Action::AssignDelayed { targets, .. } => written_of(alloc, targets, held, environment),
+        _ => Ok(Execution {
+            next: &[],
+            then: Some(Frame::Writing(place)),
+            effect: Effect::quiet(),
+        }),
+    }
+}
+
+/// What the action that this frame is at does at this moment, with the value that the process holds. E901 is the only refusal.
+pub fn effect_at<'d>(
+    alloc: Global,
+    frame: Frame,
+    action: &'d Action,
+    held: Option<Vec4>,
+    environment: &Environment<'_>,
+) -> Result<Execution<'d>, NoMemory>
+    ensures { IfOk result (λ execution. (after : List Frame) →
+        execute_at frame action.now after held environment.now
+        ≡ step_result execution.then execution.next.now after execution.effect) }
+{
+    match frame {
+        Frame::Executing(place) => effect_of(alloc, place, action, environment),
+        Frame::Repeating(place, turns) => Ok(turn_of(place, turns, action)),
+        Frame::Writing(place) => resume_of(alloc, place, action, held, environment),
+    }
+}

@@ -1,0 +1,21 @@
+use Rattle.std.proofs.Common.{ap, refl, ◌∙◌}
+use Rattle.vsrc.specs.Source.{file_bytes}
+use Rattle.vmodel.specs.Run.{Setting}
+use Rattle.vmodel.specs.declared.history.Grain.{Grain}
+use Rattle.vrace.specs.Request.{request_of}
+use Rattle.vrace.specs.Replays.{Replayed}
+use Rattle.vrace.proofs.replay.replay_input_of.Goals as goal
+
+pub returns-in-Ok-new-clause-ok : goal.returns-in-Ok-new-clause-ok
+returns-in-Ok-new-clause-ok c =
+    let replayed : Replayed (file_bytes c.args.files.now) (request_of c.args.options.now) c.args.log.now = record {
+      are_read = c.in-Ok.ensures.read;
+      design = c.in-Ok.placed.design;
+      is_design = c.in-Ok.ensures.ok;
+      head = c.in-Ok-named_log_of.named.0;
+      members = c.in-Ok-named_log_of.named.1;
+      is_log = c.in-Ok-named_log_of.ensures.ok.0;
+      written = c.in-Ok-named_log_of.ensures.ok.1;
+    } in
+    let with_grain : Grain → Setting = λ grain. record { design = c.in-Ok.placed.design; until = c.args.options.now.until; grain = grain } in
+    (replayed, c.in-Ok-new.ensures ∙ ap with_grain c.grain_under-grain.ensures, refl)

@@ -1,0 +1,25 @@
+-- What is asked of a call: the top module's name, the time limit, the steps of one run, and the grain.
+use Rattle.std.specs.Prelude.{ℕ, ◌≤◌, List, Option}
+use Rattle.vmodules.specs.Inner.{named_text}
+use Rattle.vmodel.specs.declared.history.Grain.{Grain}
+use Rattle.statebook.specs.Limits.{AreLimits}
+use Rattle.vrace.specs.declared.options.Options.{Options}
+
+pub record Request : Type 0 where
+  pub top : Option (List ℕ)
+  pub until : ℕ
+  pub steps : ℕ
+  pub grain : Grain
+
+abbrev pub request_of : Options → Request
+request_of options = record {
+  top = named_text options.top;
+  until = options.until;
+  steps = options.limits.steps;
+  grain = options.grain;
+}
+
+-- each number is within its limit
+pub record IsWithin (until depart steps entries : ℕ) : Type 0 where
+  pub not_too_late : until ≤ 4611686018427387903
+  pub limits : AreLimits depart steps entries
