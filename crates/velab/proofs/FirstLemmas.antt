@@ -1,5 +1,5 @@
 -- The first word of words in front of others.
-use Rattle.std.proofs.Common.{◌≡◌, ℕ, Option, None, Some, List, [], ◌∷◌, ◌++◌, refl}
+use Rattle.std.proofs.Common.{◌≡◌, ℕ, None, Some, List, [], ◌∷◌, ◌++◌, refl}
 use Rattle.vast.specs.NumberedWords.{Word}
 use Rattle.velab.specs.FirstWords.{head}
 use Rattle.velab.specs.Rules.{number_in}

@@ -1,5 +1,5 @@
 -- What a definition makes of a part of a text: a value, or the first fault in it. And what a call says by such an answer.
-use Rattle.std.specs.Prelude.{◌≡◌, Bool, true, false, Option, None, Some, Result, Ok, Err}
+use Rattle.std.specs.Prelude.{◌≡◌, Bool, true, false, Option, None, Some, List, ◌++◌, Result, Ok, Err}
 use Rattle.basis.specs.declared.memory.OrMemory.{OrMemory}
 use Rattle.basis.specs.declared.memory.OrMemory.TheVariants.{Fault, Memory}
 use Rattle.vast.specs.NumberedWords.{Word}
@@ -28,10 +28,19 @@ abbrev pub provided : {A : Type 0} → Bool → Rule → Option Word → Result 
 provided true rule word answer = answer
 provided false rule word answer = refused rule word
 
+-- what there is; where there is nothing, the rule is broken at this word
+abbrev pub found : {A : Type 0} → Option A → Rule → Option Word → Result A ElabFault
+found None rule word = refused rule word
+found (Some x) rule word = Ok x
+
 -- this, where no size is wrong
 abbrev pub unflawed : {A : Type 0} → Option Flaw → Option Word → A → Result A ElabFault
 unflawed None word x = Ok x
 unflawed (Some flaw) word x = refused (rule_of flaw) word
+
+-- what the answer lists, behind these
+abbrev pub behind : {A F : Type 0} → List A → Result (List A) F → Result (List A) F
+behind done answer = answer >>= λ more. Ok (done ++ more)
 
 -- ---- what a call says
 

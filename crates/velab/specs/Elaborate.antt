@@ -1,9 +1,7 @@
 -- What an instance of a module adds to a design (IEEE 1364-2005, clause 12): its names, its variables and its processes.
-use Rattle.std.specs.Prelude.{◌≡◌, ℕ, ◌+◌, ◌-◌, max, min, nat_le, nat_lt, Bool, true, false, ◌||◌, if◌then◌else◌, List, [], ◌∷◌, ◌++◌, map, length, Option, None, Some, is_some, unwrap_or, option_map}
-use Rattle.std.specs.List.{filter, list_any, list_all, flat_map, filter_map, find}
+use Rattle.std.specs.Prelude.{ℕ, ◌+◌, ◌-◌, max, min, nat_le, nat_lt, Bool, true, false, if◌then◌else◌, List, [], ◌∷◌, ◌++◌, map, length, Option, None, Some, unwrap_or, option_map, Result, Ok}
+use Rattle.std.specs.List.{filter, flat_map, filter_map}
 use Rattle.std.specs.Option.{option_or}
-use Rattle.std.specs.Borrow.{Bor}
-use Rattle.std.specs.Str.{bytes_eq}
 use Rattle.vbits.specs.declared.bit4.Bit4.TheVariants.{X, Z}
 use Rattle.vbits.specs.declared.bit4.Bit4.{Bit4}
 use Rattle.vast.specs.Words.{Text}
@@ -15,7 +13,7 @@ use Rattle.vbits.specs.Vectors.{Vector, with_sign}
 use Rattle.vmodules.specs.Ports.{Port, ports_of}
 use Rattle.vmodules.specs.Connected.{NamedConnection, value_for}
 use Rattle.vmodules.specs.Names.{is_declared, letters_of}
-use Rattle.vast.specs.NumberedModules.{RangeTree, ParameterType, integer, typed, HeadParameter, DeclarationKind, variables, integers, SettingTree, DeclaredTree, ItemTree, parameters, declaration, events, assignments, initial, always, instances, ModuleTree, SourceTree}
+use Rattle.vast.specs.NumberedModules.{RangeTree, ParameterType, integer, typed, HeadParameter, DeclarationKind, variables, integers, SettingTree, DeclaredTree, ItemTree, parameters, declaration, events, assignments, initial, always, instances, ModuleTree}
 use Rattle.vast.specs.declared.module.NetKind.{NetKind}
 use Rattle.vast.specs.declared.module.NetKind.TheVariants as net
 use Rattle.vdesign.specs.Design as design
@@ -27,13 +25,11 @@ use Rattle.vast.specs.declared.statement.Dumping.{Dumping}
 use Rattle.vast.specs.declared.statement.Dumping.TheVariants as dumps
 use Rattle.velab.specs.Selections.{selection_of, broken_selection}
 use Rattle.vdesign.specs.declared.action.Target.{Target}
-use Rattle.basis.specs.declared.timescale.Timescale.{Timescale}
 use Rattle.vdesign.specs.declared.design.Kind.{Kind}
 use Rattle.vdesign.specs.declared.design.Kind.TheVariants.{Reg, Integer, Wire}
 use Rattle.vdesign.specs.declared.expression.Bounds.{Bounds}
 use Rattle.vdesign.specs.Expressions.{ExpressionTree}
 use Rattle.vvalue.specs.Value.{right_side}
-use Rattle.vvalue.specs.declared.flaw.Flaw.{Flaw}
 use Rattle.velab.specs.declared.fault.ElabFault.{ElabFault}
 use Rattle.velab.specs.declared.fault.Rule.TheVariants as rule
 use Rattle.velab.specs.declared.scope.Meaning.{Meaning}
@@ -42,7 +38,8 @@ use Rattle.velab.specs.FirstWords.{first_in, first_target, first_delay, first_ar
 use Rattle.velab.specs.Rules.{told, number_in, unless, broken_if}
 use Rattle.velab.specs.Scopes.{Scope, at, number_of, event_of, broken_variable, broken_event}
 use Rattle.velab.specs.Constants.{nothing, worth, bound_in}
-use Rattle.velab.specs.Resolved.{resolved, resolved_constant, worth_in, broken_expression, broken_constant, broken_worth}
+use Rattle.velab.specs.Answers.{◌>>=◌, required, found, fault_of, value_or}
+use Rattle.velab.specs.Resolved.{resolved, resolved_constant, lower_value, broken_expression, broken_constant}
 use Rattle.velab.specs.Written.{row_of, broken_target}
 use Rattle.velab.specs.Prints.{when_of, pieces_in, broken_line}
 use Rattle.velab.specs.Waits.{any_of, names_in, terms_of, broken_control}
@@ -99,23 +96,31 @@ port_declaration p = declared (kind_of p.net) p.type.signed p.type.range p.name
 abbrev pub span : Bounds → ℕ
 span bounds = max bounds.left bounds.right - min bounds.left bounds.right + 1
 
--- 0 stands for what is no bound
-abbrev pub bound_of : Scope → text.ExpressionTree → ℕ
-bound_of scope tree = unwrap_or (bound_in (worth_in scope tree)) 0
+-- 4.3.1: a bound, told by its first word where it is none
+abbrev pub lower_bound : Scope → text.ExpressionTree → Result ℕ ElabFault
+lower_bound scope tree = lower_value scope tree >>= λ value. found (bound_in value) rule.Width (first_in tree)
 
+-- at most 64 bits from one bound to the other
+abbrev pub narrow : Option Word → Bounds → Result Bounds ElabFault
+narrow word bounds = required (nat_le (span bounds) 64) rule.Width word bounds
+
+abbrev pub lower_range : Scope → RangeTree → Result Bounds ElabFault
+lower_range scope range =
+    lower_bound scope range.left >>= λ left.
+    lower_bound scope range.right >>= λ right.
+    narrow (first_in range.left) (record { left = left; right = right })
+
+-- the bounds of a range, where there is one
+abbrev pub lower_bounds : Scope → Option RangeTree → Result (Option Bounds) ElabFault
+lower_bounds scope None = Ok None
+lower_bounds scope (Some range) = lower_range scope range >>= λ bounds. Ok (Some bounds)
+
+-- the same in two parts, as stages above take them
 abbrev pub bounds_of : Scope → RangeTree → Bounds
-bounds_of scope range = record { left = bound_of scope range.left; right = bound_of scope range.right }
+bounds_of scope range = value_or (record { left = 0; right = 0 }) (lower_range scope range)
 
--- 4.3.1
-abbrev pub broken_bound : Scope → text.ExpressionTree → Option ElabFault
-broken_bound scope tree = option_or (broken_worth scope tree) (unless (is_some (bound_in (worth_in scope tree))) rule.Width (first_in tree))
-
--- two bounds, and at most 64 bits from one to the other
 abbrev pub broken_range : Scope → Option RangeTree → Option ElabFault
-broken_range scope None = None
-broken_range scope (Some range) =
-    option_or (broken_bound scope range.left)
-    (option_or (broken_bound scope range.right) (unless (nat_le (span (bounds_of scope range)) 64) rule.Width (first_in range.left)))
+broken_range scope range = fault_of (lower_bounds scope range)
 
 abbrev pub broken_kind : Scope → DeclarationKind → Option ElabFault
 broken_kind scope (variables word type) = broken_range scope type.range
@@ -554,7 +559,7 @@ broken_assignment scope target amount value =
 abbrev pub broken_task : Scope → TaskTree → Option ElabFault
 broken_task scope (print kind arguments) = broken_line scope arguments
 broken_task scope (dump_file letters) = None
-broken_task scope (dump_vars selection) = broken_selection selection
+broken_task scope (dump_vars selection) = broken_selection scope selection
 broken_task scope (dump kind) = None
 broken_task scope (end_run stops digits) = None
 

@@ -116,14 +116,8 @@ resolved scope tree = value_or no_parts (lower_expression scope tree)
 abbrev pub resolved_constant : Scope → text.ExpressionTree → ExpressionTree
 resolved_constant scope tree = value_or no_parts (lower_constant scope tree)
 
-abbrev pub worth_in : Scope → text.ExpressionTree → Vector
-worth_in scope tree = value_or (filled 1 X) (lower_value scope tree)
-
 abbrev pub broken_expression : Scope → text.ExpressionTree → Option ElabFault
 broken_expression scope tree = fault_of (lower_expression scope tree)
 
 abbrev pub broken_constant : Scope → text.ExpressionTree → Option ElabFault
 broken_constant scope tree = fault_of (lower_constant scope tree)
-
-abbrev pub broken_worth : Scope → text.ExpressionTree → Option ElabFault
-broken_worth scope tree = fault_of (lower_value scope tree)

@@ -1,5 +1,5 @@
 -- What a `$dumpvars` selects (IEEE 1364-2005, 12.5, 18.1.2).
-use Rattle.std.specs.Prelude.{ℕ, List, [], ◌∷◌, ◌++◌, map, Option, None, Some, is_some, unwrap_or}
+use Rattle.std.specs.Prelude.{ℕ, List, [], ◌∷◌, ◌++◌, map, Option, None, Some, Result, Ok}
 use Rattle.std.specs.List.{flat_map}
 use Rattle.vbits.specs.Numbers.{number}
 use Rattle.vast.specs.Words.{Text}
@@ -7,7 +7,7 @@ use Rattle.vast.specs.NumberedWords.{Word}
 use Rattle.vast.specs.NumberedStatements.{SelectionTree}
 use Rattle.vdesign.specs.declared.dump.Chosen.{Chosen}
 use Rattle.velab.specs.Literals.{constant_of}
-use Rattle.velab.specs.Rules.{unless}
+use Rattle.velab.specs.Answers.{◌>>=◌, found, fault_of, value_or}
 use Rattle.velab.specs.Scopes.{Scope}
 use Rattle.velab.specs.declared.fault.ElabFault.{ElabFault}
 use Rattle.velab.specs.declared.fault.Rule.TheVariants.{Kind}
@@ -29,12 +29,16 @@ abbrev pub chosen_by : Text → ℕ → List (List Word) → List Chosen
 chosen_by top levels [] = chosen_of levels top ∷ []
 chosen_by top levels (path ∷ more) = map (λ names. chosen_of levels (dotted_path names)) (path ∷ more)
 
--- without a number everything is
-abbrev pub selection_of : Scope → Option SelectionTree → List Chosen
-selection_of scope None = []
-selection_of scope (Some selection) = chosen_by scope.top (unwrap_or (levels_in selection.levels) 0) selection.paths
+-- without a number everything is; the number has no unknown bit
+abbrev pub lower_selection : Scope → Option SelectionTree → Result (List Chosen) ElabFault
+lower_selection scope None = Ok []
+lower_selection scope (Some selection) =
+    found (levels_in selection.levels) Kind (Some selection.levels) >>= λ levels. Ok (chosen_by scope.top levels selection.paths)
 
--- the number has no unknown bit
-abbrev pub broken_selection : Option SelectionTree → Option ElabFault
-broken_selection None = None
-broken_selection (Some selection) = unless (is_some (levels_in selection.levels)) Kind (Some selection.levels)
+-- ---- the same in two parts, as stages above take them
+
+abbrev pub selection_of : Scope → Option SelectionTree → List Chosen
+selection_of scope selection = value_or [] (lower_selection scope selection)
+
+abbrev pub broken_selection : Scope → Option SelectionTree → Option ElabFault
+broken_selection scope selection = fault_of (lower_selection scope selection)

@@ -1,29 +1,37 @@
--- What assignments write to (IEEE 1364-2005, 5.1.14, 5.2.1, 6.2): targets of the text, their names resolved.
-use Rattle.std.specs.Prelude.{ℕ, List, [], ◌∷◌, ◌++◌, Option, None}
-use Rattle.std.specs.Option.{option_or}
+-- What assignments write to (IEEE 1364-2005, 5.1.14, 5.2.1, 6.2): targets of the text, lowered to those of a design.
+use Rattle.std.specs.Prelude.{ℕ, List, [], ◌∷◌, ◌++◌, Option, Result, Ok}
 use Rattle.vast.specs.NumberedExpressions as text
 use Rattle.vast.specs.NumberedStatements.{TargetTree, TargetTrees, whole, bit, part, joined, none, first}
 use Rattle.vast.specs.declared.statement.Target.{Target as Written, Joined'}
 use Rattle.vast.specs.declared.statement.Target.TheVariants as written
 use Rattle.vdesign.specs.declared.action.Target.{Target}
 use Rattle.vdesign.specs.declared.action.Target.TheVariants.{Whole, Bit, Part}
+use Rattle.vdesign.specs.declared.expression.Bounds.{Bounds}
 use Rattle.velab.specs.declared.fault.ElabFault.{ElabFault}
-use Rattle.velab.specs.Scopes.{Scope, number_of, broken_variable}
+use Rattle.velab.specs.Answers.{◌>>=◌, fault_of, value_or}
+use Rattle.velab.specs.Scopes.{Scope, lower_variable}
 use Rattle.velab.specs.Constants.{part_bounds}
-use Rattle.velab.specs.Resolved.{resolved, worth_in, broken_expression, broken_worth}
+use Rattle.velab.specs.Resolved.{lower_expression, lower_value}
 
--- the targets in a row, the leftmost first: concatenations within stand in the same row (5.1.14)
+-- the two bounds of a part are constants
+abbrev pub lower_bounds : Scope → text.ExpressionTree → text.ExpressionTree → Result Bounds ElabFault
+lower_bounds scope left right = lower_value scope left >>= λ high. lower_value scope right >>= λ low. Ok (part_bounds high low)
+
+-- The targets in a row, the leftmost first: concatenations within stand in the same row (5.1.14). What is written is a variable; whether it
+-- has such a bit or part is looked at in the finished design.
 abbrev mutual
-  pub row_of : Scope → TargetTree → List Target
-  row_of scope (whole letters) = Whole (number_of scope letters) ∷ []
-  row_of scope (bit letters index) = Bit (number_of scope letters) (resolved scope index) ∷ []
-  row_of scope (part letters left right) =
-      Part (number_of scope letters) (part_bounds (worth_in scope left) (worth_in scope right)) ∷ []
-  row_of scope (joined targets) = row_of_all scope targets
+  pub lower_target : Scope → TargetTree → Result (List Target) ElabFault
+  lower_target scope (whole letters) = lower_variable scope letters >>= λ number. Ok (Whole number ∷ [])
+  lower_target scope (bit letters index) =
+      lower_variable scope letters >>= λ number. lower_expression scope index >>= λ place. Ok (Bit number place ∷ [])
+  lower_target scope (part letters left right) =
+      lower_variable scope letters >>= λ number. lower_bounds scope left right >>= λ bounds. Ok (Part number bounds ∷ [])
+  lower_target scope (joined targets) = lower_targets scope targets
 
-  pub row_of_all : Scope → TargetTrees → List Target
-  row_of_all scope none = []
-  row_of_all scope (first one more) = row_of scope one ++ row_of_all scope more
+  pub lower_targets : Scope → TargetTrees → Result (List Target) ElabFault
+  lower_targets scope none = Ok []
+  lower_targets scope (first one more) =
+      lower_target scope one >>= λ front. lower_targets scope more >>= λ others. Ok (front ++ others)
 
 -- the token that a target begins with
 abbrev pub first_token : Written → ℕ
@@ -32,18 +40,10 @@ first_token (written.Bit name index) = name.number
 first_token (written.Part name left right) = name.number
 first_token (Joined' at shape row) = at
 
--- the two bounds of a part are constants
-abbrev pub broken_bounds : Scope → text.ExpressionTree → text.ExpressionTree → Option ElabFault
-broken_bounds scope left right = option_or (broken_worth scope left) (broken_worth scope right)
+-- ---- the same in two parts, as stages above take them
 
--- what is written is a variable; whether it has such a bit or part is looked at in the finished design
-abbrev mutual
-  pub broken_target : Scope → TargetTree → Option ElabFault
-  broken_target scope (whole letters) = broken_variable scope letters
-  broken_target scope (bit letters index) = option_or (broken_variable scope letters) (broken_expression scope index)
-  broken_target scope (part letters left right) = option_or (broken_variable scope letters) (broken_bounds scope left right)
-  broken_target scope (joined targets) = broken_targets scope targets
+abbrev pub row_of : Scope → TargetTree → List Target
+row_of scope target = value_or [] (lower_target scope target)
 
-  pub broken_targets : Scope → TargetTrees → Option ElabFault
-  broken_targets scope none = None
-  broken_targets scope (first one more) = option_or (broken_target scope one) (broken_targets scope more)
+abbrev pub broken_target : Scope → TargetTree → Option ElabFault
+broken_target scope target = fault_of (lower_target scope target)

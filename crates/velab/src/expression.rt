@@ -155,14 +155,8 @@ pub fn worth(
     tokens: &Tokens<'_>,
     expression: &Value,
 ) -> Result<Vec4, OrMemory<ElabFault>>
-    ensures gives { Gives result
+    ensures { Gives result
         (lower_value scope.now (text.tree_of (words_of tokens.now) expression.now)) }
-    ensures ok { IfOk result (λ value. value ≡
-        spec.worth_in scope.now (text.tree_of (words_of tokens.now) expression.now)) }
-    ensures right { OnOk result
-        (spec.broken_worth scope.now (text.tree_of (words_of tokens.now) expression.now) ≡ None) }
-    ensures err { IfFault result (IsBroken
-        (spec.broken_worth scope.now (text.tree_of (words_of tokens.now) expression.now))) }
 {
     let mut nodes = Vec::new(alloc);
     put_expression(alloc, scope, true, tokens, expression, &mut nodes)?;

@@ -1,9 +1,10 @@
 // Ranges: the bounds that vectors are declared with (IEEE 1364-2005, 4.3.1).
-ghost use Rattle.std.specs.Prelude.{◌≡◌, ◌≤◌, Some, None, option_map, IfOk, OnOk};
+ghost use Rattle.std.specs.Prelude.{◌≡◌, ◌≤◌, None, option_map, IfOk, OnOk};
 ghost use Rattle.basis.specs.Reasons.{IfFault};
 ghost use Rattle.vast.specs.NumberedTrees.{tree_of};
 ghost use Rattle.vast.specs.NumberedTrees.{range_tree};
 ghost use Rattle.vexpr_parse.specs.Texts.{words_of};
+ghost use Rattle.velab.specs.Answers.{Gives};
 ghost use Rattle.velab.specs.Elaborate as spec;
 ghost use Rattle.velab.specs.Inner.{written_bounds, IsNarrow};
 ghost use Rattle.velab.specs.Rules.{IsBroken};
@@ -28,13 +29,9 @@ fn right_bound(
     tokens: &Tokens<'_>,
     bound: &Expression,
 ) -> Result<u32, OrMemory<ElabFault>>
-    ensures ok { IfOk result (λ n.
-        n ≡ spec.bound_of scope.now (tree_of (words_of tokens.now) bound.now)) }
+    ensures gives { Gives result
+        (spec.lower_bound scope.now (tree_of (words_of tokens.now) bound.now)) }
     ensures within { IfOk result (λ n. n ≤ 65535) }
-    ensures right { OnOk result
-        (spec.broken_bound scope.now (tree_of (words_of tokens.now) bound.now) ≡ None) }
-    ensures err { IfFault result
-        (IsBroken (spec.broken_bound scope.now (tree_of (words_of tokens.now) bound.now))) }
 {
     let value = worth(alloc, scope, tokens, bound)?;
     match bound_in(value) {
@@ -61,14 +58,9 @@ fn bounds_of(
     tokens: &Tokens<'_>,
     range: &Written,
 ) -> Result<Bounds, OrMemory<ElabFault>>
-    ensures ok { IfOk result (λ bounds.
-        bounds ≡ spec.bounds_of scope.now (range_tree (words_of tokens.now) range.now)) }
-    ensures right { OnOk result
-        (spec.broken_range scope.now (Some (range_tree (words_of tokens.now) range.now)) ≡ None) }
+    ensures gives { Gives result
+        (spec.lower_range scope.now (range_tree (words_of tokens.now) range.now)) }
     ensures few { IfOk result (λ bounds. spec.span bounds ≤ 64) }
-    ensures err { IfFault result
-        (IsBroken (spec.broken_range scope.now (Some (range_tree (words_of tokens.now)
-        range.now)))) }
 {
     let left = right_bound(alloc, scope, tokens, &range.left)?;
     let right = right_bound(alloc, scope, tokens, &range.right)?;
@@ -89,6 +81,8 @@ pub fn range_bounds(
     tokens: &Tokens<'_>,
     range: &Option<Written>,
 ) -> Result<Option<Bounds>, OrMemory<ElabFault>>
+    ensures gives { Gives result (spec.lower_bounds scope.now
+        (option_map (range_tree (words_of tokens.now)) range.now)) }
     ensures ok { IfOk result (λ bounds. bounds ≡ written_bounds (words_of tokens.now) scope.now
         range.now) }
     ensures few { IfOk result IsNarrow }

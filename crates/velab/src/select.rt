@@ -8,6 +8,7 @@ ghost use Rattle.vast.specs.NumberedWords.{numbered};
 ghost use Rattle.vexpr_parse.specs.Texts.{words_of};
 ghost use Rattle.velab.specs.Inner.{all_chosen};
 ghost use Rattle.vast.specs.Words.{Text as TextLetters};
+ghost use Rattle.velab.specs.Answers.{Gives};
 ghost use Rattle.velab.specs.Rules.{number_in, IsBroken};
 ghost use Rattle.velab.specs.Selections as spec;
 
@@ -108,11 +109,13 @@ pub fn selection_of(
     tokens: &Tokens<'_>,
     selection: &Option<Written>,
 ) -> Result<Selection, OrMemory<ElabFault>>
+    ensures gives { Gives result (spec.lower_selection scope.now
+        (option_map (selection_tree (words_of tokens.now)) selection.now)) }
     ensures ok { IfOk result (λ list. list ≡ spec.selection_of scope.now
         (option_map (selection_tree (words_of tokens.now)) selection.now)) }
-    ensures right { OnOk result (spec.broken_selection
+    ensures right { OnOk result (spec.broken_selection scope.now
         (option_map (selection_tree (words_of tokens.now)) selection.now) ≡ None) }
-    ensures err { IfFault result (IsBroken (spec.broken_selection
+    ensures err { IfFault result (IsBroken (spec.broken_selection scope.now
         (option_map (selection_tree (words_of tokens.now)) selection.now))) }
 {
     match selection {

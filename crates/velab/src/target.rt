@@ -1,15 +1,14 @@
 // What assignments write to (IEEE 1364-2005, 5.1.14, 5.2.1, 6.2).
 
-ghost use Rattle.std.specs.Prelude.{◌≡◌, ◌≤◌, ◌∷◌, [], ◌++◌, None, IfOk, OnOk};
+ghost use Rattle.std.specs.Prelude.{◌≡◌, None, IfOk, OnOk};
 ghost use Rattle.basis.specs.Reasons.{IfFault};
 ghost use Rattle.vast.specs.NumberedTrees.{tree_of as text_tree};
 ghost use Rattle.vast.specs.NumberedTrees.{target_tree, target_trees};
 ghost use Rattle.vexpr_parse.specs.Texts.{words_of};
-ghost use Rattle.velab.specs.Constants as constants;
-ghost use Rattle.velab.specs.Resolved.{worth_in};
+ghost use Rattle.velab.specs.Answers.{Gives, Makes, behind};
 ghost use Rattle.velab.specs.Rules.{IsBroken};
 ghost use Rattle.velab.specs.Written as spec;
-ghost use Rattle.velab.specs.Written.{row_of, row_of_all, broken_target, broken_targets};
+ghost use Rattle.velab.specs.Written.{lower_target, lower_targets, row_of, broken_target};
 
 use crate::constant::part_bounds;
 use crate::expression::{expression_of, worth};
@@ -35,15 +34,6 @@ pub fn first_token(target: &Written) -> u32
     }
 }
 
-// One target more.
-fn put(into: &mut Vec<Target>, target: Target) -> Result<(), OrMemory<ElabFault>>
-    ensures ok { OnOk result (into.new.items ≡ into.old.items ++ target ∷ []) }
-    ensures err { IfFault result (IsBroken None) }
-{
-    into.push(target)?;
-    Ok(())
-}
-
 // The bounds of a part. E303, E306 or E307 where one isn't constant.
 fn bounds_of(
     alloc: Global,
@@ -52,14 +42,8 @@ fn bounds_of(
     left: &Expression,
     right: &Expression,
 ) -> Result<Bounds, OrMemory<ElabFault>>
-    ensures ok { IfOk result (λ bounds. bounds ≡ constants.part_bounds
-        (worth_in scope.now (text_tree (words_of tokens.now) left.now))
-        (worth_in scope.now (text_tree (words_of tokens.now) right.now))) }
-    ensures right { OnOk result (spec.broken_bounds scope.now
-        (text_tree (words_of tokens.now) left.now)
-        (text_tree (words_of tokens.now) right.now) ≡ None) }
-    ensures err { IfFault result (IsBroken (spec.broken_bounds scope.now
-        (text_tree (words_of tokens.now) left.now) (text_tree (words_of tokens.now) right.now))) }
+    ensures { Gives result (spec.lower_bounds scope.now
+        (text_tree (words_of tokens.now) left.now) (text_tree (words_of tokens.now) right.now)) }
 {
     let left = worth(alloc, scope, tokens, left)?;
     let right = worth(alloc, scope, tokens, right)?;
@@ -75,27 +59,23 @@ fn put_target(
     target: &Written,
     into: &mut Vec<Target>,
 ) -> Result<(), OrMemory<ElabFault>>
-    ensures ok { OnOk result (into.new.items ≡ into.old.items
-        ++ row_of scope.now (target_tree (words_of tokens.now) target.now)) }
-    ensures right { OnOk result
-        (broken_target scope.now (target_tree (words_of tokens.now) target.now) ≡ None) }
-    ensures err { IfFault result
-        (IsBroken (broken_target scope.now (target_tree (words_of tokens.now) target.now))) }
+    ensures { Makes result into.new.items (behind into.old.items
+        (lower_target scope.now (target_tree (words_of tokens.now) target.now))) }
 {
     match target {
         Written::Whole(name) => {
             let number = number_of(scope, tokens, *name)?;
-            put(into, Target::Whole(number))
+            Ok(into.push(Target::Whole(number))?)
         }
         Written::Bit { name, index } => {
             let variable = number_of(scope, tokens, *name)?;
             let index = expression_of(alloc, scope, tokens, index)?;
-            put(into, Target::Bit { variable, index })
+            Ok(into.push(Target::Bit { variable, index })?)
         }
         Written::Part { name, left, right } => {
             let variable = number_of(scope, tokens, *name)?;
             let bounds = bounds_of(alloc, scope, tokens, left, right)?;
-            put(into, Target::Part { variable, bounds })
+            Ok(into.push(Target::Part { variable, bounds })?)
         }
         Written::Joined { targets, .. } => put_targets(alloc, scope, tokens, targets, into),
     }
@@ -110,12 +90,8 @@ fn put_targets(
     targets: &[Written],
     into: &mut Vec<Target>,
 ) -> Result<(), OrMemory<ElabFault>>
-    ensures ok { OnOk result (into.new.items ≡ into.old.items
-        ++ row_of_all scope.now (target_trees (words_of tokens.now) targets.now)) }
-    ensures right { OnOk result
-        (broken_targets scope.now (target_trees (words_of tokens.now) targets.now) ≡ None) }
-    ensures err { IfFault result
-        (IsBroken (broken_targets scope.now (target_trees (words_of tokens.now) targets.now))) }
+    ensures { Makes result into.new.items (behind into.old.items
+        (lower_targets scope.now (target_trees (words_of tokens.now) targets.now))) }
 {
     for one in targets {
         put_target(alloc, scope, tokens, one, into)?;
@@ -131,6 +107,8 @@ pub fn targets_of(
     tokens: &Tokens<'_>,
     target: &Written,
 ) -> Result<Targets, OrMemory<ElabFault>>
+    ensures gives { Gives result
+        (lower_target scope.now (target_tree (words_of tokens.now) target.now)) }
     ensures ok { IfOk result (λ targets.
         targets ≡ row_of scope.now (target_tree (words_of tokens.now) target.now)) }
     ensures right { OnOk result

@@ -1,6 +1,6 @@
-use Rattle.std.proofs.Common.{◌≡◌, Ok, Err, ap, sym, ◌∙◌}
+use Rattle.std.proofs.Common.{Err, ap, sym, ◌∙◌}
 use Rattle.vast.specs.NumberedTrees.{tree_of}
-use Rattle.vvalue.specs.Value.{Environment, by_itself}
+use Rattle.vvalue.specs.Value.{Environment}
 use Rattle.vvalue.specs.Flaws.{flaw_of}
 use Rattle.velab.specs.Answers.{unflawed}
 use Rattle.velab.specs.Constants.{worth}

@@ -1,8 +1,6 @@
-use Rattle.std.proofs.Common.{◌≡◌, map, refl, arith}
+use Rattle.std.proofs.Common.{map, refl, arith}
 use Rattle.vast.specs.NumberedTrees.{item_tree}
 use Rattle.vexpr_parse.specs.Texts.{words_of}
-use Rattle.vmodules.specs.Names.{again_behind}
-use Rattle.vmodules.specs.Inner.{with_words}
 use Rattle.vmodules.proofs.ListLemmas.{handed_on, words_names, words_new, opened_again, words_all, none_again}
 use Rattle.velab.specs.declared.fault.Rule.TheVariants.{Doubled}
 use Rattle.velab.specs.Inner.{declared_in, names_of, DoublesIn}

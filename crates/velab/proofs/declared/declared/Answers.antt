@@ -1,4 +1,4 @@
-use Rattle.std.proofs.Common.{◌≡◌, [], ◌++◌, None, List, map, ap, sym, subst, ◌∙◌}
+use Rattle.std.proofs.Common.{◌≡◌, [], ◌++◌, None, List, map, ap, sym, ◌∙◌}
 use Rattle.std.proofs.lemmas.List.{map-append}
 use Rattle.std.specs.Option.{option_or}
 use Rattle.vast.specs.Words.{Text}
@@ -10,10 +10,9 @@ use Rattle.vmodules.specs.Inner.{with_words}
 use Rattle.vmodules.proofs.NameLemmas.{again_append}
 use Rattle.vmodules.proofs.ListLemmas.{handed_on}
 use Rattle.velab.specs.declared.fault.Rule.TheVariants.{Doubled}
-use Rattle.velab.specs.declared.fault.ElabFault.{ElabFault}
-use Rattle.velab.specs.Rules.{broken_at, IsBroken}
+use Rattle.velab.specs.Rules.{broken_at}
 use Rattle.velab.specs.Inner.{declared_in, port_texts, names_before, DoublesIn}
-use Rattle.velab.proofs.FaultLemmas.{part_told, both_right}
+use Rattle.velab.proofs.FaultLemmas.{part_told}
 use Rattle.velab.proofs.declared.declared.Goals as goal
 
 -- words in front of others, of which none stands again

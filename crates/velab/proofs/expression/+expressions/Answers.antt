@@ -32,7 +32,7 @@ put_expression-returns-in_ok-count-in-Replication t c =
     c.deref-in-Replication-2.ensures.value)
     (subst (λ (v : Result Vector ElabFault). Makes c.put_repeated.result c.put_repeated.new.nodes.items (nodes_behind c.args.nodes.now.items
     (v >>= λ amount. times amount (lower_joined c.args.fixed c.args.scope.now (trees_of words c.deref-in-Replication-2.result.now)))))
-    (sym c.in_ok-count-in-Replication.ensures.gives) c.put_repeated.ensures)
+    (sym c.in_ok-count-in-Replication.ensures) c.put_repeated.ensures)
 
 pub put_parts-loop-one-preserved : goal.put_parts-loop-one-preserved
 put_parts-loop-one-preserved t c = record {

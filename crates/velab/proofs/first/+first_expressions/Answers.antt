@@ -1,12 +1,10 @@
-use Rattle.std.proofs.Common.{◌≡◌, ◌+◌, List, Some, drop, ap, sym, ◌∙◌}
+use Rattle.std.proofs.Common.{ap, sym, ◌∙◌}
 use Rattle.vast.specs.NumberedExpressions.{ExpressionTree}
 use Rattle.vast.specs.NumberedTrees.{tree_of, trees_of}
 use Rattle.vast.specs.TreeWords.{expression_words, expressions_words}
-use Rattle.vast.specs.declared.expression.Expression.{Expression}
-use Rattle.velab.specs.FirstWords.{first_in, first_among}
+use Rattle.velab.specs.FirstWords.{first_in}
 use Rattle.velab.specs.Rules.{number_in}
-use Rattle.velab.proofs.FirstLemmas.{first_later, first_sooner}
-use Rattle.velab.proofs.ListLemmas.{drop_at}
+use Rattle.velab.proofs.FirstLemmas.{first_later}
 use Rattle.velab.proofs.PartLemmas.{concatenation_is, replication_is}
 use Rattle.velab.proofs.first.+first_expressions.Goals as goal
 

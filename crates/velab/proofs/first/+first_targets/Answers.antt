@@ -1,4 +1,4 @@
-use Rattle.std.proofs.Common.{◌≡◌, ap, ◌∙◌}
+use Rattle.std.proofs.Common.{ap, ◌∙◌}
 use Rattle.vast.specs.NumberedStatements.{TargetTree}
 use Rattle.velab.specs.FirstWords.{first_target}
 use Rattle.velab.specs.Rules.{number_in}

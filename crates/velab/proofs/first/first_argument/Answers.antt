@@ -1,4 +1,4 @@
-use Rattle.std.proofs.Common.{◌≡◌, ◌+◌, List, Some, drop, map, ap, sym, ◌∙◌, arith}
+use Rattle.std.proofs.Common.{◌+◌, List, drop, map, ap, sym, ◌∙◌, arith}
 use Rattle.std.proofs.lemmas.List.{drop_all}
 use Rattle.std.specs.List.{flat_map}
 use Rattle.vast.specs.NumberedTrees.{argument_tree}

@@ -1,4 +1,4 @@
-use Rattle.std.proofs.Common.{◌≡◌, Some, subst}
+use Rattle.std.proofs.Common.{Some, subst}
 use Rattle.vast.specs.NumberedWords.{numbered}
 use Rattle.vexpr_parse.specs.Texts.{words_of}
 use Rattle.vdesign.specs.declared.action.Action.{Action}

@@ -1,4 +1,4 @@
-use Rattle.std.proofs.Common.{◌+◌, ◌++◌, List, [], ◌∷◌, drop, ap, refl, arith}
+use Rattle.std.proofs.Common.{◌+◌, List, [], ◌∷◌, drop, ap, refl, arith}
 use Rattle.std.proofs.lemmas.List.{drop_all}
 use Rattle.vast.specs.NumberedWords.{numbered}
 use Rattle.vast.specs.declared.module.Declared.{Declared}

@@ -1,5 +1,4 @@
 use Rattle.std.proofs.Common.{[], ◌∷◌, get_or, refl, arith}
-use Rattle.vmodules.specs.Names.{first_again}
 use Rattle.vmodules.proofs.ListLemmas.{handed_on, words_names, words_new, opened_again, words_all, none_again}
 use Rattle.velab.specs.declared.fault.Rule.TheVariants.{Drivers}
 use Rattle.velab.specs.declared.driven.Driver.{Driver}

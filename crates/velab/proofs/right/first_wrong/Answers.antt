@@ -1,4 +1,4 @@
-use Rattle.std.proofs.Common.{◌≡◌, if◌then◌else◌, Bool, Option, None, Some, ap, sym, ◌∙◌, arith}
+use Rattle.std.proofs.Common.{if◌then◌else◌, Bool, Option, None, Some, ap, sym, ◌∙◌, arith}
 use Rattle.velab.specs.declared.fault.Rule.{Rule}
 use Rattle.velab.specs.declared.fault.Rule.TheVariants.{Kind}
 use Rattle.velab.specs.Right.{kind_rule}

@@ -1,26 +1,28 @@
-use Rattle.std.proofs.Common.{◌≡◌, ◌++◌, None, OnOk, subst}
-use Rattle.basis.specs.Reasons.{IfFault}
+use Rattle.std.proofs.Common.{◌+◌, List, drop, sym, ap, subst, ◌∙◌}
 use Rattle.vast.specs.NumberedStatements.{TargetTree}
+use Rattle.vast.specs.NumberedTrees.{target_tree, target_trees}
+use Rattle.vast.specs.declared.statement.Target.{Target}
 use Rattle.vexpr_parse.specs.Texts.{words_of}
-use Rattle.velab.specs.Rules.{IsBroken}
-use Rattle.velab.specs.Written.{row_of, broken_target}
+use Rattle.velab.specs.Answers.{Makes, behind}
+use Rattle.velab.specs.Written.{lower_target, lower_targets}
+use Rattle.velab.proofs.AnswerLemmas.{goes_behind}
+use Rattle.velab.proofs.ListLemmas.{drop_at}
 use Rattle.velab.proofs.TargetLemmas.{joined_is}
 use Rattle.velab.proofs.target.+targets.Goals as goal
 
-pub put_target-returns-in-Joined-clause-ok : goal.put_target-returns-in-Joined-clause-ok
-put_target-returns-in-Joined-clause-ok t c =
-    subst (λ (tree : TargetTree). OnOk c.put_targets.result (c.put_targets.new.into.items ≡ c.args.into.now.items ++ row_of c.args.scope.now tree))
+pub put_target-returns-in-Joined : goal.put_target-returns-in-Joined
+put_target-returns-in-Joined t c =
+    subst (λ (tree : TargetTree). Makes c.put_targets.result c.put_targets.new.into.items (behind c.args.into.now.items (lower_target c.args.scope.now tree)))
     (joined_is (words_of c.args.tokens.now) c.args.target.now c.in-Joined.at c.in-Joined.targets c.deref-in-Joined.result.now c.in-Joined.is c.deref-in-Joined.ensures.value)
-    c.put_targets.ensures.ok
+    c.put_targets.ensures
 
-pub put_target-returns-in-Joined-clause-right : goal.put_target-returns-in-Joined-clause-right
-put_target-returns-in-Joined-clause-right t c =
-    subst (λ (tree : TargetTree). OnOk c.put_targets.result (broken_target c.args.scope.now tree ≡ None))
-    (joined_is (words_of c.args.tokens.now) c.args.target.now c.in-Joined.at c.in-Joined.targets c.deref-in-Joined.result.now c.in-Joined.is c.deref-in-Joined.ensures.value)
-    c.put_targets.ensures.right
-
-pub put_target-returns-in-Joined-clause-err : goal.put_target-returns-in-Joined-clause-err
-put_target-returns-in-Joined-clause-err t c =
-    subst (λ (tree : TargetTree). IfFault c.put_targets.result (IsBroken (broken_target c.args.scope.now tree)))
-    (joined_is (words_of c.args.tokens.now) c.args.target.now c.in-Joined.at c.in-Joined.targets c.deref-in-Joined.result.now c.in-Joined.is c.deref-in-Joined.ensures.value)
-    c.put_targets.ensures.err
+pub put_targets-loop-one-preserved : goal.put_targets-loop-one-preserved
+put_targets-loop-one-preserved t c =
+    let words = words_of c.args.tokens.now in
+    let scope = c.args.scope.now in
+    let rest = drop (c.loop-one.one-index + 1) c.args.targets.now in
+    goes_behind c.loop-one.into.items (lower_target scope (target_tree words c.one-item.result)) (lower_targets scope (target_trees words rest))
+    c.put_target.new.into.items c.in_ok-put_target.ensures
+    ∙ ap (λ (l : List Target). behind c.loop-one.into.items (lower_targets scope (target_trees words l)))
+    (sym (drop_at c.args.targets.now c.loop-one.one-index c.one-item.result c.loop-one-test.true c.one-item.is))
+    ∙ c.loop-one.invariant
