@@ -4,6 +4,8 @@ ghost use Rattle.std.specs.Prelude.{◌≡◌, ◌-◌, ◌≤◌, ℕ, drop, le
 ghost use Rattle.basis.specs.Reasons.{IfFault};
 ghost use Rattle.vexpr_parse.specs.Answers.{ahead};
 ghost use Rattle.vexpr_parse.specs.Places.{IsStopped};
+ghost use Rattle.vexpr_parse.specs.Readers.{stop};
+ghost use Rattle.vexpr_parse.specs.Reading.{expression as expression_of};
 ghost use Rattle.vexpr_parse.specs.Texts.{words_of};
 ghost use Rattle.vparse.specs.LongestExpression.{IsLongest, IsStoppedBy};
 
@@ -26,7 +28,8 @@ fn number_of(tokens: &Tokens<'_>, cursor: &Cursor) -> usize
 
 // What is wrong at the word where reading stopped that began at a token.
 fn fault(tokens: &Tokens<'_>, at: usize, cursor: &Cursor, why: Stop) -> SyntaxFault
-    requires { IsStopped 64 (drop at (words_of tokens.now)) (ahead tokens.now cursor.now) why }
+    requires read { expression_of 64 0 (drop at (words_of tokens.now)) ≡ stop why (ahead tokens.now cursor.now) }
+    requires stopped { IsStopped 64 (drop at (words_of tokens.now)) (ahead tokens.now cursor.now) why }
     ensures { IsStoppedBy tokens.now at result }
 {
     let index = number_of(tokens, cursor);
@@ -44,9 +47,10 @@ fn fault(tokens: &Tokens<'_>, at: usize, cursor: &Cursor, why: Stop) -> SyntaxFa
 }
 
 /// The longest expression that begins at the token of this number, from 0, and the number of the token behind it (IEEE 1364-2005,
-/// A.8.3). It nests 64 levels deep at most. Where no expression begins there, the first token whose word can't follow those before
-/// it, or the text's end, decides of the fault: E203 where it could with more levels, else E202 where the word stands outside the
-/// profile, and E201 where it doesn't. E901 where a growth was refused.
+/// A.8.3). It nests 64 levels deep at most, and keeps its names, its numbers and each `$time` by their own numbers. The words are read
+/// one by one and never given back: where the first of them that can't follow those before it, or the text's end, comes before an
+/// expression ends, as in `a + ;`, it decides of the fault: E203 where it could follow with more levels, else E202 where the word stands
+/// outside the profile, and E201 where it doesn't. E901 where a growth was refused.
 pub fn parse_expr(
     alloc: Global,
     tokens: &Tokens<'_>,
